@@ -1,0 +1,4 @@
+pub mod Lists
+pub mod Status
+pub mod Causes
+pub mod Bytes

@@ -1,0 +1,10 @@
+//! Events of flat charts.
+
+/// An event of a flat chart. A named event is a number of the chart's list of events.
+#[derive(Clone, Copy, Debug, PartialEq, Eq)]
+pub enum FlatEvent {
+    /// Nothing but time passes.
+    Tick,
+    /// The event of that number.
+    Named(u32),
+}

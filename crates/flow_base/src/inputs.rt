@@ -1,0 +1,39 @@
+//! Where bytes come from.
+ghost use Rattle.std.specs.Prelude.{◌≡◌, ℕ, List, Option, OnOk, is_some, Bool};
+ghost use Rattle.std.specs.Io.{ReadsAtMost};
+ghost use Rattle.flow_base.specs.Causes.{HasCause, OthersKept, NoneFalls, AllStay};
+ghost use Rattle.flow_base.specs.Bytes.{ReadTakes};
+
+/// A read or a write failed.
+#[derive(Clone, Copy, Debug, PartialEq, Eq)]
+pub struct Failed;
+
+/// Files that are read by name. Each name has a count of its failed reads, which never falls; its
+/// last value is 2^64 - 1, and a count that stands there counts as one that rose.
+pub trait Inputs {
+    /// Whether the type tells the bytes that are left: memory does, files don't.
+    ghost tells: { Bool };
+
+    /// The bytes of that name that are not given yet, where the type tells them.
+    ghost left: { Self → List ℕ → Option (List ℕ) };
+
+    /// How often a read of that name failed.
+    ghost faults: { Self → List ℕ → ℕ };
+
+    /// Reads the next bytes of that name to the front of `buf`, and answers how many. 0 for a
+    /// buffer that isn't empty is the end.
+    fn read(&mut self, name: &str, buf: &mut [u8]) -> Result<usize, Failed>
+        ensures bound { ReadsAtMost result buf.new }
+
+        // The bytes that are given are the next ones, and a failure takes none.
+        ensures bytes { ReadTakes (left self.old name.now) (left self.new name.now) result buf.new }
+        ensures others { OthersKept name.now (left self.old) (left self.new) }
+
+        // A failure comes only where the count of that name rose, and success leaves every count.
+        ensures cause { HasCause (faults self.old name.now) (faults self.new name.now) result }
+        ensures counts { NoneFalls (faults self.old) (faults self.new) }
+        ensures ok { OnOk result (AllStay (faults self.old) (faults self.new)) };
+
+    /// Which of the two it is, is fixed for the type.
+    ghost fixed: { (inputs : Self) (name : List ℕ) → is_some (left inputs name) ≡ tells };
+}

@@ -1,0 +1,21 @@
+//! What every other crate speaks in: texts and lists that contracts see as lists, the bounds and
+//! the faults of a run, the status of the program, and the sources and sinks of bytes.
+//!
+//! Read `specs/Causes.antt` and `specs/Bytes.antt` first: they say what a source and a sink owe.
+#![tactic(auto)]
+
+mod event;
+mod inputs;
+mod list;
+mod memory;
+mod sink;
+mod status;
+mod text;
+
+pub use event::FlatEvent;
+pub use inputs::{Failed, Inputs};
+pub use list::List;
+pub use memory::Memory;
+pub use sink::{Sink, write_all};
+pub use status::Status;
+pub use text::Text;

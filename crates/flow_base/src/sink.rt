@@ -1,0 +1,50 @@
+//! Where bytes go.
+ghost use Rattle.std.specs.Prelude.{◌≡◌, ℕ, List, Option, OnOk, OnErr, is_some, Bool, length};
+ghost use Rattle.std.specs.Io.{WritesAtMost};
+ghost use Rattle.std.specs.Io.KnownBytes.{append_known};
+ghost use Rattle.flow_base.specs.Causes.{HasCause};
+ghost use Rattle.flow_base.specs.Bytes.{WritesFront, TakesSome, AppendsProperFront};
+
+use crate::inputs::Failed;
+
+/// A sink of bytes. Its count of failed writes never falls; the last value is 2^64 - 1, and a
+/// count that stands there counts as one that rose.
+pub trait Sink {
+    /// Whether the type tells what was written.
+    ghost tells: { Bool };
+
+    /// All that was written, where the type tells it.
+    ghost wrote: { Self → Option (List ℕ) };
+
+    /// How often a write failed.
+    ghost faults: { Self → ℕ };
+
+    /// Writes a front of the piece, and answers its length.
+    fn write(&mut self, piece: &[u8]) -> Result<usize, Failed>
+        ensures bound { WritesAtMost result piece.now }
+        ensures bytes { WritesFront (wrote self.old) (wrote self.new) piece.now result }
+        ensures some { TakesSome piece.now result }
+
+        // A failure comes only where the count rose, and success leaves it.
+        ensures cause { HasCause (faults self.old) (faults self.new) result };
+
+    /// Which of the two it is, is fixed for the type.
+    ghost fixed: { (sink : Self) → is_some (wrote sink) ≡ tells };
+}
+
+/// Writes the whole piece. An empty piece makes no write.
+pub fn write_all<O: Sink>(out: &mut O, piece: &[u8]) -> Result<(), Failed>
+    ensures ok { OnOk result (O.wrote out.new ≡ append_known (O.wrote out.old) piece.now) }
+
+    // A failure is one of the sink, behind a proper front of the piece.
+    ensures failed { OnErr result (AppendsProperFront (O.wrote out.old) (O.wrote out.new) piece.now) }
+    ensures cause { HasCause (O.faults out.old) (O.faults out.new) result }
+    ensures empty { length piece.now ≡ 0 → out.new ≡ out.old }
+{
+    let mut written = 0;
+    'pieces: while written < piece.len() {
+        let count = out.write(&piece[written..])?;
+        written += count;
+    }
+    Ok(())
+}

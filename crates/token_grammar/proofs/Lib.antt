@@ -1,0 +1,10 @@
+pub mod Good
+pub mod Sets
+pub mod Fine
+pub mod State
+pub mod Over
+pub mod Faults
+pub mod UpTo
+pub mod Never
+pub mod Loop
+pub mod Tokens

@@ -1,0 +1,179 @@
+-- Grammars: which tokens spell a value, and what reading from the front gives.
+use Rattle.std.specs.Prelude.{◌≡◌, ℕ, zero, suc, Bool, true, false, List, [], ◌∷◌, ◌++◌, length, Ok, Err, Option, Some, None, if◌then◌else◌, ◌⊎◌}
+use Rattle.token_grammar.specs.declared.token.Kind.{Kind}
+use Rattle.token_grammar.specs.declared.fault.Fault.TheVariants as faults
+use Rattle.token_grammar.specs.Token.{Lexeme, kind_eq, Outcome}
+
+-- a grammar: a relation, which says what the tokens spell, and the reading that belongs to it
+pub record Grammar (X : Type 0) : Type 1 where
+  -- these tokens, all of them, spell the value
+  pub spells : List Lexeme → X → Type 0
+  -- what reading from the front gives
+  pub reads : List Lexeme → Outcome X
+
+-- what reads on behind what was read
+abbrev pub and_then : {X Y : Type 0} → Outcome X → (X → List Lexeme → Outcome Y) → Outcome Y
+and_then (Ok x) f = f x.0 x.1
+and_then (Err e) f = Err e
+
+-- the first token is in the set
+abbrev pub heads : (Kind → Bool) → List Lexeme → Bool
+heads set [] = false
+heads set (t ∷ s) = set t.kind
+
+-- the kinds that are this one
+abbrev pub is : Kind → Kind → Bool
+is k j = kind_eq j k
+
+-- ---- one token
+
+-- the first token, where it is of that kind
+abbrev pub token_at : Kind → List Lexeme → Outcome Lexeme
+token_at k [] = Err (faults.Expected, [])
+token_at k (t ∷ s) = if kind_eq t.kind k then Ok (t, s) else Err (faults.Expected, t ∷ s)
+
+-- one token of that kind
+unfoldable pub token : Kind → Grammar Lexeme
+token k = record { spells = λ u t. (u ≡ t ∷ []) × (kind_eq t.kind k ≡ true); reads = token_at k }
+
+-- one token that begins a thing, where it passes the test; else it is one more than a limit
+abbrev pub limited_at : Kind → (Lexeme → Bool) → List Lexeme → Outcome Lexeme
+limited_at k ok [] = Err (faults.Expected, [])
+limited_at k ok (t ∷ s) = if kind_eq t.kind k then (if ok t then Ok (t, s) else Err (faults.TooMany, t ∷ s)) else Err (faults.Expected, t ∷ s)
+
+-- one token of that kind; it spells without the limit, and reads with it
+unfoldable pub limited : Kind → (Lexeme → Bool) → Grammar Lexeme
+limited k ok = record { spells = λ u t. (u ≡ t ∷ []) × (kind_eq t.kind k ≡ true); reads = limited_at k ok }
+
+-- ---- nothing
+
+-- no token, with that value
+abbrev pub give : {X : Type 0} → X → Grammar X
+give x = record { spells = λ u y. (u ≡ []) × (y ≡ x); reads = λ s. Ok (x, s) }
+
+-- ---- one after the other
+
+-- p and then q
+pub record Both {X Y : Type 0} (g : List Lexeme → X → Type 0) (h : X → List Lexeme → Y → Type 0) (u : List Lexeme) (y : Y) : Type 0 where
+  pub p : List Lexeme
+  pub q : List Lexeme
+  pub x : X
+  pub parts : u ≡ p ++ q
+  pub first : g p x
+  pub second : h x q y
+
+infixl 10 ◌>>=◌
+-- first g, and then what h says of its value
+abbrev pub ◌>>=◌ : {X Y : Type 0} → Grammar X → (X → Grammar Y) → Grammar Y
+g >>= h = record {
+  spells = Both g.spells (λ x. (h x).spells);
+  reads = λ s. and_then (g.reads s) (λ x r. (h x).reads r);
+}
+
+infixl 10 ◌>>◌
+-- first g, and then h
+abbrev pub ◌>>◌ : {X Y : Type 0} → Grammar X → Grammar Y → Grammar Y
+g >> h = g >>= λ _. h
+
+-- ---- one or the other, by the first token
+
+-- g or h; reading takes g where the token at hand is in the set
+abbrev pub either : {X : Type 0} → (Kind → Bool) → Grammar X → Grammar X → Grammar X
+either set g h = record {
+  spells = λ u x. g.spells u x ⊎ h.spells u x;
+  reads = λ s. if heads set s then g.reads s else h.reads s;
+}
+
+-- g or nothing
+abbrev pub optional : {X : Type 0} → (Kind → Bool) → Grammar X → Grammar (Option X)
+optional set g = either set (g >>= λ x. give (Some x)) (give None)
+
+-- ---- any number
+
+-- p spells x, and then the rest
+pub record Before {X : Type 0} (g : List Lexeme → X → Type 0) (x : X) (rest : List Lexeme → Type 0) (u : List Lexeme) : Type 0 where
+  pub p : List Lexeme
+  pub q : List Lexeme
+  pub parts : u ≡ p ++ q
+  pub first : g p x
+  pub second : rest q
+
+-- each part in turn spells its item
+abbrev pub many_spells : {X : Type 0} → (List Lexeme → X → Type 0) → List Lexeme → List X → Type 0
+many_spells g u [] = u ≡ []
+many_spells g u (x ∷ xs) = Before g x (λ q. many_spells g q xs) u
+
+-- reads at most n of them
+unfoldable pub many_reads : {X : Type 0} → (Kind → Bool) → (List Lexeme → Outcome X) → ℕ → List Lexeme → Outcome (List X)
+many_reads set f zero s = Ok ([], s)
+many_reads set f (suc n) s = if heads set s then and_then (f s) (λ x r. and_then (many_reads set f n r) (λ xs q. Ok (x ∷ xs, q))) else Ok ([], s)
+
+-- any number; reading takes one more while the token at hand is in the set
+unfoldable pub many : {X : Type 0} → (Kind → Bool) → Grammar X → Grammar (List X)
+many set g = record { spells = many_spells g.spells; reads = λ s. many_reads set g.reads (length s) s }
+
+-- what was read before, and what is still read
+abbrev pub after : {X : Type 0} → List X → Outcome (List X) → Outcome (List X)
+after front read = and_then read (λ xs r. Ok (front ++ xs, r))
+
+-- ---- any number, where what may come next depends on what came
+
+-- each part in turn spells its item, by what came before
+abbrev pub many_from_spells : {S X : Type 0} → (S → List Lexeme → X → Type 0) → (S → X → S) → S → List Lexeme → List X → Type 0
+many_from_spells g next s u [] = u ≡ []
+many_from_spells g next s u (x ∷ xs) = Before (g s) x (λ q. many_from_spells g next (next s x) q xs) u
+
+-- reads at most n of them
+unfoldable pub many_from_reads : {S X : Type 0} → (S → Kind → Bool) → (S → List Lexeme → Outcome X) → (S → X → S) → ℕ → S → List Lexeme → Outcome (List X)
+many_from_reads set f next zero s t = Ok ([], t)
+many_from_reads set f next (suc n) s t = if heads (set s) t then and_then (f s t) (λ x r. and_then (many_from_reads set f next n (next s x) r) (λ xs q. Ok (x ∷ xs, q))) else Ok ([], t)
+
+-- any number; next tells what an item leaves for those behind it
+unfoldable pub many_from : {S X : Type 0} → (S → Kind → Bool) → (S → Grammar X) → (S → X → S) → S → Grammar (List X)
+many_from set g next s = record { spells = many_from_spells (λ z. (g z).spells) next s; reads = λ t. many_from_reads set (λ z. (g z).reads) next (length t) s t }
+
+-- ---- at most so many, where an item may depend on those before it
+
+-- each part in turn spells its item, by what came before, and there are at most n
+abbrev pub up_to_spells : {S X : Type 0} → (S → List Lexeme → X → Type 0) → (S → X → S) → ℕ → S → List Lexeme → List X → Type 0
+up_to_spells g next n s u [] = u ≡ []
+up_to_spells g next zero s u (x ∷ xs) = ⊥
+up_to_spells g next (suc n) s u (x ∷ xs) = Before (g s) x (λ q. up_to_spells g next n (next s x) q xs) u
+
+-- reads at most n of them
+unfoldable pub up_to_reads : {S X : Type 0} → (Kind → Bool) → (S → List Lexeme → Outcome X) → (S → X → S) → ℕ → S → List Lexeme → Outcome (List X)
+up_to_reads set f next zero s t = Ok ([], t)
+up_to_reads set f next (suc n) s t = if heads set t then and_then (f s t) (λ x r. and_then (up_to_reads set f next n (next s x) r) (λ xs q. Ok (x ∷ xs, q))) else Ok ([], t)
+
+-- at most n; next tells what an item leaves for those behind it
+unfoldable pub up_to_from : {S X : Type 0} → (Kind → Bool) → (S → Grammar X) → (S → X → S) → ℕ → S → Grammar (List X)
+up_to_from set g next n s = record { spells = up_to_spells (λ z. (g z).spells) next n s; reads = up_to_reads set (λ z. (g z).reads) next n s }
+
+-- at most n of the same
+abbrev pub up_to : {X : Type 0} → (Kind → Bool) → Grammar X → ℕ → Grammar (List X)
+up_to set g n = up_to_from set (λ (done : ℕ). g) (λ done x. done) n 0
+
+-- ---- texts
+
+-- nothing is left
+abbrev pub ended : {X : Type 0} → X → List Lexeme → Outcome X
+ended x [] = Ok (x, [])
+ended x (t ∷ r) = Err (faults.Expected, t ∷ r)
+
+-- a value, and then the end
+abbrev pub whole_reads : {X : Type 0} → Grammar X → List Lexeme → Outcome X
+whole_reads g s = and_then (g.reads s) ended
+
+-- some tokens after u make the spelling of some value
+pub record Continues {X : Type 0} (g : Grammar X) (u : List Lexeme) : Type 0 where
+  pub rest : List Lexeme
+  pub value : X
+  pub spelled : g.spells (u ++ rest) value
+
+-- s doesn't spell a value, and its first token that doesn't continue what stands before it is the first of r; where r is empty, s ends too early
+pub record FirstFault {X : Type 0} (g : Grammar X) (s r : List Lexeme) : Type 0 where
+  pub before : List Lexeme
+  pub parts : s ≡ before ++ r
+  pub continues : Continues g before
+  pub unfinished : (x : X) → g.spells s x → ⊥
+  pub ends : (t : Lexeme) (q : List Lexeme) → r ≡ t ∷ q → Continues g (before ++ t ∷ []) → ⊥

@@ -1,0 +1,14 @@
+//! Grammars over the tokens of a chart text: which tokens spell a value, and a reader's cursor.
+//!
+//! `specs/Grammar.antt` has the words in which a grammar is written down. The laws in `proofs/`
+//! say of every grammar so written that it is read as it spells, with one token in hand, and that
+//! reading stops at the first token that doesn't continue.
+#![tactic(auto)]
+
+mod cursor;
+mod fault;
+mod token;
+
+pub use cursor::Cursor;
+pub use fault::{Fault, ReadError};
+pub use token::{Kind, Span, Token};

@@ -1,4 +1,5 @@
 pub mod Lists
+pub mod Names
 pub mod Status
 pub mod Causes
 pub mod Bytes

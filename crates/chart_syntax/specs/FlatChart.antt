@@ -1,0 +1,41 @@
+-- Flat charts as contracts see them.
+use Rattle.std.specs.Prelude.{ℕ, ◌<◌, List, map, length}
+use Rattle.std.specs.List.{AllByRecursion}
+use Rattle.flow_base.specs.Lists.{items_of}
+use Rattle.chart_syntax.specs.declared.tree.FlatTrans.{FlatTrans}
+use Rattle.chart_syntax.specs.declared.tree.FlatState.{FlatState}
+use Rattle.chart_syntax.specs.declared.tree.FlatChart.{FlatChart}
+
+-- a state: its name, and its transitions in order
+pub record State : Type 0 where
+  pub name : List ℕ
+  pub outer : List FlatTrans
+
+-- a flat chart: numbers count from 0 in its lists
+pub record Chart : Type 0 where
+  pub name : List ℕ
+  pub events : List (List ℕ)
+  pub default : ℕ
+  pub states : List State
+
+-- a state of the code as a contract sees it
+abbrev pub state_of : FlatState → State
+state_of s = record { name = s.name; outer = items_of s.outer }
+
+-- a chart of the code as a contract sees it
+abbrev pub chart_of : FlatChart → Chart
+chart_of c = record { name = c.name; events = items_of c.events; default = c.default; states = map state_of (items_of c.states) }
+
+-- the names of the states, in order
+abbrev pub state_names : Chart → List (List ℕ)
+state_names c = map (λ (s : State). s.name) c.states
+
+-- a transition's numbers are those of an event and a state
+pub record TransInRange (events states : ℕ) (t : FlatTrans) : Type 0 where
+  pub event : t.event < events
+  pub dest : t.dest < states
+
+-- every number in the chart is that of an event or a state of it
+pub record InRange (c : Chart) : Type 0 where
+  pub default : c.default < length c.states
+  pub transitions : AllByRecursion (λ (s : State). AllByRecursion (TransInRange (length c.events) (length c.states)) s.outer) c.states

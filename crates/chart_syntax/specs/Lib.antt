@@ -1,0 +1,4 @@
+pub mod Form
+pub mod FlatChart
+pub mod FlatGrammar
+pub mod FlatNames

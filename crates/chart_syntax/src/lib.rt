@@ -1,0 +1,13 @@
+//! The text of charts and its tree: flat charts, and the reader that has a tree exactly where the
+//! text spells one.
+//!
+//! The public call is `read_flat`. Read `specs/FlatGrammar.antt`, `specs/FlatNames.antt` and
+//! `specs/FlatText.antt` first, in this order.
+#![tactic(auto)]
+
+mod fault;
+mod tree;
+
+pub use fault::{FormFault, FormKind};
+pub use token_grammar::Span;
+pub use tree::{FlatChart, FlatState, FlatTrans};

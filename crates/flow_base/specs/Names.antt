@@ -1,0 +1,19 @@
+-- Names in lists of names.
+use Rattle.std.specs.Prelude.{ℕ, zero, suc, ◌+◌, List, [], ◌∷◌, Option, Some, None, if◌then◌else◌}
+use Rattle.std.specs.Str.{bytes_eq}
+
+-- the number behind the one before
+abbrev pub after : Option ℕ → Option ℕ
+after None = None
+after (Some n) = Some (n + 1)
+
+-- the place of the first name that is this one, counted from 0
+abbrev pub index_of : List ℕ → List (List ℕ) → Option ℕ
+index_of name [] = None
+index_of name (first ∷ rest) = if bytes_eq first name then Some 0 else after (index_of name rest)
+
+-- the name at a place, and nothing past the end
+abbrev pub name_at : List (List ℕ) → ℕ → List ℕ
+name_at [] n = []
+name_at (first ∷ rest) zero = first
+name_at (first ∷ rest) (suc n) = name_at rest n

@@ -2,3 +2,4 @@ pub mod Form
 pub mod FlatChart
 pub mod FlatGrammar
 pub mod FlatNames
+pub mod Spelled

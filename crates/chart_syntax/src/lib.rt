@@ -6,6 +6,8 @@
 #![tactic(auto)]
 
 mod fault;
+mod reader;
+mod spelled;
 mod tree;
 
 pub use fault::{FormFault, FormKind};

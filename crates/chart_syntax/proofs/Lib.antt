@@ -1,1 +1,2 @@
 pub mod Productions
+pub mod Refusals

@@ -7,4 +7,5 @@ pub mod Faults
 pub mod UpTo
 pub mod Never
 pub mod Loop
+pub mod Counted
 pub mod Tokens

@@ -64,6 +64,7 @@ marked_line c t n b s apart rest =
   where
     nothing : OneLine 0 (b ∷ s)
     nothing i lt = absurd (omega arith)
+
     behind : eqb b 10 ≡ false → OneLine (n + 1) (b ∷ s)
     behind h zero lt = h
     behind h (suc i) lt = rest i (omega arith)

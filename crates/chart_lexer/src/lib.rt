@@ -14,3 +14,6 @@ mod words;
 pub use front::Stop;
 pub use lexer::{Lexed, lex};
 pub use words::is_name;
+
+#[cfg(test)]
+mod tests;

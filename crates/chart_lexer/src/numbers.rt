@@ -51,7 +51,11 @@ fn scale_length(text: &[u8]) -> usize
     }
     let rest = &text[1..];
     let digits = digits_length(rest);
-    if is_scale(&rest[..digits]) { digits + 1 } else { 0 }
+    if is_scale(&rest[..digits]) {
+        digits + 1
+    } else {
+        0
+    }
 }
 
 /// How many bytes digits have, with a fraction behind them.

@@ -1,2 +1,3 @@
 pub mod Productions
 pub mod Refusals
+pub mod Numbers

@@ -1,6 +1,9 @@
 -- What the reader of tokens returns, as contracts see it.
-use Rattle.std.specs.Prelude.{◌≡◌, List, [], ◌∷◌, Result, Ok, Err, map}
+use Rattle.std.specs.Prelude.{◌≡◌, ℕ, ◌≤◌, List, [], ◌∷◌, Result, Ok, Err, length, map}
+use Rattle.std.specs.List.{AllByRecursion}
+use Rattle.std.specs.Str.{IsAscii}
 use Rattle.token_grammar.specs.declared.token.Span.{Span}
+use Rattle.token_grammar.specs.declared.token.Token.{Token}
 use Rattle.token_grammar.specs.Token.{Lexeme, lexeme, lexemes}
 use Rattle.token_grammar.specs.Grammar.{FirstFault}
 use Rattle.chart_syntax.specs.declared.spelled.TransTokens.{TransTokens}
@@ -9,6 +12,7 @@ use Rattle.chart_syntax.specs.declared.spelled.ChartTokens.{ChartTokens}
 use Rattle.chart_syntax.specs.declared.reader.Refusal.{Refusal}
 use Rattle.chart_syntax.specs.declared.reader.Refusal.TheVariants as refusals
 use Rattle.chart_syntax.specs.FlatGrammar.{SpelledTrans, SpelledState, SpelledChart, chart}
+use Rattle.chart_syntax.specs.FlatNames.{texts}
 
 -- a transition without where its names lie in memory
 abbrev pub trans_spelled : TransTokens → SpelledTrans
@@ -26,6 +30,26 @@ chart_spelled c = record {
   default = lexeme c.default;
   states = map state_spelled c.states.items;
 }
+
+-- the names of events, in order
+abbrev pub event_names : List Token → List (List ℕ)
+event_names events = texts (lexemes events)
+
+-- the names of states, in order
+abbrev pub state_names : List StateTokens → List (List ℕ)
+state_names states = map (λ (s : SpelledState). s.name.text) (map state_spelled states)
+
+-- every byte of the name is ASCII
+abbrev pub HasAsciiName : Lexeme → Type 0
+HasAsciiName t = IsAscii t.text
+
+-- a chart within the limits on events and states, whose declared names are ASCII
+pub record IsSmallAscii (c : SpelledChart) : Type 0 where
+  pub name : HasAsciiName c.name
+  pub events : AllByRecursion HasAsciiName c.events
+  pub states : AllByRecursion (λ (s : SpelledState). HasAsciiName s.name) c.states
+  pub few_events : length c.events ≤ 64
+  pub few_states : length c.states ≤ 64
 
 -- where the token at hand is at fault, or the end
 abbrev pub refusal_at : List Lexeme → Refusal

@@ -1,3 +1,5 @@
 pub mod Productions
 pub mod Refusals
 pub mod Numbers
+pub mod AsciiNames
+pub mod Small

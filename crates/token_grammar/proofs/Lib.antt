@@ -8,4 +8,5 @@ pub mod UpTo
 pub mod Never
 pub mod Loop
 pub mod Counted
+pub mod Kept
 pub mod Tokens

@@ -6,6 +6,8 @@ use Rattle.token_grammar.specs.declared.token.Span.{Span}
 use Rattle.token_grammar.specs.declared.token.Token.{Token}
 use Rattle.token_grammar.specs.Token.{Lexeme, lexeme, lexemes}
 use Rattle.token_grammar.specs.Grammar.{FirstFault}
+use Rattle.chart_syntax.specs.declared.fault.FormFault.{FormFault}
+use Rattle.chart_syntax.specs.declared.fault.FormFault.TheVariants as faults
 use Rattle.chart_syntax.specs.declared.spelled.TransTokens.{TransTokens}
 use Rattle.chart_syntax.specs.declared.spelled.StateTokens.{StateTokens}
 use Rattle.chart_syntax.specs.declared.spelled.ChartTokens.{ChartTokens}
@@ -75,3 +77,9 @@ IsSpelledAs c (Ok d) = chart_spelled d ≡ c
 IsSpelledAs c (Err refusals.Ended) = ⊥
 IsSpelledAs c (Err (refusals.At at)) = ⊥
 IsSpelledAs c (Err refusals.Memory) = Unit {0}
+
+-- the same of a text
+abbrev pub IsReadAsSpelled : SpelledChart → Result ChartTokens FormFault → Type 0
+IsReadAsSpelled c (Ok d) = chart_spelled d ≡ c
+IsReadAsSpelled c (Err (faults.At kind at)) = ⊥
+IsReadAsSpelled c (Err faults.Memory) = Unit {0}

@@ -9,8 +9,10 @@ mod fault;
 mod names;
 mod reader;
 mod spelled;
+mod text;
 mod tree;
 
 pub use fault::{FormFault, FormKind};
+pub use text::read_flat;
 pub use token_grammar::Span;
 pub use tree::{FlatChart, FlatState, FlatTrans};

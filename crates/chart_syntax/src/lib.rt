@@ -16,3 +16,6 @@ pub use fault::{FormFault, FormKind};
 pub use text::read_flat;
 pub use token_grammar::Span;
 pub use tree::{FlatChart, FlatState, FlatTrans};
+
+#[cfg(test)]
+mod tests;

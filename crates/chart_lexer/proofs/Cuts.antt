@@ -34,11 +34,11 @@ passed_over (suc k) p (b ∷ s) le one =
 
 -- ---- one turn
 
-blank_turn : (p : Span) (b : ℕ) (s : List ℕ) → front_of (b ∷ s) ≡ fronts.Blank → lexed 0 p (b ∷ s) ≡ lexed 0 (after_byte p b) s
+pub blank_turn : (p : Span) (b : ℕ) (s : List ℕ) → front_of (b ∷ s) ≡ fronts.Blank → lexed 0 p (b ∷ s) ≡ lexed 0 (after_byte p b) s
 unfolding lexed
 blank_turn p b s h = rw (h, lexed) refl
 
-stop_turn : (p : Span) (s : List ℕ) (stop : Stop) → front_of s ≡ fronts.Stop stop → lexed 0 p s ≡ record { tokens = []; stop = stop; at = p }
+pub stop_turn : (p : Span) (s : List ℕ) (stop : Stop) → front_of s ≡ fronts.Stop stop → lexed 0 p s ≡ record { tokens = []; stop = stop; at = p }
 unfolding lexed front_of
 stop_turn p [] stop h = let e : stop ≡ _ = cc in rw e refl
 stop_turn p (b ∷ s) stop h = rw (h, lexed) refl
@@ -54,7 +54,7 @@ pass_one zero p b d some = absurd (omega arith)
 pass_one (suc k) p b d some = let e : suc k - 1 ≡ k = omega arith in rw e refl
 
 -- a token in front, and then what is behind it
-token_first : (p : Span) (s : List ℕ) (kind : Kind) (n : ℕ) → front_of s ≡ fronts.Token kind n → 0 < n → n ≤ length s
+pub token_first : (p : Span) (s : List ℕ) (kind : Kind) (n : ℕ) → front_of s ≡ fronts.Token kind n → 0 < n → n ≤ length s
     → lexed 0 p s ≡ before (record { kind = kind; text = take n s; at = p }) (lexed 0 (right_of p n) (drop n s))
 token_first p [] kind n h some within = absurd (omega arith)
 token_first p (b ∷ s) kind n h some within =
@@ -67,7 +67,7 @@ token_first p (b ∷ s) kind n h some within =
 drop_at : (s : List ℕ) (i : ℕ) → i < length s → drop i s ≡ get_or s i 0 ∷ drop (i + 1) s
 drop_at s i lt = rw (add-one, drop-cons s i 0) refl
 
-pub rest_of : (i : ℕ) (s : List ℕ) → take (length s - i) (drop i s) ≡ drop i s
+rest_of : (i : ℕ) (s : List ℕ) → take (length s - i) (drop i s) ≡ drop i s
 rest_of i s = rw (← length-drop i s) (take-length (drop i s))
 
 cut_before : (ts : List Lexeme) (t : Lexeme) (l : Lexemes) → cut ts (before t l) ≡ cut (ts ++ t ∷ []) l

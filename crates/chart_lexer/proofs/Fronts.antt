@@ -10,10 +10,11 @@ use Rattle.token_grammar.specs.declared.token.Kind.TheVariants as kinds
 use Rattle.chart_lexer.specs.declared.front.Front.{Front}
 use Rattle.chart_lexer.specs.declared.front.Front.TheVariants as fronts
 use Rattle.chart_lexer.specs.declared.front.Stop.TheVariants as stops
-use Rattle.chart_lexer.specs.Words.{is_blank, is_allowed, is_letter, is_digit, is_name_byte, begins, name_length, word_kind}
+use Rattle.chart_lexer.specs.Bytes.{is_blank, is_allowed, is_letter, is_digit, is_name_byte, begins}
+use Rattle.chart_lexer.specs.Words.{name_length, word_kind}
 use Rattle.chart_lexer.specs.Numbers.{digits_length, fraction_length, is_scale, scale_length, decimal_length, number_length}
 use Rattle.chart_lexer.specs.Symbols.{pair_kind, single_kind, first_pair, first_single}
-use Rattle.chart_lexer.specs.Lex.{is_comment_byte, begins_comment, longest, word_front, number_front, symbol_front, front_of}
+use Rattle.chart_lexer.specs.Lex.{is_comment_byte, begins_comment, longer_symbol, word_front, number_front, symbol_front, front_of}
 
 -- no line ends in the first k bytes
 abbrev pub OneLine : ℕ → List ℕ → Type 0
@@ -119,11 +120,11 @@ two_bytes a b s h k zero lt = h
 two_bytes a b s h k (suc zero) lt = k
 two_bytes a b s h k (suc (suc i)) lt = absurd (omega arith)
 
-single_line : (a : ℕ) (s : List ℕ) (o : Option Kind) → o ≡ single_kind a → Line (a ∷ s) (longest None o)
+single_line : (a : ℕ) (s : List ℕ) (o : Option Kind) → o ≡ single_kind a → Line (a ∷ s) (longer_symbol None o)
 single_line a s None e = tt
 single_line a s (Some kind) e = one_byte a s (no_newline single_kind a kind single_newline e)
 
-pair_line : (a b : ℕ) (s : List ℕ) (o : Option Kind) → o ≡ pair_kind a b → Line (a ∷ b ∷ s) (longest o (single_kind a))
+pair_line : (a b : ℕ) (s : List ℕ) (o : Option Kind) → o ≡ pair_kind a b → Line (a ∷ b ∷ s) (longer_symbol o (single_kind a))
 pair_line a b s None e = single_line a (b ∷ s) (single_kind a) refl
 pair_line a b s (Some kind) e =
     two_bytes a b s

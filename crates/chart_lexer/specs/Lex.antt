@@ -1,5 +1,5 @@
 -- The tokens of a text.
-use Rattle.std.specs.Prelude.{ℕ, zero, suc, ◌+◌, ◌-◌, ◌<◌, ◌≤◌, ◌&&◌, Bool, true, false, not, nat_eq, nat_lt, Option, Some, None, List, [], ◌∷◌, take, drop, if◌then◌else◌}
+use Rattle.std.specs.Prelude.{◌≡◌, ℕ, length, zero, suc, ◌+◌, ◌-◌, ◌<◌, ◌≤◌, ◌&&◌, Bool, true, false, not, nat_eq, nat_lt, Option, Some, None, List, [], ◌∷◌, take, drop, if◌then◌else◌}
 use Rattle.std.specs.List.{prefix_len}
 use Rattle.std.specs.Str.{byte}
 use Rattle.token_grammar.specs.declared.token.Kind.{Kind}
@@ -57,6 +57,10 @@ front_of (b ∷ s) =
     if is_digit b then number_front (b ∷ s) else
     if begins_comment (b ∷ s) then fronts.Token kinds.Comment (prefix_len is_comment_byte (b ∷ s)) else
     symbol_front (b ∷ s)
+
+-- the token in front is a name, and the whole text
+abbrev pub IsOneName : List ℕ → Type 0
+IsOneName text = front_of text ≡ fronts.Token kinds.Name (length text)
 
 -- a blank or a token has a byte at least, and no more than there are
 abbrev pub FrontWithin : Front → ℕ → Type 0

@@ -1,15 +1,15 @@
 -- A text is a name exactly where it is cut as one.
-use Rattle.std.proofs.Common.{◌≡◌, ℕ, zero, suc, ◌<◌, ◌≤◌, Bool, true, false, ◌&&◌, List, [], ◌∷◌, Option, Some, None, length, take, drop, get_or, refl, sym, ap, ◌∙◌, inl, inr, cond, eqb, leb, ltb, nat_lt, eq-eqb, not, arith}
+use Rattle.std.proofs.Common.{◌≡◌, ℕ, zero, suc, ◌<◌, ◌≤◌, Bool, true, false, ◌&&◌, List, [], ◌∷◌, Option, Some, None, length, take, drop, refl, sym, ap, ◌∙◌, inl, inr, cond, eqb, leb, ltb, eq-eqb, not, ◌↔◌, IsTrue, arith}
 use Rattle.std.specs.List.{prefix_len}
 use Rattle.std.specs.Str.{byte}
 use Rattle.std.proofs.lemmas.Bool.{cases_Bool, eqb-true, leb-true, and_parts, and_from, ltb-false, le-ltb, le-leb, cond_both}
 use Rattle.std.proofs.lemmas.List.{get_or-take}
-use Rattle.std.proofs.lemmas.List.Sums.{prefix_len_passes, prefix_len_is, prefix_len-le-length}
+use Rattle.std.proofs.lemmas.List.Sums.{prefix_len_passes, prefix_len_is}
 use Rattle.std.proofs.lemmas.List.Folds.{length-prefix_len}
 use Rattle.std.proofs.Math.Seq.{take-length}
 use Rattle.token_grammar.specs.declared.token.Kind.{Kind}
 use Rattle.token_grammar.specs.declared.token.Kind.TheVariants as kinds
-use Rattle.token_grammar.specs.Token.{kind_eq, kind_number}
+use Rattle.token_grammar.specs.Token.{kind_eq}
 use Rattle.token_grammar.proofs.Sets.{all_kinds, at, found}
 use Rattle.chart_lexer.specs.declared.front.Front.{Front}
 use Rattle.chart_lexer.specs.declared.front.Front.TheVariants as fronts
@@ -20,6 +20,7 @@ use Rattle.chart_lexer.specs.Numbers.{number_length}
 use Rattle.chart_lexer.specs.Symbols.{pair_kind, single_kind, first_pair, first_single}
 use Rattle.chart_lexer.specs.Lex.{is_comment_byte, begins_comment, longer_symbol, word_front, number_front, symbol_front, front_of, IsOneName}
 
+-- kinds of one number are one
 kind_eq-true : (a b : Kind) → kind_eq a b ≡ true → a ≡ b
 kind_eq-true a b h = let e : Some a ≡ Some b = sym (found a) ∙ ap (at all_kinds) (eqb-true _ _ h) ∙ found b in cc
 
@@ -31,10 +32,12 @@ other_byte p b c passes fails =
       | inr other ↦ other
     ]
 
+-- a letter separates no tokens
 letter_not_blank : (b : ℕ) → is_letter b ≡ true → is_blank b ≡ false
 letter_not_blank b h =
     rw (other_byte is_letter b 32 h refl, other_byte is_letter b 10 h refl, other_byte is_letter b 9 h refl, other_byte is_letter b 13 h refl) refl
 
+-- a letter is one of the allowed bytes
 letter_in_range : (b : ℕ) → is_letter b ≡ true → (leb 32 b && leb b 126) ≡ true
 letter_in_range b h =
     elim (cases_Bool (leb 97 b && leb b 122)) [
@@ -51,9 +54,6 @@ letter_in_range b h =
           and_from (leb 32 b) (leb b 126) (le-leb 32 b (omega arith)) (le-leb b 126 (omega arith))
     ]
 
-letter_allowed : (b : ℕ) → is_letter b ≡ true → is_allowed b ≡ true
-letter_allowed b h = rw (letter_not_blank b h, letter_in_range b h) refl
-
 -- a text that begins with a letter is cut as a word
 word_first : (b : ℕ) (s : List ℕ) → is_letter b ≡ true → front_of (b ∷ s) ≡ word_front (b ∷ s)
 unfolding front_of
@@ -63,6 +63,7 @@ word_first b s h = rw (letter_not_blank b h, letter_in_range b h, h) refl
 word_front_is : (w : List ℕ) (n : ℕ) → name_length w ≡ n → n ≤ 63 → word_front w ≡ fronts.Token (word_kind (take n w)) n
 word_front_is w n e short = rw (e, le-ltb 63 n short) refl
 
+-- a name is cut as one
 pub name_front : (w : List ℕ) → is_name w ≡ true → IsOneName w
 name_front [] h = absurd cc
 name_front (b ∷ s) h =
@@ -83,15 +84,18 @@ NoName : Option Kind → Type 0
 NoName None = Unit {0}
 NoName (Some kind) = kind_eq kind kinds.Name ≡ false
 
+-- of a symbol and of what else there is, either isn't a name
 either_symbol : (test : Bool) (kind : Kind) (o : Option Kind) → kind_eq kind kinds.Name ≡ false → NoName o → NoName (cond test (Some kind) o)
 unfolding NoName
 either_symbol true kind o h rest = h
 either_symbol false kind o h rest = rest
 
+-- what is no symbol isn't a name
 no_symbol : NoName None
 unfolding NoName
 no_symbol = tt
 
+-- the symbols of two bytes
 pair_no_name : (a b : ℕ) → NoName (pair_kind a b)
 unfolding pair_kind
 pair_no_name a b =
@@ -104,6 +108,7 @@ pair_no_name a b =
     (either_symbol (eqb a (byte "|") && eqb b (byte "|")) kinds.OrOr _ refl
     no_symbol))))))
 
+-- the symbols of one byte
 single_no_name : (a : ℕ) → NoName (single_kind a)
 unfolding single_kind
 single_no_name a =
@@ -133,17 +138,20 @@ Named s fronts.Blank = Unit {0}
 Named s (fronts.Token kind n) = kind_eq kind kinds.Name ≡ true → is_name (take n s) ≡ true
 Named s (fronts.Stop stop) = Unit {0}
 
+-- a symbol isn't a name
 symbol_named : (s : List ℕ) (pair single : Option Kind) → NoName pair → NoName single → Named s (longer_symbol pair single)
 unfolding NoName
 symbol_named s (Some kind) single h k = λ name. absurd (let no : true ≡ false = sym name ∙ h in cc)
 symbol_named s None (Some kind) h k = λ name. absurd (let no : true ≡ false = sym name ∙ k in cc)
 symbol_named s None None h k = tt
 
+-- nor is the symbol of the first two bytes
 first_pair_no_name : (s : List ℕ) → NoName (first_pair s)
 first_pair_no_name [] = no_symbol
 first_pair_no_name (a ∷ []) = no_symbol
 first_pair_no_name (a ∷ b ∷ s) = pair_no_name a b
 
+-- a number isn't a name
 number_named : (s : List ℕ) → Named s (number_front s)
 number_named s =
     cond_both (begins is_name_byte (drop (number_length s) s)) (fronts.Stop stops.BadToken) (fronts.Token kinds.Number (number_length s)) (Named s)
@@ -164,21 +172,24 @@ begins-take p n [] some h = absurd cc
 begins-take p zero (b ∷ s) some h = absurd (omega arith)
 begins-take p (suc n) (b ∷ s) some h = h
 
+-- a word has a byte at least
 name_length-first : (b : ℕ) (s : List ℕ) → is_letter b ≡ true → 0 < name_length (b ∷ s)
 name_length-first b s h = rw h (omega arith)
 
+-- a word of kind Name is a name
 word_named : (b : ℕ) (s : List ℕ) → is_letter b ≡ true → Named (b ∷ s) (word_front (b ∷ s))
 word_named b s h =
     let w : List ℕ = b ∷ s in
     let n : ℕ = name_length w in
     cond_both (ltb 63 n) (fronts.Stop stops.BadToken) (fronts.Token (word_kind (take n w)) n) (Named w) (λ long. tt {0})
     (λ short name.
-      let fits : length (take n w) ≡ n = length-prefix_len is_name_byte w in
-      and_from _ _
-      (and_from _ _ (begins-take is_letter n w (name_length-first b s h) h) (eq-eqb _ _ (run_whole w)))
-      (and_from _ _ (le-leb _ 63 (let e = ltb-false 63 n short in omega arith)) name))
+    let fits : length (take n w) ≡ n = length-prefix_len is_name_byte w in
+    and_from _ _
+    (and_from _ _ (begins-take is_letter n w (name_length-first b s h) h) (eq-eqb _ _ (run_whole w)))
+    (and_from _ _ (le-leb _ 63 (let e = ltb-false 63 n short in omega arith)) name))
 
-front_named : (s : List ℕ) → Named s (front_of s)
+-- what is cut as a name is one
+pub front_named : (s : List ℕ) → Named s (front_of s)
 unfolding front_of
 front_named [] = tt
 front_named (b ∷ s) =
@@ -196,7 +207,12 @@ front_named (b ∷ s) =
     (λ slashes name. absurd (let no : false ≡ true = name in cc))
     (λ no_comment. symbol_named text (first_pair text) (first_single text) (first_pair_no_name text) (single_no_name b))))))
 
+-- a text that is cut as one name is a name
 pub name_back : (w : List ℕ) → IsOneName w → is_name w ≡ true
 name_back w h =
     let there : kind_eq kinds.Name kinds.Name ≡ true → is_name (take (length w) w) ≡ true = rw h at (front_named w) in
     rw (take-length w) at (there refl)
+
+-- both ways
+pub one_name : (text : List ℕ) → IsTrue (is_name text) ↔ IsOneName text
+one_name text = (name_front text, name_back text)

@@ -1,5 +1,5 @@
 -- The tokens of a text.
-use Rattle.std.specs.Prelude.{◌≡◌, ℕ, length, zero, suc, ◌+◌, ◌-◌, ◌<◌, ◌≤◌, ◌&&◌, Bool, true, false, not, nat_eq, nat_lt, Option, Some, None, List, [], ◌∷◌, take, drop, if◌then◌else◌}
+use Rattle.std.specs.Prelude.{◌≡◌, All, IsTrue, ℕ, length, zero, suc, ◌+◌, ◌-◌, ◌<◌, ◌≤◌, ◌&&◌, Bool, false, not, nat_eq, nat_lt, Option, Some, None, List, [], ◌∷◌, take, drop, if◌then◌else◌}
 use Rattle.std.specs.List.{prefix_len}
 use Rattle.std.specs.Str.{byte}
 use Rattle.token_grammar.specs.declared.token.Kind.{Kind}
@@ -12,7 +12,7 @@ use Rattle.chart_lexer.specs.declared.front.Stop.{Stop}
 use Rattle.chart_lexer.specs.declared.front.Stop.TheVariants as stops
 use Rattle.chart_lexer.specs.declared.lexer.Lexed.{Lexed}
 use Rattle.chart_lexer.specs.Bytes.{is_blank, is_allowed, is_letter, is_digit, is_name_byte, begins}
-use Rattle.chart_lexer.specs.Words.{name_length, word_kind}
+use Rattle.chart_lexer.specs.Words.{name_length, word_kind, is_name}
 use Rattle.chart_lexer.specs.Numbers.{number_length}
 use Rattle.chart_lexer.specs.Symbols.{first_pair, first_single}
 
@@ -107,3 +107,7 @@ cut_of text = lexed 0 begin text
 -- what was cut, without where it lies in memory
 abbrev pub seen : Lexed → Lexemes
 seen l = record { tokens = lexemes l.tokens.items; stop = l.stop; at = l.at }
+
+-- each token of kind Name has a text that is a name
+abbrev pub HasNames : Lexemes → Type 0
+HasNames l = All (λ t. t.kind ≡ kinds.Name → IsTrue (is_name t.text)) l.tokens

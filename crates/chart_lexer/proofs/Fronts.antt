@@ -1,5 +1,5 @@
 -- No line ends inside a token.
-use Rattle.std.proofs.Common.{◌≡◌, ℕ, zero, suc, ◌+◌, ◌<◌, Bool, true, false, ◌&&◌, List, [], ◌∷◌, Option, Some, None, length, take, drop, get_or, refl, sym, ap, ◌∙◌, inl, inr, cond, eqb, ltb, ◌-◌, ◌≤◌, ◌⊎◌, not, nat_lt, arith}
+use Rattle.std.proofs.Common.{◌≡◌, ℕ, zero, suc, ◌+◌, ◌<◌, Bool, true, false, ◌&&◌, List, [], ◌∷◌, Option, Some, None, take, drop, get_or, refl, sym, ap, ◌∙◌, inl, inr, cond, eqb, ltb, ◌-◌, ◌≤◌, ◌⊎◌, not, nat_lt, arith}
 use Rattle.std.specs.List.{prefix_len}
 use Rattle.std.proofs.Math.Bool.{and-false}
 use Rattle.std.proofs.lemmas.Bool.{cases_Bool, eqb-true, ltb-true, ltb-false}
@@ -10,10 +10,11 @@ use Rattle.token_grammar.specs.declared.token.Kind.TheVariants as kinds
 use Rattle.chart_lexer.specs.declared.front.Front.{Front}
 use Rattle.chart_lexer.specs.declared.front.Front.TheVariants as fronts
 use Rattle.chart_lexer.specs.declared.front.Stop.TheVariants as stops
-use Rattle.chart_lexer.specs.Words.{is_blank, is_allowed, is_letter, is_digit, is_name_byte, begins, name_length, word_kind}
-use Rattle.chart_lexer.specs.Numbers.{digits_length, fraction_length, is_scale, scale_length, decimal_length, number_length}
-use Rattle.chart_lexer.specs.Symbols.{pair_kind, single_kind, first_pair, first_single}
-use Rattle.chart_lexer.specs.Lex.{is_comment_byte, begins_comment, longest, word_front, number_front, symbol_front, front_of}
+use Rattle.chart_lexer.specs.Bytes.{is_blank, is_allowed, is_letter, is_digit, is_name_byte, begins}
+use Rattle.chart_lexer.specs.Words.{name_length, word_kind}
+use Rattle.chart_lexer.specs.Numbers.{digits_length, fraction_length, scale_length, decimal_length, number_length}
+use Rattle.chart_lexer.specs.Symbols.{pair_kind, single_kind}
+use Rattle.chart_lexer.specs.Lex.{is_comment_byte, begins_comment, longer_symbol, word_front, number_front, symbol_front, front_of}
 
 -- no line ends in the first k bytes
 abbrev pub OneLine : ℕ → List ℕ → Type 0
@@ -25,6 +26,7 @@ Line s fronts.Blank = Unit {0}
 Line s (fronts.Token kind n) = OneLine n s
 Line s (fronts.Stop stop) = Unit {0}
 
+-- of two numbers, the first is below the second or not
 lt_or_ge : (i n : ℕ) → (i < n) ⊎ (n ≤ i)
 lt_or_ge i n = elim (cases_Bool (ltb i n)) [ inl lt ↦ inl (ltb-true i n lt) | inr ge ↦ inr (ltb-false i n ge) ]
 
@@ -69,35 +71,43 @@ marked_line c t n b s apart rest =
     behind h zero lt = h
     behind h (suc i) lt = rest i (omega arith)
 
+-- no line ends in no bytes
 no_bytes : OneLine 0 []
 no_bytes i lt = absurd (omega arith)
 
+-- a point and digits
 fraction_line : (s : List ℕ) → OneLine (fraction_length s) s
 unfolding fraction_length
 fraction_line [] = no_bytes
 fraction_line (b ∷ s) = marked_line _ _ _ b s refl (run_line is_digit s refl)
 
+-- `q` and digits
 scale_line : (s : List ℕ) → OneLine (scale_length s) s
 unfolding scale_length
 scale_line [] = no_bytes
 scale_line (b ∷ s) = marked_line _ _ _ b s refl (run_line is_digit s refl)
 
+-- digits and a fraction
 decimal_line : (s : List ℕ) → OneLine (decimal_length s) s
 unfolding decimal_length
 decimal_line s = join_line (digits_length s) (fraction_length (drop (digits_length s) s)) s (run_line is_digit s refl) (fraction_line (drop (digits_length s) s))
 
+-- a decimal and a scale
 number_line : (s : List ℕ) → OneLine (number_length s) s
 unfolding number_length
 number_line s = join_line (decimal_length s) (scale_length (drop (decimal_length s) s)) s (decimal_line s) (scale_line (drop (decimal_length s) s))
 
+-- the newline is no symbol
 single_newline : single_kind 10 ≡ None
 unfolding single_kind
 single_newline = refl
 
+-- nor the first byte of one
 pair_first_newline : (b : ℕ) → pair_kind 10 b ≡ None
 unfolding pair_kind
 pair_first_newline b = refl
 
+-- nor the second
 pair_second_newline : (a : ℕ) → pair_kind a 10 ≡ None
 unfolding pair_kind
 pair_second_newline a = simp and-false
@@ -110,41 +120,49 @@ no_newline f a kind none some =
       | inr other ↦ other
     ]
 
+-- one byte that is no newline
 one_byte : (a : ℕ) (s : List ℕ) → eqb a 10 ≡ false → OneLine 1 (a ∷ s)
 one_byte a s h zero lt = h
 one_byte a s h (suc i) lt = absurd (omega arith)
 
+-- two bytes that are none
 two_bytes : (a b : ℕ) (s : List ℕ) → eqb a 10 ≡ false → eqb b 10 ≡ false → OneLine 2 (a ∷ b ∷ s)
 two_bytes a b s h k zero lt = h
 two_bytes a b s h k (suc zero) lt = k
 two_bytes a b s h k (suc (suc i)) lt = absurd (omega arith)
 
-single_line : (a : ℕ) (s : List ℕ) (o : Option Kind) → o ≡ single_kind a → Line (a ∷ s) (longest None o)
+-- a symbol of one byte
+single_line : (a : ℕ) (s : List ℕ) (o : Option Kind) → o ≡ single_kind a → Line (a ∷ s) (longer_symbol None o)
 single_line a s None e = tt
 single_line a s (Some kind) e = one_byte a s (no_newline single_kind a kind single_newline e)
 
-pair_line : (a b : ℕ) (s : List ℕ) (o : Option Kind) → o ≡ pair_kind a b → Line (a ∷ b ∷ s) (longest o (single_kind a))
+-- a symbol of two bytes
+pair_line : (a b : ℕ) (s : List ℕ) (o : Option Kind) → o ≡ pair_kind a b → Line (a ∷ b ∷ s) (longer_symbol o (single_kind a))
 pair_line a b s None e = single_line a (b ∷ s) (single_kind a) refl
 pair_line a b s (Some kind) e =
     two_bytes a b s
     (no_newline (λ (z : ℕ). pair_kind z b) a kind (pair_first_newline b) e)
     (no_newline (λ (z : ℕ). pair_kind a z) b kind (pair_second_newline a) e)
 
+-- a symbol
 symbol_line : (s : List ℕ) → Line s (symbol_front s)
 symbol_line [] = tt
 symbol_line (a ∷ []) = single_line a [] (single_kind a) refl
 symbol_line (a ∷ b ∷ s) = pair_line a b s (pair_kind a b) refl
 
+-- a word
 word_line : (s : List ℕ) → Line s (word_front s)
 word_line s =
     either_way (Line s) (nat_lt 63 (name_length s)) (fronts.Stop stops.BadToken) (fronts.Token (word_kind (take (name_length s) s)) (name_length s))
     (tt {0}) (run_line is_name_byte s refl)
 
+-- a number
 digit_line : (s : List ℕ) → Line s (number_front s)
 digit_line s =
     either_way (Line s) (begins is_name_byte (drop (number_length s) s)) (fronts.Stop stops.BadToken) (fronts.Token kinds.Number (number_length s))
     (tt {0}) (number_line s)
 
+-- whatever stands in front
 pub front_line : (s : List ℕ) → Line s (front_of s)
 unfolding front_of
 front_line [] = tt

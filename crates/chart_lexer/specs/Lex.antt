@@ -1,5 +1,5 @@
 -- The tokens of a text.
-use Rattle.std.specs.Prelude.{ℕ, zero, suc, ◌+◌, ◌-◌, ◌<◌, ◌≤◌, ◌&&◌, Bool, true, false, not, nat_eq, nat_lt, Option, Some, None, List, [], ◌∷◌, take, drop, if◌then◌else◌}
+use Rattle.std.specs.Prelude.{◌≡◌, All, IsTrue, ℕ, length, zero, suc, ◌+◌, ◌-◌, ◌<◌, ◌≤◌, ◌&&◌, Bool, false, not, nat_eq, nat_lt, Option, Some, None, List, [], ◌∷◌, take, drop, if◌then◌else◌}
 use Rattle.std.specs.List.{prefix_len}
 use Rattle.std.specs.Str.{byte}
 use Rattle.token_grammar.specs.declared.token.Kind.{Kind}
@@ -11,7 +11,8 @@ use Rattle.chart_lexer.specs.declared.front.Front.TheVariants as fronts
 use Rattle.chart_lexer.specs.declared.front.Stop.{Stop}
 use Rattle.chart_lexer.specs.declared.front.Stop.TheVariants as stops
 use Rattle.chart_lexer.specs.declared.lexer.Lexed.{Lexed}
-use Rattle.chart_lexer.specs.Words.{is_blank, is_allowed, is_letter, is_digit, is_name_byte, begins, name_length, word_kind}
+use Rattle.chart_lexer.specs.Bytes.{is_blank, is_allowed, is_letter, is_digit, is_name_byte, begins}
+use Rattle.chart_lexer.specs.Words.{name_length, word_kind, is_name}
 use Rattle.chart_lexer.specs.Numbers.{number_length}
 use Rattle.chart_lexer.specs.Symbols.{first_pair, first_single}
 
@@ -19,7 +20,7 @@ use Rattle.chart_lexer.specs.Symbols.{first_pair, first_single}
 abbrev pub is_comment_byte : ℕ → Bool
 is_comment_byte b = is_allowed b && not (nat_eq b 10)
 
--- two slashes
+-- whether two slashes stand in front
 abbrev pub begins_comment : List ℕ → Bool
 begins_comment [] = false
 begins_comment (a ∷ s) = nat_eq a (byte "/") && begins (λ b. nat_eq b (byte "/")) s
@@ -37,14 +38,14 @@ number_front s =
     else fronts.Token kinds.Number (number_length s)
 
 -- the longer of the symbols of two bytes and of one
-abbrev pub longest : Option Kind → Option Kind → Front
-longest (Some kind) single = fronts.Token kind 2
-longest None (Some kind) = fronts.Token kind 1
-longest None None = fronts.Stop stops.BadToken
+abbrev pub longer_symbol : Option Kind → Option Kind → Front
+longer_symbol (Some kind) single = fronts.Token kind 2
+longer_symbol None (Some kind) = fronts.Token kind 1
+longer_symbol None None = fronts.Stop stops.BadToken
 
 -- a symbol: two bytes, or else one
 abbrev pub symbol_front : List ℕ → Front
-symbol_front s = longest (first_pair s) (first_single s)
+symbol_front s = longer_symbol (first_pair s) (first_single s)
 
 -- what stands in front: the end, a blank byte, a token and how many bytes it has, or no token
 unfoldable pub front_of : List ℕ → Front
@@ -56,6 +57,10 @@ front_of (b ∷ s) =
     if is_digit b then number_front (b ∷ s) else
     if begins_comment (b ∷ s) then fronts.Token kinds.Comment (prefix_len is_comment_byte (b ∷ s)) else
     symbol_front (b ∷ s)
+
+-- the token in front is a name, and the whole text
+abbrev pub IsOneName : List ℕ → Type 0
+IsOneName text = front_of text ≡ fronts.Token kinds.Name (length text)
 
 -- a blank or a token has a byte at least, and no more than there are
 abbrev pub FrontWithin : Front → ℕ → Type 0
@@ -102,3 +107,7 @@ cut_of text = lexed 0 begin text
 -- what was cut, without where it lies in memory
 abbrev pub seen : Lexed → Lexemes
 seen l = record { tokens = lexemes l.tokens.items; stop = l.stop; at = l.at }
+
+-- each token of kind Name has a text that is a name
+abbrev pub HasNames : Lexemes → Type 0
+HasNames l = All (λ t. t.kind ≡ kinds.Name → IsTrue (is_name t.text)) l.tokens

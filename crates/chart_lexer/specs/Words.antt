@@ -1,34 +1,10 @@
--- The bytes of a chart text, its names and its reserved words.
-use Rattle.std.specs.Prelude.{ℕ, ◌||◌, ◌&&◌, Bool, true, false, nat_eq, nat_le, List, [], ◌∷◌, length, if◌then◌else◌, codes, bytes_eq}
+-- Names and reserved words.
+use Rattle.std.specs.Prelude.{ℕ, ◌&&◌, Bool, nat_eq, nat_le, List, length, if◌then◌else◌, codes, bytes_eq}
 use Rattle.std.specs.List.{prefix_len}
 use Rattle.token_grammar.specs.declared.token.Kind.{Kind}
 use Rattle.token_grammar.specs.declared.token.Kind.TheVariants as kinds
 use Rattle.token_grammar.specs.Token.{kind_eq}
-
--- a space, a tab or one of the two bytes that end lines
-abbrev pub is_blank : ℕ → Bool
-is_blank b = nat_eq b 32 || (nat_eq b 10 || (nat_eq b 9 || nat_eq b 13))
-
--- a byte that may stand in a chart text
-abbrev pub is_allowed : ℕ → Bool
-is_allowed b = is_blank b || (nat_le 32 b && nat_le b 126)
-
--- a letter of either case
-abbrev pub is_letter : ℕ → Bool
-is_letter b = (nat_le 97 b && nat_le b 122) || (nat_le 65 b && nat_le b 90)
-
--- a decimal digit
-abbrev pub is_digit : ℕ → Bool
-is_digit b = nat_le 48 b && nat_le b 57
-
--- a letter, a digit or an underscore
-abbrev pub is_name_byte : ℕ → Bool
-is_name_byte b = is_letter b || (is_digit b || nat_eq b 95)
-
--- whether the first byte passes
-abbrev pub begins : (ℕ → Bool) → List ℕ → Bool
-begins p [] = false
-begins p (b ∷ s) = p b
+use Rattle.chart_lexer.specs.Bytes.{is_letter, is_name_byte, begins}
 
 -- how many name bytes stand in front
 abbrev pub name_length : List ℕ → ℕ

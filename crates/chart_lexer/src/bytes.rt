@@ -1,6 +1,6 @@
 //! The classes of bytes in a chart text.
 ghost use Rattle.std.specs.Prelude.{◌≡◌};
-ghost use Rattle.chart_lexer.specs.Words as spec;
+ghost use Rattle.chart_lexer.specs.Bytes as spec;
 
 /// Whether the byte separates tokens.
 pub fn is_blank(byte: u8) -> bool

@@ -1,7 +1,7 @@
 //! What stands in front of a text.
 ghost use Rattle.std.specs.Prelude.{◌≡◌, ◌<◌, ◌≤◌, IsTrue, length};
 ghost use Rattle.std.specs.List.{prefix_len};
-ghost use Rattle.chart_lexer.specs.Words.{begins, is_letter, is_digit};
+ghost use Rattle.chart_lexer.specs.Bytes.{begins, is_letter, is_digit};
 ghost use Rattle.chart_lexer.specs.Lex as spec;
 
 use crate::bytes::{is_allowed, is_blank, is_digit, is_letter, is_name_byte};

@@ -6,12 +6,14 @@
 
 mod bytes;
 mod front;
+mod laws;
 mod lexer;
 mod numbers;
 mod symbols;
 mod words;
 
 pub use front::Stop;
+pub use laws::{a_name_is_cut_as_one, what_is_cut_as_a_name_is_one};
 pub use lexer::{Lexed, lex};
 pub use words::is_name;
 

@@ -1,12 +1,12 @@
 -- Each production of flat charts reads as it spells, and no limit stops it.
-use Rattle.std.proofs.Common.{◌≡◌, ℕ, ◌-◌, ◌∷◌, true, false, refl}
+use Rattle.std.proofs.Common.{ℕ, ◌-◌, ◌∷◌, true, false, refl}
 use Rattle.token_grammar.specs.declared.token.Kind.TheVariants as kinds
 use Rattle.token_grammar.specs.Grammar.{is}
 use Rattle.token_grammar.proofs.Good.{nothing}
 use Rattle.token_grammar.proofs.Fine.{Fine, fine_token, fine_give, fine_then, fine_as}
 use Rattle.token_grammar.proofs.UpTo.{fine_up_to}
 use Rattle.token_grammar.proofs.Never.{NeverOver, never_token, never_give, never_then, never_up_to}
-use Rattle.chart_syntax.specs.FlatGrammar.{SpelledTrans, SpelledState, trans, transes, state, counted, states, event, events, default, chart}
+use Rattle.chart_syntax.specs.FlatGrammar.{trans, transes, state, counted, states, event, events, default, chart}
 
 pub fine_trans : Fine trans (is kinds.Outer) false nothing
 unfolding trans

@@ -1,6 +1,6 @@
 -- Where no name is at fault, every number is in range.
-use Rattle.std.proofs.Common.{◌≡◌, ℕ, ◌+◌, ◌<◌, true, false, List, [], ◌∷◌, map, length, Option, Some, None, refl, sym, ap, subst, ◌∙◌, inl, inr, arith}
-use Rattle.std.specs.Prelude.{is_some, unwrap_or, if◌then◌else◌, Bool}
+use Rattle.std.proofs.Common.{◌≡◌, ℕ, ◌+◌, ◌<◌, List, [], ◌∷◌, map, length, Option, Some, None, refl, sym, subst, ◌∙◌, inl, inr, arith}
+use Rattle.std.specs.Prelude.{is_some, unwrap_or, if◌then◌else◌}
 use Rattle.std.specs.List.{AllByRecursion}
 use Rattle.std.specs.Str.{bytes_eq}
 use Rattle.std.proofs.lemmas.Bool.{cases_Bool}
@@ -50,24 +50,28 @@ transes_below : (events states : List (List ℕ)) (n : ℕ) → length states �
 transes_below events states n len [] none = tt
 transes_below events states n len (t ∷ ts) none =
     let later = no_later (undeclared events t.event) (first_of (undeclared states t.dest) (transes_fault events states ts)) none in
-    let dest : number_of states t.dest < length states = declared_below states t.dest (no_first (undeclared states t.dest) (transes_fault events states ts) later) in
-    (record { event = declared_below events t.event (no_first (undeclared events t.event) (first_of (undeclared states t.dest) (transes_fault events states ts)) none);
-       dest = subst (λ (z : ℕ). number_of states t.dest < z) len dest },
-     transes_below events states n len ts (no_later (undeclared states t.dest) (transes_fault events states ts) later))
+    let dest : number_of states t.dest < length states = declared_below states t.dest (no_first (undeclared states t.dest) (transes_fault events states ts) later) in (
+      record {
+        event = declared_below events t.event (no_first (undeclared events t.event) (first_of (undeclared states t.dest) (transes_fault events states ts)) none);
+        dest = subst (λ (z : ℕ). number_of states t.dest < z) len dest;
+      },
+      transes_below events states n len ts (no_later (undeclared states t.dest) (transes_fault events states ts) later),
+    )
 
 states_below : (events states : List (List ℕ)) (n : ℕ) → length states ≡ n → (before : List (List ℕ)) (ss : List SpelledState) → states_fault events states before ss ≡ None
     → AllByRecursion (λ (s : State). AllByRecursion (TransInRange (length events) n) s.outer) (map (numbered_state events states) ss)
 states_below events states n len before [] none = tt
 states_below events states n len before (s ∷ ss) none =
-    let later = no_later (repeated before s.name) (first_of (transes_fault events states s.outer) (states_fault events states _ ss)) none in
-    (transes_below events states n len s.outer (no_first (transes_fault events states s.outer) (states_fault events states _ ss) later),
-     states_below events states n len _ ss (no_later (transes_fault events states s.outer) (states_fault events states _ ss) later))
+    let later = no_later (repeated before s.name) (first_of (transes_fault events states s.outer) (states_fault events states _ ss)) none in (
+      transes_below events states n len s.outer (no_first (transes_fault events states s.outer) (states_fault events states _ ss) later),
+      states_below events states n len _ ss (no_later (transes_fault events states s.outer) (states_fault events states _ ss) later),
+    )
 
 pub numbered_in_range : (c : SpelledChart) → name_fault c ≡ None → InRange (numbered c)
 numbered_in_range c none =
     let names : List (List ℕ) = spelled_states c in
     let len : length names ≡ length (map (numbered_state (texts c.events) names) c.states) =
-        length-map c.states (λ (s : SpelledState). s.name.text) ∙ sym (length-map c.states (numbered_state (texts c.events) names)) in
+    length-map c.states (λ (s : SpelledState). s.name.text) ∙ sym (length-map c.states (numbered_state (texts c.events) names)) in
     let later = no_later (events_fault [] c.events) (first_of (undeclared names c.default) (states_fault (texts c.events) names [] c.states)) none in
     let default : number_of names c.default < length names = declared_below names c.default (no_first (undeclared names c.default) (states_fault (texts c.events) names [] c.states) later) in
     record {

@@ -1,11 +1,11 @@
 -- A spelled chart is within the limits, and its declared names are ASCII.
-use Rattle.std.proofs.Common.{◌≡◌, ℕ, ◌-◌, ◌≤◌, ◌∷◌, List, length, true, arith}
+use Rattle.std.proofs.Common.{ℕ, ◌-◌, ◌≤◌, ◌∷◌, List, length, arith}
 use Rattle.std.specs.List.{AllByRecursion}
 use Rattle.token_grammar.specs.declared.token.Kind.TheVariants as kinds
 use Rattle.token_grammar.specs.Token.{Lexeme}
 use Rattle.token_grammar.specs.Grammar.{is}
 use Rattle.token_grammar.proofs.Kept.{Kept, kept_token, kept_give, kept_then, kept_any, kept_up_to}
-use Rattle.chart_syntax.specs.FlatGrammar.{SpelledState, SpelledChart, transes, state, counted, states, event, events, default, chart}
+use Rattle.chart_syntax.specs.FlatGrammar.{SpelledState, transes, state, counted, states, event, events, default, chart}
 use Rattle.chart_syntax.specs.Spelled.{HasAsciiName, IsSmallAscii}
 use Rattle.chart_syntax.proofs.AsciiNames.{Named}
 

@@ -1,10 +1,10 @@
 -- Which texts are flat charts, and how another text is refused.
-use Rattle.std.specs.Prelude.{◌≡◌, ◌≢◌, ℕ, ◌<◌, ◌≤◌, List, [], ◌∷◌, Option, Some, None, Result, Ok, Err, length, ◌⊎◌}
+use Rattle.std.specs.Prelude.{◌≡◌, ◌≢◌, ℕ, ◌<◌, ◌≤◌, List, [], ◌∷◌, Some, None, Result, Ok, Err, length, ◌⊎◌}
 use Rattle.token_grammar.specs.declared.token.Span.{Span}
 use Rattle.token_grammar.specs.Token.{Lexeme}
 use Rattle.token_grammar.specs.Grammar.{Continues, FirstFault}
 use Rattle.chart_lexer.specs.declared.front.Stop.TheVariants as stops
-use Rattle.chart_lexer.specs.Lex.{Lexemes, cut_of, begin}
+use Rattle.chart_lexer.specs.Lex.{cut_of, begin}
 use Rattle.chart_syntax.specs.declared.fault.FormKind.TheVariants as forms
 use Rattle.chart_syntax.specs.declared.fault.FormFault.{FormFault}
 use Rattle.chart_syntax.specs.declared.fault.FormFault.TheVariants as faults

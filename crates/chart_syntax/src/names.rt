@@ -144,7 +144,7 @@ fn numbered_transes(
     requires states { length states.now ≤ 64 }
     ensures { IfOk result (λ v. v.items
         ≡ map (spec.numbered_trans (event_names events.now) (state_names states.now))
-            (map trans_spelled outer.now)) }
+        (map trans_spelled outer.now)) }
 {
     let mut found = Vec::new(alloc);
     for trans in outer {
@@ -164,13 +164,16 @@ fn numbered_states(
     requires names { AllByRecursion (λ s. HasAsciiName s.name) (map state_spelled states.now) }
     ensures { IfOk result (λ v. map state_of v.items
         ≡ map (spec.numbered_state (event_names events.now) (state_names states.now))
-            (map state_spelled states.now)) }
+        (map state_spelled states.now)) }
 {
     let mut found = Vec::new(alloc);
     for state in states {
         let outer = numbered_transes(alloc, events, states, &state.outer)?;
         let name = name_text(alloc, state.name.text)?;
-        found.push(FlatState { name, outer: List::of(outer) })?;
+        found.push(FlatState {
+            name,
+            outer: List::of(outer),
+        })?;
     }
     Ok(found)
 }

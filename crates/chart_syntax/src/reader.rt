@@ -51,10 +51,7 @@ fn read_transes<'a>(
 
 /// A state, behind so many transitions of the chart.
 #[tactic(auto, unfolding(crate::specs::FlatGrammar::state))]
-fn read_state<'a>(
-    cursor: &mut Cursor<'_, 'a>,
-    before: usize,
-) -> Result<StateTokens<'a>, ReadError>
+fn read_state<'a>(cursor: &mut Cursor<'_, 'a>, before: usize) -> Result<StateTokens<'a>, ReadError>
     ensures read { Gives state_spelled result (lexemes cursor.new.rest.now)
         ((grammar.state before).reads (lexemes cursor.old.rest.now)) }
     ensures few { IfOk result (λ s. vec_len s.outer ≤ 1024 - before) }

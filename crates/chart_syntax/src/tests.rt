@@ -4,7 +4,8 @@ use std::alloc::{AllocError, Global};
 use std::fmt::Write;
 use std::test::Fail;
 
-const LAMP: &str = "chart Lamp or { event input GO; default -> Off; state Off { outer GO -> On; } state On { outer GO -> Off; } }";
+const LAMP: &str =
+    "chart Lamp or { event input GO; default -> Off; state Off { outer GO -> On; } state On { outer GO -> Off; } }";
 
 /// The name, the events, the default, and each state with its transitions.
 fn shown(alloc: Global, chart: &FlatChart) -> Result<String, AllocError> {
@@ -42,10 +43,7 @@ fn reads_charts(rt: HostRuntime) -> Result<(), Fail> {
             "chart C or { event input A; event input B; default -> Y; state X { outer B -> Y; outer A -> X; } state Y { } }",
             "C A B ->1 X 1->1 0->0 Y",
         ),
-        (
-            "chart A or {\n\tdefault->A;\r\nstate A{}}",
-            "A ->0 A",
-        ),
+        ("chart A or {\n\tdefault->A;\r\nstate A{}}", "A ->0 A"),
     ];
     for (text, wanted) in cases {
         let found = answer(rt.alloc(), text.as_bytes())?;
@@ -104,7 +102,10 @@ fn refuses_names(rt: HostRuntime) -> Result<(), Fail> {
             "1:64: 25 NotBuilt",
         ),
         // A name at fault waits for the whole text.
-        ("chart C or { default -> B; state A { } ", "1:40: 3 Expected"),
+        (
+            "chart C or { default -> B; state A { } ",
+            "1:40: 3 Expected",
+        ),
     ];
     for (text, wanted) in cases {
         let found = answer(rt.alloc(), text.as_bytes())?;
@@ -118,7 +119,10 @@ fn expects_more_after_each_token(rt: HostRuntime) -> Result<(), Fail> {
     let mut text = String::new(rt.alloc());
     for token in LAMP.split(' ') {
         let found = answer(rt.alloc(), text.as_bytes())?;
-        let wanted = format!(in rt.alloc(); "1:{}: 3 Expected", text.as_bytes().len().saturating_add(1))?;
+        let wanted = format!(in rt.alloc();
+            "1:{}: 3 Expected",
+            text.as_bytes().len().saturating_add(1)
+        )?;
         assert_eq!(rt; found.as_str(), wanted.as_str(), "{text}");
         write!(text, "{token} ")?;
     }

@@ -41,5 +41,5 @@ pub returns : goal.returns
 unfolding events
 returns c =
     let stop : vec_len c.items.found < 64 → heads (is kinds.Event) (lexemes c.items.cursor.rest.now) ≡ false =
-        λ few. elim c.items-test.branch [ then-items-test+else-is_at w ↦ cc | else-items-test w ↦ absurd (omega arith) ] in
+    λ few. elim c.items-test.branch [ then-items-test+else-is_at w ↦ cc | else-items-test w ↦ absurd (omega arith) ] in
     counted_ends (is kinds.Event) (λ (done : ℕ). event) (λ done x. done) 64 (vec_len c.items.found) 0 (map lexeme c.items.found.items) (lexemes c.items.cursor.rest.now) _ stop c.items.invariant.so_far

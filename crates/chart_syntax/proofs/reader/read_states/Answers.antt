@@ -1,4 +1,4 @@
-use Rattle.std.proofs.Common.{◌≡◌, ◌<◌, ℕ, ◌++◌, ◌∷◌, [], map, vec_len, true, false, ap, arith, ◌+◌, length, sym, ◌∙◌}
+use Rattle.std.proofs.Common.{◌≡◌, ◌<◌, ◌++◌, ◌∷◌, [], map, vec_len, true, false, ap, arith, ◌+◌, sym, ◌∙◌}
 use Rattle.std.proofs.lemmas.List.{map_push, length-map}
 use Rattle.std.proofs.lemmas.Result.{err_from_is_err_and}
 use Rattle.token_grammar.specs.declared.token.Kind.TheVariants as kinds
@@ -34,7 +34,7 @@ items-preserved c =
     let here : heads (is kinds.State) (lexemes c.items.cursor.rest.now) ≡ true = cc in
     let few : vec_len c.items.found < 63 = omega arith in
     let more : c.items.transitions + c.len-transitions.result ≡ counted c.items.transitions (state_spelled c.in_ok-item.item) =
-        ap (λ n. c.items.transitions + n) (c.len-transitions.ensures ∙ c.in_ok-item.item.outer.ok.0 ∙ sym (length-map c.in_ok-item.item.outer.items trans_spelled)) in
+    ap (λ n. c.items.transitions + n) (c.len-transitions.ensures ∙ c.in_ok-item.item.outer.ok.0 ∙ sym (length-map c.in_ok-item.item.outer.items trans_spelled)) in
     record {
       room = omega (arith, c.in_ok-item.ensures.few);
       few = omega (arith, c.in_ok-push.ensures.len);
@@ -46,5 +46,5 @@ pub returns : goal.returns
 unfolding states
 returns c =
     let stop : vec_len c.items.found < 63 → heads (is kinds.State) (lexemes c.items.cursor.rest.now) ≡ false =
-        λ few. elim c.items-test.branch [ then-items-test+else-is_at w ↦ cc | else-items-test w ↦ absurd (omega arith) ] in
+    λ few. elim c.items-test.branch [ then-items-test+else-is_at w ↦ cc | else-items-test w ↦ absurd (omega arith) ] in
     counted_ends (is kinds.State) state counted 63 (vec_len c.items.found) c.items.transitions (map state_spelled c.items.found.items) (lexemes c.items.cursor.rest.now) _ stop c.items.invariant.so_far

@@ -42,5 +42,5 @@ pub returns-clause-read : goal.returns-clause-read
 unfolding transes
 returns-clause-read c =
     let stop : vec_len c.items.found < c.args.room → heads (is kinds.Outer) (lexemes c.items.cursor.rest.now) ≡ false =
-        λ few. elim c.items-test.branch [ then-items-test+else-is_at w ↦ cc | else-items-test w ↦ absurd (omega arith) ] in
+    λ few. elim c.items-test.branch [ then-items-test+else-is_at w ↦ cc | else-items-test w ↦ absurd (omega arith) ] in
     counted_ends (is kinds.Outer) (λ (done : ℕ). trans) (λ done x. done) c.args.room (vec_len c.items.found) 0 (map trans_spelled c.items.found.items) (lexemes c.items.cursor.rest.now) _ stop c.items.invariant.so_far

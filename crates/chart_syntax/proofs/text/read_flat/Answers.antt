@@ -1,6 +1,6 @@
 use Rattle.std.proofs.Common.{◌≡◌, None, rules, sym, subst}
 use Rattle.chart_lexer.specs.Lex.{cut_of}
-use Rattle.chart_syntax.specs.FlatChart.{Chart, chart_of, InRange}
+use Rattle.chart_syntax.specs.FlatChart.{InRange}
 use Rattle.chart_syntax.specs.FlatNames.{name_fault}
 use Rattle.chart_syntax.specs.Spelled.{chart_spelled}
 use Rattle.chart_syntax.proofs.AsciiNames.{cut_named}

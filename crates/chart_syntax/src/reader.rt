@@ -177,7 +177,8 @@ fn refusal_of(rest: &[Token<'_>]) -> Refusal
 /// The chart that the tokens spell, all of them.
 pub fn read_tokens<'a>(alloc: Global, tokens: &[Token<'a>]) -> Result<ChartTokens<'a>, Refusal>
     // What is read is spelled so.
-    ensures found { IfOk result (λ c. grammar.chart.spells (lexemes tokens.now) (chart_spelled c)) }
+    ensures found { IfOk result (λ c.
+        grammar.chart.spells (lexemes tokens.now) (chart_spelled c)) }
     // What is spelled so is read, unless memory runs out.
     ensures only { (c : SpelledChart) → grammar.chart.spells (lexemes tokens.now) c
         → IsSpelledAs c result }

@@ -23,18 +23,21 @@ returns-in_err-item c =
     let here : heads (is kinds.Event) (lexemes c.items.cursor.rest.now) ≡ true = cc in
     let few : vec_len c.items.found < 64 = omega arith in
     rw (p.1, p.2)
-    (counted_fails (is kinds.Event) (λ (done : ℕ). event) (λ done x. done) 64 (vec_len c.items.found) 0 c.in_err-item.field-0.0 (map lexeme c.items.found.items) (lexemes c.items.cursor.rest.now) _ _ few here c.in_err-item.ensures c.items.invariant.so_far)
+    (counted_fails (is kinds.Event) (λ (done : ℕ). event) (λ done x. done) 64 (vec_len c.items.found) 0 c.in_err-item.field-0.0
+    (map lexeme c.items.found.items) (lexemes c.items.cursor.rest.now) _ _ few here c.in_err-item.ensures c.items.invariant.so_far)
 
 pub items-preserved : goal.items-preserved
 unfolding events
 items-preserved c =
-    let found : map lexeme c.push.new.self.items ≡ map lexeme c.items.found.items ++ lexeme c.in_ok-item.item ∷ [] = rw c.in_ok-push.ensures.items (map_push _ c.items.found.items c.in_ok-item.item) in
+    let found : map lexeme c.push.new.self.items ≡ map lexeme c.items.found.items ++ lexeme c.in_ok-item.item ∷ [] =
+    rw c.in_ok-push.ensures.items (map_push _ c.items.found.items c.in_ok-item.item) in
     let here : heads (is kinds.Event) (lexemes c.items.cursor.rest.now) ≡ true = cc in
     let few : vec_len c.items.found < 64 = omega arith in
     record {
       few = omega (arith, c.in_ok-push.ensures.len);
       so_far = rw (found, c.in_ok-push.ensures.len)
-          (counted_goes_on (is kinds.Event) (λ (done : ℕ). event) (λ done x. done) 64 (vec_len c.items.found) 0 (map lexeme c.items.found.items) (lexemes c.items.cursor.rest.now) _ _ _ few here c.in_ok-item.ensures c.items.invariant.so_far);
+          (counted_goes_on (is kinds.Event) (λ (done : ℕ). event) (λ done x. done) 64 (vec_len c.items.found) 0
+          (map lexeme c.items.found.items) (lexemes c.items.cursor.rest.now) _ _ _ few here c.in_ok-item.ensures c.items.invariant.so_far);
     }
 
 pub returns : goal.returns
@@ -42,4 +45,5 @@ unfolding events
 returns c =
     let stop : vec_len c.items.found < 64 → heads (is kinds.Event) (lexemes c.items.cursor.rest.now) ≡ false =
     λ few. elim c.items-test.branch [ then-items-test+else-is_at w ↦ cc | else-items-test w ↦ absurd (omega arith) ] in
-    counted_ends (is kinds.Event) (λ (done : ℕ). event) (λ done x. done) 64 (vec_len c.items.found) 0 (map lexeme c.items.found.items) (lexemes c.items.cursor.rest.now) _ stop c.items.invariant.so_far
+    counted_ends (is kinds.Event) (λ (done : ℕ). event) (λ done x. done) 64 (vec_len c.items.found) 0
+    (map lexeme c.items.found.items) (lexemes c.items.cursor.rest.now) _ stop c.items.invariant.so_far

@@ -25,12 +25,14 @@ returns-in_err-item c =
     let here : heads (is kinds.State) (lexemes c.items.cursor.rest.now) ≡ true = cc in
     let few : vec_len c.items.found < 63 = omega arith in
     rw (p.1, p.2)
-    (counted_fails (is kinds.State) state counted 63 (vec_len c.items.found) c.items.transitions c.in_err-item.field-0.0 (map state_spelled c.items.found.items) (lexemes c.items.cursor.rest.now) _ _ few here c.in_err-item.ensures.read c.items.invariant.so_far)
+    (counted_fails (is kinds.State) state counted 63 (vec_len c.items.found) c.items.transitions c.in_err-item.field-0.0
+    (map state_spelled c.items.found.items) (lexemes c.items.cursor.rest.now) _ _ few here c.in_err-item.ensures.read c.items.invariant.so_far)
 
 pub items-preserved : goal.items-preserved
 unfolding states
 items-preserved c =
-    let found : map state_spelled c.push.new.self.items ≡ map state_spelled c.items.found.items ++ state_spelled c.in_ok-item.item ∷ [] = rw c.in_ok-push.ensures.items (map_push _ c.items.found.items c.in_ok-item.item) in
+    let found : map state_spelled c.push.new.self.items ≡ map state_spelled c.items.found.items ++ state_spelled c.in_ok-item.item ∷ [] =
+    rw c.in_ok-push.ensures.items (map_push _ c.items.found.items c.in_ok-item.item) in
     let here : heads (is kinds.State) (lexemes c.items.cursor.rest.now) ≡ true = cc in
     let few : vec_len c.items.found < 63 = omega arith in
     let more : c.items.transitions + c.len-transitions.result ≡ counted c.items.transitions (state_spelled c.in_ok-item.item) =
@@ -39,7 +41,8 @@ items-preserved c =
       room = omega (arith, c.in_ok-item.ensures.few);
       few = omega (arith, c.in_ok-push.ensures.len);
       so_far = rw (found, c.in_ok-push.ensures.len, more)
-          (counted_goes_on (is kinds.State) state counted 63 (vec_len c.items.found) c.items.transitions (map state_spelled c.items.found.items) (lexemes c.items.cursor.rest.now) _ _ _ few here c.in_ok-item.ensures.read c.items.invariant.so_far);
+          (counted_goes_on (is kinds.State) state counted 63 (vec_len c.items.found) c.items.transitions
+          (map state_spelled c.items.found.items) (lexemes c.items.cursor.rest.now) _ _ _ few here c.in_ok-item.ensures.read c.items.invariant.so_far);
     }
 
 pub returns : goal.returns
@@ -47,4 +50,5 @@ unfolding states
 returns c =
     let stop : vec_len c.items.found < 63 → heads (is kinds.State) (lexemes c.items.cursor.rest.now) ≡ false =
     λ few. elim c.items-test.branch [ then-items-test+else-is_at w ↦ cc | else-items-test w ↦ absurd (omega arith) ] in
-    counted_ends (is kinds.State) state counted 63 (vec_len c.items.found) c.items.transitions (map state_spelled c.items.found.items) (lexemes c.items.cursor.rest.now) _ stop c.items.invariant.so_far
+    counted_ends (is kinds.State) state counted 63 (vec_len c.items.found) c.items.transitions
+    (map state_spelled c.items.found.items) (lexemes c.items.cursor.rest.now) _ stop c.items.invariant.so_far

@@ -11,6 +11,7 @@ mod memory;
 mod sink;
 mod status;
 mod text;
+mod whole;
 
 pub use event::FlatEvent;
 pub use inputs::{Failed, Inputs};
@@ -19,3 +20,4 @@ pub use memory::Memory;
 pub use sink::{Sink, write_all};
 pub use status::Status;
 pub use text::Text;
+pub use whole::{ReadEnd, read_whole};

@@ -2,3 +2,4 @@ pub mod Lists
 pub mod Status
 pub mod Causes
 pub mod Bytes
+pub mod Bounds

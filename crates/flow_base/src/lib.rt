@@ -4,7 +4,9 @@
 //! Read `specs/Causes.antt` and `specs/Bytes.antt` first: they say what a source and a sink owe.
 #![tactic(auto)]
 
+mod bounds;
 mod event;
+mod fault;
 mod inputs;
 mod list;
 mod memory;
@@ -13,7 +15,9 @@ mod status;
 mod text;
 mod whole;
 
+pub use bounds::Bounds;
 pub use event::FlatEvent;
+pub use fault::Fault;
 pub use inputs::{Failed, Inputs};
 pub use list::List;
 pub use memory::Memory;

@@ -3,3 +3,5 @@ pub mod Status
 pub mod Causes
 pub mod Bytes
 pub mod Bounds
+pub mod Counts
+pub mod MemoryFiles

@@ -101,3 +101,12 @@ first_of-written change keeps name files index file new first is =
 -- a write where the first file of that name stands changes that file
 pub set-change_first : (change : FileState → FileState) (name : List ℕ) (files : List FileState) (index : ℕ) (file new : FileState) → IsFirst name files index file → new ≡ change file → set files index new ≡ change_first change name files
 set-change_first change name files index file new first is = rw is (sym (first.changed change))
+
+change_none_at : (change : FileState → FileState) (name : List ℕ) (file : FileState) (files : List FileState) (b : Bool) → is_named name file ≡ b → (first_of name files ≡ None → change_first change name files ≡ files) → first_of name (file ∷ files) ≡ None → change_first change name (file ∷ files) ≡ file ∷ files
+change_none_at change name file files true e rest none = let f : Some file ≡ None = rw e at none in absurd (cc)
+change_none_at change name file files false e rest none = rw e (ap (λ (z : List FileState). file ∷ z) (rest (rw e at none)))
+
+-- where no file has that name, none changes
+pub change_first-none : (change : FileState → FileState) (name : List ℕ) (files : List FileState) → first_of name files ≡ None → change_first change name files ≡ files
+change_first-none change name [] none = refl
+change_first-none change name (file ∷ files) none = change_none_at change name file files (is_named name file) refl (change_first-none change name files) none

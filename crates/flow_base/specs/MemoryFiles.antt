@@ -41,6 +41,14 @@ abbrev pub failed_reads : ℕ → Option FileState → ℕ
 failed_reads missed None = missed
 failed_reads missed (Some file) = file.failed
 
+-- the bytes of that name that are not given yet: those of its first file
+abbrev pub left_of : List FileState → List ℕ → Option (List ℕ)
+left_of files name = Some (bytes_left (first_of name files))
+
+-- how many reads of that name failed: those of its first file
+abbrev pub faults_of : FilesState → List ℕ → ℕ
+faults_of inputs name = failed_reads inputs.missed (first_of name inputs.files)
+
 -- the number of the file's next read is listed
 abbrev pub fails_next : FileState → Bool
 fails_next file = is_listed file.fail (counted file.reads)

@@ -14,6 +14,7 @@ mod mem_inputs;
 mod memory;
 mod sink;
 mod status;
+mod sure_inputs;
 mod text;
 mod whole;
 
@@ -27,5 +28,6 @@ pub use mem_inputs::MemInputs;
 pub use memory::Memory;
 pub use sink::{Sink, write_all};
 pub use status::Status;
+pub use sure_inputs::SureInputs;
 pub use text::Text;
 pub use whole::{ReadEnd, read_whole};

@@ -38,7 +38,7 @@ impl MemInputs {
         ensures count { result_ok result ≡ spec.read_count (length buf.new) (spec.first_of name.now self.old.files) }
         ensures state { self.new ≡ spec.after_read (length buf.new) name.now self.old (spec.first_of name.now self.old.files) }
         ensures bound { ReadsAtMost result buf.new }
-        ensures bytes { ReadTakes (Some (spec.bytes_left (spec.first_of name.now self.old.files))) (Some (spec.bytes_left (spec.first_of name.now self.new.files))) result buf.new }
+        ensures bytes { ReadTakes (spec.left_of self.old.files name.now) (spec.left_of self.new.files name.now) result buf.new }
     {
         match index_of(&self.files, name) {
             Some(index) => {
@@ -51,4 +51,29 @@ impl MemInputs {
             }
         }
     }
+}
+
+impl Inputs for MemInputs {
+    ghost tells = { true };
+
+    ghost left = { λ inputs. spec.left_of inputs.files };
+
+    ghost faults = { spec.faults_of };
+
+    fn read(&mut self, name: &str, buf: &mut [u8]) -> Result<usize, Failed>
+        ensures bound { ReadsAtMost result buf.new }
+        ensures bytes { ReadTakes (spec.left_of self.old.files name.now) (spec.left_of self.new.files name.now) result buf.new }
+        ensures others { OthersKept name.now (spec.left_of self.old.files) (spec.left_of self.new.files) }
+        ensures cause { HasCause (spec.faults_of self.old name.now) (spec.faults_of self.new name.now) result }
+        ensures counts { NoneFalls (spec.faults_of self.old) (spec.faults_of self.new) }
+        ensures ok { OnOk result (AllStay (spec.faults_of self.old) (spec.faults_of self.new)) }
+
+        // It fails exactly where the number of the read is listed or no file has the name.
+        ensures count { result_ok result ≡ spec.read_count (length buf.new) (spec.first_of name.now self.old.files) }
+        ensures state { self.new ≡ spec.after_read (length buf.new) name.now self.old (spec.first_of name.now self.old.files) }
+    {
+        self.read_first(name, buf)
+    }
+
+    ghost fixed = { λ inputs name. refl };
 }

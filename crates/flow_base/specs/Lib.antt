@@ -5,3 +5,4 @@ pub mod Bytes
 pub mod Bounds
 pub mod Counts
 pub mod MemoryFiles
+pub mod MemorySinks

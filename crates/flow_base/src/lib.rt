@@ -19,6 +19,8 @@ mod sink;
 mod status;
 mod sure_inputs;
 mod sure_sink;
+#[cfg(test)]
+mod tests;
 mod text;
 mod whole;
 

@@ -29,7 +29,8 @@ impl Model for MemInputs {
 impl MemInputs {
     /// Keeps the files that it is given. It takes no memory.
     pub fn new(files: Vec<MemFile>) -> MemInputs
-        ensures { result ≡ record { files = files.items; missed = 0 } }
+        ensures state { result ≡ record { files = files.items; missed = 0 } }
+        ensures left { (name : List ℕ) → ⟦<MemInputs as Inputs>⟧.left result name ≡ spec.left_of files.items name }
     {
         MemInputs { files, missed: 0 }
     }

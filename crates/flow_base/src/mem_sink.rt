@@ -47,7 +47,9 @@ impl MemSink {
     /// numbers `fail` lists fail, counted from 1.
     pub fn new(alloc: Global, room: usize, piece: usize, fail: Vec<u64>) -> Result<MemSink, Memory>
         requires { 0 < piece }
-        ensures { IfOk result (λ sink. sink ≡ spec.fresh_sink room piece fail.items) }
+        ensures state { IfOk result (λ sink. sink ≡ spec.fresh_sink room piece fail.items) }
+        ensures empty { IfOk result (λ sink. ⟦<MemSink as Sink>⟧.wrote sink ≡ Some []) }
+        ensures quiet { IfOk result (λ sink. ⟦<MemSink as Sink>⟧.faults sink ≡ 0) }
     {
         match Vec::with_capacity(alloc, room) {
             Ok(bytes) => Ok(MemSink {

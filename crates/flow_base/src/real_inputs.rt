@@ -55,7 +55,9 @@ impl<F: Read + Drop> RealFile<F> {
 
 impl<R: Files> RealInputs<R> {
     /// The files that `rt` reaches, none of them opened, with no fault so far.
-    pub fn new(rt: R, alloc: Global) -> RealInputs<R> {
+    pub fn new(rt: R, alloc: Global) -> RealInputs<R>
+        ensures { (name : List ℕ) → ⟦<RealInputs<R> as Inputs>⟧.faults result name ≡ 0 }
+    {
         RealInputs {
             rt,
             alloc,

@@ -17,7 +17,9 @@ pub struct RealSink<W> {
 
 impl<W: Write> RealSink<W> {
     /// A sink over that writer, with no fault so far.
-    pub fn new(writer: W) -> RealSink<W> {
+    pub fn new(writer: W) -> RealSink<W>
+        ensures { ⟦<RealSink<W> as Sink>⟧.faults result ≡ 0 }
+    {
         RealSink { writer, failed: 0 }
     }
 }

@@ -28,7 +28,8 @@ impl Model for SureInputs {
 impl SureInputs {
     /// Keeps the files that it is given. It takes no memory.
     pub fn new(files: Vec<MemFile>) -> SureInputs
-        ensures { result ≡ files.items }
+        ensures state { result ≡ files.items }
+        ensures left { (name : List ℕ) → ⟦<SureInputs as Inputs>⟧.left result name ≡ spec.left_of files.items name }
     {
         SureInputs { files }
     }

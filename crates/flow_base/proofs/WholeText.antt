@@ -9,7 +9,8 @@ pub record IsWholeText (text items : List ℕ) (new : Option (List ℕ)) : Type 
   pub left : new ≡ Some []
 
 -- where a told text was read to its end, all of it was read
-pub whole_text : (old new : Option (List ℕ)) (items text : List ℕ) → old ≡ prepend_known items new → IsAtEnd new → old ≡ Some text → IsWholeText text items new
+pub whole_text : (old new : Option (List ℕ)) (items text : List ℕ) → old ≡ prepend_known items new →
+    IsAtEnd new → old ≡ Some text → IsWholeText text items new
 whole_text old None items text taken end told = let e : None ≡ Some text = sym taken ∙ told in absurd (cc)
 whole_text old (Some rest) items text taken end told =
     let e : Some (items ++ rest) ≡ Some text = sym taken ∙ told in

@@ -43,8 +43,8 @@ not_other : (name other : List ℕ) (file : FileState) → other ≢ name → is
     is_named other file ≡ false
 not_other name other file ne e =
     elim (is_named other file) as (λ b. is_named other file ≡ b → b ≡ false) [
-      true ↦ λ f. absurd (ne (sym ((bytes_eq-Decides file.name other).0 f) ∙ (bytes_eq-Decides file.name name).0 e))
-    | false ↦ λ f. refl
+      | true ↦ λ f. absurd (ne (sym ((bytes_eq-Decides file.name other).0 f) ∙ (bytes_eq-Decides file.name name).0 e))
+      | false ↦ λ f. refl
     ] refl
 
 first_of-other_at : (change : FileState → FileState)

@@ -3,7 +3,7 @@ use Rattle.std.specs.Prelude.{ℕ, ◌+◌, ◌-◌, min, List, [], ◌∷◌, l
 use Rattle.std.specs.Str.{bytes_eq}
 use Rattle.flow_base.specs.Counts.{counted, is_listed}
 
--- a file, the most that one read gives, the numbers of the reads that fail, and what was done with it so far
+-- a file: the most that one read gives, which reads fail, and what was done with it so far
 pub record FileState : Type 0 where
   pub name : List ℕ
   pub bytes : List ℕ
@@ -21,7 +21,15 @@ pub record FilesState : Type 0 where
 -- a file of which nothing was read
 abbrev pub fresh_file : List ℕ → List ℕ → ℕ → List ℕ → FileState
 fresh_file name bytes piece fail =
-    record { name = name; bytes = bytes; piece = piece; fail = fail; given = 0; reads = 0; failed = 0 }
+    record {
+      name = name;
+      bytes = bytes;
+      piece = piece;
+      fail = fail;
+      given = 0;
+      reads = 0;
+      failed = 0;
+    }
 
 -- the file has that name
 abbrev pub is_named : List ℕ → FileState → Bool

@@ -2,7 +2,7 @@
 use Rattle.std.specs.Prelude.{ℕ, ◌-◌, min, List, [], ◌++◌, length, take, ◌==◌, nat_lt, ◌&&◌, ◌||◌, Bool, if◌then◌else◌, Option, Some, None}
 use Rattle.flow_base.specs.Counts.{counted, is_listed}
 
--- what was taken, how much in all and at most by one write, the numbers of the writes that fail, and what was done so far
+-- what was taken, how much in all and by one write may be, which writes fail, and what was done so far
 pub record SinkState : Type 0 where
   pub bytes : List ℕ
   pub room : ℕ
@@ -33,7 +33,10 @@ write_count piece sink = if fails_write piece sink then None else Some (taken_co
 -- the sink after it took the front of the piece
 abbrev pub after_taking : List ℕ → SinkState → SinkState
 after_taking piece sink =
-    record sink { writes = counted sink.writes; bytes = sink.bytes ++ take (taken_count piece sink) piece }
+    record sink {
+      writes = counted sink.writes;
+      bytes = sink.bytes ++ take (taken_count piece sink) piece;
+    }
 
 -- the sink after a write that failed
 abbrev pub after_refusing : SinkState → SinkState

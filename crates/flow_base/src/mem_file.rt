@@ -76,8 +76,7 @@ impl MemFile {
         ensures count { result ≡ spec.next_count (length buf.new) self.old }
         ensures state { self.new ≡ spec.after_giving (length buf.new) self.old }
         ensures bound { result ≤ length buf.new }
-        ensures bytes {
-            spec.bytes_left (Some self.old) ≡ take result buf.new ++ spec.bytes_left (Some self.new) }
+        ensures bytes { spec.bytes_left (Some self.old) ≡ take result buf.new ++ spec.bytes_left (Some self.new) }
         ensures end { result ≡ 0 → 0 < length buf.new → spec.bytes_left (Some self.new) ≡ [] }
     {
         let count = buf.len().min(self.piece).min(self.bytes.len() - self.given);
@@ -92,9 +91,8 @@ impl MemFile {
         ensures count { result_ok result ≡ spec.read_count (length buf.new) (Some self.old) }
         ensures state { self.new ≡ spec.after_next (length buf.new) self.old }
         ensures bound { ReadsAtMost result buf.new }
-        ensures bytes {
-            ReadTakes (Some (spec.bytes_left (Some self.old))) (Some (spec.bytes_left (Some self.new)))
-                result buf.new }
+        ensures bytes { ReadTakes (Some (spec.bytes_left (Some self.old))) (Some (spec.bytes_left (Some self.new)))
+            result buf.new }
     {
         if self.fails_next() {
             self.reads = self.reads.saturating_add(1);

@@ -30,24 +30,20 @@ impl MemInputs {
     /// Keeps the files that it is given. It takes no memory.
     pub fn new(files: Vec<MemFile>) -> MemInputs
         ensures state { result ≡ record { files = files.items; missed = 0 } }
-        ensures left {
-            (name : List ℕ) → ⟦<MemInputs as Inputs>⟧.left result name
-                ≡ spec.left_of files.items name }
+        ensures left { (name : List ℕ) → ⟦<MemInputs as Inputs>⟧.left result name
+            ≡ spec.left_of files.items name }
     {
         MemInputs { files, missed: 0 }
     }
 
     fn read_first(&mut self, name: &str, buf: &mut [u8]) -> Result<usize, Failed>
-        ensures count {
-            result_ok result
-                ≡ spec.read_count (length buf.new) (spec.first_of name.now self.old.files) }
-        ensures state {
-            self.new ≡ spec.after_read (length buf.new) name.now self.old
-                (spec.first_of name.now self.old.files) }
+        ensures count { result_ok result
+            ≡ spec.read_count (length buf.new) (spec.first_of name.now self.old.files) }
+        ensures state { self.new ≡ spec.after_read (length buf.new) name.now self.old
+            (spec.first_of name.now self.old.files) }
         ensures bound { ReadsAtMost result buf.new }
-        ensures bytes {
-            ReadTakes (spec.left_of self.old.files name.now) (spec.left_of self.new.files name.now)
-                result buf.new }
+        ensures bytes { ReadTakes (spec.left_of self.old.files name.now) (spec.left_of self.new.files name.now)
+            result buf.new }
     {
         match index_of(&self.files, name) {
             Some(index) => {
@@ -71,23 +67,18 @@ impl Inputs for MemInputs {
 
     fn read(&mut self, name: &str, buf: &mut [u8]) -> Result<usize, Failed>
         ensures bound { ReadsAtMost result buf.new }
-        ensures bytes {
-            ReadTakes (spec.left_of self.old.files name.now) (spec.left_of self.new.files name.now)
-                result buf.new }
-        ensures others {
-            OthersKept name.now (spec.left_of self.old.files) (spec.left_of self.new.files) }
-        ensures cause {
-            HasCause (spec.faults_of self.old name.now) (spec.faults_of self.new name.now) result }
+        ensures bytes { ReadTakes (spec.left_of self.old.files name.now) (spec.left_of self.new.files name.now)
+            result buf.new }
+        ensures others { OthersKept name.now (spec.left_of self.old.files) (spec.left_of self.new.files) }
+        ensures cause { HasCause (spec.faults_of self.old name.now) (spec.faults_of self.new name.now) result }
         ensures counts { NoneFalls (spec.faults_of self.old) (spec.faults_of self.new) }
         ensures ok { OnOk result (AllStay (spec.faults_of self.old) (spec.faults_of self.new)) }
 
         // It fails exactly where the number of the read is listed or no file has the name.
-        ensures count {
-            result_ok result
-                ≡ spec.read_count (length buf.new) (spec.first_of name.now self.old.files) }
-        ensures state {
-            self.new ≡ spec.after_read (length buf.new) name.now self.old
-                (spec.first_of name.now self.old.files) }
+        ensures count { result_ok result
+            ≡ spec.read_count (length buf.new) (spec.first_of name.now self.old.files) }
+        ensures state { self.new ≡ spec.after_read (length buf.new) name.now self.old
+            (spec.first_of name.now self.old.files) }
     {
         self.read_first(name, buf)
     }

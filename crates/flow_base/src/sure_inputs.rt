@@ -29,9 +29,8 @@ impl SureInputs {
     /// Keeps the files that it is given. It takes no memory.
     pub fn new(files: Vec<MemFile>) -> SureInputs
         ensures state { result ≡ files.items }
-        ensures left {
-            (name : List ℕ) → ⟦<SureInputs as Inputs>⟧.left result name
-                ≡ spec.left_of files.items name }
+        ensures left { (name : List ℕ) → ⟦<SureInputs as Inputs>⟧.left result name
+            ≡ spec.left_of files.items name }
     {
         SureInputs { files }
     }
@@ -46,9 +45,8 @@ impl Inputs for SureInputs {
 
     fn read(&mut self, name: &str, buf: &mut [u8]) -> Result<usize, Failed>
         ensures bound { ReadsAtMost result buf.new }
-        ensures bytes {
-            ReadTakes (spec.left_of self.old name.now) (spec.left_of self.new name.now)
-                result buf.new }
+        ensures bytes { ReadTakes (spec.left_of self.old name.now) (spec.left_of self.new name.now)
+            result buf.new }
         ensures others { OthersKept name.now (spec.left_of self.old) (spec.left_of self.new) }
         ensures cause { HasCause 0 0 result }
         ensures counts { NoneFalls (λ name. 0) (λ name. 0) }
@@ -56,10 +54,8 @@ impl Inputs for SureInputs {
 
         // It never fails.
         ensures sure { IsOk result }
-        ensures count {
-            result ≡ Ok (spec.sure_count (length buf.new) (spec.first_of name.now self.old)) }
-        ensures state {
-            self.new ≡ spec.change_first (spec.after_giving (length buf.new)) name.now self.old }
+        ensures count { result ≡ Ok (spec.sure_count (length buf.new) (spec.first_of name.now self.old)) }
+        ensures state { self.new ≡ spec.change_first (spec.after_giving (length buf.new)) name.now self.old }
     {
         match index_of(&self.files, name) {
             Some(index) => {

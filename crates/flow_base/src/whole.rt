@@ -48,26 +48,21 @@ pub fn read_whole<I: Inputs>(
     name: &str,
     limit: usize,
 ) -> Result<Vec<u8>, ReadEnd>
-    ensures whole {
-        IfOk result (λ v. I.left inputs.old name.now ≡ prepend_known v.items (I.left inputs.new name.now)) }
+    ensures whole { IfOk result (λ v. I.left inputs.old name.now ≡ prepend_known v.items (I.left inputs.new name.now)) }
     ensures end { OnOk result (IsAtEnd (I.left inputs.new name.now)) }
     ensures fits { IfOk result (λ v. length v.items ≤ limit) }
-    ensures too_long {
-        IsErrOf result ReadEnd.TooLong → IfSome (I.left inputs.old name.now) (λ t. limit < length t) }
+    ensures too_long { IsErrOf result ReadEnd.TooLong → IfSome (I.left inputs.old name.now) (λ t. limit < length t) }
 
     // Whatever the answer, no more than one byte past the limit was read, and of no other name.
-    ensures bounded {
-        TakesAtMost (limit + 1) (I.left inputs.old name.now) (I.left inputs.new name.now) }
+    ensures bounded { TakesAtMost (limit + 1) (I.left inputs.old name.now) (I.left inputs.new name.now) }
     ensures others { OthersKept name.now (I.left inputs.old) (I.left inputs.new) }
 
     // A failure comes only where the count of that name rose.
-    ensures failed {
-        IsErrOf result ReadEnd.Failed
+    ensures failed { IsErrOf result ReadEnd.Failed
         → Rose (I.faults inputs.old name.now) (I.faults inputs.new name.now) }
     ensures counts { NoneFalls (I.faults inputs.old) (I.faults inputs.new) }
     ensures ok { OnOk result (AllStay (I.faults inputs.old) (I.faults inputs.new)) }
-    ensures long {
-        IsErrOf result ReadEnd.TooLong → AllStay (I.faults inputs.old) (I.faults inputs.new) }
+    ensures long { IsErrOf result ReadEnd.TooLong → AllStay (I.faults inputs.old) (I.faults inputs.new) }
 {
     let mut text = Vec::new(alloc);
     let mut buffer = [0u8; 4096];

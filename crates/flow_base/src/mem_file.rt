@@ -1,5 +1,6 @@
 //! A file in memory, of which some reads fail.
-ghost use Rattle.std.specs.Prelude.{◌≡◌, ◌<◌, ◌≤◌, ◌++◌, [], Some, take, length, position, string_bytes};
+ghost use Rattle.std.specs.Prelude.{◌≡◌, ◌<◌, ◌≤◌, ◌++◌, [], Some};
+ghost use Rattle.std.specs.Prelude.{take, length, position, string_bytes};
 ghost use Rattle.std.specs.Result.{result_ok};
 ghost use Rattle.std.specs.Io.{ReadsAtMost};
 ghost use Rattle.flow_base.specs.Bytes.{ReadTakes};
@@ -76,7 +77,8 @@ impl MemFile {
         ensures count { result ≡ spec.next_count (length buf.new) self.old }
         ensures state { self.new ≡ spec.after_giving (length buf.new) self.old }
         ensures bound { result ≤ length buf.new }
-        ensures bytes { spec.bytes_left (Some self.old) ≡ take result buf.new ++ spec.bytes_left (Some self.new) }
+        ensures bytes { spec.bytes_left (Some self.old)
+            ≡ take result buf.new ++ spec.bytes_left (Some self.new) }
         ensures end { result ≡ 0 → 0 < length buf.new → spec.bytes_left (Some self.new) ≡ [] }
     {
         let count = buf.len().min(self.piece).min(self.bytes.len() - self.given);
@@ -91,7 +93,8 @@ impl MemFile {
         ensures count { result_ok result ≡ spec.read_count (length buf.new) (Some self.old) }
         ensures state { self.new ≡ spec.after_next (length buf.new) self.old }
         ensures bound { ReadsAtMost result buf.new }
-        ensures bytes { ReadTakes (Some (spec.bytes_left (Some self.old))) (Some (spec.bytes_left (Some self.new)))
+        ensures bytes { ReadTakes (Some (spec.bytes_left (Some self.old)))
+            (Some (spec.bytes_left (Some self.new)))
             result buf.new }
     {
         if self.fails_next() {

@@ -42,7 +42,8 @@ impl MemInputs {
         ensures state { self.new ≡ spec.after_read (length buf.new) name.now self.old
             (spec.first_of name.now self.old.files) }
         ensures bound { ReadsAtMost result buf.new }
-        ensures bytes { ReadTakes (spec.left_of self.old.files name.now) (spec.left_of self.new.files name.now)
+        ensures bytes { ReadTakes (spec.left_of self.old.files name.now)
+            (spec.left_of self.new.files name.now)
             result buf.new }
     {
         match index_of(&self.files, name) {
@@ -67,10 +68,13 @@ impl Inputs for MemInputs {
 
     fn read(&mut self, name: &str, buf: &mut [u8]) -> Result<usize, Failed>
         ensures bound { ReadsAtMost result buf.new }
-        ensures bytes { ReadTakes (spec.left_of self.old.files name.now) (spec.left_of self.new.files name.now)
+        ensures bytes { ReadTakes (spec.left_of self.old.files name.now)
+            (spec.left_of self.new.files name.now)
             result buf.new }
-        ensures others { OthersKept name.now (spec.left_of self.old.files) (spec.left_of self.new.files) }
-        ensures cause { HasCause (spec.faults_of self.old name.now) (spec.faults_of self.new name.now) result }
+        ensures others { OthersKept name.now
+            (spec.left_of self.old.files) (spec.left_of self.new.files) }
+        ensures cause { HasCause (spec.faults_of self.old name.now)
+            (spec.faults_of self.new name.now) result }
         ensures counts { NoneFalls (spec.faults_of self.old) (spec.faults_of self.new) }
         ensures ok { OnOk result (AllStay (spec.faults_of self.old) (spec.faults_of self.new)) }
 

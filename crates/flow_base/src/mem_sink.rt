@@ -1,5 +1,6 @@
 //! A sink in memory, which fails where it is told to.
-ghost use Rattle.std.specs.Prelude.{◌≡◌, ◌<◌, [], Bool, true, ℕ, List, Option, Some, IfOk, is_some, refl};
+ghost use Rattle.std.specs.Prelude.{◌≡◌, ◌<◌, [], Bool, true, ℕ, List, Option, Some};
+ghost use Rattle.std.specs.Prelude.{IfOk, is_some, refl};
 ghost use Rattle.std.specs.Result.{result_ok};
 ghost use Rattle.std.specs.Io.{WritesAtMost};
 ghost use Rattle.flow_base.specs.Causes.{HasCause};
@@ -39,7 +40,8 @@ impl Model for MemSink {
     } };
 
     ghost invariant = { λ sink.
-        (sink.room ≤ vec_capacity sink.bytes) × (vec_len sink.bytes ≤ sink.room) × (0 < sink.piece) };
+        (sink.room ≤ vec_capacity sink.bytes)
+        × (vec_len sink.bytes ≤ sink.room) × (0 < sink.piece) };
 }
 
 impl MemSink {

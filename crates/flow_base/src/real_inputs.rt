@@ -1,5 +1,6 @@
 //! Files of the system that are read by name.
-ghost use Rattle.std.specs.Prelude.{◌≡◌, ◌<◌, ℕ, List, Option, None, Bool, false, IfSome, is_some, vec_len, refl};
+ghost use Rattle.std.specs.Prelude.{◌≡◌, ◌<◌, ℕ, List, Option, None, Bool, false};
+ghost use Rattle.std.specs.Prelude.{IfSome, is_some, vec_len, refl};
 ghost use Rattle.std.specs.Io.{ReadsAtMost};
 
 use crate::inputs::{Failed, Inputs};

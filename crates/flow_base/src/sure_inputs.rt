@@ -54,8 +54,10 @@ impl Inputs for SureInputs {
 
         // It never fails.
         ensures sure { IsOk result }
-        ensures count { result ≡ Ok (spec.sure_count (length buf.new) (spec.first_of name.now self.old)) }
-        ensures state { self.new ≡ spec.change_first (spec.after_giving (length buf.new)) name.now self.old }
+        ensures count { result
+            ≡ Ok (spec.sure_count (length buf.new) (spec.first_of name.now self.old)) }
+        ensures state { self.new
+            ≡ spec.change_first (spec.after_giving (length buf.new)) name.now self.old }
     {
         match index_of(&self.files, name) {
             Some(index) => {

@@ -1,5 +1,6 @@
 //! Files read whole.
-ghost use Rattle.std.specs.Prelude.{◌≡◌, ◌<◌, ◌≤◌, ◌+◌, ℕ, List, IfOk, OnOk, IsErrOf, IfSome, length};
+ghost use Rattle.std.specs.Prelude.{◌≡◌, ◌<◌, ◌≤◌, ◌+◌, ℕ, List, length};
+ghost use Rattle.std.specs.Prelude.{IfOk, OnOk, IsErrOf, IfSome};
 ghost use Rattle.std.specs.Io.KnownBytes.{prepend_known, IsAtEnd};
 ghost use Rattle.flow_base.specs.Bytes.{TakesAtMost};
 ghost use Rattle.flow_base.specs.Causes.{Rose, OthersKept, NoneFalls, AllStay};
@@ -48,13 +49,16 @@ pub fn read_whole<I: Inputs>(
     name: &str,
     limit: usize,
 ) -> Result<Vec<u8>, ReadEnd>
-    ensures whole { IfOk result (λ v. I.left inputs.old name.now ≡ prepend_known v.items (I.left inputs.new name.now)) }
+    ensures whole { IfOk result (λ v.
+        I.left inputs.old name.now ≡ prepend_known v.items (I.left inputs.new name.now)) }
     ensures end { OnOk result (IsAtEnd (I.left inputs.new name.now)) }
     ensures fits { IfOk result (λ v. length v.items ≤ limit) }
-    ensures too_long { IsErrOf result ReadEnd.TooLong → IfSome (I.left inputs.old name.now) (λ t. limit < length t) }
+    ensures too_long { IsErrOf result ReadEnd.TooLong
+        → IfSome (I.left inputs.old name.now) (λ t. limit < length t) }
 
     // Whatever the answer, no more than one byte past the limit was read, and of no other name.
-    ensures bounded { TakesAtMost (limit + 1) (I.left inputs.old name.now) (I.left inputs.new name.now) }
+    ensures bounded { TakesAtMost (limit + 1)
+        (I.left inputs.old name.now) (I.left inputs.new name.now) }
     ensures others { OthersKept name.now (I.left inputs.old) (I.left inputs.new) }
 
     // A failure comes only where the count of that name rose.
@@ -62,7 +66,8 @@ pub fn read_whole<I: Inputs>(
         → Rose (I.faults inputs.old name.now) (I.faults inputs.new name.now) }
     ensures counts { NoneFalls (I.faults inputs.old) (I.faults inputs.new) }
     ensures ok { OnOk result (AllStay (I.faults inputs.old) (I.faults inputs.new)) }
-    ensures long { IsErrOf result ReadEnd.TooLong → AllStay (I.faults inputs.old) (I.faults inputs.new) }
+    ensures long { IsErrOf result ReadEnd.TooLong
+        → AllStay (I.faults inputs.old) (I.faults inputs.new) }
 {
     let mut text = Vec::new(alloc);
     let mut buffer = [0u8; 4096];

@@ -1,0 +1,21 @@
+//! Cuts a chart text into tokens with their places.
+//!
+//! `lex` is the one call that readers need; `is_name` tells whether a text is one name. Read
+//! `specs/Lex.antt` first: `cut_of` is what a text is cut into, `front_of` what stands in front.
+#![tactic(auto)]
+
+mod bytes;
+mod front;
+mod laws;
+mod lexer;
+mod numbers;
+mod symbols;
+mod words;
+
+pub use front::Stop;
+pub use laws::{a_name_is_cut_as_one, what_is_cut_as_a_name_is_one};
+pub use lexer::{Lexed, lex};
+pub use words::is_name;
+
+#[cfg(test)]
+mod tests;

@@ -1,0 +1,10 @@
+//! The text of a run: event lines, and the lines of the trace.
+//!
+//! Read `specs/Lines.antt`, `specs/Events.antt` and `specs/Trace.antt` first.
+#![tactic(auto)]
+
+mod lines;
+mod trace;
+
+pub use lines::{Split, split_line};
+pub use trace::trace_line;

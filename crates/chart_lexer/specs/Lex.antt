@@ -1,0 +1,104 @@
+-- The tokens of a text.
+use Rattle.std.specs.Prelude.{ℕ, zero, suc, ◌+◌, ◌-◌, ◌<◌, ◌≤◌, ◌&&◌, Bool, true, false, not, nat_eq, nat_lt, Option, Some, None, List, [], ◌∷◌, take, drop, if◌then◌else◌}
+use Rattle.std.specs.List.{prefix_len}
+use Rattle.std.specs.Str.{byte}
+use Rattle.token_grammar.specs.declared.token.Kind.{Kind}
+use Rattle.token_grammar.specs.declared.token.Kind.TheVariants as kinds
+use Rattle.token_grammar.specs.declared.token.Span.{Span}
+use Rattle.token_grammar.specs.Token.{Lexeme, lexemes}
+use Rattle.chart_lexer.specs.declared.front.Front.{Front}
+use Rattle.chart_lexer.specs.declared.front.Front.TheVariants as fronts
+use Rattle.chart_lexer.specs.declared.front.Stop.{Stop}
+use Rattle.chart_lexer.specs.declared.front.Stop.TheVariants as stops
+use Rattle.chart_lexer.specs.declared.lexer.Lexed.{Lexed}
+use Rattle.chart_lexer.specs.Words.{is_blank, is_allowed, is_letter, is_digit, is_name_byte, begins, name_length, word_kind}
+use Rattle.chart_lexer.specs.Numbers.{number_length}
+use Rattle.chart_lexer.specs.Symbols.{first_pair, first_single}
+
+-- a byte that may stand in a comment: allowed, and not the end of the line
+abbrev pub is_comment_byte : ℕ → Bool
+is_comment_byte b = is_allowed b && not (nat_eq b 10)
+
+-- two slashes
+abbrev pub begins_comment : List ℕ → Bool
+begins_comment [] = false
+begins_comment (a ∷ s) = nat_eq a (byte "/") && begins (λ b. nat_eq b (byte "/")) s
+
+-- a word: the longest run of name bytes, at most 63 of them
+abbrev pub word_front : List ℕ → Front
+word_front s =
+    if nat_lt 63 (name_length s) then fronts.Stop stops.BadToken
+    else fronts.Token (word_kind (take (name_length s) s)) (name_length s)
+
+-- a number, with no letter or underscore directly behind it
+abbrev pub number_front : List ℕ → Front
+number_front s =
+    if begins is_name_byte (drop (number_length s) s) then fronts.Stop stops.BadToken
+    else fronts.Token kinds.Number (number_length s)
+
+-- the longer of the symbols of two bytes and of one
+abbrev pub longest : Option Kind → Option Kind → Front
+longest (Some kind) single = fronts.Token kind 2
+longest None (Some kind) = fronts.Token kind 1
+longest None None = fronts.Stop stops.BadToken
+
+-- a symbol: two bytes, or else one
+abbrev pub symbol_front : List ℕ → Front
+symbol_front s = longest (first_pair s) (first_single s)
+
+-- what stands in front: the end, a blank byte, a token and how many bytes it has, or no token
+unfoldable pub front_of : List ℕ → Front
+front_of [] = fronts.Stop stops.End
+front_of (b ∷ s) =
+    if is_blank b then fronts.Blank else
+    if not (is_allowed b) then fronts.Stop stops.BadByte else
+    if is_letter b then word_front (b ∷ s) else
+    if is_digit b then number_front (b ∷ s) else
+    if begins_comment (b ∷ s) then fronts.Token kinds.Comment (prefix_len is_comment_byte (b ∷ s)) else
+    symbol_front (b ∷ s)
+
+-- a blank or a token has a byte at least, and no more than there are
+abbrev pub FrontWithin : Front → ℕ → Type 0
+FrontWithin fronts.Blank n = 0 < n
+FrontWithin (fronts.Token kind m) n = (0 < m) × (m ≤ n)
+FrontWithin (fronts.Stop stop) n = Unit {0}
+
+-- where a text begins
+abbrev pub begin : Span
+begin = record { line = 1; column = 1 }
+
+-- the place after a byte: the next column, or after byte 10 the next line
+abbrev pub after_byte : Span → ℕ → Span
+after_byte p b =
+    if nat_eq b 10 then record { line = p.line + 1; column = 1 }
+    else record { line = p.line; column = p.column + 1 }
+
+-- the tokens, what stands behind them, and its place
+pub record Lexemes : Type 0 where
+  pub tokens : List Lexeme
+  pub stop : Stop
+  pub at : Span
+
+-- one more token in front
+abbrev pub before : Lexeme → Lexemes → Lexemes
+before t l = record { tokens = t ∷ l.tokens; stop = l.stop; at = l.at }
+
+-- the tokens of a text from a place on, behind so many bytes of it that are passed over
+unfoldable pub lexed : ℕ → Span → List ℕ → Lexemes
+lexed k p [] = record { tokens = []; stop = stops.End; at = p }
+lexed (suc k) p (b ∷ s) = lexed k (after_byte p b) s
+lexed zero p (b ∷ s) = elim (front_of (b ∷ s)) [
+  | fronts.Blank ↦ lexed 0 (after_byte p b) s
+  | fronts.Token kind n ↦
+      before (record { kind = kind; text = take n (b ∷ s); at = p })
+      (lexed (n - 1) (after_byte p b) s)
+  | fronts.Stop stop ↦ record { tokens = []; stop = stop; at = p }
+]
+
+-- what a text is cut into
+abbrev pub cut_of : List ℕ → Lexemes
+cut_of text = lexed 0 begin text
+
+-- what was cut, without where it lies in memory
+abbrev pub seen : Lexed → Lexemes
+seen l = record { tokens = lexemes l.tokens.items; stop = l.stop; at = l.at }

@@ -1,0 +1,79 @@
+//! How many bytes of a text are a number.
+ghost use Rattle.std.specs.Prelude.{◌≡◌, ◌≤◌, length};
+ghost use Rattle.chart_lexer.specs.Numbers as spec;
+
+use crate::bytes::is_digit;
+
+/// How many digits stand in front.
+fn digits_length(text: &[u8]) -> usize
+    ensures value { result ≡ spec.digits_length text.now }
+    ensures within { result ≤ length text.now }
+{
+    text.iter().take_while(|byte| is_digit(**byte)).count()
+}
+
+/// How many bytes a point and the digits behind it have, 0 where there is no such point.
+#[tactic(auto, unfolding(crate::specs::Numbers::fraction_length))]
+fn fraction_length(text: &[u8]) -> usize
+    ensures value { result ≡ spec.fraction_length text.now }
+    ensures within { result ≤ length text.now }
+{
+    if text.is_empty() || text[0] != b'.' {
+        return 0;
+    }
+    let digits = digits_length(&text[1..]);
+    if digits > 0 { digits + 1 } else { 0 }
+}
+
+/// Whether the digits are one or two, of a value up to 32.
+fn is_scale(digits: &[u8]) -> bool
+    ensures { result ≡ spec.is_scale digits.now }
+{
+    match digits {
+        [_] => true,
+        [tens, units] => {
+            let tens = u32::from(tens.saturating_sub(b'0'));
+            let units = u32::from(units.saturating_sub(b'0'));
+            tens * 10 + units <= 32
+        }
+        _ => false,
+    }
+}
+
+/// How many bytes `q` and the scale behind it have, 0 where there is no such `q`.
+#[tactic(auto, unfolding(crate::specs::Numbers::scale_length))]
+fn scale_length(text: &[u8]) -> usize
+    ensures value { result ≡ spec.scale_length text.now }
+    ensures within { result ≤ length text.now }
+{
+    if text.is_empty() || text[0] != b'q' {
+        return 0;
+    }
+    let rest = &text[1..];
+    let digits = digits_length(rest);
+    if is_scale(&rest[..digits]) {
+        digits + 1
+    } else {
+        0
+    }
+}
+
+/// How many bytes digits have, with a fraction behind them.
+#[tactic(auto, unfolding(crate::specs::Numbers::decimal_length))]
+fn decimal_length(text: &[u8]) -> usize
+    ensures value { result ≡ spec.decimal_length text.now }
+    ensures within { result ≤ length text.now }
+{
+    let digits = digits_length(text);
+    digits + fraction_length(&text[digits..])
+}
+
+/// How many bytes a decimal has, with a scale behind it.
+#[tactic(auto, unfolding(crate::specs::Numbers::number_length))]
+pub fn number_length(text: &[u8]) -> usize
+    ensures value { result ≡ spec.number_length text.now }
+    ensures within { result ≤ length text.now }
+{
+    let decimal = decimal_length(text);
+    decimal + scale_length(&text[decimal..])
+}

@@ -1,5 +1,5 @@
 -- A run of a flat chart stays in the chart.
-use Rattle.std.proofs.Common.{◌≡◌, ℕ, zero, suc, ◌+◌, ◌<◌, Bool, true, false, List, [], ◌∷◌, length, Option, Some, arith}
+use Rattle.std.proofs.Common.{◌≡◌, ℕ, zero, suc, ◌+◌, ◌<◌, Bool, true, false, List, [], ◌∷◌, ◌++◌, length, drop, Option, Some, refl, ap, arith, length-append}
 use Rattle.std.specs.Prelude.{nat_eq, unwrap_or, if◌then◌else◌}
 use Rattle.std.specs.List.{AllByRecursion}
 use Rattle.flow_base.specs.declared.event.FlatEvent.{FlatEvent}
@@ -40,3 +40,21 @@ flat_react-in_range c s (events.Named e) h k =
 pub flat_run_from-in_range : (c : Chart) (s : ℕ) (es : List FlatEvent) → InRange c → s < length c.states → AllByRecursion (λ x. x < length c.states) (flat_run_from c s es)
 flat_run_from-in_range c s [] h k = (k, tt)
 flat_run_from-in_range c s (e ∷ es) h k = (k, flat_run_from-in_range c (flat_react c s e) es h (flat_react-in_range c s e h k))
+
+-- a run begins with the state that it begins from
+pub flat_run_from-first : (c : Chart) (s : ℕ) (es : List FlatEvent) → flat_run_from c s es ≡ s ∷ drop 1 (flat_run_from c s es)
+flat_run_from-first c s [] = refl
+flat_run_from-first c s (e ∷ es) = refl
+
+-- the one state of a list that ends in a state
+one_state : (s : ℕ) (front : List ℕ) (last : ℕ) → s ∷ [] ≡ front ++ last ∷ [] → s ≡ last
+one_state s [] last is = cc
+one_state s (x ∷ xs) last is = absurd (omega (arith, ap length is, length-append xs (last ∷ [])))
+
+-- behind a run whose last state is known, one event more gives one state more
+pub flat_run_from-more : (c : Chart) (s : ℕ) (es : List FlatEvent) (e : FlatEvent) (front : List ℕ) (last : ℕ) → flat_run_from c s es ≡ front ++ last ∷ [] → flat_run_from c s (es ++ e ∷ []) ≡ flat_run_from c s es ++ flat_react c last e ∷ []
+flat_run_from-more c s [] e front last is = ap (λ (t : ℕ). s ∷ flat_react c t e ∷ []) (one_state s front last is)
+flat_run_from-more c s (d ∷ es) e [] last is = absurd (omega (arith, ap length is, length-flat_run_from c (flat_react c s d) es))
+flat_run_from-more c s (d ∷ es) e (x ∷ front) last is =
+    let tail : flat_run_from c (flat_react c s d) es ≡ front ++ last ∷ [] = cc in
+    ap (λ (run : List ℕ). s ∷ run) (flat_run_from-more c (flat_react c s d) es e front last tail)

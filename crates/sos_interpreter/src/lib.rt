@@ -7,3 +7,6 @@ mod flat;
 
 pub use flat::FlatRules;
 pub use flow_base::FlatEvent;
+
+#[cfg(test)]
+mod tests;

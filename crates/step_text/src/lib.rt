@@ -10,3 +10,6 @@ mod trace;
 pub use events::{LineFault, event_of_line};
 pub use lines::{Split, split_line};
 pub use trace::{event_word, trace_line};
+
+#[cfg(test)]
+mod tests;

@@ -2,3 +2,5 @@ pub mod Form
 pub mod FlatChart
 pub mod FlatGrammar
 pub mod FlatNames
+pub mod FlatText
+pub mod Spelled

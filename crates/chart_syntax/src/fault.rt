@@ -1,7 +1,9 @@
 //! Why a text is no chart.
 ghost use Rattle.std.specs.Prelude.{◌≡◌};
 ghost use Rattle.chart_syntax.specs.Form.{form_number, form_name};
+ghost use Rattle.chart_syntax.specs.declared.fault.FormFault.TheVariants.{Memory};
 
+use std::alloc::AllocError;
 use token_grammar::Span;
 
 /// What is wrong with a text, at a place.
@@ -46,4 +48,12 @@ pub enum FormFault {
     At(FormKind, Span),
     /// Memory ran out.
     Memory,
+}
+
+impl From<AllocError> for FormFault {
+    ghost from_gives = { λ _ e. e ≡ Memory };
+
+    fn from(_e: AllocError) -> FormFault {
+        FormFault::Memory
+    }
 }

@@ -6,8 +6,16 @@
 #![tactic(auto)]
 
 mod fault;
+mod names;
+mod reader;
+mod spelled;
+mod text;
 mod tree;
 
 pub use fault::{FormFault, FormKind};
+pub use text::read_flat;
 pub use token_grammar::Span;
 pub use tree::{FlatChart, FlatState, FlatTrans};
+
+#[cfg(test)]
+mod tests;

@@ -7,4 +7,6 @@ pub mod Faults
 pub mod UpTo
 pub mod Never
 pub mod Loop
+pub mod Counted
+pub mod Kept
 pub mod Tokens

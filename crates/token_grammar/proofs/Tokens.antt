@@ -30,7 +30,7 @@ token_refused (t ∷ ts) k h = rw h refl
 kind_eq-refl : (k : Kind) → kind_eq k k ≡ true
 kind_eq-refl k = eq-eqb _ _ refl
 
-kind_eq-true : (a b : Kind) → kind_eq a b ≡ true → a ≡ b
+pub kind_eq-true : (a b : Kind) → kind_eq a b ≡ true → a ≡ b
 kind_eq-true a b h =
     let e : Some a ≡ Some b = sym (found a) ∙ ap (at all_kinds) (eqb-true _ _ h) ∙ found b in
     cc

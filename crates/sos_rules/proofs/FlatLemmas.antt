@@ -14,7 +14,8 @@ length-flat_run_from c s [] = omega arith
 length-flat_run_from c s (e ∷ es) = omega (arith, length-flat_run_from c (flat_react c s e) es)
 
 -- the transitions of a state are in range where those of all states are
-pub outer_of-in_range : (n m : ℕ) (states : List State) (s : ℕ) → AllByRecursion (λ (st : State). AllByRecursion (TransInRange n m) st.outer) states → AllByRecursion (TransInRange n m) (outer_of states s)
+pub outer_of-in_range : (n m : ℕ) (states : List State) (s : ℕ) → AllByRecursion (λ (st : State). AllByRecursion (TransInRange n m) st.outer) states
+    → AllByRecursion (TransInRange n m) (outer_of states s)
 outer_of-in_range n m [] s h = tt
 outer_of-in_range n m (first ∷ rest) zero h = h.0
 outer_of-in_range n m (first ∷ rest) (suc s) h = outer_of-in_range n m rest s h.1
@@ -52,7 +53,8 @@ one_state s [] last is = cc
 one_state s (x ∷ xs) last is = absurd (omega (arith, ap length is, length-append xs (last ∷ [])))
 
 -- behind a run whose last state is known, one event more gives one state more
-pub flat_run_from-more : (c : Chart) (s : ℕ) (es : List FlatEvent) (e : FlatEvent) (front : List ℕ) (last : ℕ) → flat_run_from c s es ≡ front ++ last ∷ [] → flat_run_from c s (es ++ e ∷ []) ≡ flat_run_from c s es ++ flat_react c last e ∷ []
+pub flat_run_from-more : (c : Chart) (s : ℕ) (es : List FlatEvent) (e : FlatEvent) (front : List ℕ) (last : ℕ)
+    → flat_run_from c s es ≡ front ++ last ∷ [] → flat_run_from c s (es ++ e ∷ []) ≡ flat_run_from c s es ++ flat_react c last e ∷ []
 flat_run_from-more c s [] e front last is = ap (λ (t : ℕ). s ∷ flat_react c t e ∷ []) (one_state s front last is)
 flat_run_from-more c s (d ∷ es) e [] last is = absurd (omega (arith, ap length is, length-flat_run_from c (flat_react c s d) es))
 flat_run_from-more c s (d ∷ es) e (x ∷ front) last is =

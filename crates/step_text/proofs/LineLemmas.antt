@@ -12,7 +12,8 @@ abbrev line_length : List ℕ → ℕ
 line_length text = position_or_len (λ b. nat_eq b 10) text
 
 -- a byte in front of a text whose first line and rest are known
-front : (b n : ℕ) (text : List ℕ) (newline : Bool) → lines_of text ≡ take n text ∷ lines_of (drop (n + 1) text) → (if newline then [] ∷ lines_of text else begun_with b (lines_of text)) ≡ take (cond (not newline) (1 + n) 0) (b ∷ text) ∷ lines_of (drop (cond (not newline) (1 + n) 0 + 1) (b ∷ text))
+front : (b n : ℕ) (text : List ℕ) (newline : Bool) → lines_of text ≡ take n text ∷ lines_of (drop (n + 1) text)
+    → (if newline then [] ∷ lines_of text else begun_with b (lines_of text)) ≡ take (cond (not newline) (1 + n) 0) (b ∷ text) ∷ lines_of (drop (cond (not newline) (1 + n) 0 + 1) (b ∷ text))
 front b n text true e = refl
 front b n text false e =
     let k : 1 + n ≡ suc n = omega arith in
@@ -30,10 +31,12 @@ lines_of-first [] h = absurd (omega arith)
 lines_of-first (b ∷ []) h = only b (nat_eq b 10)
 lines_of-first (b ∷ (d ∷ text)) h = front b (line_length (d ∷ text)) (d ∷ text) (nat_eq b 10) (lines_of-first (d ∷ text) (omega arith))
 
+-- the value where the test passes
 chosen : (b : Bool) (m n : ℕ) → Some n ≡ cond b (Some m) None → n ≡ m
 chosen true m n is = cc
 chosen false m n is = cc
 
+-- where the test fails, the one number isn't below the other
 left_out : (m n : ℕ) → None ≡ cond (nat_lt m n) (Some m) None → n ≤ m
 left_out m n is = grind (arith, nat_tests)
 

@@ -16,7 +16,9 @@ name_at-within (first ∷ rest) (suc n) name within is = name_at-within rest n n
 later : (m n : ℕ) → after (cond (nat_lt m n) (Some m) None) ≡ cond (nat_lt (1 + m) (suc n)) (Some (1 + m)) None
 later m n = grind (arith, nat_tests)
 
-step : (m n : ℕ) (first : Bool) (rest : Option ℕ) → rest ≡ cond (nat_lt m n) (Some m) None → (if first then Some 0 else after rest) ≡ cond (nat_lt (cond (not first) (1 + m) 0) (suc n)) (Some (cond (not first) (1 + m) 0)) None
+-- one more name in front: the place is its own, or one further
+step : (m n : ℕ) (first : Bool) (rest : Option ℕ) → rest ≡ cond (nat_lt m n) (Some m) None
+    → (if first then Some 0 else after rest) ≡ cond (nat_lt (cond (not first) (1 + m) 0) (suc n)) (Some (cond (not first) (1 + m) 0)) None
 step m n true rest is = grind (arith, nat_tests)
 step m n false rest is = rw is (later m n)
 

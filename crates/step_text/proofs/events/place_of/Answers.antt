@@ -8,5 +8,9 @@ use Rattle.step_text.proofs.events.place_of.Goals as goal
 
 pub returns-clause-place : goal.returns-clause-place
 returns-clause-place c =
-    let place : c.position.result ≡ position (λ (other : List ℕ). bytes_eq other c.args.line.now) c.args.names.now = position_from_yields_List (λ (other : List ℕ). bytes_eq other c.args.line.now) _ _ c.position.result c.position.ensures.ran (YieldsList-from_slice c.args.names.now cc) (λ x b q k. search (rules, tests)) in
-    place ∙ sym (index_of-position c.args.line.now c.args.names.now)
+    let line = c.args.line.now in
+    let names = c.args.names.now in
+    let place : c.position.result ≡ position (λ (name : List ℕ). bytes_eq name line) names =
+    position_from_yields_List (λ (name : List ℕ). bytes_eq name line) _ _ c.position.result c.position.ensures.ran
+    (YieldsList-from_slice names cc) (λ x b q k. search (rules, tests)) in
+    place ∙ sym (index_of-position line names)

@@ -117,20 +117,24 @@ line_ends T c text out after writes world active index rest line rest' ending u 
         let left : events_left c rest ≡ [] = left_is c rest line rest' lines ∙ ap (λ (ev : Result FlatEvent LineFault). event_then ev (events_left c rest')) is in
         let refused : refused_line c.events text ≡ Some (record { number = index + 1; fault = fault }) =
         sym u.refused ∙ refused_is c (index + 1) rest line rest' lines ∙ ap (λ (ev : Result FlatEvent LineFault). refused_or (index + 1) ev (refused_from c.events (index + 1 + 1) (lines_of rest'))) is in
-        subst (RunEnds (then_out out after writes) c text) same
-        (refused, record {
-          wrote = step.1 ∙ all_written out.before out.after (trace_of c text) (subst (λ (es : List FlatEvent). Progress out.before out.after (trace_of c text) (to_come c u.state (index + 1) es)) left u.progress);
-          quiet = step.2 ∙ u.quiet;
-        })
+        subst (RunEnds (then_out out after writes) c text) same (
+          refused,
+          record {
+            wrote = step.1 ∙ all_written out.before out.after (trace_of c text) (subst (λ (es : List FlatEvent). Progress out.before out.after (trace_of c text) (to_come c u.state (index + 1) es)) left u.progress);
+            quiet = step.2 ∙ u.quiet;
+          },
+        )
 
 -- no line is left
 pub all_taken : (c : Chart) (text : List ℕ) (out : Written) (world : FlatWorld) (index : ℕ) (rest : List ℕ) → Underway c text out world index rest → rest ≡ [] → RunEnds out c text endings.Done
 all_taken c text out world index rest u none =
-    let left : events_left c rest ≡ [] = ap (events_left c) none in
-    (sym u.refused ∙ ap (λ (r : List ℕ). refused_from c.events (index + 1) (lines_of r)) none, record {
-      wrote = all_written out.before out.after (trace_of c text) (subst (λ (es : List FlatEvent). Progress out.before out.after (trace_of c text) (to_come c u.state (index + 1) es)) left u.progress);
-      quiet = u.quiet;
-    })
+    let left : events_left c rest ≡ [] = ap (events_left c) none in (
+      sym u.refused ∙ ap (λ (r : List ℕ). refused_from c.events (index + 1) (lines_of r)) none,
+      record {
+        wrote = all_written out.before out.after (trace_of c text) (subst (λ (es : List FlatEvent). Progress out.before out.after (trace_of c text) (to_come c u.state (index + 1) es)) left u.progress);
+        quiet = u.quiet;
+      },
+    )
 
 -- the first line can't be written
 pub start_ends : (T : Type 0) (c : Chart) (text : List ℕ) (before after : Option (List ℕ)) (writes writes' : ℕ) (world : FlatWorld) (ending : Ending) → world ≡ record { chart = c; active = Some (flat_start c) }

@@ -50,12 +50,7 @@ pub fn chart_main<I: Inputs, O: Sink, E: Sink>(
 }
 
 /// Does what the words ask for.
-fn call<I: Inputs, O: Sink>(
-    alloc: Global,
-    words: &[String],
-    inputs: &mut I,
-    out: &mut O,
-) -> Ending
+fn call<I: Inputs, O: Sink>(alloc: Global, words: &[String], inputs: &mut I, out: &mut O) -> Ending
     ensures { Ends
         (command_of words.now)
         (record {

@@ -20,11 +20,7 @@ const LONGEST_CHART: usize = 1_048_576;
 const LONGEST_EVENTS: usize = 1_048_576;
 
 /// Reads the file of that name as a flat chart.
-pub fn read_chart<I: Inputs>(
-    alloc: Global,
-    inputs: &mut I,
-    name: &str,
-) -> Result<FlatChart, Ending>
+pub fn read_chart<I: Inputs>(alloc: Global, inputs: &mut I, name: &str) -> Result<FlatChart, Ending>
     ensures chart { IfOk result (λ c. HasChart (I.left inputs.old name.now) (chart_of c)) }
     ensures in_range { IfOk result (λ c. InRange (chart_of c)) }
     ensures end { OnOk result (I.left inputs.new name.now ≡ option_map (λ _. []) (I.left inputs.old name.now)) }

@@ -64,4 +64,5 @@ pub fn report<E: Sink>(err: &mut E, ending: Ending) -> Result<(), Failed>
     }
 }
 
-const USAGE: &str = "usage: flowc check CHART, fmt CHART, rules CHART EVENTS, compile CHART, exec CODE EVENTS, run CHART EVENTS, selftest N; --depth D, --steps S\n";
+const USAGE: &str =
+    "usage: flowc check CHART, fmt CHART, rules CHART EVENTS, compile CHART, exec CODE EVENTS, run CHART EVENTS, selftest N; --depth D, --steps S\n";

@@ -26,8 +26,7 @@ pub fn command_from<'a>(words: &'a [String]) -> Option<Command<'a>>
 {
     match words {
         [name, first, second]
-            if name.as_str() == "rules" && is_file(first.as_str()) && is_file(second.as_str()) =>
-        {
+            if name.as_str() == "rules" && is_file(first.as_str()) && is_file(second.as_str()) => {
             Some(Command::Rules(first.as_str(), second.as_str()))
         }
         _ => None,

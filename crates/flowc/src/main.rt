@@ -3,9 +3,8 @@
 
 use chart_command::chart_main;
 use flow_base::{RealInputs, RealSink, Status};
-use std::env;
-use std::io;
 use std::process::ExitCode;
+use std::{env, io};
 
 fn main(rt: HostRuntime) -> ExitCode {
     match words(&rt) {

@@ -14,7 +14,7 @@ use Rattle.chart_lexer.specs.Bytes.{is_blank, is_allowed, is_letter, is_digit, i
 use Rattle.chart_lexer.specs.Words.{name_length, word_kind}
 use Rattle.chart_lexer.specs.Numbers.{digits_length, fraction_length, scale_length, decimal_length, number_length}
 use Rattle.chart_lexer.specs.Symbols.{pair_kind, single_kind}
-use Rattle.chart_lexer.specs.Lex.{is_comment_byte, begins_comment, longer_symbol, word_front, number_front, symbol_front, front_of}
+use Rattle.chart_lexer.specs.Lex.{is_comment_byte, comment_length, begins_comment, longer_symbol, word_front, number_front, symbol_front, front_of}
 
 -- no line ends in the first k bytes
 abbrev pub OneLine : ℕ → List ℕ → Type 0
@@ -168,7 +168,7 @@ unfolding front_of
 front_line [] = tt
 front_line (b ∷ s) =
     let text : List ℕ = b ∷ s in
-    let comment : Front = fronts.Token kinds.Comment (prefix_len is_comment_byte text) in
+    let comment : Front = fronts.Token kinds.Comment (comment_length text) in
     let from_slash : Front = cond (begins_comment text) comment (symbol_front text) in
     let from_digit : Front = cond (is_digit b) (number_front text) from_slash in
     let from_letter : Front = cond (is_letter b) (word_front text) from_digit in

@@ -1,6 +1,5 @@
 -- A text is a name exactly where it is cut as one.
 use Rattle.std.proofs.Common.{◌≡◌, ℕ, zero, suc, ◌<◌, ◌≤◌, Bool, true, false, ◌&&◌, List, [], ◌∷◌, Option, Some, None, length, take, drop, refl, sym, ap, ◌∙◌, inl, inr, cond, eqb, leb, ltb, eq-eqb, not, ◌↔◌, IsTrue, arith}
-use Rattle.std.specs.List.{prefix_len}
 use Rattle.std.specs.Str.{byte}
 use Rattle.std.proofs.lemmas.Bool.{cases_Bool, eqb-true, leb-true, and_parts, and_from, ltb-false, le-ltb, le-leb, cond_both}
 use Rattle.std.proofs.lemmas.List.{get_or-take}
@@ -18,7 +17,7 @@ use Rattle.chart_lexer.specs.Bytes.{is_blank, is_allowed, is_letter, is_digit, i
 use Rattle.chart_lexer.specs.Words.{name_length, word_kind, is_name}
 use Rattle.chart_lexer.specs.Numbers.{number_length}
 use Rattle.chart_lexer.specs.Symbols.{pair_kind, single_kind, first_pair, first_single}
-use Rattle.chart_lexer.specs.Lex.{is_comment_byte, begins_comment, longer_symbol, word_front, number_front, symbol_front, front_of, IsOneName}
+use Rattle.chart_lexer.specs.Lex.{comment_length, begins_comment, longer_symbol, word_front, number_front, symbol_front, front_of, IsOneName}
 
 -- kinds of one number are one
 kind_eq-true : (a b : Kind) → kind_eq a b ≡ true → a ≡ b
@@ -194,7 +193,7 @@ unfolding front_of
 front_named [] = tt
 front_named (b ∷ s) =
     let text : List ℕ = b ∷ s in
-    let comment : Front = fronts.Token kinds.Comment (prefix_len is_comment_byte text) in
+    let comment : Front = fronts.Token kinds.Comment (comment_length text) in
     let from_slash : Front = cond (begins_comment text) comment (symbol_front text) in
     let from_digit : Front = cond (is_digit b) (number_front text) from_slash in
     let from_letter : Front = cond (is_letter b) (word_front text) from_digit in

@@ -20,6 +20,10 @@ use Rattle.chart_lexer.specs.Symbols.{first_pair, first_single}
 abbrev pub is_comment_byte : ℕ → Bool
 is_comment_byte b = is_allowed b && not (nat_eq b 10)
 
+-- how many bytes of a comment stand in front
+abbrev pub comment_length : List ℕ → ℕ
+comment_length s = prefix_len is_comment_byte s
+
 -- whether two slashes stand in front
 abbrev pub begins_comment : List ℕ → Bool
 begins_comment [] = false
@@ -55,7 +59,7 @@ front_of (b ∷ s) =
     if not (is_allowed b) then fronts.Stop stops.BadByte else
     if is_letter b then word_front (b ∷ s) else
     if is_digit b then number_front (b ∷ s) else
-    if begins_comment (b ∷ s) then fronts.Token kinds.Comment (prefix_len is_comment_byte (b ∷ s)) else
+    if begins_comment (b ∷ s) then fronts.Token kinds.Comment (comment_length (b ∷ s)) else
     symbol_front (b ∷ s)
 
 -- the token in front is a name, and the whole text

@@ -1,6 +1,5 @@
 //! What stands in front of a text.
 ghost use Rattle.std.specs.Prelude.{◌≡◌, ◌<◌, ◌≤◌, IsTrue, length};
-ghost use Rattle.std.specs.List.{prefix_len};
 ghost use Rattle.chart_lexer.specs.Bytes.{begins, is_letter, is_digit};
 ghost use Rattle.chart_lexer.specs.Lex as spec;
 
@@ -57,7 +56,7 @@ fn number_front(text: &[u8]) -> Front
 }
 
 fn comment_length(text: &[u8]) -> usize
-    ensures value { result ≡ prefix_len spec.is_comment_byte text.now }
+    ensures value { result ≡ spec.comment_length text.now }
     ensures within { result ≤ length text.now }
 {
     text.iter()

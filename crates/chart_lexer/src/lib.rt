@@ -1,7 +1,7 @@
 //! Cuts a chart text into tokens with their places.
 //!
 //! `lex` is the one call that readers need; `is_name` tells whether a text is one name. Read
-//! `specs/Lex.antt` first: `cut_of` is what a text is cut into, and `front_of` what stands in front.
+//! `specs/Lex.antt` first: `cut_of` is what a text is cut into, `front_of` what stands in front.
 #![tactic(auto)]
 
 mod bytes;

@@ -1,5 +1,5 @@
 -- Where no name is at fault, every number is in range.
-use Rattle.std.proofs.Common.{◌≡◌, ℕ, ◌+◌, ◌<◌, List, [], ◌∷◌, map, length, Option, Some, None, refl, sym, subst, ◌∙◌, inl, inr, arith}
+use Rattle.std.proofs.Common.{◌≡◌, ℕ, ◌+◌, ◌^◌, ◌<◌, ◌≤◌, List, [], ◌∷◌, map, length, Option, Some, None, refl, sym, subst, ◌∙◌, inl, inr, arith}
 use Rattle.std.specs.Prelude.{is_some, unwrap_or, if◌then◌else◌}
 use Rattle.std.specs.List.{AllByRecursion}
 use Rattle.std.specs.Str.{bytes_eq}
@@ -67,14 +67,16 @@ states_below events states n len before (s ∷ ss) none =
       states_below events states n len _ ss (no_later (transes_fault events states s.outer) (states_fault events states _ ss) later),
     )
 
-pub numbered_in_range : (c : SpelledChart) → name_fault c ≡ None → InRange (numbered c)
-numbered_in_range c none =
+pub numbered_in_range : (c : SpelledChart) → name_fault c ≡ None → length c.events ≤ 64 → InRange (numbered c)
+numbered_in_range c none few =
     let names : List (List ℕ) = spelled_states c in
     let len : length names ≡ length (map (numbered_state (texts c.events) names) c.states) =
     length-map c.states (λ (s : SpelledState). s.name.text) ∙ sym (length-map c.states (numbered_state (texts c.events) names)) in
     let later = no_later (events_fault [] c.events) (first_of (undeclared names c.default) (states_fault (texts c.events) names [] c.states)) none in
     let default : number_of names c.default < length names = declared_below names c.default (no_first (undeclared names c.default) (states_fault (texts c.events) names [] c.states) later) in
+    let events : length (texts c.events) < 2 ^ 32 = omega (arith, length-map c.events (λ (t : Lexeme). t.text)) in
     record {
+      events = events;
       default = subst (λ (z : ℕ). number_of names c.default < z) len default;
       transitions = states_below (texts c.events) names _ len [] c.states (no_later (undeclared names c.default) (states_fault (texts c.events) names [] c.states) later);
     }

@@ -1,5 +1,5 @@
 -- Flat charts as contracts see them.
-use Rattle.std.specs.Prelude.{ℕ, ◌<◌, List, map, length}
+use Rattle.std.specs.Prelude.{ℕ, ◌<◌, ◌^◌, List, map, length}
 use Rattle.std.specs.List.{AllByRecursion}
 use Rattle.flow_base.specs.Lists.{items_of}
 use Rattle.chart_syntax.specs.declared.tree.FlatTrans.{FlatTrans}
@@ -35,7 +35,8 @@ pub record TransInRange (events states : ℕ) (t : FlatTrans) : Type 0 where
   pub event : t.event < events
   pub dest : t.dest < states
 
--- every number in the chart is that of an event or a state of it
+-- every number in the chart is that of an event or a state of it, and an event's number fits 32 bits
 pub record InRange (c : Chart) : Type 0 where
+  pub events : length c.events < 2 ^ 32
   pub default : c.default < length c.states
   pub transitions : AllByRecursion (λ (s : State). AllByRecursion (TransInRange (length c.events) (length c.states)) s.outer) c.states

@@ -1,5 +1,5 @@
 -- What reads and writes do to the bytes, where those are told.
-use Rattle.std.specs.Prelude.{◌≡◌, ℕ, ◌<◌, List, length, take, Option, Result, MatchResult, IfOk}
+use Rattle.std.specs.Prelude.{◌≡◌, ℕ, ◌<◌, ◌≤◌, List, length, take, Option, Result, MatchResult, IfOk}
 use Rattle.std.specs.Io.KnownBytes.{append_known, prepend_known, IsAtEnd}
 
 -- Ok(n) gives the first n bytes that are left, none only at the end or with no room; an error takes none; whether bytes are told stays
@@ -20,3 +20,9 @@ pub record AppendsProperFront (old new : Option (List ℕ)) (piece : List ℕ) :
   pub count : ℕ
   pub proper : count < length piece
   pub bytes : new ≡ append_known old (take count piece)
+
+-- at most so many bytes of those that were left were taken
+pub record TakesAtMost (most : ℕ) (old new : Option (List ℕ)) : Type 0 where
+  pub taken : List ℕ
+  pub few : length taken ≤ most
+  pub bytes : old ≡ prepend_known taken new

@@ -3,3 +3,7 @@ pub mod Names
 pub mod Status
 pub mod Causes
 pub mod Bytes
+pub mod Bounds
+pub mod Counts
+pub mod MemoryFiles
+pub mod MemorySinks

@@ -16,4 +16,5 @@ numbered-requires c =
 pub returns-clause-in_range : goal.returns-clause-in_range
 returns-clause-in_range c =
     let none : name_fault (chart_spelled c.in_ok-chart.chart) ≡ None = search rules in
-    subst InRange (sym c.in_ok-numbered.ensures) (numbered_in_range (chart_spelled c.in_ok-chart.chart) none)
+    let small = kept_chart.kept (cut_of c.args.text.now).tokens (chart_spelled c.in_ok-chart.chart) c.in_ok-chart.ensures.found.spelled (cut_named c.args.text.now) in
+    subst InRange (sym c.in_ok-numbered.ensures) (numbered_in_range (chart_spelled c.in_ok-chart.chart) none small.few_events)

@@ -1,0 +1,8 @@
+-- A command of the code as a contract sees it.
+use Rattle.chart_command.specs.declared.words.Command.{Command}
+use Rattle.chart_command.specs.declared.words.Command.TheVariants as commands
+use Rattle.chart_command.specs.Words as words
+
+-- the names that it refers to
+abbrev pub command_seen : Command → words.Command
+command_seen (commands.Rules first second) = words.Rules first.now second.now

@@ -1,0 +1,105 @@
+-- The parts of `rules`: reading its files, and running the chart over the lines of a text.
+use Rattle.std.specs.Prelude.{◌≡◌, ℕ, List, [], ◌∷◌, Option, Some, None, nat_lt, length, true, Result, Ok, Err}
+use Rattle.std.specs.Io.KnownBytes.{append_known}
+use Rattle.flow_base.specs.Causes.{Rose, AllStay}
+use Rattle.flow_base.specs.Bytes.{AppendsProperFront}
+use Rattle.flow_base.specs.Names.{name_at}
+use Rattle.flow_base.specs.declared.event.FlatEvent.{FlatEvent}
+use Rattle.chart_syntax.specs.FlatChart.{Chart, state_names}
+use Rattle.sos_rules.specs.Flat.{flat_react}
+use Rattle.step_text.specs.Trace.{trace_line, event_word}
+use Rattle.step_text.specs.declared.events.LineFault.{LineFault}
+use Rattle.step_text.specs.declared.events.LineFault.TheVariants as line_faults
+use Rattle.step_text.specs.Lines.{lines_of}
+use Rattle.step_text.specs.Events.{events_of, refused_line}
+use Rattle.chart_command.specs.declared.ending.Ending.{Ending}
+use Rattle.chart_command.specs.declared.ending.Ending.TheVariants as endings
+use Rattle.chart_command.specs.Flat.{flat_trace, is_long}
+use Rattle.chart_command.specs.Answer.{IsTold, HasNoChart, AppendsFront}
+
+-- why a chart isn't read: what is told of its file, and its count before and after
+abbrev pub ChartFails : Option (List ℕ) → ℕ → ℕ → Ending → Type 0
+ChartFails told before after endings.Done = ⊥
+ChartFails told before after (endings.Chart kind at) = HasNoChart told kind at
+ChartFails told before after (endings.Line number fault) = ⊥
+ChartFails told before after endings.Usage = ⊥
+ChartFails told before after endings.Read = Rose before after
+ChartFails told before after endings.Write = ⊥
+ChartFails told before after endings.Memory = Unit {0}
+
+-- the file's text is too long for an event file
+pub record HasLongText (told : Option (List ℕ)) (number : ℕ) (fault : LineFault) : Type 0 where
+  pub text : List ℕ
+  pub is_told : IsTold told text
+  pub long : is_long text ≡ true
+  pub number_is : number ≡ 0
+  pub fault_is : fault ≡ line_faults.NotBuilt
+
+-- why an event file isn't read
+abbrev pub EventsFail : Option (List ℕ) → ℕ → ℕ → Ending → Type 0
+EventsFail told before after endings.Done = ⊥
+EventsFail told before after (endings.Chart kind at) = ⊥
+EventsFail told before after (endings.Line number fault) = HasLongText told number fault
+EventsFail told before after endings.Usage = ⊥
+EventsFail told before after endings.Read = Rose before after
+EventsFail told before after endings.Write = ⊥
+EventsFail told before after endings.Memory = Unit {0}
+
+-- no count changed, unless a read failed or memory ran out
+abbrev pub StaysUnlessRead : (List ℕ → ℕ) → (List ℕ → ℕ) → Ending → Type 0
+StaysUnlessRead before after endings.Done = AllStay before after
+StaysUnlessRead before after (endings.Chart kind at) = AllStay before after
+StaysUnlessRead before after (endings.Line number fault) = AllStay before after
+StaysUnlessRead before after endings.Usage = AllStay before after
+StaysUnlessRead before after endings.Read = Unit {0}
+StaysUnlessRead before after endings.Write = AllStay before after
+StaysUnlessRead before after endings.Memory = Unit {0}
+
+-- what a sink holds and its count, before and after
+pub record Written : Type 0 where
+  pub before : Option (List ℕ)
+  pub after : Option (List ℕ)
+  pub writes_before : ℕ
+  pub writes_after : ℕ
+
+-- the whole trace was written, and no write failed
+pub record WroteAll (out : Written) (text : List ℕ) : Type 0 where
+  pub wrote : out.after ≡ append_known out.before text
+  pub quiet : out.writes_after ≡ out.writes_before
+
+-- the trace of the lines of a text before the first that is refused
+abbrev pub trace_of : Chart → List ℕ → List ℕ
+trace_of c text = flat_trace c (events_of c.events (lines_of text))
+
+-- how a run over the lines of a text ends, and when
+abbrev pub RunEnds : Written → Chart → List ℕ → Ending → Type 0
+RunEnds out c text endings.Done = (refused_line c.events text ≡ None) × WroteAll out (trace_of c text)
+RunEnds out c text (endings.Chart kind at) = ⊥
+RunEnds out c text (endings.Line number fault) =
+    (refused_line c.events text ≡ Some (record { number = number; fault = fault })) × WroteAll out (trace_of c text)
+RunEnds out c text endings.Usage = ⊥
+RunEnds out c text endings.Read = ⊥
+RunEnds out c text endings.Write = Rose out.writes_before out.writes_after × AppendsProperFront out.before out.after (trace_of c text)
+RunEnds out c text endings.Memory = AppendsFront out.before out.after (trace_of c text)
+
+-- how a line is written, or isn't
+abbrev pub LineEnds : {T : Type 0} → Written → List ℕ → Result T Ending → Type 0
+LineEnds out line (Ok done) = WroteAll out line
+LineEnds out line (Err endings.Done) = ⊥
+LineEnds out line (Err (endings.Chart kind at)) = ⊥
+LineEnds out line (Err (endings.Line number fault)) = ⊥
+LineEnds out line (Err endings.Usage) = ⊥
+LineEnds out line (Err endings.Read) = ⊥
+LineEnds out line (Err endings.Write) = Rose out.writes_before out.writes_after × AppendsProperFront out.before out.after line
+LineEnds out line (Err endings.Memory) = out.after ≡ out.before
+
+-- the active state, as the trace names it
+abbrev pub shown : Chart → ℕ → List (List ℕ)
+shown c s = name_at (state_names c) s ∷ []
+
+-- how a line of the event file is taken, from a state on: the state after it, and what is written
+abbrev pub StepEnds : {T : Type 0} → Written → Chart → ℕ → ℕ → Result FlatEvent LineFault → Option ℕ → Result T Ending → Type 0
+StepEnds out c s index (Ok e) active result =
+    (active ≡ Some (flat_react c s e)) × LineEnds out (trace_line index (event_word c.events e) (shown c (flat_react c s e))) result
+StepEnds out c s index (Err fault) active result =
+    (result ≡ Err (endings.Line index fault)) × (out.after ≡ out.before) × (out.writes_after ≡ out.writes_before)

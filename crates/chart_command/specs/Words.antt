@@ -1,0 +1,34 @@
+-- What the words of the command line ask for.
+use Rattle.std.specs.Prelude.{ℕ, nat_eq, Bool, true, not, ◌&&◌, List, [], ◌∷◌, map, Option, Some, None, String, string_bytes, if◌then◌else◌, codes}
+use Rattle.std.specs.declared.alloc.Global.{Global}
+use Rattle.std.specs.Str.{bytes_eq}
+
+-- a command with its files
+pub data Command : Type 0 where
+  -- `rules CHART EVENTS`
+  Rules : List ℕ → List ℕ → Command
+
+-- a word that may name a file doesn't begin with `-`; the empty word may
+abbrev pub is_file : List ℕ → Bool
+is_file [] = true
+is_file (b ∷ word) = not (nat_eq b 45)
+
+-- the two files of a command
+abbrev pub with_two : (List ℕ → List ℕ → Command) → List (List ℕ) → Option Command
+with_two command [] = None
+with_two command (first ∷ []) = None
+with_two command (first ∷ second ∷ []) = if is_file first && is_file second then Some (command first second) else None
+with_two command (first ∷ second ∷ third ∷ rest) = None
+
+-- the command of that name; any other name is none
+abbrev pub command_named : List ℕ → List (List ℕ) → Option Command
+command_named name files = if bytes_eq name (codes "rules") then with_two Rules files else None
+
+-- the first word names the command, the others its files
+abbrev pub command_of_texts : List (List ℕ) → Option Command
+command_of_texts [] = None
+command_of_texts (name ∷ files) = command_named name files
+
+-- what the words ask for, if they are the program's
+abbrev pub command_of : List (String Global) → Option Command
+command_of words = command_of_texts (map string_bytes words)

@@ -1,0 +1,66 @@
+//! The files that the words name.
+ghost use Rattle.std.specs.Prelude.{◌≡◌, ◌≤◌, [], List, IfOk, IfErr, OnOk, OnErr, length, false};
+ghost use Rattle.std.specs.Option.{option_map};
+ghost use Rattle.flow_base.specs.Causes.{OthersKept, NoneFalls, AllStay};
+ghost use Rattle.chart_syntax.specs.FlatChart.{chart_of, InRange};
+ghost use Rattle.chart_command.specs.Flat.{is_long};
+ghost use Rattle.chart_command.specs.Answer.{IsTold, HasChart};
+ghost use Rattle.chart_command.specs.Steps.{ChartFails, EventsFail, StaysUnlessRead};
+
+use crate::ending::Ending;
+use chart_syntax::{FlatChart, FormFault, FormKind, Span, read_flat};
+use flow_base::{Inputs, ReadEnd, read_whole};
+use std::alloc::Global;
+use step_text::LineFault;
+
+/// The greatest length of a chart text.
+const LONGEST_CHART: usize = 1_048_576;
+
+/// The greatest length of an event file.
+const LONGEST_EVENTS: usize = 1_048_576;
+
+/// Reads the file of that name as a flat chart.
+pub fn read_chart<I: Inputs>(alloc: Global, inputs: &mut I, name: &str) -> Result<FlatChart, Ending>
+    ensures chart { IfOk result (λ c. HasChart (I.left inputs.old name.now) (chart_of c)) }
+    ensures in_range { IfOk result (λ c. InRange (chart_of c)) }
+    ensures end { OnOk result (I.left inputs.new name.now ≡ option_map (λ _. []) (I.left inputs.old name.now)) }
+    ensures others { OthersKept name.now (I.left inputs.old) (I.left inputs.new) }
+    ensures counts { NoneFalls (I.faults inputs.old) (I.faults inputs.new) }
+    ensures quiet { OnOk result (AllStay (I.faults inputs.old) (I.faults inputs.new)) }
+    ensures fails { IfErr result (ChartFails (I.left inputs.old name.now)
+        (I.faults inputs.old name.now) (I.faults inputs.new name.now)) }
+    ensures refused_quiet { IfErr result (StaysUnlessRead (I.faults inputs.old) (I.faults inputs.new)) }
+{
+    let text = match read_whole(alloc, inputs, name, LONGEST_CHART) {
+        Ok(text) => text,
+        Err(ReadEnd::Failed) => return Err(Ending::Read),
+        Err(ReadEnd::TooLong) => return Err(Ending::Chart(FormKind::TextTooLong, BEGIN)),
+        Err(ReadEnd::Memory) => return Err(Ending::Memory),
+    };
+    match read_flat(alloc, &text) {
+        Ok(chart) => Ok(chart),
+        Err(FormFault::At(kind, at)) => Err(Ending::Chart(kind, at)),
+        Err(FormFault::Memory) => Err(Ending::Memory),
+    }
+}
+
+/// Where a text begins.
+const BEGIN: Span = Span { line: 1, column: 1 };
+
+/// Reads the file of that name as the text of an event file.
+pub fn read_events<I: Inputs>(alloc: Global, inputs: &mut I, name: &str) -> Result<Vec<u8>, Ending>
+    ensures text { IfOk result (λ v. IsTold (I.left inputs.old name.now) v.items) }
+    ensures short { IfOk result (λ v. is_long v.items ≡ false) }
+    ensures counts { NoneFalls (I.faults inputs.old) (I.faults inputs.new) }
+    ensures quiet { OnOk result (AllStay (I.faults inputs.old) (I.faults inputs.new)) }
+    ensures fails { IfErr result (EventsFail (I.left inputs.old name.now)
+        (I.faults inputs.old name.now) (I.faults inputs.new name.now)) }
+    ensures refused_quiet { IfErr result (StaysUnlessRead (I.faults inputs.old) (I.faults inputs.new)) }
+{
+    match read_whole(alloc, inputs, name, LONGEST_EVENTS) {
+        Ok(text) => Ok(text),
+        Err(ReadEnd::Failed) => Err(Ending::Read),
+        Err(ReadEnd::TooLong) => Err(Ending::Line(0, LineFault::NotBuilt)),
+        Err(ReadEnd::Memory) => Err(Ending::Memory),
+    }
+}

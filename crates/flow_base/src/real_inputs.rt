@@ -1,0 +1,129 @@
+//! Files of the system that are read by name.
+ghost use Rattle.std.specs.Prelude.{◌≡◌, ◌<◌, ℕ, List, Option, None, Bool, false};
+ghost use Rattle.std.specs.Prelude.{IfSome, is_some, vec_len, refl};
+ghost use Rattle.std.specs.Io.{ReadsAtMost};
+
+use crate::inputs::{Failed, Inputs};
+use std::alloc::Global;
+use std::fs;
+use std::io::Read;
+use std::rt::Files;
+
+/// Files of the system. A file is opened at the first read of its name and read once: later reads
+/// go on in it, and after its end each gives 0. One that can't be opened fails at each read.
+///
+/// One count serves every name. Want of memory inside counts as a fault. No content is told.
+#[derive(Drop)]
+pub struct RealInputs<R: Files> {
+    rt: R,
+    alloc: Global,
+    files: Vec<RealFile<R::File>>,
+    failed: u64,
+}
+
+#[derive(Drop)]
+struct RealFile<F> {
+    name: String,
+    source: Source<F>,
+}
+
+#[derive(Drop)]
+enum Source<F> {
+    Open(F),
+    Ended,
+    Missing,
+}
+
+impl<F: Read + Drop> RealFile<F> {
+    fn read(&mut self, buf: &mut [u8]) -> Result<usize, Failed>
+        ensures { ReadsAtMost result buf.new }
+    {
+        match &mut self.source {
+            Source::Open(file) => match file.read(buf) {
+                Ok(count) => {
+                    if count == 0 && !buf.is_empty() {
+                        self.source = Source::Ended;
+                    }
+                    Ok(count)
+                }
+                Err(_) => Err(Failed),
+            },
+            Source::Ended => Ok(0),
+            Source::Missing => Err(Failed),
+        }
+    }
+}
+
+impl<R: Files> RealInputs<R> {
+    /// The files that `rt` reaches, none of them opened, with no fault so far.
+    pub fn new(rt: R, alloc: Global) -> RealInputs<R>
+        ensures { (name : List ℕ) → ⟦<RealInputs<R> as Inputs>⟧.faults result name ≡ 0 }
+    {
+        RealInputs {
+            rt,
+            alloc,
+            files: Vec::new(alloc),
+            failed: 0,
+        }
+    }
+
+    fn index_of(&self, name: &str) -> Option<usize>
+        ensures { IfSome result (λ index. index < vec_len self.now.files) }
+    {
+        self.files
+            .iter()
+            .position(|file| file.name.as_str() == name)
+    }
+
+    fn open(&mut self, name: &str) -> Result<(), Failed>
+        ensures { self.new.failed ≡ self.old.failed }
+    {
+        let Ok(name) = String::from_str(self.alloc, name) else {
+            return Err(Failed);
+        };
+        let source = match fs::open(&self.rt, name.as_str()) {
+            Ok(file) => Source::Open(file),
+            Err(_) => Source::Missing,
+        };
+        match self.files.push(RealFile { name, source }) {
+            Ok(()) => Ok(()),
+            Err(_) => Err(Failed),
+        }
+    }
+
+    fn try_read(&mut self, name: &str, buf: &mut [u8]) -> Result<usize, Failed>
+        ensures bound { ReadsAtMost result buf.new }
+        ensures count { self.new.failed ≡ self.old.failed }
+    {
+        if self.index_of(name).is_none() {
+            self.open(name)?;
+        }
+        match self.index_of(name) {
+            Some(index) => {
+                let file = &mut self.files[index];
+                file.read(buf)
+            }
+            None => Err(Failed),
+        }
+    }
+}
+
+impl<R: Files> Inputs for RealInputs<R> {
+    ghost tells = { false };
+
+    ghost left = { λ inputs name. None };
+
+    ghost faults = { λ inputs name. inputs.failed };
+
+    fn read(&mut self, name: &str, buf: &mut [u8]) -> Result<usize, Failed> {
+        match self.try_read(name, buf) {
+            Ok(count) => Ok(count),
+            Err(Failed) => {
+                self.failed = self.failed.saturating_add(1);
+                Err(Failed)
+            }
+        }
+    }
+
+    ghost fixed = { λ inputs name. refl };
+}

@@ -1,0 +1,45 @@
+//! A sink over a writer of std.
+ghost use Rattle.std.specs.Prelude.{◌≡◌, ℕ, List, Option, None, Bool, false, is_some, refl};
+
+use crate::inputs::Failed;
+use crate::sink::Sink;
+use std::io::Write;
+
+/// Writes to a writer, and counts its faults. It tells no content.
+///
+/// A write that the writer refuses is a fault, one that was interrupted too, and so is one that
+/// takes nothing of a piece that isn't empty.
+#[derive(Drop)]
+pub struct RealSink<W> {
+    writer: W,
+    failed: u64,
+}
+
+impl<W: Write> RealSink<W> {
+    /// A sink over that writer, with no fault so far.
+    pub fn new(writer: W) -> RealSink<W>
+        ensures { ⟦<RealSink<W> as Sink>⟧.faults result ≡ 0 }
+    {
+        RealSink { writer, failed: 0 }
+    }
+}
+
+impl<W: Write> Sink for RealSink<W> {
+    ghost tells = { false };
+
+    ghost wrote = { λ sink. None };
+
+    ghost faults = { λ sink. sink.failed };
+
+    fn write(&mut self, piece: &[u8]) -> Result<usize, Failed> {
+        match self.writer.write(piece) {
+            Ok(count) if count > 0 || piece.is_empty() => Ok(count),
+            _ => {
+                self.failed = self.failed.saturating_add(1);
+                Err(Failed)
+            }
+        }
+    }
+
+    ghost fixed = { λ sink. refl };
+}

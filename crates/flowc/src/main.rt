@@ -1,0 +1,35 @@
+//! `flowc`: runs Stateflow charts that are written as text.
+#![tactic(auto)]
+
+use chart_command::chart_main;
+use flow_base::{RealInputs, RealSink, Status};
+use std::process::ExitCode;
+use std::{env, io};
+
+fn main(rt: HostRuntime) -> ExitCode {
+    match words(&rt) {
+        Ok(words) => ExitCode::from(run(&rt, &words).code()),
+        Err(error) if error.kind() == io::ErrorKind::OutOfMemory => {
+            ExitCode::from(Status::Memory.code())
+        }
+        // Words that are no text are none of the program's.
+        Err(_) => ExitCode::from(run(&rt, &[]).code()),
+    }
+}
+
+/// The words behind the program's name.
+fn words(rt: &HostRuntime) -> io::Result<Vec<String>> {
+    let mut words = Vec::new(rt.alloc());
+    for word in env::args(rt)?.skip(1) {
+        words.push(word)?;
+    }
+    Ok(words)
+}
+
+/// Runs the program over the files and the streams of the system.
+fn run(rt: &HostRuntime, words: &[String]) -> Status {
+    let mut inputs = RealInputs::new(*rt, rt.alloc());
+    let mut out = RealSink::new(rt.stdout());
+    let mut err = RealSink::new(rt.stderr());
+    chart_main(rt.alloc(), words, &mut inputs, &mut out, &mut err)
+}

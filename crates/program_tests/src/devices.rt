@@ -1,0 +1,71 @@
+//! Devices that fail, and devices that never do.
+ghost use Rattle.std.specs.Prelude.{◌≢◌};
+
+use crate::setup::{LAMP, file, files, words};
+use chart_command::chart_main;
+use flow_base::{MemSink, Sink, Status, SureInputs, SureSink};
+use std::alloc::Global;
+use std::process::Abort;
+use std::test::Fail;
+
+/// Over inputs and an output that never fail, neither a read nor a write fault is answered.
+fn sure_status<E: Sink>(
+    alloc: Global,
+    words: &[String],
+    inputs: &mut SureInputs,
+    err: &mut E,
+) -> Status
+    ensures read { result ≢ Status.Read }
+    ensures write { result ≢ Status.Write }
+{
+    let mut out = SureSink::new();
+    chart_main(alloc, words, inputs, &mut out, err)
+}
+
+#[test]
+fn sure_devices(rt: HostRuntime) -> Result<(), Fail> {
+    let alloc = rt.alloc();
+    let mut sources = Vec::new(alloc);
+    sources.push(file(alloc, "c", LAMP, 9, &[1])?)?;
+    let mut inputs = SureInputs::new(sources);
+    let words = words(alloc, "rules c e")?;
+    let status = sure_status(alloc, &words, &mut inputs, &mut SureSink::new());
+    assert_eq!(rt; status, Status::Ok);
+    Ok(())
+}
+
+/// With the listed reads of the event file, writes of the output and of the line failing.
+fn check(
+    rt: &(impl AllocGlobal + Abort),
+    fails: (&[u64], &[u64], &[u64]),
+    want: (Status, &str, &str),
+) -> Result<(), Fail> {
+    let alloc = rt.alloc();
+    let mut inputs = files(alloc, LAMP, "GO\nGO\nGO\n", fails.0)?;
+    let mut out = MemSink::new(alloc, 4096, 4096, Vec::from_slice(alloc, fails.1)?)?;
+    let mut err = MemSink::new(alloc, 4096, 4096, Vec::from_slice(alloc, fails.2)?)?;
+    let words = words(alloc, "rules c e")?;
+    let status = chart_main(alloc, &words, &mut inputs, &mut out, &mut err);
+    assert_eq!(rt; status, want.0, "{fails:?}");
+    assert_eq!(rt; out.bytes(), want.1.as_bytes(), "{fails:?}");
+    assert_eq!(rt; err.bytes(), want.2.as_bytes(), "{fails:?}");
+    Ok(())
+}
+
+#[test]
+fn failing_devices(rt: HostRuntime) -> Result<(), Fail> {
+    // The event file is read whole before anything is written.
+    check(&rt, (&[3], &[], &[]), (Status::Read, "", "read fault\n"))?;
+    check(&rt, (&[], &[1], &[]), (Status::Write, "", "write fault\n"))?;
+    check(
+        &rt,
+        (&[], &[2], &[]),
+        (Status::Write, "0 start [Off] - - ok\n", "write fault\n"),
+    )?;
+    // A failing line changes nothing else.
+    check(
+        &rt,
+        (&[], &[2], &[1]),
+        (Status::Write, "0 start [Off] - - ok\n", ""),
+    )
+}

@@ -1,0 +1,9 @@
+//! Tests of the whole program over files in memory: what no clause says, worked by hand.
+#![tactic(auto)]
+
+#[cfg(test)]
+mod devices;
+#[cfg(test)]
+mod rows;
+#[cfg(test)]
+mod setup;

@@ -1,0 +1,4 @@
+pub mod LineLemmas
+pub mod NameLemmas
+pub mod EventLemmas
+pub mod TraceLemmas

@@ -1,0 +1,15 @@
+//! The text of a run: event lines, and the lines of the trace.
+//!
+//! Read `specs/Lines.antt`, `specs/Events.antt` and `specs/Trace.antt` first.
+#![tactic(auto)]
+
+mod events;
+mod lines;
+mod trace;
+
+pub use events::{LineFault, event_of_line};
+pub use lines::{Split, split_line};
+pub use trace::{event_word, trace_line};
+
+#[cfg(test)]
+mod tests;

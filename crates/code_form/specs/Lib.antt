@@ -1,0 +1,5 @@
+pub mod Form
+pub mod Program
+pub mod WellFormed
+pub mod World
+pub mod Machine

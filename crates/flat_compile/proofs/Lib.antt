@@ -1,0 +1,5 @@
+pub mod Reach
+pub mod Worlds
+pub mod Runs
+pub mod Reaction
+pub mod Whole

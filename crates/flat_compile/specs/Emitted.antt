@@ -1,0 +1,36 @@
+-- The code of a flat chart.
+use Rattle.std.specs.Prelude.{ℕ, ◌+◌, ◌*◌, List, [], ◌∷◌, ◌++◌, length}
+use Rattle.chart_syntax.specs.declared.tree.FlatTrans.{FlatTrans}
+use Rattle.chart_syntax.specs.FlatChart.{State, Chart, state_names}
+use Rattle.code_form.specs.declared.instr.Cond.TheVariants as conds
+use Rattle.code_form.specs.declared.instr.Instr.{Instr}
+use Rattle.code_form.specs.declared.instr.Instr.TheVariants as instrs
+use Rattle.code_form.specs.Program.{Program}
+
+-- the start: the root, and then the default state; state s of the chart is state s + 1 of the code
+abbrev pub start_code : Chart → List Instr
+start_code c = instrs.Mark 0 ∷ instrs.Mark (c.default + 1) ∷ instrs.Ret 0 ∷ []
+
+-- a transition of state s: unless its event is the current one, the next; else the destination in place of s
+abbrev pub trans_code : ℕ → FlatTrans → List Instr → List Instr
+trans_code s t rest = instrs.Unless 3 (conds.Current t.event) ∷ instrs.Clear (s + 1) ∷ instrs.Mark (t.dest + 1) ∷ instrs.Ret 0 ∷ rest
+
+-- the transitions of state s in order, and then the rest
+abbrev pub transes_code : ℕ → List FlatTrans → List Instr → List Instr
+transes_code s [] rest = rest
+transes_code s (t ∷ ts) rest = trans_code s t (transes_code s ts rest)
+
+-- the states from number s on: unless s is active, the next; at the end a return
+abbrev pub states_code : ℕ → List State → List Instr
+states_code s [] = instrs.Ret 0 ∷ []
+states_code s (x ∷ xs) = instrs.Unless (4 * length x.outer) (conds.On (s + 1)) ∷ transes_code s x.outer (states_code (s + 1) xs)
+
+-- the code of a chart: procedure 0 for the start, procedure 1 for a reaction
+abbrev pub compiled : Chart → Program
+compiled c = record {
+  states = c.name ∷ state_names c;
+  events = c.events;
+  start = 0;
+  react = 1;
+  procs = start_code c ∷ states_code 0 c.states ∷ [];
+}

@@ -1,7 +1,7 @@
 -- Which code is well formed: the first fault, in the order in which faults are looked for.
-use Rattle.std.specs.Prelude.{◌≡◌, ℕ, ◌+◌, nat_lt, Bool, true, false, not, ◌&&◌, ◌||◌, List, [], ◌∷◌, length, drop, Option, Some, None, is_some, if◌then◌else◌}
+use Rattle.std.specs.Prelude.{◌≡◌, ℕ, ◌+◌, nat_lt, Bool, true, false, not, ◌&&◌, ◌||◌, List, [], ◌∷◌, length, drop, Option, Some, None, if◌then◌else◌}
 use Rattle.std.specs.List.{list_all, list_any}
-use Rattle.flow_base.specs.Names.{index_of}
+use Rattle.flow_base.specs.Names.{are_distinct}
 use Rattle.chart_lexer.specs.Words.{is_name}
 use Rattle.code_form.specs.declared.instr.Cond.{Cond}
 use Rattle.code_form.specs.declared.instr.Cond.TheVariants as conds
@@ -28,11 +28,6 @@ unless good kind p i = if good then None else fault_at kind p i
 -- over 262,144 procedures, or a procedure of over 1,000,000,000 instructions
 abbrev pub too_many : Program → Bool
 too_many P = nat_lt 262144 (length P.procs) || list_any (λ (is : List Instr). nat_lt 1000000000 (length is)) P.procs
-
--- no name is there twice
-abbrev pub are_distinct : List (List ℕ) → Bool
-are_distinct [] = true
-are_distinct (name ∷ rest) = not (is_some (index_of name rest)) && are_distinct rest
 
 -- a root with at least one state below it, at most 1,024 states and 512 events; names that are NAMEs, and no two states below the root or events alike
 abbrev pub is_table : Program → Bool

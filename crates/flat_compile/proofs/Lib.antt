@@ -3,3 +3,6 @@ pub mod Worlds
 pub mod Runs
 pub mod Reaction
 pub mod Whole
+pub mod WellFormed
+pub mod Emission
+pub mod Fits

@@ -1,5 +1,5 @@
 -- The code of a flat chart.
-use Rattle.std.specs.Prelude.{ℕ, ◌+◌, ◌*◌, List, [], ◌∷◌, ◌++◌, length}
+use Rattle.std.specs.Prelude.{ℕ, ◌+◌, ◌*◌, ◌^◌, ◌<◌, List, [], ◌∷◌, All, length}
 use Rattle.chart_syntax.specs.declared.tree.FlatTrans.{FlatTrans}
 use Rattle.chart_syntax.specs.FlatChart.{State, Chart, state_names}
 use Rattle.code_form.specs.declared.instr.Cond.TheVariants as conds
@@ -8,8 +8,12 @@ use Rattle.code_form.specs.declared.instr.Instr.TheVariants as instrs
 use Rattle.code_form.specs.Program.{Program}
 
 -- the start: the root, and then the default state; state s of the chart is state s + 1 of the code
+abbrev pub start_code_to : ℕ → List Instr
+start_code_to s = instrs.Mark 0 ∷ instrs.Mark (s + 1) ∷ instrs.Ret 0 ∷ []
+
+-- the procedure of the start
 abbrev pub start_code : Chart → List Instr
-start_code c = instrs.Mark 0 ∷ instrs.Mark (c.default + 1) ∷ instrs.Ret 0 ∷ []
+start_code c = start_code_to c.default
 
 -- a transition of state s: unless its event is the current one, the next; else the destination in place of s
 abbrev pub trans_code : ℕ → FlatTrans → List Instr → List Instr
@@ -20,10 +24,19 @@ abbrev pub transes_code : ℕ → List FlatTrans → List Instr → List Instr
 transes_code s [] rest = rest
 transes_code s (t ∷ ts) rest = trans_code s t (transes_code s ts rest)
 
--- the states from number s on: unless s is active, the next; at the end a return
+-- state s: unless it is active, the next; else its transitions
+abbrev pub state_code : ℕ → State → List Instr → List Instr
+state_code s x rest = instrs.Unless (4 * length x.outer) (conds.On (s + 1)) ∷ transes_code s x.outer rest
+
+-- the states from number s on, and at the end a return
 abbrev pub states_code : ℕ → List State → List Instr
 states_code s [] = instrs.Ret 0 ∷ []
-states_code s (x ∷ xs) = instrs.Unless (4 * length x.outer) (conds.On (s + 1)) ∷ transes_code s x.outer (states_code (s + 1) xs)
+states_code s (x ∷ xs) = state_code s x (states_code (s + 1) xs)
+
+-- what the instructions of a state name fits 32 bits
+pub record FitsIn (x : State) : Type 0 where
+  pub few : length x.outer < 2 ^ 28
+  pub dests : All (λ (t : FlatTrans). t.dest + 1 < 2 ^ 32) x.outer
 
 -- the code of a chart: procedure 0 for the start, procedure 1 for a reaction
 abbrev pub compiled : Chart → Program

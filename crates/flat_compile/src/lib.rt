@@ -2,3 +2,6 @@
 //!
 //! Read `specs/Emitted.antt` for the code, and `specs/Same.antt` for what is promised of it.
 #![tactic(auto)]
+
+mod compile;
+mod emit;

@@ -2,7 +2,7 @@
 ghost use Rattle.std.specs.Prelude.{◌≡◌, ◌≤◌, [], List, IfOk, IfErr, OnOk, OnErr, length, false};
 ghost use Rattle.std.specs.Option.{option_map};
 ghost use Rattle.flow_base.specs.Causes.{OthersKept, NoneFalls, AllStay};
-ghost use Rattle.chart_syntax.specs.FlatChart.{chart_of, InRange};
+ghost use Rattle.chart_syntax.specs.FlatChart.{chart_of, IsValid};
 ghost use Rattle.chart_command.specs.Flat.{is_long};
 ghost use Rattle.chart_command.specs.Answer.{IsTold, HasChart};
 ghost use Rattle.chart_command.specs.Steps.{ChartFails, EventsFail, StaysUnlessRead};
@@ -22,7 +22,7 @@ const LONGEST_EVENTS: usize = 1_048_576;
 /// Reads the file of that name as a flat chart.
 pub fn read_chart<I: Inputs>(alloc: Global, inputs: &mut I, name: &str) -> Result<FlatChart, Ending>
     ensures chart { IfOk result (λ c. HasChart (I.left inputs.old name.now) (chart_of c)) }
-    ensures in_range { IfOk result (λ c. InRange (chart_of c)) }
+    ensures valid { IfOk result (λ c. IsValid (chart_of c)) }
     ensures end { OnOk result (I.left inputs.new name.now ≡ option_map (λ _. []) (I.left inputs.old name.now)) }
     ensures others { OthersKept name.now (I.left inputs.old) (I.left inputs.new) }
     ensures counts { NoneFalls (I.faults inputs.old) (I.faults inputs.new) }

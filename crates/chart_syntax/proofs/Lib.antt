@@ -2,5 +2,7 @@ pub mod Productions
 pub mod Refusals
 pub mod Numbers
 pub mod Ranges
-pub mod AsciiNames
+pub mod TextNames
 pub mod Small
+pub mod Distinct
+pub mod Valid

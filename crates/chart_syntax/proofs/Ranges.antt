@@ -37,11 +37,11 @@ declared_below : (names : List (List ℕ)) (t : Lexeme) → undeclared names t �
 declared_below names t none = found_below (index_of t.text names) t.at (length names) none (index_below t.text names)
 
 -- where neither is at fault
-no_first : (a b : Option Span) → first_of a b ≡ None → a ≡ None
+pub no_first : (a b : Option Span) → first_of a b ≡ None → a ≡ None
 no_first None b h = refl
 no_first (Some at) b h = absurd cc
 
-no_later : (a b : Option Span) → first_of a b ≡ None → b ≡ None
+pub no_later : (a b : Option Span) → first_of a b ≡ None → b ≡ None
 no_later None b h = h
 no_later (Some at) b h = absurd cc
 

@@ -1,7 +1,9 @@
 -- Flat charts as contracts see them.
-use Rattle.std.specs.Prelude.{ℕ, ◌<◌, ◌^◌, List, map, length}
-use Rattle.std.specs.List.{AllByRecursion}
+use Rattle.std.specs.Prelude.{◌≡◌, ℕ, ◌<◌, ◌≤◌, ◌^◌, true, List, map, length}
+use Rattle.std.specs.List.{AllByRecursion, list_all}
 use Rattle.flow_base.specs.Lists.{items_of}
+use Rattle.flow_base.specs.Names.{are_distinct}
+use Rattle.chart_lexer.specs.Words.{is_name}
 use Rattle.chart_syntax.specs.declared.tree.FlatTrans.{FlatTrans}
 use Rattle.chart_syntax.specs.declared.tree.FlatState.{FlatState}
 use Rattle.chart_syntax.specs.declared.tree.FlatChart.{FlatChart}
@@ -40,3 +42,15 @@ pub record InRange (c : Chart) : Type 0 where
   pub events : length c.events < 2 ^ 32
   pub default : c.default < length c.states
   pub transitions : AllByRecursion (λ (s : State). AllByRecursion (TransInRange (length c.events) (length c.states)) s.outer) c.states
+
+-- numbers are in range, names are NAMEs and different, and the limits hold
+pub record IsValid (c : Chart) : Type 0 where
+  pub in_range : InRange c
+  pub name : is_name c.name ≡ true
+  pub events_differ : are_distinct c.events ≡ true
+  pub states_differ : are_distinct (state_names c) ≡ true
+  pub event_names : list_all is_name c.events ≡ true
+  pub state_names : list_all is_name (state_names c) ≡ true
+  pub few_events : length c.events ≤ 64
+  pub few_states : length c.states ≤ 64
+  pub few_transitions : AllByRecursion (λ (s : State). length s.outer ≤ 1024) c.states

@@ -1,11 +1,11 @@
 -- What the reader of tokens returns, as contracts see it.
-use Rattle.std.specs.Prelude.{◌≡◌, ℕ, ◌≤◌, List, [], ◌∷◌, Result, Ok, Err, length, map}
+use Rattle.std.specs.Prelude.{◌≡◌, ℕ, ◌≤◌, true, List, [], ◌∷◌, Result, Ok, Err, length, map}
 use Rattle.std.specs.List.{AllByRecursion}
-use Rattle.std.specs.Str.{IsAscii}
 use Rattle.token_grammar.specs.declared.token.Span.{Span}
 use Rattle.token_grammar.specs.declared.token.Token.{Token}
 use Rattle.token_grammar.specs.Token.{Lexeme, lexeme, lexemes}
 use Rattle.token_grammar.specs.Grammar.{FirstFault}
+use Rattle.chart_lexer.specs.Words.{is_name}
 use Rattle.chart_syntax.specs.declared.fault.FormFault.{FormFault}
 use Rattle.chart_syntax.specs.declared.fault.FormFault.TheVariants as faults
 use Rattle.chart_syntax.specs.declared.spelled.TransTokens.{TransTokens}
@@ -41,15 +41,20 @@ event_names events = texts (lexemes events)
 abbrev pub state_names : List StateTokens → List (List ℕ)
 state_names states = map (λ (s : SpelledState). s.name.text) (map state_spelled states)
 
--- every byte of the name is ASCII
-abbrev pub HasAsciiName : Lexeme → Type 0
-HasAsciiName t = IsAscii t.text
+-- the text of the token is a NAME
+abbrev pub HasName : Lexeme → Type 0
+HasName t = is_name t.text ≡ true
 
--- a chart within the limits on events and states, whose declared names are ASCII
-pub record IsSmallAscii (c : SpelledChart) : Type 0 where
-  pub name : HasAsciiName c.name
-  pub events : AllByRecursion HasAsciiName c.events
-  pub states : AllByRecursion (λ (s : SpelledState). HasAsciiName s.name) c.states
+-- a state whose name is a NAME, with at most as many transitions as a chart may have
+pub record IsSmallState (s : SpelledState) : Type 0 where
+  pub name : HasName s.name
+  pub few_transitions : length s.outer ≤ 1024
+
+-- a chart within the limits, whose declared names are NAMEs
+pub record IsSmall (c : SpelledChart) : Type 0 where
+  pub name : HasName c.name
+  pub events : AllByRecursion HasName c.events
+  pub states : AllByRecursion IsSmallState c.states
   pub few_events : length c.events ≤ 64
   pub few_states : length c.states ≤ 64
 

@@ -1,13 +1,13 @@
 //! The names of a flat chart: the first that is at fault, and numbers in their place.
-ghost use Rattle.std.specs.Prelude.{◌≡◌, ◌≤◌, [], map, length, IfOk, IfSome, ◌<◌};
+ghost use Rattle.std.specs.Prelude.{◌≡◌, ◌≤◌, true, [], map, length, IfOk, IfSome, ◌<◌};
 ghost use Rattle.std.specs.List.{AllByRecursion};
-ghost use Rattle.std.specs.Str.{IsAscii};
 ghost use Rattle.flow_base.specs.Lists.{items_of};
 ghost use Rattle.flow_base.specs.Names.{index_of};
 ghost use Rattle.token_grammar.specs.Token.{lexemes};
+ghost use Rattle.chart_lexer.specs.Words.{is_name};
 ghost use Rattle.chart_syntax.specs.FlatChart.{state_of, chart_of};
 ghost use Rattle.chart_syntax.specs.FlatNames as spec;
-ghost use Rattle.chart_syntax.specs.Spelled.{trans_spelled, state_spelled, chart_spelled, event_names, state_names, HasAsciiName, IsSmallAscii};
+ghost use Rattle.chart_syntax.specs.Spelled.{trans_spelled, state_spelled, chart_spelled, event_names, state_names, HasName, IsSmallState, IsSmall};
 
 use crate::spelled::{ChartTokens, StateTokens, TransTokens};
 use crate::tree::{FlatChart, FlatState, FlatTrans};
@@ -95,7 +95,7 @@ pub fn name_fault(chart: &ChartTokens<'_>) -> Option<Span>
 
 /// The bytes of a name as a text of their own.
 fn name_text(alloc: Global, name: &[u8]) -> Result<Text, AllocError>
-    requires { IsAscii name.now }
+    requires { is_name name.now ≡ true }
     ensures { IfOk result (λ t. t ≡ name.now) }
 {
     match str::from_utf8(name) {
@@ -106,7 +106,7 @@ fn name_text(alloc: Global, name: &[u8]) -> Result<Text, AllocError>
 
 /// The texts of the events, in order.
 fn event_texts(alloc: Global, events: &[Token<'_>]) -> Result<Vec<Text>, AllocError>
-    requires { AllByRecursion HasAsciiName (lexemes events.now) }
+    requires { AllByRecursion HasName (lexemes events.now) }
     ensures { IfOk result (λ v. v.items ≡ event_names events.now) }
 {
     let mut found = Vec::new(alloc);
@@ -161,7 +161,7 @@ fn numbered_states(
 ) -> Result<Vec<FlatState>, AllocError>
     requires events { length events.now ≤ 64 }
     requires states { length states.now ≤ 64 }
-    requires names { AllByRecursion (λ s. HasAsciiName s.name) (map state_spelled states.now) }
+    requires names { AllByRecursion IsSmallState (map state_spelled states.now) }
     ensures { IfOk result (λ v. map state_of v.items
         ≡ map (spec.numbered_state (event_names events.now) (state_names states.now))
         (map state_spelled states.now)) }
@@ -180,7 +180,7 @@ fn numbered_states(
 
 /// The chart with numbers in place of names, 0 for a name that isn't declared.
 pub fn numbered(alloc: Global, chart: &ChartTokens<'_>) -> Result<FlatChart, AllocError>
-    requires { IsSmallAscii (chart_spelled chart.now) }
+    requires { IsSmall (chart_spelled chart.now) }
     ensures { IfOk result (λ c. chart_of c ≡ spec.numbered (chart_spelled chart.now)) }
 {
     let default = state_number(&chart.states, chart.default.text).unwrap_or(0) as u32;

@@ -1,6 +1,6 @@
 //! Reads a flat chart from its text.
 ghost use Rattle.std.specs.Prelude.{◌≤◌, length, IfOk, IfErr};
-ghost use Rattle.chart_syntax.specs.FlatChart.{Chart, chart_of, InRange};
+ghost use Rattle.chart_syntax.specs.FlatChart.{Chart, chart_of, IsValid};
 ghost use Rattle.chart_syntax.specs.FlatGrammar.{SpelledChart};
 ghost use Rattle.chart_syntax.specs.FlatText.{Spells, IsFlat, IsRefusal, IsReadAs};
 ghost use Rattle.chart_syntax.specs.Spelled.{chart_spelled, IsReadAsSpelled};
@@ -51,7 +51,8 @@ pub fn read_flat(alloc: Global, text: &[u8]) -> Result<FlatChart, FormFault>
     ensures only { (c : Chart) → IsFlat text.now c → IsReadAs c result }
     // Each refusal has its cause and its place.
     ensures refused { IfErr result (IsRefusal text.now) }
-    ensures in_range { IfOk result (λ c. InRange (chart_of c)) }
+    // Its names and counts are those of a chart.
+    ensures valid { IfOk result (λ c. IsValid (chart_of c)) }
 {
     if text.len() > LONGEST {
         let begin = Span { line: 1, column: 1 };

@@ -1,5 +1,5 @@
 -- Names in lists of names.
-use Rattle.std.specs.Prelude.{ℕ, zero, suc, ◌+◌, List, [], ◌∷◌, Option, Some, None, if◌then◌else◌}
+use Rattle.std.specs.Prelude.{ℕ, zero, suc, ◌+◌, Bool, true, not, ◌&&◌, List, [], ◌∷◌, Option, Some, None, is_some, if◌then◌else◌}
 use Rattle.std.specs.Str.{bytes_eq}
 
 -- the number behind the one before
@@ -11,6 +11,11 @@ after (Some n) = Some (n + 1)
 abbrev pub index_of : List ℕ → List (List ℕ) → Option ℕ
 index_of name [] = None
 index_of name (first ∷ rest) = if bytes_eq first name then Some 0 else after (index_of name rest)
+
+-- no name is there twice
+abbrev pub are_distinct : List (List ℕ) → Bool
+are_distinct [] = true
+are_distinct (name ∷ rest) = not (is_some (index_of name rest)) && are_distinct rest
 
 -- the name at a place, and nothing past the end
 abbrev pub name_at : List (List ℕ) → ℕ → List ℕ

@@ -1,7 +1,7 @@
 -- Which code is well formed: the first fault, in the order in which faults are looked for.
 use Rattle.std.specs.Prelude.{◌≡◌, ℕ, ◌+◌, nat_lt, Bool, true, false, not, ◌&&◌, ◌||◌, List, [], ◌∷◌, length, drop, Option, Some, None, if◌then◌else◌}
 use Rattle.std.specs.List.{list_all, list_any}
-use Rattle.flow_base.specs.Names.{are_distinct}
+pub use Rattle.flow_base.specs.Names.{are_distinct}
 use Rattle.chart_lexer.specs.Words.{is_name}
 use Rattle.code_form.specs.declared.instr.Cond.{Cond}
 use Rattle.code_form.specs.declared.instr.Cond.TheVariants as conds

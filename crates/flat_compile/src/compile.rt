@@ -4,11 +4,12 @@ ghost use Rattle.chart_syntax.specs.FlatChart.{State, chart_of, state_of, IsVali
 ghost use Rattle.code_form.specs.Program.{program_of};
 ghost use Rattle.flow_base.specs.Lists.{items_of};
 ghost use Rattle.flat_compile.specs.Emitted.{compiled, start_code_to};
+ghost use Rattle.flat_compile.specs.Same.{Same};
 
 use crate::emit::react_code;
 use chart_syntax::{FlatChart, FlatState};
-use code_form::{Instr, RawCode};
-use flow_base::{List, Text};
+use code_form::{Code, CodeEnd, Instr, RawCode, accept};
+use flow_base::{List, Memory, Text};
 use std::alloc::{AllocError, Global};
 
 /// A text of the same bytes.
@@ -77,4 +78,20 @@ fn raw_code(alloc: Global, chart: &FlatChart) -> Result<RawCode, AllocError>
         react: 1,
         procs: List::of(procs(alloc, chart)?),
     })
+}
+
+/// Compiles a chart to code that behaves as it does, for every list of events.
+pub fn compile_flat(alloc: Global, chart: &FlatChart) -> Result<Code, Memory>
+    requires { IsValid (chart_of chart.now) }
+    ensures { IfOk result (Same (chart_of chart.now)) }
+{
+    let Ok(raw) = raw_code(alloc, chart) else {
+        return Err(Memory);
+    };
+    match accept(alloc, raw) {
+        Ok(code) => Ok(code),
+        Err(CodeEnd::Memory) => Err(Memory),
+        // The code of a valid chart is well formed.
+        Err(CodeEnd::Fault(_)) => unreachable!(),
+    }
 }

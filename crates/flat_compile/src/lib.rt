@@ -1,7 +1,10 @@
 //! Compiles a flat chart to code that behaves as it does.
 //!
-//! Read `specs/Emitted.antt` for the code, and `specs/Same.antt` for what is promised of it.
+//! Read `specs/Same.antt` for what is promised of the code, and `specs/Emitted.antt` for the code.
+//! The public call is `compile_flat`.
 #![tactic(auto)]
 
 mod compile;
 mod emit;
+
+pub use compile::compile_flat;

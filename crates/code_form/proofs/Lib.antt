@@ -1,2 +1,3 @@
 pub mod RunLemmas
 pub mod AcceptLemmas
+pub mod WellFormedLemmas

@@ -16,4 +16,4 @@ pub use code::{Code, RawCode};
 pub use fault::{CodeEnd, CodeFault, CodeKind};
 pub use frame::Frame;
 pub use instr::{Cond, Instr};
-pub use laws::one_run;
+pub use laws::{code_is_sound, one_run};

@@ -3,18 +3,14 @@ use Rattle.std.specs.Prelude.{◌≡◌, ℕ, List, [], ◌∷◌, Option, Some,
 use Rattle.std.specs.Io.KnownBytes.{append_known}
 use Rattle.flow_base.specs.Causes.{Rose, AllStay}
 use Rattle.flow_base.specs.Bytes.{AppendsProperFront}
-use Rattle.flow_base.specs.Names.{name_at}
 use Rattle.flow_base.specs.declared.event.FlatEvent.{FlatEvent}
-use Rattle.chart_syntax.specs.FlatChart.{Chart, state_names}
-use Rattle.sos_rules.specs.Flat.{flat_react}
-use Rattle.step_text.specs.Trace.{trace_line, event_word}
+use Rattle.step_text.specs.Trace.{trace_line, event_word, trace}
 use Rattle.step_text.specs.declared.events.LineFault.{LineFault}
 use Rattle.step_text.specs.declared.events.LineFault.TheVariants as line_faults
-use Rattle.step_text.specs.Lines.{lines_of}
-use Rattle.step_text.specs.Events.{events_of, refused_line}
+use Rattle.step_text.specs.Events.{refused_line}
 use Rattle.chart_command.specs.declared.ending.Ending.{Ending}
 use Rattle.chart_command.specs.declared.ending.Ending.TheVariants as endings
-use Rattle.chart_command.specs.Flat.{flat_trace, is_long}
+use Rattle.chart_command.specs.Flat.{is_long}
 use Rattle.chart_command.specs.Answer.{IsTold, HasNoChart, AppendsFront}
 
 -- why a chart isn't read: what is told of its file, and its count before and after
@@ -67,20 +63,25 @@ pub record WroteAll (out : Written) (text : List ℕ) : Type 0 where
   pub wrote : out.after ≡ append_known out.before text
   pub quiet : out.writes_after ≡ out.writes_before
 
--- the trace of the lines of a text before the first that is refused
-abbrev pub trace_of : Chart → List ℕ → List ℕ
-trace_of c text = flat_trace c (events_of c.events (lines_of text))
+-- what is shown after each event, from a moment of an engine on
+abbrev pub shown_after : {S : Type 0} → (S → FlatEvent → S) → (S → List (List ℕ)) → S → List FlatEvent → List (List (List ℕ))
+shown_after after shown s [] = []
+shown_after after shown s (e ∷ es) = shown (after s e) ∷ shown_after after shown (after s e) es
 
--- how a run over the lines of a text ends, and when
-abbrev pub RunEnds : Written → Chart → List ℕ → Ending → Type 0
-RunEnds out c text endings.Done = (refused_line c.events text ≡ None) × WroteAll out (trace_of c text)
-RunEnds out c text (endings.Chart kind at) = ⊥
-RunEnds out c text (endings.Line number fault) =
-    (refused_line c.events text ≡ Some (record { number = number; fault = fault })) × WroteAll out (trace_of c text)
-RunEnds out c text endings.Usage = ⊥
-RunEnds out c text endings.Read = ⊥
-RunEnds out c text endings.Write = Rose out.writes_before out.writes_after × AppendsProperFront out.before out.after (trace_of c text)
-RunEnds out c text endings.Memory = AppendsFront out.before out.after (trace_of c text)
+-- the trace of an engine from its start on
+abbrev pub trace_by : {S : Type 0} → (S → FlatEvent → S) → (S → List (List ℕ)) → List (List ℕ) → S → List FlatEvent → List ℕ
+trace_by after shown names s es = trace names es (shown s ∷ shown_after after shown s es)
+
+-- how a run over the lines of a text ends, whose events have these names and whose trace is this, and when
+abbrev pub RunEnds : Written → List (List ℕ) → List ℕ → List ℕ → Ending → Type 0
+RunEnds out names text whole endings.Done = (refused_line names text ≡ None) × WroteAll out whole
+RunEnds out names text whole (endings.Chart kind at) = ⊥
+RunEnds out names text whole (endings.Line number fault) =
+    (refused_line names text ≡ Some (record { number = number; fault = fault })) × WroteAll out whole
+RunEnds out names text whole endings.Usage = ⊥
+RunEnds out names text whole endings.Read = ⊥
+RunEnds out names text whole endings.Write = Rose out.writes_before out.writes_after × AppendsProperFront out.before out.after whole
+RunEnds out names text whole endings.Memory = ⊥
 
 -- how a line is written, or isn't
 abbrev pub LineEnds : {T : Type 0} → Written → List ℕ → Result T Ending → Type 0
@@ -91,15 +92,11 @@ LineEnds out line (Err (endings.Line number fault)) = ⊥
 LineEnds out line (Err endings.Usage) = ⊥
 LineEnds out line (Err endings.Read) = ⊥
 LineEnds out line (Err endings.Write) = Rose out.writes_before out.writes_after × AppendsProperFront out.before out.after line
-LineEnds out line (Err endings.Memory) = out.after ≡ out.before
+LineEnds out line (Err endings.Memory) = ⊥
 
--- the active state, as the trace names it
-abbrev pub shown : Chart → ℕ → List (List ℕ)
-shown c s = name_at (state_names c) s ∷ []
-
--- how a line of the event file is taken, from a state on: the state after it, and what is written
-abbrev pub StepEnds : {T : Type 0} → Written → Chart → ℕ → ℕ → Result FlatEvent LineFault → Option ℕ → Result T Ending → Type 0
-StepEnds out c s index (Ok e) active result =
-    (active ≡ Some (flat_react c s e)) × LineEnds out (trace_line index (event_word c.events e) (shown c (flat_react c s e))) result
-StepEnds out c s index (Err fault) active result =
+-- how a line of the event file is taken by an engine: the moment after it, and what is written
+abbrev pub StepEnds : {S T : Type 0} → Written → (S → FlatEvent → S) → (S → List (List ℕ)) → List (List ℕ) → S → ℕ → Result FlatEvent LineFault → S → Result T Ending → Type 0
+StepEnds out after shown names s index (Ok e) s' result =
+    (s' ≡ after s e) × LineEnds out (trace_line index (event_word names e) (shown (after s e))) result
+StepEnds out after shown names s index (Err fault) s' result =
     (result ≡ Err (endings.Line index fault)) × (out.after ≡ out.before) × (out.writes_after ≡ out.writes_before)

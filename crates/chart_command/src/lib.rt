@@ -4,12 +4,13 @@
 //! `specs/Words.antt`, `specs/Flat.antt`, `specs/Ending.antt` and `specs/Answer.antt` in this order.
 #![tactic(auto)]
 
-mod command;
+//mod command;
 mod ending;
+mod engine;
 mod files;
 mod report;
 mod run;
 mod words;
 
-pub use command::chart_main;
+//pub use command::chart_main;
 pub use ending::Ending;

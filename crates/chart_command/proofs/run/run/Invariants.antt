@@ -1,19 +1,27 @@
-use Rattle.std.proofs.Common.{length}
-use Rattle.chart_syntax.specs.FlatChart.{chart_of}
+use Rattle.std.proofs.Common.{◌≡◌, length}
+use Rattle.step_text.specs.Events.{events_of}
+use Rattle.step_text.specs.Lines.{lines_of}
+use Rattle.chart_command.specs.Steps.{trace_by}
 use Rattle.chart_command.proofs.Underway.{Underway}
 use Rattle.chart_command.proofs.run.run.Given as goal
 
--- the lines before the rest are taken
+-- the lines before the rest are taken, and the engine goes on under the same names
 abbrev pub invariant-lines : goal.invariant-lines
 invariant-lines g l =
-    Underway (chart_of l.fn.chart) l.text
-    (record {
-      before = g.O.Sink.wrote l.fn.out;
-      after = g.O.Sink.wrote l.out;
-      writes_before = g.O.Sink.faults l.fn.out;
-      writes_after = g.O.Sink.faults l.out;
-    })
-    l.rules l.index l.rest
+    let engine = g.G.Engine in
+    let names = engine.names l.fn.engine in
+    record {
+      underway : Underway engine.after engine.shown names l.text (trace_by engine.after engine.shown names l.fn.engine (events_of names (lines_of l.text)))
+          (record {
+            before = g.O.Sink.wrote l.fn.out;
+            after = g.O.Sink.wrote l.out;
+            writes_before = g.O.Sink.faults l.fn.out;
+            writes_after = g.O.Sink.faults l.out;
+          })
+          l.engine l.index l.rest;
+      running : engine.running l.engine;
+      same_names : engine.names l.engine ≡ names;
+    }
 
 abbrev pub decreases-lines : goal.decreases-lines
 decreases-lines g l = length l.rest

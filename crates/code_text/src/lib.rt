@@ -1,0 +1,13 @@
+//! The text of code: printed and read exactly.
+//!
+//! Read `specs/Spelling.antt` first, the one spelling of each program, and then
+//! `specs/Reading.antt`, which line can stand where and which fault is the first.
+#![tactic(auto)]
+
+mod fault;
+mod fields;
+mod instr;
+mod lines;
+mod partial;
+
+pub use fault::CodeTextFault;

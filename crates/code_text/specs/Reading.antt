@@ -140,11 +140,27 @@ abbrev pub head_next : ℕ → Expected
 head_next zero = expects.End
 head_next (suc n) = expects.Head n
 
+-- with one more state, and so many to come behind it
+abbrev pub with_state : Partial → ℕ → List ℕ → Partial
+with_state p more name = record p { states = p.states ++ name ∷ []; expected = leaf_next more }
+
+-- with one more event, and so many to come behind it
+abbrev pub with_event : Partial → ℕ → List ℕ → Partial
+with_event p more name = record p { events = p.events ++ name ∷ []; expected = event_next more }
+
+-- with the three numbers of the procedures
+abbrev pub with_procs : Partial → Procs → Partial
+with_procs p three = record p { start = three.start; react = three.react; expected = head_next three.count }
+
 -- with so many instructions to come in the procedure, and so many procedures behind it
 abbrev pub instr_next : Partial → ℕ → ℕ → Partial
 instr_next p zero procs =
     record p { procs = p.procs ++ p.instrs ∷ []; instrs = []; expected = head_next procs }
 instr_next p (suc n) procs = record p { expected = expects.Instr n procs }
+
+-- with one more instruction, so many to come behind it, and so many procedures behind its own
+abbrev pub with_instr : Partial → ℕ → ℕ → Instr → Partial
+with_instr p more procs i = instr_next (record p { instrs = p.instrs ++ i ∷ [] }) more procs
 
 -- goes on where the line is that one
 abbrev pub fixed : List ℕ → List ℕ → Partial → Expected → Option Partial
@@ -155,25 +171,16 @@ abbrev pub next_at : Expected → Partial → List ℕ → Option Partial
 next_at expects.Version p line = fixed version_line line p expects.StateCount
 next_at expects.StateCount p line =
     option_map (λ n. record p { expected = root_next n }) (number_behind (codes "states ") line)
-next_at (expects.Root more) p line =
-    option_map (λ name. record p { states = p.states ++ name ∷ []; expected = leaf_next more })
-    (name_behind (codes "s - or ") line)
-next_at (expects.Leaf more) p line =
-    option_map (λ name. record p { states = p.states ++ name ∷ []; expected = leaf_next more })
-    (name_behind (codes "s 0 leaf ") line)
+next_at (expects.Root more) p line = option_map (with_state p more) (name_behind (codes "s - or ") line)
+next_at (expects.Leaf more) p line = option_map (with_state p more) (name_behind (codes "s 0 leaf ") line)
 next_at expects.DataCount p line = fixed data_line line p expects.EventCount
 next_at expects.EventCount p line =
     option_map (λ n. record p { expected = event_next n }) (number_behind (codes "events ") line)
-next_at (expects.Event more) p line =
-    option_map (λ name. record p { events = p.events ++ name ∷ []; expected = event_next more })
-    (name_behind (codes "e input ") line)
-next_at expects.ProcCount p line =
-    option_map (λ h. record p { start = h.start; react = h.react; expected = head_next h.count })
-    (procs_of line)
+next_at (expects.Event more) p line = option_map (with_event p more) (name_behind (codes "e input ") line)
+next_at expects.ProcCount p line = option_map (with_procs p) (procs_of line)
 next_at (expects.Head more) p line =
     option_map (λ n. instr_next p n more) (number_behind (codes "p ") line)
-next_at (expects.Instr more procs) p line =
-    option_map (λ i. instr_next (record p { instrs = p.instrs ++ i ∷ [] }) more procs) (instr_of line)
+next_at (expects.Instr more procs) p line = option_map (with_instr p more procs) (instr_of line)
 next_at expects.End p line = fixed end_line line p expects.Nothing
 next_at expects.Nothing p line = None
 

@@ -1,5 +1,5 @@
 -- What contracts see of the values of the reader.
-use Rattle.std.specs.Prelude.{map, List}
+use Rattle.std.specs.Prelude.{◌≡◌, Bool, true, false, map, Option, Some, None}
 use Rattle.flow_base.specs.Lists.{items_of}
 use Rattle.code_text.specs.Lines.{Parts}
 use Rattle.code_text.specs.Reading.{Numbered, Procs, Partial}
@@ -32,3 +32,8 @@ partial_of p =
       instrs = p.instrs.items;
       expected = p.expected;
     }
+
+-- whether what is read goes on, and to what
+abbrev pub GoesOn : Option Partial → Bool → Partial → Type 0
+GoesOn next true new = next ≡ Some new
+GoesOn next false new = next ≡ None

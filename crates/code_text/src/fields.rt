@@ -1,12 +1,15 @@
 //! The fields of a line: numbers and names.
-ghost use Rattle.std.specs.Prelude.{◌≡◌, ◌≤◌, ◌<◌, ◌^◌, length, option_map};
+ghost use Rattle.std.specs.Prelude.{◌≡◌, ◌≤◌, ◌<◌, ◌^◌, length, option_map, IfSome, IfOk, IsTrue};
+ghost use Rattle.chart_lexer.specs.Words.{is_name};
 ghost use Rattle.std.specs.Option.{option_copied};
 ghost use Rattle.code_text.specs.Reading as spec;
 ghost use Rattle.code_text.specs.Views.{numbered_of};
 
 use crate::lines::cut_at;
 use chart_lexer::is_name;
+use flow_base::Text;
 use itoa::Buffer;
+use std::alloc::{AllocError, Global};
 
 /// A number, and what stands behind the space that follows it.
 #[derive(Clone, Copy, Debug)]
@@ -56,7 +59,8 @@ pub fn number_behind(words: &[u8], text: &[u8]) -> Option<u32>
 /// The name behind those words, and nothing behind it.
 #[tactic(auto, unfolding(crate::specs::Reading::name_behind))]
 pub fn name_behind<'a>(words: &[u8], text: &'a [u8]) -> Option<&'a [u8]>
-    ensures { option_copied result ≡ spec.name_behind words.now text.now }
+    ensures name { option_copied result ≡ spec.name_behind words.now text.now }
+    ensures named { IfSome result (λ name. IsTrue (is_name name.now)) }
 {
     let name = behind(words, text)?;
     if is_name(name) { Some(name) } else { None }
@@ -73,4 +77,15 @@ pub fn number_then(text: &[u8]) -> Option<Numbered<'_>>
         number,
         rest: parts.rest,
     })
+}
+
+/// The bytes of a name as a text of their own.
+pub fn name_text(alloc: Global, name: &[u8]) -> Result<Text, AllocError>
+    requires { IsTrue (is_name name.now) }
+    ensures { IfOk result (λ text. text ≡ name.now) }
+{
+    match str::from_utf8(name) {
+        Ok(text) => Ok(Text::of(String::from_str(alloc, text)?)),
+        Err(_) => unreachable!(),
+    }
 }

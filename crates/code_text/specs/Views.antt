@@ -1,8 +1,10 @@
 -- What contracts see of the values of the reader.
-use Rattle.std.specs.Prelude.{◌≡◌, Bool, true, false, map, Option, Some, None}
+use Rattle.std.specs.Prelude.{◌≡◌, ◌≢◌, Bool, true, false, map, Option, Some, None, Result, Ok, Err}
 use Rattle.flow_base.specs.Lists.{items_of}
 use Rattle.code_text.specs.Lines.{Parts}
 use Rattle.code_text.specs.Reading.{Numbered, Procs, Partial}
+use Rattle.code_text.specs.declared.fault.CodeTextFault.{CodeTextFault}
+use Rattle.code_text.specs.declared.fault.CodeTextFault.TheVariants as faults
 use Rattle.code_text.specs.declared.lines.Parts.{Parts as PartsAt}
 use Rattle.code_text.specs.declared.fields.Numbered.{Numbered as NumberedAt}
 use Rattle.code_text.specs.declared.partial.Procs.{Procs as ProcsRead}
@@ -37,3 +39,8 @@ partial_of p =
 abbrev pub GoesOn : Option Partial → Bool → Partial → Type 0
 GoesOn next true new = next ≡ Some new
 GoesOn next false new = next ≡ None
+
+-- what was returned, seen by view, is the outcome, unless memory ran out
+abbrev pub Answers : {X Y : Type 0} → (X → Y) → Result X CodeTextFault → Result Y CodeTextFault → Type 0
+Answers view (Ok x) outcome = outcome ≡ Ok (view x)
+Answers view (Err fault) outcome = fault ≢ faults.Memory → outcome ≡ Err fault

@@ -9,5 +9,7 @@ mod fields;
 mod instr;
 mod lines;
 mod partial;
+mod reader;
+mod refusal;
 
 pub use fault::CodeTextFault;

@@ -1,3 +1,4 @@
 pub mod CutLemmas
 pub mod NumberLemmas
 pub mod NameLemmas
+pub mod TextLemmas

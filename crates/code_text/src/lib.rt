@@ -9,6 +9,7 @@ mod fields;
 mod instr;
 mod lines;
 mod partial;
+mod printer;
 mod reader;
 mod refusal;
 

@@ -3,3 +3,4 @@ pub mod Program
 pub mod WellFormed
 pub mod World
 pub mod Machine
+pub mod Sound

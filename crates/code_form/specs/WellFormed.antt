@@ -10,6 +10,8 @@ use Rattle.code_form.specs.declared.instr.Instr.TheVariants as instrs
 use Rattle.code_form.specs.declared.fault.CodeKind.{CodeKind}
 use Rattle.code_form.specs.declared.fault.CodeKind.TheVariants as kinds
 use Rattle.code_form.specs.declared.fault.CodeFault.{CodeFault}
+use Rattle.code_form.specs.declared.fault.CodeEnd.{CodeEnd}
+use Rattle.code_form.specs.declared.fault.CodeEnd.TheVariants as ends
 use Rattle.code_form.specs.Program.{Program}
 
 -- a fault at a place
@@ -103,3 +105,8 @@ code_fault P =
 -- the code is well formed
 abbrev pub IsCode : Program → Type 0
 IsCode P = code_fault P ≡ None
+
+-- a fault is the first of the code; want of memory has no cause in it
+abbrev pub IsCause : Program → CodeEnd → Type 0
+IsCause P (ends.Fault fault) = code_fault P ≡ Some fault
+IsCause P ends.Memory = Unit {0}

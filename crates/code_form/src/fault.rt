@@ -53,3 +53,12 @@ pub struct CodeFault {
     pub proc: u32,
     pub place: u32,
 }
+
+/// Why code isn't accepted.
+#[derive(Clone, Copy, Debug, PartialEq, Eq)]
+pub enum CodeEnd {
+    /// The code isn't well formed, and this is its first fault.
+    Fault(CodeFault),
+    /// Memory ran out.
+    Memory,
+}

@@ -1,14 +1,19 @@
 //! Code: procedures of instructions, which code is well formed, and what it means.
 //!
+//! `accept` makes a `Code` exactly of what is well formed.
 //! Read `specs/Program.antt`, `specs/WellFormed.antt` and `specs/Machine.antt` first, in this order.
 #![tactic(auto)]
 
+mod acceptance;
 mod code;
 mod fault;
 mod frame;
 mod instr;
+mod laws;
 
-pub use code::RawCode;
-pub use fault::{CodeFault, CodeKind};
+pub use acceptance::accept;
+pub use code::{Code, RawCode};
+pub use fault::{CodeEnd, CodeFault, CodeKind};
 pub use frame::Frame;
 pub use instr::{Cond, Instr};
+pub use laws::{code_is_sound, one_run};

@@ -1,0 +1,11 @@
+-- What every instruction of well-formed code keeps to, so that a run stays in the code.
+use Rattle.std.specs.Prelude.{◌≡◌, ℕ, ◌+◌, ◌<◌, true, false}
+use Rattle.code_form.specs.declared.instr.Instr.{Instr}
+use Rattle.code_form.specs.Program.{Program}
+use Rattle.code_form.specs.WellFormed.{instr_known, stays_within, is_ret}
+
+-- at place i of so many instructions: it names what is there, what it passes over is there, and behind it is one more unless it returns
+pub record IsSoundAt (P : Program) (len i : ℕ) (x : Instr) : Type 0 where
+  pub known : instr_known P x ≡ true
+  pub within : stays_within len i x ≡ true
+  pub goes_on : is_ret x ≡ false → i + 1 < len

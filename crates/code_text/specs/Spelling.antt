@@ -68,12 +68,21 @@ state_lines (root ∷ leaves) = root_line root ∷ map leaf_line leaves
 abbrev pub proc_lines : List Instr → List (List ℕ)
 proc_lines is = head_line (length is) ∷ map instr_line is
 
+-- the version, and the states under their count
+abbrev pub states_part : List (List ℕ) → List (List ℕ)
+states_part names = version_line ∷ (states_line (length names) ∷ state_lines names)
+
+-- no data, and the events under their count
+abbrev pub events_part : List (List ℕ) → List (List ℕ)
+events_part names = data_line ∷ (events_line (length names) ∷ map event_line names)
+
+-- the procedures under their count
+abbrev pub procs_part : Program → List (List ℕ)
+procs_part P = procs_line (length P.procs) P.start P.react ∷ flat_map proc_lines P.procs
+
 -- the lines of a program, without their newlines
 unfoldable pub code_lines : Program → List (List ℕ)
-code_lines P =
-    (version_line ∷ (states_line (length P.states) ∷ state_lines P.states))
-    ++ ((data_line ∷ (events_line (length P.events) ∷ map event_line P.events))
-    ++ ((procs_line (length P.procs) P.start P.react ∷ flat_map proc_lines P.procs) ++ (end_line ∷ [])))
+code_lines P = states_part P.states ++ (events_part P.events ++ (procs_part P ++ end_line ∷ []))
 
 -- lines, each ended by a newline
 abbrev pub text_of : List (List ℕ) → List ℕ

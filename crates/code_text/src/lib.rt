@@ -14,3 +14,5 @@ mod reader;
 mod refusal;
 
 pub use fault::CodeTextFault;
+pub use printer::print_code;
+pub use reader::read_code;

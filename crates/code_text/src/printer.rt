@@ -5,26 +5,60 @@ ghost use Rattle.flow_base.specs.Lists.{items_of};
 ghost use Rattle.code_form.specs.Program.{program_of};
 ghost use Rattle.code_text.specs.Spelling as spec;
 
-use code_form::{Cond, Instr, RawCode};
-use flow_base::{List, Text};
+use code_form::{Code, Cond, Instr, RawCode};
+use flow_base::{List, Memory, Text};
 use itoa::Buffer;
 use std::alloc::{AllocError, Global};
 
+/// The text of code, its one spelling.
+pub fn print_code(alloc: Global, code: &Code) -> Result<String, Memory>
+    ensures { IfOk result (λ text. string_bytes text ≡ spec.code_text code.now) }
+{
+    match print_raw(alloc, code.raw()) {
+        Ok(text) => Ok(text),
+        Err(_) => Err(Memory),
+    }
+}
+
 /// The one spelling of code, well formed or not.
-pub fn print_raw(alloc: Global, raw: &RawCode) -> Result<String, AllocError>
+fn print_raw(alloc: Global, raw: &RawCode) -> Result<String, AllocError>
     ensures { IfOk result (λ text. string_bytes text ≡ spec.code_text (program_of raw.now)) }
 {
     let mut out = String::new(alloc);
-    out.push_str("flowcode 1\n")?;
-    print_count(&mut out, "states ", raw.states.items().len())?;
-    print_states(&mut out, raw.states.items())?;
-    out.push_str("data 0\n")?;
-    print_count(&mut out, "events ", raw.events.items().len())?;
-    print_names(&mut out, "e input ", raw.events.items())?;
-    print_head(&mut out, raw)?;
-    print_procs(&mut out, raw.procs.items())?;
+    print_states(&mut out, &raw.states)?;
+    print_events(&mut out, &raw.events)?;
+    print_procs(&mut out, raw)?;
     out.push_str("end\n")?;
     Ok(out)
+}
+
+/// The version, and the states under their count.
+fn print_states(out: &mut String, names: &List<Text>) -> Result<(), AllocError>
+    ensures { OnOk result (string_bytes out.new
+        ≡ string_bytes out.old ++ spec.text_of (spec.states_part (items_of names.now))) }
+{
+    out.push_str("flowcode 1\n")?;
+    print_count(out, "states ", names.items().len())?;
+    print_state_names(out, names.items())
+}
+
+/// No data, and the events under their count.
+fn print_events(out: &mut String, names: &List<Text>) -> Result<(), AllocError>
+    ensures { OnOk result (string_bytes out.new
+        ≡ string_bytes out.old ++ spec.text_of (spec.events_part (items_of names.now))) }
+{
+    out.push_str("data 0\n")?;
+    print_count(out, "events ", names.items().len())?;
+    print_event_names(out, names.items())
+}
+
+/// The procedures under their count.
+fn print_procs(out: &mut String, raw: &RawCode) -> Result<(), AllocError>
+    ensures { OnOk result (string_bytes out.new
+        ≡ string_bytes out.old ++ spec.text_of (spec.procs_part (program_of raw.now))) }
+{
+    print_head(out, raw)?;
+    print_each(out, raw.procs.items())
 }
 
 /// Words and a number.
@@ -70,7 +104,7 @@ fn print_names(out: &mut String, words: &str, names: &[Text]) -> Result<(), Allo
 }
 
 /// The lines of the states, the root first.
-fn print_states(out: &mut String, names: &[Text]) -> Result<(), AllocError>
+fn print_state_names(out: &mut String, names: &[Text]) -> Result<(), AllocError>
     ensures { OnOk result (string_bytes out.new
         ≡ string_bytes out.old ++ spec.text_of (spec.state_lines names.now)) }
 {
@@ -83,10 +117,18 @@ fn print_states(out: &mut String, names: &[Text]) -> Result<(), AllocError>
     }
 }
 
+/// The lines of the events.
+fn print_event_names(out: &mut String, names: &[Text]) -> Result<(), AllocError>
+    ensures { OnOk result (string_bytes out.new
+        ≡ string_bytes out.old ++ spec.text_of (map spec.event_line names.now)) }
+{
+    print_names(out, "e input ", names)
+}
+
 /// The line of the procedures.
 fn print_head(out: &mut String, raw: &RawCode) -> Result<(), AllocError>
     ensures { OnOk result (string_bytes out.new ≡ string_bytes out.old
-        ++ (spec.procs_line (length (items_of raw.now.procs)) raw.now.start raw.now.react ++ 10 ∷ [])) }
+        ++ (spec.procs_line (length (program_of raw.now).procs) raw.now.start raw.now.react ++ 10 ∷ [])) }
 {
     print_number(out, "procs ", raw.procs.items().len() as u64)?;
     print_number(out, " ", u64::from(raw.start))?;
@@ -96,7 +138,7 @@ fn print_head(out: &mut String, raw: &RawCode) -> Result<(), AllocError>
 }
 
 /// The lines of each procedure.
-fn print_procs(out: &mut String, procs: &[List<Instr>]) -> Result<(), AllocError>
+fn print_each(out: &mut String, procs: &[List<Instr>]) -> Result<(), AllocError>
     ensures { OnOk result (string_bytes out.new ≡ string_bytes out.old
         ++ spec.text_of (flat_map spec.proc_lines (map items_of procs.now))) }
 {

@@ -1,5 +1,5 @@
 //! Code from its text.
-ghost use Rattle.std.specs.Prelude.{◌≡◌, ◌+◌, ◌<◌, ◌≤◌, [], length, IfSome, MatchOption};
+ghost use Rattle.std.specs.Prelude.{◌≡◌, ◌≢◌, ◌<◌, [], length, IfSome, IfOk, IfErr, MatchOption};
 ghost use Rattle.code_form.specs.Program.{program_of};
 ghost use Rattle.code_text.specs.Lines.{cut_of, line_then};
 ghost use Rattle.code_text.specs.Reading as spec;
@@ -9,14 +9,29 @@ use crate::fault::CodeTextFault;
 use crate::lines::{Parts, cut_at};
 use crate::partial::Partial;
 use crate::refusal::{is_whole, refusal};
-use code_form::RawCode;
+use code_form::{Code, CodeEnd, RawCode, accept};
 use std::alloc::Global;
 
 /// The most bytes of a text that is read.
 const TEXT_LIMIT: usize = 268_435_456;
 
+/// The code that a text spells, if it is well formed. The text is read once, from its first line
+/// on, and a count in it takes no memory by itself.
+#[tactic(auto, unfolding(crate::specs::Reading::outcome))]
+pub fn read_code(alloc: Global, text: &[u8]) -> Result<Code, CodeTextFault>
+    ensures read { IfOk result (λ code. spec.outcome text.now ≡ Ok code) }
+    ensures refused { IfErr result (λ fault. fault ≢ CodeTextFault.Memory → spec.outcome text.now ≡ Err fault) }
+{
+    let raw = read_raw(alloc, text)?;
+    match accept(alloc, raw) {
+        Ok(code) => Ok(code),
+        Err(CodeEnd::Fault(fault)) => Err(CodeTextFault::Form(fault)),
+        Err(CodeEnd::Memory) => Err(CodeTextFault::Memory),
+    }
+}
+
 /// The code that a text spells, well formed or not.
-pub fn read_raw(alloc: Global, text: &[u8]) -> Result<RawCode, CodeTextFault>
+fn read_raw(alloc: Global, text: &[u8]) -> Result<RawCode, CodeTextFault>
     ensures { Answers program_of result (spec.spelled_program text.now) }
 {
     if text.len() > TEXT_LIMIT {

@@ -3,7 +3,7 @@ use Rattle.std.specs.Prelude.{string_bytes}
 use Rattle.std.specs.List.{flat_map}
 use Rattle.flow_base.specs.Lists.{items_of}
 use Rattle.code_text.specs.Spelling.{text_of, proc_lines}
-use Rattle.code_text.proofs.printer.print_procs.Given as goal
+use Rattle.code_text.proofs.printer.print_each.Given as goal
 
 -- what was printed, and the lines to come, are all
 abbrev pub invariant-loop-proc : goal.invariant-loop-proc

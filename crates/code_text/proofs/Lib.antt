@@ -2,3 +2,4 @@ pub mod CutLemmas
 pub mod NumberLemmas
 pub mod NameLemmas
 pub mod TextLemmas
+pub mod FieldLemmas

@@ -1,6 +1,7 @@
 -- The text of code: the one spelling of each program.
-use Rattle.std.specs.Prelude.{ℕ, List, [], ◌∷◌, ◌++◌, length, map, codes, decimal}
-use Rattle.std.specs.List.{flat_map}
+use Rattle.std.specs.Prelude.{ℕ, ◌<◌, ◌^◌, IsTrue, List, [], ◌∷◌, ◌++◌, length, map, codes, decimal}
+use Rattle.std.specs.List.{flat_map, AllByRecursion}
+use Rattle.chart_lexer.specs.Words.{is_name}
 use Rattle.code_form.specs.declared.instr.Cond.{Cond}
 use Rattle.code_form.specs.declared.instr.Cond.TheVariants as conds
 use Rattle.code_form.specs.declared.instr.Instr.{Instr}
@@ -92,3 +93,39 @@ text_of (line ∷ lines) = line ++ (10 ∷ text_of lines)
 -- the one spelling of a program
 unfoldable pub code_text : Program → List ℕ
 code_text P = text_of (code_lines P)
+
+-- a number that a line can have
+abbrev pub IsNumber : ℕ → Type 0
+IsNumber n = n < 2 ^ 32
+
+-- a name that a line can have
+abbrev pub IsName : List ℕ → Type 0
+IsName name = IsTrue (is_name name)
+
+-- a condition with such a number
+abbrev pub CondHasNumbers : Cond → Type 0
+CondHasNumbers (conds.On s) = IsNumber s
+CondHasNumbers (conds.Current e) = IsNumber e
+
+-- an instruction with such numbers
+abbrev pub HasNumbers : Instr → Type 0
+HasNumbers (instrs.Mark s) = IsNumber s
+HasNumbers (instrs.Clear s) = IsNumber s
+HasNumbers (instrs.Unless k c) = IsNumber k × CondHasNumbers c
+HasNumbers (instrs.Ret r) = IsNumber r
+
+-- a procedure with such numbers, its count among them
+pub record ProcHasNumbers (is : List Instr) : Type 0 where
+  pub count : IsNumber (length is)
+  pub instrs : AllByRecursion HasNumbers is
+
+-- a program with such numbers and names: what RawCode has by its types, but for the names
+pub record IsSpellable (P : Program) : Type 0 where
+  pub states : IsNumber (length P.states)
+  pub events : IsNumber (length P.events)
+  pub procs : IsNumber (length P.procs)
+  pub start : IsNumber P.start
+  pub react : IsNumber P.react
+  pub state_names : AllByRecursion IsName P.states
+  pub event_names : AllByRecursion IsName P.events
+  pub numbers : AllByRecursion ProcHasNumbers P.procs

@@ -1,0 +1,6 @@
+pub mod CutLemmas
+pub mod NumberLemmas
+pub mod NameLemmas
+pub mod TextLemmas
+pub mod FieldLemmas
+pub mod StepLemmas

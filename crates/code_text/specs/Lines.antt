@@ -1,0 +1,39 @@
+-- A text cut at a byte, and into its whole lines.
+use Rattle.std.specs.Prelude.{ℕ, nat_eq, List, [], ◌∷◌, Option, Some, None, option_map, if◌then◌else◌}
+
+-- what stands before a byte and behind it
+pub record Parts : Type 0 where
+  pub front : List ℕ
+  pub rest : List ℕ
+
+-- parts with one more byte in front
+abbrev pub parts_with : ℕ → Parts → Parts
+parts_with b parts = record { front = b ∷ parts.front; rest = parts.rest }
+
+-- the parts round the first such byte, if there is one
+abbrev pub parts_at : ℕ → List ℕ → Option Parts
+parts_at byte [] = None
+parts_at byte (b ∷ text) =
+    if nat_eq b byte then Some (record { front = []; rest = text })
+    else option_map (parts_with b) (parts_at byte text)
+
+-- the whole lines of a text, each without its newline, and what stands behind the last newline
+pub record Cut : Type 0 where
+  pub lines : List (List ℕ)
+  pub rest : List ℕ
+
+-- a byte in front of the first line, or of the rest where there is no line
+abbrev pub begun_with : ℕ → List (List ℕ) → List ℕ → Cut
+begun_with b [] rest = record { lines = []; rest = b ∷ rest }
+begun_with b (line ∷ lines) rest = record { lines = (b ∷ line) ∷ lines; rest = rest }
+
+-- a line in front
+abbrev pub line_then : List ℕ → Cut → Cut
+line_then line cut = record { lines = line ∷ cut.lines; rest = cut.rest }
+
+-- the text cut behind each newline
+abbrev pub cut_of : List ℕ → Cut
+cut_of [] = record { lines = []; rest = [] }
+cut_of (b ∷ text) =
+    if nat_eq b 10 then line_then [] (cut_of text)
+    else begun_with b (cut_of text).lines (cut_of text).rest

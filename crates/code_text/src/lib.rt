@@ -1,0 +1,18 @@
+//! The text of code: printed and read exactly.
+//!
+//! Read `specs/Spelling.antt` first, the one spelling of each program, and then
+//! `specs/Reading.antt`, which line can stand where and which fault is the first.
+#![tactic(auto)]
+
+mod fault;
+mod fields;
+mod instr;
+mod lines;
+mod partial;
+mod printer;
+mod reader;
+mod refusal;
+
+pub use fault::CodeTextFault;
+pub use printer::print_code;
+pub use reader::read_code;

@@ -128,7 +128,10 @@ pub is_there : (P : Program) (p i : ℕ) → i < length (instructions P p) → p
 unfolding instructions
 is_there P p i lt = has_place P.procs p i lt
 
--- the instruction at a place of the procedure
-pub fetch_is : (P : Program) (p i : ℕ) (x : Instr) → i < length (instructions P p) → x ≡ get_or (instructions P p) i x → fetch P p i ≡ Some x
+-- what stands at a place of a procedure is fetched there, and is sound
+pub found : (P : Program) (p i : ℕ) (instrs : List Instr) (d x : Instr) → IsCode P → instrs ≡ instructions P p → i < length instrs → get_or instrs i d ≡ x → (fetch P p i ≡ Some x) × IsSoundAt P (length instrs) i x
 unfolding fetch
-fetch_is P p i x lt is = slice_get-get_or (instructions P p) i x lt ∙ ap Some (sym is)
+found P p i instrs d x code are lt is =
+    let at : slice_get instrs i ≡ Some x = slice_get-get_or instrs i d lt ∙ ap Some is in
+    let fetched : fetch P p i ≡ Some x = ap (λ (xs : List Instr). slice_get xs i) (sym are) ∙ at in
+    (fetched, subst (λ (xs : List Instr). IsSoundAt P (length xs) i x) (sym are) (sound P p i x code fetched))

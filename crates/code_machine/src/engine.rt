@@ -1,4 +1,6 @@
 //! The machine: a run of code, event by event.
+use crate::marks::{clear_all, is_on};
+use crate::run::run;
 use code_form::{Code, Frame};
 use flow_base::{FlatEvent, Memory};
 use std::alloc::Global;
@@ -71,12 +73,11 @@ impl Machine {
     }
 
     /// Whether the state of that number is active. It takes no memory.
-    #[tactic(auto, unfolding(code_form::specs::World::is_on))]
     pub fn on(&self, state: u32) -> bool
         requires { state < length self.now.program.states }
         ensures { result ≡ is_on self.now.world.marks state }
     {
-        self.marks[state as usize]
+        is_on(&self.marks, state)
     }
 
     /// Runs the procedure of the start from no active state on, also of a machine that is started.
@@ -86,9 +87,9 @@ impl Machine {
         ensures started { IsTrue self.new.started }
         ensures world { Starts self.old.program self.new.world }
     {
-        for mark in self.marks.iter_mut() {
-            *mark = false;
-        }
+        clear_all(&mut self.marks);
+        let code = self.code.raw();
+        run(code, &mut self.marks, &mut self.frames, None, code.start);
         self.started = true;
     }
 
@@ -100,7 +101,11 @@ impl Machine {
         ensures started { IsTrue self.new.started }
         ensures world { Reacts self.old.program self.old.world event self.new.world }
     {
-        let _ = event;
-        self.started = true;
+        let current = match event {
+            FlatEvent::Tick => None,
+            FlatEvent::Named(number) => Some(number),
+        };
+        let code = self.code.raw();
+        run(code, &mut self.marks, &mut self.frames, current, code.react);
     }
 }

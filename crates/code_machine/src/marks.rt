@@ -25,6 +25,13 @@ pub fn clear(marks: &mut [bool], state: u32)
     }
 }
 
+/// Makes every state inactive.
+pub fn clear_all(marks: &mut [bool])
+    ensures { marks.new ≡ spec.none_active (length marks.old) }
+{
+    marks.fill(false);
+}
+
 /// Whether the state is active.
 #[tactic(auto, unfolding(code_form::specs::World::is_on))]
 pub fn is_on(marks: &[bool], state: u32) -> bool

@@ -1,12 +1,11 @@
-use Rattle.std.proofs.Common.{◌≡◌, ℕ, ◌+◌, List, ◌∷◌, length, true, false, refl, ap, sym, ◌∙◌, subst, arith}
+use Rattle.std.proofs.Common.{◌≡◌, ◌+◌, ◌∷◌, length, true, false, refl, sym, ◌∙◌, subst, arith}
 use Rattle.code_form.specs.declared.instr.Cond.{Cond}
 use Rattle.code_form.specs.declared.instr.Cond.TheVariants as conds
 use Rattle.code_form.specs.declared.instr.Instr.TheVariants as instrs
-use Rattle.code_form.specs.declared.frame.Frame.{Frame}
 use Rattle.code_form.specs.Program.{program_of}
 use Rattle.code_form.specs.WellFormed.{cond_known}
 use Rattle.code_form.proofs.WellFormedLemmas.{is_there, found}
-use Rattle.code_machine.specs.Reach.{state, Reaches}
+use Rattle.code_machine.specs.Reach.{state}
 use Rattle.code_machine.proofs.Reached.{here, has_mark, has_place, goes_on, passes}
 use Rattle.code_machine.proofs.run.run_frame.Goals as goal
 
@@ -57,8 +56,8 @@ holds-requires c =
     let P = program_of c.args.code.now in
     let at = found P c.args.frame.proc c.loop-place.place c.instructions-instrs.result.now _ _ c.requires.code c.instructions-instrs.ensures c.loop-place.invariant.within c.in-Unless.is in
     λ s is.
-        let known : cond_known P (conds.On s) ≡ true = subst (λ (x : Cond). cond_known P x ≡ true) is at.1.known in
-        has_mark s c.loop-place.marks (length P.states) known (c.loop-place.auto.marks ∙ c.requires.marks)
+    let known : cond_known P (conds.On s) ≡ true = subst (λ (x : Cond). cond_known P x ≡ true) is at.1.known in
+    has_mark s c.loop-place.marks (length P.states) known (c.loop-place.auto.marks ∙ c.requires.marks)
 
 pub loop-place-preserved-then-holds : goal.loop-place-preserved-then-holds
 loop-place-preserved-then-holds c =

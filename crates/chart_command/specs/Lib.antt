@@ -1,6 +1,12 @@
 pub mod Words
 pub mod Seen
 pub mod Flat
+pub mod CodeTrace
+pub mod FlatEngine
+pub mod FlatEngineLaws
+pub mod CodeEngine
+pub mod CodeRuns
+pub mod CodeEngineLaws
 pub mod Ending
 pub mod Answer
 pub mod Steps

@@ -6,8 +6,11 @@
 
 //mod command;
 mod ending;
+
+mod code_engine;
 mod engine;
 mod files;
+mod flat_engine;
 mod report;
 mod run;
 mod words;

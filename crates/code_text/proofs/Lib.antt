@@ -4,3 +4,4 @@ pub mod NameLemmas
 pub mod TextLemmas
 pub mod FieldLemmas
 pub mod StepLemmas
+pub mod PartLemmas

@@ -5,3 +5,4 @@ pub mod TextLemmas
 pub mod FieldLemmas
 pub mod StepLemmas
 pub mod PartLemmas
+pub mod ProgramLemmas

@@ -6,3 +6,5 @@ pub mod FieldLemmas
 pub mod StepLemmas
 pub mod PartLemmas
 pub mod ProgramLemmas
+pub mod NewlineLemmas
+pub mod OutcomeLemmas

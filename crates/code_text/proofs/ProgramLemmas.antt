@@ -186,7 +186,8 @@ procs_spelled states events lines q h w =
       goes = rest.goes;
     })
 
-nothing_behind : (P : Program) (lines : List (List ℕ)) (q : Partial) → steps (all_done P) lines ≡ Some q → (lines ≡ []) × (all_done P ≡ q)
+-- behind the line `end` no line can stand
+pub nothing_behind : (P : Program) (lines : List (List ℕ)) (q : Partial) → steps (all_done P) lines ≡ Some q → (lines ≡ []) × (all_done P ≡ q)
 unfolding next
 nothing_behind P [] q h = (refl, same_Some (all_done P) q h)
 nothing_behind P (line ∷ lines) q h = absurd cc

@@ -7,6 +7,7 @@
 mod fault;
 mod fields;
 mod instr;
+mod laws;
 mod lines;
 mod partial;
 mod printer;
@@ -14,5 +15,8 @@ mod reader;
 mod refusal;
 
 pub use fault::CodeTextFault;
+pub use laws::{
+    a_text_is_read, no_text_begins_another, one_text_one_program, what_is_read_is_spelled_so,
+};
 pub use printer::print_code;
 pub use reader::read_code;

@@ -1,4 +1,5 @@
 pub mod Spelling
 pub mod Lines
 pub mod Reading
+pub mod Form
 pub mod Views

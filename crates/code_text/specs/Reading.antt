@@ -246,10 +246,14 @@ outcome_from p n [] rest = at_end p n rest
 outcome_from p n (line ∷ lines) rest =
     or_refuse (next p line) (refusal p.expected n line) (λ q. outcome_from q (n + 1) lines rest)
 
+-- the most bytes of a text that is read
+abbrev pub text_limit : ℕ
+text_limit = 268435456
+
 -- the program that the lines of a text spell, or the first fault
 abbrev pub spelled_program : List ℕ → Result Program CodeTextFault
 spelled_program text =
-    if nat_lt 268435456 (length text) then Err faults.TextTooLong else
+    if nat_lt text_limit (length text) then Err faults.TextTooLong else
     outcome_from nothing_read 1 (cut_of text).lines (cut_of text).rest
 
 -- the program unless its code has a fault

@@ -2,11 +2,11 @@
 ghost use Rattle.std.specs.Prelude.{◌≡◌, ◌≤◌, ℕ, List, [], ◌++◌, length, Ok};
 ghost use Rattle.code_form.specs.Program.{Program};
 ghost use Rattle.code_text.specs.Spelling.{code_text, IsSpellable};
-ghost use Rattle.code_text.specs.Reading.{spelled_program};
+ghost use Rattle.code_text.specs.Reading.{spelled_program, text_limit};
 
 /// The text of a program is read as that program, well formed or not.
 pub fn a_text_is_read()
-    ensures { (P : Program) → IsSpellable P → length (code_text P) ≤ 268435456
+    ensures { (P : Program) → IsSpellable P → length (code_text P) ≤ text_limit
         → spelled_program (code_text P) ≡ Ok P }
 {
 }

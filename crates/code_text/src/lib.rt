@@ -20,3 +20,6 @@ pub use laws::{
 };
 pub use printer::print_code;
 pub use reader::read_code;
+
+#[cfg(test)]
+mod tests;

@@ -23,7 +23,7 @@ pub fn read_code(alloc: Global, text: &[u8]) -> Result<Code, CodeTextFault>
     // What is read is spelled so, each byte of it.
     ensures read { IfOk result (λ code. text.now ≡ code_text code) }
     // What is spelled so is read, unless memory runs out.
-    ensures only { (P : Program) → IsSpellable P → IsCode P → text.now ≡ code_text P → length text.now ≤ TEXT_LIMIT
+    ensures only { (P : Program) → IsSpellable P → IsCode P → text.now ≡ code_text P → length text.now ≤ spec.text_limit
         → MatchResult result (λ code. code ≡ P) (λ fault. fault ≡ CodeTextFault.Memory) }
     // Each fault but want of memory is the first one.
     ensures refused { IfErr result (λ fault. fault ≢ CodeTextFault.Memory → spec.outcome text.now ≡ Err fault) }

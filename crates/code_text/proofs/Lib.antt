@@ -8,3 +8,4 @@ pub mod PartLemmas
 pub mod ProgramLemmas
 pub mod NewlineLemmas
 pub mod OutcomeLemmas
+pub mod SpellableLemmas

@@ -1,5 +1,5 @@
 -- No line of a program has a newline in it.
-use Rattle.std.proofs.Common.{◌≡◌, ℕ, suc, ◌<◌, ◌&&◌, Bool, true, false, nat_eq, List, [], ◌∷◌, ◌++◌, length, map, get_or, refl, arith}
+use Rattle.std.proofs.Common.{◌≡◌, ℕ, suc, ◌<◌, true, false, nat_eq, List, [], ◌∷◌, ◌++◌, length, map, get_or, refl, arith}
 use Rattle.std.specs.Prelude.{codes, not, decimal}
 use Rattle.std.specs.List.{flat_map, list_all, AllByRecursion}
 use Rattle.std.proofs.lemmas.Bool.{and_parts}
@@ -10,7 +10,7 @@ use Rattle.code_form.specs.declared.instr.Cond.TheVariants as conds
 use Rattle.code_form.specs.declared.instr.Instr.{Instr}
 use Rattle.code_form.specs.declared.instr.Instr.TheVariants as instrs
 use Rattle.code_form.specs.Program.{Program}
-use Rattle.code_text.specs.Spelling.{version_line, states_line, root_line, leaf_line, data_line, events_line, event_line, procs_line, head_line, cond_words, instr_line, end_line, state_lines, proc_lines, states_part, events_part, procs_part, code_lines, IsNumber, IsName, CondHasNumbers, HasNumbers, ProcHasNumbers, IsSpellable}
+use Rattle.code_text.specs.Spelling.{version_line, leaf_line, data_line, event_line, cond_words, instr_line, end_line, state_lines, proc_lines, states_part, events_part, procs_part, code_lines, IsNumber, IsName, CondHasNumbers, HasNumbers, ProcHasNumbers, IsSpellable}
 use Rattle.code_text.proofs.FieldLemmas.{Lacks, decimal-lacks}
 use Rattle.code_text.proofs.NameLemmas.{is_name-bytes}
 
@@ -98,7 +98,7 @@ code_lines-are P h =
     let states : AreLines (states_part P.states) = (tested version_line refl, (words_then (codes "states ") (decimal (length P.states)) refl (number_lacks (length P.states) h.states), states_are P.states h.state_names)) in
     let events : AreLines (events_part P.events) = (tested data_line refl, (words_then (codes "events ") (decimal (length P.events)) refl (number_lacks (length P.events) h.events), each_line IsName event_line event_is P.events h.event_names)) in
     let head = words_then (codes "procs ") (decimal (length P.procs) ++ 32 ∷ (decimal P.start ++ 32 ∷ decimal P.react)) refl
-        (number_then (length P.procs) (decimal P.start ++ 32 ∷ decimal P.react) h.procs (number_then P.start (decimal P.react) h.start (number_lacks P.react h.react))) in
+    (number_then (length P.procs) (decimal P.start ++ 32 ∷ decimal P.react) h.procs (number_then P.start (decimal P.react) h.start (number_lacks P.react h.react))) in
     let last : AreLines (end_line ∷ []) = (tested end_line refl, tt) in
     lines-append (states_part P.states) (events_part P.events ++ (procs_part P ++ end_line ∷ [])) states
     (lines-append (events_part P.events) (procs_part P ++ end_line ∷ []) events (lines-append (procs_part P) (end_line ∷ []) (head, procs_are P.procs h.numbers) last))

@@ -10,12 +10,12 @@ use Rattle.code_text.specs.declared.fault.CodeTextFault.{CodeTextFault}
 use Rattle.code_text.specs.declared.fault.CodeTextFault.TheVariants as faults
 use Rattle.code_text.specs.Lines.{Cut, begun_with, line_then, cut_of}
 use Rattle.code_text.specs.Spelling.{code_lines, text_of, code_text, IsSpellable}
-use Rattle.code_text.specs.Reading.{nothing_read, at_end, outcome_from, spelled_program, fault_or, formed, outcome}
+use Rattle.code_text.specs.Reading.{nothing_read, outcome_from, spelled_program, fault_or, formed, outcome}
 use Rattle.code_text.proofs.FieldLemmas.{parts_at-front}
 use Rattle.code_text.proofs.CutLemmas.{cut_of-line}
-use Rattle.code_text.proofs.StepLemmas.{steps, outcome-steps, ReadFrom, read_from}
+use Rattle.code_text.proofs.StepLemmas.{outcome-steps, read_from}
 use Rattle.code_text.proofs.NewlineLemmas.{AreLines, code_lines-are}
-use Rattle.code_text.proofs.ProgramLemmas.{all_done, nothing_behind, lines_read, AreSpelled, lines_spelled}
+use Rattle.code_text.proofs.ProgramLemmas.{all_done, nothing_behind, lines_read, lines_spelled}
 
 -- lines in front of a cut
 abbrev lines_then : List (List ℕ) → Cut → Cut
@@ -73,9 +73,10 @@ unfolding code_text
 lines_say text P h =
     let read = read_from nothing_read 1 (cut_of text).lines (cut_of text).rest P h in
     let all = lines_spelled (cut_of text).lines read.last read.steps_are read.whole in
-    let lines_are : (cut_of text).lines ≡ code_lines P = all.spelled ∙ ap code_lines read.program in
-    (text_of-cut text ∙ (ap (λ t. text_of (cut_of text).lines ++ t) read.nothing_behind ∙ (append-nil (text_of (cut_of text).lines) ∙ ap text_of lines_are)),
-    subst IsSpellable read.program all.spellable)
+    let lines_are : (cut_of text).lines ≡ code_lines P = all.spelled ∙ ap code_lines read.program in (
+      text_of-cut text ∙ (ap (λ t. text_of (cut_of text).lines ++ t) read.nothing_behind ∙ (append-nil (text_of (cut_of text).lines) ∙ ap text_of lines_are)),
+      subst IsSpellable read.program all.spellable,
+    )
 
 not_too_long : (long : Bool) (o : Result Program CodeTextFault) (P : Program) → (if long then Err faults.TextTooLong else o) ≡ Ok P → o ≡ Ok P
 not_too_long true o P h = absurd cc

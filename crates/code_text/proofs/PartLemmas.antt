@@ -1,7 +1,6 @@
 -- The parts of a text: states, events, instructions and procedures.
-use Rattle.std.proofs.Common.{◌≡◌, ℕ, zero, suc, Bool, true, false, List, [], ◌∷◌, ◌++◌, length, map, Option, Some, None, refl, sym, ap, ◌∙◌, subst}
+use Rattle.std.proofs.Common.{◌≡◌, ℕ, zero, suc, true, false, List, [], ◌∷◌, ◌++◌, length, map, Option, Some, refl, sym, ap, ◌∙◌, subst}
 use Rattle.std.specs.Prelude.{codes, option_map, option_and_then}
-use Rattle.std.specs.List.{flat_map, AllByRecursion}
 use Rattle.std.specs.Str.{bytes_eq}
 use Rattle.std.proofs.lemmas.Bool.{false≢true}
 use Rattle.std.proofs.lemmas.Option.{same_Some, cond_some, option_and_then_some}
@@ -10,10 +9,10 @@ use Rattle.std.proofs.lemmas.Slice.Eq.{bytes_eq-Decides}
 use Rattle.code_form.specs.declared.instr.Instr.{Instr}
 use Rattle.code_text.specs.declared.partial.Expected.{Expected}
 use Rattle.code_text.specs.declared.partial.Expected.TheVariants as expects
-use Rattle.code_text.specs.Spelling.{version_line, leaf_line, event_line, head_line, instr_line, proc_lines, IsNumber, IsName, HasNumbers, ProcHasNumbers}
+use Rattle.code_text.specs.Spelling.{leaf_line, event_line, head_line, instr_line, proc_lines, IsNumber, IsName, HasNumbers, ProcHasNumbers}
 use Rattle.code_text.specs.Reading.{Partial, number_behind, name_behind, instr_of, next, fixed, is_whole, leaf_next, event_next, head_next, instr_next}
 use Rattle.code_text.proofs.FieldLemmas.{option_map_some, number_behind-line, number_behind-some, name_behind-line, name_behind-some, instr_of-line, instr_of-some}
-use Rattle.code_text.proofs.StepLemmas.{steps, IsWhole, steps-append, FrontItem, IsPart, FrontItems, part_read, part_spelled}
+use Rattle.code_text.proofs.StepLemmas.{steps, IsWhole, FrontItem, IsPart, part_read, part_spelled}
 
 -- what was read, field by field
 abbrev pub made : List (List ℕ) → List (List ℕ) → ℕ → ℕ → List (List Instr) → List Instr → Expected → Partial

@@ -1,5 +1,5 @@
 -- Programs and their lines.
-use Rattle.std.proofs.Common.{◌≡◌, ℕ, zero, suc, Bool, true, List, [], ◌∷◌, ◌++◌, length, map, Option, Some, refl, sym, ap, ◌∙◌, subst, append_assoc}
+use Rattle.std.proofs.Common.{◌≡◌, ℕ, zero, suc, List, [], ◌∷◌, ◌++◌, length, map, Some, refl, sym, ap, ◌∙◌, subst}
 use Rattle.std.specs.Prelude.{codes, option_map, option_and_then}
 use Rattle.std.specs.List.{flat_map, AllByRecursion}
 use Rattle.std.proofs.lemmas.List.Concat.{flat_map_single}
@@ -8,10 +8,10 @@ use Rattle.code_form.specs.declared.instr.Instr.{Instr}
 use Rattle.code_form.specs.Program.{Program}
 use Rattle.code_text.specs.declared.partial.Expected.TheVariants as expects
 use Rattle.code_text.specs.Spelling.{version_line, states_line, root_line, leaf_line, data_line, events_line, event_line, procs_line, end_line, state_lines, proc_lines, states_part as states_lines, events_part as events_lines, procs_part as procs_lines, code_lines, IsNumber, IsName, ProcHasNumbers, IsSpellable}
-use Rattle.code_text.specs.Reading.{Partial, nothing_read, number_behind, name_behind, Procs, procs_of, next, program_read, root_next, with_state, with_procs, is_whole}
-use Rattle.code_text.proofs.FieldLemmas.{option_map_some, number_behind-line, number_behind-some, name_behind-line, name_behind-some, AreProcs, procs_of-line, procs_of-some}
-use Rattle.code_text.proofs.StepLemmas.{steps, IsWhole, steps-append, FrontItems, part_read, part_spelled}
-use Rattle.code_text.proofs.PartLemmas.{made, FirstLine, first_line, fixed_some, leaves, leaves_part, events_left, events_part, procs_left, procs_part}
+use Rattle.code_text.specs.Reading.{Partial, nothing_read, number_behind, name_behind, procs_of, next, program_read, root_next, with_state, with_procs}
+use Rattle.code_text.proofs.FieldLemmas.{option_map_some, number_behind-line, number_behind-some, name_behind-line, name_behind-some, procs_of-line, procs_of-some}
+use Rattle.code_text.proofs.StepLemmas.{steps, IsWhole, steps-append, part_read, part_spelled}
+use Rattle.code_text.proofs.PartLemmas.{made, first_line, fixed_some, leaves, leaves_part, events_left, events_part, procs_left, procs_part}
 
 -- the rest of the states, with so many to come
 abbrev states_left : ℕ → Partial
@@ -61,7 +61,7 @@ procs_read : (P : Program) → IsSpellable P → steps (events_done P.states P.e
 unfolding next
 procs_read P h =
     let first = ap (λ o. option_and_then (λ r. steps r (flat_map proc_lines P.procs)) (option_map (with_procs (events_done P.states P.events)) o))
-        (procs_of-line (length P.procs) P.start P.react h.procs h.start h.react) in
+    (procs_of-line (length P.procs) P.start P.react h.procs h.start h.react) in
     first ∙ part_read (procs_left P.states P.events P.start P.react) proc_lines ProcHasNumbers (procs_part P.states P.events P.start P.react) P.procs [] h.numbers
 
 end_read : (P : Program) → steps (procs_done P) (end_line ∷ []) ≡ Some (all_done P)
@@ -171,7 +171,7 @@ procs_spelled states events lines q h w =
     option_map_some (with_procs p) (procs_of first.line) first.after first.read (λ three is made_is.
     let got = procs_of-some first.line three is in
     let rest = part_spelled (procs_left states events three.start three.react) proc_lines ProcHasNumbers (procs_part states events three.start three.react) three.count [] first.others q
-        (ap (λ r. steps r first.others) made_is ∙ first.goes) w in
+    (ap (λ r. steps r first.others) made_is ∙ first.goes) w in
     let line_is : first.line ≡ procs_line (length rest.items) three.start three.react = got.spelled ∙ ap (λ n. procs_line n three.start three.react) (sym rest.count) in
     record {
       start = three.start;
@@ -215,16 +215,16 @@ lines_spelled lines q h w =
     let P : Program = record { states = states.names; events = events.names; start = procs.start; react = procs.react; procs = procs.procs } in
     let last = end_spelled P procs.others q procs.goes w in
     let spelled : lines ≡ states_lines states.names ++ (events_lines events.names ++ (procs_lines P ++ end_line ∷ [])) =
-        states.is ∙ ap (λ ls. states_lines states.names ++ ls) (events.is ∙ ap (λ ls. events_lines events.names ++ ls) (procs.is ∙ ap (λ ls. procs_lines P ++ ls) last.0)) in
+    states.is ∙ ap (λ ls. states_lines states.names ++ ls) (events.is ∙ ap (λ ls. events_lines events.names ++ ls) (procs.is ∙ ap (λ ls. procs_lines P ++ ls) last.0)) in
     let spellable : IsSpellable P =
-        record {
-          states = states.count;
-          events = events.count;
-          procs = procs.count;
-          start = procs.start_is;
-          react = procs.react_is;
-          state_names = states.are_names;
-          event_names = events.are_names;
-          numbers = procs.numbers;
-        } in
+    record {
+      states = states.count;
+      events = events.count;
+      procs = procs.count;
+      start = procs.start_is;
+      react = procs.react_is;
+      state_names = states.are_names;
+      event_names = events.are_names;
+      numbers = procs.numbers;
+    } in
     subst (AreSpelled lines) (ap program_read last.1) (record { spelled = spelled; spellable = spellable })

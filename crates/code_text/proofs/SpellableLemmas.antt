@@ -1,5 +1,5 @@
 -- Well-formed code has a text that can be read.
-use Rattle.std.proofs.Common.{◌≡◌, ℕ, ◌<◌, ◌≤◌, Bool, true, false, ◌&&◌, ◌||◌, nat_lt, List, [], ◌∷◌, length, Option, Some, None, refl, arith}
+use Rattle.std.proofs.Common.{◌≡◌, ℕ, ◌<◌, ◌≤◌, Bool, true, false, ◌||◌, nat_lt, List, [], ◌∷◌, length, Option, Some, None, refl, arith}
 use Rattle.std.specs.Prelude.{not}
 use Rattle.std.specs.List.{list_all, list_any, AllByRecursion}
 use Rattle.std.proofs.lemmas.Bool.{and_parts}
@@ -10,7 +10,7 @@ use Rattle.code_form.specs.declared.fault.CodeFault.{CodeFault}
 use Rattle.code_form.specs.declared.fault.CodeKind.{CodeKind}
 use Rattle.code_form.specs.declared.fault.CodeKind.TheVariants as kinds
 use Rattle.code_form.specs.Program.{Program}
-use Rattle.code_form.specs.WellFormed.{first_of, unless, too_many, is_table, starts_known, procs_fault, code_fault, are_distinct, IsCode}
+use Rattle.code_form.specs.WellFormed.{first_of, unless, too_many, is_table, starts_known, procs_fault, IsCode}
 use Rattle.code_text.specs.Spelling.{IsName, HasNumbers, ProcHasNumbers, IsSpellable}
 
 first_none : (first later : Option CodeFault) → first_of first later ≡ None → (first ≡ None) × (later ≡ None)
@@ -54,7 +54,7 @@ procs_fit (is ∷ procs) h g =
 pub code_spellable : (P : Program) → IsCode P → AllByRecursion (AllByRecursion HasNumbers) P.procs → IsSpellable P
 code_spellable P h g =
     let few = first_none (unless (not (too_many P)) kinds.TooManyProcs 0 0)
-        (first_of (unless (is_table P) kinds.BadTable 0 0) (first_of (unless (starts_known P) kinds.BadNumber 0 0) (procs_fault P 0 P.procs))) h in
+    (first_of (unless (is_table P) kinds.BadTable 0 0) (first_of (unless (starts_known P) kinds.BadNumber 0 0) (procs_fault P 0 P.procs))) h in
     let table = first_none (unless (is_table P) kinds.BadTable 0 0) (first_of (unless (starts_known P) kinds.BadNumber 0 0) (procs_fault P 0 P.procs)) few.1 in
     let known = first_none (unless (starts_known P) kinds.BadNumber 0 0) (procs_fault P 0 P.procs) table.1 in
     let counts = neither (nat_lt 262144 (length P.procs)) (list_any (λ (is : List Instr). nat_lt 1000000000 (length is)) P.procs) (no_fault (not (too_many P)) kinds.TooManyProcs 0 0 few.0) in

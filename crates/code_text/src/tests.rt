@@ -135,7 +135,10 @@ fn refuses_other_lines(rt: HostRuntime) -> Result<(), Fail> {
 #[test]
 fn refuses_a_long_text(rt: HostRuntime) -> Result<(), Fail> {
     let text = vec![in rt.alloc(); 0u8; 268_435_457]?;
-    assert_eq!(rt; fault_of(rt.alloc(), &text), Some(CodeTextFault::TextTooLong));
+    assert_eq!(rt;
+        fault_of(rt.alloc(), &text),
+        Some(CodeTextFault::TextTooLong)
+    );
     Ok(())
 }
 

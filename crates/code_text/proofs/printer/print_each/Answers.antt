@@ -1,8 +1,7 @@
-use Rattle.std.proofs.Common.{◌≡◌, ℕ, suc, ◌+◌, ◌<◌, List, ◌∷◌, length, get_or, map, drop, sym, ◌∙◌, ap, subst, add-one, drop-cons, arith}
+use Rattle.std.proofs.Common.{◌≡◌, ℕ, suc, ◌+◌, ◌<◌, List, ◌∷◌, length, get_or, map, drop, sym, ◌∙◌, ap, subst, drop-cons, arith}
 use Rattle.std.specs.List.{AllByRecursion}
 use Rattle.std.proofs.lemmas.Grind.{common_steps}
 use Rattle.flow_base.specs.Lists.{items_of}
-use Rattle.code_form.specs.declared.instr.Instr.{Instr}
 use Rattle.code_text.specs.Spelling.{HasNumbers}
 use Rattle.code_text.proofs.TextLemmas.{text_of-append}
 use Rattle.code_text.proofs.printer.print_each.Goals as goal

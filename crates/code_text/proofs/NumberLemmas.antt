@@ -8,7 +8,7 @@ use Rattle.std.proofs.lemmas.Bool.{and_parts}
 use Rattle.std.proofs.lemmas.Bool.Decides.{nat_tests}
 use Rattle.std.proofs.lemmas.Slice.Eq.{bytes_eq-Decides}
 use Rattle.std.proofs.lemmas.Fmt.{decimal_is_IsNumeral}
-use Rattle.code_text.specs.Reading.{number_of}
+use Rattle.code_text.specs.Fields.{number_of}
 
 below : (n : ℕ) → n < 2 ^ 32 → nat_lt n (2 ^ 32) ≡ true
 below n h = grind (arith, nat_tests)

@@ -7,10 +7,11 @@ use Rattle.std.proofs.lemmas.Option.{same_Some, cond_some, option_and_then_some}
 use Rattle.std.proofs.lemmas.List.Concat.{flat_map_single}
 use Rattle.std.proofs.lemmas.Slice.Eq.{bytes_eq-Decides}
 use Rattle.code_form.specs.declared.instr.Instr.{Instr}
-use Rattle.code_text.specs.declared.partial.Expected.{Expected}
-use Rattle.code_text.specs.declared.partial.Expected.TheVariants as expects
+use Rattle.code_text.specs.declared.expected.Expected.{Expected}
+use Rattle.code_text.specs.declared.expected.Expected.TheVariants as expects
 use Rattle.code_text.specs.Spelling.{leaf_line, event_line, head_line, instr_line, proc_lines, IsNumber, IsName, HasNumbers, ProcHasNumbers}
-use Rattle.code_text.specs.Reading.{Partial, number_behind, name_behind, instr_of, next, fixed, is_whole, leaf_next, event_next, head_next, instr_next}
+use Rattle.code_text.specs.Fields.{number_behind, name_behind, instr_of}
+use Rattle.code_text.specs.Reading.{Partial, next, fixed, is_whole, leaf_next, event_next, head_next, instr_next}
 use Rattle.code_text.proofs.FieldLemmas.{option_map_some, number_behind-line, number_behind-some, name_behind-line, name_behind-some, instr_of-line, instr_of-some}
 use Rattle.code_text.proofs.StepLemmas.{steps, IsWhole, FrontItem, IsPart, part_read, part_spelled}
 

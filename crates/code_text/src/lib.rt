@@ -4,6 +4,7 @@
 //! `specs/Reading.antt`, which line can stand where and which fault is the first.
 #![tactic(auto)]
 
+mod expected;
 mod fault;
 mod fields;
 mod instr;

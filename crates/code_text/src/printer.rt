@@ -1,5 +1,6 @@
 //! The text of code.
-ghost use Rattle.std.specs.Prelude.{◌≡◌, ◌++◌, ◌∷◌, [], length, map, codes, decimal, string_bytes, IfOk, OnOk};
+ghost use Rattle.std.specs.Prelude.{◌≡◌, ◌++◌, ◌∷◌, [], length, map, decimal, string_bytes};
+ghost use Rattle.std.specs.Prelude.{IfOk, OnOk};
 ghost use Rattle.std.specs.List.{flat_map, AllByRecursion};
 ghost use Rattle.flow_base.specs.Lists.{items_of};
 ghost use Rattle.code_form.specs.Program.{program_of};
@@ -26,7 +27,8 @@ pub fn print_code(alloc: Global, code: &Code) -> Result<String, Memory>
 /// The one spelling of code, well formed or not.
 fn print_raw(alloc: Global, raw: &RawCode) -> Result<String, AllocError>
     ensures text { IfOk result (λ text. string_bytes text ≡ spec.code_text (program_of raw.now)) }
-    ensures numbers { OnOk result (AllByRecursion (AllByRecursion spec.HasNumbers) (program_of raw.now).procs) }
+    ensures numbers { OnOk result
+        (AllByRecursion (AllByRecursion spec.HasNumbers) (program_of raw.now).procs) }
 {
     let mut out = String::new(alloc);
     print_states(&mut out, &raw.states)?;
@@ -60,7 +62,8 @@ fn print_events(out: &mut String, names: &List<Text>) -> Result<(), AllocError>
 fn print_procs(out: &mut String, raw: &RawCode) -> Result<(), AllocError>
     ensures text { OnOk result (string_bytes out.new
         ≡ string_bytes out.old ++ spec.text_of (spec.procs_part (program_of raw.now))) }
-    ensures numbers { OnOk result (AllByRecursion (AllByRecursion spec.HasNumbers) (program_of raw.now).procs) }
+    ensures numbers { OnOk result
+        (AllByRecursion (AllByRecursion spec.HasNumbers) (program_of raw.now).procs) }
 {
     print_head(out, raw)?;
     print_each(out, raw.procs.items())
@@ -68,7 +71,8 @@ fn print_procs(out: &mut String, raw: &RawCode) -> Result<(), AllocError>
 
 /// Words and a number.
 fn print_number(out: &mut String, words: &str, number: u64) -> Result<(), AllocError>
-    ensures { OnOk result (string_bytes out.new ≡ string_bytes out.old ++ (words.now ++ decimal number)) }
+    ensures { OnOk result
+        (string_bytes out.new ≡ string_bytes out.old ++ (words.now ++ decimal number)) }
 {
     let mut digits = Buffer::new();
     out.push_str(words)?;
@@ -146,7 +150,8 @@ fn print_head(out: &mut String, raw: &RawCode) -> Result<(), AllocError>
 fn print_each(out: &mut String, procs: &[List<Instr>]) -> Result<(), AllocError>
     ensures text { OnOk result (string_bytes out.new ≡ string_bytes out.old
         ++ spec.text_of (flat_map spec.proc_lines (map items_of procs.now))) }
-    ensures numbers { OnOk result (AllByRecursion (AllByRecursion spec.HasNumbers) (map items_of procs.now)) }
+    ensures numbers { OnOk result
+        (AllByRecursion (AllByRecursion spec.HasNumbers) (map items_of procs.now)) }
 {
     for proc in procs {
         print_proc(out, proc.items())?;
@@ -179,7 +184,8 @@ fn print_instrs(out: &mut String, instrs: &[Instr]) -> Result<(), AllocError>
 
 /// The words of an instruction.
 fn print_instr(out: &mut String, instr: Instr) -> Result<(), AllocError>
-    ensures text { OnOk result (string_bytes out.new ≡ string_bytes out.old ++ spec.instr_line instr) }
+    ensures text { OnOk result
+        (string_bytes out.new ≡ string_bytes out.old ++ spec.instr_line instr) }
     ensures numbers { OnOk result (spec.HasNumbers instr) }
 {
     match instr {
@@ -195,7 +201,8 @@ fn print_instr(out: &mut String, instr: Instr) -> Result<(), AllocError>
 
 /// A space and the words of a condition.
 fn print_cond(out: &mut String, cond: Cond) -> Result<(), AllocError>
-    ensures text { OnOk result (string_bytes out.new ≡ string_bytes out.old ++ 32 ∷ spec.cond_words cond) }
+    ensures text { OnOk result
+        (string_bytes out.new ≡ string_bytes out.old ++ 32 ∷ spec.cond_words cond) }
     ensures numbers { OnOk result (spec.CondHasNumbers cond) }
 {
     match cond {

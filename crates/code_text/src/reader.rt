@@ -1,5 +1,6 @@
 //! Code from its text.
-ghost use Rattle.std.specs.Prelude.{◌≡◌, ◌≢◌, ◌<◌, ◌≤◌, [], length, IfSome, IfOk, IfErr, Err, MatchOption, MatchResult};
+ghost use Rattle.std.specs.Prelude.{◌≡◌, ◌≢◌, ◌<◌, ◌≤◌, [], length, IfSome, IfOk, IfErr, Err};
+ghost use Rattle.std.specs.Prelude.{MatchOption, MatchResult};
 ghost use Rattle.code_form.specs.Program.{Program, program_of};
 ghost use Rattle.code_form.specs.WellFormed.{IsCode};
 ghost use Rattle.code_text.specs.Spelling.{code_text, IsSpellable};
@@ -23,10 +24,12 @@ pub fn read_code(alloc: Global, text: &[u8]) -> Result<Code, CodeTextFault>
     // What is read is spelled so, each byte of it.
     ensures read { IfOk result (λ code. text.now ≡ code_text code) }
     // What is spelled so is read, unless memory runs out.
-    ensures only { (P : Program) → IsSpellable P → IsCode P → text.now ≡ code_text P → length text.now ≤ spec.text_limit
+    ensures only { (P : Program) → IsSpellable P → IsCode P
+        → text.now ≡ code_text P → length text.now ≤ spec.text_limit
         → MatchResult result (λ code. code ≡ P) (λ fault. fault ≡ CodeTextFault.Memory) }
     // Each fault but want of memory is the first one.
-    ensures refused { IfErr result (λ fault. fault ≢ CodeTextFault.Memory → spec.outcome text.now ≡ Err fault) }
+    ensures refused { IfErr result (λ fault.
+        fault ≢ CodeTextFault.Memory → spec.outcome text.now ≡ Err fault) }
 {
     read_formed(alloc, text)
 }

@@ -17,3 +17,6 @@ pub use fault::{CodeEnd, CodeFault, CodeKind};
 pub use frame::Frame;
 pub use instr::{Cond, Instr};
 pub use laws::{code_is_sound, one_run};
+
+#[cfg(test)]
+mod tests;

@@ -37,8 +37,12 @@ loop-frame-preserved c =
     }
 
 -- no frame is left
+pub returns-clause-reached : goal.returns-clause-reached
+returns-clause-reached c =
+    let none : c.loop-frame.frames.items ≡ [] = grind (arith, common_steps) in
+    rw none at c.loop-frame.invariant.reached
+
 pub returns-clause-world : goal.returns-clause-world
 returns-clause-world c =
     let none : c.loop-frame.frames.items ≡ [] = grind (arith, common_steps) in
-    let come = rw none at c.loop-frame.invariant.reached in
-    ends (program_of c.args.code.now) (called (record { marks = c.args.marks.now }) c.args.current c.args.proc) c.loop-frame.marks c.args.current c.loop-frame.result come
+    ends (rw none at c.loop-frame.invariant.reached)

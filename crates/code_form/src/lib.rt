@@ -1,7 +1,8 @@
 //! Code: procedures of instructions, which code is well formed, and what it means.
 //!
 //! `accept` makes a `Code` exactly of what is well formed.
-//! Read `specs/Program.antt`, `specs/WellFormed.antt` and `specs/Machine.antt` first, in this order.
+//! Read `specs/Program.antt`, `specs/WellFormed.antt` and `specs/Machine.antt` first, in this
+//! order.
 #![tactic(auto)]
 
 mod acceptance;

@@ -12,7 +12,8 @@ use Rattle.code_machine.proofs.run.run.Goals as goal
 pub loop-frame-init : goal.loop-frame-init
 loop-frame-init c =
     let P = program_of c.args.code.now in
-    let pushed : c.push.new.self.items ≡ record { proc = c.args.proc; place = 0 } ∷ [] = c.in-Ok.ensures.items ∙ ap (λ (fs : List Frame). fs ++ record { proc = c.args.proc; place = 0 } ∷ []) c.requires.frames in
+    let pushed : c.push.new.self.items ≡ record { proc = c.args.proc; place = 0 } ∷ [] =
+    c.in-Ok.ensures.items ∙ ap (λ (fs : List Frame). fs ++ record { proc = c.args.proc; place = 0 } ∷ []) c.requires.frames in
     record {
       room = omega (arith, c.in-Ok.ensures.capacity, c.requires.room);
       places = rw pushed (first_place P c.args.proc c.requires.code c.requires.procedure, tt);

@@ -13,8 +13,6 @@ use Rattle.chart_syntax.specs.FlatChart.{Chart}
 use Rattle.chart_syntax.specs.FlatText.{IsFlat, IsRefusal}
 use Rattle.code_form.specs.Program.{Program}
 use Rattle.code_text.specs.declared.fault.CodeTextFault.{CodeTextFault}
-use Rattle.code_form.specs.WellFormed.{IsCode}
-use Rattle.code_text.specs.Spelling.{code_text}
 use Rattle.code_text.specs.Reading.{outcome}
 use Rattle.step_text.specs.declared.events.LineFault.{LineFault}
 use Rattle.chart_command.specs.declared.ending.Ending.{Ending}
@@ -22,7 +20,7 @@ use Rattle.chart_command.specs.declared.ending.Ending.TheVariants as endings
 use Rattle.chart_command.specs.Ending.{status_of, line_of}
 use Rattle.chart_command.specs.Words.{Command, Rules, Compile, Exec}
 use Rattle.chart_command.specs.Flat.{file_refusal}
-use Rattle.chart_command.specs.Runner.{Runner, ByRules, OnMachine, event_names, IsOutput, IsCompiled}
+use Rattle.chart_command.specs.Runner.{Runner, ByRules, OnMachine, event_names, IsOutput, IsCodeText, IsCompiled}
 
 -- the files and standard output when a call begins and when it has ended; bytes where they are told
 pub record Call : Type 0 where
@@ -83,8 +81,7 @@ pub record HasNoChart (told : Option (List ℕ)) (kind : FormKind) (at : Span) :
 pub record HasCode (told : Option (List ℕ)) (program : Program) : Type 0 where
   pub text : List ℕ
   pub is_told : IsTold told text
-  pub spelled : text ≡ code_text program
-  pub well_formed : IsCode program
+  pub spelled : IsCodeText text program
 
 -- the file's text is none of well-formed code, for this reason
 pub record HasNoCode (told : Option (List ℕ)) (fault : CodeTextFault) : Type 0 where

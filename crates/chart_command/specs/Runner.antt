@@ -37,9 +37,13 @@ OutputOf false runner text output = IsTrace runner (events_of (event_names runne
 abbrev pub IsOutput : Runner → List ℕ → List ℕ → Type 0
 IsOutput runner text output = OutputOf (is_long text) runner text output
 
+-- the one text of well-formed code
+pub record IsCodeText (text : List ℕ) (P : Program) : Type 0 where
+  pub text_is : text ≡ code_text P
+  pub well_formed : IsCode P
+
 -- the text of code that is well formed and behaves as the chart
 pub record IsCompiled (c : Chart) (text : List ℕ) : Type 0 where
   pub program : Program
-  pub well_formed : IsCode program
+  pub spelled : IsCodeText text program
   pub same : Same c program
-  pub text_is : text ≡ code_text program

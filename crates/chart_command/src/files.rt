@@ -1,11 +1,10 @@
 //! The files that the words name.
 ghost use Rattle.std.specs.Prelude.{◌≡◌, ◌≤◌, [], List, IfOk, IfErr, OnOk, OnErr, length, false};
-ghost use Rattle.code_form.specs.WellFormed.{IsCode};
-ghost use Rattle.code_text.specs.Spelling.{code_text};
 ghost use Rattle.std.specs.Option.{option_map};
 ghost use Rattle.flow_base.specs.Causes.{OthersKept, NoneFalls, AllStay};
 ghost use Rattle.chart_syntax.specs.FlatChart.{chart_of, IsValid};
 ghost use Rattle.chart_command.specs.Flat.{is_long};
+ghost use Rattle.chart_command.specs.Runner.{IsCodeText};
 ghost use Rattle.chart_command.specs.Answer.{IsTold, HasChart, HasCode};
 ghost use Rattle.chart_command.specs.Steps.{ChartFails, CodeFails, TextFails, EventsFail, StaysUnlessRead};
 
@@ -76,8 +75,7 @@ pub fn read_machine<I: Inputs>(alloc: Global, inputs: &mut I, name: &str) -> Res
 
 /// The machine for the code that a text spells.
 fn machine_of(alloc: Global, text: &[u8]) -> Result<Machine, Ending>
-    ensures code { IfOk result (λ m. text.now ≡ code_text m.program) }
-    ensures well_formed { IfOk result (λ m. IsCode m.program) }
+    ensures code { IfOk result (λ m. IsCodeText text.now m.program) }
     ensures fails { IfErr result (TextFails text.now) }
 {
     let code = match read_code(alloc, text) {

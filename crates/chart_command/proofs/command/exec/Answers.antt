@@ -8,7 +8,7 @@ use Rattle.chart_command.proofs.command.exec.Goals as goal
 
 -- the machine's code is well formed
 pub run_machine-requires : goal.run_machine-requires
-run_machine-requires g c = c.in-Ok.ensures.code.well_formed
+run_machine-requires g c = c.in-Ok.ensures.code.spelled.well_formed
 
 -- both files are read
 pub returns-in-Ok-read_events : goal.returns-in-Ok-read_events

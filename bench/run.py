@@ -34,11 +34,12 @@ def short_events(size):
     return 'tick\n' * (size // 5)
 
 
-def measure(words, folder):
-    before = time.time()
-    child = subprocess.Popen(words, cwd=folder, stdout=subprocess.DEVNULL, stderr=subprocess.PIPE)
-    _, status, usage = os.wait4(child.pid, 0)
-    return time.time() - before, usage.ru_maxrss / 1024, os.waitstatus_to_exitcode(status)
+def measure(words, folder, output=os.devnull):
+    with open(os.path.join(folder, output), 'wb') as out:
+        before = time.time()
+        child = subprocess.Popen(words, cwd=folder, stdout=out, stderr=subprocess.PIPE)
+        _, status, usage = os.wait4(child.pid, 0)
+        return time.time() - before, usage.ru_maxrss / 1024, os.waitstatus_to_exitcode(status)
 
 
 def main(program):
@@ -51,8 +52,16 @@ def main(program):
                     file.write(content)
             for second in ('events', 'ticks'):
                 seconds, peak, status = measure([program, 'rules', 'chart', second], folder)
-                print('rules, %4d KiB of chart, %4d KiB of %-6s  %6.3f s  %5.1f MiB  status %d'
+                print('rules,   %4d KiB of chart, %4d KiB of %-6s  %6.3f s  %5.1f MiB  status %d'
                       % (size // 1024, size // 1024, second, seconds, peak, status))
+            seconds, peak, status = measure([program, 'compile', 'chart'], folder, 'code')
+            print('compile, %4d KiB of chart                      %6.3f s  %5.1f MiB  status %d'
+                  % (size // 1024, seconds, peak, status))
+            length = os.path.getsize(os.path.join(folder, 'code'))
+            for second in ('events', 'ticks'):
+                seconds, peak, status = measure([program, 'exec', 'code', second], folder)
+                print('exec,    %4d KiB of code,  %4d KiB of %-6s  %6.3f s  %5.1f MiB  status %d'
+                      % (length // 1024, size // 1024, second, seconds, peak, status))
 
 
 if __name__ == '__main__':

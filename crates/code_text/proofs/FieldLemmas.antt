@@ -18,7 +18,8 @@ use Rattle.code_form.specs.declared.instr.Instr.{Instr}
 use Rattle.code_form.specs.declared.instr.Instr.TheVariants as instrs
 use Rattle.code_text.specs.Lines.{Parts, parts_with, parts_at}
 use Rattle.code_text.specs.Spelling.{IsNumber, IsName, CondHasNumbers, HasNumbers, cond_words, instr_line, procs_line}
-use Rattle.code_text.specs.Fields.{number_of, behind, number_behind, name_of, name_behind, Numbered, numbered_parts, number_then, or_else, cond_of, unless_of, instr_of, Procs, procs_with, procs_after, procs_of}
+use Rattle.code_text.specs.Fields.{number_of, behind, number_behind, name_of, name_behind, Numbered, numbered_parts, number_then}
+use Rattle.code_text.specs.Fields.{or_else, cond_of, unless_of, instr_of, Procs, procs_with, procs_after, procs_of}
 use Rattle.code_text.proofs.NumberLemmas.{number_of-some, number_of-decimal}
 
 -- where a value that is made of another is there, so is the other

@@ -10,7 +10,8 @@ use Rattle.code_form.specs.declared.instr.Cond.TheVariants as conds
 use Rattle.code_form.specs.declared.instr.Instr.{Instr}
 use Rattle.code_form.specs.declared.instr.Instr.TheVariants as instrs
 use Rattle.code_form.specs.Program.{Program}
-use Rattle.code_text.specs.Spelling.{version_line, leaf_line, data_line, event_line, cond_words, instr_line, end_line, state_lines, proc_lines, states_part, events_part, procs_part, code_lines, IsNumber, IsName, CondHasNumbers, HasNumbers, ProcHasNumbers, IsSpellable}
+use Rattle.code_text.specs.Spelling.{version_line, leaf_line, data_line, event_line, cond_words, instr_line, end_line, state_lines, proc_lines}
+use Rattle.code_text.specs.Spelling.{states_part, events_part, procs_part, code_lines, IsNumber, IsName, CondHasNumbers, HasNumbers, ProcHasNumbers, IsSpellable}
 use Rattle.code_text.proofs.FieldLemmas.{Lacks, decimal-lacks}
 use Rattle.code_text.proofs.NameLemmas.{is_name-bytes}
 
@@ -95,8 +96,10 @@ procs_are (is ∷ procs) h =
 pub code_lines-are : (P : Program) → IsSpellable P → AreLines (code_lines P)
 unfolding code_lines
 code_lines-are P h =
-    let states : AreLines (states_part P.states) = (tested version_line refl, (words_then (codes "states ") (decimal (length P.states)) refl (number_lacks (length P.states) h.states), states_are P.states h.state_names)) in
-    let events : AreLines (events_part P.events) = (tested data_line refl, (words_then (codes "events ") (decimal (length P.events)) refl (number_lacks (length P.events) h.events), each_line IsName event_line event_is P.events h.event_names)) in
+    let state_count = words_then (codes "states ") (decimal (length P.states)) refl (number_lacks (length P.states) h.states) in
+    let states : AreLines (states_part P.states) = (tested version_line refl, (state_count, states_are P.states h.state_names)) in
+    let event_count = words_then (codes "events ") (decimal (length P.events)) refl (number_lacks (length P.events) h.events) in
+    let events : AreLines (events_part P.events) = (tested data_line refl, (event_count, each_line IsName event_line event_is P.events h.event_names)) in
     let head = words_then (codes "procs ") (decimal (length P.procs) ++ 32 ∷ (decimal P.start ++ 32 ∷ decimal P.react)) refl
     (number_then (length P.procs) (decimal P.start ++ 32 ∷ decimal P.react) h.procs (number_then P.start (decimal P.react) h.start (number_lacks P.react h.react))) in
     let last : AreLines (end_line ∷ []) = (tested end_line refl, tt) in

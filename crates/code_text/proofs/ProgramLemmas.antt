@@ -7,7 +7,8 @@ use Rattle.std.proofs.lemmas.Option.{same_Some}
 use Rattle.code_form.specs.declared.instr.Instr.{Instr}
 use Rattle.code_form.specs.Program.{Program}
 use Rattle.code_text.specs.declared.expected.Expected.TheVariants as expects
-use Rattle.code_text.specs.Spelling.{version_line, states_line, root_line, leaf_line, data_line, events_line, event_line, procs_line, end_line, state_lines, proc_lines, states_part as states_lines, events_part as events_lines, procs_part as procs_lines, code_lines, IsNumber, IsName, ProcHasNumbers, IsSpellable}
+use Rattle.code_text.specs.Spelling.{version_line, states_line, root_line, leaf_line, data_line, events_line, event_line, procs_line, end_line}
+use Rattle.code_text.specs.Spelling.{state_lines, proc_lines, states_part as states_lines, events_part as events_lines, procs_part as procs_lines, code_lines, IsNumber, IsName, ProcHasNumbers, IsSpellable}
 use Rattle.code_text.specs.Fields.{number_behind, name_behind, procs_of}
 use Rattle.code_text.specs.Reading.{Partial, nothing_read, next, program_read, root_next, with_state, with_procs}
 use Rattle.code_text.proofs.FieldLemmas.{option_map_some, number_behind-line, number_behind-some, name_behind-line, name_behind-some, procs_of-line, procs_of-some}

@@ -43,7 +43,8 @@ either_false : (a b : Bool) → (a || b) ≡ false → (a ≡ false) × (b ≡ f
 either_false true b h = absurd cc
 either_false false b h = (refl, h)
 
-procs_fit : (procs : List (List Instr)) → list_any (λ (is : List Instr). nat_lt 1000000000 (length is)) procs ≡ false → AllByRecursion (AllByRecursion HasNumbers) procs → AllByRecursion ProcHasNumbers procs
+procs_fit : (procs : List (List Instr)) → list_any (λ (is : List Instr). nat_lt 1000000000 (length is)) procs ≡ false
+    → AllByRecursion (AllByRecursion HasNumbers) procs → AllByRecursion ProcHasNumbers procs
 procs_fit [] h g = tt
 procs_fit (is ∷ procs) h g =
     let both = either_false (nat_lt 1000000000 (length is)) (list_any (λ (js : List Instr). nat_lt 1000000000 (length js)) procs) h in

@@ -1,7 +1,7 @@
 -- Reading a text line by line: which line can stand where, and the first refusal.
 use Rattle.std.specs.Prelude.{ℕ, zero, suc, ◌+◌, ◌==◌, nat_eq, nat_lt, Bool, true, false, not, ◌&&◌}
-use Rattle.std.specs.Prelude.{List, [], ◌∷◌, ◌++◌, length, Option, Some, None, option_map, Result, Ok, Err}
-use Rattle.std.specs.Prelude.{if◌then◌else◌, codes}
+use Rattle.std.specs.Prelude.{List, [], ◌∷◌, ◌++◌, length, Option, Some, None, option_map}
+use Rattle.std.specs.Prelude.{Result, Ok, Err, if◌then◌else◌, codes}
 use Rattle.std.specs.List.{starts_with, list_any}
 use Rattle.std.specs.Str.{bytes_eq}
 use Rattle.code_form.specs.declared.instr.Instr.{Instr}
@@ -128,7 +128,7 @@ is_whole (expects.Instr more procs) = false
 is_whole expects.End = false
 is_whole expects.Nothing = true
 
--- the line begins as one of the lines that are not all built
+-- the line begins as those that are built in part, or not at all
 unfoldable pub begins_known : List ℕ → Bool
 begins_known line =
     list_any (starts_with nat_eq line)

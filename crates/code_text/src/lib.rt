@@ -1,7 +1,8 @@
 //! The text of code: printed and read exactly.
 //!
-//! Read `specs/Spelling.antt` first, the one spelling of each program, and then
-//! `specs/Reading.antt`, which line can stand where and which fault is the first.
+//! Read `specs/Spelling.antt` first, the one spelling of each program, then `specs/Fields.antt`,
+//! what a line says, and `specs/Reading.antt`, which line can stand where and which fault is the
+//! first.
 #![tactic(auto)]
 
 mod expected;

@@ -142,7 +142,8 @@ impl Partial {
     /// An event.
     fn read_event(&mut self, alloc: Global, line: &[u8], more: u32) -> Result<bool, AllocError>
         ensures { IfOk result (λ stands.
-            GoesOn (spec.next_at (Expected.Event more) (partial_of self.old) line.now) stands (partial_of self.new)) }
+            GoesOn (spec.next_at (Expected.Event more) (partial_of self.old) line.now)
+            stands (partial_of self.new)) }
     {
         let Some(name) = name_behind(b"e input ", line) else {
             return Ok(false);
@@ -169,7 +170,8 @@ impl Partial {
     /// The head of a procedure.
     fn read_head(&mut self, alloc: Global, line: &[u8], more: u32) -> Result<bool, AllocError>
         ensures { IfOk result (λ stands.
-            GoesOn (spec.next_at (Expected.Head more) (partial_of self.old) line.now) stands (partial_of self.new)) }
+            GoesOn (spec.next_at (Expected.Head more) (partial_of self.old) line.now)
+            stands (partial_of self.new)) }
     {
         let Some(count) = number_behind(b"p ", line) else {
             return Ok(false);
@@ -187,7 +189,8 @@ impl Partial {
         procs: u32,
     ) -> Result<bool, AllocError>
         ensures { IfOk result (λ stands.
-            GoesOn (spec.next_at (Expected.Instr more procs) (partial_of self.old) line.now) stands (partial_of self.new)) }
+            GoesOn (spec.next_at (Expected.Instr more procs) (partial_of self.old) line.now)
+            stands (partial_of self.new)) }
     {
         let Some(instr) = instr_of(line) else {
             return Ok(false);

@@ -137,7 +137,8 @@ fn print_event_names(out: &mut String, names: &[Text]) -> Result<(), AllocError>
 /// The line of the procedures.
 fn print_head(out: &mut String, raw: &RawCode) -> Result<(), AllocError>
     ensures { OnOk result (string_bytes out.new ≡ string_bytes out.old
-        ++ (spec.procs_line (length (program_of raw.now).procs) raw.now.start raw.now.react ++ 10 ∷ [])) }
+        ++ (spec.procs_line (length (program_of raw.now).procs) raw.now.start raw.now.react
+        ++ 10 ∷ [])) }
 {
     print_number(out, "procs ", raw.procs.items().len() as u64)?;
     print_number(out, " ", u64::from(raw.start))?;

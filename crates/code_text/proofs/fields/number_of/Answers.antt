@@ -20,7 +20,8 @@ returns-in_default-parse c =
 
 pub returns-then-eq : goal.returns-then-eq
 returns-then-eq c =
-    let same : decimal c.in-Ok-parse.number ≡ c.args.token.now = sym c.format.ensures.text ∙ (sym c.as_bytes.ensures.value ∙ (bytes_eq-Decides c.as_bytes.result.now c.args.token.now).0 (sym c.if-eq.ensures)) in
+    let same : decimal c.in-Ok-parse.number ≡ c.args.token.now =
+    sym c.format.ensures.text ∙ (sym c.as_bytes.ensures.value ∙ (bytes_eq-Decides c.as_bytes.result.now c.args.token.now).0 (sym c.if-eq.ensures)) in
     rw (← same) (sym (number_of-decimal c.in-Ok-parse.number (omega arith)))
 
 pub returns-else-eq : goal.returns-else-eq

@@ -5,7 +5,6 @@ use Rattle.std.proofs.Math.Seq.{take-append-add, take-append_seam}
 use Rattle.std.specs.Io.KnownBytes.{append_known}
 use Rattle.flow_base.specs.Bytes.{AppendsProperFront}
 use Rattle.flow_base.proofs.Pieces.{append_known-append}
-use Rattle.chart_command.specs.Answer.{AppendsFront}
 
 -- a part of the text is written, and the rest is to come
 pub record Progress (before now : Option (List ℕ)) (text rest : List ℕ) : Type 0 where
@@ -45,12 +44,4 @@ cut_off before now next text piece rest p f = record {
   bytes =
       f.bytes ∙ ap (λ (w : Option (List ℕ)). append_known w (take f.count piece)) p.written ∙ append_known-append before p.done (take f.count piece)
       ∙ ap (append_known before) (sym (ap (take (length p.done + f.count)) p.parts ∙ front_is p.done piece rest f.count (omega (arith, f.proper))));
-}
-
--- what is written is a front of the text
-pub front_of : (before now : Option (List ℕ)) (text rest : List ℕ) → Progress before now text rest → AppendsFront before now text
-front_of before now text rest p = record {
-  count = length p.done;
-  within = let e = ap length p.parts in let whole = simp length-append at e in omega arith;
-  bytes = p.written ∙ ap (append_known before) (sym (ap (take (length p.done)) p.parts ∙ take-append_seam p.done rest));
 }

@@ -26,6 +26,7 @@ line_fails T names text whole out after writes line rest endings.Done quiet p h 
 line_fails T names text whole out after writes line rest (endings.Chart kind at) quiet p h = absurd h
 line_fails T names text whole out after writes line rest (endings.Line number fault) quiet p h = absurd h
 line_fails T names text whole out after writes line rest endings.Usage quiet p h = absurd h
+line_fails T names text whole out after writes line rest (endings.Code fault) quiet p h = absurd h
 line_fails T names text whole out after writes line rest endings.Read quiet p h = absurd h
 line_fails T names text whole out after writes line rest endings.Write quiet p h = (rw (← quiet) h.0, cut_off out.before out.after after whole line rest p h.1)
 line_fails T names text whole out after writes line rest endings.Memory quiet p h = absurd h

@@ -1,5 +1,5 @@
 -- The answer of the program: what it writes and how it ends, for all words, files and faults.
-use Rattle.std.specs.Prelude.{◌≡◌, ℕ, ◌≤◌, List, [], Option, Some, None, take, length, if◌then◌else◌, ◌⊎◌}
+use Rattle.std.specs.Prelude.{◌≡◌, ℕ, List, [], Option, Some, None, Err, if◌then◌else◌, ◌⊎◌}
 use Rattle.std.specs.Option.{option_map}
 use Rattle.std.specs.Str.{bytes_eq}
 use Rattle.std.specs.Io.KnownBytes.{append_known}
@@ -11,12 +11,18 @@ use Rattle.chart_syntax.specs.declared.fault.FormKind.{FormKind}
 use Rattle.chart_syntax.specs.declared.fault.FormFault.TheVariants as form_faults
 use Rattle.chart_syntax.specs.FlatChart.{Chart}
 use Rattle.chart_syntax.specs.FlatText.{IsFlat, IsRefusal}
+use Rattle.code_form.specs.Program.{Program}
+use Rattle.code_text.specs.declared.fault.CodeTextFault.{CodeTextFault}
+use Rattle.code_form.specs.WellFormed.{IsCode}
+use Rattle.code_text.specs.Spelling.{code_text}
+use Rattle.code_text.specs.Reading.{outcome}
 use Rattle.step_text.specs.declared.events.LineFault.{LineFault}
 use Rattle.chart_command.specs.declared.ending.Ending.{Ending}
 use Rattle.chart_command.specs.declared.ending.Ending.TheVariants as endings
 use Rattle.chart_command.specs.Ending.{status_of, line_of}
-use Rattle.chart_command.specs.Words.{Command, Rules}
-use Rattle.chart_command.specs.Flat.{flat_output, file_refusal}
+use Rattle.chart_command.specs.Words.{Command, Rules, Compile, Exec}
+use Rattle.chart_command.specs.Flat.{file_refusal}
+use Rattle.chart_command.specs.Runner.{Runner, ByRules, OnMachine, event_names, IsOutput, IsCompiled}
 
 -- the files and standard output when a call begins and when it has ended; bytes where they are told
 pub record Call : Type 0 where
@@ -52,12 +58,6 @@ Nothing call = call.out_after ≡ call.out_before
 abbrev pub Wrote : Call → List ℕ → Type 0
 Wrote call text = call.out_after ≡ append_known call.out_before text
 
--- a front of this text was written
-pub record AppendsFront (old new : Option (List ℕ)) (text : List ℕ) : Type 0 where
-  pub count : ℕ
-  pub within : count ≤ length text
-  pub bytes : new ≡ append_known old (take count text)
-
 -- a text is a file's where it is the one that is told, and where none is told it may be
 abbrev pub IsTold : Option (List ℕ) → List ℕ → Type 0
 IsTold None text = Unit {0}
@@ -79,64 +79,131 @@ pub record HasNoChart (told : Option (List ℕ)) (kind : FormKind) (at : Span) :
   pub is_told : IsTold told text
   pub refused : IsRefusal text (form_faults.At kind at)
 
--- the files of `rules`: a flat chart and the text of an event file
-pub record Files (call : Call) (first second : List ℕ) : Type 0 where
-  pub chart : Chart
-  pub has_chart : HasChart (call.left first) chart
+-- the file's text is that of well-formed code
+pub record HasCode (told : Option (List ℕ)) (program : Program) : Type 0 where
+  pub text : List ℕ
+  pub is_told : IsTold told text
+  pub spelled : text ≡ code_text program
+  pub well_formed : IsCode program
+
+-- the file's text is none of well-formed code, for this reason
+pub record HasNoCode (told : Option (List ℕ)) (fault : CodeTextFault) : Type 0 where
+  pub text : List ℕ
+  pub is_told : IsTold told text
+  pub refused : outcome text ≡ Err fault
+
+-- what the first file of a command of two files holds: a chart for `rules`, code for `exec`
+pub data Way : Type 0 where
+  ByChart : Way
+  ByCode : Way
+
+-- the first file holds what runs
+abbrev pub Holds : Way → Option (List ℕ) → Runner → Type 0
+Holds ByChart told (ByRules c) = HasChart told c
+Holds ByChart told (OnMachine P) = ⊥
+Holds ByCode told (ByRules c) = ⊥
+Holds ByCode told (OnMachine P) = HasCode told P
+
+-- the first file is refused as a chart
+abbrev pub RefusesChart : Way → Option (List ℕ) → FormKind → Span → Type 0
+RefusesChart ByChart told kind at = HasNoChart told kind at
+RefusesChart ByCode told kind at = ⊥
+
+-- the first file is refused as code
+abbrev pub RefusesCode : Way → Option (List ℕ) → CodeTextFault → Type 0
+RefusesCode ByChart told fault = ⊥
+RefusesCode ByCode told fault = HasNoCode told fault
+
+-- the two files: what runs, the text of an event file, and what is to be written
+pub record Files (way : Way) (call : Call) (first second : List ℕ) : Type 0 where
+  pub runner : Runner
+  pub holds : Holds way (call.left first) runner
   pub events : List ℕ
   pub is_told : IsTold (second_left call first second) events
+  pub output : List ℕ
+  pub is_output : IsOutput runner events output
 
 -- all is read and good, and the whole trace was written
-pub record RulesDone (call : Call) (first second : List ℕ) : Type 0 where
-  pub files : Files call first second
-  pub good : file_refusal files.chart.events files.events ≡ None
-  pub wrote : Wrote call (flat_output files.chart files.events)
+pub record TraceDone (way : Way) (call : Call) (first second : List ℕ) : Type 0 where
+  pub files : Files way call first second
+  pub good : file_refusal (event_names files.runner) files.events ≡ None
+  pub wrote : Wrote call files.output
   pub quiet : IsQuiet call
 
 -- the event file is refused at this line, behind the trace of the lines before it
-pub record LineRefused (call : Call) (first second : List ℕ) (number : ℕ) (fault : LineFault) : Type 0 where
-  pub files : Files call first second
-  pub refused : file_refusal files.chart.events files.events ≡ Some (record { number = number; fault = fault })
-  pub wrote : Wrote call (flat_output files.chart files.events)
+pub record LineRefused (way : Way) (call : Call) (first second : List ℕ) (number : ℕ) (fault : LineFault) : Type 0 where
+  pub files : Files way call first second
+  pub refused : file_refusal (event_names files.runner) files.events ≡ Some (record { number = number; fault = fault })
+  pub wrote : Wrote call files.output
   pub quiet : IsQuiet call
 
--- the chart text is refused, with nothing written
-pub record ChartRefused (call : Call) (first : List ℕ) (kind : FormKind) (at : Span) : Type 0 where
-  pub refused : HasNoChart (call.left first) kind at
+-- the first file is refused, with nothing written
+pub record FirstRefused (call : Call) (cause : Type 0) : Type 0 where
+  pub refused : cause
   pub nothing : Nothing call
   pub quiet : IsQuiet call
 
 -- a read of the second file failed, behind a good first
-pub record SecondFailed (call : Call) (first second : List ℕ) : Type 0 where
-  pub chart : Chart
-  pub has_chart : HasChart (call.left first) chart
+pub record SecondFailed (way : Way) (call : Call) (first second : List ℕ) : Type 0 where
+  pub runner : Runner
+  pub holds : Holds way (call.left first) runner
   pub cause : Rose (call.reads_before second) (call.reads_after second)
 
 -- a read of the first file failed, or one of the second, with nothing written
-pub record ReadFailed (call : Call) (first second : List ℕ) : Type 0 where
-  pub cause : Rose (call.reads_before first) (call.reads_after first) ⊎ SecondFailed call first second
+pub record ReadFailed (way : Way) (call : Call) (first second : List ℕ) : Type 0 where
+  pub cause : Rose (call.reads_before first) (call.reads_after first) ⊎ SecondFailed way call first second
   pub nothing : Nothing call
 
 -- a write failed, behind a front of the trace that isn't all of it
-pub record WriteFailed (call : Call) (first second : List ℕ) : Type 0 where
-  pub files : Files call first second
+pub record WriteFailed (way : Way) (call : Call) (first second : List ℕ) : Type 0 where
+  pub files : Files way call first second
   pub cause : Rose call.writes_before call.writes_after
-  pub front : AppendsProperFront call.out_before call.out_after (flat_output files.chart files.events)
+  pub front : AppendsProperFront call.out_before call.out_after files.output
 
--- memory ran out behind a front of the trace
-pub record CutShort (call : Call) (first second : List ℕ) : Type 0 where
-  pub files : Files call first second
-  pub front : AppendsFront call.out_before call.out_after (flat_output files.chart files.events)
+-- how `rules` and `exec` end, and when; want of memory comes before the first byte
+abbrev pub TraceEnds : Way → Call → List ℕ → List ℕ → Ending → Type 0
+TraceEnds way call first second endings.Done = TraceDone way call first second
+TraceEnds way call first second (endings.Chart kind at) = FirstRefused call (RefusesChart way (call.left first) kind at)
+TraceEnds way call first second (endings.Line number fault) = LineRefused way call first second number fault
+TraceEnds way call first second (endings.Code fault) = FirstRefused call (RefusesCode way (call.left first) fault)
+TraceEnds way call first second endings.Usage = ⊥
+TraceEnds way call first second endings.Read = ReadFailed way call first second
+TraceEnds way call first second endings.Write = WriteFailed way call first second
+TraceEnds way call first second endings.Memory = Nothing call
 
--- how `rules` ends, and when
-abbrev pub RulesEnds : Call → List ℕ → List ℕ → Ending → Type 0
-RulesEnds call first second endings.Done = RulesDone call first second
-RulesEnds call first second (endings.Chart kind at) = ChartRefused call first kind at
-RulesEnds call first second (endings.Line number fault) = LineRefused call first second number fault
-RulesEnds call first second endings.Usage = ⊥
-RulesEnds call first second endings.Read = ReadFailed call first second
-RulesEnds call first second endings.Write = WriteFailed call first second
-RulesEnds call first second endings.Memory = Nothing call ⊎ CutShort call first second
+-- the chart is read, and the whole text of code that behaves as it does was written
+pub record CompileDone (call : Call) (first : List ℕ) : Type 0 where
+  pub chart : Chart
+  pub has_chart : HasChart (call.left first) chart
+  pub text : List ℕ
+  pub compiled : IsCompiled chart text
+  pub wrote : Wrote call text
+  pub quiet : IsQuiet call
+
+-- a read failed, with nothing written
+pub record CompileRead (call : Call) (first : List ℕ) : Type 0 where
+  pub cause : Rose (call.reads_before first) (call.reads_after first)
+  pub nothing : Nothing call
+
+-- a write failed, behind a front of the code text that isn't all of it
+pub record CompileWrite (call : Call) (first : List ℕ) : Type 0 where
+  pub chart : Chart
+  pub has_chart : HasChart (call.left first) chart
+  pub text : List ℕ
+  pub compiled : IsCompiled chart text
+  pub cause : Rose call.writes_before call.writes_after
+  pub front : AppendsProperFront call.out_before call.out_after text
+
+-- how `compile` ends, and when; want of memory comes before the first byte
+abbrev pub CompileEnds : Call → List ℕ → Ending → Type 0
+CompileEnds call first endings.Done = CompileDone call first
+CompileEnds call first (endings.Chart kind at) = FirstRefused call (HasNoChart (call.left first) kind at)
+CompileEnds call first (endings.Line number fault) = ⊥
+CompileEnds call first (endings.Code fault) = ⊥
+CompileEnds call first endings.Usage = ⊥
+CompileEnds call first endings.Read = CompileRead call first
+CompileEnds call first endings.Write = CompileWrite call first
+CompileEnds call first endings.Memory = Nothing call
 
 -- words that are none of the program's end the call at once
 pub record UsageEnds (call : Call) (ending : Ending) : Type 0 where
@@ -147,7 +214,9 @@ pub record UsageEnds (call : Call) (ending : Ending) : Type 0 where
 -- how a call ends, and when
 abbrev pub Ends : Option Command → Call → Ending → Type 0
 Ends None call ending = UsageEnds call ending
-Ends (Some (Rules first second)) call ending = RulesEnds call first second ending
+Ends (Some (Rules first second)) call ending = TraceEnds ByChart call first second ending
+Ends (Some (Compile first)) call ending = CompileEnds call first ending
+Ends (Some (Exec first second)) call ending = TraceEnds ByCode call first second ending
 
 -- the answer: the call ends in one way, which fixes its status and, where no write of it fails, its line on standard error
 pub record Answer (command : Option Command) (call : Call) (errors : Errors) (status : Status) : Type 0 where

@@ -1,12 +1,11 @@
 -- What the rules write for a flat chart and an event file.
-use Rattle.std.specs.Prelude.{ℕ, Bool, nat_lt, List, [], ◌∷◌, map, length, Option, Some, None, if◌then◌else◌}
+use Rattle.std.specs.Prelude.{ℕ, Bool, nat_lt, List, [], ◌∷◌, map, length, Option, Some, if◌then◌else◌}
 use Rattle.flow_base.specs.Names.{name_at}
 use Rattle.flow_base.specs.declared.event.FlatEvent.{FlatEvent}
 use Rattle.chart_syntax.specs.FlatChart.{Chart, state_names}
 use Rattle.sos_rules.specs.Flat.{flat_run}
 use Rattle.step_text.specs.declared.events.LineFault.TheVariants as line_faults
-use Rattle.step_text.specs.Lines.{lines_of}
-use Rattle.step_text.specs.Events.{RefusedLine, events_of, refused_line}
+use Rattle.step_text.specs.Events.{RefusedLine, refused_line}
 use Rattle.step_text.specs.Trace.{trace}
 
 -- the trace of a run: after each event the one active state
@@ -21,7 +20,3 @@ is_long text = nat_lt 1048576 (length text)
 abbrev pub file_refusal : List (List ℕ) → List ℕ → Option RefusedLine
 file_refusal names text =
     if is_long text then Some (record { number = 0; fault = line_faults.NotBuilt }) else refused_line names text
-
--- what is written: the trace of the lines before the first that is refused, and of a file refused whole nothing
-abbrev pub flat_output : Chart → List ℕ → List ℕ
-flat_output c text = if is_long text then [] else flat_trace c (events_of c.events (lines_of text))

@@ -2,6 +2,7 @@ pub mod Words
 pub mod Seen
 pub mod Flat
 pub mod CodeTrace
+pub mod Runner
 pub mod FlatEngine
 pub mod FlatEngineLaws
 pub mod CodeEngine

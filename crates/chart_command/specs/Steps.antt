@@ -4,24 +4,50 @@ use Rattle.std.specs.Io.KnownBytes.{append_known}
 use Rattle.flow_base.specs.Causes.{Rose, AllStay}
 use Rattle.flow_base.specs.Bytes.{AppendsProperFront}
 use Rattle.flow_base.specs.declared.event.FlatEvent.{FlatEvent}
+use Rattle.code_text.specs.Reading.{outcome}
 use Rattle.step_text.specs.Trace.{trace_line, event_word, trace}
 use Rattle.step_text.specs.declared.events.LineFault.{LineFault}
 use Rattle.step_text.specs.declared.events.LineFault.TheVariants as line_faults
-use Rattle.step_text.specs.Events.{refused_line}
+use Rattle.step_text.specs.Lines.{lines_of}
+use Rattle.step_text.specs.Events.{refused_line, events_of}
+use Rattle.chart_command.specs.Runner.{Runner, event_names, IsTrace}
 use Rattle.chart_command.specs.declared.ending.Ending.{Ending}
 use Rattle.chart_command.specs.declared.ending.Ending.TheVariants as endings
 use Rattle.chart_command.specs.Flat.{is_long}
-use Rattle.chart_command.specs.Answer.{IsTold, HasNoChart, AppendsFront}
+use Rattle.chart_command.specs.Answer.{IsTold, HasNoChart, HasNoCode}
 
 -- why a chart isn't read: what is told of its file, and its count before and after
 abbrev pub ChartFails : Option (List ℕ) → ℕ → ℕ → Ending → Type 0
 ChartFails told before after endings.Done = ⊥
 ChartFails told before after (endings.Chart kind at) = HasNoChart told kind at
 ChartFails told before after (endings.Line number fault) = ⊥
+ChartFails told before after (endings.Code fault) = ⊥
 ChartFails told before after endings.Usage = ⊥
 ChartFails told before after endings.Read = Rose before after
 ChartFails told before after endings.Write = ⊥
 ChartFails told before after endings.Memory = Unit {0}
+
+-- why a text that was read gives no machine
+abbrev pub TextFails : List ℕ → Ending → Type 0
+TextFails text endings.Done = ⊥
+TextFails text (endings.Chart kind at) = ⊥
+TextFails text (endings.Line number fault) = ⊥
+TextFails text (endings.Code fault) = outcome text ≡ Err fault
+TextFails text endings.Usage = ⊥
+TextFails text endings.Read = ⊥
+TextFails text endings.Write = ⊥
+TextFails text endings.Memory = Unit {0}
+
+-- why code isn't read
+abbrev pub CodeFails : Option (List ℕ) → ℕ → ℕ → Ending → Type 0
+CodeFails told before after endings.Done = ⊥
+CodeFails told before after (endings.Chart kind at) = ⊥
+CodeFails told before after (endings.Line number fault) = ⊥
+CodeFails told before after (endings.Code fault) = HasNoCode told fault
+CodeFails told before after endings.Usage = ⊥
+CodeFails told before after endings.Read = Rose before after
+CodeFails told before after endings.Write = ⊥
+CodeFails told before after endings.Memory = Unit {0}
 
 -- the file's text is too long for an event file
 pub record HasLongText (told : Option (List ℕ)) (number : ℕ) (fault : LineFault) : Type 0 where
@@ -36,6 +62,7 @@ abbrev pub EventsFail : Option (List ℕ) → ℕ → ℕ → Ending → Type 0
 EventsFail told before after endings.Done = ⊥
 EventsFail told before after (endings.Chart kind at) = ⊥
 EventsFail told before after (endings.Line number fault) = HasLongText told number fault
+EventsFail told before after (endings.Code fault) = ⊥
 EventsFail told before after endings.Usage = ⊥
 EventsFail told before after endings.Read = Rose before after
 EventsFail told before after endings.Write = ⊥
@@ -46,6 +73,7 @@ abbrev pub StaysUnlessRead : (List ℕ → ℕ) → (List ℕ → ℕ) → Endin
 StaysUnlessRead before after endings.Done = AllStay before after
 StaysUnlessRead before after (endings.Chart kind at) = AllStay before after
 StaysUnlessRead before after (endings.Line number fault) = AllStay before after
+StaysUnlessRead before after (endings.Code fault) = AllStay before after
 StaysUnlessRead before after endings.Usage = AllStay before after
 StaysUnlessRead before after endings.Read = Unit {0}
 StaysUnlessRead before after endings.Write = AllStay before after
@@ -78,6 +106,7 @@ RunEnds out names text whole endings.Done = (refused_line names text ≡ None) �
 RunEnds out names text whole (endings.Chart kind at) = ⊥
 RunEnds out names text whole (endings.Line number fault) =
     (refused_line names text ≡ Some (record { number = number; fault = fault })) × WroteAll out whole
+RunEnds out names text whole (endings.Code fault) = ⊥
 RunEnds out names text whole endings.Usage = ⊥
 RunEnds out names text whole endings.Read = ⊥
 RunEnds out names text whole endings.Write = Rose out.writes_before out.writes_after × AppendsProperFront out.before out.after whole
@@ -89,6 +118,7 @@ LineEnds out line (Ok done) = WroteAll out line
 LineEnds out line (Err endings.Done) = ⊥
 LineEnds out line (Err (endings.Chart kind at)) = ⊥
 LineEnds out line (Err (endings.Line number fault)) = ⊥
+LineEnds out line (Err (endings.Code fault)) = ⊥
 LineEnds out line (Err endings.Usage) = ⊥
 LineEnds out line (Err endings.Read) = ⊥
 LineEnds out line (Err endings.Write) = Rose out.writes_before out.writes_after × AppendsProperFront out.before out.after line
@@ -100,3 +130,20 @@ StepEnds out after shown names s index (Ok e) s' result =
     (s' ≡ after s e) × LineEnds out (trace_line index (event_word names e) (shown (after s e))) result
 StepEnds out after shown names s index (Err fault) s' result =
     (result ≡ Err (endings.Line index fault)) × (out.after ≡ out.before) × (out.writes_after ≡ out.writes_before)
+
+-- how a run of a chart or of code over the lines of a text ends, and what it writes
+pub record RunTraces (out : Written) (runner : Runner) (text : List ℕ) (ending : Ending) : Type 0 where
+  pub whole : List ℕ
+  pub is_trace : IsTrace runner (events_of (event_names runner) (lines_of text)) whole
+  pub ends : RunEnds out (event_names runner) text whole ending
+
+-- how a whole text is written, or isn't
+abbrev pub TextEnds : Written → List ℕ → Ending → Type 0
+TextEnds out text endings.Done = WroteAll out text
+TextEnds out text (endings.Chart kind at) = ⊥
+TextEnds out text (endings.Line number fault) = ⊥
+TextEnds out text (endings.Code fault) = ⊥
+TextEnds out text endings.Usage = ⊥
+TextEnds out text endings.Read = ⊥
+TextEnds out text endings.Write = Rose out.writes_before out.writes_after × AppendsProperFront out.before out.after text
+TextEnds out text endings.Memory = ⊥

@@ -7,11 +7,21 @@ use Rattle.std.specs.Str.{bytes_eq}
 pub data Command : Type 0 where
   -- `rules CHART EVENTS`
   Rules : List ℕ → List ℕ → Command
+  -- `compile CHART`
+  Compile : List ℕ → Command
+  -- `exec CODE EVENTS`
+  Exec : List ℕ → List ℕ → Command
 
 -- a word that may name a file doesn't begin with `-`; the empty word may
 abbrev pub is_file : List ℕ → Bool
 is_file [] = true
 is_file (b ∷ word) = not (nat_eq b 45)
+
+-- the one file of a command
+abbrev pub with_one : (List ℕ → Command) → List (List ℕ) → Option Command
+with_one command [] = None
+with_one command (first ∷ []) = if is_file first then Some (command first) else None
+with_one command (first ∷ second ∷ rest) = None
 
 -- the two files of a command
 abbrev pub with_two : (List ℕ → List ℕ → Command) → List (List ℕ) → Option Command
@@ -22,7 +32,10 @@ with_two command (first ∷ second ∷ third ∷ rest) = None
 
 -- the command of that name; any other name is none
 abbrev pub command_named : List ℕ → List (List ℕ) → Option Command
-command_named name files = if bytes_eq name (codes "rules") then with_two Rules files else None
+command_named name files =
+    if bytes_eq name (codes "rules") then with_two Rules files else
+    if bytes_eq name (codes "compile") then with_one Compile files else
+    if bytes_eq name (codes "exec") then with_two Exec files else None
 
 -- the first word names the command, the others its files
 abbrev pub command_of_texts : List (List ℕ) → Option Command

@@ -3,6 +3,7 @@ ghost use Rattle.std.specs.Prelude.{◌≡◌};
 ghost use Rattle.chart_command.specs.Ending.{status_of};
 
 use chart_syntax::{FormKind, Span};
+use code_text::CodeTextFault;
 use flow_base::Status;
 use step_text::LineFault;
 
@@ -15,6 +16,8 @@ pub enum Ending {
     Chart(FormKind, Span),
     /// The event file is refused at that line, counted from 1; as line 0 it is refused whole.
     Line(u64, LineFault),
+    /// The code text is refused.
+    Code(CodeTextFault),
     /// The words are none of the program's.
     Usage,
     /// A file that the words name couldn't be read.
@@ -32,7 +35,7 @@ impl Ending {
     {
         match self {
             Ending::Done => Status::Ok,
-            Ending::Chart(_, _) | Ending::Line(_, _) => Status::Refused,
+            Ending::Chart(_, _) | Ending::Line(_, _) | Ending::Code(_) => Status::Refused,
             Ending::Usage => Status::Usage,
             Ending::Read => Status::Read,
             Ending::Write => Status::Write,

@@ -4,10 +4,9 @@
 //! `specs/Words.antt`, `specs/Flat.antt`, `specs/Ending.antt` and `specs/Answer.antt` in this order.
 #![tactic(auto)]
 
-//mod command;
-mod ending;
-
 mod code_engine;
+mod command;
+mod ending;
 mod engine;
 mod files;
 mod flat_engine;
@@ -15,5 +14,5 @@ mod report;
 mod run;
 mod words;
 
-//pub use command::chart_main;
+pub use command::chart_main;
 pub use ending::Ending;

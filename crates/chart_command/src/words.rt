@@ -1,13 +1,17 @@
 //! The words of the command line.
-ghost use Rattle.std.specs.Prelude.{◌≡◌, map, Option, string_bytes};
+ghost use Rattle.std.specs.Prelude.{◌≡◌, [], ◌∷◌, map, Option, string_bytes};
 ghost use Rattle.std.specs.Option.{option_map};
-ghost use Rattle.chart_command.specs.Words.{is_file, command_of};
+ghost use Rattle.chart_command.specs.Words.{is_file, command_named, command_of};
 ghost use Rattle.chart_command.specs.Seen.{command_seen};
 
 /// A command with its files.
 pub enum Command<'a> {
     /// `rules CHART EVENTS`
     Rules(&'a str, &'a str),
+    /// `compile CHART`
+    Compile(&'a str),
+    /// `exec CODE EVENTS`
+    Exec(&'a str, &'a str),
 }
 
 /// Whether a word may name a file.
@@ -25,10 +29,32 @@ pub fn command_from<'a>(words: &'a [String]) -> Option<Command<'a>>
     ensures { option_map command_seen result ≡ command_of words.now }
 {
     match words {
-        [name, first, second]
-            if name.as_str() == "rules" && is_file(first.as_str()) && is_file(second.as_str()) => {
-            Some(Command::Rules(first.as_str(), second.as_str()))
-        }
+        [name, first] => with_one(name.as_str(), first.as_str()),
+        [name, first, second] => with_two(name.as_str(), first.as_str(), second.as_str()),
+        _ => None,
+    }
+}
+
+/// The command of that name with one file.
+fn with_one<'a>(name: &str, first: &'a str) -> Option<Command<'a>>
+    ensures { option_map command_seen result ≡ command_named name.now (first.now ∷ []) }
+{
+    if name == "compile" && is_file(first) {
+        return Some(Command::Compile(first));
+    }
+    None
+}
+
+/// The command of that name with two files.
+fn with_two<'a>(name: &str, first: &'a str, second: &'a str) -> Option<Command<'a>>
+    ensures { option_map command_seen result ≡ command_named name.now (first.now ∷ second.now ∷ []) }
+{
+    if !(is_file(first) && is_file(second)) {
+        return None;
+    }
+    match name {
+        "rules" => Some(Command::Rules(first, second)),
+        "exec" => Some(Command::Exec(first, second)),
         _ => None,
     }
 }

@@ -37,7 +37,9 @@ or_false true b h = absurd (cc h)
 or_false false b h = (refl, h)
 
 -- a procedure is short where none is too long
-pub short_procs : (xs : List (Seq Instr)) (p : ℕ) (x : Seq Instr) → list_any (λ (is : List Instr). nat_lt 1000000000 (length is)) (map items_of xs) ≡ false → p < length xs → x ≡ get_or xs p x → length (items_of x) ≤ 1000000000
+pub short_procs : (xs : List (Seq Instr)) (p : ℕ) (x : Seq Instr)
+    → list_any (λ (is : List Instr). nat_lt 1000000000 (length is)) (map items_of xs) ≡ false → p < length xs
+    → x ≡ get_or xs p x → length (items_of x) ≤ 1000000000
 short_procs [] p x h lt is = absurd (omega arith)
 short_procs (y ∷ ys) zero x h lt is =
     let here = (or_false (nat_lt 1000000000 (length (items_of y))) _ h).0 in
@@ -45,7 +47,9 @@ short_procs (y ∷ ys) zero x h lt is =
 short_procs (y ∷ ys) (suc p) x h lt is = short_procs ys p x (or_false (nat_lt 1000000000 (length (items_of y))) _ h).1 (omega arith) is
 
 -- the first fault of the procedures from one on is its own, or else that of those behind it
-pub procs_fault-drop : (P : Program) (xs : List (Seq Instr)) (q p : ℕ) (x : Seq Instr) → p < length xs → x ≡ get_or xs p x → procs_fault P q (drop p (map items_of xs)) ≡ first_of (proc_fault P q (items_of x)) (procs_fault P (q + 1) (drop (p + 1) (map items_of xs)))
+pub procs_fault-drop : (P : Program) (xs : List (Seq Instr)) (q p : ℕ) (x : Seq Instr) → p < length xs
+    → x ≡ get_or xs p x
+    → procs_fault P q (drop p (map items_of xs)) ≡ first_of (proc_fault P q (items_of x)) (procs_fault P (q + 1) (drop (p + 1) (map items_of xs)))
 procs_fault-drop P [] q p x lt is = absurd (omega arith)
 procs_fault-drop P (y ∷ ys) q zero x lt is = rw is refl
 procs_fault-drop P (y ∷ ys) q (suc p) x lt is =
@@ -62,17 +66,21 @@ first_of-none None later h = refl
 first_of-none (Some fault) later h = absurd (cc h)
 
 -- names from one on are distinct where it is none of those behind it, and those are distinct
-pub are_distinct-drop : (names : List (List ℕ)) (i : ℕ) (name : List ℕ) → i < length names → name ≡ get_or names i name → are_distinct (drop i names) ≡ (not (list_any (λ other. bytes_eq other name) (drop (i + 1) names)) && are_distinct (drop (i + 1) names))
+pub are_distinct-drop : (names : List (List ℕ)) (i : ℕ) (name : List ℕ) → i < length names
+    → name ≡ get_or names i name
+    → are_distinct (drop i names) ≡ (not (list_any (λ other. bytes_eq other name) (drop (i + 1) names)) && are_distinct (drop (i + 1) names))
 are_distinct-drop [] i name lt is = absurd (omega arith)
 are_distinct-drop (x ∷ xs) zero name lt is = rw is (ap (λ b. not b && are_distinct xs) (is_some-index_of x xs))
 are_distinct-drop (x ∷ xs) (suc i) name lt is =
     let e : suc i + 1 ≡ suc (i + 1) = omega arith in rw e (are_distinct-drop xs i name (omega arith) is)
 
 -- a procedure that is too long makes too many, where there aren't too many procedures
-pub too_long : (xs : List (Seq Instr)) → length xs ≤ 262144 → list_any (λ (x : Seq Instr). nat_lt 1000000000 (length (items_of x))) xs ≡ (nat_lt 262144 (length (map items_of xs)) || list_any (λ (is : List Instr). nat_lt 1000000000 (length is)) (map items_of xs))
+pub too_long : (xs : List (Seq Instr)) → length xs ≤ 262144
+    → list_any (λ (x : Seq Instr). nat_lt 1000000000 (length (items_of x))) xs ≡ (nat_lt 262144 (length (map items_of xs)) || list_any (λ (is : List Instr). nat_lt 1000000000 (length is)) (map items_of xs))
 too_long xs few =
     let short : nat_lt 262144 (length (map items_of xs)) ≡ false = rw length-map (grind (arith, nat_tests)) in
-    sym (ap (λ b. b || list_any (λ (is : List Instr). nat_lt 1000000000 (length is)) (map items_of xs)) short ∙ list_any-map (λ (is : List Instr). nat_lt 1000000000 (length is)) items_of xs)
+    sym (ap (λ b. b || list_any (λ (is : List Instr). nat_lt 1000000000 (length is)) (map items_of xs)) short
+    ∙ list_any-map (λ (is : List Instr). nat_lt 1000000000 (length is)) items_of xs)
 
 -- the elements from one on, taken to the end
 pub rest_of : {X : Type 0} (xs : List X) (i : ℕ) → take (length xs - i) (drop i xs) ≡ drop i xs

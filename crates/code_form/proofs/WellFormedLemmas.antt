@@ -28,7 +28,8 @@ more_behind x [] i len last e r = absurd (cc (last, r))
 more_behind x (y ∷ rest) i len last e r = omega arith
 
 -- each instruction of a list without a fault is sound
-instrs_sound : (P : Program) (p len i : ℕ) (is : List Instr) → instrs_fault P p len i is ≡ None → i + length is ≡ len → (j : ℕ) (x : Instr) → slice_get is j ≡ Some x → IsSoundAt P len (i + j) x
+instrs_sound : (P : Program) (p len i : ℕ) (is : List Instr) → instrs_fault P p len i is ≡ None
+    → i + length is ≡ len → (j : ℕ) (x : Instr) → slice_get is j ≡ Some x → IsSoundAt P len (i + j) x
 instrs_sound P p len i [] f e j x h = absurd (cc h)
 instrs_sound P p len i (y ∷ ys) f e zero x h =
     let same : y ≡ x = cc in
@@ -50,7 +51,8 @@ instrs_sound P p len i (y ∷ ys) f e (suc j) x h =
     subst (λ (k : ℕ). IsSoundAt P len k x) at (instrs_sound P p len (i + 1) ys n3.1 (omega arith) j x h)
 
 -- a procedure without a fault has instructions, which are sound
-proc_sound : (P : Program) (p : ℕ) (is : List Instr) → proc_fault P p is ≡ None → (j : ℕ) (x : Instr) → slice_get is j ≡ Some x → IsSoundAt P (length is) j x
+proc_sound : (P : Program) (p : ℕ) (is : List Instr) → proc_fault P p is ≡ None → (j : ℕ) (x : Instr)
+    → slice_get is j ≡ Some x → IsSoundAt P (length is) j x
 proc_sound P p [] f j x h = absurd (cc f)
 proc_sound P p (y ∷ ys) f j x h =
     let at : 0 + j ≡ j = omega arith in
@@ -61,7 +63,8 @@ proc_some P p [] f = absurd (cc f)
 proc_some P p (y ∷ ys) f = omega arith
 
 -- each procedure of a list without a fault has none
-procs_sound : (P : Program) (q : ℕ) (ps : List (List Instr)) → procs_fault P q ps ≡ None → (p : ℕ) (is : List Instr) → slice_get ps p ≡ Some is → (number : ℕ) × (proc_fault P number is ≡ None)
+procs_sound : (P : Program) (q : ℕ) (ps : List (List Instr)) → procs_fault P q ps ≡ None
+    → (p : ℕ) (is : List Instr) → slice_get ps p ≡ Some is → (number : ℕ) × (proc_fault P number is ≡ None)
 procs_sound P q [] f p is h = absurd (cc h)
 procs_sound P q (first ∷ rest) f zero is h =
     let same : first ≡ is = cc in
@@ -109,7 +112,9 @@ procedure_at P p lt = is_procedure P p P.procs lt
 pub first_place : (P : Program) (p : ℕ) → IsCode P → p < length P.procs → 0 < length (instructions P p)
 first_place P p code lt = some_instr P code p (instructions P p) (procedure_at P p lt)
 
-sound_by : (P : Program) → IsCode P → (p i : ℕ) (x : Instr) (o : Option (List Instr)) → slice_get P.procs p ≡ o → slice_get (list_or_none o) i ≡ Some x → IsSoundAt P (length (list_or_none o)) i x
+sound_by : (P : Program) → IsCode P → (p i : ℕ) (x : Instr) (o : Option (List Instr))
+    → slice_get P.procs p ≡ o → slice_get (list_or_none o) i ≡ Some x
+    → IsSoundAt P (length (list_or_none o)) i x
 sound_by P code p i x None h at = absurd (cc at)
 sound_by P code p i x (Some is) h at = sound_at P code p is i x h at
 
@@ -129,7 +134,8 @@ unfolding instructions
 is_there P p i lt = has_place P.procs p i lt
 
 -- what stands at a place of a procedure is fetched there, and is sound
-pub found : (P : Program) (p i : ℕ) (instrs : List Instr) (d x : Instr) → IsCode P → instrs ≡ instructions P p → i < length instrs → get_or instrs i d ≡ x → (fetch P p i ≡ Some x) × IsSoundAt P (length instrs) i x
+pub found : (P : Program) (p i : ℕ) (instrs : List Instr) (d x : Instr) → IsCode P → instrs ≡ instructions P p
+    → i < length instrs → get_or instrs i d ≡ x → (fetch P p i ≡ Some x) × IsSoundAt P (length instrs) i x
 unfolding fetch
 found P p i instrs d x code are lt is =
     let at : slice_get instrs i ≡ Some x = slice_get-get_or instrs i d lt ∙ ap Some is in

@@ -4,7 +4,7 @@ use Rattle.code_form.specs.declared.instr.Instr.{Instr}
 use Rattle.code_form.specs.Program.{Program}
 use Rattle.code_form.specs.WellFormed.{instr_known, stays_within, is_ret}
 
--- at place i of so many instructions: it names what is there, what it passes over is there, and behind it is one more unless it returns
+-- it names what is there, and where it goes on from place i is one of so many instructions
 pub record IsSoundAt (P : Program) (len i : ℕ) (x : Instr) : Type 0 where
   pub known : instr_known P x ≡ true
   pub within : stays_within len i x ≡ true

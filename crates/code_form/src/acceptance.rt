@@ -70,7 +70,8 @@ fn too_many(raw: &RawCode) -> bool
 
 /// Whether one of the procedures has over 1,000,000,000 instructions.
 fn has_long(procs: &[List<Instr>]) -> bool
-    ensures { result ≡ list_any (λ instrs. nat_lt INSTR_LIMIT (length (items_of instrs))) procs.now }
+    ensures { result
+        ≡ list_any (λ instrs. nat_lt INSTR_LIMIT (length (items_of instrs))) procs.now }
 {
     procs
         .iter()

@@ -10,7 +10,8 @@ ghost use Rattle.code_form.specs.declared.instr.Instr.{Instr};
 
 /// A run has one ending, and so all events have: the same code comes to the same worlds.
 pub fn one_run()
-    ensures ending { (P : Program) (m : State) (w w' : World) → Gives P m w → Gives P m w' → w ≡ w' }
+    ensures ending { (P : Program) (m : State) (w w' : World)
+        → Gives P m w → Gives P m w' → w ≡ w' }
     ensures worlds { (P : Program) (es : List FlatEvent) (ws ws' : List World)
         → CodeRuns P es ws → CodeRuns P es ws' → ws ≡ ws' }
 {}

@@ -1,7 +1,8 @@
 //! Code: procedures of instructions, which code is well formed, and what it means.
 //!
 //! `accept` makes a `Code` exactly of what is well formed.
-//! Read `specs/Program.antt`, `specs/WellFormed.antt` and `specs/Machine.antt` first, in this order.
+//! Read `specs/Program.antt`, `specs/WellFormed.antt` and `specs/Machine.antt` first, in this
+//! order.
 #![tactic(auto)]
 
 mod acceptance;
@@ -17,3 +18,6 @@ pub use fault::{CodeEnd, CodeFault, CodeKind};
 pub use frame::Frame;
 pub use instr::{Cond, Instr};
 pub use laws::{code_is_sound, one_run};
+
+#[cfg(test)]
+mod tests;

@@ -9,3 +9,6 @@ mod marks;
 mod run;
 
 pub use engine::Machine;
+
+#[cfg(test)]
+mod tests;

@@ -24,6 +24,9 @@ pub fn run(
     requires room { 1 ≤ vec_capacity frames.old }
     ensures world { spec.Gives (program_of code.now)
         (spec.called (record { marks = marks.old }) current proc) (record { marks = marks.new }) }
+    ensures reached { Reaches (program_of code.now)
+        (spec.called (record { marks = marks.old }) current proc)
+        (state marks.new current result []) }
     ensures frames { frames.new.items ≡ [] }
     ensures room { 1 ≤ vec_capacity frames.new }
 {

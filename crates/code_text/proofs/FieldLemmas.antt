@@ -1,5 +1,5 @@
 -- The fields of a line, in both directions.
-use Rattle.std.proofs.Common.{◌≡◌, ℕ, ◌^◌, ◌<◌, Bool, true, false, cond, nat_eq, List, [], ◌∷◌, ◌++◌, length, take, drop, Option, Some, None, refl, sym, ap, ◌∙◌, subst, arith}
+use Rattle.std.proofs.Common.{◌≡◌, ℕ, ◌<◌, Bool, true, false, nat_eq, List, [], ◌∷◌, ◌++◌, length, drop, Option, Some, None, refl, ap, ◌∙◌, subst, arith}
 use Rattle.std.specs.Prelude.{codes, option_map, option_and_then, if◌then◌else◌}
 use Rattle.std.specs.List.{AllByRecursion}
 use Rattle.std.specs.Fmt.{decimal}
@@ -18,7 +18,7 @@ use Rattle.code_form.specs.declared.instr.Instr.{Instr}
 use Rattle.code_form.specs.declared.instr.Instr.TheVariants as instrs
 use Rattle.code_text.specs.Lines.{Parts, parts_with, parts_at}
 use Rattle.code_text.specs.Spelling.{IsNumber, IsName, CondHasNumbers, HasNumbers, cond_words, instr_line, procs_line}
-use Rattle.code_text.specs.Reading.{number_of, behind, number_behind, name_of, name_behind, Numbered, numbered_parts, number_then, or_else, cond_of, unless_of, instr_of, Procs, procs_with, procs_after, procs_of}
+use Rattle.code_text.specs.Fields.{number_of, behind, number_behind, name_of, name_behind, Numbered, numbered_parts, number_then, or_else, cond_of, unless_of, instr_of, Procs, procs_with, procs_after, procs_of}
 use Rattle.code_text.proofs.NumberLemmas.{number_of-some, number_of-decimal}
 
 -- where a value that is made of another is there, so is the other
@@ -173,7 +173,7 @@ unless_some line i h =
     let count = number_then-some rest m k in
     let cond_is = cond_of-some m.rest c is in
     let line_is : line ≡ instr_line (instrs.Unless m.number c) =
-        behind-some (codes "unless ") line rest f ∙ ap (λ (t : List ℕ). codes "unless " ++ t) (count.0 ∙ ap (λ (t : List ℕ). decimal m.number ++ 32 ∷ t) cond_is.0) in
+    behind-some (codes "unless ") line rest f ∙ ap (λ (t : List ℕ). codes "unless " ++ t) (count.0 ∙ ap (λ (t : List ℕ). decimal m.number ++ 32 ∷ t) cond_is.0) in
     let P : Instr → Type 0 = λ j. (line ≡ instr_line j) × HasNumbers j in
     subst P made (line_is, (count.1, cond_is.1)))))
 
@@ -219,6 +219,6 @@ procs_of-some line three h =
     let start = number_then-some m.rest m2 e2 in
     let react = number_of-some m2.rest n is in
     let line_is : line ≡ procs_line m.number m2.number n =
-        behind-some (codes "procs ") line rest f ∙ ap (λ (t : List ℕ). codes "procs " ++ t)
-        (count.0 ∙ ap (λ (t : List ℕ). decimal m.number ++ 32 ∷ t) (start.0 ∙ ap (λ (t : List ℕ). decimal m2.number ++ 32 ∷ t) react.1)) in
+    behind-some (codes "procs ") line rest f ∙ ap (λ (t : List ℕ). codes "procs " ++ t)
+    (count.0 ∙ ap (λ (t : List ℕ). decimal m.number ++ 32 ∷ t) (start.0 ∙ ap (λ (t : List ℕ). decimal m2.number ++ 32 ∷ t) react.1)) in
     subst (AreProcs line) made (record { spelled = line_is; count = count.1; start = start.1; react = react.0 })))))

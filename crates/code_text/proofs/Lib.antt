@@ -4,3 +4,8 @@ pub mod NameLemmas
 pub mod TextLemmas
 pub mod FieldLemmas
 pub mod StepLemmas
+pub mod PartLemmas
+pub mod ProgramLemmas
+pub mod NewlineLemmas
+pub mod OutcomeLemmas
+pub mod SpellableLemmas

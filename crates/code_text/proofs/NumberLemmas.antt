@@ -1,14 +1,14 @@
 -- Tokens that are numbers.
-use Rattle.std.proofs.Common.{◌≡◌, ℕ, ◌^◌, ◌<◌, Bool, true, false, ◌&&◌, cond, nat_lt, List, length, Option, Some, None, Result, Ok, refl, sym, ap, ◌∙◌, subst, arith, rules}
-use Rattle.std.specs.Prelude.{if◌then◌else◌, IfSome}
+use Rattle.std.proofs.Common.{◌≡◌, ℕ, ◌^◌, ◌<◌, Bool, true, false, ◌&&◌, cond, nat_lt, List, Option, Some, None, refl, sym, ap, ◌∙◌, subst, arith}
+use Rattle.std.specs.Prelude.{IfSome}
 use Rattle.std.specs.Fmt.{decimal}
 use Rattle.std.specs.Str.{bytes_eq}
-use Rattle.std.specs.Str.Parse.{digits_value, ParsesUnsigned}
-use Rattle.std.proofs.lemmas.Bool.{and_parts, false≢true}
+use Rattle.std.specs.Str.Parse.{digits_value}
+use Rattle.std.proofs.lemmas.Bool.{and_parts}
 use Rattle.std.proofs.lemmas.Bool.Decides.{nat_tests}
 use Rattle.std.proofs.lemmas.Slice.Eq.{bytes_eq-Decides}
-use Rattle.std.proofs.lemmas.Fmt.{decimal_is_IsNumeral, parse-decimal}
-use Rattle.code_text.specs.Reading.{number_of}
+use Rattle.std.proofs.lemmas.Fmt.{decimal_is_IsNumeral}
+use Rattle.code_text.specs.Fields.{number_of}
 
 below : (n : ℕ) → n < 2 ^ 32 → nat_lt n (2 ^ 32) ≡ true
 below n h = grind (arith, nat_tests)

@@ -1,16 +1,13 @@
 -- Lines read one after another, and parts of a text that have a count.
-use Rattle.std.proofs.Common.{◌≡◌, ℕ, zero, suc, ◌+◌, Bool, true, false, List, [], ◌∷◌, ◌++◌, length, Option, Some, None, Result, Ok, Err, refl, sym, ap, ◌∙◌, subst, append_assoc, arith}
+use Rattle.std.proofs.Common.{◌≡◌, ℕ, zero, suc, ◌+◌, Bool, true, false, List, [], ◌∷◌, ◌++◌, length, Option, Some, None, Ok, Err, refl, sym, ap, ◌∙◌, append_assoc, arith}
 use Rattle.std.specs.Prelude.{option_and_then, nat_eq, not, if◌then◌else◌}
 use Rattle.std.specs.List.{flat_map, AllByRecursion}
-use Rattle.std.proofs.lemmas.Option.{none-some, same_Some, option_and_then_some}
+use Rattle.std.proofs.lemmas.Option.{same_Some, option_and_then_some}
 use Rattle.std.proofs.lemmas.List.{append-nil}
 use Rattle.std.proofs.lemmas.Bool.Decides.{nat_tests}
 use Rattle.code_form.specs.Program.{Program}
-use Rattle.code_text.specs.declared.fault.CodeTextFault.{CodeTextFault}
 use Rattle.code_text.specs.declared.fault.CodeTextFault.TheVariants as faults
-use Rattle.code_text.specs.declared.partial.Expected.{Expected}
-use Rattle.code_text.specs.declared.partial.Expected.TheVariants as expects
-use Rattle.code_text.specs.Reading.{Partial, next, refusal, at_end, or_refuse, outcome_from, program_read, is_whole}
+use Rattle.code_text.specs.Reading.{Partial, next, refusal, or_refuse, outcome_from, program_read, is_whole}
 
 -- what is read after some lines
 abbrev pub steps : Partial → List (List ℕ) → Option Partial

@@ -1,5 +1,6 @@
 -- A text cut at a byte, and into its whole lines.
-use Rattle.std.specs.Prelude.{ℕ, nat_eq, List, [], ◌∷◌, Option, Some, None, option_map, if◌then◌else◌}
+use Rattle.std.specs.Prelude.{ℕ, nat_eq, List, [], ◌∷◌, Option, Some, None, option_map}
+use Rattle.std.specs.Prelude.{if◌then◌else◌}
 
 -- what stands before a byte and behind it
 pub record Parts : Type 0 where

@@ -1,103 +1,22 @@
 -- Reading a text line by line: which line can stand where, and the first refusal.
-use Rattle.std.specs.Prelude.{ℕ, zero, suc, ◌+◌, ◌^◌, ◌==◌, nat_eq, nat_lt, Bool, true, false, not, ◌&&◌, List, [], ◌∷◌, ◌++◌, length, drop, Option, Some, None, option_and_then, option_map, Result, Ok, Err, if◌then◌else◌, codes, decimal}
+use Rattle.std.specs.Prelude.{ℕ, zero, suc, ◌+◌, ◌==◌, nat_eq, nat_lt, Bool, true, false, not, ◌&&◌}
+use Rattle.std.specs.Prelude.{List, [], ◌∷◌, ◌++◌, length, Option, Some, None, option_map, Result, Ok, Err}
+use Rattle.std.specs.Prelude.{if◌then◌else◌, codes}
 use Rattle.std.specs.List.{starts_with, list_any}
 use Rattle.std.specs.Str.{bytes_eq}
-use Rattle.std.specs.Str.Parse.{digits_value}
-use Rattle.chart_lexer.specs.Words.{is_name}
-use Rattle.code_form.specs.declared.instr.Cond.{Cond}
-use Rattle.code_form.specs.declared.instr.Cond.TheVariants as conds
 use Rattle.code_form.specs.declared.instr.Instr.{Instr}
-use Rattle.code_form.specs.declared.instr.Instr.TheVariants as instrs
 use Rattle.code_form.specs.declared.fault.CodeFault.{CodeFault}
 use Rattle.code_form.specs.Program.{Program}
 use Rattle.code_form.specs.WellFormed.{code_fault}
 use Rattle.code_text.specs.declared.fault.CodeTextFault.{CodeTextFault}
 use Rattle.code_text.specs.declared.fault.CodeTextFault.TheVariants as faults
-use Rattle.code_text.specs.declared.partial.Expected.{Expected}
-use Rattle.code_text.specs.declared.partial.Expected.TheVariants as expects
+use Rattle.code_text.specs.declared.expected.Expected.{Expected}
+use Rattle.code_text.specs.declared.expected.Expected.TheVariants as expects
 use Rattle.code_text.specs.Spelling.{version_line, data_line, end_line}
-use Rattle.code_text.specs.Lines.{Parts, parts_at, cut_of}
+use Rattle.code_text.specs.Lines.{cut_of}
+use Rattle.code_text.specs.Fields.{Procs, number_behind, name_behind, instr_of, procs_of}
 
--- what a text is as a number, where that is below 2 ^ 32 and the text is its one decimal form
-unfoldable pub number_of : List ℕ → Option ℕ
-number_of token =
-    if nat_lt (digits_value 10 token) (2 ^ 32) && bytes_eq (decimal (digits_value 10 token)) token
-    then Some (digits_value 10 token) else None
-
--- what stands behind those words, where the text begins with them
-unfoldable pub behind : List ℕ → List ℕ → Option (List ℕ)
-behind words text = if starts_with nat_eq text words then Some (drop (length words) text) else None
-
--- the number behind those words, and nothing behind it
-unfoldable pub number_behind : List ℕ → List ℕ → Option ℕ
-number_behind words text = option_and_then number_of (behind words text)
-
--- a text that is a name
-abbrev pub name_of : List ℕ → Option (List ℕ)
-name_of text = if is_name text then Some text else None
-
--- the name behind those words, and nothing behind it
-unfoldable pub name_behind : List ℕ → List ℕ → Option (List ℕ)
-name_behind words text = option_and_then name_of (behind words text)
-
--- a number and what stands behind the space that follows it
-pub record Numbered : Type 0 where
-  pub number : ℕ
-  pub rest : List ℕ
-
--- the number before the first space, if it is one
-abbrev pub numbered_parts : Parts → Option Numbered
-numbered_parts parts =
-    option_map (λ n. record { number = n; rest = parts.rest }) (number_of parts.front)
-
--- the number in front, ended by a space
-unfoldable pub number_then : List ℕ → Option Numbered
-number_then text = option_and_then numbered_parts (parts_at 32 text)
-
--- the first, or else the other
-abbrev pub or_else : {A : Type 0} → Option A → Option A → Option A
-or_else (Some x) other = Some x
-or_else None other = other
-
--- the condition of its words
-unfoldable pub cond_of : List ℕ → Option Cond
-cond_of words =
-    or_else (option_map (λ s. conds.On s) (number_behind (codes "on ") words))
-    (option_map (λ e. conds.Current e) (number_behind (codes "event ") words))
-
--- an `unless` of a count and the words of a condition
-abbrev pub unless_of : Numbered → Option Instr
-unless_of count = option_map (λ c. instrs.Unless count.number c) (cond_of count.rest)
-
--- the instruction of a line
-unfoldable pub instr_of : List ℕ → Option Instr
-instr_of line =
-    or_else (option_map (λ s. instrs.Mark s) (number_behind (codes "mark ") line))
-    (or_else (option_map (λ s. instrs.Clear s) (number_behind (codes "clear ") line))
-    (or_else (option_map (λ r. instrs.Ret r) (number_behind (codes "ret ") line))
-    (option_and_then unless_of (option_and_then number_then (behind (codes "unless ") line)))))
-
--- the count of procedures, and those of the start and of a reaction
-pub record Procs : Type 0 where
-  pub count : ℕ
-  pub start : ℕ
-  pub react : ℕ
-
--- the last of the three numbers
-abbrev pub procs_with : ℕ → Numbered → Option Procs
-procs_with count start =
-    option_map (λ n. record { count = count; start = start.number; react = n })
-    (number_of start.rest)
-
--- the last two of the three numbers
-abbrev pub procs_after : Numbered → Option Procs
-procs_after count = option_and_then (procs_with count.number) (number_then count.rest)
-
--- the three numbers of the line of procedures
-unfoldable pub procs_of : List ℕ → Option Procs
-procs_of line = option_and_then procs_after (option_and_then number_then (behind (codes "procs ") line))
-
--- what was read: whole procedures, the instructions of one that isn't whole, and the line that is next
+-- what was read: whole procedures, instructions of one that isn't whole, and the line that is next
 pub record Partial : Type 0 where
   pub states : List (List ℕ)
   pub events : List (List ℕ)
@@ -150,7 +69,8 @@ with_event p more name = record p { events = p.events ++ name ∷ []; expected =
 
 -- with the three numbers of the procedures
 abbrev pub with_procs : Partial → Procs → Partial
-with_procs p three = record p { start = three.start; react = three.react; expected = head_next three.count }
+with_procs p three =
+    record p { start = three.start; react = three.react; expected = head_next three.count }
 
 -- with so many instructions to come in the procedure, and so many procedures behind it
 abbrev pub instr_next : Partial → ℕ → ℕ → Partial
@@ -164,23 +84,28 @@ with_instr p more procs i = instr_next (record p { instrs = p.instrs ++ i ∷ []
 
 -- goes on where the line is that one
 abbrev pub fixed : List ℕ → List ℕ → Partial → Expected → Option Partial
-fixed want line p expected = if bytes_eq line want then Some (record p { expected = expected }) else None
+fixed want line p expected =
+    if bytes_eq line want then Some (record p { expected = expected }) else None
 
 -- the line in its place: a line for each case
 abbrev pub next_at : Expected → Partial → List ℕ → Option Partial
 next_at expects.Version p line = fixed version_line line p expects.StateCount
 next_at expects.StateCount p line =
     option_map (λ n. record p { expected = root_next n }) (number_behind (codes "states ") line)
-next_at (expects.Root more) p line = option_map (with_state p more) (name_behind (codes "s - or ") line)
-next_at (expects.Leaf more) p line = option_map (with_state p more) (name_behind (codes "s 0 leaf ") line)
+next_at (expects.Root more) p line =
+    option_map (with_state p more) (name_behind (codes "s - or ") line)
+next_at (expects.Leaf more) p line =
+    option_map (with_state p more) (name_behind (codes "s 0 leaf ") line)
 next_at expects.DataCount p line = fixed data_line line p expects.EventCount
 next_at expects.EventCount p line =
     option_map (λ n. record p { expected = event_next n }) (number_behind (codes "events ") line)
-next_at (expects.Event more) p line = option_map (with_event p more) (name_behind (codes "e input ") line)
+next_at (expects.Event more) p line =
+    option_map (with_event p more) (name_behind (codes "e input ") line)
 next_at expects.ProcCount p line = option_map (with_procs p) (procs_of line)
 next_at (expects.Head more) p line =
     option_map (λ n. instr_next p n more) (number_behind (codes "p ") line)
-next_at (expects.Instr more procs) p line = option_map (with_instr p more procs) (instr_of line)
+next_at (expects.Instr more procs) p line =
+    option_map (with_instr p more procs) (instr_of line)
 next_at expects.End p line = fixed end_line line p expects.Nothing
 next_at expects.Nothing p line = None
 
@@ -236,7 +161,9 @@ at_end p n rest =
     if length rest == 0 then Ok (program_read p) else Err (faults.Trailing n)
 
 -- goes on, or refuses
-abbrev pub or_refuse : Option Partial → CodeTextFault → (Partial → Result Program CodeTextFault) → Result Program CodeTextFault
+abbrev pub or_refuse :
+    Option Partial → CodeTextFault → (Partial → Result Program CodeTextFault)
+    → Result Program CodeTextFault
 or_refuse None fault go = Err fault
 or_refuse (Some p) fault go = go p
 
@@ -246,10 +173,14 @@ outcome_from p n [] rest = at_end p n rest
 outcome_from p n (line ∷ lines) rest =
     or_refuse (next p line) (refusal p.expected n line) (λ q. outcome_from q (n + 1) lines rest)
 
+-- the most bytes of a text that is read
+abbrev pub text_limit : ℕ
+text_limit = 268435456
+
 -- the program that the lines of a text spell, or the first fault
 abbrev pub spelled_program : List ℕ → Result Program CodeTextFault
 spelled_program text =
-    if nat_lt 268435456 (length text) then Err faults.TextTooLong else
+    if nat_lt text_limit (length text) then Err faults.TextTooLong else
     outcome_from nothing_read 1 (cut_of text).lines (cut_of text).rest
 
 -- the program unless its code has a fault

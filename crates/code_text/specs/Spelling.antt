@@ -38,7 +38,8 @@ event_line name = codes "e input " ++ name
 
 -- the line of the count of procedures, with those of the start and of a reaction
 abbrev pub procs_line : ℕ → ℕ → ℕ → List ℕ
-procs_line n start react = codes "procs " ++ (decimal n ++ (32 ∷ (decimal start ++ (32 ∷ decimal react))))
+procs_line n start react =
+    codes "procs " ++ (decimal n ++ (32 ∷ (decimal start ++ (32 ∷ decimal react))))
 
 -- the head of a procedure: the count of its instructions
 abbrev pub head_line : ℕ → List ℕ

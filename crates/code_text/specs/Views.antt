@@ -2,12 +2,13 @@
 use Rattle.std.specs.Prelude.{◌≡◌, ◌≢◌, Bool, true, false, map, Option, Some, None, Result, Ok, Err}
 use Rattle.flow_base.specs.Lists.{items_of}
 use Rattle.code_text.specs.Lines.{Parts}
-use Rattle.code_text.specs.Reading.{Numbered, Procs, Partial}
+use Rattle.code_text.specs.Fields.{Numbered, Procs}
+use Rattle.code_text.specs.Reading.{Partial}
 use Rattle.code_text.specs.declared.fault.CodeTextFault.{CodeTextFault}
 use Rattle.code_text.specs.declared.fault.CodeTextFault.TheVariants as faults
 use Rattle.code_text.specs.declared.lines.Parts.{Parts as PartsAt}
 use Rattle.code_text.specs.declared.fields.Numbered.{Numbered as NumberedAt}
-use Rattle.code_text.specs.declared.partial.Procs.{Procs as ProcsRead}
+use Rattle.code_text.specs.declared.fields.Procs.{Procs as ProcsRead}
 use Rattle.code_text.specs.declared.partial.Partial.{Partial as PartialRead}
 
 -- the bytes of both parts
@@ -41,6 +42,7 @@ GoesOn next true new = next ≡ Some new
 GoesOn next false new = next ≡ None
 
 -- what was returned, seen by view, is the outcome, unless memory ran out
-abbrev pub Answers : {X Y : Type 0} → (X → Y) → Result X CodeTextFault → Result Y CodeTextFault → Type 0
+abbrev pub Answers : {X Y : Type 0} → (X → Y)
+    → Result X CodeTextFault → Result Y CodeTextFault → Type 0
 Answers view (Ok x) outcome = outcome ≡ Ok (view x)
 Answers view (Err fault) outcome = fault ≢ faults.Memory → outcome ≡ Err fault

@@ -1,5 +1,6 @@
 //! Why a text is refused.
 ghost use Rattle.std.specs.Prelude.{◌≡◌};
+ghost use Rattle.code_text.specs.Form.{fault_number, fault_name, fault_line};
 
 use code_form::CodeFault;
 
@@ -22,4 +23,54 @@ pub enum CodeTextFault {
     NotBuilt(u32),
     /// Memory ran out.
     Memory,
+}
+
+impl CodeTextFault {
+    /// The number that stands before the name in a refusal; 0 for want of memory, which is none.
+    pub fn number(self) -> u8
+        ensures { result ≡ fault_number self }
+    {
+        match self {
+            CodeTextFault::BadLine(_) => 1,
+            CodeTextFault::Truncated => 2,
+            CodeTextFault::Trailing(_) => 3,
+            CodeTextFault::Version => 4,
+            CodeTextFault::TextTooLong => 5,
+            CodeTextFault::Form(_) => 6,
+            CodeTextFault::NotBuilt(_) => 7,
+            CodeTextFault::Memory => 0,
+        }
+    }
+
+    /// The name, as a refusal prints it.
+    pub fn name(self) -> &'static str
+        ensures { result.now ≡ fault_name self }
+    {
+        match self {
+            CodeTextFault::BadLine(_) => "BadLine",
+            CodeTextFault::Truncated => "Truncated",
+            CodeTextFault::Trailing(_) => "Trailing",
+            CodeTextFault::Version => "Version",
+            CodeTextFault::TextTooLong => "TextTooLong",
+            CodeTextFault::Form(_) => "Form",
+            CodeTextFault::NotBuilt(_) => "NotBuilt",
+            CodeTextFault::Memory => "Memory",
+        }
+    }
+
+    /// The line that it names, if it names one.
+    pub fn line(self) -> Option<u32>
+        ensures { result ≡ fault_line self }
+    {
+        match self {
+            CodeTextFault::BadLine(line)
+            | CodeTextFault::Trailing(line)
+            | CodeTextFault::NotBuilt(line) => Some(line),
+            CodeTextFault::Truncated
+            | CodeTextFault::Version
+            | CodeTextFault::TextTooLong
+            | CodeTextFault::Form(_)
+            | CodeTextFault::Memory => None,
+        }
+    }
 }

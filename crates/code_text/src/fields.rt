@@ -2,8 +2,8 @@
 ghost use Rattle.std.specs.Prelude.{◌≡◌, ◌≤◌, ◌<◌, ◌^◌, length, option_map, IfSome, IfOk, IsTrue};
 ghost use Rattle.chart_lexer.specs.Words.{is_name};
 ghost use Rattle.std.specs.Option.{option_copied};
-ghost use Rattle.code_text.specs.Reading as spec;
-ghost use Rattle.code_text.specs.Views.{numbered_of};
+ghost use Rattle.code_text.specs.Fields as spec;
+ghost use Rattle.code_text.specs.Views.{numbered_of, three_of};
 
 use crate::lines::cut_at;
 use chart_lexer::is_name;
@@ -16,6 +16,14 @@ use std::alloc::{AllocError, Global};
 pub struct Numbered<'a> {
     pub number: u32,
     pub rest: &'a [u8],
+}
+
+/// The count of procedures, and those of the start and of a reaction.
+#[derive(Clone, Copy, Debug)]
+pub struct Procs {
+    pub count: u32,
+    pub start: u32,
+    pub react: u32,
 }
 
 /// A text as a number, where it is the one decimal form of a number below 2^32.
@@ -37,7 +45,7 @@ pub fn number_of(token: &[u8]) -> Option<u32>
 }
 
 /// What stands behind those words, where the text begins with them.
-#[tactic(auto, unfolding(crate::specs::Reading::behind))]
+#[tactic(auto, unfolding(crate::specs::Fields::behind))]
 pub fn behind<'a>(words: &[u8], text: &'a [u8]) -> Option<&'a [u8]>
     ensures { option_copied result ≡ spec.behind words.now text.now }
 {
@@ -49,7 +57,7 @@ pub fn behind<'a>(words: &[u8], text: &'a [u8]) -> Option<&'a [u8]>
 }
 
 /// The number behind those words, and nothing behind it.
-#[tactic(auto, unfolding(crate::specs::Reading::number_behind))]
+#[tactic(auto, unfolding(crate::specs::Fields::number_behind))]
 pub fn number_behind(words: &[u8], text: &[u8]) -> Option<u32>
     ensures { result ≡ spec.number_behind words.now text.now }
 {
@@ -57,7 +65,7 @@ pub fn number_behind(words: &[u8], text: &[u8]) -> Option<u32>
 }
 
 /// The name behind those words, and nothing behind it.
-#[tactic(auto, unfolding(crate::specs::Reading::name_behind))]
+#[tactic(auto, unfolding(crate::specs::Fields::name_behind))]
 pub fn name_behind<'a>(words: &[u8], text: &'a [u8]) -> Option<&'a [u8]>
     ensures name { option_copied result ≡ spec.name_behind words.now text.now }
     ensures named { IfSome result (λ name. IsTrue (is_name name.now)) }
@@ -67,7 +75,7 @@ pub fn name_behind<'a>(words: &[u8], text: &'a [u8]) -> Option<&'a [u8]>
 }
 
 /// The number in front, ended by a space.
-#[tactic(auto, unfolding(crate::specs::Reading::number_then))]
+#[tactic(auto, unfolding(crate::specs::Fields::number_then))]
 pub fn number_then(text: &[u8]) -> Option<Numbered<'_>>
     ensures { option_map numbered_of result ≡ spec.number_then text.now }
 {
@@ -76,6 +84,21 @@ pub fn number_then(text: &[u8]) -> Option<Numbered<'_>>
     Some(Numbered {
         number,
         rest: parts.rest,
+    })
+}
+
+/// The three numbers of the line of procedures.
+#[tactic(auto, unfolding(crate::specs::Fields::procs_of))]
+pub fn procs_of(line: &[u8]) -> Option<Procs>
+    ensures { option_map three_of result ≡ spec.procs_of line.now }
+{
+    let count = number_then(behind(b"procs ", line)?)?;
+    let start = number_then(count.rest)?;
+    let react = number_of(start.rest)?;
+    Some(Procs {
+        count: count.number,
+        start: start.number,
+        react,
     })
 }
 

@@ -1,12 +1,12 @@
 //! The line of an instruction.
 ghost use Rattle.std.specs.Prelude.{◌≡◌};
-ghost use Rattle.code_text.specs.Reading as spec;
+ghost use Rattle.code_text.specs.Fields as spec;
 
 use crate::fields::{behind, number_behind, number_then};
 use code_form::{Cond, Instr};
 
 /// The instruction of a line.
-#[tactic(auto, unfolding(crate::specs::Reading::instr_of))]
+#[tactic(auto, unfolding(crate::specs::Fields::instr_of))]
 pub fn instr_of(line: &[u8]) -> Option<Instr>
     ensures { result ≡ spec.instr_of line.now }
 {
@@ -25,7 +25,7 @@ pub fn instr_of(line: &[u8]) -> Option<Instr>
 }
 
 /// The condition of its words.
-#[tactic(auto, unfolding(crate::specs::Reading::cond_of))]
+#[tactic(auto, unfolding(crate::specs::Fields::cond_of))]
 fn cond_of(words: &[u8]) -> Option<Cond>
     ensures { result ≡ spec.cond_of words.now }
 {

@@ -4,9 +4,11 @@
 //! `specs/Reading.antt`, which line can stand where and which fault is the first.
 #![tactic(auto)]
 
+mod expected;
 mod fault;
 mod fields;
 mod instr;
+mod laws;
 mod lines;
 mod partial;
 mod printer;
@@ -14,5 +16,11 @@ mod reader;
 mod refusal;
 
 pub use fault::CodeTextFault;
+pub use laws::{
+    a_text_is_read, no_text_begins_another, one_text_one_program, what_is_read_is_spelled_so,
+};
 pub use printer::print_code;
 pub use reader::read_code;
+
+#[cfg(test)]
+mod tests;

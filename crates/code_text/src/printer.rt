@@ -1,6 +1,7 @@
 //! The text of code.
-ghost use Rattle.std.specs.Prelude.{◌≡◌, ◌++◌, ◌∷◌, [], length, map, codes, decimal, string_bytes, IfOk, OnOk};
-ghost use Rattle.std.specs.List.{flat_map};
+ghost use Rattle.std.specs.Prelude.{◌≡◌, ◌++◌, ◌∷◌, [], length, map, decimal, string_bytes};
+ghost use Rattle.std.specs.Prelude.{IfOk, OnOk};
+ghost use Rattle.std.specs.List.{flat_map, AllByRecursion};
 ghost use Rattle.flow_base.specs.Lists.{items_of};
 ghost use Rattle.code_form.specs.Program.{program_of};
 ghost use Rattle.code_text.specs.Spelling as spec;
@@ -11,8 +12,11 @@ use itoa::Buffer;
 use std::alloc::{AllocError, Global};
 
 /// The text of code, its one spelling.
+#[tactic(auto, using(crate::proofs::SpellableLemmas::code_spellable))]
 pub fn print_code(alloc: Global, code: &Code) -> Result<String, Memory>
-    ensures { IfOk result (λ text. string_bytes text ≡ spec.code_text code.now) }
+    ensures text { IfOk result (λ text. string_bytes text ≡ spec.code_text code.now) }
+    // So it can be read again, where it isn't too long.
+    ensures spellable { OnOk result (spec.IsSpellable code.now) }
 {
     match print_raw(alloc, code.raw()) {
         Ok(text) => Ok(text),
@@ -22,7 +26,9 @@ pub fn print_code(alloc: Global, code: &Code) -> Result<String, Memory>
 
 /// The one spelling of code, well formed or not.
 fn print_raw(alloc: Global, raw: &RawCode) -> Result<String, AllocError>
-    ensures { IfOk result (λ text. string_bytes text ≡ spec.code_text (program_of raw.now)) }
+    ensures text { IfOk result (λ text. string_bytes text ≡ spec.code_text (program_of raw.now)) }
+    ensures numbers { OnOk result
+        (AllByRecursion (AllByRecursion spec.HasNumbers) (program_of raw.now).procs) }
 {
     let mut out = String::new(alloc);
     print_states(&mut out, &raw.states)?;
@@ -54,8 +60,10 @@ fn print_events(out: &mut String, names: &List<Text>) -> Result<(), AllocError>
 
 /// The procedures under their count.
 fn print_procs(out: &mut String, raw: &RawCode) -> Result<(), AllocError>
-    ensures { OnOk result (string_bytes out.new
+    ensures text { OnOk result (string_bytes out.new
         ≡ string_bytes out.old ++ spec.text_of (spec.procs_part (program_of raw.now))) }
+    ensures numbers { OnOk result
+        (AllByRecursion (AllByRecursion spec.HasNumbers) (program_of raw.now).procs) }
 {
     print_head(out, raw)?;
     print_each(out, raw.procs.items())
@@ -63,7 +71,8 @@ fn print_procs(out: &mut String, raw: &RawCode) -> Result<(), AllocError>
 
 /// Words and a number.
 fn print_number(out: &mut String, words: &str, number: u64) -> Result<(), AllocError>
-    ensures { OnOk result (string_bytes out.new ≡ string_bytes out.old ++ (words.now ++ decimal number)) }
+    ensures { OnOk result
+        (string_bytes out.new ≡ string_bytes out.old ++ (words.now ++ decimal number)) }
 {
     let mut digits = Buffer::new();
     out.push_str(words)?;
@@ -139,8 +148,10 @@ fn print_head(out: &mut String, raw: &RawCode) -> Result<(), AllocError>
 
 /// The lines of each procedure.
 fn print_each(out: &mut String, procs: &[List<Instr>]) -> Result<(), AllocError>
-    ensures { OnOk result (string_bytes out.new ≡ string_bytes out.old
+    ensures text { OnOk result (string_bytes out.new ≡ string_bytes out.old
         ++ spec.text_of (flat_map spec.proc_lines (map items_of procs.now))) }
+    ensures numbers { OnOk result
+        (AllByRecursion (AllByRecursion spec.HasNumbers) (map items_of procs.now)) }
 {
     for proc in procs {
         print_proc(out, proc.items())?;
@@ -150,8 +161,9 @@ fn print_each(out: &mut String, procs: &[List<Instr>]) -> Result<(), AllocError>
 
 /// The lines of a procedure.
 fn print_proc(out: &mut String, instrs: &[Instr]) -> Result<(), AllocError>
-    ensures { OnOk result (string_bytes out.new
+    ensures text { OnOk result (string_bytes out.new
         ≡ string_bytes out.old ++ spec.text_of (spec.proc_lines instrs.now)) }
+    ensures numbers { OnOk result (AllByRecursion spec.HasNumbers instrs.now) }
 {
     print_count(out, "p ", instrs.len())?;
     print_instrs(out, instrs)
@@ -159,8 +171,9 @@ fn print_proc(out: &mut String, instrs: &[Instr]) -> Result<(), AllocError>
 
 /// The lines of instructions.
 fn print_instrs(out: &mut String, instrs: &[Instr]) -> Result<(), AllocError>
-    ensures { OnOk result (string_bytes out.new
+    ensures text { OnOk result (string_bytes out.new
         ≡ string_bytes out.old ++ spec.text_of (map spec.instr_line instrs.now)) }
+    ensures numbers { OnOk result (AllByRecursion spec.HasNumbers instrs.now) }
 {
     for instr in instrs {
         print_instr(out, *instr)?;
@@ -171,7 +184,9 @@ fn print_instrs(out: &mut String, instrs: &[Instr]) -> Result<(), AllocError>
 
 /// The words of an instruction.
 fn print_instr(out: &mut String, instr: Instr) -> Result<(), AllocError>
-    ensures { OnOk result (string_bytes out.new ≡ string_bytes out.old ++ spec.instr_line instr) }
+    ensures text { OnOk result
+        (string_bytes out.new ≡ string_bytes out.old ++ spec.instr_line instr) }
+    ensures numbers { OnOk result (spec.HasNumbers instr) }
 {
     match instr {
         Instr::Mark(state) => print_number(out, "mark ", u64::from(state)),
@@ -186,7 +201,9 @@ fn print_instr(out: &mut String, instr: Instr) -> Result<(), AllocError>
 
 /// A space and the words of a condition.
 fn print_cond(out: &mut String, cond: Cond) -> Result<(), AllocError>
-    ensures { OnOk result (string_bytes out.new ≡ string_bytes out.old ++ 32 ∷ spec.cond_words cond) }
+    ensures text { OnOk result
+        (string_bytes out.new ≡ string_bytes out.old ++ 32 ∷ spec.cond_words cond) }
+    ensures numbers { OnOk result (spec.CondHasNumbers cond) }
 {
     match cond {
         Cond::On(state) => print_number(out, " on ", u64::from(state)),

@@ -1,6 +1,9 @@
 //! Code from its text.
-ghost use Rattle.std.specs.Prelude.{◌≡◌, ◌≢◌, ◌<◌, [], length, IfSome, IfOk, IfErr, MatchOption};
-ghost use Rattle.code_form.specs.Program.{program_of};
+ghost use Rattle.std.specs.Prelude.{◌≡◌, ◌≢◌, ◌<◌, ◌≤◌, [], length, IfSome, IfOk, IfErr, Err};
+ghost use Rattle.std.specs.Prelude.{MatchOption, MatchResult};
+ghost use Rattle.code_form.specs.Program.{Program, program_of};
+ghost use Rattle.code_form.specs.WellFormed.{IsCode};
+ghost use Rattle.code_text.specs.Spelling.{code_text, IsSpellable};
 ghost use Rattle.code_text.specs.Lines.{cut_of, line_then};
 ghost use Rattle.code_text.specs.Reading as spec;
 ghost use Rattle.code_text.specs.Views.{partial_of, Answers};
@@ -17,10 +20,24 @@ const TEXT_LIMIT: usize = 268_435_456;
 
 /// The code that a text spells, if it is well formed. The text is read once, from its first line
 /// on, and a count in it takes no memory by itself.
-#[tactic(auto, unfolding(crate::specs::Reading::outcome))]
 pub fn read_code(alloc: Global, text: &[u8]) -> Result<Code, CodeTextFault>
-    ensures read { IfOk result (λ code. spec.outcome text.now ≡ Ok code) }
-    ensures refused { IfErr result (λ fault. fault ≢ CodeTextFault.Memory → spec.outcome text.now ≡ Err fault) }
+    // What is read is spelled so, each byte of it.
+    ensures read { IfOk result (λ code. text.now ≡ code_text code) }
+    // What is spelled so is read, unless memory runs out.
+    ensures only { (P : Program) → IsSpellable P → IsCode P
+        → text.now ≡ code_text P → length text.now ≤ spec.text_limit
+        → MatchResult result (λ code. code ≡ P) (λ fault. fault ≡ CodeTextFault.Memory) }
+    // Each fault but want of memory is the first one.
+    ensures refused { IfErr result (λ fault.
+        fault ≢ CodeTextFault.Memory → spec.outcome text.now ≡ Err fault) }
+{
+    read_formed(alloc, text)
+}
+
+/// What reading the text gives.
+#[tactic(auto, unfolding(crate::specs::Reading::outcome))]
+fn read_formed(alloc: Global, text: &[u8]) -> Result<Code, CodeTextFault>
+    ensures { Answers (λ code. code) result (spec.outcome text.now) }
 {
     let raw = read_raw(alloc, text)?;
     match accept(alloc, raw) {

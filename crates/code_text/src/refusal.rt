@@ -2,8 +2,8 @@
 ghost use Rattle.std.specs.Prelude.{◌≡◌};
 ghost use Rattle.code_text.specs.Reading as spec;
 
+use crate::expected::Expected;
 use crate::fault::CodeTextFault;
-use crate::partial::Expected;
 
 /// Whether the line `end` was read.
 pub fn is_whole(expected: Expected) -> bool

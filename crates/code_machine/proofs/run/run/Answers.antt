@@ -12,7 +12,8 @@ use Rattle.code_machine.proofs.run.run.Goals as goal
 pub loop-frame-init : goal.loop-frame-init
 loop-frame-init c =
     let P = program_of c.args.code.now in
-    let pushed : c.push.new.self.items ≡ record { proc = c.args.proc; place = 0 } ∷ [] = c.in-Ok.ensures.items ∙ ap (λ (fs : List Frame). fs ++ record { proc = c.args.proc; place = 0 } ∷ []) c.requires.frames in
+    let pushed : c.push.new.self.items ≡ record { proc = c.args.proc; place = 0 } ∷ [] =
+    c.in-Ok.ensures.items ∙ ap (λ (fs : List Frame). fs ++ record { proc = c.args.proc; place = 0 } ∷ []) c.requires.frames in
     record {
       room = omega (arith, c.in-Ok.ensures.capacity, c.requires.room);
       places = rw pushed (first_place P c.args.proc c.requires.code c.requires.procedure, tt);
@@ -37,8 +38,12 @@ loop-frame-preserved c =
     }
 
 -- no frame is left
+pub returns-clause-reached : goal.returns-clause-reached
+returns-clause-reached c =
+    let none : c.loop-frame.frames.items ≡ [] = grind (arith, common_steps) in
+    rw none at c.loop-frame.invariant.reached
+
 pub returns-clause-world : goal.returns-clause-world
 returns-clause-world c =
     let none : c.loop-frame.frames.items ≡ [] = grind (arith, common_steps) in
-    let come = rw none at c.loop-frame.invariant.reached in
-    ends (program_of c.args.code.now) (called (record { marks = c.args.marks.now }) c.args.current c.args.proc) c.loop-frame.marks c.args.current c.loop-frame.result come
+    ends (rw none at c.loop-frame.invariant.reached)

@@ -8,7 +8,9 @@ use Rattle.code_machine.proofs.run.run_frame.Given as goal
 abbrev pub invariant-loop-place : goal.invariant-loop-place
 invariant-loop-place l = record {
   within : l.place < length l.instrs;
-  reached : (before : ℕ) (below : List Frame) → Reaches (program_of l.code) (state l.fn.marks l.current before (l.fn.frame ∷ below)) (state l.marks l.current before (record { proc = l.fn.frame.proc; place = l.place } ∷ below));
+  reached : (before : ℕ) (below : List Frame)
+      → Reaches (program_of l.code) (state l.fn.marks l.current before (l.fn.frame ∷ below))
+      (state l.marks l.current before (record { proc = l.fn.frame.proc; place = l.place } ∷ below));
 }
 
 abbrev pub decreases-loop-place : goal.decreases-loop-place

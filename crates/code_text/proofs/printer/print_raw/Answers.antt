@@ -4,9 +4,9 @@ use Rattle.code_text.specs.Spelling.{states_part, events_part, procs_part, end_l
 use Rattle.code_text.proofs.TextLemmas.{code_text-parts, appended}
 use Rattle.code_text.proofs.printer.print_raw.Goals as goal
 
-pub returns : goal.returns
-returns c =
+pub returns-clause-text : goal.returns-clause-text
+returns-clause-text c =
     let P = program_of c.args.raw.now in
     appended _ _ _ _ _ (text_of (states_part P.states)) (text_of (events_part P.events)) (text_of (procs_part P)) (text_of (end_line ∷ []))
-    c.new-out.ensures.bytes c.in_ok-print_states.ensures c.in_ok-print_events.ensures c.in_ok-print_procs.ensures c.in_ok-push_str.ensures.bytes
+    c.new-out.ensures.bytes c.in_ok-print_states.ensures c.in_ok-print_events.ensures c.in_ok-print_procs.ensures.text c.in_ok-push_str.ensures.bytes
     ∙ sym (code_text-parts P)

@@ -3,7 +3,6 @@ use crate::rows::{START, check};
 use crate::setup::{CODE, LAMP, files, words};
 use chart_command::chart_main;
 use flow_base::{MemSink, Status};
-use std::process::Abort;
 use std::str;
 use std::test::Fail;
 
@@ -16,7 +15,7 @@ fn compiled_chart(rt: HostRuntime) -> Result<(), Fail> {
     let words = words(alloc, "compile c")?;
     let status = chart_main(alloc, &words, &mut inputs, &mut out, &mut err);
     assert_eq!(rt; status, Status::Ok);
-    assert_eq!(rt; err.bytes(), b"");
+    assert!(rt; err.bytes().is_empty());
     let Ok(code) = str::from_utf8(out.bytes()) else {
         panic!(rt; "{:?}", out.bytes());
     };
@@ -40,7 +39,13 @@ fn refused_code(rt: HostRuntime) -> Result<(), Fail> {
     ];
     for (old, new, err) in cases {
         let text = CODE.replace(alloc, old, new)?;
-        check(&rt, "exec c e", text.as_str(), "GO\n", (Status::Refused, "", err))?;
+        check(
+            &rt,
+            "exec c e",
+            text.as_str(),
+            "GO\n",
+            (Status::Refused, "", err),
+        )?;
     }
     Ok(())
 }

@@ -1,20 +1,20 @@
 //! Charts, event files and words with their answers.
-use crate::setup::{LAMP, files, words};
+use crate::setup::{CODE, LAMP, files, words};
 use chart_command::chart_main;
 use flow_base::{MemSink, Status};
 use std::process::Abort;
 use std::test::Fail;
 
-/// Runs the program with these words, and compares status, output and line.
-fn check(
+/// Runs the program with these words over a chart or code, and compares status, output and line.
+pub fn check(
     rt: &(impl AllocGlobal + Abort),
     line: &str,
-    chart: &str,
+    text: &str,
     events: &str,
     want: (Status, &str, &str),
 ) -> Result<(), Fail> {
     let alloc = rt.alloc();
-    let mut inputs = files(alloc, chart, events, &[])?;
+    let mut inputs = files(alloc, text, events, &[])?;
     let mut out = MemSink::new(alloc, 4096, 5, Vec::new(alloc))?;
     let mut err = MemSink::new(alloc, 4096, 4096, Vec::new(alloc))?;
     let words = words(alloc, line)?;
@@ -25,7 +25,7 @@ fn check(
     Ok(())
 }
 
-const START: &str = "0 start [Off] - - ok\n";
+pub const START: &str = "0 start [Off] - - ok\n";
 
 #[test]
 fn event_files(rt: HostRuntime) -> Result<(), Fail> {
@@ -54,7 +54,9 @@ fn event_files(rt: HostRuntime) -> Result<(), Fail> {
         ("state\n", Status::Refused, START, "event 1: 7 NotBuilt\n"),
     ];
     for (events, status, out, err) in cases {
-        check(&rt, "rules c e", LAMP, events, (status, out, err))?;
+        for (line, text) in [("rules c e", LAMP), ("exec c e", CODE)] {
+            check(&rt, line, text, events, (status, out, err))?;
+        }
     }
     Ok(())
 }
@@ -71,7 +73,9 @@ fn chart_texts(rt: HostRuntime) -> Result<(), Fail> {
         ),
     ];
     for (chart, err) in cases {
-        check(&rt, "rules c e", chart, "GO\n", (Status::Refused, "", err))?;
+        for line in ["rules c e", "compile c"] {
+            check(&rt, line, chart, "GO\n", (Status::Refused, "", err))?;
+        }
     }
     Ok(())
 }
@@ -89,6 +93,12 @@ fn other_words(rt: HostRuntime) -> Result<(), Fail> {
         "rule c e",
         "rules -c e",
         "rules c -",
+        "compile",
+        "compile -c",
+        "compile c e",
+        "exec c",
+        "exec c -",
+        "exec c e e",
     ] {
         check(&rt, line, LAMP, "", (Status::Usage, "", USAGE))?;
     }

@@ -7,6 +7,33 @@ use std::alloc::{AllocError, Global};
 pub const LAMP: &str =
     "chart Lamp or { event input GO; default -> Off; state Off { outer GO -> On; } state On { outer GO -> Off; } }";
 
+/// Code of the lamp.
+pub const CODE: &str = "\
+    flowcode 1\n\
+    states 3\n\
+    s - or Lamp\n\
+    s 0 leaf Off\n\
+    s 0 leaf On\n\
+    data 0\n\
+    events 1\n\
+    e input GO\n\
+    procs 2 0 1\n\
+    p 3\n\
+    mark 0\n\
+    mark 1\n\
+    ret 0\n\
+    p 9\n\
+    unless 7 event 0\n\
+    unless 3 on 1\n\
+    clear 1\n\
+    mark 2\n\
+    ret 0\n\
+    unless 2 on 2\n\
+    clear 2\n\
+    mark 1\n\
+    ret 0\n\
+    end\n";
+
 /// A file that is read in pieces; the listed reads of it fail.
 pub fn file(
     alloc: Global,
@@ -25,15 +52,15 @@ pub fn file(
     ))
 }
 
-/// A chart in the file `c` and events in the file `e`; the listed reads of `e` fail.
+/// A chart or code in the file `c` and events in the file `e`; the listed reads of `e` fail.
 pub fn files(
     alloc: Global,
-    chart: &str,
+    text: &str,
     events: &str,
     fail: &[u64],
 ) -> Result<MemInputs, AllocError> {
     let mut files = Vec::new(alloc);
-    files.push(file(alloc, "c", chart, 7, &[])?)?;
+    files.push(file(alloc, "c", text, 7, &[])?)?;
     files.push(file(alloc, "e", events, 3, fail)?)?;
     Ok(MemInputs::new(files))
 }

@@ -1,0 +1,26 @@
+//! Exact fixed-point arithmetic: numbers that are a mantissa over a power of two, the scales that
+//! data are kept at, and decimal text. Nothing here takes memory.
+//!
+//! Read `specs/Numbers.antt` first: it says what each call answers.
+#![tactic(auto)]
+
+mod arithmetic;
+mod fitting;
+mod fraction;
+mod num;
+mod power;
+mod quotient;
+mod reading;
+mod rounding;
+mod scale;
+#[cfg(test)]
+mod tests;
+mod writing;
+
+pub use arithmetic::{add, compare, mul, neg, sub};
+pub use fitting::{Mode, Overflow, exact, fit};
+pub use num::Num;
+pub use quotient::{Zero, div};
+pub use reading::{NumFault, read_decimal};
+pub use scale::Scale;
+pub use writing::write_decimal;

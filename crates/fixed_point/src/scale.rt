@@ -1,0 +1,69 @@
+//! Scales: how a datum keeps a number.
+ghost use Rattle.std.specs.Prelude.{◌≡◌, ◌≤◌};
+
+use crate::power::power_of_two;
+
+/// A scale keeps the numbers `mantissa / 2^frac` whose mantissa has `width` bits, 1 to 64, a sign
+/// bit among them where it is signed. The fraction is 0 to 32 and at most the width.
+#[derive(Clone, Copy, Debug, PartialEq, Eq)]
+pub struct Scale {
+    /// Whether mantissas may be negative.
+    pub signed: bool,
+    /// The bits of a mantissa.
+    pub width: u8,
+    /// The bits behind the point.
+    pub frac: u8,
+    pub ghost some_bits: { 1 ≤ width },
+    pub ghost bits_within: { width ≤ 64 },
+    pub ghost frac_within: { frac ≤ 32 },
+    pub ghost frac_in_width: { frac ≤ width },
+}
+
+impl Scale {
+    ghost use Rattle.std.specs.Prelude.{◌↔◌, IsSome, IfSome};
+    ghost use Rattle.fixed_point.specs.Scales.{IsWithinLimits, HasParts, least, greatest, is_in_range};
+
+    /// The scale of these parts. None exactly where they are out of the limits.
+    pub fn make(signed: bool, width: u8, frac: u8) -> Option<Scale>
+        ensures made { IsSome result ↔ IsWithinLimits width frac }
+        ensures parts { IfSome result (HasParts signed width frac) }
+    {
+        if width < 1 || width > 64 || frac > 32 || frac > width {
+            return None;
+        }
+        Some(Scale {
+            signed,
+            width,
+            frac,
+        })
+    }
+
+    /// The least mantissa.
+    pub(crate) fn least(self) -> i128
+        ensures { result ≡ least self }
+    {
+        if self.signed {
+            -power_of_two(u32::from(self.width) - 1)
+        } else {
+            0
+        }
+    }
+
+    /// The greatest mantissa.
+    pub(crate) fn greatest(self) -> i128
+        ensures { result ≡ greatest self }
+    {
+        if self.signed {
+            power_of_two(u32::from(self.width) - 1) - 1
+        } else {
+            power_of_two(u32::from(self.width)) - 1
+        }
+    }
+
+    /// Whether the mantissa is one of this scale.
+    pub(crate) fn is_in_range(self, mantissa: i128) -> bool
+        ensures { result ≡ is_in_range self mantissa }
+    {
+        self.least() <= mantissa && mantissa <= self.greatest()
+    }
+}

@@ -1,12 +1,10 @@
 -- The two files of a call, read one after the other.
-use Rattle.std.proofs.Common.{◌≡◌, ◌≢◌, ℕ, ◌+◌, ◌<◌, ◌≤◌, true, false, Bool, cond, List, [], Option, Some, None, refl, sym, ap, subst, ◌∙◌, inl, inr, arith}
+use Rattle.std.proofs.Common.{◌≡◌, ℕ, true, false, Bool, List, [], Option, Some, refl, sym, ap, subst, ◌∙◌, inl, inr}
 use Rattle.std.proofs.lemmas.Bool.{cases_Bool}
 use Rattle.std.proofs.lemmas.Slice.Eq.{bytes_eq-Decides}
 use Rattle.std.specs.Option.{option_map}
 use Rattle.std.specs.Str.{bytes_eq}
 use Rattle.flow_base.specs.Causes.{Rose, AllStay, OthersKept}
-use Rattle.flow_base.specs.Bytes.{AppendsProperFront}
-use Rattle.std.specs.Io.KnownBytes.{append_known}
 use Rattle.step_text.specs.declared.events.LineFault.{LineFault}
 use Rattle.step_text.specs.declared.events.LineFault.TheVariants as line_faults
 use Rattle.step_text.specs.Events.{refused_line}

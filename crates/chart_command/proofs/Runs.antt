@@ -1,5 +1,5 @@
 -- A run by the rules and a run of the machine write the trace of what runs.
-use Rattle.std.proofs.Common.{◌≡◌, ℕ, true, List, [], ◌∷◌, map, Some, refl, sym, ap, subst, ◌∙◌}
+use Rattle.std.proofs.Common.{◌≡◌, ℕ, true, List, [], ◌∷◌, map, Some, refl, sym, ap, subst}
 use Rattle.flow_base.specs.Names.{name_at}
 use Rattle.flow_base.specs.declared.event.FlatEvent.{FlatEvent}
 use Rattle.chart_syntax.specs.FlatChart.{Chart, IsValid, state_names}

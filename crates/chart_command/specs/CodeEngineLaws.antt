@@ -1,5 +1,5 @@
 -- The laws of the run of code as an engine.
-use Rattle.std.proofs.Common.{◌≡◌, ℕ, zero, suc, ◌+◌, ◌^◌, ◌<◌, ◌≤◌, ◌&&◌, not, Bool, true, false, List, [], ◌∷◌, length, drop, get_or, map, Option, None, refl, sym, ap, ◌∙◌, arith, inl, inr}
+use Rattle.std.proofs.Common.{◌≡◌, ℕ, zero, suc, ◌+◌, ◌^◌, ◌<◌, ◌≤◌, ◌&&◌, not, Bool, true, false, List, [], ◌∷◌, length, drop, get_or, map, refl, ap, ◌∙◌, arith, inl, inr}
 use Rattle.std.specs.Prelude.{nat_lt}
 use Rattle.std.specs.List.{list_all}
 use Rattle.std.proofs.lemmas.Bool.{and_parts, cases_Bool, ltb-false}
@@ -15,7 +15,7 @@ use Rattle.code_machine.specs.Engine.{Engine}
 use Rattle.step_text.specs.Events.{IsEventIn}
 use Rattle.step_text.specs.Trace.{event_word, trace}
 use Rattle.chart_command.specs.CodeTrace.{active_from, active_names, code_trace}
-use Rattle.chart_command.specs.CodeEngine.{IsRunningCode, IsSingle, code_after, code_shown, react_world}
+use Rattle.chart_command.specs.CodeEngine.{IsRunningCode, IsSingle, code_after, code_shown}
 use Rattle.chart_command.specs.CodeRuns.{react_single, worlds_from}
 use Rattle.chart_command.specs.FlatEngineLaws.{name_short, word_short}
 use Rattle.chart_command.specs.Steps.{shown_after, trace_by}

@@ -1,5 +1,5 @@
 -- The laws of the run of a flat chart as an engine.
-use Rattle.std.proofs.Common.{◌≡◌, ℕ, zero, suc, ◌+◌, ◌^◌, ◌<◌, ◌≤◌, ◌&&◌, true, leb, eqb, List, [], ◌∷◌, length, map, Option, Some, None, refl, sym, ap, ◌∙◌, arith}
+use Rattle.std.proofs.Common.{◌≡◌, ℕ, zero, suc, ◌^◌, ◌<◌, ◌≤◌, ◌&&◌, true, leb, eqb, List, [], ◌∷◌, length, ap, arith}
 use Rattle.std.specs.List.{list_all}
 use Rattle.std.specs.Option.{option_map}
 use Rattle.std.proofs.lemmas.Bool.{and_parts, leb-true}
@@ -10,15 +10,12 @@ use Rattle.token_grammar.specs.declared.token.Kind.TheVariants as kinds
 use Rattle.token_grammar.specs.Token.{kind_eq}
 use Rattle.chart_lexer.specs.Bytes.{is_letter, begins}
 use Rattle.chart_lexer.specs.Words.{name_length, word_kind, is_name}
-use Rattle.chart_syntax.specs.FlatChart.{Chart, IsValid, state_names}
-use Rattle.sos_rules.specs.Flat.{IsEventOf, flat_react, flat_run_from}
+use Rattle.sos_rules.specs.Flat.{flat_react}
 use Rattle.sos_rules.proofs.FlatLemmas.{flat_react-in_range}
 use Rattle.sos_interpreter.specs.FlatWorld.{FlatWorld}
 use Rattle.step_text.specs.Events.{IsEventIn}
 use Rattle.step_text.specs.Trace.{event_word}
-use Rattle.chart_command.specs.FlatEngine.{IsRunning, flat_shown, flat_after}
-use Rattle.chart_command.specs.Steps.{shown_after, trace_by}
-use Rattle.chart_command.specs.Flat.{flat_trace}
+use Rattle.chart_command.specs.FlatEngine.{IsRunning, flat_after}
 
 -- a name has at most 63 bytes
 pub name_short : (w : List ℕ) → is_name w ≡ true → length w ≤ 63

@@ -6,7 +6,15 @@ ghost use Rattle.chart_command.specs.Words.{command_of};
 ghost use Rattle.chart_command.specs.Runner.{ByRules, OnMachine, IsCompiled};
 ghost use Rattle.chart_command.specs.Steps.{RunTraces, TextEnds};
 ghost use Rattle.chart_command.specs.Answer.{
-    Call, Errors, Ends, ByChart, ByCode, TraceEnds, CompileEnds, Answer};
+  Call,
+  Errors,
+  Ends,
+  ByChart,
+  ByCode,
+  TraceEnds,
+  CompileEnds,
+  Answer,
+};
 
 use crate::ending::Ending;
 use crate::files::{read_chart, read_events, read_machine};

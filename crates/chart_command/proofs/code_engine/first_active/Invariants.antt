@@ -1,5 +1,4 @@
 use Rattle.std.proofs.Common.{length, drop, ◌-◌, ◌≡◌, ◌≤◌}
-use Rattle.flow_base.specs.Lists.{items_of}
 use Rattle.chart_command.specs.CodeTrace.{active_from}
 use Rattle.chart_command.specs.CodeEngine.{code_shown}
 use Rattle.chart_command.proofs.code_engine.first_active.Given as goal

@@ -1,7 +1,6 @@
-use Rattle.std.proofs.Common.{ℕ, List, refl, ap, subst, ◌∙◌, Option}
-use Rattle.chart_syntax.specs.FlatChart.{chart_of}
-use Rattle.chart_command.specs.Runner.{ByRules, OnMachine}
-use Rattle.chart_command.specs.Answer.{Call, ByChart, ByCode, IsTold}
+use Rattle.std.proofs.Common.{ℕ, List, refl, subst, Option}
+use Rattle.chart_command.specs.Runner.{OnMachine}
+use Rattle.chart_command.specs.Answer.{Call, ByCode, IsTold}
 use Rattle.chart_command.specs.Steps.{RunTraces}
 use Rattle.chart_command.proofs.FilesLemmas.{second_is, ran, not_ran, both_stay}
 use Rattle.chart_command.proofs.command.exec.Goals as goal

@@ -1,7 +1,7 @@
-use Rattle.std.proofs.Common.{ℕ, List, refl, ap, subst, ◌∙◌, Option}
+use Rattle.std.proofs.Common.{ℕ, List, refl, subst, Option}
 use Rattle.chart_syntax.specs.FlatChart.{chart_of}
-use Rattle.chart_command.specs.Runner.{ByRules, OnMachine}
-use Rattle.chart_command.specs.Answer.{Call, ByChart, ByCode, IsTold}
+use Rattle.chart_command.specs.Runner.{ByRules}
+use Rattle.chart_command.specs.Answer.{Call, ByChart, IsTold}
 use Rattle.chart_command.specs.Steps.{RunTraces}
 use Rattle.chart_command.proofs.FilesLemmas.{second_is, ran, not_ran, both_stay}
 use Rattle.chart_command.proofs.command.rules.Goals as goal

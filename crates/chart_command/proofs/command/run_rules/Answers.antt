@@ -1,5 +1,5 @@
 use Rattle.std.proofs.Common.{ap, ◌∙◌, Some}
-use Rattle.chart_syntax.specs.FlatChart.{Chart, chart_of}
+use Rattle.chart_syntax.specs.FlatChart.{chart_of}
 use Rattle.sos_rules.specs.Flat.{flat_start}
 use Rattle.sos_interpreter.specs.FlatWorld.{FlatWorld}
 use Rattle.chart_command.proofs.Runs.{started_rules, ran_rules}

@@ -1,5 +1,5 @@
 //! Code from its text.
-ghost use Rattle.std.specs.Prelude.{◌≡◌, ◌≢◌, ◌<◌, ◌≤◌, [], length, IfSome, IfOk, IfErr, Err};
+ghost use Rattle.std.specs.Prelude.{◌≡◌, ◌≢◌, ◌<◌, ◌≤◌, [], length, IfSome, IfOk, IfErr, Ok, Err};
 ghost use Rattle.std.specs.Prelude.{MatchOption, MatchResult};
 ghost use Rattle.code_form.specs.Program.{Program, program_of};
 ghost use Rattle.code_form.specs.WellFormed.{IsCode};
@@ -27,7 +27,8 @@ pub fn read_code(alloc: Global, text: &[u8]) -> Result<Code, CodeTextFault>
     ensures only { (P : Program) → IsSpellable P → IsCode P
         → text.now ≡ code_text P → length text.now ≤ spec.text_limit
         → MatchResult result (λ code. code ≡ P) (λ fault. fault ≡ CodeTextFault.Memory) }
-    // Each fault but want of memory is the first one.
+    // Code and each fault but want of memory are the outcome of the text.
+    ensures accepted { IfOk result (λ code. spec.outcome text.now ≡ Ok code) }
     ensures refused { IfErr result (λ fault.
         fault ≢ CodeTextFault.Memory → spec.outcome text.now ≡ Err fault) }
 {

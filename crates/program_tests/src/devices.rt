@@ -1,7 +1,7 @@
 //! Devices that fail, and devices that never do.
 ghost use Rattle.std.specs.Prelude.{◌≢◌};
 
-use crate::setup::{LAMP, file, files, words};
+use crate::setup::{CODE, LAMP, file, files, words};
 use chart_command::chart_main;
 use flow_base::{MemSink, Sink, Status, SureInputs, SureSink};
 use std::alloc::Global;
@@ -34,38 +34,73 @@ fn sure_devices(rt: HostRuntime) -> Result<(), Fail> {
     Ok(())
 }
 
-/// With the listed reads of the event file, writes of the output and of the line failing.
+/// Runs the program with the listed reads of the event file, writes of the output and of the line
+/// failing.
 fn check(
     rt: &(impl AllocGlobal + Abort),
+    line: &str,
+    text: &str,
     fails: (&[u64], &[u64], &[u64]),
     want: (Status, &str, &str),
 ) -> Result<(), Fail> {
     let alloc = rt.alloc();
-    let mut inputs = files(alloc, LAMP, "GO\nGO\nGO\n", fails.0)?;
+    let mut inputs = files(alloc, text, "GO\nGO\nGO\n", fails.0)?;
     let mut out = MemSink::new(alloc, 4096, 4096, Vec::from_slice(alloc, fails.1)?)?;
     let mut err = MemSink::new(alloc, 4096, 4096, Vec::from_slice(alloc, fails.2)?)?;
-    let words = words(alloc, "rules c e")?;
+    let words = words(alloc, line)?;
     let status = chart_main(alloc, &words, &mut inputs, &mut out, &mut err);
-    assert_eq!(rt; status, want.0, "{fails:?}");
-    assert_eq!(rt; out.bytes(), want.1.as_bytes(), "{fails:?}");
-    assert_eq!(rt; err.bytes(), want.2.as_bytes(), "{fails:?}");
+    assert_eq!(rt; status, want.0, "{line}: {fails:?}");
+    assert_eq!(rt; out.bytes(), want.1.as_bytes(), "{line}: {fails:?}");
+    assert_eq!(rt; err.bytes(), want.2.as_bytes(), "{line}: {fails:?}");
     Ok(())
 }
 
 #[test]
 fn failing_devices(rt: HostRuntime) -> Result<(), Fail> {
-    // The event file is read whole before anything is written.
-    check(&rt, (&[3], &[], &[]), (Status::Read, "", "read fault\n"))?;
-    check(&rt, (&[], &[1], &[]), (Status::Write, "", "write fault\n"))?;
+    let start = "0 start [Off] - - ok\n";
+    for (line, text) in [("rules c e", LAMP), ("exec c e", CODE)] {
+        // The event file is read whole before anything is written.
+        check(
+            &rt,
+            line,
+            text,
+            (&[3], &[], &[]),
+            (Status::Read, "", "read fault\n"),
+        )?;
+        check(
+            &rt,
+            line,
+            text,
+            (&[], &[1], &[]),
+            (Status::Write, "", "write fault\n"),
+        )?;
+        check(
+            &rt,
+            line,
+            text,
+            (&[], &[2], &[]),
+            (Status::Write, start, "write fault\n"),
+        )?;
+        // A failing line changes nothing else.
+        check(
+            &rt,
+            line,
+            text,
+            (&[], &[2], &[1]),
+            (Status::Write, start, ""),
+        )?;
+    }
+    Ok(())
+}
+
+#[test]
+fn failing_compile(rt: HostRuntime) -> Result<(), Fail> {
+    // The code is made whole before anything is written, in one piece.
     check(
         &rt,
-        (&[], &[2], &[]),
-        (Status::Write, "0 start [Off] - - ok\n", "write fault\n"),
-    )?;
-    // A failing line changes nothing else.
-    check(
-        &rt,
-        (&[], &[2], &[1]),
-        (Status::Write, "0 start [Off] - - ok\n", ""),
+        "compile c",
+        LAMP,
+        (&[], &[1], &[]),
+        (Status::Write, "", "write fault\n"),
     )
 }

@@ -1,0 +1,9 @@
+pub mod Exprs
+pub mod Trees
+pub mod Names
+pub mod Sorts
+pub mod Data
+pub mod Values
+pub mod World
+pub mod Engines
+pub mod Slots

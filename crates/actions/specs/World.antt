@@ -1,0 +1,65 @@
+-- The world of a run: what is active, what the data are, what was put out, and what it has cost.
+use Rattle.std.specs.Prelude.{◌≡◌, ℕ, ◌+◌, ◌<◌, nat_le, Bool, true, List, [], ◌∷◌, ◌++◌, length, Result, Ok, Err, if◌then◌else◌, map}
+use Rattle.std.specs.List.{AllByRecursion}
+use Rattle.flow_base.specs.declared.bounds.Bounds.{Bounds}
+use Rattle.flow_base.specs.declared.fault.Fault.{Fault}
+use Rattle.flow_base.specs.declared.fault.Fault.TheVariants.{Steps}
+use Rattle.active_config.specs.Tree.{Tree, state_count}
+use Rattle.active_config.specs.Marks.{no_marks, is_on, is_bare, IsConsistent}
+use Rattle.actions.specs.Data.{Datum, initial, HaveTheirSorts}
+use Rattle.actions.specs.Names.{Names}
+use Rattle.actions.specs.declared.names.Var.{Var}
+use Rattle.actions.specs.declared.names.Sort.{Sort}
+use Rattle.fixed_point.specs.declared.fitting.Mode.{Mode}
+
+-- one flag for each state, the data, the events put out in this event, and the steps used in it
+pub record World : Type 0 where
+  pub marks : List Bool
+  pub vals : List Datum
+  pub outputs : List ℕ
+  pub used : ℕ
+
+-- before the start: no state is active, the data have their first values, nothing is put out
+abbrev pub world_before : Tree → Names → World
+world_before t n = record { marks = no_marks t; vals = initial n; outputs = []; used = 0 }
+
+-- a cost of one step: a fault where all steps of the event are used
+abbrev pub paid : Bounds → World → Result World Fault
+paid bounds w = if nat_le bounds.steps w.used then Err Steps else Ok (record w { used = w.used + 1 })
+
+-- the event is put out
+abbrev pub put_out : ℕ → World → World
+put_out event w = record w { outputs = w.outputs ++ event ∷ [] }
+
+-- how long a piece of work goes on: while a state is active, or while it is active and no child of it is
+pub data Life : Type 0 where
+  On : ℕ → Life
+  Bare : ℕ → Life
+
+-- the work still goes on
+abbrev pub lives : Tree → Life → List Bool → Bool
+lives t (On s) marks = is_on s marks
+lives t (Bare s) marks = is_bare t s marks
+
+-- ---- a world of a tree and of what is declared
+
+-- what a declaration fixes of a datum
+pub record Declaration : Type 0 where
+  pub sort : Sort
+  pub mode : Mode
+
+-- of the data that there are
+abbrev pub of_data : List Datum → List Declaration
+of_data vals = map (λ (d : Datum). record { sort = d.sort; mode = d.mode }) vals
+
+-- of the data that are declared
+abbrev pub of_names : Names → List Declaration
+of_names n = map (λ (v : Var). record { sort = v.sort; mode = v.mode }) n.vars
+
+-- the marks are consistent, the data are those that are declared with values of their sorts, and outputs are events
+pub record Fits (t : Tree) (n : Names) (w : World) : Type 0 where
+  pub states : length n.states ≡ state_count t
+  pub consistent : IsConsistent t w.marks
+  pub declared : of_data w.vals ≡ of_names n
+  pub sorts : HaveTheirSorts w.vals
+  pub outputs : AllByRecursion (λ event. event < length n.events) w.outputs

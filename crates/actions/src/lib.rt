@@ -10,6 +10,7 @@ mod engine;
 mod event;
 mod expr;
 mod names;
+mod operator;
 mod sort;
 mod vals;
 
@@ -17,5 +18,5 @@ pub use engine::{Engine, Halt, View};
 pub use event::Event;
 pub use expr::{Expr, Op, Stmt, Value};
 pub use names::{EventDecl, EventKind, Names, Sort, Var, VarKind};
-pub use sort::{ExprFault, ExprSort};
+pub use sort::{ExprFault, ExprSort, assignment_fault, sort_of};
 pub use vals::Vals;

@@ -6,6 +6,7 @@
 //! and `specs/Engines.antt` say what an engine shows.
 #![tactic(auto)]
 
+mod copy;
 mod engine;
 mod event;
 mod expr;
@@ -14,6 +15,7 @@ mod operator;
 mod sort;
 mod vals;
 
+pub use copy::{copy_expr, copy_names};
 pub use engine::{Engine, Halt, View};
 pub use event::Event;
 pub use expr::{Expr, Op, Stmt, Value};

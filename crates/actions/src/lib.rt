@@ -13,6 +13,8 @@ mod expr;
 mod names;
 mod operator;
 mod sort;
+#[cfg(test)]
+mod tests;
 mod vals;
 
 pub use copy::{copy_expr, copy_names};

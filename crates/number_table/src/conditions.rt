@@ -34,18 +34,12 @@ pub fn can_align(a: Num, b: Num) -> bool
 
 /// Whether the numbers have a product.
 pub fn can_multiply(a: Num, b: Num) -> bool
-    ensures size { IsTrue result → unsigned_abs (a.mantissa *ℤ b.mantissa) ≤ 2 ^ 100 }
-    ensures frac { IsTrue result → a.frac + b.frac ≤ 64 }
+    ensures { IsTrue result
+        ↔ ((unsigned_abs (a.mantissa *ℤ b.mantissa) ≤ 2 ^ 100) × (a.frac + b.frac ≤ 64)) }
 {
-    let is_short = match a.frac.checked_add(b.frac) {
-        Some(frac) => frac <= MOST_FRAC,
-        None => false,
-    };
-    let is_small = match a.mantissa.checked_mul(b.mantissa) {
-        Some(product) => is_within(product),
-        None => false,
-    };
-    is_short && is_small
+    let frac = a.frac.checked_add(b.frac);
+    let mantissa = a.mantissa.checked_mul(b.mantissa);
+    frac.is_some_and(|frac| frac <= MOST_FRAC) && mantissa.is_some_and(is_within)
 }
 
 /// Whether the numbers have a quotient, or the divisor is 0.
@@ -58,8 +52,8 @@ pub fn can_divide(a: Num, b: Num) -> bool
 
 /// Whether the number can be brought to the scale.
 pub fn can_fit(a: Num, to: Scale) -> bool
-    ensures own { IsTrue result → unsigned_abs a.mantissa ≤ 2 ^ 100 }
-    ensures brought { IsTrue result → unsigned_abs (scaled a to.frac) ≤ 2 ^ 100 }
+    ensures { IsTrue result ↔ ((unsigned_abs a.mantissa ≤ 2 ^ 100)
+        × (unsigned_abs (scaled a to.frac) ≤ 2 ^ 100)) }
 {
     let added = u32::from(to.frac).saturating_sub(a.frac);
     is_within(a.mantissa) && has_room(a.mantissa, added)
@@ -67,8 +61,7 @@ pub fn can_fit(a: Num, to: Scale) -> bool
 
 /// Whether the number has a decimal text.
 pub fn can_write(a: Num) -> bool
-    ensures size { IsTrue result → unsigned_abs a.mantissa ≤ 2 ^ 100 }
-    ensures frac { IsTrue result → a.frac ≤ 64 }
+    ensures { IsTrue result ↔ ((unsigned_abs a.mantissa ≤ 2 ^ 100) × (a.frac ≤ 64)) }
 {
     is_within(a.mantissa) && a.frac <= MOST_FRAC
 }

@@ -1,0 +1,116 @@
+//! The answers to the calls of a table.
+
+use crate::call::{Call, read_call};
+use crate::conditions::{can_align, can_divide, can_fit, can_multiply, can_write, is_within};
+use fixed_point::{
+    Num, NumFault, Overflow, Scale, Zero, add, compare, div, exact, fit, mul, neg, read_decimal,
+    sub, write_decimal,
+};
+use std::cmp::Ordering;
+use std::fmt;
+
+/// What a line answers.
+#[derive(Clone, Copy)]
+pub enum Answer {
+    /// A number: its mantissa and its fraction.
+    Number(Num),
+    /// A mantissa of a scale.
+    Mantissa(i128),
+    /// The order of two numbers.
+    Order(Ordering),
+    /// So many bytes of decimal text, and how many.
+    Text([u8; 128], usize),
+    /// A scale, as `s8.0` or `u8.4`.
+    Made(Scale),
+    /// The divisor is 0.
+    Zero,
+    /// The mantissa is out of range, and the mode is `error`.
+    Overflow,
+    /// There is no such value.
+    Nothing,
+    /// Why a text gives no number.
+    Fault(NumFault),
+    /// The conditions of the call don't hold.
+    OutOfConditions,
+    /// The line is no call.
+    NotACall,
+}
+
+impl fmt::Display for Answer {
+    fn fmt<W: fmt::Write>(&self, f: &mut fmt::Formatter<W>) -> fmt::Result {
+        match self {
+            Answer::Number(Num { mantissa, frac }) => write!(f, "{mantissa} {frac}"),
+            Answer::Mantissa(mantissa) => write!(f, "{mantissa}"),
+            Answer::Order(order) => write!(f, "{order:?}"),
+            Answer::Text(buf, len) => {
+                for byte in buf.iter().take(*len) {
+                    f.write_char(char::from(*byte))?;
+                }
+                write!(f, " {len}")
+            }
+            Answer::Made(scale) => {
+                let sign = if scale.signed { 's' } else { 'u' };
+                let width = scale.width;
+                let frac = scale.frac;
+                write!(f, "{sign}{width}.{frac}")
+            }
+            Answer::Zero => write!(f, "Zero"),
+            Answer::Overflow => write!(f, "Overflow"),
+            Answer::Nothing => write!(f, "None"),
+            Answer::Fault(fault) => write!(f, "{fault:?}"),
+            Answer::OutOfConditions => write!(f, "out of conditions"),
+            Answer::NotACall => write!(f, "not a call"),
+        }
+    }
+}
+
+/// What a line answers: `read TEXT`, where the text is all behind the first blank, or a call.
+pub fn answer_line(line: &str) -> Answer {
+    let (name, rest) = line.split_once(' ').unwrap_or((line, ""));
+    if name == "read" {
+        return match read_decimal(rest.as_bytes()) {
+            Ok(number) => Answer::Number(number),
+            Err(fault) => Answer::Fault(fault),
+        };
+    }
+    match read_call(name, rest) {
+        Some(call) => answer_call(call),
+        None => Answer::NotACall,
+    }
+}
+
+/// What a call answers, or that its conditions don't hold.
+fn answer_call(call: Call) -> Answer {
+    match call {
+        Call::Add(a, b) if can_align(a, b) => Answer::Number(add(a, b)),
+        Call::Sub(a, b) if can_align(a, b) => Answer::Number(sub(a, b)),
+        Call::Mul(a, b) if can_multiply(a, b) => Answer::Number(mul(a, b)),
+        Call::Div(a, b) if can_divide(a, b) => match div(a, b) {
+            Ok(quotient) => Answer::Number(quotient),
+            Err(Zero) => Answer::Zero,
+        },
+        Call::Compare(a, b) if can_align(a, b) => Answer::Order(compare(a, b)),
+        Call::Neg(a) if is_within(a.mantissa) => Answer::Number(neg(a)),
+        Call::Fit(a, to, mode) if can_fit(a, to) => match fit(a, to, mode) {
+            Ok(mantissa) => Answer::Mantissa(mantissa),
+            Err(Overflow) => Answer::Overflow,
+        },
+        Call::Exact(a, to) => exact(a, to).map_or(Answer::Nothing, Answer::Mantissa),
+        Call::Write(a) if can_write(a) => {
+            let mut buf = [0; 128];
+            let len = write_decimal(a.mantissa, a.frac, &mut buf);
+            Answer::Text(buf, len)
+        }
+        Call::Make(signed, width, frac) => {
+            Scale::make(signed, width, frac).map_or(Answer::Nothing, Answer::Made)
+        }
+        Call::Add(..)
+        | Call::Sub(..)
+        | Call::Mul(..)
+        | Call::Div(..)
+        | Call::Compare(..)
+        | Call::Neg(_)
+        | Call::Fit(..)
+        | Call::Write(_) => Answer::OutOfConditions,
+    }
+}

@@ -6,6 +6,7 @@
 //! and `specs/Engines.antt` say what an engine shows.
 #![tactic(auto)]
 
+mod assignment;
 mod engine;
 mod event;
 mod expr;
@@ -13,6 +14,7 @@ mod names;
 mod sort;
 mod vals;
 
+pub use assignment::assign;
 pub use engine::{Engine, Halt, View};
 pub use event::Event;
 pub use expr::{Expr, Op, Stmt, Value};

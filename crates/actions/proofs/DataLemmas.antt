@@ -9,12 +9,10 @@ use Rattle.fixed_point.specs.declared.num.Num.{Num}
 use Rattle.fixed_point.specs.declared.scale.Scale.{Scale}
 use Rattle.fixed_point.specs.declared.fitting.Mode.{Mode}
 use Rattle.fixed_point.specs.declared.fitting.Overflow.{Overflow}
-use Rattle.flow_base.specs.declared.fault.Fault.TheVariants.{Overflow as Overflows}
-use Rattle.actions.specs.declared.expr.Value.{Value}
 use Rattle.actions.specs.declared.names.Sort.{Sort}
 use Rattle.actions.specs.declared.names.Sort.TheVariants as sorts
 use Rattle.actions.specs.declared.vals.Slot.{Slot}
-use Rattle.actions.specs.Data.{Datum, is_mantissa_of, HasItsSort, HaveTheirSorts, datum, no_datum, declared_datum, initial, HasInits, with_mantissa, keep, kept, assigned}
+use Rattle.actions.specs.Data.{Datum, is_mantissa_of, HasItsSort, HaveTheirSorts, datum, no_datum, declared_datum, initial, HasInits, with_mantissa}
 use Rattle.actions.specs.Names.{Names}
 use Rattle.actions.specs.Slots.{datum_of, data_of}
 use Rattle.actions.proofs.RangeLemmas.{fitted_is_in}
@@ -81,17 +79,12 @@ pub with_mantissa_sorts : (vals : List Datum) (v : ℕ) (m : ℤ) → HaveTheirS
     → HaveTheirSorts (with_mantissa vals v m)
 with_mantissa_sorts vals v m all h = all_set HasItsSort vals v (record (datum vals v) { mantissa = m }) all h
 
--- an assignment keeps what its datum keeps
-pub assigned_kept : (vals : List Datum) (v : ℕ) (value : Value) (d : Datum) (m : ℤ) → d ≡ datum vals v → Ok m ≡ kept value d
-    → assigned vals v value ≡ Ok (with_mantissa vals v m)
-unfolding assigned
-assigned_kept vals v value d m is e = ap (keep vals v) (sym (e ∙ ap (kept value) is))
-
--- or its datum overflows
-pub assigned_refused : (vals : List Datum) (v : ℕ) (value : Value) (d : Datum) (o : Overflow) → d ≡ datum vals v → Err o ≡ kept value d
-    → assigned vals v value ≡ Err (Overflows v)
-unfolding assigned
-assigned_refused vals v value d o is e = ap (keep vals v) (sym (e ∙ ap (kept value) is))
+-- and so do the slots
+pub slot_kept_sorts : (slots : List Slot) (vals : List Datum) (v : ℕ) (slot : Slot) (m : ℤ) → data_of slots ≡ vals → v < length vals
+    → slot ≡ get_or slots v slot → FitsSigned w128 m → HaveTheirSorts (data_of slots) → IsTrue (is_mantissa_of (datum vals v).sort m)
+    → HaveTheirSorts (data_of (set slots v (record slot { mantissa = to_z w128 (of_z w128 m) })))
+slot_kept_sorts slots vals v slot m are lt e fits all has =
+    subst HaveTheirSorts (sym (slot_kept slots vals v slot m are lt e fits)) (with_mantissa_sorts vals v m (subst HaveTheirSorts are all) has)
 
 -- ---- the first values
 

@@ -1,2 +1,5 @@
 pub mod RangeLemmas
 pub mod DataLemmas
+pub mod SizeLemmas
+pub mod AssignmentLemmas
+pub mod WorldLemmas

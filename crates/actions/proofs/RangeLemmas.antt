@@ -1,8 +1,8 @@
 -- What is brought to a scale lies in its range.
-use Rattle.std.proofs.Common.{◌≡◌, ℕ, suc, ◌-◌, ◌*◌, ◌%◌, ◌^◌, ◌<◌, ◌≤◌, ℤ, pos, negsuc, neg_ℤ, ◌+ℤ◌, ◌-ℤ◌, int_le, int_lt, Bool, true, false, cond, ◌&&◌, Ok, refl, sym, ap, ◌∙◌, arith}
+use Rattle.std.proofs.Common.{◌≡◌, ℕ, suc, ◌-◌, ◌*◌, ◌%◌, ◌^◌, ◌<◌, ◌≤◌, ℤ, pos, negsuc, neg_ℤ, ◌+ℤ◌, ◌-ℤ◌, int_le, int_lt, unsigned_abs, Bool, true, false, cond, ◌&&◌, Ok, refl, sym, ap, ◌∙◌, arith}
 use Rattle.std.proofs.lemmas.Int.{ints}
 use Rattle.std.proofs.lemmas.Nat.{pow_pos}
-use Rattle.std.proofs.Math.Nat.{mod-lt, pow-suc}
+use Rattle.std.proofs.Math.Nat.{mod-lt, pow-suc, pow-le-pow_right}
 use Rattle.std.specs.Int.{int_rem_euclid}
 use Rattle.fixed_point.specs.Numbers.{floored}
 use Rattle.fixed_point.specs.Scales.{least, greatest, is_in_range, nearest_end, wrapped, by_mode, fitted}
@@ -83,3 +83,26 @@ fitted_is_in n scale mode m e = at (is_in_range scale z) refl e
     at : (b : Bool) → is_in_range scale z ≡ b → cond b (Ok z) (by_mode mode scale z) ≡ Ok m → is_in_range scale m ≡ true
     at true is f = let same : z ≡ m = cc in ap (is_in_range scale) (sym same) ∙ is
     at false is f = by_mode_is_in mode scale z m f
+
+-- ---- how far a mantissa in range is from 0
+
+power-le : (i j : ℕ) → i ≤ j → 2 ^ i ≤ 2 ^ j
+power-le i j h = let two : 0 < 2 = omega arith in pow-le-pow_right {n = 2} two {i = i} {j = j} h
+
+small_unsigned : (width : ℕ) (m : ℤ) → width ≤ 64
+    → (int_le (pos 0) m && int_le m (pos (2 ^ width - 1))) ≡ true → unsigned_abs m ≤ 2 ^ 100
+small_unsigned width m bits is = let h = power-le width 64 bits in grind (arith, ints)
+
+small_signed : (bits : ℕ) (m : ℤ) → bits ≤ 64
+    → (int_le (neg_ℤ (pos (2 ^ bits))) m && int_le m (pos (2 ^ bits - 1))) ≡ true → unsigned_abs m ≤ 2 ^ 100
+small_signed bits m few is = let h = power-le bits 64 few in grind (arith, ints)
+
+-- a mantissa in range is small
+pub in_range_small : (scale : Scale) (m : ℤ) → is_in_range scale m ≡ true → unsigned_abs m ≤ 2 ^ 100
+in_range_small scale m is = at scale.signed scale.width scale.bits_within is
+  where
+    at : (signed : Bool) (width : ℕ) → width ≤ 64
+        → (int_le (cond signed (neg_ℤ (pos (2 ^ (width - 1)))) (pos 0)) m
+        && int_le m (cond signed (pos (2 ^ (width - 1) - 1)) (pos (2 ^ width - 1)))) ≡ true → unsigned_abs m ≤ 2 ^ 100
+    at true width bits is = small_signed (width - 1) m (omega arith) is
+    at false width bits is = small_unsigned width m bits is

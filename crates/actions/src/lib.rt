@@ -10,6 +10,7 @@ mod assignment;
 mod engine;
 mod event;
 mod expr;
+mod laws;
 mod names;
 mod sort;
 mod vals;
@@ -18,6 +19,10 @@ pub use assignment::assign;
 pub use engine::{Engine, Halt, View};
 pub use event::Event;
 pub use expr::{Expr, Op, Stmt, Value};
+pub use laws::{
+    assignments_keep_declarations, declared_scope, fits_at_first, narrow_values_can_be_assigned,
+    values_of_inputs_are_kept,
+};
 pub use names::{EventDecl, EventKind, Names, Sort, Var, VarKind};
 pub use sort::{ExprFault, ExprSort};
 pub use vals::Vals;

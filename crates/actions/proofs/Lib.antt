@@ -3,3 +3,4 @@ pub mod DataLemmas
 pub mod SizeLemmas
 pub mod AssignmentLemmas
 pub mod WorldLemmas
+pub mod TestLemmas

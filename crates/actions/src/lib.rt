@@ -14,6 +14,8 @@ mod laws;
 mod names;
 mod sort;
 mod vals;
+#[cfg(test)]
+mod vals_tests;
 
 pub use assignment::assign;
 pub use engine::{Engine, Halt, View};

@@ -1,1 +1,7 @@
+pub mod LeastSizeLemmas
+pub mod RangeLemmas
+pub mod DataLemmas
 pub mod SizeLemmas
+pub mod AssignmentLemmas
+pub mod WorldLemmas
+pub mod TestLemmas

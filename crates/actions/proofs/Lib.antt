@@ -1,0 +1,5 @@
+pub mod SizeLemmas
+pub mod OperatorLemmas
+pub mod OperandLemmas
+pub mod SortLemmas
+pub mod NarrowLemmas

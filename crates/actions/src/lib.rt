@@ -7,6 +7,7 @@
 #![tactic(auto)]
 
 mod engine;
+mod evaluation;
 mod event;
 mod expr;
 mod names;
@@ -14,6 +15,7 @@ mod sort;
 mod vals;
 
 pub use engine::{Engine, Halt, View};
+pub use evaluation::eval;
 pub use event::Event;
 pub use expr::{Expr, Op, Stmt, Value};
 pub use names::{EventDecl, EventKind, Names, Sort, Var, VarKind};

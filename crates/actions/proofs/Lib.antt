@@ -3,3 +3,5 @@ pub mod OperatorLemmas
 pub mod OperandLemmas
 pub mod SortLemmas
 pub mod NarrowLemmas
+pub mod EvaluationLemmas
+pub mod ValsLemmas

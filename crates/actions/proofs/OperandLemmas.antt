@@ -30,7 +30,7 @@ CanCompute ops.Mul a b = (unsigned_abs (a.mantissa *ℤ b.mantissa) ≤ 2 ^ 100)
 CanCompute ops.Div a b = CanDivide a b
 
 -- a sort that is there
-sort_there : (s : Sorted) → IsOk s → (sort : ExprSort) × (s ≡ Ok sort)
+pub sort_there : (s : Sorted) → IsOk s → (sort : ExprSort) × (s ≡ Ok sort)
 sort_there (Ok sort) ok = (sort, refl)
 sort_there (Err fault) ok = cc
 
@@ -63,13 +63,17 @@ number_sort (kinds.Number frac size) n narrow has = record {
 }
 
 -- operands that are numbers meet what the operator needs
-pub operands-compute : (op : Op) (a b : Num) → AreOperands op (values.Number a) (values.Number b) → CanCompute op a b
+operands-compute : (op : Op) (a b : Num) → AreOperands op (values.Number a) (values.Number b) → CanCompute op a b
 operands-compute op a b operands =
     let left = number_sort operands.left_sort a operands.left_narrow operands.left_has in
     let right = number_sort operands.right_sort b operands.right_narrow operands.right_has in
     let sort = sort_there _ operands.applies in
     let few : common_frac a b ≤ 64 = omega (arith, left.few, right.few) in
     sized-compute op a b left.size right.size sort.0 (record { left = left.small; right = right.small }) few (cc (left.is, right.is, sort.1))
+
+-- the same, where the operator is known
+pub computes : {op known : Op} {a b : Num} → op ≡ known → AreOperands op (values.Number a) (values.Number b) → CanCompute known a b
+computes {a = a} {b = b} e operands = subst (λ (o : Op). CanCompute o a b) e (operands-compute _ a b operands)
 
 -- the quotient has the sort, where the divisor isn't 0
 quotient-has : (zero_divisor : Bool) (n : Num) (sort : ExprSort) → HasSort sort (values.Number n)

@@ -15,6 +15,7 @@ use fixed_point::{Num, Zero, add, compare, div, mul, neg, sub};
 use flow_base::Fault;
 
 /// The value of an expression. It takes no memory.
+#[tactic(auto, unfolding(crate::specs::Values::value_of, crate::specs::Sorts::sort_of))]
 pub fn eval(expr: &Expr, vals: &Vals, marks: &Marks) -> Result<Value, Fault>
     requires { IsOk (sort_of (spec.scope_at vals.now marks.now) (expr_of expr.now)) }
     ensures value { result ≡ spec.value_of vals.now marks.now (expr_of expr.now) }
@@ -55,15 +56,11 @@ fn number(value: Value) -> Num
     }
 }
 
-/// The flag of a value that is one.
+/// Whether a value is the flag that is true.
 fn flag(value: Value) -> bool
-    requires { value ≡ Value.Flag (spec.flag_of value) }
     ensures { result ≡ spec.flag_of value }
 {
-    match value {
-        Value::Flag(b) => b,
-        Value::Number(_) => unreachable!(),
-    }
+    value == Value::Flag(true)
 }
 
 /// Whether the left side decides alone.
@@ -71,8 +68,8 @@ fn decides(op: Op, left: Value) -> bool
     ensures { result ≡ spec.decides op left }
 {
     match op {
-        Op::Or => left == Value::Flag(true),
-        Op::And => left == Value::Flag(false),
+        Op::Or => flag(left),
+        Op::And => !flag(left),
         _ => false,
     }
 }

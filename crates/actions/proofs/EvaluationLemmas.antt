@@ -12,7 +12,7 @@ use Rattle.actions.specs.Sorts.{Scope, Sorted, IsNarrow, with_sort, negative_sor
 use Rattle.actions.specs.Values.{HasSort, applied, number_of, scope_at}
 use Rattle.actions.specs.Data.{Datum, datum, IsValueOf}
 use Rattle.actions.specs.Operands.{AreOperands}
-use Rattle.actions.proofs.SizeLemmas.{size-weaker}
+use Rattle.actions.proofs.MagnitudeLemmas.{size-weaker}
 use Rattle.actions.proofs.OperandLemmas.{sort_there, applied-has_sort}
 use Rattle.actions.proofs.NarrowLemmas.{sort_of-narrow}
 use Rattle.actions.proofs.SortLemmas.{literal-has_sort, value-has_sort, datum-there}

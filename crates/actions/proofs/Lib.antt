@@ -1,4 +1,4 @@
-pub mod SizeLemmas
+pub mod MagnitudeLemmas
 pub mod OperatorLemmas
 pub mod OperandLemmas
 pub mod SortLemmas

@@ -8,7 +8,7 @@ use Rattle.actions.specs.declared.sort.ExprSort.{ExprSort}
 use Rattle.actions.specs.declared.sort.ExprSort.TheVariants as kinds
 use Rattle.actions.specs.Sorts.{size_at, number_within, sum_sort, product_sort, quotient_sort, comparison_sort}
 use Rattle.actions.specs.Values.{HasSort}
-use Rattle.actions.proofs.SizeLemmas.{size-weaker, scaled-within, dividend-within, product-within, sum-within, difference-within, floor_div-within}
+use Rattle.actions.proofs.MagnitudeLemmas.{size-weaker, scaled-within, dividend-within, product-within, sum-within, difference-within, floor_div-within}
 
 -- two numbers of these sizes
 pub record AreSized (a b : Num) (ma mb : ℕ) : Type 0 where

@@ -1,8 +1,11 @@
 -- The data that the code keeps, read.
-use Rattle.std.proofs.Common.{◌≡◌, ℕ, zero, suc, ◌<◌, List, [], ◌∷◌, length, map, get_or, refl, sym, ap, subst, ◌∙◌, arith}
+use Rattle.std.proofs.Common.{◌≡◌, ℕ, zero, suc, ◌<◌, List, [], ◌∷◌, length, map, get_or, IsTrue, refl, sym, ap, subst, ◌∙◌, arith}
 use Rattle.actions.specs.declared.expr.Value.{Value}
 use Rattle.actions.specs.declared.vals.Slot.{Slot}
-use Rattle.actions.specs.Data.{Datum, HasItsSort, HaveTheirSorts, datum, value_at, value_of_datum, IsValueOf}
+use Rattle.std.specs.List.{AllByRecursion}
+use Rattle.actions.specs.declared.names.Var.{Var}
+use Rattle.actions.specs.Names.{Names}
+use Rattle.actions.specs.Data.{Datum, is_mantissa_of, declared_datum, initial, HasInits, HasItsSort, HaveTheirSorts, datum, value_at, value_of_datum, IsValueOf}
 use Rattle.actions.specs.Slots.{datum_of, data_of}
 
 -- what is read at a number is the datum there
@@ -32,3 +35,14 @@ pub value_read-has : (vals : List Datum) (slots : List Slot) (v : ℕ) (s : Slot
     → s ≡ get_or slots v s → HaveTheirSorts (data_of slots) → IsValueOf (datum vals v).sort (value_at s.sort s.mantissa)
 value_read-has vals slots v s view below is have =
     ((datum vals v).mantissa, datum-has vals v (subst HaveTheirSorts view have) below, value_read vals slots v s view below is)
+
+-- declared data have values of their sorts
+declared-have : (vars : List Var) → AllByRecursion (λ (v : Var). IsTrue (is_mantissa_of v.sort v.init)) vars
+    → HaveTheirSorts (map declared_datum vars)
+declared-have [] inits = tt
+declared-have (v ∷ vars) inits = (inits.0, declared-have vars inits.1)
+
+-- so have those of a chart
+pub initial-have : (n : Names) → HasInits n → HaveTheirSorts (initial n)
+unfolding initial
+initial-have n inits = declared-have n.vars inits

@@ -5,3 +5,4 @@ pub mod SortLemmas
 pub mod NarrowLemmas
 pub mod EvaluationLemmas
 pub mod ValsLemmas
+pub mod LiteralLemmas

@@ -8,6 +8,8 @@
 
 mod engine;
 mod evaluation;
+#[cfg(test)]
+mod evaluation_tests;
 mod event;
 mod expr;
 mod names;

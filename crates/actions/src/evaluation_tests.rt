@@ -3,6 +3,7 @@ ghost use Rattle.std.specs.Prelude.{◌≡◌, ◌≢◌, ◌≤◌, ◌^◌, If
 ghost use Rattle.fixed_point.specs.declared.num.Num.{Num};
 ghost use Rattle.actions.specs.declared.expr.Op.{Op};
 ghost use Rattle.actions.specs.declared.sort.ExprSort.{ExprSort};
+ghost use Rattle.actions.specs.Data.{is_mantissa_of};
 ghost use Rattle.actions.specs.Exprs.{Lit, Bin};
 ghost use Rattle.actions.specs.Sorts.{Scope, binary_sort, sort_of};
 ghost use Rattle.actions.specs.Trees.{expr_of};
@@ -10,8 +11,8 @@ ghost use Rattle.actions.specs.Trees.{expr_of};
 use super::*;
 use crate::Op::{Add, And, Div, Eq, Ge, Gt, Le, Lt, Mul, Ne, Or, Sub};
 use active_config::{Comp, Marks, Shape};
-use fixed_point::Num;
-use flow_base::{Fault, List};
+use fixed_point::{Mode, Num, Scale};
+use flow_base::{Fault, List, Text};
 use std::alloc::{AllocError, Global};
 use std::test::Fail;
 
@@ -223,5 +224,77 @@ fn forms_of_one_operand(rt: HostRuntime) -> Result<(), Fail> {
     assert_eq!(rt; eval(&not, &vals, &marks), flag(false));
     let fault = Expr::Not(expr_on(alloc, Side::ByZero)?);
     assert_eq!(rt; eval(&fault, &vals, &marks), Err(Fault::Zero));
+    Ok(())
+}
+
+#[test]
+#[tactic(auto, unfolding(crate::specs::Sorts::sort_of, fixed_point::specs::Text::first_from))]
+fn the_widest_sum(rt: HostRuntime) -> Result<(), Fail> {
+    let (vals, marks) = nothing(rt.alloc())?;
+    let sum = on_literals(rt.alloc(), Add, num(1 << 99, 0), num(1 << 99, 0))?;
+    assert_eq!(rt; eval(&sum, &vals, &marks), number(1 << 100, 0));
+    let least = on_literals(rt.alloc(), Sub, num(-1 << 99, 0), num(1 << 99, 0))?;
+    assert_eq!(rt; eval(&least, &vals, &marks), number(-1 << 100, 0));
+    Ok(())
+}
+
+/// A local datum, with a value of its sort.
+fn datum(alloc: Global, sort: Sort, init: i128) -> Var
+    requires { IsTrue (is_mantissa_of sort init) }
+    ensures sort { result.sort ≡ sort }
+    ensures init { result.init ≡ init }
+{
+    Var {
+        name: Text::of(String::new(alloc)),
+        kind: VarKind::Local,
+        sort,
+        mode: Mode::Saturate,
+        init,
+    }
+}
+
+#[test]
+#[tactic(auto, unfolding(crate::specs::Sorts::sort_of, crate::specs::Data::initial))]
+fn data_are_read(rt: HostRuntime) -> Result<(), Fail> {
+    let alloc = rt.alloc();
+    let scale = Scale::make(true, 16, 8).ok_or("no scale")?;
+    let names = Names {
+        states: List::of(Vec::new(alloc)),
+        vars: List::of(vec![in alloc;
+            datum(alloc, Sort::Flag, 1),
+            datum(alloc, Sort::Number(scale), -384)
+        ]?),
+        events: List::of(Vec::new(alloc)),
+    };
+    let vals = Vals::make(alloc, &names)?;
+    let shape = Shape::make(alloc, vec![in alloc; 0]?, vec![in alloc; Comp::Leaf]?)?;
+    let marks = Marks::make(alloc, &shape)?;
+    assert_eq!(rt; eval(&Expr::Read(0), &vals, &marks), flag(true));
+    assert_eq!(rt; eval(&Expr::Read(1), &vals, &marks), number(-384, 8));
+    Ok(())
+}
+
+#[test]
+#[tactic(auto, unfolding(crate::specs::Sorts::sort_of, active_config::specs::Marks::can_mark))]
+fn states_are_active_or_not(rt: HostRuntime) -> Result<(), Fail> {
+    let alloc = rt.alloc();
+    let names = Names {
+        states: List::of(Vec::new(alloc)),
+        vars: List::of(Vec::new(alloc)),
+        events: List::of(Vec::new(alloc)),
+    };
+    let vals = Vals::make(alloc, &names)?;
+    let shape = Shape::make(
+        alloc,
+        vec![in alloc; 0, 0]?,
+        vec![in alloc; Comp::Or, Comp::Leaf]?,
+    )?;
+    let mut marks = Marks::make(alloc, &shape)?;
+    assert_eq!(rt; shape.len(), 2);
+    if !marks.on(0) && shape.parent(0).is_none() {
+        marks.mark(&shape, 0);
+    }
+    assert_eq!(rt; eval(&Expr::Active(0), &vals, &marks), flag(true));
+    assert_eq!(rt; eval(&Expr::Active(1), &vals, &marks), flag(false));
     Ok(())
 }

@@ -9,6 +9,9 @@
 mod assignment;
 mod copy;
 mod engine;
+mod evaluation;
+#[cfg(test)]
+mod evaluation_tests;
 mod event;
 mod expr;
 mod laws;
@@ -24,6 +27,7 @@ mod vals_tests;
 pub use assignment::assign;
 pub use copy::{copy_expr, copy_names};
 pub use engine::{Engine, Halt, View};
+pub use evaluation::eval;
 pub use event::Event;
 pub use expr::{Expr, Op, Stmt, Value};
 pub use laws::{

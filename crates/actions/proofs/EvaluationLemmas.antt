@@ -1,0 +1,99 @@
+-- What the values of an expression's parts are, where the expression has a sort.
+use Rattle.std.proofs.Common.{◌≡◌, ℕ, ◌+◌, ◌^◌, ◌≤◌, Bool, List, Result, Ok, Err, IsOk, is_ok, IfOk, unsigned_abs, refl, sym, ap, subst, ◌∙◌, arith}
+use Rattle.std.proofs.lemmas.Result.{IfOk-at_ok}
+use Rattle.fixed_point.specs.declared.num.Num.{Num}
+use Rattle.actions.specs.declared.expr.Op.{Op}
+use Rattle.actions.specs.declared.expr.Value.{Value}
+use Rattle.actions.specs.declared.expr.Value.TheVariants as values
+use Rattle.actions.specs.declared.sort.ExprSort.{ExprSort}
+use Rattle.actions.specs.declared.sort.ExprSort.TheVariants as kinds
+use Rattle.actions.specs.Exprs.{Expr, Lit, Read, Neg, Bin}
+use Rattle.actions.specs.Sorts.{Scope, Sorted, IsNarrow, with_sort, negative_sort, binary_sort, sort_of}
+use Rattle.actions.specs.Values.{HasSort, applied, number_of, scope_at}
+use Rattle.actions.specs.Data.{Datum, datum, IsValueOf}
+use Rattle.actions.specs.Operands.{AreOperands}
+use Rattle.actions.proofs.MagnitudeLemmas.{size-weaker}
+use Rattle.actions.proofs.OperandLemmas.{sort_there, applied-has_sort}
+use Rattle.actions.proofs.NarrowLemmas.{sort_of-narrow}
+use Rattle.actions.proofs.SortLemmas.{literal-has_sort, value-has_sort, datum-there}
+
+-- the value has each sort that the expression has
+abbrev pub HasSortOf : Scope → Expr → Value → Type 0
+HasSortOf c e x = (sort : ExprSort) → sort_of c e ≡ Ok sort → HasSort sort x
+
+-- a literal
+pub literal : (c : Scope) (e : Expr) (n : Num) → e ≡ Lit n → HasSortOf c e (values.Number n)
+unfolding sort_of
+literal c e n is sort has = literal-has_sort n sort (subst (λ (y : Expr). sort_of c y ≡ Ok sort) is has)
+
+-- a datum
+pub datum_read : (vals : List Datum) (marks : List Bool) (e : Expr) (v : ℕ) (x : Value) → e ≡ Read v → IsValueOf (datum vals v).sort x
+    → HasSortOf (scope_at vals marks) e x
+unfolding sort_of
+datum_read vals marks e v x is value sort has =
+    let there = datum-there vals v sort (subst (λ (y : Expr). sort_of (scope_at vals marks) y ≡ Ok sort) is has) in
+    value-has_sort (datum vals v).sort x sort value there.1
+
+-- what goes on with a sort has gone through it
+with_sort_there : (s : Sorted) (f : ExprSort → Sorted) (sort : ExprSort) → with_sort s f ≡ Ok sort
+    → (part : ExprSort) × (s ≡ Ok part) × (f part ≡ Ok sort)
+with_sort_there (Ok part) f sort e = (part, refl, e)
+with_sort_there (Err fault) f sort e = cc
+
+-- a number of a sort that has a negative
+pub record IsNegatable (x : Value) : Type 0 where
+  pub number : x ≡ values.Number (number_of x)
+  pub small : unsigned_abs (number_of x).mantissa ≤ 2 ^ 100
+
+negatable : (s sort : ExprSort) (x : Value) → negative_sort s ≡ Ok sort → IsNarrow s → HasSort s x → IsNegatable x
+negatable kinds.Flag sort x e narrow has = cc
+negatable (kinds.Number frac size) sort (values.Flag b) e narrow has = absurd has
+negatable (kinds.Number frac size) sort (values.Number n) e narrow has =
+    record { number = refl; small = size-weaker _ size 100 has.1 narrow.1 }
+
+-- the operand of `-`
+pub negated : (c : Scope) (e a : Expr) (x : Value) → e ≡ Neg a → IsOk (sort_of c e) → HasSortOf c a x → IsNegatable x
+unfolding sort_of
+negated c e a x is ok has =
+    let sort = sort_there (sort_of c (Neg a)) (subst (λ (y : Expr). IsOk (sort_of c y)) is ok) in
+    let part = with_sort_there (sort_of c a) negative_sort sort.0 sort.1 in
+    negatable part.0 sort.0 x part.2 (IfOk-at_ok IsNarrow part.1 (sort_of-narrow c a)) (has part.0 part.1)
+
+-- the sorts of both sides of an operator, with what the operator gives
+record AreSorts (c : Scope) (op : Op) (a b : Expr) (sort : ExprSort) : Type 0 where
+  left : ExprSort
+  right : ExprSort
+  left_is : sort_of c a ≡ Ok left
+  right_is : sort_of c b ≡ Ok right
+  given : binary_sort op left right ≡ Ok sort
+
+operator_sorts : (c : Scope) (op : Op) (a b : Expr) (sort : ExprSort) → sort_of c (Bin op a b) ≡ Ok sort → AreSorts c op a b sort
+unfolding sort_of
+operator_sorts c op a b sort e =
+    let left = with_sort_there (sort_of c a) (λ l. with_sort (sort_of c b) (binary_sort op l)) sort e in
+    let right = with_sort_there (sort_of c b) (binary_sort op left.0) sort left.2 in
+    record { left = left.0; right = right.0; left_is = left.1; right_is = right.1; given = right.2 }
+
+-- the values of both sides are operands
+pub operands : (c : Scope) (op : Op) (e a b : Expr) (x y : Value) → e ≡ Bin op a b → IsOk (sort_of c e) → HasSortOf c a x → HasSortOf c b y
+    → AreOperands op x y
+operands c op e a b x y is ok left right =
+    let sort = sort_there (sort_of c (Bin op a b)) (subst (λ (z : Expr). IsOk (sort_of c z)) is ok) in
+    let sides = operator_sorts c op a b sort.0 sort.1 in
+    record {
+      left_sort = sides.left;
+      right_sort = sides.right;
+      left_narrow = IfOk-at_ok IsNarrow sides.left_is (sort_of-narrow c a);
+      right_narrow = IfOk-at_ok IsNarrow sides.right_is (sort_of-narrow c b);
+      left_has = left sides.left sides.left_is;
+      right_has = right sides.right sides.right_is;
+      applies = ap is_ok sides.given;
+    }
+
+-- and the operator gives a value of its sort
+pub operator-has_sort : (c : Scope) (op : Op) (e a b : Expr) (x y : Value) → e ≡ Bin op a b → HasSortOf c a x → HasSortOf c b y
+    → (sort : ExprSort) → sort_of c e ≡ Ok sort → IfOk (applied op x y) (HasSort sort)
+operator-has_sort c op e a b x y is left right sort has =
+    let sides = operator_sorts c op a b sort (subst (λ (z : Expr). sort_of c z ≡ Ok sort) is has) in
+    applied-has_sort op x y sides.left sides.right sort (IfOk-at_ok IsNarrow sides.left_is (sort_of-narrow c a))
+    (IfOk-at_ok IsNarrow sides.right_is (sort_of-narrow c b)) (left sides.left sides.left_is) (right sides.right sides.right_is) sides.given

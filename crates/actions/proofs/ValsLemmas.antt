@@ -1,6 +1,5 @@
 -- The data that the code keeps, read.
-use Rattle.std.proofs.Common.{◌≡◌, ℕ, zero, suc, ◌<◌, List, [], ◌∷◌, length, map, get_or, IsTrue, refl, sym, ap, subst, ◌∙◌, arith}
-use Rattle.actions.specs.declared.expr.Value.{Value}
+use Rattle.std.proofs.Common.{◌≡◌, ℕ, zero, suc, ◌<◌, List, [], ◌∷◌, length, map, get_or, IsTrue, ap, subst, arith}
 use Rattle.actions.specs.declared.vals.Slot.{Slot}
 use Rattle.std.specs.List.{AllByRecursion}
 use Rattle.actions.specs.declared.names.Var.{Var}

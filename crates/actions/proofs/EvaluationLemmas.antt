@@ -1,5 +1,5 @@
 -- What the values of an expression's parts are, where the expression has a sort.
-use Rattle.std.proofs.Common.{◌≡◌, ℕ, ◌+◌, ◌^◌, ◌≤◌, Bool, List, Result, Ok, Err, IsOk, is_ok, IfOk, unsigned_abs, refl, sym, ap, subst, ◌∙◌, arith}
+use Rattle.std.proofs.Common.{◌≡◌, ℕ, ◌^◌, ◌≤◌, Bool, List, Ok, Err, IsOk, is_ok, IfOk, unsigned_abs, refl, ap, subst}
 use Rattle.std.proofs.lemmas.Result.{IfOk-at_ok}
 use Rattle.fixed_point.specs.declared.num.Num.{Num}
 use Rattle.actions.specs.declared.expr.Op.{Op}

@@ -1,10 +1,8 @@
-use Rattle.std.proofs.Common.{◌≡◌, Ok, Result, IfOk, ap}
-use Rattle.actions.specs.declared.sort.ExprSort.{ExprSort}
-use Rattle.actions.specs.Exprs.{Lit, Read, Neg, Bin}
-use Rattle.actions.specs.Sorts.{sort_of}
+use Rattle.std.proofs.Common.{◌≡◌, ap}
+use Rattle.actions.specs.Exprs.{Neg, Bin}
 use Rattle.actions.specs.Trees.{expr_of}
-use Rattle.actions.specs.Values.{scope_at, HasSort}
-use Rattle.actions.proofs.EvaluationLemmas.{literal, datum_read, IsNegatable, negated, operands, operator-has_sort}
+use Rattle.actions.specs.Values.{scope_at}
+use Rattle.actions.proofs.EvaluationLemmas.{literal, datum_read, negated, operands, operator-has_sort}
 use Rattle.actions.proofs.evaluation.+eval.Goals as goal
 
 pub returns-in-Lit-clause-sort : goal.returns-in-Lit-clause-sort

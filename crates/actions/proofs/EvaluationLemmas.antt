@@ -2,6 +2,7 @@
 use Rattle.std.proofs.Common.{◌≡◌, ℕ, ◌^◌, ◌≤◌, Bool, List, Ok, Err, IsOk, is_ok, IfOk, unsigned_abs, refl, ap, subst}
 use Rattle.std.proofs.lemmas.Result.{IfOk-at_ok}
 use Rattle.fixed_point.specs.declared.num.Num.{Num}
+use Rattle.actions.specs.declared.expr.Expr as declared
 use Rattle.actions.specs.declared.expr.Op.{Op}
 use Rattle.actions.specs.declared.expr.Value.{Value}
 use Rattle.actions.specs.declared.expr.Value.TheVariants as values
@@ -11,6 +12,7 @@ use Rattle.actions.specs.Exprs.{Expr, Lit, Read, Neg, Bin}
 use Rattle.actions.specs.Sorts.{Scope, Sorted, IsNarrow, with_sort, negative_sort, binary_sort, sort_of}
 use Rattle.actions.specs.Values.{HasSort, applied, number_of, scope_at}
 use Rattle.actions.specs.Data.{Datum, datum, IsValueOf}
+use Rattle.actions.specs.Trees.{expr_of}
 use Rattle.actions.specs.Operands.{AreOperands}
 use Rattle.actions.proofs.MagnitudeLemmas.{size-weaker}
 use Rattle.actions.proofs.OperandLemmas.{sort_there, applied-has_sort}
@@ -45,19 +47,22 @@ pub record IsNegatable (x : Value) : Type 0 where
   pub number : x ≡ values.Number (number_of x)
   pub small : unsigned_abs (number_of x).mantissa ≤ 2 ^ 100
 
+-- an operand of that sort is one
 negatable : (s sort : ExprSort) (x : Value) → negative_sort s ≡ Ok sort → IsNarrow s → HasSort s x → IsNegatable x
 negatable kinds.Flag sort x e narrow has = cc
 negatable (kinds.Number frac size) sort (values.Flag b) e narrow has = absurd has
 negatable (kinds.Number frac size) sort (values.Number n) e narrow has =
     record { number = refl; small = size-weaker _ size 100 has.1 narrow.1 }
 
--- the operand of `-`
-pub negated : (c : Scope) (e a : Expr) (x : Value) → e ≡ Neg a → IsOk (sort_of c e) → HasSortOf c a x → IsNegatable x
+-- the operand of `-`, a part b that is read as a
+pub negated : (c : Scope) (e : Expr) (a b : declared.Expr) (x : Value) → e ≡ Neg (expr_of b) → a ≡ b → IsOk (sort_of c e)
+    → HasSortOf c (expr_of a) x → IsNegatable x
 unfolding sort_of
-negated c e a x is ok has =
-    let sort = sort_there (sort_of c (Neg a)) (subst (λ (y : Expr). IsOk (sort_of c y)) is ok) in
-    let part = with_sort_there (sort_of c a) negative_sort sort.0 sort.1 in
-    negatable part.0 sort.0 x part.2 (IfOk-at_ok IsNarrow part.1 (sort_of-narrow c a)) (has part.0 part.1)
+negated c e a b x is read ok has =
+    let whole : e ≡ Neg (expr_of a) = rw read is in
+    let sort = sort_there (sort_of c (Neg (expr_of a))) (subst (λ (y : Expr). IsOk (sort_of c y)) whole ok) in
+    let part = with_sort_there (sort_of c (expr_of a)) negative_sort sort.0 sort.1 in
+    negatable part.0 sort.0 x part.2 (IfOk-at_ok IsNarrow part.1 (sort_of-narrow c (expr_of a))) (has part.0 part.1)
 
 -- the sorts of both sides of an operator, with what the operator gives
 record AreSorts (c : Scope) (op : Op) (a b : Expr) (sort : ExprSort) : Type 0 where
@@ -67,6 +72,7 @@ record AreSorts (c : Scope) (op : Op) (a b : Expr) (sort : ExprSort) : Type 0 wh
   right_is : sort_of c b ≡ Ok right
   given : binary_sort op left right ≡ Ok sort
 
+-- an operator that has a sort has them
 operator_sorts : (c : Scope) (op : Op) (a b : Expr) (sort : ExprSort) → sort_of c (Bin op a b) ≡ Ok sort → AreSorts c op a b sort
 unfolding sort_of
 operator_sorts c op a b sort e =
@@ -74,26 +80,29 @@ operator_sorts c op a b sort e =
     let right = with_sort_there (sort_of c b) (binary_sort op left.0) sort left.2 in
     record { left = left.0; right = right.0; left_is = left.1; right_is = right.1; given = right.2 }
 
--- the values of both sides are operands
-pub operands : (c : Scope) (op : Op) (e a b : Expr) (x y : Value) → e ≡ Bin op a b → IsOk (sort_of c e) → HasSortOf c a x → HasSortOf c b y
-    → AreOperands op x y
-operands c op e a b x y is ok left right =
-    let sort = sort_there (sort_of c (Bin op a b)) (subst (λ (z : Expr). IsOk (sort_of c z)) is ok) in
-    let sides = operator_sorts c op a b sort.0 sort.1 in
+-- the values of both sides, which are read as these, are operands
+pub operands : (c : Scope) (op : Op) (e : Expr) (a b a' b' : declared.Expr) (x y : Value) → e ≡ Bin op (expr_of a') (expr_of b')
+    → a ≡ a' → b ≡ b' → IsOk (sort_of c e) → HasSortOf c (expr_of a) x → HasSortOf c (expr_of b) y → AreOperands op x y
+operands c op e a b a' b' x y is left_read right_read ok left right =
+    let whole : e ≡ Bin op (expr_of a) (expr_of b) = rw (left_read, right_read) is in
+    let sort = sort_there (sort_of c (Bin op (expr_of a) (expr_of b))) (subst (λ (z : Expr). IsOk (sort_of c z)) whole ok) in
+    let sides = operator_sorts c op (expr_of a) (expr_of b) sort.0 sort.1 in
     record {
       left_sort = sides.left;
       right_sort = sides.right;
-      left_narrow = IfOk-at_ok IsNarrow sides.left_is (sort_of-narrow c a);
-      right_narrow = IfOk-at_ok IsNarrow sides.right_is (sort_of-narrow c b);
+      left_narrow = IfOk-at_ok IsNarrow sides.left_is (sort_of-narrow c (expr_of a));
+      right_narrow = IfOk-at_ok IsNarrow sides.right_is (sort_of-narrow c (expr_of b));
       left_has = left sides.left sides.left_is;
       right_has = right sides.right sides.right_is;
       applies = ap is_ok sides.given;
     }
 
--- and the operator gives a value of its sort
-pub operator-has_sort : (c : Scope) (op : Op) (e a b : Expr) (x y : Value) → e ≡ Bin op a b → HasSortOf c a x → HasSortOf c b y
+-- and the operator gives a value of the sort of the whole
+pub operator-has_sort : (c : Scope) (op : Op) (e : Expr) (a b a' b' : declared.Expr) (x y : Value) → e ≡ Bin op (expr_of a') (expr_of b')
+    → a ≡ a' → b ≡ b' → HasSortOf c (expr_of a) x → HasSortOf c (expr_of b) y
     → (sort : ExprSort) → sort_of c e ≡ Ok sort → IfOk (applied op x y) (HasSort sort)
-operator-has_sort c op e a b x y is left right sort has =
-    let sides = operator_sorts c op a b sort (subst (λ (z : Expr). sort_of c z ≡ Ok sort) is has) in
-    applied-has_sort op x y sides.left sides.right sort (IfOk-at_ok IsNarrow sides.left_is (sort_of-narrow c a))
-    (IfOk-at_ok IsNarrow sides.right_is (sort_of-narrow c b)) (left sides.left sides.left_is) (right sides.right sides.right_is) sides.given
+operator-has_sort c op e a b a' b' x y is left_read right_read left right sort has =
+    let whole : e ≡ Bin op (expr_of a) (expr_of b) = rw (left_read, right_read) is in
+    let sides = operator_sorts c op (expr_of a) (expr_of b) sort (subst (λ (z : Expr). sort_of c z ≡ Ok sort) whole has) in
+    applied-has_sort op x y sides.left sides.right sort (IfOk-at_ok IsNarrow sides.left_is (sort_of-narrow c (expr_of a)))
+    (IfOk-at_ok IsNarrow sides.right_is (sort_of-narrow c (expr_of b))) (left sides.left sides.left_is) (right sides.right sides.right_is) sides.given

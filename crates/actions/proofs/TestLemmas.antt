@@ -45,11 +45,6 @@ fitted_in_range n scale mode r o e is = subst (λ (x : Option ℤ). IfSome x (λ
     at (Ok m) e = fitted_is_in n scale mode m (sym e)
     at (Err x) e = tt
 
--- one more element
-pub all_push : {X : Type 0} (P : X → Type 0) (xs : List X) (y : X) → AllByRecursion P xs → P y → AllByRecursion P (xs ++ y ∷ [])
-all_push P [] y all h = (h, tt)
-all_push P (x ∷ xs) y all h = (all.0, all_push P xs y all.1 h)
-
 -- there are as many first values as declarations
 pub length-initial : (n : Names) → length (initial n) ≡ length n.vars
 unfolding initial

@@ -7,7 +7,27 @@ use Rattle.chart_tree.specs.declared.expr.UnWord.{UnWord}
 use Rattle.chart_tree.specs.declared.expr.BinWord.{BinWord}
 use Rattle.chart_tree.specs.declared.state.CompText.{CompText}
 use Rattle.chart_tree.specs.declared.chart.EventText.{EventText}
-use Rattle.chart_tree.specs.declared.chart.VarText.{VarText}
+use Rattle.chart_tree.specs.declared.chart.VarWord.{VarWord}
+use Rattle.chart_tree.specs.declared.sort.InitText.{InitText}
+use Rattle.fixed_point.specs.declared.fitting.Mode.{Mode}
+
+-- the parts of a scale: whether it is signed, its width and its fraction
+pub record ScaleParts : Type 0 where
+  pub signed : Bool
+  pub width : ℕ
+  pub frac : ℕ
+
+-- what values a datum has, and what is done with a number out of range
+pub data Sort : Type 0 where
+  FlagSort : Sort
+  NumberSort : ScaleParts → Mode → Sort
+
+-- the declaration of a datum
+pub record Var : Type 0 where
+  pub kind : VarWord
+  pub name : NameText
+  pub sort : Sort
+  pub init : InitText
 
 -- the names of a path from the top down
 abbrev pub Path : Type 0
@@ -76,5 +96,5 @@ mutual
 -- a chart
 pub record Chart : Type 0 where
   pub events : List EventText
-  pub vars : List VarText
+  pub vars : List Var
   pub root : State

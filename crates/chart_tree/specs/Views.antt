@@ -4,6 +4,10 @@ use Rattle.std.specs.Option.{option_map}
 use Rattle.flow_base.specs.Lists.{items_of}
 use Rattle.chart_tree.specs.declared.name.NameText.{NameText}
 use Rattle.chart_tree.specs.declared.name.PathText.{PathText}
+use Rattle.chart_tree.specs.declared.sort.SortText.{SortText}
+use Rattle.chart_tree.specs.declared.sort.SortText.TheVariants as sorts
+use Rattle.chart_tree.specs.declared.chart.VarText.{VarText}
+use Rattle.fixed_point.specs.declared.scale.Scale.{Scale}
 use Rattle.chart_tree.specs.declared.expr.ExprText.{ExprText}
 use Rattle.chart_tree.specs.declared.expr.ExprText.TheVariants as exprs
 use Rattle.chart_tree.specs.declared.state.StmtText.{StmtText}
@@ -15,7 +19,20 @@ use Rattle.chart_tree.specs.declared.state.TransText.{TransText}
 use Rattle.chart_tree.specs.declared.state.JunctionText.{JunctionText}
 use Rattle.chart_tree.specs.declared.state.StateText.{StateText, StateText', Row_of-StateText, end_of-StateText, more_of-StateText}
 use Rattle.chart_tree.specs.declared.chart.ChartText.{ChartText}
-use Rattle.chart_tree.specs.Trees.{Path, Expr, Lit, Flag, Name, Active, Unary, Binary, Stmt, Assign, Send, Emit, Dest, ToState, ToJunction, Guard, Trans, Junction, Parts, State, StateOf, States, NoState, MoreStates, Chart}
+use Rattle.chart_tree.specs.Trees.{ScaleParts, Sort, FlagSort, NumberSort, Var, Path, Expr, Lit, Flag, Name, Active, Unary, Binary, Stmt, Assign, Send, Emit, Dest, ToState, ToJunction, Guard, Trans, Junction, Parts, State, StateOf, States, NoState, MoreStates, Chart}
+
+-- the parts of a scale
+abbrev pub parts_of : Scale → ScaleParts
+parts_of s = record { signed = s.signed; width = s.width; frac = s.frac }
+
+-- a type of the code
+abbrev pub sort_of : SortText → Sort
+sort_of sorts.Flag = FlagSort
+sort_of (sorts.Number scale mode) = NumberSort (parts_of scale) mode
+
+-- the declaration of a datum of the code
+abbrev pub var_of : VarText → Var
+var_of v = record { kind = v.kind; name = v.name; sort = sort_of v.sort; init = v.init }
 
 -- a path of the code
 abbrev pub path_of : PathText → Path
@@ -87,4 +104,4 @@ abbrev mutual
 
 -- a chart of the code
 abbrev pub chart_of : ChartText → Chart
-chart_of c = record { events = items_of c.events; vars = items_of c.vars; root = state_of c.root }
+chart_of c = record { events = items_of c.events; vars = map var_of (items_of c.vars); root = state_of c.root }

@@ -18,3 +18,5 @@ pub mod LiftedLimits
 pub mod LiftedItems
 pub mod LiftedTexts
 pub mod Tokens
+pub mod AtFirst
+pub mod LiftedRefused

@@ -7,7 +7,8 @@ use Rattle.token_grammar.specs.declared.fault.Fault.TheVariants as faults
 use Rattle.token_grammar.specs.Token.{Lexeme}
 use Rattle.token_grammar.specs.Grammar.{Grammar, heads, is, token, one_of, ◌>>=◌, either, first_refused, allowed, Continues}
 use Rattle.token_grammar.proofs.Good.{Set, Sample, also, clear_left, clear_right}
-use Rattle.token_grammar.proofs.Join.{then_begun, either_left, either_right}
+use Rattle.token_grammar.proofs.Leaves.{plain}
+use Rattle.token_grammar.proofs.Join.{then_begun, then_behind, either_left, either_right}
 use Rattle.token_grammar.proofs.Allowed.{allowed_begun}
 
 -- each token of the set begins a spelling
@@ -19,6 +20,12 @@ pub record Expects {X : Type 0} (set : Set) (g : Grammar X) : Type 0 where
   pub other : (s : List Lexeme) → heads set s ≡ false → g.reads s ≡ Err (faults.Expected, s)
 
 -- ---- what begins a spelling
+
+-- where there is a kind in the set, some value has a spelling
+pub sample_starts : {X : Type 0} {set : Set} {g : Grammar X} (k : Kind) → set k ≡ true → Starts set g → Sample g
+sample_starts k there a =
+    let c = a.each (plain k) there in
+    record { tokens = plain k ∷ c.rest; value = c.value; spelled = c.spelled }
 
 pub starts_one_of : (set : Set) → Starts set (one_of set)
 unfolding one_of
@@ -34,6 +41,14 @@ starts_then a samples = record { each = λ t there. then_begun (t ∷ []) (a.eac
 or_cases : {A : Type 0} (a b : Bool) → (a || b) ≡ true → (a ≡ true → A) → (b ≡ true → A) → A
 or_cases true b h f g = f refl
 or_cases false b h f g = g h
+
+-- what begins the first part, or where that may be empty the second, begins the whole
+pub starts_also : {X Y : Type 0} {f1 f2 : Set} {g : Grammar X} {h : X → Grammar Y} (x : X) → g.spells [] x → Starts f1 g → Starts f2 (h x)
+    → ((y : X) → Sample (h y)) → Starts (also f1 true f2) (g >>= h)
+starts_also {X} {Y} {f1} {f2} {g} {h} x none a b samples = record {
+  each = λ t there.
+      or_cases (f1 t.kind) (f2 t.kind) there (λ l. then_begun (t ∷ []) (a.each t l) samples) (λ r. then_behind g h [] (t ∷ []) x none (b.each t r));
+}
 
 pub starts_either : {X : Type 0} {f1 f2 : Set} {g h : Grammar X} (set : Set) → Starts f1 g → Starts f2 h → Starts (also f1 true f2) (either set g h)
 starts_either {X} {f1} {f2} set a b = record {

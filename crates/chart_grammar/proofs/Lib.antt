@@ -1,0 +1,4 @@
+pub mod SetLaws
+pub mod WordLaws
+pub mod ChainLaws
+pub mod ExpressionLaws

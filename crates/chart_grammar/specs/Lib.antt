@@ -5,3 +5,4 @@ pub mod Transitions
 pub mod Types
 pub mod Declarations
 pub mod States
+pub mod Refusals

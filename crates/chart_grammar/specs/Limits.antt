@@ -1,5 +1,5 @@
 -- Limits of a chart text: which token is one too many.
-use Rattle.std.specs.Prelude.{ℕ, ◌+◌, nat_lt, nat_le, Bool, Option, Some, None, if◌then◌else◌}
+use Rattle.std.specs.Prelude.{◌≡◌, ℕ, ◌+◌, ◌<◌, nat_lt, nat_le, Bool, true, false, Option, Some, None, if◌then◌else◌}
 use Rattle.token_grammar.specs.declared.fault.Fault.{Fault}
 use Rattle.token_grammar.specs.declared.fault.Fault.TheVariants as faults
 use Rattle.token_grammar.specs.declared.fault.Thing.{Thing}
@@ -113,3 +113,21 @@ event_refused l n = one_more_item l things.Events n.events n
 -- the fault of one more statement in a block that has so many
 abbrev pub statement_refused : Limits → ℕ → Counts → Option Fault
 statement_refused l before n = one_more_item l things.Statements before n
+
+-- ---- limits that don't count
+
+-- the faults of rank k and above
+abbrev pub lifts_from : ℕ → Fault → Bool
+lifts_from k fault = nat_le k (rank fault)
+
+-- a bound on nesting is the usual one, or a greater one where it is lifted
+abbrev pub LiftedBound : Bool → ℕ → ℕ → Type 0
+LiftedBound true most bound = most < bound
+LiftedBound false most bound = bound ≡ most
+
+-- the limits of rank k and above don't count, and all others are the usual ones
+pub record LiftedFrom (k : ℕ) (l : Limits) : Type 0 where
+  pub from : l.lifted_from ≡ k
+  pub depth : LiftedBound (lifts_from k faults.NestTooDeep) usual.depth l.depth
+  pub nesting
+      : LiftedBound (lifts_from k (faults.TooMany things.Operators)) usual.nesting l.nesting

@@ -1,8 +1,10 @@
 -- Junctions, states and charts.
-use Rattle.std.specs.Prelude.{ℕ, zero, suc, Bool, true, false, not, ◌&&◌, ◌||◌, List, [], ◌∷◌, Some}
+use Rattle.std.specs.Prelude.{ℕ, zero, suc, Bool, true, false, not, ◌&&◌, ◌||◌, List, [], ◌∷◌, Option, Some, None, if◌then◌else◌}
 use Rattle.token_grammar.specs.declared.token.Kind.{Kind}
 use Rattle.token_grammar.specs.declared.token.Kind.TheVariants as kinds
+use Rattle.token_grammar.specs.declared.fault.Fault.{Fault}
 use Rattle.token_grammar.specs.declared.fault.Fault.TheVariants as faults
+use Rattle.token_grammar.specs.Token.{Lexeme}
 use Rattle.token_grammar.specs.Grammar.{Grammar, is, token, allowed, give, either, many_from, ◌>>=◌, ◌>>◌}
 use Rattle.chart_tree.specs.declared.name.NameText.{NameText}
 use Rattle.chart_tree.specs.declared.chart.EventText.{EventText}
@@ -160,13 +162,23 @@ chart_item l state z =
     (either kind_heads (variable_item l z.counts)
     (state z.counts >>= λ found. give (counted_as StateItem found))))))))
 
+-- a token of another kind isn't expected
+abbrev pub unexpected : (Kind → Bool) → Lexeme → Option Fault
+unexpected set t = if set t.kind then None else Some faults.Expected
+
+-- g, where it begins with a token of the set
+abbrev pub beginning : {X : Type 0} → (Kind → Bool) → Grammar X → Grammar X
+beginning set g = allowed (λ k. true) (unexpected set) g
+
 -- item*
 unfoldable pub items : Limits → StateGrammar → Seen → Grammar (List (Counted Item))
-items l state z = many_from item_heads (item l state) after_item z
+items l state z =
+    many_from item_heads (λ seen. beginning (item_heads seen) (item l state seen)) after_item z
 
 -- (decl | item)*
 unfoldable pub chart_items : Limits → StateGrammar → Seen → Grammar (List (Counted Item))
-chart_items l state z = many_from chart_heads (chart_item l state) after_item z
+chart_items l state z =
+    many_from chart_heads (λ seen. beginning (chart_heads seen) (chart_item l state seen)) after_item z
 
 -- ---- a state's items in their lists
 
@@ -181,8 +193,15 @@ pub record Sorted : Type 0 where
 abbrev pub no_items : NameText → CompText → Sorted
 no_items name comp = record {
   parts = record {
-    name = name; comp = comp; entry = []; during = []; exit = [];
-    outer = []; inner = []; default = []; junctions = [];
+    name = name;
+    comp = comp;
+    entry = [];
+    during = [];
+    exit = [];
+    outer = [];
+    inner = [];
+    default = [];
+    junctions = [];
   };
   states = NoState;
   events = [];

@@ -2,3 +2,8 @@ pub mod SetLaws
 pub mod WordLaws
 pub mod ChainLaws
 pub mod ExpressionLaws
+pub mod TypeLaws
+pub mod DeclarationLaws
+pub mod TransitionLaws
+pub mod ItemLaws
+pub mod StateLaws

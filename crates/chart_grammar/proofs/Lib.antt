@@ -7,3 +7,9 @@ pub mod DeclarationLaws
 pub mod TransitionLaws
 pub mod ItemLaws
 pub mod StateLaws
+pub mod LimitLaws
+pub mod LiftedWords
+pub mod LiftedChains
+pub mod LiftedExpressions
+pub mod LiftedDeclarations
+pub mod LiftedTransitions

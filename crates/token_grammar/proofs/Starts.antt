@@ -1,13 +1,13 @@
 -- Which tokens a grammar begins with: each token of a set continues, and any other is Expected.
-use Rattle.std.proofs.Common.{◌≡◌, Bool, true, false, List, [], ◌∷◌, Err, Option, None, refl, inl, inr, ◌||◌}
+use Rattle.std.proofs.Common.{◌≡◌, Bool, true, false, List, [], ◌∷◌, Err, Option, Some, None, refl, inl, inr, ◌||◌}
 use Rattle.std.proofs.lemmas.Bool.{cases_Bool}
 use Rattle.token_grammar.specs.declared.token.Kind.{Kind}
 use Rattle.token_grammar.specs.declared.fault.Fault.{Fault}
 use Rattle.token_grammar.specs.declared.fault.Fault.TheVariants as faults
 use Rattle.token_grammar.specs.Token.{Lexeme}
-use Rattle.token_grammar.specs.Grammar.{Grammar, heads, is, token, one_of, ◌>>=◌, either, first_refused, allowed, Continues}
+use Rattle.token_grammar.specs.Grammar.{Grammar, heads, is, token, one_of, ◌>>=◌, either, optional, first_refused, allowed, Continues}
 use Rattle.token_grammar.proofs.Good.{Set, Sample, also, clear_left, clear_right}
-use Rattle.token_grammar.proofs.Leaves.{plain}
+use Rattle.token_grammar.proofs.Leaves.{plain, sample_give}
 use Rattle.token_grammar.proofs.Join.{then_begun, then_behind, either_left, either_right}
 use Rattle.token_grammar.proofs.Allowed.{allowed_begun}
 
@@ -49,6 +49,13 @@ starts_also {X} {Y} {f1} {f2} {g} {h} x none a b samples = record {
   each = λ t there.
       or_cases (f1 t.kind) (f2 t.kind) there (λ l. then_begun (t ∷ []) (a.each t l) samples) (λ r. then_behind g h [] (t ∷ []) x none (b.each t r));
 }
+
+-- what begins the first of two
+pub starts_left : {X : Type 0} {f : Set} {g h : Grammar X} (set : Set) → Starts f g → Starts f (either set g h)
+starts_left set a = record { each = λ t there. either_left set (t ∷ []) (a.each t there) }
+
+pub starts_optional : {X : Type 0} {f : Set} {g : Grammar X} (set : Set) → Starts f g → Starts f (optional set g)
+starts_optional set a = starts_left set (starts_then a (λ x. sample_give (Some x)))
 
 pub starts_either : {X : Type 0} {f1 f2 : Set} {g h : Grammar X} (set : Set) → Starts f1 g → Starts f2 h → Starts (also f1 true f2) (either set g h)
 starts_either {X} {f1} {f2} set a b = record {

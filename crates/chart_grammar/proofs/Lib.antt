@@ -13,3 +13,6 @@ pub mod LiftedChains
 pub mod LiftedExpressions
 pub mod LiftedDeclarations
 pub mod LiftedTransitions
+pub mod LiftedItemLaws
+pub mod LiftedStates
+pub mod TextLaws

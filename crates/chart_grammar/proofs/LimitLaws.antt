@@ -96,6 +96,10 @@ items_too k thing lift =
     let high = ranks_below thing in
     le-leb k 11 (omega arith)
 
+-- the limit of states has a later rank than that of their depth
+pub states_too : (k : ℕ) → lifts_from k faults.NestTooDeep ≡ true → lifts_from k (faults.TooMany things.States) ≡ true
+states_too k lift = let low = leb-true k 3 lift in le-leb k 4 (omega arith)
+
 one_more_says : (thing : Thing) (count : ℕ) (f : Fault) → one_more usual thing count ≡ Some f → faults.TooMany thing ≡ f
 one_more_says thing count f e =
     elim (cases_Bool (ltb count (most thing))) [

@@ -16,3 +16,5 @@ pub mod LiftedTransitions
 pub mod LiftedItemLaws
 pub mod LiftedStates
 pub mod TextLaws
+pub mod ChainLoop
+pub mod ReadingLaws

@@ -1,14 +1,15 @@
 -- A whole chart text: what is read is spelled so, what is spelled is read, and which fault stops another text.
-use Rattle.std.proofs.Common.{◌≡◌, ◌≢◌, ℕ, ◌+◌, ◌≤◌, Bool, true, false, List, [], ◌∷◌, ◌++◌, Err, refl, sym, subst, ◌∙◌, inl, inr, ◌⊎◌, arith}
-use Rattle.std.proofs.lemmas.List.{append_cancel_right}
+use Rattle.std.proofs.Common.{◌≡◌, ◌≢◌, ℕ, ◌+◌, ◌≤◌, Bool, true, false, List, [], ◌∷◌, ◌++◌, Ok, Err, refl, sym, subst, ◌∙◌, inl, inr, ◌⊎◌, arith}
+use Rattle.std.proofs.lemmas.List.{append-nil, append_cancel_right}
 use Rattle.std.proofs.lemmas.Bool.{le-leb, lt-leb}
 use Rattle.token_grammar.specs.declared.fault.Fault.{Fault}
 use Rattle.token_grammar.specs.declared.fault.Fault.TheVariants as faults
 use Rattle.token_grammar.specs.declared.fault.Thing.TheVariants as things
 use Rattle.token_grammar.specs.Token.{Lexeme}
 use Rattle.token_grammar.specs.Grammar.{Grammar, Continues, FirstFault, whole_reads}
-use Rattle.token_grammar.proofs.Faults.{whole_fault}
+use Rattle.token_grammar.proofs.Faults.{whole_found, whole_only, whole_fault}
 use Rattle.token_grammar.proofs.LiftedTexts.{whole_lifted, whole_ends, whole_kept}
+use Rattle.chart_tree.specs.Trees.{Chart}
 use Rattle.chart_grammar.specs.Limits.{Limits, usual, rank, lifts_from, LiftedBound, LiftedFrom}
 use Rattle.chart_grammar.specs.States.{chart}
 use Rattle.chart_grammar.specs.Refusals.{IsFaultOf}
@@ -61,6 +62,23 @@ limits_from k = record {
 
 pub lifted_limits : (k : ℕ) → LiftedFrom k (limits_from k)
 lifted_limits k = record { from = refl; depth = raised_bound _ usual.depth; nesting = raised_bound _ usual.nesting }
+
+-- ---- what is read
+
+pub text_found : (s : List Lexeme) (x : Chart) (r : List Lexeme) → whole_reads (chart usual) s ≡ Ok (x, r) → (chart usual).spells s x
+text_found s x r e = whole_found (fine_chart usual).good s x r e
+
+pub text_only : (s : List Lexeme) (x : Chart) → (chart usual).spells s x → whole_reads (chart usual) s ≡ Ok (x, [])
+text_only s x w = whole_only (fine_chart usual).good s x w
+
+-- ---- tokens that continue
+
+pub found_continues : (s : List Lexeme) (x : Chart) (r : List Lexeme) → whole_reads (chart usual) s ≡ Ok (x, r) → Continues (chart usual) s
+found_continues s x r e = record { rest = []; value = x; spelled = rw append-nil (text_found s x r e) }
+
+-- they end too early
+pub ended_continues : (s : List Lexeme) → FirstFault (chart usual) s [] → Continues (chart usual) s
+ended_continues s stops = subst (Continues (chart usual)) (sym (stops.parts ∙ append-nil stops.before)) stops.continues
 
 -- ---- refusals
 

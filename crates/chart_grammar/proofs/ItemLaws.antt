@@ -12,7 +12,7 @@ use Rattle.chart_tree.specs.Trees.{Stmt, Trans}
 use Rattle.chart_grammar.specs.Limits.{Limits, Counts, Counted, junction_refused, after_junction, after_event, after_variable}
 use Rattle.chart_grammar.specs.Transitions.{block, after_stmts, trans_heads}
 use Rattle.chart_grammar.specs.Declarations.{kind_heads}
-use Rattle.chart_grammar.specs.States.{values, counts_behind, junction_list, junction, StateGrammar, Item, Entry, During, Exit, Outer, Inner, Default, JunctionItem, StateItem, EventItem, VarItem, Seen, after_item, counted_as, action_item, trans_item, junction_item, event_item, variable_item, item_heads, chart_heads, item, chart_item, beginning, items, chart_items}
+use Rattle.chart_grammar.specs.States.{values, counts_behind, junction_list, junction, StateGrammar, Item, Entry, During, Exit, Outer, Inner, Default, JunctionItem, StateItem, EventItem, VarItem, Seen, after_item, counted_as, action_item, trans_item, junction_item, event_item, variable_item, item_heads, chart_heads, item, chart_item, next_item, next_chart_item, items, chart_items}
 use Rattle.chart_grammar.proofs.SetLaws.{good_clean, same_set, good_beginning}
 use Rattle.chart_grammar.proofs.WordLaws.{fine_name}
 use Rattle.chart_grammar.proofs.TransitionLaws.{fine_block, good_junction_trans, good_keyword_trans}
@@ -138,10 +138,10 @@ module _ (l : Limits) {state : StateGrammar} (a : (n : Counts) → Good (state n
       refl refl) refl refl) refl refl) refl refl) refl refl) refl refl) refl refl) refl refl
 
   -- an item where it may stand
-  pub good_next_item : (z : Seen) → Good (beginning (item_heads z) (item l state z)) (item_heads z) false nothing
+  pub good_next_item : (z : Seen) → Good (next_item l state z) (item_heads z) false nothing
   good_next_item z = good_beginning (item_heads z) (good_item z)
 
-  pub good_next_chart_item : (z : Seen) → Good (beginning (chart_heads z) (chart_item l state z)) (chart_heads z) false nothing
+  pub good_next_chart_item : (z : Seen) → Good (next_chart_item l state z) (chart_heads z) false nothing
   good_next_chart_item z = good_beginning (chart_heads z) (good_chart_item z)
 
   pub fine_items : (z : Seen) → Fine (items l state z) item_kinds true item_kinds

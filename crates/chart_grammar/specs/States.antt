@@ -170,15 +170,21 @@ unexpected set t = if set t.kind then None else Some faults.Expected
 abbrev pub beginning : {X : Type 0} → (Kind → Bool) → Grammar X → Grammar X
 beginning set g = allowed (λ k. true) (unexpected set) g
 
+-- an item where it may stand
+abbrev pub next_item : Limits → StateGrammar → Seen → Grammar (Counted Item)
+next_item l state z = beginning (item_heads z) (item l state z)
+
+-- the same in the chart
+abbrev pub next_chart_item : Limits → StateGrammar → Seen → Grammar (Counted Item)
+next_chart_item l state z = beginning (chart_heads z) (chart_item l state z)
+
 -- item*
 unfoldable pub items : Limits → StateGrammar → Seen → Grammar (List (Counted Item))
-items l state z =
-    many_from item_heads (λ seen. beginning (item_heads seen) (item l state seen)) after_item z
+items l state z = many_from item_heads (next_item l state) after_item z
 
 -- (decl | item)*
 unfoldable pub chart_items : Limits → StateGrammar → Seen → Grammar (List (Counted Item))
-chart_items l state z =
-    many_from chart_heads (λ seen. beginning (chart_heads seen) (chart_item l state seen)) after_item z
+chart_items l state z = many_from chart_heads (next_chart_item l state) after_item z
 
 -- ---- a state's items in their lists
 

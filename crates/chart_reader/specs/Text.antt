@@ -1,25 +1,24 @@
 -- Which texts are chart texts, and how another text is refused.
-use Rattle.std.specs.Prelude.{◌≡◌, ◌≢◌, ℕ, ◌+◌, ◌<◌, ◌≤◌, nat_le, Bool, not, List, [], ◌∷◌, ◌++◌, length, Result, Ok, Err, if◌then◌else◌, ◌⊎◌}
+use Rattle.std.specs.Prelude.{◌≡◌, ℕ, ◌<◌, ◌≤◌, not, List, [], ◌∷◌, length, Result, Ok, Err, ◌⊎◌}
 use Rattle.std.specs.List.{filter}
 use Rattle.token_grammar.specs.declared.token.Kind.TheVariants as kinds
 use Rattle.token_grammar.specs.declared.token.Span.{Span}
 use Rattle.token_grammar.specs.declared.fault.Fault.{Fault}
 use Rattle.token_grammar.specs.declared.fault.Fault.TheVariants as reading
-use Rattle.token_grammar.specs.declared.fault.Thing.TheVariants as things
 use Rattle.token_grammar.specs.Token.{Lexeme, kind_eq}
-use Rattle.token_grammar.specs.Grammar.{Grammar, Continues, FirstFault}
+use Rattle.token_grammar.specs.Grammar.{Continues, FirstFault}
 use Rattle.chart_lexer.specs.declared.front.Stop.{Stop}
 use Rattle.chart_lexer.specs.declared.front.Stop.TheVariants as stops
 use Rattle.chart_lexer.specs.Lex.{cut_of, begin}
-use Rattle.chart_tree.specs.Form.{kind_of}
 use Rattle.chart_tree.specs.declared.fault.FormKind.TheVariants as forms
 use Rattle.chart_tree.specs.declared.fault.FormFault.{FormFault}
 use Rattle.chart_tree.specs.declared.fault.FormFault.TheVariants as faults
 use Rattle.chart_tree.specs.declared.chart.ChartText.{ChartText}
 use Rattle.chart_tree.specs.Trees.{Chart}
 use Rattle.chart_tree.specs.Views.{chart_of}
-use Rattle.chart_grammar.specs.Limits.{Limits, usual, rank}
+use Rattle.chart_grammar.specs.Limits.{usual}
 use Rattle.chart_grammar.specs.States.{chart}
+use Rattle.chart_grammar.specs.Refusals.{IsFaultOf}
 
 -- the tokens of a text, without its comments
 unfoldable pub tokens_of : List ℕ → List Lexeme
@@ -30,24 +29,6 @@ pub record Spells (text : List ℕ) (c : Chart) : Type 0 where
   pub short : length text ≤ 1048576
   pub whole : (cut_of text).stop ≡ stops.End
   pub spelled : (chart usual).spells (tokens_of text) c
-
--- ---- which fault a token has
-
--- a bound on nesting is the usual one, or a greater one where it is lifted
-abbrev pub LiftedBound : Bool → ℕ → ℕ → Type 0
-LiftedBound lifted most bound = if lifted then most < bound else bound ≡ most
-
--- the limits of rank k and above don't count, and all others are the usual ones
-pub record LiftedFrom (k : ℕ) (l : Limits) : Type 0 where
-  pub from : l.lifted_from ≡ k
-  pub depth : LiftedBound (nat_le k (rank reading.NestTooDeep)) usual.depth l.depth
-  pub nesting : LiftedBound (nat_le k (rank (reading.TooMany things.Operators))) usual.nesting l.nesting
-
--- behind these tokens, the token doesn't continue though all limits behind the fault's don't count; and where it is one of a limit, it continues once that limit doesn't count either
-pub record IsFaultOf (before : List Lexeme) (t : Lexeme) (fault : Fault) : Type 0 where
-  pub stays : (l : Limits) → LiftedFrom (rank fault + 1) l → Continues (chart l) (before ++ t ∷ []) → ⊥
-  pub lifted : fault ≢ reading.Expected → (l : Limits) → LiftedFrom (rank fault) l
-      → Continues (chart l) (before ++ t ∷ [])
 
 -- ---- refusals of a text that isn't too long
 

@@ -10,5 +10,5 @@ mod fault;
 mod token;
 
 pub use cursor::Cursor;
-pub use fault::{Fault, ReadError};
+pub use fault::{Fault, ReadError, Thing};
 pub use token::{Kind, Span, Token};

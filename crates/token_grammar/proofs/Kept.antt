@@ -4,7 +4,7 @@ use Rattle.std.specs.List.{AllByRecursion}
 use Rattle.token_grammar.specs.declared.token.Kind.{Kind}
 use Rattle.token_grammar.specs.declared.fault.Fault.{Fault}
 use Rattle.token_grammar.specs.Token.{Lexeme, kind_eq}
-use Rattle.token_grammar.specs.Grammar.{Grammar, first_refused, token, one_of, give, ◌>>=◌, either, optional, allowed, forbidden, many, many_spells, many_from, many_from_spells, up_to_from, up_to_spells}
+use Rattle.token_grammar.specs.Grammar.{Grammar, is, first_refused, token, one_of, give, ◌>>=◌, either, optional, allowed, forbidden, many, many_spells, many_from, many_from_spells, up_to_from, up_to_spells}
 use Rattle.token_grammar.proofs.Good.{Set, Good, Begins}
 use Rattle.token_grammar.proofs.Sets.{subset, within}
 
@@ -65,10 +65,20 @@ kept_allowed {X} {P} {g} {Q} {f} set test a p b = record { kept = λ u x w all. 
         (b t all.0 (rw there at passes)).kept (t ∷ u) x w all
 
 -- of one token the test has none
-pub kept_allowed_one : (P : Lexeme → Type 0) (set : Set) (test : Lexeme → Option Fault)
+pub kept_allowed_one_of : (P : Lexeme → Type 0) (set : Set) (test : Lexeme → Option Fault)
     → Kept P (allowed set test (one_of set)) (λ t. P t × (set t.kind ≡ true) × (test t ≡ None))
 unfolding one_of
-kept_allowed_one P set test = record {
+kept_allowed_one_of P set test = record {
+  kept = λ u t w all.
+      let one = rw w.1.0 at all in
+      let passes = rw w.1.0 at w.0 in
+      (one.0, w.1.1, rw w.1.1 at passes);
+}
+
+pub kept_allowed_token : (P : Lexeme → Type 0) (k : Kind) (test : Lexeme → Option Fault)
+    → Kept P (allowed (is k) test (token k)) (λ t. P t × (kind_eq t.kind k ≡ true) × (test t ≡ None))
+unfolding token
+kept_allowed_token P k test = record {
   kept = λ u t w all.
       let one = rw w.1.0 at all in
       let passes = rw w.1.0 at w.0 in

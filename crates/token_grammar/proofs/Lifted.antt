@@ -105,11 +105,11 @@ lifted_one_of {lifts} kept set = lifted_same (good_one_of set) (λ s r d e. ap l
 pub eased_one_of : {lifts : Fault → Bool} → lifts faults.Expected ≡ false → (set : Set) (k : Kind) → set k ≡ true → Eased lifts (one_of set) (one_of set)
 eased_one_of kept set k there = record { lifted = lifted_one_of kept set; sample = sample_one_of set k there }
 
+pub lifted_token : {lifts : Fault → Bool} → lifts faults.Expected ≡ false → (k : Kind) → Lifted lifts (token k) (token k)
+lifted_token {lifts} kept k = lifted_same (good_token k) (λ s r d e. ap lifts (sym (token_expects k s r d e)) ∙ kept)
+
 pub eased_token : {lifts : Fault → Bool} → lifts faults.Expected ≡ false → (k : Kind) → Eased lifts (token k) (token k)
-eased_token {lifts} kept k = record {
-  lifted = lifted_same (good_token k) (λ s r d e. ap lifts (sym (token_expects k s r d e)) ∙ kept);
-  sample = sample_token k;
-}
+eased_token kept k = record { lifted = lifted_token kept k; sample = sample_token k }
 
 pub eased_give : {X : Type 0} {lifts : Fault → Bool} (x : X) → Eased lifts (give x) (give x)
 eased_give x = record { lifted = lifted_same (good_give x) (λ s r d e. absurd cc); sample = sample_give x }

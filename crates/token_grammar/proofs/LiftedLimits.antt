@@ -34,20 +34,19 @@ milder_first set lifts test test' milder (t ∷ s) =
       | inr away ↦ rw away refl
     ]
 
--- what is refused begins with a token of the set
+-- what is refused begins with a token of the set, which the test refuses
 refused_head : (set : Set) (test : Lexeme → Option Fault) (d : Fault) (s : List Lexeme) → first_refused set test s ≡ Some d
-    → (t : Lexeme) × (q : List Lexeme) × (s ≡ t ∷ q) × (set t.kind ≡ true)
+    → (t : Lexeme) × (q : List Lexeme) × (s ≡ t ∷ q) × (set t.kind ≡ true) × (test t ≡ Some d)
 refused_head set test d [] full = absurd cc
 refused_head set test d (t ∷ s) full =
     elim (cases_Bool (set t.kind)) [
-      | inl there ↦ (t, s, refl, there)
+      | inl there ↦ (t, s, refl, there, rw there at full)
       | inr away ↦ absurd (let bad = rw away at full in cc)
     ]
 
--- a token of the set at hand goes on in what begins with it
-past_at_hand : {X : Type 0} {g : Grammar X} (set : Set) (s : List Lexeme) → Starts set g
-    → ((t : Lexeme) × (q : List Lexeme) × (s ≡ t ∷ q) × (set t.kind ≡ true)) → GoesPast g s s
-past_at_hand set s a h = record { used = []; parts = refl; first = h.0; others = h.1; at = h.2; continues = a.each h.0 h.3 }
+-- the token at hand goes on in what begins with it
+past_at_hand : {X : Type 0} {g : Grammar X} (s : List Lexeme) (t : Lexeme) (q : List Lexeme) → s ≡ t ∷ q → Continues g (t ∷ []) → GoesPast g s s
+past_at_hand s t q e c = record { used = []; parts = refl; first = t; others = q; at = e; continues = c }
 
 -- ---- allowed
 
@@ -99,9 +98,10 @@ module _ {X : Type 0} {lifts : Fault → Bool} {g g' : Grammar X} (set : Set) (t
             rw (kept_too s full.0 full.1 (ap lifts i.fault ∙ kept)) (rw full.1 at e)
       ]
 
-  -- each token of the set begins a spelling on the right
-  pub lifted_allowed : Starts set g' → Lifted lifts (allowed set test g) (allowed set test' g')
-  lifted_allowed starts = record {
+  -- what is refused on the left by a lifted fault begins a spelling on the right
+  pub lifted_allowed_where : ((t : Lexeme) (d : Fault) → set t.kind ≡ true → test t ≡ Some d → lifts d ≡ true → Continues g' (t ∷ []))
+      → Lifted lifts (allowed set test g) (allowed set test' g')
+  lifted_allowed_where begun = record {
     takes = takes_too;
     stays = stays_too;
     passes = λ s r f e lift.
@@ -109,33 +109,21 @@ module _ {X : Type 0} {lifts : Fault → Bool} {g g' : Grammar X} (set : Set) (t
           | inl passes ↦ past_allowed set test' s r (passes_too s passes) (a.passes s r f (rw passes at e) lift)
           | inr full ↦
               let i = stopped_is {X = X} full.0 f s r (rw full.1 at e) in
-              let now = lifted_too s full.0 full.1 (ap lifts i.fault ∙ lift) in
+              let lift' : lifts full.0 ≡ true = ap lifts i.fault ∙ lift in
+              let h = refused_head set test full.0 s full.1 in
               subst (λ z. GoesPast (allowed set test' g') s z) i.rest
-              (past_allowed set test' s s now (past_at_hand set s starts (refused_head set test full.0 s full.1)))
+              (past_allowed set test' s s (lifted_too s full.0 full.1 lift') (past_at_hand s h.0 h.1 h.2 (begun h.0 full.0 h.3 h.4 lift')))
         ];
   }
 
+  -- each token of the set begins a spelling on the right
+  pub lifted_allowed : Starts set g' → Lifted lifts (allowed set test g) (allowed set test' g')
+  lifted_allowed starts = lifted_allowed_where (λ t d there full lift. starts.each t there)
+
   -- no fault of the test is lifted
-  pub lifted_allowed_kept : ((t : Lexeme) (f : Fault) → test t ≡ Some f → lifts f ≡ false) → Lifted lifts (allowed set test g) (allowed set test' g')
-  lifted_allowed_kept kept = record {
-    takes = takes_too;
-    stays = stays_too;
-    passes = λ s r f e lift.
-        elim (said_cases (first_refused set test s)) [
-          | inl passes ↦ past_allowed set test' s r (passes_too s passes) (a.passes s r f (rw passes at e) lift)
-          | inr full ↦
-              let i = stopped_is {X = X} full.0 f s r (rw full.1 at e) in
-              absurd (never s full.0 full.1 (ap lifts i.fault ∙ lift))
-        ];
-  }
-    where
-      never : (s : List Lexeme) (d : Fault) → first_refused set test s ≡ Some d → lifts d ≡ true → ⊥
-      never [] d full lift = cc
-      never (t ∷ s) d full lift =
-          elim (cases_Bool (set t.kind)) [
-            | inl there ↦ let bad = sym (kept t d (rw there at full)) ∙ lift in cc
-            | inr away ↦ let bad = rw away at full in cc
-          ]
+  pub lifted_allowed_kept : ((t : Lexeme) (d : Fault) → test t ≡ Some d → lifts d ≡ false)
+      → Lifted lifts (allowed set test g) (allowed set test' g')
+  lifted_allowed_kept kept = lifted_allowed_where (λ t d there full lift. let bad = sym (kept t d full) ∙ lift in absurd cc)
 
 -- where the right test refuses no token of the set, and the right grammar has a spelling
 pub eased_allowed : {X : Type 0} {lifts : Fault → Bool} {g g' : Grammar X} (set : Set) (test test' : Lexeme → Option Fault)
@@ -163,7 +151,9 @@ lifted_forbidden {X} {lifts} {g'} expected set fault lift starts expects = recor
   passes = λ s r f e lifted.
       let i = stopped_is {X = X} (cond (heads set s) fault faults.Expected) f s r e in
       elim (cases_Bool (heads set s)) [
-        | inl here ↦ subst (λ z. GoesPast g' s z) i.rest (past_at_hand set s starts (at_hand s here))
+        | inl here ↦
+            let h = at_hand s here in
+            subst (λ z. GoesPast g' s z) i.rest (past_at_hand s h.0 h.1 h.2 (starts.each h.0 h.3))
         | inr away ↦ absurd (let bad : faults.Expected ≡ f = rw away at i.fault in let worse = sym expected ∙ ap lifts bad ∙ lifted in cc)
       ];
 }

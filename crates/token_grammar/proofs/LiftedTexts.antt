@@ -41,10 +41,10 @@ whole_past {X} {lifts} {g} a expected s r d e lift =
         cc
 
 -- what stands before that token continues with it
-pub past_at : {X : Type 0} {g : Grammar X} (before : List Lexeme) (t : Lexeme) (q : List Lexeme) → GoesPast g (before ++ t ∷ q) (t ∷ q)
+pub past_at : {X : Type 0} {g : Grammar X} (s before : List Lexeme) (t : Lexeme) (q : List Lexeme) → s ≡ before ++ t ∷ q → GoesPast g s (t ∷ q)
     → Continues g (before ++ t ∷ [])
-past_at {X} {g} before t q p =
-    let front : before ≡ p.used = append_cancel_right before p.used (t ∷ q) p.parts in
+past_at {X} {g} s before t q parts p =
+    let front : before ≡ p.used = append_cancel_right before p.used (t ∷ q) (sym parts ∙ p.parts) in
     subst (λ (z : Lexeme). Continues g (before ++ z ∷ [])) (sym (head_is t p.first q p.others p.at))
     (subst (λ (u : List Lexeme). Continues g (u ++ p.first ∷ [])) (sym front) p.continues)
   where
@@ -52,9 +52,9 @@ past_at {X} {g} before t q p =
     head_is a b q q' h = cc
 
 pub whole_lifted : {X : Type 0} {lifts : Fault → Bool} {g g' : Grammar X} → Lifted lifts g g' → lifts faults.Expected ≡ false
-    → (before : List Lexeme) (t : Lexeme) (q : List Lexeme) (d : Fault) → whole_reads g (before ++ t ∷ q) ≡ Err (d, t ∷ q) → lifts d ≡ true
+    → (s before : List Lexeme) (t : Lexeme) (q : List Lexeme) (d : Fault) → s ≡ before ++ t ∷ q → whole_reads g s ≡ Err (d, t ∷ q) → lifts d ≡ true
     → Continues g' (before ++ t ∷ [])
-whole_lifted a expected before t q d e lift = past_at before t q (whole_past a expected (before ++ t ∷ q) (t ∷ q) d e lift)
+whole_lifted a expected s before t q d parts e lift = past_at s before t q parts (whole_past a expected s (t ∷ q) d e lift)
 
 -- a text that ends too early isn't stopped by a fault that is lifted
 pub whole_ends : {X : Type 0} {lifts : Fault → Bool} {g g' : Grammar X} → Lifted lifts g g' → lifts faults.Expected ≡ false

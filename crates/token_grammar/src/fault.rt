@@ -8,21 +8,21 @@ use std::alloc::{AllocError, AllocFailed};
 /// What there can be too many of.
 #[derive(Clone, Copy, Debug, PartialEq, Eq)]
 pub enum Thing {
-    /// States of a chart.
+    /// States of a chart, with its root.
     States,
     /// Junctions of a chart.
     Junctions,
     /// Transitions of a chart.
     Transitions,
-    /// Variables of a chart.
+    /// Data of a chart.
     Variables,
     /// Events of a chart.
     Events,
-    /// Statements of an action.
+    /// Statements of a block.
     Statements,
-    /// Operators of an expression.
+    /// Operators and opening parentheses of an expression.
     Operators,
-    /// Items of a list.
+    /// States, junctions, transitions, statements, data and events together.
     Items,
 }
 

@@ -96,8 +96,8 @@ text_fault s t q f e stops = record {
       other.ends t q refl (continues_front (chart l) stops.before other.before t q (sym stops.parts ∙ other.parts) c);
   lifted = λ other l from.
       let some = limit_rank f other in
-      whole_lifted (eased_chart (rank f) l some from).lifted (keeps_expected (rank f) some) stops.before t q f
-      (subst (λ z. whole_reads (chart usual) z ≡ Err (f, t ∷ q)) stops.parts e) (lifts_own f);
+      whole_lifted (eased_chart (rank f) l some from).lifted (keeps_expected (rank f) some) s stops.before t q f stops.parts e
+      (lifts_own f);
 }
 
 pub text_stops : (s r : List Lexeme) (f : Fault) → whole_reads (chart usual) s ≡ Err (f, r) → FirstFault (chart usual) s r

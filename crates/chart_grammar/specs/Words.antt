@@ -47,10 +47,11 @@ lit_of text = record {
   q = bits_of text;
 }
 
--- what is wrong with a number that was read from a text, or wasn't
+-- what is wrong with a number that was read from a text, or wasn't. No number is cut that isn't one,
+-- and such a token wouldn't continue
 abbrev pub fault_of_number : Result Num NumFault → Option Fault
 fault_of_number (Ok n) = None
-fault_of_number (Err num_faults.NotNumber) = None
+fault_of_number (Err num_faults.NotNumber) = Some faults.Expected
 fault_of_number (Err num_faults.TooLong) = Some faults.LiteralTooLong
 fault_of_number (Err num_faults.NotBinary) = Some faults.LiteralNotBinary
 

@@ -1,1 +1,4 @@
+pub mod Named
+pub mod Counts
+pub mod Groups
 pub mod Text

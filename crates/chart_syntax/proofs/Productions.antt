@@ -1,11 +1,9 @@
--- Each production of flat charts reads as it spells, and no limit stops it.
+-- Each production of flat charts reads as it spells.
 use Rattle.std.proofs.Common.{ℕ, ◌-◌, ◌∷◌, true, false, refl}
 use Rattle.token_grammar.specs.declared.token.Kind.TheVariants as kinds
 use Rattle.token_grammar.specs.Grammar.{is}
 use Rattle.token_grammar.proofs.Good.{nothing}
-use Rattle.token_grammar.proofs.Fine.{Fine, fine_token, fine_give, fine_then, fine_as}
-use Rattle.token_grammar.proofs.UpTo.{fine_up_to}
-use Rattle.token_grammar.proofs.Never.{NeverOver, never_token, never_give, never_then, never_up_to}
+use Rattle.token_grammar.proofs.Fine.{Fine, fine_token, fine_give, fine_then, fine_up_to, fine_as}
 use Rattle.chart_syntax.specs.FlatGrammar.{trans, transes, state, counted, states, event, events, default, chart}
 
 pub fine_trans : Fine trans (is kinds.Outer) false nothing
@@ -19,25 +17,11 @@ fine_trans =
     fine_then (fine_token kinds.Semicolon) (λ _.
     fine_give (record { event = event; dest = dest })) refl) refl) refl) refl) refl) refl refl
 
-pub never_trans : NeverOver trans
-unfolding trans
-never_trans =
-    never_then (never_token kinds.Outer) (λ _.
-    never_then (never_token kinds.Name) (λ event.
-    never_then (never_token kinds.Arrow) (λ _.
-    never_then (never_token kinds.Name) (λ dest.
-    never_then (never_token kinds.Semicolon) (λ _.
-    never_give (record { event = event; dest = dest }))))))
-
 pub fine_transes : (room : ℕ) → Fine (transes room) (is kinds.Outer) true (is kinds.Outer)
 unfolding transes
 fine_transes room =
     fine_as (is kinds.Outer) (is kinds.Outer)
     (fine_up_to (is kinds.Outer) (λ done x. done) room 0 (λ z. fine_trans.good) refl refl) refl refl
-
-pub never_transes : (room : ℕ) → NeverOver (transes room)
-unfolding transes
-never_transes room = never_up_to (is kinds.Outer) (λ done x. done) room 0 (λ z. never_trans)
 
 pub fine_state : (before : ℕ) → Fine (state before) (is kinds.State) false nothing
 unfolding state
@@ -50,25 +34,11 @@ fine_state before =
     fine_then (fine_token kinds.CloseBrace) (λ _.
     fine_give (record { name = name; outer = outer })) refl) refl) refl) refl) refl) refl refl
 
-pub never_state : (before : ℕ) → NeverOver (state before)
-unfolding state
-never_state before =
-    never_then (never_token kinds.State) (λ _.
-    never_then (never_token kinds.Name) (λ name.
-    never_then (never_token kinds.OpenBrace) (λ _.
-    never_then (never_transes (1024 - before)) (λ outer.
-    never_then (never_token kinds.CloseBrace) (λ _.
-    never_give (record { name = name; outer = outer }))))))
-
 pub fine_states : (before : ℕ) → Fine (states before) (is kinds.State) true (is kinds.State)
 unfolding states
 fine_states before =
     fine_as (is kinds.State) (is kinds.State)
     (fine_up_to (is kinds.State) counted 63 before (λ z. (fine_state z).good) refl refl) refl refl
-
-pub never_states : (before : ℕ) → NeverOver (states before)
-unfolding states
-never_states before = never_up_to (is kinds.State) counted 63 before never_state
 
 pub fine_event : Fine event (is kinds.Event) false nothing
 unfolding event
@@ -80,24 +50,11 @@ fine_event =
     fine_then (fine_token kinds.Semicolon) (λ _.
     fine_give name) refl) refl) refl) refl) refl refl
 
-pub never_event : NeverOver event
-unfolding event
-never_event =
-    never_then (never_token kinds.Event) (λ _.
-    never_then (never_token kinds.Input) (λ _.
-    never_then (never_token kinds.Name) (λ name.
-    never_then (never_token kinds.Semicolon) (λ _.
-    never_give name))))
-
 pub fine_events : Fine events (is kinds.Event) true (is kinds.Event)
 unfolding events
 fine_events =
     fine_as (is kinds.Event) (is kinds.Event)
     (fine_up_to (is kinds.Event) (λ done x. done) 64 0 (λ z. fine_event.good) refl refl) refl refl
-
-pub never_events : NeverOver events
-unfolding events
-never_events = never_up_to (is kinds.Event) (λ done x. done) 64 0 (λ z. never_event)
 
 pub fine_default : Fine default (is kinds.Default) false nothing
 unfolding default
@@ -108,15 +65,6 @@ fine_default =
     fine_then (fine_token kinds.Name) (λ name.
     fine_then (fine_token kinds.Semicolon) (λ _.
     fine_give name) refl) refl) refl) refl) refl refl
-
-pub never_default : NeverOver default
-unfolding default
-never_default =
-    never_then (never_token kinds.Default) (λ _.
-    never_then (never_token kinds.Arrow) (λ _.
-    never_then (never_token kinds.Name) (λ name.
-    never_then (never_token kinds.Semicolon) (λ _.
-    never_give name))))
 
 pub fine_chart : Fine chart (is kinds.Chart) false nothing
 unfolding chart
@@ -131,18 +79,5 @@ fine_chart =
     fine_then (fine_state 0) (λ first.
     fine_then (fine_states (counted 0 first)) (λ others.
     fine_then (fine_token kinds.CloseBrace) (λ _.
-    fine_give (record { name = name; events = events; default = default; states = first ∷ others })) refl) refl) refl) refl) refl) refl) refl) refl) refl) refl refl
-
-pub never_chart : NeverOver chart
-unfolding chart
-never_chart =
-    never_then (never_token kinds.Chart) (λ _.
-    never_then (never_token kinds.Name) (λ name.
-    never_then (never_token kinds.Or) (λ _.
-    never_then (never_token kinds.OpenBrace) (λ _.
-    never_then never_events (λ events.
-    never_then never_default (λ default.
-    never_then (never_state 0) (λ first.
-    never_then (never_states (counted 0 first)) (λ others.
-    never_then (never_token kinds.CloseBrace) (λ _.
-    never_give (record { name = name; events = events; default = default; states = first ∷ others }))))))))))
+    fine_give (record { name = name; events = events; default = default; states = first ∷ others }))
+    refl) refl) refl) refl) refl) refl) refl) refl) refl) refl refl

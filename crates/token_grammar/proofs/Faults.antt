@@ -1,57 +1,49 @@
 -- The first token that doesn't continue.
-use Rattle.std.proofs.Common.{◌≡◌, Bool, List, [], ◌∷◌, ◌++◌, Ok, Err, refl, sym, ap, subst, ◌∙◌, append_assoc, inl, inr}
+use Rattle.std.proofs.Common.{◌≡◌, Bool, List, [], ◌∷◌, ◌++◌, Ok, Err, refl, sym, subst, ◌∙◌, append_assoc, inl, inr}
 use Rattle.std.proofs.lemmas.List.{append-nil}
 use Rattle.token_grammar.specs.declared.fault.Fault.{Fault}
 use Rattle.token_grammar.specs.declared.fault.Fault.TheVariants as faults
-use Rattle.token_grammar.specs.Token.{Lexeme, Outcome}
-use Rattle.token_grammar.specs.Grammar.{Grammar, FirstFault, ended, whole_reads}
-use Rattle.token_grammar.proofs.Good.{Set, Good, Gets, Takes, done_is, bind_ok, bind_err, stopped, stopped_is}
-use Rattle.token_grammar.proofs.Never.{NeverOver}
+use Rattle.token_grammar.specs.Token.{Lexeme}
+use Rattle.token_grammar.specs.Grammar.{Grammar, Continues, FirstFault, ended, whole_reads}
+use Rattle.token_grammar.proofs.Good.{Set, Good, Takes, done_is, bind_ok, bind_err, stopped_is, surely}
+use Rattle.token_grammar.proofs.Fine.{Fine}
 
 -- a spelling of the whole is read, and nothing is left
-pub all_read : {X : Type 0} (g : Grammar X) (f m : Set) (n : Bool) → Good g f n m → (u : List Lexeme) (x : X) → g.spells u x → Gets (g.reads u) x []
-all_read g f m n a u x h = subst (λ v. Gets (g.reads v) x []) (append-nil u) (a.again u x [] h refl)
+pub all_read : {X : Type 0} {g : Grammar X} {f m : Set} {n : Bool} → Good g f n m → (u : List Lexeme) (x : X) → g.spells u x → g.reads u ≡ Ok (x, [])
+all_read {X} {g} a u x h = subst (λ v. g.reads v ≡ Ok (x, [])) (append-nil u) (a.again u x [] h refl)
 
--- it is what it is, and no limit stopped it
-pub gets_ok : {X : Type 0} (o : Outcome X) (x y : X) (r q : List Lexeme) → Gets o x r → o ≡ Ok (y, q) → (x ≡ y) × (r ≡ q)
-gets_ok o x y r q (inl e) h = let d = done_is x y r q (sym e ∙ h) in (d.value, d.rest)
-gets_ok (Ok z) x y r q (inr over) h = absurd over
-gets_ok (Err z) x y r q (inr over) h = absurd cc
+-- what continues with a token is read, when its end follows
+read_through : {X : Type 0} {g : Grammar X} {f m : Set} {n : Bool} → Good g f n m → (u : List Lexeme) (t : Lexeme) (c : Continues g (u ++ t ∷ []))
+    → g.reads (u ++ t ∷ c.rest) ≡ Ok (c.value, [])
+read_through {X} {g} a u t c =
+    subst (λ v. g.reads v ≡ Ok (c.value, [])) (append_assoc u (t ∷ []) c.rest) (all_read a ((u ++ t ∷ []) ++ c.rest) c.value c.spelled)
 
-pub gets_stop : {X : Type 0} (o : Outcome X) (x : X) (r q : List Lexeme) → Gets o x r → o ≡ Err (faults.Expected, q) → ⊥
-gets_stop o x r q (inl e) h = let bad = sym e ∙ h in cc
-gets_stop (Ok z) x r q (inr over) h = over
-gets_stop {X} (Err z) x r q (inr over) h =
-    let p : z ≡ (faults.Expected, q) = cc in
-    let k : faults.Expected ≡ faults.TooMany = sym (ap (λ (e : Fault × List Lexeme). e.0) p) ∙ over in
-    cc
-
-pub fault_at_stop : {X : Type 0} (g : Grammar X) (f m : Set) (n : Bool) → Good g f n m → (s r : List Lexeme) → g.reads s ≡ Err (faults.Expected, r) → FirstFault g s r
-fault_at_stop g f m n a s r e =
-    let t = a.stops s r e in
+-- where reading stops, by whatever fault
+pub fault_at_stop : {X : Type 0} {g : Grammar X} {f m : Set} {n : Bool} → Fine g f n m → (s r : List Lexeme) (d : Fault) → g.reads s ≡ Err (d, r)
+    → FirstFault g s r
+fault_at_stop {X} {g} a s r d e =
+    let t = a.good.stops s r d e in
     record {
       before = t.used;
       parts = t.parts;
-      continues = t.continues;
-      unfinished = λ x h. gets_stop (g.reads s) x [] r (all_read g f m n a s x h) e;
-      ends = λ tok q h c.
-          gets_stop (g.reads (t.used ++ tok ∷ c.rest)) c.value [] (tok ∷ c.rest)
-          (subst (λ v. Gets (g.reads v) c.value []) (append_assoc t.used (tok ∷ []) c.rest) (all_read g f m n a ((t.used ++ tok ∷ []) ++ c.rest) c.value c.spelled))
-          (t.same (tok ∷ c.rest) (rw h refl));
+      continues = surely t.used a.sample t.continues;
+      unfinished = λ x h. let bad = sym (all_read a.good s x h) ∙ e in cc;
+      ends = λ tok q h c. let bad = sym (read_through a.good t.used tok c) ∙ t.same (tok ∷ c.rest) (rw h refl) in cc;
     }
 
-pub fault_after : {X : Type 0} (g : Grammar X) (f m : Set) (n : Bool) → Good g f n m → (s : List Lexeme) (x : X) (tok : Lexeme) (q : List Lexeme) → g.reads s ≡ Ok (x, tok ∷ q) → FirstFault g s (tok ∷ q)
-fault_after g f m n a s x tok q e =
+-- behind what was read
+pub fault_after : {X : Type 0} {g : Grammar X} {f m : Set} {n : Bool} → Good g f n m → (s : List Lexeme) (x : X) (tok : Lexeme) (q : List Lexeme)
+    → g.reads s ≡ Ok (x, tok ∷ q) → FirstFault g s (tok ∷ q)
+fault_after {X} {g} a s x tok q e =
     let t = a.takes s x (tok ∷ q) e in
     record {
       before = t.used;
       parts = t.parts;
       continues = record { rest = []; value = x; spelled = rw append-nil t.spelled };
-      unfinished = λ y h. let bad = (gets_ok (g.reads s) y x [] (tok ∷ q) (all_read g f m n a s y h) e).1 in cc;
+      unfinished = λ y h. let bad = (done_is y x [] (tok ∷ q) (sym (all_read a s y h) ∙ e)).rest in cc;
       ends = λ tok' q' h c.
-          let bad = (gets_ok (g.reads (t.used ++ tok' ∷ c.rest)) c.value x [] (tok' ∷ c.rest)
-          (subst (λ v. Gets (g.reads v) c.value []) (append_assoc t.used (tok' ∷ []) c.rest) (all_read g f m n a ((t.used ++ tok' ∷ []) ++ c.rest) c.value c.spelled))
-          (t.same (tok' ∷ c.rest) (head_is tok tok' q q' h))).1 in
+          let read = t.same (tok' ∷ c.rest) (head_is tok tok' q q' h) in
+          let bad = (done_is c.value x [] (tok' ∷ c.rest) (sym (read_through a t.used tok' c) ∙ read)).rest in
           cc;
     }
   where
@@ -60,54 +52,36 @@ fault_after g f m n a s x tok q e =
 
 -- ---- a whole text
 
-pub whole_found : {X : Type 0} (g : Grammar X) (f m : Set) (n : Bool) → Good g f n m → (s : List Lexeme) (x : X) (r : List Lexeme) → whole_reads g s ≡ Ok (x, r) → g.spells s x
-whole_found g f m n a s x r e =
+-- what is read is spelled so
+pub whole_found : {X : Type 0} {g : Grammar X} {f m : Set} {n : Bool} → Good g f n m → (s : List Lexeme) (x : X) (r : List Lexeme)
+    → whole_reads g s ≡ Ok (x, r) → g.spells s x
+whole_found {X} {g} a s x r e =
     let k = bind_ok (g.reads s) ended x r e in
-    let t = a.takes s k.x k.r k.first in
-    nothing_left k.x k.r k.second t
+    nothing_left k.x k.r k.second (a.takes s k.x k.r k.first)
   where
-    nothing_left : (y : _) (q : List Lexeme) → ended y q ≡ Ok (x, r) → Takes g s y q → g.spells s x
+    nothing_left : (y : X) (q : List Lexeme) → ended y q ≡ Ok (x, r) → Takes g s y q → g.spells s x
     nothing_left y [] e t =
         let d = done_is y x [] r e in
         let whole : s ≡ t.used = t.parts ∙ append-nil t.used in
         subst (λ z. g.spells s z) d.value (subst (λ u. g.spells u y) (sym whole) t.spelled)
     nothing_left y (tok ∷ q) e t = absurd cc
 
--- what is spelled is read, where no limit stops it
-pub whole_only : {X : Type 0} (g : Grammar X) (f m : Set) (n : Bool) → Good g f n m → NeverOver g → (s : List Lexeme) (x : X) → g.spells s x → whole_reads g s ≡ Ok (x, [])
-whole_only g f m n a never s x h =
-    elim (all_read g f m n a s x h) [
-      | inl e ↦ rw e refl
-      | inr over ↦ absurd (never.never s over)
-    ]
+-- what is spelled is read
+pub whole_only : {X : Type 0} {g : Grammar X} {f m : Set} {n : Bool} → Good g f n m → (s : List Lexeme) (x : X) → g.spells s x
+    → whole_reads g s ≡ Ok (x, [])
+whole_only a s x h = rw (all_read a s x h) refl
 
--- where no limit stops it, a fault is a token that doesn't continue
-pub whole_never : {X : Type 0} (g : Grammar X) → NeverOver g → (s r : List Lexeme) → whole_reads g s ≡ Err (faults.TooMany, r) → ⊥
-whole_never {X} g never s r e =
-    elim (bind_err (g.reads s) ended (faults.TooMany, r) e) [
-      | inl stop ↦ never.never s (rw stop refl)
-      | inr k ↦ left_over k.0 k.1 k.3
-    ]
-  where
-    not_many : (q : List Lexeme) → stopped {X = X} faults.Expected q ≡ stopped faults.TooMany r → ⊥
-    not_many q e =
-        let p : (faults.Expected, q) ≡ (faults.TooMany, r) = cc in
-        let bad : faults.Expected ≡ faults.TooMany = ap (λ (z : Fault × List Lexeme). z.0) p in
-        cc
-
-    left_over : (y : X) (q : List Lexeme) → ended y q ≡ Err (faults.TooMany, r) → ⊥
-    left_over y [] e = cc
-    left_over y (tok ∷ q) e = not_many (tok ∷ q) e
-
-pub whole_fault : {X : Type 0} (g : Grammar X) (f m : Set) (n : Bool) → Good g f n m → (s r : List Lexeme) → whole_reads g s ≡ Err (faults.Expected, r) → FirstFault g s r
-whole_fault g f m n a s r e =
-    elim (bind_err (g.reads s) ended (faults.Expected, r) e) [
-      | inl stop ↦ fault_at_stop g f m n a s r stop
+-- where it isn't read, the fault is the first
+pub whole_fault : {X : Type 0} {g : Grammar X} {f m : Set} {n : Bool} → Fine g f n m → (s r : List Lexeme) (d : Fault) → whole_reads g s ≡ Err (d, r)
+    → FirstFault g s r
+whole_fault {X} {g} a s r d e =
+    elim (bind_err (g.reads s) ended (d, r) e) [
+      | inl stop ↦ fault_at_stop a s r d stop
       | inr k ↦ left_over k.0 k.1 k.2 k.3
     ]
   where
-    left_over : (y : _) (q : List Lexeme) → g.reads s ≡ Ok (y, q) → ended y q ≡ Err (faults.Expected, r) → FirstFault g s r
+    left_over : (y : X) (q : List Lexeme) → g.reads s ≡ Ok (y, q) → ended y q ≡ Err (d, r) → FirstFault g s r
     left_over y [] h e = absurd cc
     left_over y (tok ∷ q) h e =
-        let same : tok ∷ q ≡ r = stopped_is {X = _} faults.Expected (tok ∷ q) r e in
-        subst (λ z. FirstFault g s z) same (fault_after g f m n a s y tok q h)
+        let same : tok ∷ q ≡ r = (stopped_is {X = X} faults.Expected d (tok ∷ q) r e).rest in
+        subst (λ z. FirstFault g s z) same (fault_after a.good s y tok q h)

@@ -116,3 +116,24 @@ within f m h k e = also_that (f k) (m k) (each_kind (λ j. not (f j) || m j) k h
     also_that : (a b : Bool) → (not a || b) ≡ true → a ≡ true → b ≡ true
     also_that true b h e = h
     also_that false b h e = absurd cc
+
+-- ---- and back, for sets that don't compute
+
+each_true : (p : Set) → ((k : Kind) → p k ≡ true) → (ks : List Kind) → each p ks ≡ true
+each_true p all [] = refl
+each_true p all (k ∷ ks) = rw (all k) (each_true p all ks)
+
+pub disjoint_apart : (f m : Set) → Apart f m → disjoint f m ≡ true
+disjoint_apart f m a = each_true (λ k. not (f k) || not (m k)) (λ k. not_both (f k) (m k) (a k)) all_kinds
+  where
+    not_both : (a b : Bool) → (a ≡ true → b ≡ false) → (not a || not b) ≡ true
+    not_both true true h = absurd (let bad = h refl in cc)
+    not_both true false h = refl
+    not_both false b h = refl
+
+pub subset_within : (f m : Set) → Within f m → subset f m ≡ true
+subset_within f m w = each_true (λ k. not (f k) || m k) (λ k. also_that (f k) (m k) (w k)) all_kinds
+  where
+    also_that : (a b : Bool) → (a ≡ true → b ≡ true) → (not a || b) ≡ true
+    also_that true b h = h refl
+    also_that false b h = refl

@@ -14,7 +14,8 @@ pub heads_some : (set : Kind → Bool) (ts : List Token) → heads set (lexemes 
 heads_some set [] h = absurd cc
 heads_some set (t ∷ ts) h = omega arith
 
-pub token_taken : (ts : List Token) (d : Token) (k : Kind) → heads (is k) (lexemes ts) ≡ true → (token k).reads (lexemes ts) ≡ Ok (lexeme (get_or ts 0 d), lexemes (take (length ts - 1) (drop 1 ts)))
+pub token_taken : (ts : List Token) (d : Token) (k : Kind) → heads (is k) (lexemes ts) ≡ true
+    → (token k).reads (lexemes ts) ≡ Ok (lexeme (get_or ts 0 d), lexemes (take (length ts - 1) (drop 1 ts)))
 unfolding token
 token_taken [] d k h = absurd cc
 token_taken (t ∷ ts) d k h = rw (h, rest_is ts) refl
@@ -43,6 +44,7 @@ kind_is a b false p q =
       | inr ne ↦ sym ne
     ]
 
-pub heads_first : (ts : List Token) (d : Token) (k : Kind) (r : Bool) → 1 ≤ length ts → (r ≡ true → (get_or ts 0 d).kind ≡ k) → (r ≡ false → (get_or ts 0 d).kind ≡ k → ⊥) → r ≡ heads (is k) (lexemes ts)
+pub heads_first : (ts : List Token) (d : Token) (k : Kind) (r : Bool) → 1 ≤ length ts
+    → (r ≡ true → (get_or ts 0 d).kind ≡ k) → (r ≡ false → (get_or ts 0 d).kind ≡ k → ⊥) → r ≡ heads (is k) (lexemes ts)
 heads_first [] d k r long p q = absurd (omega arith)
 heads_first (t ∷ ts) d k r long p q = kind_is t.kind k r p q

@@ -1,6 +1,8 @@
 -- Grammars: which tokens spell a value, and what reading from the front gives.
 use Rattle.std.specs.Prelude.{◌≡◌, ℕ, zero, suc, Bool, true, false, List, [], ◌∷◌, ◌++◌, length, Ok, Err, Option, Some, None, if◌then◌else◌, ◌⊎◌}
 use Rattle.token_grammar.specs.declared.token.Kind.{Kind}
+use Rattle.token_grammar.specs.declared.token.Span.{Span}
+use Rattle.token_grammar.specs.declared.fault.Fault.{Fault}
 use Rattle.token_grammar.specs.declared.fault.Fault.TheVariants as faults
 use Rattle.token_grammar.specs.Token.{Lexeme, kind_eq, Outcome}
 
@@ -36,14 +38,14 @@ token_at k (t ∷ s) = if kind_eq t.kind k then Ok (t, s) else Err (faults.Expec
 unfoldable pub token : Kind → Grammar Lexeme
 token k = record { spells = λ u t. (u ≡ t ∷ []) × (kind_eq t.kind k ≡ true); reads = token_at k }
 
--- one token that begins a thing, where it passes the test; else it is one more than a limit
-abbrev pub limited_at : Kind → (Lexeme → Bool) → List Lexeme → Outcome Lexeme
-limited_at k ok [] = Err (faults.Expected, [])
-limited_at k ok (t ∷ s) = if kind_eq t.kind k then (if ok t then Ok (t, s) else Err (faults.TooMany, t ∷ s)) else Err (faults.Expected, t ∷ s)
+-- the first token, where it is in the set
+abbrev pub one_of_at : (Kind → Bool) → List Lexeme → Outcome Lexeme
+one_of_at set [] = Err (faults.Expected, [])
+one_of_at set (t ∷ s) = if set t.kind then Ok (t, s) else Err (faults.Expected, t ∷ s)
 
--- one token of that kind; it spells without the limit, and reads with it
-unfoldable pub limited : Kind → (Lexeme → Bool) → Grammar Lexeme
-limited k ok = record { spells = λ u t. (u ≡ t ∷ []) × (kind_eq t.kind k ≡ true); reads = limited_at k ok }
+-- one token of a kind in the set
+unfoldable pub one_of : (Kind → Bool) → Grammar Lexeme
+one_of set = record { spells = λ u t. (u ≡ t ∷ []) × (set t.kind ≡ true); reads = one_of_at set }
 
 -- ---- nothing
 
@@ -54,7 +56,8 @@ give x = record { spells = λ u y. (u ≡ []) × (y ≡ x); reads = λ s. Ok (x,
 -- ---- one after the other
 
 -- p and then q
-pub record Both {X Y : Type 0} (g : List Lexeme → X → Type 0) (h : X → List Lexeme → Y → Type 0) (u : List Lexeme) (y : Y) : Type 0 where
+pub record Both {X Y : Type 0} (g : List Lexeme → X → Type 0) (h : X → List Lexeme → Y → Type 0)
+    (u : List Lexeme) (y : Y) : Type 0 where
   pub p : List Lexeme
   pub q : List Lexeme
   pub x : X
@@ -88,10 +91,61 @@ either set g h = record {
 abbrev pub optional : {X : Type 0} → (Kind → Bool) → Grammar X → Grammar (Option X)
 optional set g = either set (g >>= λ x. give (Some x)) (give None)
 
+-- ---- limits: what is one too many isn't spelled
+
+-- what a test says of the first token, where that is in the set
+abbrev pub first_refused : (Kind → Bool) → (Lexeme → Option Fault) → List Lexeme → Option Fault
+first_refused set test [] = None
+first_refused set test (t ∷ s) = if set t.kind then test t else None
+
+-- goes on where nothing was refused
+abbrev pub unless_refused : {X : Type 0} → Option Fault → List Lexeme → Outcome X → Outcome X
+unless_refused None s read = read
+unless_refused (Some f) s read = Err (f, s)
+
+-- no fault is lifted
+abbrev pub none_lifted : Fault → Bool
+none_lifted f = false
+
+-- what a test says, where some faults are lifted
+abbrev pub unless_lifted : (Fault → Bool) → Option Fault → Option Fault
+unless_lifted lifts None = None
+unless_lifted lifts (Some f) = if lifts f then None else Some f
+
+-- g, whose first token is one of the set; where the test has a fault for that token, g isn't
+-- spelled, and the token is refused with it
+abbrev pub allowed : {X : Type 0} → (Kind → Bool) → (Lexeme → Option Fault) → Grammar X → Grammar X
+allowed set test g = record {
+  spells = λ u x. (first_refused set test u ≡ None) × g.spells u x;
+  reads = λ s. unless_refused (first_refused set test s) s (g.reads s);
+}
+
+-- what is never spelled; a token of the set is refused with the fault
+unfoldable pub forbidden : {X : Type 0} → (Kind → Bool) → Fault → Grammar X
+forbidden set fault = record {
+  spells = λ u x. ⊥;
+  reads = λ s. Err (if heads set s then fault else faults.Expected, s);
+}
+
+-- ---- the place of the first token
+
+-- the place of the first token
+abbrev pub first_place : List Lexeme → Span
+first_place [] = record { line = 0; column = 0 }
+first_place (t ∷ s) = t.at
+
+-- what g says where it is told the place of its first token
+abbrev pub at_first : {X : Type 0} → (Span → Grammar X) → Grammar X
+at_first g = record {
+  spells = λ u x. (g (first_place u)).spells u x;
+  reads = λ s. (g (first_place s)).reads s;
+}
+
 -- ---- any number
 
 -- p spells x, and then the rest
-pub record Before {X : Type 0} (g : List Lexeme → X → Type 0) (x : X) (rest : List Lexeme → Type 0) (u : List Lexeme) : Type 0 where
+pub record Before {X : Type 0} (g : List Lexeme → X → Type 0) (x : X) (rest : List Lexeme → Type 0)
+    (u : List Lexeme) : Type 0 where
   pub p : List Lexeme
   pub q : List Lexeme
   pub parts : u ≡ p ++ q
@@ -104,13 +158,18 @@ many_spells g u [] = u ≡ []
 many_spells g u (x ∷ xs) = Before g x (λ q. many_spells g q xs) u
 
 -- reads at most n of them
-unfoldable pub many_reads : {X : Type 0} → (Kind → Bool) → (List Lexeme → Outcome X) → ℕ → List Lexeme → Outcome (List X)
+unfoldable pub many_reads : {X : Type 0}
+    → (Kind → Bool) → (List Lexeme → Outcome X) → ℕ → List Lexeme → Outcome (List X)
 many_reads set f zero s = Ok ([], s)
-many_reads set f (suc n) s = if heads set s then and_then (f s) (λ x r. and_then (many_reads set f n r) (λ xs q. Ok (x ∷ xs, q))) else Ok ([], s)
+many_reads set f (suc n) s =
+    if heads set s
+    then and_then (f s) (λ x r. and_then (many_reads set f n r) (λ xs q. Ok (x ∷ xs, q)))
+    else Ok ([], s)
 
 -- any number; reading takes one more while the token at hand is in the set
 unfoldable pub many : {X : Type 0} → (Kind → Bool) → Grammar X → Grammar (List X)
-many set g = record { spells = many_spells g.spells; reads = λ s. many_reads set g.reads (length s) s }
+many set g =
+    record { spells = many_spells g.spells; reads = λ s. many_reads set g.reads (length s) s }
 
 -- what was read before, and what is still read
 abbrev pub after : {X : Type 0} → List X → Outcome (List X) → Outcome (List X)
@@ -119,35 +178,59 @@ after front read = and_then read (λ xs r. Ok (front ++ xs, r))
 -- ---- any number, where what may come next depends on what came
 
 -- each part in turn spells its item, by what came before
-abbrev pub many_from_spells : {S X : Type 0} → (S → List Lexeme → X → Type 0) → (S → X → S) → S → List Lexeme → List X → Type 0
+abbrev pub many_from_spells : {S X : Type 0}
+    → (S → List Lexeme → X → Type 0) → (S → X → S) → S → List Lexeme → List X → Type 0
 many_from_spells g next s u [] = u ≡ []
-many_from_spells g next s u (x ∷ xs) = Before (g s) x (λ q. many_from_spells g next (next s x) q xs) u
+many_from_spells g next s u (x ∷ xs) =
+    Before (g s) x (λ q. many_from_spells g next (next s x) q xs) u
 
 -- reads at most n of them
-unfoldable pub many_from_reads : {S X : Type 0} → (S → Kind → Bool) → (S → List Lexeme → Outcome X) → (S → X → S) → ℕ → S → List Lexeme → Outcome (List X)
+unfoldable pub many_from_reads : {S X : Type 0}
+    → (S → Kind → Bool) → (S → List Lexeme → Outcome X) → (S → X → S)
+    → ℕ → S → List Lexeme → Outcome (List X)
 many_from_reads set f next zero s t = Ok ([], t)
-many_from_reads set f next (suc n) s t = if heads (set s) t then and_then (f s t) (λ x r. and_then (many_from_reads set f next n (next s x) r) (λ xs q. Ok (x ∷ xs, q))) else Ok ([], t)
+many_from_reads set f next (suc n) s t =
+    if heads (set s) t
+    then and_then (f s t)
+    (λ x r. and_then (many_from_reads set f next n (next s x) r) (λ xs q. Ok (x ∷ xs, q)))
+    else Ok ([], t)
 
 -- any number; next tells what an item leaves for those behind it
-unfoldable pub many_from : {S X : Type 0} → (S → Kind → Bool) → (S → Grammar X) → (S → X → S) → S → Grammar (List X)
-many_from set g next s = record { spells = many_from_spells (λ z. (g z).spells) next s; reads = λ t. many_from_reads set (λ z. (g z).reads) next (length t) s t }
+unfoldable pub many_from : {S X : Type 0}
+    → (S → Kind → Bool) → (S → Grammar X) → (S → X → S) → S → Grammar (List X)
+many_from set g next s = record {
+  spells = many_from_spells (λ z. (g z).spells) next s;
+  reads = λ t. many_from_reads set (λ z. (g z).reads) next (length t) s t;
+}
 
 -- ---- at most so many, where an item may depend on those before it
 
 -- each part in turn spells its item, by what came before, and there are at most n
-abbrev pub up_to_spells : {S X : Type 0} → (S → List Lexeme → X → Type 0) → (S → X → S) → ℕ → S → List Lexeme → List X → Type 0
+abbrev pub up_to_spells : {S X : Type 0}
+    → (S → List Lexeme → X → Type 0) → (S → X → S) → ℕ → S → List Lexeme → List X → Type 0
 up_to_spells g next n s u [] = u ≡ []
 up_to_spells g next zero s u (x ∷ xs) = ⊥
-up_to_spells g next (suc n) s u (x ∷ xs) = Before (g s) x (λ q. up_to_spells g next n (next s x) q xs) u
+up_to_spells g next (suc n) s u (x ∷ xs) =
+    Before (g s) x (λ q. up_to_spells g next n (next s x) q xs) u
 
 -- reads at most n of them
-unfoldable pub up_to_reads : {S X : Type 0} → (Kind → Bool) → (S → List Lexeme → Outcome X) → (S → X → S) → ℕ → S → List Lexeme → Outcome (List X)
+unfoldable pub up_to_reads : {S X : Type 0}
+    → (Kind → Bool) → (S → List Lexeme → Outcome X) → (S → X → S)
+    → ℕ → S → List Lexeme → Outcome (List X)
 up_to_reads set f next zero s t = Ok ([], t)
-up_to_reads set f next (suc n) s t = if heads set t then and_then (f s t) (λ x r. and_then (up_to_reads set f next n (next s x) r) (λ xs q. Ok (x ∷ xs, q))) else Ok ([], t)
+up_to_reads set f next (suc n) s t =
+    if heads set t
+    then and_then (f s t)
+    (λ x r. and_then (up_to_reads set f next n (next s x) r) (λ xs q. Ok (x ∷ xs, q)))
+    else Ok ([], t)
 
 -- at most n; next tells what an item leaves for those behind it
-unfoldable pub up_to_from : {S X : Type 0} → (Kind → Bool) → (S → Grammar X) → (S → X → S) → ℕ → S → Grammar (List X)
-up_to_from set g next n s = record { spells = up_to_spells (λ z. (g z).spells) next n s; reads = up_to_reads set (λ z. (g z).reads) next n s }
+unfoldable pub up_to_from : {S X : Type 0}
+    → (Kind → Bool) → (S → Grammar X) → (S → X → S) → ℕ → S → Grammar (List X)
+up_to_from set g next n s = record {
+  spells = up_to_spells (λ z. (g z).spells) next n s;
+  reads = up_to_reads set (λ z. (g z).reads) next n s;
+}
 
 -- at most n of the same
 abbrev pub up_to : {X : Type 0} → (Kind → Bool) → Grammar X → ℕ → Grammar (List X)
@@ -170,7 +253,8 @@ pub record Continues {X : Type 0} (g : Grammar X) (u : List Lexeme) : Type 0 whe
   pub value : X
   pub spelled : g.spells (u ++ rest) value
 
--- s doesn't spell a value, and its first token that doesn't continue what stands before it is the first of r; where r is empty, s ends too early
+-- s doesn't spell a value, and its first token that doesn't continue what stands before it is the
+-- first of r; where r is empty, s ends too early
 pub record FirstFault {X : Type 0} (g : Grammar X) (s r : List Lexeme) : Type 0 where
   pub before : List Lexeme
   pub parts : s ≡ before ++ r

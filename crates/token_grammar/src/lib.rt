@@ -2,7 +2,9 @@
 //!
 //! `specs/Grammar.antt` has the words in which a grammar is written down. The laws in `proofs/`
 //! say of every grammar so written that it is read as it spells, with one token in hand, and that
-//! reading stops at the first token that doesn't continue.
+//! reading stops at the first token that doesn't continue. A limit is part of its grammar: what is
+//! one too many isn't spelled. `proofs/Lifted.antt` compares a grammar with one in which some limits
+//! are lifted, which tells the fault of a token from that of another.
 #![tactic(auto)]
 
 mod cursor;
@@ -10,5 +12,5 @@ mod fault;
 mod token;
 
 pub use cursor::Cursor;
-pub use fault::{Fault, ReadError};
+pub use fault::{Fault, ReadError, Thing};
 pub use token::{Kind, Span, Token};

@@ -1,21 +1,18 @@
 use Rattle.std.proofs.Common.{sym, ◌∙◌}
-use Rattle.token_grammar.specs.declared.token.Kind.TheVariants as kinds
 use Rattle.token_grammar.specs.Token.{lexemes}
-use Rattle.token_grammar.specs.Grammar.{is}
-use Rattle.token_grammar.proofs.Good.{nothing, done_is}
+use Rattle.token_grammar.proofs.Good.{done_is}
 use Rattle.token_grammar.proofs.Faults.{whole_found, whole_only}
-use Rattle.chart_syntax.specs.FlatGrammar.{chart}
-use Rattle.chart_syntax.proofs.Productions.{fine_chart, never_chart}
+use Rattle.chart_syntax.proofs.Productions.{fine_chart}
 use Rattle.chart_syntax.proofs.Refusals.{refused_at, not_spelled}
 use Rattle.chart_syntax.proofs.reader.read_tokens.Goals as goal
 
 pub returns-in-Ok-clause-found : goal.returns-in-Ok-clause-found
 returns-in-Ok-clause-found c =
-    whole_found chart (is kinds.Chart) nothing _ fine_chart.good (lexemes c.args.tokens.now) _ _ c.in-Ok.ensures
+    whole_found fine_chart.good (lexemes c.args.tokens.now) _ _ c.in-Ok.ensures
 
 pub returns-in-Ok-clause-only : goal.returns-in-Ok-clause-only
 returns-in-Ok-clause-only c =
-    λ x h. (done_is _ _ _ _ (sym c.in-Ok.ensures ∙ whole_only chart (is kinds.Chart) nothing _ fine_chart.good never_chart (lexemes c.args.tokens.now) x h)).value
+    λ x h. (done_is _ _ _ _ (sym c.in-Ok.ensures ∙ whole_only fine_chart.good (lexemes c.args.tokens.now) x h)).value
 
 pub returns-in-Err-Fault-clause-only : goal.returns-in-Err-Fault-clause-only
 returns-in-Err-Fault-clause-only c =

@@ -1,0 +1,133 @@
+-- Limits of a chart text: which token is one too many.
+use Rattle.std.specs.Prelude.{◌≡◌, ℕ, ◌+◌, ◌<◌, nat_lt, nat_le, Bool, true, false, Option, Some, None, if◌then◌else◌}
+use Rattle.token_grammar.specs.declared.fault.Fault.{Fault}
+use Rattle.token_grammar.specs.declared.fault.Fault.TheVariants as faults
+use Rattle.token_grammar.specs.declared.fault.Thing.{Thing}
+use Rattle.token_grammar.specs.declared.fault.Thing.TheVariants as things
+
+-- where a fault stands among those of one token
+abbrev pub rank : Fault → ℕ
+rank faults.Expected = 0
+rank faults.LiteralTooLong = 1
+rank faults.LiteralNotBinary = 2
+rank faults.NestTooDeep = 3
+rank (faults.TooMany things.States) = 4
+rank (faults.TooMany things.Junctions) = 5
+rank (faults.TooMany things.Transitions) = 6
+rank (faults.TooMany things.Variables) = 7
+rank (faults.TooMany things.Events) = 8
+rank (faults.TooMany things.Statements) = 9
+rank (faults.TooMany things.Operators) = 10
+rank (faults.TooMany things.Items) = 11
+
+-- how deep states and expressions may be nested, and the rank from which on limits don't count
+pub record Limits : Type 0 where
+  pub depth : ℕ
+  pub nesting : ℕ
+  pub lifted_from : ℕ
+
+-- the limits of the language: all count. 64 nested operators are 64 operators
+abbrev pub usual : Limits
+usual = record { depth = 16; nesting = 64; lifted_from = 12 }
+
+-- whether the limit of a fault doesn't count
+abbrev pub is_lifted : Limits → Fault → Bool
+is_lifted l fault = nat_le l.lifted_from (rank fault)
+
+-- how many of a thing there may be
+abbrev pub most : Thing → ℕ
+most things.States = 1024
+most things.Junctions = 4096
+most things.Transitions = 8192
+most things.Variables = 512
+most things.Events = 512
+most things.Statements = 256
+most things.Operators = 64
+most things.Items = 20000
+
+-- a fault, unless its limit doesn't count
+abbrev pub unless_lifted : Limits → Option Fault → Option Fault
+unless_lifted l None = None
+unless_lifted l (Some fault) = if is_lifted l fault then None else Some fault
+
+-- what is wrong with one more of a thing where there are so many
+abbrev pub one_more : Limits → Thing → ℕ → Option Fault
+one_more l thing count =
+    if nat_lt count (most thing) then None else unless_lifted l (Some (faults.TooMany thing))
+
+-- the first of two faults
+abbrev pub first_of : Option Fault → Option Fault → Option Fault
+first_of None later = later
+first_of (Some fault) later = Some fault
+
+-- how many things have begun so far
+pub record Counts : Type 0 where
+  pub states : ℕ
+  pub junctions : ℕ
+  pub transitions : ℕ
+  pub variables : ℕ
+  pub events : ℕ
+  pub items : ℕ
+
+-- a value, and how many things have begun up to its end
+pub record Counted (X : Type 0) : Type 0 where
+  pub value : X
+  pub counts : Counts
+
+-- one more of a thing, which is an item too
+abbrev pub after_state : Counts → Counts
+after_state n = record n { states = n.states + 1; items = n.items + 1 }
+
+abbrev pub after_junction : Counts → Counts
+after_junction n = record n { junctions = n.junctions + 1; items = n.items + 1 }
+
+abbrev pub after_transition : Counts → Counts
+after_transition n = record n { transitions = n.transitions + 1; items = n.items + 1 }
+
+abbrev pub after_variable : Counts → Counts
+after_variable n = record n { variables = n.variables + 1; items = n.items + 1 }
+
+abbrev pub after_event : Counts → Counts
+after_event n = record n { events = n.events + 1; items = n.items + 1 }
+
+-- the fault of one more of a thing where there are so many, which is one more item too
+abbrev pub one_more_item : Limits → Thing → ℕ → Counts → Option Fault
+one_more_item l thing count n = first_of (one_more l thing count) (one_more l things.Items n.items)
+
+-- the fault of one more state, junction and so on
+abbrev pub state_refused : Limits → Counts → Option Fault
+state_refused l n = one_more_item l things.States n.states n
+
+abbrev pub junction_refused : Limits → Counts → Option Fault
+junction_refused l n = one_more_item l things.Junctions n.junctions n
+
+abbrev pub transition_refused : Limits → Counts → Option Fault
+transition_refused l n = one_more_item l things.Transitions n.transitions n
+
+abbrev pub variable_refused : Limits → Counts → Option Fault
+variable_refused l n = one_more_item l things.Variables n.variables n
+
+abbrev pub event_refused : Limits → Counts → Option Fault
+event_refused l n = one_more_item l things.Events n.events n
+
+-- the fault of one more statement in a block that has so many
+abbrev pub statement_refused : Limits → ℕ → Counts → Option Fault
+statement_refused l before n = one_more_item l things.Statements before n
+
+-- ---- limits that don't count
+
+-- the faults of rank k and above
+abbrev pub lifts_from : ℕ → Fault → Bool
+lifts_from k fault = nat_le k (rank fault)
+
+-- a bound on nesting is the usual one, or a greater one where it is lifted
+abbrev pub LiftedBound : Bool → ℕ → ℕ → Type 0
+LiftedBound true most bound = most < bound
+LiftedBound false most bound = bound ≡ most
+
+-- the limits of rank k and above don't count, and all others are the usual ones
+pub record LiftedFrom (k : ℕ) (l : Limits) : Type 0 where
+  pub from : l.lifted_from ≡ k
+  pub depth : LiftedBound (lifts_from k faults.NestTooDeep) usual.depth l.depth
+  pub nesting
+      : LiftedBound (lifts_from k (faults.TooMany things.Operators)) usual.nesting l.nesting

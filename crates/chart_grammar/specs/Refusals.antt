@@ -1,0 +1,16 @@
+-- Which fault the first token has that doesn't continue a chart text.
+use Rattle.std.specs.Prelude.{◌≢◌, ◌+◌, List, [], ◌∷◌, ◌++◌}
+use Rattle.token_grammar.specs.declared.fault.Fault.{Fault}
+use Rattle.token_grammar.specs.declared.fault.Fault.TheVariants as faults
+use Rattle.token_grammar.specs.Token.{Lexeme}
+use Rattle.token_grammar.specs.Grammar.{Continues}
+use Rattle.chart_grammar.specs.Limits.{Limits, LiftedFrom, rank}
+use Rattle.chart_grammar.specs.States.{chart}
+
+-- behind these tokens, the token doesn't continue though all limits behind the fault's don't count;
+-- and where it is one of a limit, it continues once that limit doesn't count either
+pub record IsFaultOf (before : List Lexeme) (t : Lexeme) (fault : Fault) : Type 0 where
+  pub stays : (l : Limits) → LiftedFrom (rank fault + 1) l
+      → Continues (chart l) (before ++ t ∷ []) → ⊥
+  pub lifted : fault ≢ faults.Expected → (l : Limits) → LiftedFrom (rank fault) l
+      → Continues (chart l) (before ++ t ∷ [])

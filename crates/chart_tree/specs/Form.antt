@@ -1,0 +1,46 @@
+-- How the kinds of fault of a text are printed.
+use Rattle.std.specs.Prelude.{ℕ, List, codes}
+use Rattle.token_grammar.specs.declared.fault.Fault.{Fault}
+use Rattle.token_grammar.specs.declared.fault.Fault.TheVariants as reading
+use Rattle.token_grammar.specs.declared.fault.Thing.TheVariants as things
+use Rattle.chart_tree.specs.declared.fault.FormKind.{FormKind}
+use Rattle.chart_tree.specs.declared.fault.FormKind.TheVariants as forms
+
+-- the kind of a fault of reading
+abbrev pub kind_of : Fault → FormKind
+kind_of reading.Expected = forms.Expected
+kind_of reading.LiteralTooLong = forms.LiteralTooLong
+kind_of reading.LiteralNotBinary = forms.LiteralNotBinary
+kind_of reading.NestTooDeep = forms.NestTooDeep
+kind_of (reading.TooMany thing) = forms.TooMany thing
+
+-- the number of a kind of fault
+abbrev pub form_number : FormKind → ℕ
+form_number forms.BadByte = 1
+form_number forms.BadToken = 2
+form_number forms.Expected = 3
+form_number forms.LiteralTooLong = 4
+form_number forms.LiteralNotBinary = 5
+form_number forms.TextTooLong = 6
+form_number forms.NestTooDeep = 7
+form_number (forms.TooMany thing) = 8
+form_number forms.NotBuilt = 25
+
+-- its name
+abbrev pub form_name : FormKind → List ℕ
+form_name forms.BadByte = codes "BadByte"
+form_name forms.BadToken = codes "BadToken"
+form_name forms.Expected = codes "Expected"
+form_name forms.LiteralTooLong = codes "LiteralTooLong"
+form_name forms.LiteralNotBinary = codes "LiteralNotBinary"
+form_name forms.TextTooLong = codes "TextTooLong"
+form_name forms.NestTooDeep = codes "NestTooDeep"
+form_name (forms.TooMany things.States) = codes "TooMany states"
+form_name (forms.TooMany things.Junctions) = codes "TooMany junctions"
+form_name (forms.TooMany things.Transitions) = codes "TooMany transitions"
+form_name (forms.TooMany things.Variables) = codes "TooMany variables"
+form_name (forms.TooMany things.Events) = codes "TooMany events"
+form_name (forms.TooMany things.Statements) = codes "TooMany statements"
+form_name (forms.TooMany things.Operators) = codes "TooMany operators"
+form_name (forms.TooMany things.Items) = codes "TooMany items"
+form_name forms.NotBuilt = codes "NotBuilt"

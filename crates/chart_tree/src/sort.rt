@@ -1,0 +1,34 @@
+//! What values a datum has, and its first one.
+use crate::name::LitText;
+use fixed_point::{Mode, Scale};
+use token_grammar::Span;
+
+/// What values a datum has.
+#[derive(Clone, Copy, Debug, PartialEq, Eq)]
+pub enum SortText {
+    /// True or false.
+    Flag,
+    /// The numbers of a scale, and what is done with one out of its range.
+    Number(Scale, Mode),
+}
+
+/// The first value of a datum. A missing one is 0 or false, with the place of the datum's name.
+#[derive(Clone, Copy, Debug, PartialEq, Eq)]
+pub enum InitText {
+    /// A number. One of value 0 isn't negative, and has no digits behind the point and no `q`.
+    Number {
+        /// Whether a minus sign stands before it.
+        negative: bool,
+        /// The number behind the sign.
+        lit: LitText,
+        /// The place of its first token.
+        at: Span,
+    },
+    /// A flag.
+    Flag {
+        /// True or false.
+        value: bool,
+        /// Where it stands.
+        at: Span,
+    },
+}

@@ -1,0 +1,115 @@
+-- Limits: a first token that a test refuses, and what is never spelled.
+use Rattle.std.proofs.Common.{◌≡◌, true, false, cond, List, [], ◌∷◌, ◌++◌, Err, Option, Some, None, ◌⊎◌, inl, inr, refl, sym, ap, ◌∙◌}
+use Rattle.std.proofs.lemmas.Bool.{cases_Bool}
+use Rattle.token_grammar.specs.declared.fault.Fault.{Fault}
+use Rattle.token_grammar.specs.declared.fault.Fault.TheVariants as faults
+use Rattle.token_grammar.specs.Token.{Lexeme}
+use Rattle.token_grammar.specs.Grammar.{Grammar, heads, first_refused, allowed, forbidden, Continues}
+use Rattle.token_grammar.proofs.Good.{Set, nothing, SameHead, Begins, Takes, Stops, Good, Sample, carried, heads-same, stops_at_hand}
+
+-- ---- what the test says of the first token
+
+refused_same : (set : Set) (test : Lexeme → Option Fault) (r r' : List Lexeme) → SameHead r r' → first_refused set test r ≡ first_refused set test r'
+refused_same set test [] [] h = refl
+refused_same set test [] (t ∷ s) h = absurd h
+refused_same set test (t ∷ s) [] h = absurd h
+refused_same set test (t ∷ s) (t' ∷ s') h = ap (λ (x : Lexeme). cond (set x.kind) (test x) None) h
+
+-- of tokens that aren't none, what follows has no say
+refused_front : (set f : Set) (test : Lexeme → Option Fault) (u r : List Lexeme) → Begins f false u → first_refused set test (u ++ r) ≡ first_refused set test u
+refused_front set f test [] r h = absurd cc
+refused_front set f test (t ∷ u) r h = refl
+
+-- what a test says that looks at no token
+pub refused_always : (set : Set) (said : Option Fault) (s : List Lexeme) → first_refused set (λ t. said) s ≡ cond (heads set s) said None
+refused_always set said [] = refl
+refused_always set said (t ∷ s) = refl
+
+pub said_cases : (said : Option Fault) → (said ≡ None) ⊎ ((f : Fault) × (said ≡ Some f))
+said_cases None = inl refl
+said_cases (Some f) = inr (f, refl)
+
+-- ---- allowed
+
+pub allowed_begun : {X : Type 0} {g : Grammar X} (set : Set) (test : Lexeme → Option Fault) (t : Lexeme) (u : List Lexeme)
+    → first_refused set test (t ∷ []) ≡ None → Continues g (t ∷ u) → Continues (allowed set test g) (t ∷ u)
+allowed_begun set test t u passes c = record { rest = c.rest; value = c.value; spelled = (passes, c.spelled) }
+
+allowed_continues : {X : Type 0} {g : Grammar X} (set : Set) (test : Lexeme → Option Fault) (used r : List Lexeme)
+    → first_refused set test (used ++ r) ≡ None → Continues g used ⊎ (used ≡ []) → Continues (allowed set test g) used ⊎ (used ≡ [])
+allowed_continues set test [] r passes c = inr refl
+allowed_continues set test (t ∷ u) r passes (inl c) = inl (allowed_begun set test t u passes c)
+allowed_continues set test (t ∷ u) r passes (inr none) = inr none
+
+-- the tokens that were used pass as the whole does
+used_pass : (set : Set) (test : Lexeme → Option Fault) (used r : List Lexeme) → first_refused set test (used ++ r) ≡ None
+    → first_refused set test used ≡ None
+used_pass set test [] r passes = refl
+used_pass set test (t ∷ u) r passes = passes
+
+pub takes_allowed : {X : Type 0} {g : Grammar X} (set : Set) (test : Lexeme → Option Fault) (s : List Lexeme) (x : X) (r : List Lexeme)
+    → first_refused set test s ≡ None → Takes g s x r → Takes (allowed set test g) s x r
+takes_allowed set test s x r passes t = record {
+  used = t.used;
+  parts = t.parts;
+  spelled = (used_pass set test t.used r (ap (first_refused set test) (sym t.parts) ∙ passes), t.spelled);
+  same = λ r' hd. rw (sym (refused_same set test s (t.used ++ r') (carried s t.used r r' t.parts hd)) ∙ passes) (t.same r' hd);
+}
+
+stops_allowed : {X : Type 0} {g : Grammar X} (set : Set) (test : Lexeme → Option Fault) (f : Fault) (s r : List Lexeme)
+    → first_refused set test s ≡ None → Stops g f s r → Stops (allowed set test g) f s r
+stops_allowed set test f s r passes t = record {
+  used = t.used;
+  parts = t.parts;
+  continues = allowed_continues set test t.used r (ap (first_refused set test) (sym t.parts) ∙ passes) t.continues;
+  same = λ r' hd. rw (sym (refused_same set test s (t.used ++ r') (carried s t.used r r' t.parts hd)) ∙ passes) (t.same r' hd);
+}
+
+stops_refused : {X : Type 0} {g : Grammar X} (set : Set) (test : Lexeme → Option Fault) (d : Fault) (s : List Lexeme) → first_refused set test s ≡ Some d
+    → (r : List Lexeme) (f : Fault) → (allowed set test g).reads s ≡ Err (f, r) → Stops (allowed set test g) f s r
+stops_refused {X} {g} set test d s full r f e =
+    stops_at_hand (allowed set test g) d s (λ r' h. rw (sym (refused_same set test s r' h) ∙ full) refl) r f e
+
+pub good_allowed : {X : Type 0} {g : Grammar X} {f m : Set} (set : Set) (test : Lexeme → Option Fault) → Good g f false m
+    → Good (allowed set test g) f false m
+good_allowed {X} {g} {f} set test a = record {
+  begins = λ u x w. a.begins u x w.1;
+  again = λ u x r w clear. rw (refused_front set f test u r (a.begins u x w.1) ∙ w.0) (a.again u x r w.1 clear);
+  takes = λ s x r e.
+      elim (said_cases (first_refused set test s)) [
+        | inl passes ↦ takes_allowed set test s x r passes (a.takes s x r (rw passes at e))
+        | inr full ↦ absurd (let bad = rw full.1 at e in cc)
+      ];
+  stops = λ s r d e.
+      elim (said_cases (first_refused set test s)) [
+        | inl passes ↦ stops_allowed set test d s r passes (a.stops s r d (rw passes at e))
+        | inr full ↦ stops_refused set test full.0 s full.1 r d e
+      ];
+}
+
+-- where the test refuses no token of the set
+passes_all : (set : Set) (test : Lexeme → Option Fault) → ((t : Lexeme) → set t.kind ≡ true → test t ≡ None) → (u : List Lexeme)
+    → first_refused set test u ≡ None
+passes_all set test passes [] = refl
+passes_all set test passes (t ∷ u) =
+    elim (cases_Bool (set t.kind)) [
+      | inl there ↦ rw there (passes t there)
+      | inr away ↦ rw away refl
+    ]
+
+pub sample_allowed : {X : Type 0} {g : Grammar X} (set : Set) (test : Lexeme → Option Fault) → ((t : Lexeme) → set t.kind ≡ true → test t ≡ None)
+    → Sample g → Sample (allowed set test g)
+sample_allowed set test passes z = record { tokens = z.tokens; value = z.value; spelled = (passes_all set test passes z.tokens, z.spelled) }
+
+-- ---- forbidden
+
+pub good_forbidden : {X : Type 0} (set : Set) (fault : Fault) → Good (forbidden {X = X} set fault) set false nothing
+unfolding forbidden
+good_forbidden {X} set fault = record {
+  begins = λ u x w. absurd w;
+  again = λ u x r w clear. absurd w;
+  takes = λ s x r e. absurd cc;
+  stops = λ s r f e.
+      stops_at_hand (forbidden {X = X} set fault) (cond (heads set s) fault faults.Expected) s
+      (λ r' h. ap (λ b. Err (cond b fault faults.Expected, r')) (sym (heads-same set s r' h))) r f e;
+}

@@ -7,8 +7,8 @@ use Rattle.flow_base.specs.Causes.{Rose, Stands, AllStay}
 use Rattle.flow_base.specs.Bytes.{AppendsProperFront}
 use Rattle.flow_base.specs.declared.status.Status.{Status}
 use Rattle.token_grammar.specs.declared.token.Span.{Span}
-use Rattle.chart_syntax.specs.declared.fault.FormKind.{FormKind}
-use Rattle.chart_syntax.specs.declared.fault.FormFault.TheVariants as form_faults
+use Rattle.chart_tree.specs.declared.fault.FormKind.{FormKind}
+use Rattle.chart_tree.specs.declared.fault.FormFault.TheVariants as form_faults
 use Rattle.chart_syntax.specs.FlatChart.{Chart}
 use Rattle.chart_syntax.specs.FlatText.{IsFlat, IsRefusal}
 use Rattle.code_form.specs.Program.{Program}

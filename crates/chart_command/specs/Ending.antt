@@ -3,7 +3,7 @@ use Rattle.std.specs.Prelude.{ℕ, List, [], ◌++◌, codes, decimal}
 use Rattle.flow_base.specs.declared.status.Status.{Status}
 use Rattle.flow_base.specs.declared.status.Status.TheVariants as statuses
 use Rattle.token_grammar.specs.declared.token.Span.{Span}
-use Rattle.chart_syntax.specs.Form.{form_number, form_name}
+use Rattle.chart_tree.specs.Form.{form_number, form_name}
 use Rattle.code_form.specs.declared.fault.CodeKind.{CodeKind}
 use Rattle.code_form.specs.Form.{code_number, code_name}
 use Rattle.code_text.specs.declared.fault.CodeTextFault.{CodeTextFault}

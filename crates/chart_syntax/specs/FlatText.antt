@@ -5,9 +5,9 @@ use Rattle.token_grammar.specs.Token.{Lexeme}
 use Rattle.token_grammar.specs.Grammar.{Continues, FirstFault}
 use Rattle.chart_lexer.specs.declared.front.Stop.TheVariants as stops
 use Rattle.chart_lexer.specs.Lex.{cut_of, begin}
-use Rattle.chart_syntax.specs.declared.fault.FormKind.TheVariants as forms
-use Rattle.chart_syntax.specs.declared.fault.FormFault.{FormFault}
-use Rattle.chart_syntax.specs.declared.fault.FormFault.TheVariants as faults
+use Rattle.chart_tree.specs.declared.fault.FormKind.TheVariants as forms
+use Rattle.chart_tree.specs.declared.fault.FormFault.{FormFault}
+use Rattle.chart_tree.specs.declared.fault.FormFault.TheVariants as faults
 use Rattle.chart_syntax.specs.declared.tree.FlatChart.{FlatChart}
 use Rattle.chart_syntax.specs.FlatChart.{Chart, chart_of}
 use Rattle.chart_syntax.specs.FlatGrammar.{SpelledChart, chart}
@@ -56,8 +56,14 @@ pub record NameAtFault (text : List ℕ) (at : Span) : Type 0 where
 
 -- when each fault comes, and where
 abbrev pub IsRefusal : List ℕ → FormFault → Type 0
+IsRefusal text (faults.At forms.BadByte at) = ⊥
+IsRefusal text (faults.At forms.BadToken at) = ⊥
 IsRefusal text (faults.At forms.Expected at) = EndsEarly text at
+IsRefusal text (faults.At forms.LiteralTooLong at) = ⊥
+IsRefusal text (faults.At forms.LiteralNotBinary at) = ⊥
 IsRefusal text (faults.At forms.TextTooLong at) = (1048576 < length text) × (at ≡ begin)
+IsRefusal text (faults.At forms.NestTooDeep at) = ⊥
+IsRefusal text (faults.At (forms.TooMany thing) at) = ⊥
 IsRefusal text (faults.At forms.NotBuilt at) = StopsAt text at ⊎ NoToken text at ⊎ NameAtFault text at
 IsRefusal text faults.Memory = Unit {0}
 

@@ -1,4 +1,3 @@
-pub mod Form
 pub mod FlatChart
 pub mod FlatGrammar
 pub mod FlatNames

@@ -6,8 +6,8 @@ use Rattle.token_grammar.specs.declared.token.Token.{Token}
 use Rattle.token_grammar.specs.Token.{Lexeme, lexeme, lexemes}
 use Rattle.token_grammar.specs.Grammar.{FirstFault}
 use Rattle.chart_lexer.specs.Words.{is_name}
-use Rattle.chart_syntax.specs.declared.fault.FormFault.{FormFault}
-use Rattle.chart_syntax.specs.declared.fault.FormFault.TheVariants as faults
+use Rattle.chart_tree.specs.declared.fault.FormFault.{FormFault}
+use Rattle.chart_tree.specs.declared.fault.FormFault.TheVariants as faults
 use Rattle.chart_syntax.specs.declared.spelled.TransTokens.{TransTokens}
 use Rattle.chart_syntax.specs.declared.spelled.StateTokens.{StateTokens}
 use Rattle.chart_syntax.specs.declared.spelled.ChartTokens.{ChartTokens}

@@ -5,14 +5,13 @@
 //! `specs/FlatText.antt` first, in this order.
 #![tactic(auto)]
 
-mod fault;
 mod names;
 mod reader;
 mod spelled;
 mod text;
 mod tree;
 
-pub use fault::{FormFault, FormKind};
+pub use chart_tree::{FormFault, FormKind};
 pub use text::read_flat;
 pub use token_grammar::Span;
 pub use tree::{FlatChart, FlatState, FlatTrans};

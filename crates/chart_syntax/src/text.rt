@@ -5,12 +5,12 @@ ghost use Rattle.chart_syntax.specs.FlatGrammar.{SpelledChart};
 ghost use Rattle.chart_syntax.specs.FlatText.{Spells, IsFlat, IsRefusal, IsReadAs};
 ghost use Rattle.chart_syntax.specs.Spelled.{chart_spelled, IsReadAsSpelled};
 
-use crate::fault::{FormFault, FormKind};
 use crate::names::{name_fault, numbered};
 use crate::reader::{Refusal, read_tokens};
 use crate::spelled::ChartTokens;
 use crate::tree::FlatChart;
 use chart_lexer::{Stop, lex};
+use chart_tree::{FormFault, FormKind};
 use std::alloc::Global;
 use token_grammar::Span;
 

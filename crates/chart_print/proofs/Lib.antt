@@ -1,0 +1,4 @@
+pub mod Written
+pub mod Digits
+pub mod StateViews
+pub mod PlacesLemmas

@@ -1,0 +1,7 @@
+pub mod Pieces
+pub mod Words
+pub mod Expressions
+pub mod Transitions
+pub mod Declarations
+pub mod Canonical
+pub mod Places

@@ -1,0 +1,21 @@
+//! The canonical text of a chart.
+//!
+//! Read `specs/Canonical.antt` first: the text as a list of pieces, production by production.
+#![tactic(auto)]
+
+mod chart;
+mod declarations;
+mod expressions;
+mod kinds;
+mod laws;
+mod printer;
+#[cfg(test)]
+mod samples;
+mod states;
+#[cfg(test)]
+mod tests;
+mod transitions;
+mod words;
+
+pub use chart::print_chart;
+pub use laws::places_are_not_printed;

@@ -115,12 +115,16 @@ def written(value, fraction):
 
 # ---- the calls
 
+def two_numbers(words):
+    if len(words) != 4:
+        raise NotACall
+    return Number(*words[:2]), Number(*words[2:])
+
+
 def by_steps(answer):
     """A call of two numbers that are brought to the greater fraction."""
     def call(words):
-        if len(words) != 4:
-            raise NotACall
-        a, b = Number(*words[:2]), Number(*words[2:])
+        a, b = two_numbers(words)
         if max(a.fraction, b.fraction) > MOST_FRACTION:
             return OUT
         fraction = max(a.fraction, b.fraction)
@@ -135,9 +139,7 @@ def order(a, b, _fraction):
 
 
 def product(words):
-    if len(words) != 4:
-        raise NotACall
-    a, b = Number(*words[:2]), Number(*words[2:])
+    a, b = two_numbers(words)
     if a.fraction + b.fraction > MOST_FRACTION:
         return OUT
     if abs(steps(a.value * b.value, a.fraction + b.fraction)) > MOST:
@@ -146,9 +148,7 @@ def product(words):
 
 
 def quotient(words):
-    if len(words) != 4:
-        raise NotACall
-    a, b = Number(*words[:2]), Number(*words[2:])
+    a, b = two_numbers(words)
     if max(a.fraction, b.fraction) > MOST_FRACTION:
         return OUT
     fraction = max(a.fraction, b.fraction)

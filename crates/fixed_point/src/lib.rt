@@ -21,6 +21,6 @@ pub use arithmetic::{add, compare, mul, neg, sub};
 pub use fitting::{Mode, Overflow, exact, fit};
 pub use num::Num;
 pub use quotient::{Zero, div};
-pub use reading::{NumFault, read_decimal};
+pub use reading::{NumFault, Numeral, read_decimal, split_digits, split_number, value_after};
 pub use scale::Scale;
 pub use writing::write_decimal;

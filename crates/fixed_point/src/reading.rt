@@ -55,7 +55,7 @@ fn digit_count(text: &[u8]) -> usize
 }
 
 /// The digits at the front, and what comes behind them.
-fn split_digits(text: &[u8]) -> (&[u8], &[u8])
+pub fn split_digits(text: &[u8]) -> (&[u8], &[u8])
     ensures digits { result.0.now ≡ spec.leading_digits text.now }
     ensures rest { result.1.now ≡ spec.after_digits text.now }
 {
@@ -78,7 +78,7 @@ fn split_behind(text: &[u8]) -> (bool, &[u8], &[u8])
 }
 
 /// The number that digits tell, behind the digits of another number.
-fn value_after(start: u128, digits: &[u8]) -> u128
+pub fn value_after(start: u128, digits: &[u8]) -> u128
     requires digits { AllPass is_ascii_digit digits.now }
     requires room { (start + 1) * 10 ^ length digits.now ≤ 10 ^ 36 }
     ensures value { result ≡ spec.value_after start digits.now }
@@ -104,17 +104,22 @@ fn read_bits(digits: &[u8]) -> Option<u32>
     }
     Some(bits as u32)
 }
+
 /// The parts of a number's text.
-#[derive(Clone, Copy)]
-struct Numeral<'a> {
-    negative: bool,
-    whole: &'a [u8],
-    behind: &'a [u8],
-    bits: Option<u32>,
+#[derive(Clone, Copy, Debug)]
+pub struct Numeral<'a> {
+    /// Whether a minus sign stands in front.
+    pub negative: bool,
+    /// The digits before the point, at least one.
+    pub whole: &'a [u8],
+    /// The digits behind the point, none where there is no point.
+    pub behind: &'a [u8],
+    /// The bits behind the point that `q` asks for, 0 to 32.
+    pub bits: Option<u32>,
 }
 
 /// The parts of the text. None where it isn't a number.
-fn split_number(text: &[u8]) -> Option<Numeral<'_>>
+pub fn split_number(text: &[u8]) -> Option<Numeral<'_>>
     ensures { MatchOption result (IsFalse (spec.is_number text.now)) (parts.IsSplit text.now) }
 {
     let (negative, body) = skip_byte(text, b'-');

@@ -19,9 +19,11 @@ use Rattle.chart_grammar.specs.Types.{sort}
 
 -- ---- events
 
+-- what begins a declaration of a datum, and what stands behind `event`
 abbrev pub kind_heads : Kind → Bool
 kind_heads k = is kinds.Input k || (is kinds.Local k || is kinds.Output k)
 
+-- who raises an event, by its word
 abbrev pub event_word : Kind → EventWord
 event_word k =
     if is kinds.Input k then event_words.Input else
@@ -63,6 +65,7 @@ negative_init l = do
   t ← number l
   give (plain_init true (lit_of t.text) sign.at)
 
+-- 'true' | 'false'
 abbrev pub flag_heads : Kind → Bool
 flag_heads k = is kinds.True k || is kinds.False k
 
@@ -89,11 +92,13 @@ abbrev pub missing_init : Sort → Span → InitText
 missing_init FlagSort at = inits.Flag false at
 missing_init (NumberSort scale mode) at = inits.Number false zero_lit at
 
+-- ('=' init)?
 unfoldable pub maybe_init : Limits → Sort → Span → Grammar InitText
 maybe_init l sort at = either (is kinds.Assign) (given_init l) (give (missing_init sort at))
 
 -- ---- data
 
+-- who sets a datum, by its word
 abbrev pub var_word : Kind → VarWord
 var_word k =
     if is kinds.Input k then var_words.Input else

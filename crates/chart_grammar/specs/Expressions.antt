@@ -33,23 +33,29 @@ Operands = ℕ → Grammar Operand
 
 -- ---- operators
 
+-- '*' | '/'
 abbrev pub product_heads : Kind → Bool
 product_heads k = is kinds.Star k || is kinds.Slash k
 
+-- '+' | '-'
 abbrev pub sum_heads : Kind → Bool
 sum_heads k = is kinds.Plus k || is kinds.Minus k
 
+-- '==' | '!=' | '<' | '<=' | '>' | '>='
 abbrev pub comparison_heads : Kind → Bool
 comparison_heads k =
     is kinds.EqualEqual k || (is kinds.NotEqual k || (is kinds.Less k
     || (is kinds.LessEqual k || (is kinds.Greater k || is kinds.GreaterEqual k))))
 
+-- '-' | '!', before an operand
 abbrev pub sign_heads : Kind → Bool
 sign_heads k = is kinds.Minus k || is kinds.Not k
 
+-- what begins an operand with another one inside
 abbrev pub nested_heads : Kind → Bool
 nested_heads k = sign_heads k || is kinds.OpenParen k
 
+-- 'true' | 'false'
 abbrev pub flag_heads : Kind → Bool
 flag_heads k = is kinds.True k || is kinds.False k
 

@@ -74,19 +74,23 @@ pub record Counted (X : Type 0) : Type 0 where
   pub value : X
   pub counts : Counts
 
--- one more of a thing, which is an item too
+-- one more state, which is one more item too; and likewise of the others
 abbrev pub after_state : Counts → Counts
 after_state n = record n { states = n.states + 1; items = n.items + 1 }
 
+-- one more junction
 abbrev pub after_junction : Counts → Counts
 after_junction n = record n { junctions = n.junctions + 1; items = n.items + 1 }
 
+-- one more transition
 abbrev pub after_transition : Counts → Counts
 after_transition n = record n { transitions = n.transitions + 1; items = n.items + 1 }
 
+-- one more datum
 abbrev pub after_variable : Counts → Counts
 after_variable n = record n { variables = n.variables + 1; items = n.items + 1 }
 
+-- one more event
 abbrev pub after_event : Counts → Counts
 after_event n = record n { events = n.events + 1; items = n.items + 1 }
 
@@ -94,19 +98,23 @@ after_event n = record n { events = n.events + 1; items = n.items + 1 }
 abbrev pub one_more_item : Limits → Thing → ℕ → Counts → Option Fault
 one_more_item l thing count n = first_of (one_more l thing count) (one_more l things.Items n.items)
 
--- the fault of one more state, junction and so on
+-- the fault of one more state
 abbrev pub state_refused : Limits → Counts → Option Fault
 state_refused l n = one_more_item l things.States n.states n
 
+-- the fault of one more junction
 abbrev pub junction_refused : Limits → Counts → Option Fault
 junction_refused l n = one_more_item l things.Junctions n.junctions n
 
+-- the fault of one more transition
 abbrev pub transition_refused : Limits → Counts → Option Fault
 transition_refused l n = one_more_item l things.Transitions n.transitions n
 
+-- the fault of one more datum
 abbrev pub variable_refused : Limits → Counts → Option Fault
 variable_refused l n = one_more_item l things.Variables n.variables n
 
+-- the fault of one more event
 abbrev pub event_refused : Limits → Counts → Option Fault
 event_refused l n = one_more_item l things.Events n.events n
 

@@ -108,16 +108,19 @@ trans_item l keyword item n = do
   found ← keyword_trans l (is keyword) n
   give (counted_as item found)
 
+-- a junction as an item
 unfoldable pub junction_item : Limits → Counts → Grammar (Counted Item)
 junction_item l n = do
   found ← junction l n
   give (counted_as JunctionItem found)
 
+-- a declaration of an event as an item
 unfoldable pub event_item : Limits → Counts → Grammar (Counted Item)
 event_item l n = do
   found ← event l n
   give (record { value = EventItem found; counts = after_event n })
 
+-- a declaration of a datum as an item
 unfoldable pub variable_item : Limits → Counts → Grammar (Counted Item)
 variable_item l n = do
   found ← variable l n
@@ -245,6 +248,7 @@ state_with s = StateOf (record s.parts { comp = comp_with s.parts.comp s.states 
 
 -- ---- states and charts
 
+-- 'or' | 'and'
 abbrev pub comp_heads : Kind → Bool
 comp_heads k = is kinds.Or k || is kinds.And k
 
@@ -252,6 +256,7 @@ comp_heads k = is kinds.Or k || is kinds.And k
 unfoldable pub comp : Grammar CompText
 comp = either (is kinds.Or) (token kinds.Or >> give comps.Or) (token kinds.And >> give comps.And)
 
+-- a missing word is none
 unfoldable pub maybe_comp : Grammar CompText
 maybe_comp = either comp_heads comp (give comps.None)
 
@@ -290,6 +295,7 @@ state l (suc deeper) n = state_over l (state l deeper) n
 abbrev pub at_begin : Counts
 at_begin = record { states = 1; junctions = 0; transitions = 0; variables = 0; events = 0; items = 1 }
 
+-- the chart of its sorted items
 abbrev pub chart_with : Sorted → Chart
 chart_with s = record { events = s.events; vars = s.vars; root = state_with s }
 

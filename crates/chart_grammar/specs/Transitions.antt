@@ -27,6 +27,7 @@ target = do
   token kinds.To
   path
 
+-- ('to' path)?
 unfoldable pub maybe_target : Grammar (Option Path)
 maybe_target = optional (is kinds.To) target
 
@@ -47,6 +48,7 @@ emit = do
   token kinds.Semicolon
   give (Emit name)
 
+-- what begins a statement
 abbrev pub stmt_heads : Kind → Bool
 stmt_heads k = is kinds.Send k || (is kinds.Emit k || is kinds.Name k)
 
@@ -119,9 +121,11 @@ action l n = do
   token kinds.Slash
   block l n
 
+-- NAME?
 unfoldable pub maybe_event : Grammar (Option NameText)
 maybe_event = optional (is kinds.Name) name
 
+-- ('[' expr ']')?
 unfoldable pub maybe_guard : Limits → Grammar (Option Guard)
 maybe_guard l = optional (is kinds.OpenBracket) (guard l)
 
@@ -129,6 +133,7 @@ maybe_guard l = optional (is kinds.OpenBracket) (guard l)
 unfoldable pub maybe_block : Limits → Counts → Grammar (List Stmt)
 maybe_block l n = either (is kinds.OpenBrace) (block l n) (give [])
 
+-- a missing action is an empty one
 unfoldable pub maybe_action : Limits → Counts → Grammar (List Stmt)
 maybe_action l n = either (is kinds.Slash) (action l n) (give [])
 
@@ -147,6 +152,7 @@ trans l n at = do
     counts = after_stmts (after_stmts n cond) act;
   })
 
+-- what begins a transition of a junction
 abbrev pub trans_heads : Kind → Bool
 trans_heads k =
     is kinds.Name k || (is kinds.OpenBracket k

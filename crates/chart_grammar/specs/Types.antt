@@ -73,6 +73,7 @@ abbrev pub no_type : Option TypeWord → Option Fault
 no_type None = Some faults.Expected
 no_type (Some word) = None
 
+-- the fault of a word that names no type
 abbrev pub type_refused : Lexeme → Option Fault
 type_refused t = no_type (type_word t.text)
 
@@ -87,9 +88,11 @@ type_name = do
   t ← allowed (is kinds.Name) type_refused (token kinds.Name)
   give (named_type (type_word t.text))
 
+-- 'saturate' | 'wrap' | 'error'
 abbrev pub mode_heads : Kind → Bool
 mode_heads k = is kinds.Saturate k || (is kinds.Wrap k || is kinds.Error k)
 
+-- the mode of its word
 abbrev pub mode_word : Kind → Mode
 mode_word k =
     if is kinds.Wrap k then modes.Wrap else

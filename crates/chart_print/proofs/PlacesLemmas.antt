@@ -100,7 +100,13 @@ arrow_pieces-same (ToJunction name) = refl
 trans_pieces-same : (trans : Trans) → trans_pieces (unplaced_trans trans) ≡ trans_pieces trans
 unfolding trans_pieces
 trans_pieces-same trans =
-    rw (trigger_pieces-same trans.event, guard_pieces-same trans.guard, condition_pieces-same trans.cond, action_pieces-same trans.act, arrow_pieces-same trans.dest) refl
+    rw (
+      trigger_pieces-same trans.event,
+      guard_pieces-same trans.guard,
+      condition_pieces-same trans.cond,
+      action_pieces-same trans.act,
+      arrow_pieces-same trans.dest,
+    ) refl
 
 -- ---- junctions and states
 
@@ -122,7 +128,8 @@ junction_pieces-same level junction =
     rw (flat_map-same (junction_trans_line (level + 1)) unplaced_trans (junction_trans_line-same (level + 1)) junction.list) refl
 
 -- a list of transitions with their keyword
-trans_lines-same : (level : ℕ) (keyword : Kind) (list : List Trans) → flat_map (trans_line level keyword) (map unplaced_trans list) ≡ flat_map (trans_line level keyword) list
+trans_lines-same : (level : ℕ) (keyword : Kind) (list : List Trans)
+    → flat_map (trans_line level keyword) (map unplaced_trans list) ≡ flat_map (trans_line level keyword) list
 trans_lines-same level keyword list = flat_map-same (trans_line level keyword) unplaced_trans (trans_line-same level keyword) list
 
 parts_pieces-same : (level : ℕ) (parts : Parts) → parts_pieces level (unplaced_parts parts) ≡ parts_pieces level parts

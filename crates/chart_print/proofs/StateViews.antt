@@ -54,22 +54,28 @@ pub junctions-seen : (s : StateText) → (parts_in (state_of s)).junctions ≡ m
 junctions-seen s = ap (λ (p : Parts). p.junctions) (parts-seen s)
 
 -- the states of a row, one after the other
-states-row : (level : ℕ) (n : _) (row : Row_of-StateText n) → states_pieces level (states_of row) ≡ flat_map (state_pieces level) (map state_of (items-the_row-StateText n row))
+states-row : (level : ℕ) (n : _) (row : Row_of-StateText n)
+    → states_pieces level (states_of row) ≡ flat_map (state_pieces level) (map state_of (items-the_row-StateText n row))
 unfolding states_pieces
 states-row level n end_of-StateText = refl
 states-row level _ (more_of-StateText {n = n} state others) = ap (λ (ps : List Piece). state_pieces level (state_of state) ++ ps) (states-row level n others)
 
 -- the child states of a state of the code
-pub states-seen : (level : ℕ) (s : StateText) → states_pieces level (states_in (state_of s)) ≡ flat_map (state_pieces level) (map state_of (items_of (out-StateText s).states))
+pub states-seen : (level : ℕ) (s : StateText)
+    → states_pieces level (states_in (state_of s)) ≡ flat_map (state_pieces level) (map state_of (items_of (out-StateText s).states))
 states-seen level (StateText' name comp entry during exit outer inner default junctions shape states) =
     rw (outs-StateText' name comp entry during exit outer inner default junctions shape states, items_shown-the_row-StateText-0 shape states)
     (states-row level _ states)
 
 -- a state, part by part
 pub state_pieces-parts : (level : ℕ) (s : State) → state_pieces level s
-    ≡ head_line level kinds.State (parts_in s).name (parts_in s).comp ++ parts_pieces (level + 1) (parts_in s) ++ states_pieces (level + 1) (states_in s) ++ end_line level
+    ≡ head_line level kinds.State (parts_in s).name (parts_in s).comp
+    ++ parts_pieces (level + 1) (parts_in s) ++ states_pieces (level + 1) (states_in s) ++ end_line level
 unfolding state_pieces
 state_pieces-parts level (StateOf parts states) = refl
 
 -- the parts of a state as the code has them
-pub ruleset seen = (printed, name-seen, comp-seen, entry-seen, during-seen, exit-seen, outer-seen, inner-seen, default-seen, junctions-seen, states-seen, state_pieces-parts)
+pub ruleset fields = (name-seen, comp-seen, entry-seen, during-seen, exit-seen, outer-seen, inner-seen, default-seen, junctions-seen)
+
+-- what is written of a state
+pub ruleset seen = (printed, fields, states-seen, state_pieces-parts)

@@ -47,7 +47,8 @@ written-indent_more text (suc level) some =
     rw less (written-append text (Blank (codes "  ") ∷ []) (indent level) ∙ ap (λ (t : List ℕ). written t (indent level)) (written-blank text (codes "  ")))
 
 -- one more level has its blanks, and those of the levels to come are left
-pub indent_step : (before now next : List ℕ) (level counter : ℕ) → counter < level → next ≡ now ++ codes "  " → written now (indent (level - counter)) ≡ written before (indent level)
+pub indent_step : (before now next : List ℕ) (level counter : ℕ) → counter < level
+    → next ≡ now ++ codes "  " → written now (indent (level - counter)) ≡ written before (indent level)
     → written next (indent (level - (counter + 1))) ≡ written before (indent level)
 indent_step before now next level counter within is all =
     let fewer : level - counter - 1 ≡ level - (counter + 1) = omega arith in

@@ -15,32 +15,32 @@ use Rattle.chart_print.specs.Declarations.{event_pieces, var_pieces}
 
 -- ---- lines
 
--- a keyword and a block, where the block isn't empty
+-- a line of a keyword and a block, where the block isn't empty
 unfoldable pub action_line : ℕ → Kind → List Stmt → List Piece
 action_line level keyword stmts =
     unless_empty stmts (line level (key keyword ++ space ++ block_pieces stmts))
 
--- a keyword and a transition
+-- a line of a keyword and a transition
 unfoldable pub trans_line : ℕ → Kind → Trans → List Piece
 trans_line level keyword trans = line level (key keyword ++ space ++ trans_pieces trans)
 
--- a transition of a junction
+-- the line of a transition of a junction
 unfoldable pub junction_trans_line : ℕ → Trans → List Piece
 junction_trans_line level trans = line level (trans_pieces trans)
 
--- the brace that ends a state, a junction or the chart
+-- the line that ends a state, a junction or the chart
 unfoldable pub end_line : ℕ → List Piece
 end_line level = line level (key kinds.CloseBrace)
 
 -- ---- junctions and states
 
--- 'or' | 'and', behind a space, where there is such a word
+-- the word of a composition, behind a space, where there is one: 'or' | 'and'
 unfoldable pub comp_pieces : CompText → List Piece
 comp_pieces comps.None = []
 comp_pieces comps.Or = space ++ key kinds.Or
 comp_pieces comps.And = space ++ key kinds.And
 
--- a keyword, NAME comp? '{'
+-- how a state, a junction or the chart begins: a keyword, NAME comp? '{'
 unfoldable pub head_pieces : Kind → NameText → CompText → List Piece
 head_pieces keyword name comp =
     key keyword ++ space ++ name_pieces name ++ comp_pieces comp ++ space ++ key kinds.OpenBrace
@@ -49,7 +49,7 @@ head_pieces keyword name comp =
 unfoldable pub head_line : ℕ → Kind → NameText → CompText → List Piece
 head_line level keyword name comp = line level (head_pieces keyword name comp)
 
--- 'junction' NAME '{' trans* '}'
+-- a junction: 'junction' NAME '{' trans* '}'
 unfoldable pub junction_pieces : ℕ → Junction → List Piece
 junction_pieces level junction =
     head_line level kinds.Junction junction.name comps.None
@@ -86,7 +86,7 @@ abbrev pub states_in : State → States
 states_in (StateOf parts states) = states
 
 unfoldable mutual
-  -- 'state' NAME comp? '{' item* '}'
+  -- a state: 'state' NAME comp? '{' item* '}'
   pub state_pieces : ℕ → State → List Piece
   state_pieces level (StateOf parts states) =
       head_line level kinds.State parts.name parts.comp
@@ -102,15 +102,15 @@ unfoldable mutual
 
 -- ---- charts
 
--- a declaration of an event
+-- the line of an event
 unfoldable pub event_line : EventText → List Piece
 event_line event = line 1 (event_pieces event)
 
--- a declaration of a datum
+-- the line of a datum
 unfoldable pub var_line : Var → List Piece
 var_line var = line 1 (var_pieces var)
 
--- 'chart' NAME comp? '{' decl* item* '}'
+-- a chart: 'chart' NAME comp? '{' decl* item* '}'
 unfoldable pub chart_pieces : Chart → List Piece
 chart_pieces chart =
     head_line 0 kinds.Chart (parts_in chart.root).name (parts_in chart.root).comp

@@ -24,7 +24,7 @@ event_kind event_words.Input = kinds.Input
 event_kind event_words.Local = kinds.Local
 event_kind event_words.Output = kinds.Output
 
--- 'event' ('input' | 'local' | 'output') NAME ';'
+-- an event: 'event' ('input' | 'local' | 'output') NAME ';'
 unfoldable pub event_pieces : EventText → List Piece
 event_pieces event =
     key kinds.Event ++ space ++ key (event_kind event.kind) ++ space ++ name_pieces event.name
@@ -49,12 +49,12 @@ unfoldable pub sign_pieces : Bool → List Piece
 sign_pieces true = key kinds.Minus
 sign_pieces false = []
 
--- '-'? NUMBER | 'true' | 'false'
+-- a first value: '-'? NUMBER | 'true' | 'false'
 unfoldable pub value_pieces : InitText → List Piece
 value_pieces (inits.Number negative lit at) = sign_pieces negative ++ literal_pieces lit
 value_pieces (inits.Flag value at) = key (flag_kind value)
 
--- '=' value, behind a space, unless the value is the one that is meant without it
+-- '=' and a value, behind a space, unless the value is the one that is meant without it
 unfoldable pub init_pieces : Sort → InitText → List Piece
 init_pieces sort init =
     if is_missing_init sort init then []
@@ -68,11 +68,11 @@ var_kind var_words.Input = kinds.Input
 var_kind var_words.Output = kinds.Output
 var_kind var_words.Local = kinds.Local
 
--- NAME ':' sort
+-- a name with its type: NAME ':' sort
 unfoldable pub typed_pieces : NameText → Sort → List Piece
 typed_pieces name sort = name_pieces name ++ space ++ key kinds.Colon ++ space ++ sort_pieces sort
 
--- ('input' | 'output' | 'local') NAME ':' sort ('=' value)? ';'
+-- a datum: ('input' | 'output' | 'local') NAME ':' sort ('=' value)? ';'
 unfoldable pub var_pieces : Var → List Piece
 var_pieces var =
     key (var_kind var.kind) ++ space ++ typed_pieces var.name var.sort

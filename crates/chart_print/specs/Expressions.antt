@@ -32,35 +32,43 @@ bin_kind bin_words.Sub = kinds.Minus
 bin_kind bin_words.Mul = kinds.Star
 bin_kind bin_words.Div = kinds.Slash
 
+-- the precedence of comparisons
+abbrev pub comparison : ℕ
+comparison = 3
+
+-- the precedence of what has no operator between two operands
+abbrev pub tightest : ℕ
+tightest = 6
+
 -- the precedence of an operator between two operands: the higher, the tighter it binds
 abbrev pub precedence : BinWord → ℕ
 precedence bin_words.Or = 1
 precedence bin_words.And = 2
-precedence bin_words.Eq = 3
-precedence bin_words.Ne = 3
-precedence bin_words.Lt = 3
-precedence bin_words.Le = 3
-precedence bin_words.Gt = 3
-precedence bin_words.Ge = 3
+precedence bin_words.Eq = comparison
+precedence bin_words.Ne = comparison
+precedence bin_words.Lt = comparison
+precedence bin_words.Le = comparison
+precedence bin_words.Gt = comparison
+precedence bin_words.Ge = comparison
 precedence bin_words.Add = 4
 precedence bin_words.Sub = 4
 precedence bin_words.Mul = 5
 precedence bin_words.Div = 5
 
--- the precedence of an expression: that of its operator between two operands, and else 6
+-- the precedence of an expression: that of its operator between two operands
 abbrev pub expr_precedence : Expr → ℕ
-expr_precedence (Lit lit at) = 6
-expr_precedence (Flag value at) = 6
-expr_precedence (Name name) = 6
-expr_precedence (Active path at) = 6
-expr_precedence (Unary word e at) = 6
+expr_precedence (Lit lit at) = tightest
+expr_precedence (Flag value at) = tightest
+expr_precedence (Name name) = tightest
+expr_precedence (Active path at) = tightest
+expr_precedence (Unary word e at) = tightest
 expr_precedence (Binary word l r at) = precedence word
 
--- what a left operand's precedence must be without parentheses: no comparison is compared
+-- the least precedence of a left operand without parentheses: no comparison is compared
 abbrev pub left_least : BinWord → ℕ
-left_least word = if precedence word == 3 then 4 else precedence word
+left_least word = if precedence word == comparison then comparison + 1 else precedence word
 
--- what a right operand's precedence must be without parentheses: operators group from the left
+-- the least precedence of a right operand without parentheses: operators group from the left
 abbrev pub right_least : BinWord → ℕ
 right_least word = precedence word + 1
 
@@ -71,7 +79,7 @@ unfoldable pub enclosed : Bool → List Piece → List Piece
 enclosed true pieces = key kinds.OpenParen ++ pieces ++ key kinds.CloseParen
 enclosed false pieces = pieces
 
--- 'true' | 'false'
+-- the keyword of a flag: 'true' | 'false'
 abbrev pub flag_kind : Bool → Kind
 flag_kind true = kinds.True
 flag_kind false = kinds.False
@@ -84,7 +92,7 @@ expr_pieces (Name name) = name_pieces name
 expr_pieces (Active path at) =
     key kinds.In ++ key kinds.OpenParen ++ path_pieces path ++ key kinds.CloseParen
 expr_pieces (Unary word e at) =
-    key (un_kind word) ++ enclosed (nat_lt (expr_precedence e) 6) (expr_pieces e)
+    key (un_kind word) ++ enclosed (nat_lt (expr_precedence e) tightest) (expr_pieces e)
 expr_pieces (Binary word l r at) =
     enclosed (nat_lt (expr_precedence l) (left_least word)) (expr_pieces l)
     ++ space ++ key (bin_kind word) ++ space

@@ -8,14 +8,15 @@ use Rattle.chart_tree.specs.declared.sort.InitText.TheVariants as inits
 use Rattle.chart_tree.specs.declared.chart.EventText.{EventText}
 use Rattle.chart_tree.specs.Trees.{Var, Path, Expr, Lit, Flag, Name, Active, Unary, Binary, Stmt, Assign, Send, Emit, Dest, ToState, ToJunction, Guard, Trans, Junction, Parts, State, StateOf, States, NoState, MoreStates, Chart}
 
--- the place that stands for each
+-- the place that all have in place of their own
 abbrev pub nowhere : Span
 nowhere = record { line = 0; column = 0 }
 
--- a name, and a path
+-- a name
 abbrev pub unplaced_name : NameText → NameText
 unplaced_name name = record { text = name.text; at = nowhere }
 
+-- a path
 abbrev pub unplaced_path : Path → Path
 unplaced_path path = map unplaced_name path
 
@@ -28,23 +29,26 @@ unplaced_expr (Active path at) = Active (unplaced_path path) nowhere
 unplaced_expr (Unary word e at) = Unary word (unplaced_expr e) nowhere
 unplaced_expr (Binary word l r at) = Binary word (unplaced_expr l) (unplaced_expr r) nowhere
 
--- a statement, and a block
+-- a statement
 abbrev pub unplaced_stmt : Stmt → Stmt
 unplaced_stmt (Assign name value) = Assign (unplaced_name name) (unplaced_expr value)
 unplaced_stmt (Send name to) = Send (unplaced_name name) (option_map unplaced_path to)
 unplaced_stmt (Emit name) = Emit (unplaced_name name)
 
+-- a block
 abbrev pub unplaced_block : List Stmt → List Stmt
 unplaced_block stmts = map unplaced_stmt stmts
 
--- a destination, a guard and a transition
+-- a destination
 abbrev pub unplaced_dest : Dest → Dest
 unplaced_dest (ToState path) = ToState (unplaced_path path)
 unplaced_dest (ToJunction name) = ToJunction (unplaced_name name)
 
+-- a guard
 abbrev pub unplaced_guard : Guard → Guard
 unplaced_guard guard = record { expr = unplaced_expr guard.expr; at = nowhere }
 
+-- a transition
 abbrev pub unplaced_trans : Trans → Trans
 unplaced_trans trans = record {
   at = nowhere;
@@ -55,13 +59,14 @@ unplaced_trans trans = record {
   dest = unplaced_dest trans.dest;
 }
 
--- a junction, and the parts of a state
+-- a junction
 abbrev pub unplaced_junction : Junction → Junction
 unplaced_junction junction = record {
   name = unplaced_name junction.name;
   list = map unplaced_trans junction.list;
 }
 
+-- what a state has beside its child states
 abbrev pub unplaced_parts : Parts → Parts
 unplaced_parts parts = record {
   name = unplaced_name parts.name;
@@ -75,24 +80,27 @@ unplaced_parts parts = record {
   junctions = map unplaced_junction parts.junctions;
 }
 
--- a state, and states
 abbrev mutual
+  -- a state
   pub unplaced_state : State → State
   unplaced_state (StateOf parts states) = StateOf (unplaced_parts parts) (unplaced_states states)
 
+  -- states
   pub unplaced_states : States → States
   unplaced_states NoState = NoState
   unplaced_states (MoreStates state others) =
       MoreStates (unplaced_state state) (unplaced_states others)
 
--- a declaration of an event, a first value, and a declaration of a datum
+-- the declaration of an event
 abbrev pub unplaced_event : EventText → EventText
 unplaced_event event = record { kind = event.kind; name = unplaced_name event.name }
 
+-- a first value
 abbrev pub unplaced_init : InitText → InitText
 unplaced_init (inits.Number negative lit at) = inits.Number negative lit nowhere
 unplaced_init (inits.Flag value at) = inits.Flag value nowhere
 
+-- the declaration of a datum
 abbrev pub unplaced_var : Var → Var
 unplaced_var var = record {
   kind = var.kind;

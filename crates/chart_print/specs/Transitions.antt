@@ -10,12 +10,12 @@ use Rattle.chart_print.specs.Expressions.{expr_pieces}
 
 -- ---- statements
 
--- 'to' path, behind a space
+-- the destination of a sent event, behind a space: 'to' path
 unfoldable pub target_pieces : Option Path → List Piece
 target_pieces None = []
 target_pieces (Some path) = space ++ key kinds.To ++ space ++ path_pieces path
 
--- NAME '=' expr ';' | 'send' NAME ('to' path)? ';' | 'emit' NAME ';'
+-- a statement: NAME '=' expr ';' | 'send' NAME ('to' path)? ';' | 'emit' NAME ';'
 unfoldable pub stmt_pieces : Stmt → List Piece
 stmt_pieces (Assign name value) =
     name_pieces name ++ space ++ key kinds.Assign ++ space ++ expr_pieces value
@@ -28,7 +28,7 @@ stmt_pieces (Emit name) = key kinds.Emit ++ space ++ name_pieces name ++ key kin
 unfoldable pub block_stmt_pieces : Stmt → List Piece
 block_stmt_pieces stmt = space ++ stmt_pieces stmt
 
--- '{' stmt* '}'
+-- a block on one line: '{' stmt* '}'
 unfoldable pub block_pieces : List Stmt → List Piece
 block_pieces stmts =
     key kinds.OpenBrace ++ flat_map block_stmt_pieces stmts ++ space ++ key kinds.CloseBrace
@@ -40,36 +40,36 @@ unless_empty (stmt ∷ stmts) pieces = pieces
 
 -- ---- transitions
 
--- NAME
+-- the event of a transition, with a space behind it: NAME
 unfoldable pub trigger_pieces : Option NameText → List Piece
 trigger_pieces None = []
 trigger_pieces (Some name) = name_pieces name ++ space
 
--- '[' expr ']'
+-- the guard, with a space behind it: '[' expr ']'
 unfoldable pub guard_pieces : Option Guard → List Piece
 guard_pieces None = []
 guard_pieces (Some guard) =
     key kinds.OpenBracket ++ expr_pieces guard.expr ++ key kinds.CloseBracket ++ space
 
--- block
+-- the condition action, with a space behind it, where it has a statement: block
 unfoldable pub condition_pieces : List Stmt → List Piece
 condition_pieces stmts = unless_empty stmts (block_pieces stmts ++ space)
 
--- '/' block
+-- the transition action, with a space behind it, where it has a statement: '/' block
 unfoldable pub action_pieces : List Stmt → List Piece
 action_pieces stmts =
     unless_empty stmts (key kinds.Slash ++ space ++ block_pieces stmts ++ space)
 
--- path | '@' NAME
+-- where a transition leads: path | '@' NAME
 unfoldable pub dest_pieces : Dest → List Piece
 dest_pieces (ToState path) = path_pieces path
 dest_pieces (ToJunction name) = key kinds.At ++ name_pieces name
 
--- '->' dest ';'
+-- the end of a transition: '->' dest ';'
 unfoldable pub arrow_pieces : Dest → List Piece
 arrow_pieces dest = key kinds.Arrow ++ space ++ dest_pieces dest ++ key kinds.Semicolon
 
--- NAME? ('[' expr ']')? block? ('/' block)? '->' dest ';'
+-- a transition: NAME? ('[' expr ']')? block? ('/' block)? '->' dest ';'
 unfoldable pub trans_pieces : Trans → List Piece
 trans_pieces trans =
     trigger_pieces trans.event ++ guard_pieces trans.guard ++ condition_pieces trans.cond

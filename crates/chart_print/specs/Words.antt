@@ -16,15 +16,15 @@ use Rattle.chart_print.specs.Pieces.{Piece, Token, key, space}
 unfoldable pub word_pieces : List ℕ → List Piece
 word_pieces bytes = Token kinds.Name bytes ∷ []
 
--- NAME
+-- a name
 abbrev pub name_pieces : NameText → List Piece
 name_pieces name = word_pieces name.text
 
--- '/' NAME
+-- a child in a path: '/' NAME
 unfoldable pub step_pieces : NameText → List Piece
 step_pieces name = key kinds.Slash ++ name_pieces name
 
--- NAME ('/' NAME)*
+-- a path: NAME ('/' NAME)*
 unfoldable pub path_pieces : Path → List Piece
 path_pieces [] = []
 path_pieces (first ∷ others) = name_pieces first ++ flat_map step_pieces others
@@ -42,7 +42,7 @@ unfoldable pub bits_bytes : Option ℕ → List ℕ
 bits_bytes None = []
 bits_bytes (Some bits) = codes "q" ++ decimal bits
 
--- NUMBER
+-- a number, as its token
 unfoldable pub literal_pieces : LitText → List Piece
 literal_pieces lit = Token kinds.Number (digits_bytes lit.units lit.places ++ bits_bytes lit.q) ∷ []
 
@@ -54,11 +54,11 @@ is_int scale =
     scale.frac == 0
     && (scale.width == 8 || (scale.width == 16 || (scale.width == 32 || scale.width == 64)))
 
--- intW or uintW
+-- the word of such a number: intW or uintW
 unfoldable pub int_bytes : ScaleParts → List ℕ
 int_bytes scale = (if scale.signed then codes "int" else codes "uint") ++ decimal scale.width
 
--- sfixW_EnF or ufixW_EnF
+-- the word of every other: sfixW_EnF or ufixW_EnF
 unfoldable pub fix_bytes : ScaleParts → List ℕ
 fix_bytes scale =
     (if scale.signed then codes "sfix" else codes "ufix") ++ decimal scale.width
@@ -74,7 +74,7 @@ mode_pieces modes.Saturate = []
 mode_pieces modes.Wrap = space ++ key kinds.Wrap
 mode_pieces modes.Error = space ++ key kinds.Error
 
--- 'bool' | scale ('wrap' | 'error')?
+-- a type: 'bool' | scale ('wrap' | 'error')?
 unfoldable pub sort_pieces : Sort → List Piece
 sort_pieces FlagSort = word_pieces (codes "bool")
 sort_pieces (NumberSort scale mode) = scale_pieces scale ++ mode_pieces mode

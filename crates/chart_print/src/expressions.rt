@@ -129,7 +129,7 @@ fn expr_precedence(expr: &ExprText) -> u8
     }
 }
 
-/// What a left operand's precedence must be without parentheses: no comparison is compared.
+/// The least precedence of a left operand without parentheses: no comparison is compared.
 fn left_least(word: BinWord) -> u8
     ensures { result ≡ spec.left_least word }
 {
@@ -137,7 +137,7 @@ fn left_least(word: BinWord) -> u8
     if own == COMPARISON { own + 1 } else { own }
 }
 
-/// What a right operand's precedence must be without parentheses: operators group from the left.
+/// The least precedence of a right operand without parentheses: operators group from the left.
 fn right_least(word: BinWord) -> u8
     ensures { result ≡ spec.right_least word }
 {

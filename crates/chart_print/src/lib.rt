@@ -1,10 +1,13 @@
 //! The canonical text of a chart.
 //!
-//! Read `specs/Canonical.antt` first: the text as a list of pieces, production by production.
+//! Read `specs/Canonical.antt` first: the text as a list of pieces, which `specs/Pieces.antt` tells
+//! apart as tokens and blanks, production by production.
 #![tactic(auto)]
 
 mod chart;
 mod declarations;
+#[cfg(test)]
+mod demo;
 mod expressions;
 mod kinds;
 mod laws;

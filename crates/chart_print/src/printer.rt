@@ -91,7 +91,7 @@ impl Printer {
     }
 }
 
-/// The next level. No tree has so many levels that its number wouldn't fit.
+/// The next level. Refused where its number doesn't fit, for a tree that no memory holds.
 pub(crate) fn deeper(level: usize) -> Result<usize, AllocError>
     ensures { IfOk result (λ deeper. deeper ≡ level + 1) }
 {

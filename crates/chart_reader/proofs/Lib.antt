@@ -1,0 +1,16 @@
+pub mod TokenLemmas
+pub mod BlockLemmas
+pub mod TransLemmas
+pub mod WordLemmas
+pub mod RefusalLemmas
+pub mod OperandLemmas
+pub mod Ranks
+pub mod DigitLemmas
+pub mod TypeLemmas
+pub mod AllowedLemmas
+pub mod TextLemmas
+pub mod ToldLoop
+pub mod SortLemmas
+pub mod ChildLemmas
+pub mod ItemLoop
+pub mod StateLemmas

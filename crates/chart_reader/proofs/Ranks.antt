@@ -1,0 +1,11 @@
+-- How far up a level lies in the descent from expressions to operands.
+use Rattle.std.proofs.Common.{ℕ}
+use Rattle.chart_reader.specs.declared.operands.Level.{Level}
+use Rattle.chart_reader.specs.declared.operands.Level.TheVariants as levels
+
+abbrev pub rank : Level → ℕ
+rank levels.Products = 2
+rank levels.Sums = 5
+rank levels.Comparisons = 8
+rank levels.Conjunctions = 12
+rank levels.Disjunctions = 15

@@ -1,0 +1,20 @@
+-- Items in their lists, the last first.
+use Rattle.std.proofs.Common.{◌≡◌, List, [], ◌∷◌, ◌++◌, refl, ap}
+use Rattle.chart_tree.specs.declared.name.NameText.{NameText}
+use Rattle.chart_tree.specs.declared.state.CompText.{CompText}
+use Rattle.chart_grammar.specs.States.{Item, Sorted, no_items, put, sorted}
+
+-- items put in front of others
+abbrev pub put_all : List Item → Sorted → Sorted
+put_all [] s = s
+put_all (x ∷ xs) s = put x (put_all xs s)
+
+-- the last of them first
+pub put_last : (xs : List Item) (x : Item) (s : Sorted) → put_all (xs ++ x ∷ []) s ≡ put_all xs (put x s)
+put_last [] x s = refl
+put_last (y ∷ xs) x s = ap (put y) (put_last xs x s)
+
+-- all of them in front of none
+pub put_sorted : (name : NameText) (comp : CompText) (xs : List Item) → put_all xs (no_items name comp) ≡ sorted name comp xs
+put_sorted name comp [] = refl
+put_sorted name comp (x ∷ xs) = ap (put x) (put_sorted name comp xs)

@@ -1,0 +1,7 @@
+use Rattle.token_grammar.specs.Token.{lexeme, lexemes}
+use Rattle.chart_reader.proofs.WordLemmas.{token_named}
+use Rattle.chart_reader.proofs.reader.Reader.name.Goals as goal
+
+pub name_text-requires : goal.name_text-requires
+name_text-requires c =
+    token_named (lexemes c.args.self.now.rest.now) _ (lexeme c.in_ok-token.token) c.args.self.now.named c.in_ok-token.ensures.read

@@ -1,0 +1,10 @@
+pub mod Named
+pub mod Counts
+pub mod Groups
+pub mod Operands
+pub mod Text
+pub mod Types
+pub mod Answer
+pub mod Told
+pub mod Items
+pub mod Heads

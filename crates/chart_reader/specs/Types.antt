@@ -1,0 +1,30 @@
+-- Types of the code as contracts see them.
+use Rattle.std.specs.Prelude.{ℕ, nat_lt, true, false, take, drop, codes, bytes_eq, List, [], ◌∷◌, Option, Some, None, if◌then◌else◌}
+use Rattle.token_grammar.specs.Token.{Lexeme}
+use Rattle.chart_tree.specs.Trees.{ScaleParts}
+use Rattle.chart_tree.specs.Views.{parts_of}
+use Rattle.chart_grammar.specs.Types.{TypeWord, FlagWord, ScaleWord, scale_told, type_word}
+use Rattle.chart_reader.specs.declared.types.TypeName.{TypeName}
+use Rattle.chart_reader.specs.declared.types.TypeName.TheVariants as names
+
+-- the type that a word names
+abbrev pub word_of : TypeName → TypeWord
+word_of names.Flag = FlagWord
+word_of (names.Numbers scale) = ScaleWord (parts_of scale)
+
+-- a number where it is below 100
+abbrev pub below_hundred : Option ℕ → Option ℕ
+below_hundred None = None
+below_hundred (Some n) = if nat_lt n 100 then Some n else None
+
+-- the scale of a word that tells its width
+abbrev pub told_of : List ℕ → Option ScaleParts
+told_of word =
+    if bytes_eq (take 4 word) (codes "sfix") then scale_told true (drop 4 word) else
+    if bytes_eq (take 4 word) (codes "ufix") then scale_told false (drop 4 word) else
+    None
+
+-- the type that the first token names
+abbrev pub first_type : List Lexeme → Option TypeWord
+first_type [] = None
+first_type (t ∷ s) = type_word t.text

@@ -1,0 +1,128 @@
+//! What may stand in a state or the chart.
+ghost use Rattle.std.specs.Prelude.{◌≡◌};
+ghost use Rattle.chart_grammar.specs.Limits as limits;
+ghost use Rattle.chart_grammar.specs.States as states;
+ghost use Rattle.chart_reader.specs.Heads.{in_state_heads, in_chart_heads};
+ghost use Rattle.chart_reader.specs.Items.{item_of, seen_of};
+
+use crate::group::Group;
+use chart_tree::{EventText, JunctionText, StateText, StmtText, TransText, VarText};
+use flow_base::List;
+use token_grammar::Kind;
+
+/// What may stand in a state or the chart.
+#[derive(Drop)]
+pub(crate) enum Item {
+    /// `entry` and its block.
+    Entry(List<StmtText>),
+    /// `during` and its block.
+    During(List<StmtText>),
+    /// `exit` and its block.
+    Exit(List<StmtText>),
+    /// An outer transition.
+    Outer(TransText),
+    /// An inner transition.
+    Inner(TransText),
+    /// A default transition.
+    Default(TransText),
+    /// A junction.
+    Junction(JunctionText),
+    /// A child state.
+    State(StateText),
+    /// The declaration of an event.
+    Event(EventText),
+    /// The declaration of a datum.
+    Var(VarText),
+}
+
+/// Which of the three actions there are so far.
+#[derive(Clone, Copy)]
+pub(crate) struct Seen {
+    pub entry: bool,
+    pub during: bool,
+    pub exit: bool,
+}
+
+impl Seen {
+    /// None of them.
+    pub fn nothing() -> Seen
+        ensures { (n : limits.Counts) → seen_of result n ≡ states.nothing_seen n }
+    {
+        Seen {
+            entry: false,
+            during: false,
+            exit: false,
+        }
+    }
+
+    /// Those, and the action that the item is.
+    pub fn after(self, item: &Item) -> Seen
+        ensures { (n m : limits.Counts) → seen_of result m
+            ≡ states.after_item (seen_of self n) (record { value = item_of item.now; counts = m }) }
+    {
+        match item {
+            Item::Entry(_) => Seen {
+                entry: true,
+                ..self
+            },
+            Item::During(_) => Seen {
+                during: true,
+                ..self
+            },
+            Item::Exit(_) => Seen { exit: true, ..self },
+            _ => self,
+        }
+    }
+
+    /// Whether an item of a state may begin so.
+    pub fn lets_in_state(self, kind: Kind) -> bool
+        ensures { (n : limits.Counts) → result ≡ states.item_heads (seen_of self n) kind }
+    {
+        if kind == Kind::Entry {
+            return !self.entry;
+        }
+        if kind == Kind::During {
+            return !self.during;
+        }
+        if kind == Kind::Exit {
+            return !self.exit;
+        }
+        begins_in_state(kind)
+    }
+
+    /// Whether an item of the chart may begin so.
+    pub fn lets_in_chart(self, kind: Kind) -> bool
+        ensures { (n : limits.Counts) → result ≡ states.chart_heads (seen_of self n) kind }
+    {
+        if kind == Kind::Entry {
+            return !self.entry;
+        }
+        if kind == Kind::During {
+            return !self.during;
+        }
+        begins_in_chart(kind)
+    }
+}
+
+/// Whether an item of a state that is no action begins so.
+fn begins_in_state(kind: Kind) -> bool
+    ensures { result ≡ in_state_heads kind }
+{
+    kind == Kind::Outer
+        || kind == Kind::Inner
+        || kind == Kind::Default
+        || kind == Kind::Junction
+        || kind == Kind::State
+}
+
+/// Whether a declaration or an item of the chart that is no action begins so.
+fn begins_in_chart(kind: Kind) -> bool
+    ensures { result ≡ in_chart_heads kind }
+{
+    kind == Kind::Inner
+        || kind == Kind::Default
+        || kind == Kind::Junction
+        || kind == Kind::State
+        || kind == Kind::Event
+        || Group::Kinds.has(kind)
+}

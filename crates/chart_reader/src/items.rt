@@ -1,0 +1,196 @@
+//! Junctions, and what may stand in a state or the chart.
+ghost use Rattle.std.specs.Prelude.{◌≡◌, map};
+ghost use Rattle.flow_base.specs.Lists.{items_of};
+ghost use Rattle.token_grammar.specs.Token.{lexemes, Gives};
+ghost use Rattle.token_grammar.specs.Grammar.{is, heads};
+ghost use Rattle.chart_tree.specs.Views.{block_of, trans_of, junction_of};
+ghost use Rattle.chart_grammar.specs.Limits.{usual};
+ghost use Rattle.chart_grammar.specs.States as states;
+ghost use Rattle.chart_reader.specs.Counts.{counts_of};
+ghost use Rattle.chart_reader.specs.Items.{item_of, seen_of, Statements};
+ghost use Rattle.chart_reader.specs.Told.{told};
+
+use crate::content::{Item, Seen};
+use crate::group::Group;
+use crate::reader::Reader;
+use chart_tree::{JunctionText, StmtText, TransText};
+use flow_base::List;
+use token_grammar::{Kind, ReadError};
+
+/// How deep states may be nested.
+const DEPTH: u32 = 16;
+
+impl<'t, 'a> Reader<'t, 'a> {
+    /// The transitions of a junction.
+    fn junction_list(&mut self) -> Result<Vec<TransText>, ReadError>
+        ensures { Gives
+            (λ v. record { value = map trans_of v.items; counts = counts_of self.new.counts })
+            result (lexemes self.new.rest.now)
+            (told (counts_of self.old.counts)
+            ((states.junction_list usual (counts_of self.old.counts)).reads
+            (lexemes self.old.rest.now))) }
+    {
+        let mut found = Vec::new(self.alloc);
+        'items: while self.is_at_one_of(Group::Transitions) {
+            let item = self.junction_trans()?;
+            found.push(item)?;
+        }
+        Ok(found)
+    }
+
+    /// A junction with its transitions, where there is room for one more.
+    #[tactic(auto, unfolding(chart_grammar::specs::States::junction))]
+    pub fn junction(&mut self) -> Result<JunctionText, ReadError>
+        ensures { Gives (λ j. record { value = junction_of j; counts = counts_of self.new.counts })
+            result (lexemes self.new.rest.now)
+            ((states.junction usual (counts_of self.old.counts)).reads
+            (lexemes self.old.rest.now)) }
+    {
+        self.allowed_token(Kind::Junction, self.counts.junction_refused())?;
+        self.counts = self.counts.after_junction();
+        let name = self.name()?;
+        self.token(Kind::OpenBrace)?;
+        let list = self.junction_list()?;
+        self.token(Kind::CloseBrace)?;
+        Ok(JunctionText {
+            name,
+            list: List::of(list),
+        })
+    }
+
+    /// The block of an action, behind its keyword.
+    #[tactic(auto, unfolding(chart_grammar::specs::States::action_item))]
+    fn keyword_block(&mut self, keyword: Kind) -> Result<List<StmtText>, ReadError>
+        ensures { (item : Statements → states.Item) → Gives
+            (λ b. record {
+              value = item (block_of (items_of b));
+              counts = counts_of self.new.counts;
+            }) result (lexemes self.new.rest.now)
+            ((states.action_item usual keyword item (counts_of self.old.counts)).reads
+            (lexemes self.old.rest.now)) }
+    {
+        self.token(keyword)?;
+        let block = self.block()?;
+        Ok(block)
+    }
+
+    /// Whether an item of a state is at hand, behind those that were seen.
+    fn is_at_item(&self, seen: Seen) -> bool
+        ensures { result ≡ heads (states.item_heads (seen_of seen (counts_of self.now.counts)))
+            (lexemes self.now.rest.now) }
+    {
+        match self.rest {
+            [token, ..] => seen.lets_in_state(token.kind),
+            [] => false,
+        }
+    }
+
+    /// Whether an item of the chart is at hand, behind those that were seen.
+    fn is_at_chart_item(&self, seen: Seen) -> bool
+        ensures { result ≡ heads (states.chart_heads (seen_of seen (counts_of self.now.counts)))
+            (lexemes self.now.rest.now) }
+    {
+        match self.rest {
+            [token, ..] => seen.lets_in_chart(token.kind),
+            [] => false,
+        }
+    }
+
+    /// An item of a state, with states nested so deep in it at most.
+    #[cycle(state)]
+    #[tactic(auto, unfolding(chart_grammar::specs::States::item, chart_grammar::specs::States::trans_item, chart_grammar::specs::States::junction_item))]
+    fn item(&mut self, depth: u32) -> Result<Item, ReadError>
+        ensures { Gives (λ x. record { value = item_of x; counts = counts_of self.new.counts })
+            result (lexemes self.new.rest.now)
+            ((states.item usual (states.state usual depth)
+            (states.nothing_seen (counts_of self.old.counts))).reads
+            (lexemes self.old.rest.now)) }
+    {
+        if self.is_at(Kind::Entry) {
+            Ok(Item::Entry(self.keyword_block(Kind::Entry)?))
+        } else if self.is_at(Kind::During) {
+            Ok(Item::During(self.keyword_block(Kind::During)?))
+        } else if self.is_at(Kind::Exit) {
+            Ok(Item::Exit(self.keyword_block(Kind::Exit)?))
+        } else if self.is_at(Kind::Outer) {
+            Ok(Item::Outer(self.keyword_trans(Kind::Outer)?))
+        } else if self.is_at(Kind::Inner) {
+            Ok(Item::Inner(self.keyword_trans(Kind::Inner)?))
+        } else if self.is_at(Kind::Default) {
+            Ok(Item::Default(self.keyword_trans(Kind::Default)?))
+        } else if self.is_at(Kind::Junction) {
+            Ok(Item::Junction(self.junction()?))
+        } else {
+            Ok(Item::State(self.state(depth)?))
+        }
+    }
+
+    /// The items of a state.
+    #[cycle(state)]
+    pub fn items(&mut self, depth: u32) -> Result<Vec<Item>, ReadError>
+        ensures { Gives
+            (λ v. record { value = map item_of v.items; counts = counts_of self.new.counts })
+            result (lexemes self.new.rest.now)
+            (told (counts_of self.old.counts)
+            ((states.items usual (states.state usual depth)
+            (states.nothing_seen (counts_of self.old.counts))).reads
+            (lexemes self.old.rest.now))) }
+    {
+        let mut found = Vec::new(self.alloc);
+        let mut seen = Seen::nothing();
+        'items: while self.is_at_item(seen) {
+            let item = self.item(depth)?;
+            seen = seen.after(&item);
+            found.push(item)?;
+        }
+        Ok(found)
+    }
+
+    /// An item of the chart.
+    #[tactic(auto, unfolding(chart_grammar::specs::States::chart_item, chart_grammar::specs::States::trans_item, chart_grammar::specs::States::junction_item, chart_grammar::specs::States::event_item, chart_grammar::specs::States::variable_item))]
+    fn chart_item(&mut self) -> Result<Item, ReadError>
+        ensures { Gives (λ x. record { value = item_of x; counts = counts_of self.new.counts })
+            result (lexemes self.new.rest.now)
+            ((states.chart_item usual (states.state usual 16)
+            (states.nothing_seen (counts_of self.old.counts))).reads
+            (lexemes self.old.rest.now)) }
+    {
+        if self.is_at(Kind::Entry) {
+            Ok(Item::Entry(self.keyword_block(Kind::Entry)?))
+        } else if self.is_at(Kind::During) {
+            Ok(Item::During(self.keyword_block(Kind::During)?))
+        } else if self.is_at(Kind::Inner) {
+            Ok(Item::Inner(self.keyword_trans(Kind::Inner)?))
+        } else if self.is_at(Kind::Default) {
+            Ok(Item::Default(self.keyword_trans(Kind::Default)?))
+        } else if self.is_at(Kind::Junction) {
+            Ok(Item::Junction(self.junction()?))
+        } else if self.is_at(Kind::Event) {
+            Ok(Item::Event(self.event()?))
+        } else if self.is_at_one_of(Group::Kinds) {
+            Ok(Item::Var(self.variable()?))
+        } else {
+            Ok(Item::State(self.state(DEPTH)?))
+        }
+    }
+
+    /// The declarations and items of the chart.
+    pub fn chart_items(&mut self) -> Result<Vec<Item>, ReadError>
+        ensures { Gives
+            (λ v. record { value = map item_of v.items; counts = counts_of self.new.counts })
+            result (lexemes self.new.rest.now)
+            (told (counts_of self.old.counts)
+            ((states.chart_items usual (states.state usual 16)
+            (states.nothing_seen (counts_of self.old.counts))).reads
+            (lexemes self.old.rest.now))) }
+    {
+        let mut found = Vec::new(self.alloc);
+        let mut seen = Seen::nothing();
+        'items: while self.is_at_chart_item(seen) {
+            let item = self.chart_item()?;
+            seen = seen.after(&item);
+            found.push(item)?;
+        }
+        Ok(found)
+    }
+}

@@ -1,0 +1,123 @@
+//! States and charts.
+ghost use Rattle.std.specs.Prelude.{◌≡◌};
+ghost use Rattle.token_grammar.specs.Token.{lexemes, Gives};
+ghost use Rattle.chart_tree.specs.Views.{state_of, chart_of};
+ghost use Rattle.chart_grammar.specs.Limits.{usual};
+ghost use Rattle.chart_grammar.specs.States as states;
+ghost use Rattle.chart_reader.specs.Counts.{counts_of};
+
+use crate::counts::Counts;
+use crate::group::Group;
+use crate::lists::Lists;
+use crate::reader::Reader;
+use chart_tree::{ChartText, CompText, StateText};
+use token_grammar::{Fault, Kind, ReadError};
+
+impl<'t, 'a> Reader<'t, 'a> {
+    /// `or` or `and`.
+    #[tactic(auto, unfolding(chart_grammar::specs::States::comp))]
+    fn comp(&mut self) -> Result<CompText, ReadError>
+        ensures read { Gives (λ c. c) result (lexemes self.new.rest.now)
+            (states.comp.reads (lexemes self.old.rest.now)) }
+        ensures counts { self.new.counts ≡ self.old.counts }
+    {
+        if self.is_at(Kind::Or) {
+            self.token(Kind::Or)?;
+            Ok(CompText::Or)
+        } else {
+            self.token(Kind::And)?;
+            Ok(CompText::And)
+        }
+    }
+
+    /// How a state is composed, where a word says so.
+    #[tactic(auto, unfolding(chart_grammar::specs::States::maybe_comp))]
+    fn maybe_comp(&mut self) -> Result<CompText, ReadError>
+        ensures read { Gives (λ c. c) result (lexemes self.new.rest.now)
+            (states.maybe_comp.reads (lexemes self.old.rest.now)) }
+        ensures counts { self.new.counts ≡ self.old.counts }
+    {
+        if self.is_at_one_of(Group::Compositions) {
+            self.comp()
+        } else {
+            Ok(CompText::None)
+        }
+    }
+
+    /// No state: what would begin one is nested too deep.
+    fn no_state(&mut self) -> Result<StateText, ReadError>
+        ensures { Gives (λ s. record { value = state_of s; counts = counts_of self.new.counts })
+            result (lexemes self.new.rest.now)
+            ((states.no_state (counts_of self.old.counts)).reads (lexemes self.old.rest.now)) }
+    {
+        if self.is_at(Kind::State) {
+            Err(ReadError::Fault(Fault::NestTooDeep))
+        } else {
+            Err(ReadError::Fault(Fault::Expected))
+        }
+    }
+
+    /// A state, nested so deep at most.
+    #[cycle(state)]
+    pub fn state(&mut self, depth: u32) -> Result<StateText, ReadError>
+        ensures { Gives (λ s. record { value = state_of s; counts = counts_of self.new.counts })
+            result (lexemes self.new.rest.now)
+            ((states.state usual depth (counts_of self.old.counts)).reads
+            (lexemes self.old.rest.now)) }
+    {
+        if depth == 0 {
+            return self.no_state();
+        }
+        self.state_over(depth - 1)
+    }
+
+    /// A state with states nested so deep in it at most, where there is room for one more.
+    #[cycle(state)]
+    #[tactic(auto, unfolding(chart_grammar::specs::States::state_over))]
+    fn state_over(&mut self, depth: u32) -> Result<StateText, ReadError>
+        ensures { Gives (λ s. record { value = state_of s; counts = counts_of self.new.counts })
+            result (lexemes self.new.rest.now)
+            ((states.state_over usual (states.state usual depth)
+            (counts_of self.old.counts)).reads (lexemes self.old.rest.now)) }
+    {
+        self.allowed_token(Kind::State, self.counts.state_refused())?;
+        self.counts = self.counts.after_state();
+        let state = self.state_body(depth)?;
+        Ok(state)
+    }
+
+    /// What stands behind the word `state`.
+    #[cycle(state)]
+    #[tactic(auto, unfolding(chart_grammar::specs::States::state_body))]
+    fn state_body(&mut self, depth: u32) -> Result<StateText, ReadError>
+        ensures { Gives (λ s. record { value = state_of s; counts = counts_of self.new.counts })
+            result (lexemes self.new.rest.now)
+            ((states.state_body usual (states.state usual depth)
+            (counts_of self.old.counts)).reads (lexemes self.old.rest.now)) }
+    {
+        let name = self.name()?;
+        let comp = self.maybe_comp()?;
+        self.token(Kind::OpenBrace)?;
+        let items = self.items(depth)?;
+        self.token(Kind::CloseBrace)?;
+        let lists = Lists::sorted(self.alloc, name, comp, items)?;
+        Ok(lists.into_chart().root)
+    }
+
+    /// A chart.
+    #[tactic(auto, unfolding(chart_grammar::specs::States::chart))]
+    pub fn chart(&mut self) -> Result<ChartText, ReadError>
+        ensures { Gives chart_of result (lexemes self.new.rest.now)
+            ((states.chart usual).reads (lexemes self.old.rest.now)) }
+    {
+        self.counts = Counts::at_begin();
+        self.token(Kind::Chart)?;
+        let name = self.name()?;
+        let comp = self.maybe_comp()?;
+        self.token(Kind::OpenBrace)?;
+        let items = self.chart_items()?;
+        self.token(Kind::CloseBrace)?;
+        let lists = Lists::sorted(self.alloc, name, comp, items)?;
+        Ok(lists.into_chart())
+    }
+}

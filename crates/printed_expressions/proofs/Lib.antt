@@ -1,0 +1,10 @@
+pub mod Names
+pub mod Numbers
+pub mod Costs
+pub mod Precedences
+pub mod ChainsHave
+pub mod ExpressionsHave
+pub mod ChainsSpelled
+pub mod Levels
+pub mod ExpressionsSpelled
+pub mod Claims

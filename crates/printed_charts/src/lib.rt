@@ -1,0 +1,2 @@
+//! States and charts: the words of their canonical texts spell them.
+#![tactic(auto)]

@@ -1,0 +1,2 @@
+//! A canonical text is cut into the words of its pieces.
+#![tactic(auto)]

@@ -1,0 +1,27 @@
+-- A chart text and its canonical text.
+use Rattle.std.specs.Prelude.{◌≡◌, ℕ, ◌≤◌, List, length}
+use Rattle.chart_lexer.specs.declared.front.Stop.TheVariants as stops
+use Rattle.chart_lexer.specs.Lex.{cut_of}
+use Rattle.chart_tree.specs.Trees.{Chart}
+use Rattle.chart_grammar.specs.Limits.{usual}
+use Rattle.chart_grammar.specs.States as grammar
+use Rattle.chart_reader.specs.Text.{tokens_of, Spells}
+use Rattle.chart_print.specs.Canonical.{canonical}
+use Rattle.chart_print.specs.Places.{AreSameApartFromPlaces}
+
+-- the tokens of the text to its end, however long it is, spell a chart that is the same apart from places
+pub record SpellsAgain (text : List ℕ) (c : Chart) : Type 0 where
+  pub chart : Chart
+  pub whole : (cut_of text).stop ≡ stops.End
+  pub spelled : (grammar.chart usual).spells (tokens_of text) chart
+  pub same : AreSameApartFromPlaces chart c
+
+-- what is written of a text: the canonical text of the chart that it spells, which spells that
+-- chart again; where it isn't too long for a chart text, it is one, and is written as it is
+pub record IsFormatted (text written : List ℕ) : Type 0 where
+  pub chart : Chart
+  pub spelled : Spells text chart
+  pub written_is : written ≡ canonical chart
+  pub again : SpellsAgain written chart
+  pub is_read : length written ≤ 1048576 → Spells written again.chart
+  pub stays : (d : Chart) → Spells written d → canonical d ≡ written

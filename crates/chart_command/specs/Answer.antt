@@ -11,6 +11,8 @@ use Rattle.chart_tree.specs.declared.fault.FormKind.{FormKind}
 use Rattle.chart_tree.specs.declared.fault.FormFault.TheVariants as form_faults
 use Rattle.chart_syntax.specs.FlatChart.{Chart}
 use Rattle.chart_syntax.specs.FlatText.{IsFlat, IsRefusal}
+use Rattle.chart_reader.specs.Text as texts
+use Rattle.chart_format.specs.Text.{IsFormatted}
 use Rattle.code_form.specs.Program.{Program}
 use Rattle.code_text.specs.declared.fault.CodeTextFault.{CodeTextFault}
 use Rattle.code_text.specs.Reading.{outcome}
@@ -18,7 +20,7 @@ use Rattle.step_text.specs.declared.events.LineFault.{LineFault}
 use Rattle.chart_command.specs.declared.ending.Ending.{Ending}
 use Rattle.chart_command.specs.declared.ending.Ending.TheVariants as endings
 use Rattle.chart_command.specs.Ending.{status_of, line_of}
-use Rattle.chart_command.specs.Words.{Command, Rules, Compile, Exec}
+use Rattle.chart_command.specs.Words.{Command, Fmt, Rules, Compile, Exec}
 use Rattle.chart_command.specs.Flat.{file_refusal}
 use Rattle.chart_command.specs.Runner.{Runner, ByRules, OnMachine, event_names, IsOutput, IsCodeText, IsCompiled}
 
@@ -76,6 +78,18 @@ pub record HasNoChart (told : Option (List ℕ)) (kind : FormKind) (at : Span) :
   pub text : List ℕ
   pub is_told : IsTold told text
   pub refused : IsRefusal text (form_faults.At kind at)
+
+-- the file's text is a chart text, and this is its canonical text
+pub record HasFormatted (told : Option (List ℕ)) (canonical : List ℕ) : Type 0 where
+  pub text : List ℕ
+  pub is_told : IsTold told text
+  pub formatted : IsFormatted text canonical
+
+-- the file's text is none, for this reason
+pub record HasNoChartText (told : Option (List ℕ)) (kind : FormKind) (at : Span) : Type 0 where
+  pub text : List ℕ
+  pub is_told : IsTold told text
+  pub refused : texts.IsRefusal text (form_faults.At kind at)
 
 -- the file's text is that of well-formed code
 pub record HasCode (told : Option (List ℕ)) (program : Program) : Type 0 where
@@ -178,7 +192,7 @@ pub record CompileDone (call : Call) (first : List ℕ) : Type 0 where
   pub quiet : IsQuiet call
 
 -- a read failed, with nothing written
-pub record CompileRead (call : Call) (first : List ℕ) : Type 0 where
+pub record FileRead (call : Call) (first : List ℕ) : Type 0 where
   pub cause : Rose (call.reads_before first) (call.reads_after first)
   pub nothing : Nothing call
 
@@ -198,9 +212,34 @@ CompileEnds call first (endings.Chart kind at) = FirstRefused call (HasNoChart (
 CompileEnds call first (endings.Line number fault) = ⊥
 CompileEnds call first (endings.Code fault) = ⊥
 CompileEnds call first endings.Usage = ⊥
-CompileEnds call first endings.Read = CompileRead call first
+CompileEnds call first endings.Read = FileRead call first
 CompileEnds call first endings.Write = CompileWrite call first
 CompileEnds call first endings.Memory = Nothing call
+
+-- the chart is read, and its whole canonical text was written
+pub record FmtDone (call : Call) (first : List ℕ) : Type 0 where
+  pub canonical : List ℕ
+  pub has_formatted : HasFormatted (call.left first) canonical
+  pub wrote : Wrote call canonical
+  pub quiet : IsQuiet call
+
+-- a write failed, behind a front of the canonical text that isn't all of it
+pub record FmtWrite (call : Call) (first : List ℕ) : Type 0 where
+  pub canonical : List ℕ
+  pub has_formatted : HasFormatted (call.left first) canonical
+  pub cause : Rose call.writes_before call.writes_after
+  pub front : AppendsProperFront call.out_before call.out_after canonical
+
+-- how `fmt` ends, and when; want of memory comes before the first byte
+abbrev pub FmtEnds : Call → List ℕ → Ending → Type 0
+FmtEnds call first endings.Done = FmtDone call first
+FmtEnds call first (endings.Chart kind at) = FirstRefused call (HasNoChartText (call.left first) kind at)
+FmtEnds call first (endings.Line number fault) = ⊥
+FmtEnds call first (endings.Code fault) = ⊥
+FmtEnds call first endings.Usage = ⊥
+FmtEnds call first endings.Read = FileRead call first
+FmtEnds call first endings.Write = FmtWrite call first
+FmtEnds call first endings.Memory = Nothing call
 
 -- words that are none of the program's end the call at once
 pub record UsageEnds (call : Call) (ending : Ending) : Type 0 where
@@ -211,6 +250,7 @@ pub record UsageEnds (call : Call) (ending : Ending) : Type 0 where
 -- how a call ends, and when
 abbrev pub Ends : Option Command → Call → Ending → Type 0
 Ends None call ending = UsageEnds call ending
+Ends (Some (Fmt first)) call ending = FmtEnds call first ending
 Ends (Some (Rules first second)) call ending = TraceEnds ByChart call first second ending
 Ends (Some (Compile first)) call ending = CompileEnds call first ending
 Ends (Some (Exec first second)) call ending = TraceEnds ByCode call first second ending

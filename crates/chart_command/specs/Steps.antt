@@ -14,7 +14,7 @@ use Rattle.chart_command.specs.Runner.{Runner, event_names, IsTrace}
 use Rattle.chart_command.specs.declared.ending.Ending.{Ending}
 use Rattle.chart_command.specs.declared.ending.Ending.TheVariants as endings
 use Rattle.chart_command.specs.Flat.{is_long}
-use Rattle.chart_command.specs.Answer.{IsTold, HasNoChart, HasNoCode}
+use Rattle.chart_command.specs.Answer.{IsTold, HasNoChart, HasNoChartText, HasNoCode}
 
 -- why a chart isn't read: what is told of its file, and its count before and after
 abbrev pub ChartFails : Option (List ℕ) → ℕ → ℕ → Ending → Type 0
@@ -26,6 +26,17 @@ ChartFails told before after endings.Usage = ⊥
 ChartFails told before after endings.Read = Rose before after
 ChartFails told before after endings.Write = ⊥
 ChartFails told before after endings.Memory = Unit {0}
+
+-- why a chart of the whole language isn't read
+abbrev pub ChartTextFails : Option (List ℕ) → ℕ → ℕ → Ending → Type 0
+ChartTextFails told before after endings.Done = ⊥
+ChartTextFails told before after (endings.Chart kind at) = HasNoChartText told kind at
+ChartTextFails told before after (endings.Line number fault) = ⊥
+ChartTextFails told before after (endings.Code fault) = ⊥
+ChartTextFails told before after endings.Usage = ⊥
+ChartTextFails told before after endings.Read = Rose before after
+ChartTextFails told before after endings.Write = ⊥
+ChartTextFails told before after endings.Memory = Unit {0}
 
 -- why a text that was read gives no machine
 abbrev pub TextFails : List ℕ → Ending → Type 0

@@ -5,6 +5,8 @@ use Rattle.std.specs.Str.{bytes_eq}
 
 -- a command with its files
 pub data Command : Type 0 where
+  -- `fmt CHART`
+  Fmt : List ℕ → Command
   -- `rules CHART EVENTS`
   Rules : List ℕ → List ℕ → Command
   -- `compile CHART`
@@ -33,6 +35,7 @@ with_two command (first ∷ second ∷ third ∷ rest) = None
 -- the command of that name; any other name is none
 abbrev pub command_named : List ℕ → List (List ℕ) → Option Command
 command_named name files =
+    if bytes_eq name (codes "fmt") then with_one Fmt files else
     if bytes_eq name (codes "rules") then with_two Rules files else
     if bytes_eq name (codes "compile") then with_one Compile files else
     if bytes_eq name (codes "exec") then with_two Exec files else None

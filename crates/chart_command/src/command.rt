@@ -9,6 +9,7 @@ ghost use Rattle.chart_command.specs.Answer.{
   Call,
   Errors,
   Ends,
+  FmtEnds,
   ByChart,
   ByCode,
   TraceEnds,
@@ -17,7 +18,7 @@ ghost use Rattle.chart_command.specs.Answer.{
 };
 
 use crate::ending::Ending;
-use crate::files::{read_chart, read_events, read_machine};
+use crate::files::{read_chart, read_events, read_formatted, read_machine};
 use crate::report::report;
 use crate::run::run;
 use crate::words::{Command, command_from};
@@ -33,7 +34,8 @@ use std::alloc::Global;
 /// `out` and a line on `err` where the answer isn't whole, and answers the status with which the
 /// process ends.
 ///
-/// `rules CHART EVENTS` runs the flat chart of the first file over the events of the second and
+/// `fmt CHART` writes the canonical text of the chart of the file. `rules CHART EVENTS` runs the flat
+/// chart of the first file over the events of the second and
 /// writes the trace. `compile CHART` writes the text of code that behaves as the flat chart of the
 /// file. `exec CODE EVENTS` runs the code of the first file over the events of the second and
 /// writes the trace. All other words are refused as Usage.
@@ -85,10 +87,37 @@ fn call<I: Inputs, O: Sink>(alloc: Global, words: &[String], inputs: &mut I, out
         result }
 {
     match command_from(words) {
+        Some(Command::Fmt(chart)) => format_chart(alloc, chart, inputs, out),
         Some(Command::Rules(chart, events)) => rules(alloc, chart, events, inputs, out),
         Some(Command::Compile(chart)) => compile(alloc, chart, inputs, out),
         Some(Command::Exec(code, events)) => exec(alloc, code, events, inputs, out),
         None => Ending::Usage,
+    }
+}
+
+/// Writes the canonical text of the chart of the file.
+fn format_chart<I: Inputs, O: Sink>(
+    alloc: Global,
+    first: &str,
+    inputs: &mut I,
+    out: &mut O,
+) -> Ending
+    ensures { FmtEnds
+        (record {
+          left = I.left inputs.old;
+          reads_before = I.faults inputs.old;
+          reads_after = I.faults inputs.new;
+          out_before = O.wrote out.old;
+          out_after = O.wrote out.new;
+          writes_before = O.faults out.old;
+          writes_after = O.faults out.new;
+        })
+        first.now
+        result }
+{
+    match read_formatted(alloc, inputs, first) {
+        Ok(canonical) => write_text(out, &canonical),
+        Err(ending) => ending,
     }
 }
 
@@ -163,7 +192,7 @@ fn compile<I: Inputs, O: Sink>(alloc: Global, first: &str, inputs: &mut I, out: 
         Err(ending) => return ending,
     };
     match compiled(alloc, &chart) {
-        Ok(text) => write_code(out, &text),
+        Ok(text) => write_text(out, &text),
         Err(Memory) => Ending::Memory,
     }
 }
@@ -177,8 +206,8 @@ fn compiled(alloc: Global, chart: &FlatChart) -> Result<String, Memory>
     print_code(alloc, &code)
 }
 
-/// Writes a text of code.
-fn write_code<O: Sink>(out: &mut O, text: &str) -> Ending
+/// Writes a text.
+fn write_text<O: Sink>(out: &mut O, text: &str) -> Ending
     ensures { TextEnds
         (record {
           before = O.wrote out.old;

@@ -1,14 +1,15 @@
 //! The files that the words name.
-ghost use Rattle.std.specs.Prelude.{◌≡◌, ◌≤◌, [], List, IfOk, IfErr, OnOk, OnErr, length, false};
+ghost use Rattle.std.specs.Prelude.{◌≡◌, ◌≤◌, [], List, IfOk, IfErr, OnOk, OnErr, length, false, string_bytes};
 ghost use Rattle.std.specs.Option.{option_map};
 ghost use Rattle.flow_base.specs.Causes.{OthersKept, NoneFalls, AllStay};
 ghost use Rattle.chart_syntax.specs.FlatChart.{chart_of, IsValid};
 ghost use Rattle.chart_command.specs.Flat.{is_long};
 ghost use Rattle.chart_command.specs.Runner.{IsCodeText};
-ghost use Rattle.chart_command.specs.Answer.{IsTold, HasChart, HasCode};
-ghost use Rattle.chart_command.specs.Steps.{ChartFails, CodeFails, TextFails, EventsFail, StaysUnlessRead};
+ghost use Rattle.chart_command.specs.Answer.{IsTold, HasChart, HasFormatted, HasCode};
+ghost use Rattle.chart_command.specs.Steps.{ChartFails, ChartTextFails, CodeFails, TextFails, EventsFail, StaysUnlessRead};
 
 use crate::ending::Ending;
+use chart_format::format_text;
 use chart_syntax::{FlatChart, FormFault, FormKind, Span, read_flat};
 use code_machine::Machine;
 use code_text::{CodeTextFault, read_code};
@@ -45,6 +46,34 @@ pub fn read_chart<I: Inputs>(alloc: Global, inputs: &mut I, name: &str) -> Resul
     };
     match read_flat(alloc, &text) {
         Ok(chart) => Ok(chart),
+        Err(FormFault::At(kind, at)) => Err(Ending::Chart(kind, at)),
+        Err(FormFault::Memory) => Err(Ending::Memory),
+    }
+}
+
+/// The canonical text of the chart of the whole language that the file of that name holds.
+pub fn read_formatted<I: Inputs>(
+    alloc: Global,
+    inputs: &mut I,
+    name: &str,
+) -> Result<String, Ending>
+    ensures canonical { IfOk result (λ s. HasFormatted (I.left inputs.old name.now)
+        (string_bytes s)) }
+    ensures counts { NoneFalls (I.faults inputs.old) (I.faults inputs.new) }
+    ensures quiet { OnOk result (AllStay (I.faults inputs.old) (I.faults inputs.new)) }
+    ensures fails { IfErr result (ChartTextFails (I.left inputs.old name.now)
+        (I.faults inputs.old name.now) (I.faults inputs.new name.now)) }
+    ensures refused_quiet { IfErr result
+        (StaysUnlessRead (I.faults inputs.old) (I.faults inputs.new)) }
+{
+    let text = match read_whole(alloc, inputs, name, LONGEST_CHART) {
+        Ok(text) => text,
+        Err(ReadEnd::Failed) => return Err(Ending::Read),
+        Err(ReadEnd::TooLong) => return Err(Ending::Chart(FormKind::TextTooLong, BEGIN)),
+        Err(ReadEnd::Memory) => return Err(Ending::Memory),
+    };
+    match format_text(alloc, &text) {
+        Ok(canonical) => Ok(canonical),
         Err(FormFault::At(kind, at)) => Err(Ending::Chart(kind, at)),
         Err(FormFault::Memory) => Err(Ending::Memory),
     }

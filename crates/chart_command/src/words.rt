@@ -6,6 +6,8 @@ ghost use Rattle.chart_command.specs.Seen.{command_seen};
 
 /// A command with its files.
 pub enum Command<'a> {
+    /// `fmt CHART`
+    Fmt(&'a str),
     /// `rules CHART EVENTS`
     Rules(&'a str, &'a str),
     /// `compile CHART`
@@ -39,10 +41,14 @@ pub fn command_from<'a>(words: &'a [String]) -> Option<Command<'a>>
 fn with_one<'a>(name: &str, first: &'a str) -> Option<Command<'a>>
     ensures { option_map command_seen result ≡ command_named name.now (first.now ∷ []) }
 {
-    if name == "compile" && is_file(first) {
-        return Some(Command::Compile(first));
+    if !is_file(first) {
+        return None;
     }
-    None
+    match name {
+        "fmt" => Some(Command::Fmt(first)),
+        "compile" => Some(Command::Compile(first)),
+        _ => None,
+    }
 }
 
 /// The command of that name with two files.

@@ -94,13 +94,16 @@ fn failing_devices(rt: HostRuntime) -> Result<(), Fail> {
 }
 
 #[test]
-fn failing_compile(rt: HostRuntime) -> Result<(), Fail> {
-    // The code is made whole before anything is written, in one piece.
-    check(
-        &rt,
-        "compile c",
-        LAMP,
-        (&[], &[1], &[]),
-        (Status::Write, "", "write fault\n"),
-    )
+fn failing_writes_of_a_text(rt: HostRuntime) -> Result<(), Fail> {
+    // The text is made whole before anything is written, in one piece.
+    for line in ["compile c", "fmt c"] {
+        check(
+            &rt,
+            line,
+            LAMP,
+            (&[], &[1], &[]),
+            (Status::Write, "", "write fault\n"),
+        )?;
+    }
+    Ok(())
 }

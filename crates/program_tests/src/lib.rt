@@ -6,6 +6,8 @@ mod code;
 #[cfg(test)]
 mod devices;
 #[cfg(test)]
+mod formatting;
+#[cfg(test)]
 mod rows;
 #[cfg(test)]
 mod setup;

@@ -6,6 +6,8 @@
 It makes its inputs in a temporary folder, and is no test: it has no limit of its own."""
 import os, subprocess, sys, tempfile, time
 
+import charts
+
 MIB = 1 << 20
 
 
@@ -50,6 +52,12 @@ def main(program):
             for name, content in files.items():
                 with open(os.path.join(folder, name), 'w') as file:
                     file.write(content)
+            for kind, make in charts.KINDS.items():
+                with open(os.path.join(folder, kind), 'w') as file:
+                    file.write(make(size))
+                seconds, peak, status = measure([program, 'fmt', kind], folder)
+                print('fmt,     %4d KiB of %-12s                %6.3f s  %5.1f MiB  status %d'
+                      % (size // 1024, kind, seconds, peak, status))
             for second in ('events', 'ticks'):
                 seconds, peak, status = measure([program, 'rules', 'chart', second], folder)
                 print('rules,   %4d KiB of chart, %4d KiB of %-6s  %6.3f s  %5.1f MiB  status %d'

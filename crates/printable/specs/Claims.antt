@@ -53,21 +53,27 @@ pub record ScaleIsRead (scale : ScaleParts) : Type 0 where
   pub named : IsTrue (is_name (scale_bytes scale))
   pub told : type_word (scale_bytes scale) ≡ Some (ScaleWord scale)
 
+-- numbers and types: their canonical bytes are read as these
 pub record NumberClaims : Type 0 where
   pub literal_is_read : (lit : LitText) → IsLiteral lit → LiteralIsRead lit
   pub zero_is_literal : IsLiteral zero_lit
   pub scale_is_read : (scale : ScaleParts) → IsScale scale → ScaleIsRead scale
+  -- a word that names a scale names one within its bounds
   pub scale_is_told : (text : List ℕ) (scale : ScaleParts) → type_word text ≡ Some (ScaleWord scale) → IsScale scale
+  -- `bool` is a name, and as a type it is the flags
   pub flag_is_named : IsTrue (is_name (codes "bool"))
   pub flag_is_told : type_word (codes "bool") ≡ Some FlagWord
 
 -- ---- names, paths and expressions
 
+-- names, paths, numbers and expressions: what is spelled has what Terms lists, and what has it is spelled by its canonical words
 pub record ExpressionClaims : Type 0 where
   pub name_has : (u : List Lexeme) (x : NameText) → AreCut u → name.spells u x → IsNamed x
+  -- whatever its text, since only the kind of the word counts here
   pub name_spelled : (x : NameText) → WordsSpell name unplaced_name (words_in (name_pieces x)) (unplaced_name x)
   pub path_has : (u : List Lexeme) (x : Path) → AreCut u → path.spells u x → IsPath x
   pub path_spelled : (x : Path) → IsPath x → WordsSpell path unplaced_path (words_in (path_pieces x)) (unplaced_path x)
+  -- a number is spelled as a token, and `lit_of` is what it tells
   pub number_has : (u : List Lexeme) (t : Lexeme) → AreCut u → (number usual).spells u t → IsLiteral (lit_of t.text)
   pub number_spelled : (lit : LitText) → IsLiteral lit
       → WordsSpell (number usual) (λ t. lit_of t.text) (words_in (literal_pieces lit)) lit
@@ -89,11 +95,13 @@ counted view x = record { value = view x.value; counts = x.counts }
 abbrev pub behind : {X : Type 0} → X → Counts → Counted X
 behind x n = record { value = x; counts = n }
 
+-- blocks, transitions, junctions and declarations: the same, and behind n things their sizes are added up within the limits
 pub record TransitionClaims : Type 0 where
   pub block_has : (n : Counts) (u : List Lexeme) (x : List Stmt) → AreCut u → (block usual n).spells u x
       → IsBlock x × (IsWithin n → IsWithin (n ⊕ size_of_block x))
   pub block_spelled : (n : Counts) (x : List Stmt) → IsBlock x → IsWithin (n ⊕ size_of_block x)
       → WordsSpell (block usual n) unplaced_block (words_in (block_pieces x)) (unplaced_block x)
+  -- a transition with the keyword of kind k before it
   pub trans_has : (k : Kind) (n : Counts) (u : List Lexeme) (x : Counted Trans) → AreCut u
       → (keyword_trans usual (is k) n).spells u x → IsTrans x.value × Adds n (size_of_trans x.value) x.counts
   pub trans_spelled : (k : Kind) (n : Counts) (x : Trans) → IsTrans x → IsWithin (n ⊕ size_of_trans x)
@@ -101,6 +109,7 @@ pub record TransitionClaims : Type 0 where
       (record { kind = k; text = kind_bytes k } ∷ words_in (trans_pieces x)) (behind (unplaced_trans x) (n ⊕ size_of_trans x))
   pub junction_has : (n : Counts) (u : List Lexeme) (x : Counted Junction) → AreCut u
       → (junction usual n).spells u x → IsJunction x.value × Adds n (size_of_junction x.value) x.counts
+  -- at any level of indentation
   pub junction_spelled : (level : ℕ) (n : Counts) (x : Junction) → IsJunction x → IsWithin (n ⊕ size_of_junction x)
       → WordsSpell (junction usual n) (counted unplaced_junction)
       (words_in (junction_pieces level x)) (behind (unplaced_junction x) (n ⊕ size_of_junction x))
@@ -115,6 +124,7 @@ pub record TransitionClaims : Type 0 where
 
 -- ---- charts
 
+-- charts: a chart that is spelled has what Terms lists, and one that has it is spelled by its canonical words
 pub record ChartClaims : Type 0 where
   pub chart_has : (u : List Lexeme) (x : Chart) → AreCut u → (chart usual).spells u x → IsChart x
   pub chart_spelled : (x : Chart) → IsChart x → WordsSpell (chart usual) without_places (words_in (chart_pieces x)) (without_places x)

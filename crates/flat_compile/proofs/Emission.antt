@@ -15,7 +15,8 @@ transes-append s [] rest = refl
 transes-append s (t ∷ ts) rest = ap (trans_code s t) (transes-append s ts rest)
 
 -- one more transition is written
-pub trans_written : (code new whole : List Instr) (s : ℕ) (ts : List FlatTrans) (i : ℕ) (d : FlatTrans) → i < length ts → new ≡ code ++ trans_code s (get_or ts i d) [] → code ++ transes_code s (drop i ts) [] ≡ whole
+pub trans_written : (code new whole : List Instr) (s : ℕ) (ts : List FlatTrans) (i : ℕ) (d : FlatTrans) → i < length ts
+    → new ≡ code ++ trans_code s (get_or ts i d) [] → code ++ transes_code s (drop i ts) [] ≡ whole
     → new ++ transes_code s (drop (i + 1) ts) [] ≡ whole
 trans_written code new whole s ts i d lt e is =
     ap (λ (z : List Instr). z ++ transes_code s (drop (i + 1) ts) []) e ∙ append_assoc code (trans_code s (get_or ts i d) []) (transes_code s (drop (i + 1) ts) [])
@@ -25,7 +26,8 @@ trans_written code new whole s ts i d lt e is =
     first_is ts i d lt = rw (add-one, drop-cons ts i d) refl
 
 -- one more state is written
-pub state_written : (code new whole : List Instr) (xs : List FlatState) (i : ℕ) (d : FlatState) → i < length xs → new ≡ code ++ state_code i (state_of (get_or xs i d)) [] → code ++ states_code i (map state_of (drop i xs)) ≡ whole
+pub state_written : (code new whole : List Instr) (xs : List FlatState) (i : ℕ) (d : FlatState) → i < length xs
+    → new ≡ code ++ state_code i (state_of (get_or xs i d)) [] → code ++ states_code i (map state_of (drop i xs)) ≡ whole
     → new ++ states_code (i + 1) (map state_of (drop (i + 1) xs)) ≡ whole
 state_written code new whole xs i d lt e is =
     let x = state_of (get_or xs i d) in

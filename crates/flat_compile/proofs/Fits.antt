@@ -14,7 +14,9 @@ dests_fit : (events n : ℕ) → n ≤ 64 → (ts : List FlatTrans) → AllByRec
 dests_fit events n few [] r = tt
 dests_fit events n few (t ∷ ts) r = (omega (arith, r.0.dest), dests_fit events n few ts r.1)
 
-states_fit : (events n : ℕ) → n ≤ 64 → (xs : List FlatState) → AllByRecursion (λ (s : State). AllByRecursion (TransInRange events n) s.outer) (map state_of xs) → AllByRecursion (λ (s : State). length s.outer ≤ 1024) (map state_of xs)
+states_fit : (events n : ℕ) → n ≤ 64 → (xs : List FlatState)
+    → AllByRecursion (λ (s : State). AllByRecursion (TransInRange events n) s.outer) (map state_of xs)
+    → AllByRecursion (λ (s : State). length s.outer ≤ 1024) (map state_of xs)
     → AllByRecursion (λ (s : FlatState). FitsIn (state_of s)) xs
 states_fit events n few [] r short = tt
 states_fit events n few (x ∷ xs) r short =

@@ -17,7 +17,7 @@ use Rattle.flat_compile.specs.Emitted.{trans_code, transes_code, states_code}
 use Rattle.flat_compile.specs.Same.{only}
 use Rattle.flat_compile.proofs.Reach.{Reaches, stays, goes, gives, behind, past_is}
 use Rattle.flat_compile.proofs.Worlds.{on_self, on_other, clear_self, mark_leaf}
-use Rattle.flat_compile.proofs.Runs.{at, HasCode, go_mark, go_clear, go_unless_true, go_unless_false, ret_ends, holds_on, holds_current}
+use Rattle.flat_compile.proofs.Runs.{at, HasCode, go_mark, go_clear, same_marks, go_unless_true, go_unless_false, ret_ends, holds_on, holds_current}
 
 -- the world of n leaves in which leaf s is active
 abbrev pub active : ℕ → ℕ → World
@@ -51,7 +51,8 @@ module _ (P : Program) (p : ℕ) (code : List Instr) (h : HasCode P p code) (cur
       (go_unless_false P p code h (active n s) cur i 3 (conds.Current t.event) _ e (holds_current (active n s) cur p i t.event ∙ other), past_is code i 3 _ _ e)
 
   -- a transition whose event is the current one ends the reaction at its destination
-  taken : (i : ℕ) (t : FlatTrans) (rest : List Instr) → t.dest < n → drop i code ≡ trans_code s t rest → is_current cur t.event ≡ true → Gives P (at (active n s) cur p i) (active n t.dest)
+  taken : (i : ℕ) (t : FlatTrans) (rest : List Instr) → t.dest < n → drop i code ≡ trans_code s t rest
+      → is_current cur t.event ≡ true → Gives P (at (active n s) cur p i) (active n t.dest)
   taken i t rest lt e here =
       let e1 = behind code i _ _ e in
       let e2 = behind code (i + 1) _ _ e1 in
@@ -59,9 +60,9 @@ module _ (P : Program) (p : ℕ) (code : List Instr) (h : HasCode P p code) (cur
       let first = go_unless_true P p code h (active n s) cur i 3 (conds.Current t.event) _ e (holds_current (active n s) cur p i t.event ∙ here) in
       let bare : World = record { marks = true ∷ replicate n false } in
       let second : Reaches P (at (active n s) cur p (i + 1)) (at bare cur p (i + 1 + 1)) =
-      subst (λ (ms : List Bool). Reaches P (at (active n s) cur p (i + 1)) (at (record { marks = ms }) cur p (i + 1 + 1))) (clear_self n s within) (go_clear P p code h (active n s) cur (i + 1) (s + 1) _ e1) in
+      same_marks P (at (active n s) cur p (i + 1)) cur p (i + 1 + 1) _ _ (clear_self n s within) (go_clear P p code h (active n s) cur (i + 1) (s + 1) _ e1) in
       let third : Reaches P (at bare cur p (i + 1 + 1)) (at (active n t.dest) cur p (i + 1 + 1 + 1)) =
-      subst (λ (ms : List Bool). Reaches P (at bare cur p (i + 1 + 1)) (at (record { marks = ms }) cur p (i + 1 + 1 + 1))) (mark_leaf n t.dest lt) (go_mark P p code h bare cur (i + 1 + 1) (t.dest + 1) _ e2) in
+      same_marks P (at bare cur p (i + 1 + 1)) cur p (i + 1 + 1 + 1) _ _ (mark_leaf n t.dest lt) (go_mark P p code h bare cur (i + 1 + 1) (t.dest + 1) _ e2) in
       gives P _ _ (active n t.dest) (goes P _ _ _ first (goes P _ _ _ second third)) (ret_ends P p code h (active n t.dest) cur (i + 1 + 1 + 1) 0 _ e3)
 
   -- no transition fires
@@ -77,7 +78,9 @@ module _ (P : Program) (p : ℕ) (code : List Instr) (h : HasCode P p code) (cur
       ]
 
   -- a transition fires
-  one_fires : (events : ℕ) (ts : List FlatTrans) (rest : List Instr) (i d : ℕ) → AllByRecursion (TransInRange events n) ts → drop i code ≡ transes_code s ts rest → fires cur ts ≡ Some d → Gives P (at (active n s) cur p i) (active n d)
+  one_fires : (events : ℕ) (ts : List FlatTrans) (rest : List Instr) (i d : ℕ)
+      → AllByRecursion (TransInRange events n) ts → drop i code ≡ transes_code s ts rest
+      → fires cur ts ≡ Some d → Gives P (at (active n s) cur p i) (active n d)
   one_fires events [] rest i d r e some = absurd (no_fire cur some)
     where
       no_fire : (c : Option ℕ) → fires c [] ≡ Some d → ⊥
@@ -125,14 +128,17 @@ module _ (P : Program) (p : ℕ) (code : List Instr) (h : HasCode P p code) (cur
       let there : drop (i + 1) code ≡ transes_code s x.outer (states_code (k + 1) xs) = behind code i _ _ e ∙ ap (λ (z : ℕ). transes_code z x.outer (states_code (k + 1) xs)) same in
       gives P _ _ _ entered (by_fire (fires cur x.outer) refl there)
     where
-      by_fire : (o : Option ℕ) → fires cur x.outer ≡ o → drop (i + 1) code ≡ transes_code s x.outer (states_code (k + 1) xs) → Gives P (at (active n s) cur p (i + 1)) (active n (unwrap_or (fires cur x.outer) s))
+      by_fire : (o : Option ℕ) → fires cur x.outer ≡ o
+          → drop (i + 1) code ≡ transes_code s x.outer (states_code (k + 1) xs)
+          → Gives P (at (active n s) cur p (i + 1)) (active n (unwrap_or (fires cur x.outer) s))
       by_fire None is there =
           let l = none_fires x.outer (states_code (k + 1) xs) (i + 1) there is in
           rw is (gives P _ _ (active n s) l.reached (rest_passed xs (k + 1) l.place (omega arith) l.there))
       by_fire (Some d) is there = rw is (one_fires events x.outer (states_code (k + 1) xs) (i + 1) d r there is)
 
   -- from the state of number k on, the active state being the d-th of them
-  pub states_run : (events : ℕ) (xs : List State) (d k i : ℕ) → k + d ≡ s → d < length xs → AllByRecursion (λ (x : State). AllByRecursion (TransInRange events n) x.outer) xs → drop i code ≡ states_code k xs
+  pub states_run : (events : ℕ) (xs : List State) (d k i : ℕ) → k + d ≡ s → d < length xs
+      → AllByRecursion (λ (x : State). AllByRecursion (TransInRange events n) x.outer) xs → drop i code ≡ states_code k xs
       → Gives P (at (active n s) cur p i) (active n (unwrap_or (fires cur (outer_of xs d)) s))
   states_run events [] d k i is lt r e = absurd (omega arith)
   states_run events (x ∷ xs) zero k i is lt r e = in_state events k i x xs (omega arith) r.0 e

@@ -1,5 +1,5 @@
 -- Procedures of one frame, instruction by instruction.
-use Rattle.std.proofs.Common.{◌≡◌, ℕ, zero, suc, ◌+◌, Bool, true, false, cond, List, [], ◌∷◌, drop, Option, Some, None, refl, sym, ap, ◌∙◌}
+use Rattle.std.proofs.Common.{◌≡◌, ℕ, zero, suc, ◌+◌, Bool, true, false, cond, List, [], ◌∷◌, drop, Option, Some, None, refl, sym, ap, subst, ◌∙◌}
 use Rattle.std.specs.Prelude.{slice_get, if◌then◌else◌}
 use Rattle.code_form.specs.declared.instr.Cond.{Cond}
 use Rattle.code_form.specs.declared.instr.Cond.TheVariants as conds
@@ -35,20 +35,28 @@ pub go_clear : (P : Program) (p : ℕ) (code : List Instr) → HasCode P p code 
     → Reaches P (at w cur p i) (at (record { marks = clear w.marks s }) cur p (i + 1))
 go_clear P p code h w cur i s rest e = one_step P _ _ (step_at P p code h w cur i (instrs.Clear s) rest e)
 
+-- marks that are reached may be written otherwise
+pub same_marks : (P : Program) (from : State) (cur : Option ℕ) (p i : ℕ) (ms ms' : List Bool) → ms ≡ ms'
+    → Reaches P from (at (record { marks = ms }) cur p i) → Reaches P from (at (record { marks = ms' }) cur p i)
+same_marks P from cur p i ms ms' e run = subst (λ (marks : List Bool). Reaches P from (at (record { marks = marks }) cur p i)) e run
+
 -- where the machine goes on behind an Unless
 abbrev unless_next : World → Option ℕ → ℕ → ℕ → ℕ → Bool → Next
 unless_next w cur p i k good = Goes (record (at w cur p i) { frames = (if good then next (frame p i) else past (frame p i) k) ∷ [] })
 
-pub go_unless_true : (P : Program) (p : ℕ) (code : List Instr) → HasCode P p code → (w : World) (cur : Option ℕ) (i k : ℕ) (c : Cond) (rest : List Instr) → drop i code ≡ instrs.Unless k c ∷ rest
+pub go_unless_true : (P : Program) (p : ℕ) (code : List Instr) → HasCode P p code
+    → (w : World) (cur : Option ℕ) (i k : ℕ) (c : Cond) (rest : List Instr) → drop i code ≡ instrs.Unless k c ∷ rest
     → holds c (at w cur p i) ≡ true → Reaches P (at w cur p i) (at w cur p (i + 1))
 go_unless_true P p code h w cur i k c rest e good = one_step P _ _ (step_at P p code h w cur i (instrs.Unless k c) rest e ∙ ap (unless_next w cur p i k) good)
 
-pub go_unless_false : (P : Program) (p : ℕ) (code : List Instr) → HasCode P p code → (w : World) (cur : Option ℕ) (i k : ℕ) (c : Cond) (rest : List Instr) → drop i code ≡ instrs.Unless k c ∷ rest
+pub go_unless_false : (P : Program) (p : ℕ) (code : List Instr) → HasCode P p code
+    → (w : World) (cur : Option ℕ) (i k : ℕ) (c : Cond) (rest : List Instr) → drop i code ≡ instrs.Unless k c ∷ rest
     → holds c (at w cur p i) ≡ false → Reaches P (at w cur p i) (at w cur p (i + 1 + k))
 go_unless_false P p code h w cur i k c rest e bad = one_step P _ _ (step_at P p code h w cur i (instrs.Unless k c) rest e ∙ ap (unless_next w cur p i k) bad)
 
 -- the last frame returns, and the run is over
-pub ret_ends : (P : Program) (p : ℕ) (code : List Instr) → HasCode P p code → (w : World) (cur : Option ℕ) (i r : ℕ) (rest : List Instr) → drop i code ≡ instrs.Ret r ∷ rest → Gives P (at w cur p i) w
+pub ret_ends : (P : Program) (p : ℕ) (code : List Instr) → HasCode P p code
+    → (w : World) (cur : Option ℕ) (i r : ℕ) (rest : List Instr) → drop i code ≡ instrs.Ret r ∷ rest → Gives P (at w cur p i) w
 ret_ends P p code h w cur i r rest e = record {
   steps = suc (suc zero);
   ends = ap (λ (n : Next). and_then n (run P (suc zero))) (step_at P p code h w cur i (instrs.Ret r) rest e);

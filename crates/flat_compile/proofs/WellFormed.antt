@@ -44,8 +44,10 @@ module _ (c : Chart) (len : ℕ) where
   ret_last [] = refl
   ret_last (y ∷ rest) = refl
 
-  transes_safe : (s i : ℕ) (ts : List FlatTrans) (rest : List Instr) → s < length c.states → AllByRecursion (TransInRange (length c.events) (length c.states)) ts → 0 < length rest → i + length (transes_code s ts rest) ≡ len
-      → ((j : ℕ) → j + length rest ≡ len → instrs_fault (compiled c) 1 len j rest ≡ None) → instrs_fault (compiled c) 1 len i (transes_code s ts rest) ≡ None
+  transes_safe : (s i : ℕ) (ts : List FlatTrans) (rest : List Instr) → s < length c.states
+      → AllByRecursion (TransInRange (length c.events) (length c.states)) ts → 0 < length rest → i + length (transes_code s ts rest) ≡ len
+      → ((j : ℕ) → j + length rest ≡ len → instrs_fault (compiled c) 1 len j rest ≡ None)
+      → instrs_fault (compiled c) 1 len i (transes_code s ts rest) ≡ None
   transes_safe s i [] rest within r some is behind = behind i is
   transes_safe s i (t ∷ ts) rest within r some is behind =
       let later : List Instr = transes_code s ts rest in
@@ -57,8 +59,9 @@ module _ (c : Chart) (len : ℕ) where
       let k4 : nat_lt (t.dest + 1) (length (compiled c).states) ≡ true = below (t.dest + 1) _ (omega (arith, states, r.0.dest)) in
       rw (k1, k2, k3, k4, ret_last later) (transes_safe s (i + 1 + 1 + 1 + 1) ts rest within r.1 some (omega arith) behind)
 
-  states_safe : (k i : ℕ) (xs : List State) → k + length xs ≡ length c.states → AllByRecursion (λ (x : State). AllByRecursion (TransInRange (length c.events) (length c.states)) x.outer) xs → i + length (states_code k xs) ≡ len
-      → instrs_fault (compiled c) 1 len i (states_code k xs) ≡ None
+  states_safe : (k i : ℕ) (xs : List State) → k + length xs ≡ length c.states
+      → AllByRecursion (λ (x : State). AllByRecursion (TransInRange (length c.events) (length c.states)) x.outer) xs
+      → i + length (states_code k xs) ≡ len → instrs_fault (compiled c) 1 len i (states_code k xs) ≡ None
   states_safe k i [] at r is = refl
   states_safe k i (x ∷ xs) at r is =
       let more = length-transes k x.outer (states_code (k + 1) xs) in
@@ -90,7 +93,9 @@ start_safe c v =
 react_safe : (c : Chart) → IsValid c → (is : List Instr) → is ≡ states_code 0 c.states → proc_fault (compiled c) 1 is ≡ None
 react_safe c v [] e = absurd (let some = some-states 0 c.states in omega (arith, ap length e))
 react_safe c v (x ∷ rest) e =
-    subst (λ (is : List Instr). instrs_fault (compiled c) 1 (length (x ∷ rest)) 0 is ≡ None) (sym e) (states_safe c (length (x ∷ rest)) 0 0 c.states (omega arith) v.in_range.transitions (omega (arith, ap length e)))
+    let len = length (x ∷ rest) in
+    let safe = states_safe c len 0 0 c.states (omega arith) v.in_range.transitions (omega (arith, ap length e)) in
+    subst (λ (is : List Instr). instrs_fault (compiled c) 1 len 0 is ≡ None) (sym e) safe
 
 -- the code of a valid chart is well formed
 pub well_formed : (c : Chart) → IsValid c → IsCode (compiled c)

@@ -16,7 +16,7 @@ use Rattle.flat_compile.specs.Emitted.{compiled, start_code, states_code}
 use Rattle.flat_compile.specs.Same.{only, world_of, Same}
 use Rattle.flat_compile.proofs.Reach.{Reaches, goes, gives, behind}
 use Rattle.flat_compile.proofs.Worlds.{mark_root, mark_leaf}
-use Rattle.flat_compile.proofs.Runs.{at, HasCode, go_mark, ret_ends}
+use Rattle.flat_compile.proofs.Runs.{at, HasCode, go_mark, same_marks, ret_ends}
 use Rattle.flat_compile.proofs.Reaction.{fires, states_run, active}
 
 start_there : (c : Chart) → HasCode (compiled c) 0 (start_code c)
@@ -37,9 +37,9 @@ starts c r =
     let bare : World = record { marks = true ∷ replicate n false } in
     let fresh : none_active (length P.states) ≡ replicate (suc n) false = ap (λ (k : ℕ). replicate (suc k) false) (length-map c.states (λ (s : State). s.name)) in
     let first : Reaches P (at nothing None 0 0) (at bare None 0 (0 + 1)) =
-    subst (λ (ms : List Bool). Reaches P (at nothing None 0 0) (at (record { marks = ms }) None 0 (0 + 1))) (mark_root n) (go_mark P 0 (start_code c) h nothing None 0 0 _ refl) in
+    same_marks P (at nothing None 0 0) None 0 (0 + 1) _ _ (mark_root n) (go_mark P 0 (start_code c) h nothing None 0 0 _ refl) in
     let second : Reaches P (at bare None 0 1) (at (world_of c c.default) None 0 (1 + 1)) =
-    subst (λ (ms : List Bool). Reaches P (at bare None 0 1) (at (record { marks = ms }) None 0 (1 + 1))) (mark_leaf n c.default r.default) (go_mark P 0 (start_code c) h bare None 1 (c.default + 1) _ refl) in
+    same_marks P (at bare None 0 1) None 0 (1 + 1) _ _ (mark_leaf n c.default r.default) (go_mark P 0 (start_code c) h bare None 1 (c.default + 1) _ refl) in
     let run = gives P _ _ (world_of c c.default) (goes P _ _ _ first second) (ret_ends P 0 (start_code c) h (world_of c c.default) None 2 0 [] refl) in
     subst (λ (ms : List Bool). Gives P (at (record { marks = ms }) None 0 0) (world_of c c.default)) (sym fresh) run
 
@@ -55,7 +55,8 @@ reacts c r s lt e =
     (states_run (compiled c) 1 (states_code 0 c.states) (react_there c) (number_of e) (length c.states) s lt (length c.events) c.states s 0 0 (omega arith) lt r.transitions refl)
 
 -- the run from a state on
-runs_from : (c : Chart) → InRange c → (s : ℕ) → s < length c.states → (es : List FlatEvent) → AllByRecursion (IsEventOf c) es → RunsFrom (compiled c) (world_of c s) es (map (world_of c) (flat_run_from c s es))
+runs_from : (c : Chart) → InRange c → (s : ℕ) → s < length c.states → (es : List FlatEvent) → AllByRecursion (IsEventOf c) es
+    → RunsFrom (compiled c) (world_of c s) es (map (world_of c) (flat_run_from c s es))
 runs_from c r s lt [] ok = refl
 runs_from c r s lt (e ∷ es) ok =
     (world_of c (flat_react c s e), map (world_of c) (flat_run_from c (flat_react c s e) es), reacts c r s lt e, runs_from c r (flat_react c s e) (flat_react-in_range c s e r lt) es ok.1, refl)

@@ -37,7 +37,8 @@ front_is : (done piece rest : List ℕ) (k : ℕ) → k ≤ length piece → tak
 front_is done piece rest k h = take-append-add done (piece ++ rest) k ∙ ap (λ (z : List ℕ). done ++ z) (take-append-le k piece rest h)
 
 -- the next piece was written in part
-pub cut_off : (before now next : Option (List ℕ)) (text piece rest : List ℕ) → Progress before now text (piece ++ rest) → AppendsProperFront now next piece → AppendsProperFront before next text
+pub cut_off : (before now next : Option (List ℕ)) (text piece rest : List ℕ) → Progress before now text (piece ++ rest)
+    → AppendsProperFront now next piece → AppendsProperFront before next text
 cut_off before now next text piece rest p f = record {
   count = length p.done + f.count;
   proper = let e = ap length p.parts in let whole = simp length-append at e in omega (arith, f.proper);

@@ -15,7 +15,8 @@ unfolding outcome
 too_long text h = let long : nat_lt 268435456 (length text) ≡ true = search rules in rw long refl
 
 -- the code of a file's text is the file's
-pub has_code : (told : Option (List ℕ)) (text : List ℕ) (r : Result Engine Ending) → IsTold told text → IfOk r (λ (m : Engine). IsCodeText text m.program) → IfOk r (λ (m : Engine). HasCode told m.program)
+pub has_code : (told : Option (List ℕ)) (text : List ℕ) (r : Result Engine Ending) → IsTold told text
+    → IfOk r (λ (m : Engine). IsCodeText text m.program) → IfOk r (λ (m : Engine). HasCode told m.program)
 has_code told text (Ok m) is_told code = record { text = text; is_told = is_told; spelled = code }
 has_code told text (Err ending) is_told code = tt
 

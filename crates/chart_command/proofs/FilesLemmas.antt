@@ -36,13 +36,17 @@ refusal_is : (names : List (List ℕ)) (text : List ℕ) → is_long text ≡ fa
 refusal_is names text short = rw short refl
 
 -- a text that is too long is refused as line 0
-refusal_long : (names : List (List ℕ)) (text : List ℕ) (number : ℕ) (fault : LineFault) → is_long text ≡ true → number ≡ 0 → fault ≡ line_faults.NotBuilt → file_refusal names text ≡ Some (record { number = number; fault = fault })
+refusal_long : (names : List (List ℕ)) (text : List ℕ) (number : ℕ) (fault : LineFault)
+    → is_long text ≡ true → number ≡ 0 → fault ≡ line_faults.NotBuilt
+    → file_refusal names text ≡ Some (record { number = number; fault = fault })
 refusal_long names text number fault long a b = rw (long, a, b) refl
 
 -- the run over a text that isn't too long ends as the command does
-pub ran : (way : Way) (call : Call) (first second : List ℕ) (runner : Runner) (text : List ℕ) (ending : Ending) → Holds way (call.left first) runner → IsTold (second_left call first second) text
+pub ran : (way : Way) (call : Call) (first second : List ℕ) (runner : Runner) (text : List ℕ) (ending : Ending)
+    → Holds way (call.left first) runner → IsTold (second_left call first second) text
     → is_long text ≡ false → AllStay call.reads_before call.reads_after
-    → RunTraces (record { before = call.out_before; after = call.out_after; writes_before = call.writes_before; writes_after = call.writes_after }) runner text ending → TraceEnds way call first second ending
+    → RunTraces (record { before = call.out_before; after = call.out_after; writes_before = call.writes_before; writes_after = call.writes_after }) runner text ending
+    → TraceEnds way call first second ending
 ran way call first second runner text ending holds told short quiet h = by_ending ending h.ends
   where
     files : Files way call first second
@@ -55,7 +59,10 @@ ran way call first second runner text ending holds told short quiet h = by_endin
       is_output = subst (λ (long : Bool). OutputOf long runner text h.whole) (sym short) h.is_trace;
     }
 
-    by_ending : (ending : Ending) → RunEnds (record { before = call.out_before; after = call.out_after; writes_before = call.writes_before; writes_after = call.writes_after }) (event_names runner) text h.whole ending → TraceEnds way call first second ending
+    by_ending : (ending : Ending)
+        → RunEnds (record { before = call.out_before; after = call.out_after; writes_before = call.writes_before; writes_after = call.writes_after })
+        (event_names runner) text h.whole ending
+        → TraceEnds way call first second ending
     by_ending endings.Done e = record {
       files = files;
       good = refusal_is (event_names runner) text short ∙ e.0;
@@ -76,7 +83,9 @@ ran way call first second runner text ending holds told short quiet h = by_endin
     by_ending endings.Memory e = absurd e
 
 -- an event file that isn't read ends the command with nothing written
-pub not_ran : (way : Way) (call : Call) (first second : List ℕ) (mid : List ℕ → Option (List ℕ)) (counts : List ℕ → ℕ) (runner : Runner) (ending : Ending) → Holds way (call.left first) runner → mid second ≡ second_left call first second
+pub not_ran : (way : Way) (call : Call) (first second : List ℕ)
+    → (mid : List ℕ → Option (List ℕ)) (counts : List ℕ → ℕ) (runner : Runner) (ending : Ending)
+    → Holds way (call.left first) runner → mid second ≡ second_left call first second
     → AllStay call.reads_before counts → EventsFail (mid second) (counts second) (call.reads_after second) ending → StaysUnlessRead counts call.reads_after ending
     → call.out_after ≡ call.out_before → call.writes_after ≡ call.writes_before → TraceEnds way call first second ending
 not_ran way call first second mid counts runner endings.Done holds e quiet fails stays nothing writes = absurd fails

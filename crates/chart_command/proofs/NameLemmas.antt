@@ -13,7 +13,8 @@ named_at (s ∷ states) zero d h = refl
 named_at (s ∷ states) (suc n) d h = named_at states n d (omega arith)
 
 -- the name of a state of the code is that of its number
-pub name_of_state : (c : FlatChart) (n : ℕ) (d : FlatState) (chart : Chart) → chart_of c ≡ chart → n < length chart.states → name_at (state_names chart) n ≡ (get_or (items_of c.states) n d).name
+pub name_of_state : (c : FlatChart) (n : ℕ) (d : FlatState) (chart : Chart) → chart_of c ≡ chart → n < length chart.states
+    → name_at (state_names chart) n ≡ (get_or (items_of c.states) n d).name
 name_of_state c n d chart e h =
     let within : n < length (items_of c.states) = omega (arith, simp length-map at (ap (λ (x : Chart). length x.states) e)) in
     sym (ap (λ (x : Chart). name_at (state_names x) n) e) ∙ named_at (items_of c.states) n d within

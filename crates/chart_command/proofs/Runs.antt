@@ -31,7 +31,9 @@ started_rules c valid w e =
     subst IsRunning (sym e) r
 
 -- what is shown of the states of a run by the rules
-shown_is : (c : Chart) (s : ℕ) (es : List FlatEvent) → (flat_shown (moment c s) ∷ shown_after flat_after flat_shown (moment c s) es) ≡ map (λ (s : ℕ). name_at (state_names c) s ∷ []) (flat_run_from c s es)
+shown_is : (c : Chart) (s : ℕ) (es : List FlatEvent)
+    → (flat_shown (moment c s) ∷ shown_after flat_after flat_shown (moment c s) es)
+    ≡ map (λ (s : ℕ). name_at (state_names c) s ∷ []) (flat_run_from c s es)
 shown_is c s [] = refl
 shown_is c s (e ∷ es) = ap (λ (rest : List (List (List ℕ))). flat_shown (moment c s) ∷ rest) (shown_is c (flat_react c s e) es)
 

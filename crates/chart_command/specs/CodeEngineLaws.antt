@@ -23,9 +23,10 @@ use Rattle.chart_command.specs.Steps.{shown_after, trace_by}
 -- the table of well-formed code passed its test
 table_passed : (P : Program) → IsCode P → is_table P ≡ true
 table_passed P ok =
-    passed (is_table P) kinds.BadTable 0 0
-    (neither (unless (is_table P) kinds.BadTable 0 0) (first_of (unless (starts_known P) kinds.BadNumber 0 0) (procs_fault P 0 P.procs))
-    (neither (unless (not (too_many P)) kinds.TooManyProcs 0 0) (first_of (unless (is_table P) kinds.BadTable 0 0) (first_of (unless (starts_known P) kinds.BadNumber 0 0) (procs_fault P 0 P.procs))) ok).1).0
+    let table = unless (is_table P) kinds.BadTable 0 0 in
+    let others = first_of (unless (starts_known P) kinds.BadNumber 0 0) (procs_fault P 0 P.procs) in
+    let behind = neither (unless (not (too_many P)) kinds.TooManyProcs 0 0) (first_of table others) ok in
+    passed (is_table P) kinds.BadTable 0 0 (neither table others behind.1).0
 
 -- what the table says of its names
 pub record Table (P : Program) : Type 0 where
@@ -80,7 +81,8 @@ others_off marks s (suc t) single on h =
     ]
 
 -- the active names from an active state on
-pub only_active : (name : List ℕ) (rest : List (List ℕ)) (marks : List Bool) (s : ℕ) → IsSingle marks → is_on marks (suc s) ≡ true → active_from (suc s) (name ∷ rest) marks ≡ name ∷ []
+pub only_active : (name : List ℕ) (rest : List (List ℕ)) (marks : List Bool) (s : ℕ) → IsSingle marks → is_on marks (suc s) ≡ true
+    → active_from (suc s) (name ∷ rest) marks ≡ name ∷ []
 only_active name rest marks s single on =
     rw on (ap (λ (names : List (List ℕ)). name ∷ names) (none_from rest marks (suc s + 1) (λ t h. others_off marks s t single on (omega arith))))
 
@@ -111,13 +113,15 @@ from_end (name ∷ names) zero h = absurd (omega arith)
 from_end (name ∷ names) (suc k) h = from_end names k (omega arith)
 
 -- the names from a state on that is active
-pub shown_active : (names : List (List ℕ)) (marks : List Bool) (k : ℕ) (d : List ℕ) → 1 ≤ k → k < length names → IsSingle marks → is_on marks k ≡ true → active_from k (drop k names) marks ≡ get_or names k d ∷ []
+pub shown_active : (names : List (List ℕ)) (marks : List Bool) (k : ℕ) (d : List ℕ) → 1 ≤ k → k < length names
+    → IsSingle marks → is_on marks k ≡ true → active_from k (drop k names) marks ≡ get_or names k d ∷ []
 shown_active names marks zero d h lt single on = absurd (omega arith)
 shown_active names marks (suc s) d h lt single on =
     ap (λ (rest : List (List ℕ)). active_from (suc s) rest marks) (from_place names (suc s) d lt) ∙ only_active (get_or names (suc s) d) (drop (suc s + 1) names) marks s single on
 
 -- the names from a state on that isn't
-pub shown_next : (names : List (List ℕ)) (marks : List Bool) (k : ℕ) → k < length names → is_on marks k ≡ false → active_from k (drop k names) marks ≡ active_from (k + 1) (drop (k + 1) names) marks
+pub shown_next : (names : List (List ℕ)) (marks : List Bool) (k : ℕ) → k < length names → is_on marks k ≡ false
+    → active_from k (drop k names) marks ≡ active_from (k + 1) (drop (k + 1) names) marks
 shown_next names marks k lt off =
     ap (λ (rest : List (List ℕ)). active_from k rest marks) (from_place names k [] lt) ∙ not_active (get_or names k []) (drop (k + 1) names) marks k off
 

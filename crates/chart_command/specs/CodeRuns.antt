@@ -53,7 +53,8 @@ ends P ok p (suc n) i w cur r lt few =
     last zero m h e = absurd (omega arith)
     last (suc n) m h e = record { world = m.world; over = ap (λ (fs : List Frame). and_then (act_on P m fs) (run P n)) e }
 
-    by_instr : ((j : ℕ) (v : World) → j < length (instructions P p) → length (instructions P p) + 1 < n + j → Ended P n (at v cur r p j)) → (x : Instr) → fetch P p i ≡ Some x → IsSoundAt P (length (instructions P p)) i x → Ended P (suc n) (at w cur r p i)
+    by_instr : ((j : ℕ) (v : World) → j < length (instructions P p) → length (instructions P p) + 1 < n + j → Ended P n (at v cur r p j))
+        → (x : Instr) → fetch P p i ≡ Some x → IsSoundAt P (length (instructions P p)) i x → Ended P (suc n) (at w cur r p i)
     by_instr again (instrs.Mark q) e s =
         done (instrs.Mark q) e (at (record { marks = mark w.marks q }) cur r p (i + 1)) refl (again (i + 1) (record { marks = mark w.marks q }) (s.goes_on refl) (omega arith))
     by_instr again (instrs.Clear q) e s =

@@ -136,7 +136,8 @@ LineEnds out line (Err endings.Write) = Rose out.writes_before out.writes_after 
 LineEnds out line (Err endings.Memory) = ⊥
 
 -- how a line of the event file is taken by an engine: the moment after it, and what is written
-abbrev pub StepEnds : {S T : Type 0} → Written → (S → FlatEvent → S) → (S → List (List ℕ)) → List (List ℕ) → S → ℕ → Result FlatEvent LineFault → S → Result T Ending → Type 0
+abbrev pub StepEnds : {S T : Type 0} → Written → (S → FlatEvent → S) → (S → List (List ℕ)) → List (List ℕ)
+    → S → ℕ → Result FlatEvent LineFault → S → Result T Ending → Type 0
 StepEnds out after shown names s index (Ok e) s' result =
     (s' ≡ after s e) × LineEnds out (trace_line index (event_word names e) (shown (after s e))) result
 StepEnds out after shown names s index (Err fault) s' result =

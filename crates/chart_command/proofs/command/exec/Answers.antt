@@ -1,7 +1,7 @@
 use Rattle.std.proofs.Common.{ℕ, List, refl, subst, Option}
 use Rattle.chart_command.specs.Runner.{OnMachine}
 use Rattle.chart_command.specs.Answer.{Call, ByCode, IsTold}
-use Rattle.chart_command.specs.Steps.{RunTraces}
+use Rattle.chart_command.specs.Steps.{Written, RunTraces}
 use Rattle.chart_command.proofs.FilesLemmas.{second_is, ran, not_ran, both_stay}
 use Rattle.chart_command.proofs.command.exec.Goals as goal
 
@@ -23,11 +23,17 @@ returns-in-Ok-read_events g c =
     } in
     let mid = g.I.Inputs.left c.read_machine.new.inputs in
     let text = c.in-Ok-read_events.text.items in
+    let out : Written = record {
+      before = call.out_before;
+      after = call.out_after;
+      writes_before = call.writes_before;
+      writes_after = call.writes_after;
+    } in
     let told = second_is call c.args.first.now c.args.second.now mid c.in-Ok.ensures.end c.in-Ok.ensures.others in
     ran ByCode call c.args.first.now c.args.second.now (OnMachine c.in-Ok.machine.program) text c.run_machine.result c.in-Ok.ensures.code
     (subst (λ (t : Option (List ℕ)). IsTold t text) told c.in-Ok-read_events.ensures.text) c.in-Ok-read_events.ensures.short
     (both_stay call.reads_before (g.I.Inputs.faults c.read_machine.new.inputs) call.reads_after c.in-Ok.ensures.quiet c.in-Ok-read_events.ensures.quiet)
-    (subst (λ (t : List ℕ). RunTraces (record { before = call.out_before; after = call.out_after; writes_before = call.writes_before; writes_after = call.writes_after }) (OnMachine c.in-Ok.machine.program) t c.run_machine.result) c.deref.ensures.value c.run_machine.ensures)
+    (subst (λ (t : List ℕ). RunTraces out (OnMachine c.in-Ok.machine.program) t c.run_machine.result) c.deref.ensures.value c.run_machine.ensures)
 
 -- the event file isn't read
 pub returns-in-Err-read_events : goal.returns-in-Err-read_events
@@ -43,4 +49,5 @@ returns-in-Err-read_events g c =
     } in
     let mid = g.I.Inputs.left c.read_machine.new.inputs in
     not_ran ByCode call c.args.first.now c.args.second.now mid (g.I.Inputs.faults c.read_machine.new.inputs) (OnMachine c.in-Ok.machine.program) c.in-Err-read_events.ending c.in-Ok.ensures.code
-    (second_is call c.args.first.now c.args.second.now mid c.in-Ok.ensures.end c.in-Ok.ensures.others) c.in-Ok.ensures.quiet c.in-Err-read_events.ensures.fails c.in-Err-read_events.ensures.refused_quiet refl refl
+    (second_is call c.args.first.now c.args.second.now mid c.in-Ok.ensures.end c.in-Ok.ensures.others)
+    c.in-Ok.ensures.quiet c.in-Err-read_events.ensures.fails c.in-Err-read_events.ensures.refused_quiet refl refl

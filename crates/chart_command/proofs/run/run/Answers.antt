@@ -18,9 +18,17 @@ returns-in-Err-run_line g c =
     } in
     let line = c.split_line-split.result.line.now in
     let inv = c.lines.invariant in
-    line_ends engine.after engine.shown names (Unit {0}) c.args.text.now (trace_by engine.after engine.shown names c.args.engine.now (events_of names (lines_of c.args.text.now))) out (g.O.Sink.wrote c.run_line.new.out) (g.O.Sink.faults c.run_line.new.out)
-    c.lines.engine c.run_line.new.engine c.lines.index c.lines.rest.now line c.split_line-split.result.rest.now c.in-Err-run_line.ending inv.underway c.split_line-split.ensures.lines
-    (subst (λ (ns : List (List ℕ)). StepEnds {T = Unit {0}} (next_out out (g.O.Sink.wrote c.run_line.new.out) (g.O.Sink.faults c.run_line.new.out)) engine.after engine.shown ns c.lines.engine (c.lines.index + 1) (event_of_line ns line) c.run_line.new.engine (Err c.in-Err-run_line.ending)) inv.same_names c.in-Err-run_line.ensures.ends)
+    let whole = trace_by engine.after engine.shown names c.args.engine.now (events_of names (lines_of c.args.text.now)) in
+    let now = c.lines.engine in
+    let later = c.run_line.new.engine in
+    let rest = c.split_line-split.result.rest.now in
+    let ending = c.in-Err-run_line.ending in
+    let next : Written = next_out out (g.O.Sink.wrote c.run_line.new.out) (g.O.Sink.faults c.run_line.new.out) in
+    line_ends engine.after engine.shown names (Unit {0}) c.args.text.now whole out (g.O.Sink.wrote c.run_line.new.out) (g.O.Sink.faults c.run_line.new.out)
+    now later c.lines.index c.lines.rest.now line rest ending inv.underway c.split_line-split.ensures.lines
+    (subst
+    (λ (ns : List (List ℕ)). StepEnds {T = Unit {0}} next engine.after engine.shown ns now (c.lines.index + 1) (event_of_line ns line) later (Err ending))
+    inv.same_names c.in-Err-run_line.ensures.ends)
 
 -- one more line is taken
 pub lines-preserved : goal.lines-preserved
@@ -35,13 +43,22 @@ lines-preserved g c =
     } in
     let line = c.split_line-split.result.line.now in
     let inv = c.lines.invariant in
+    let whole = trace_by engine.after engine.shown names c.args.engine.now (events_of names (lines_of c.args.text.now)) in
+    let now = c.lines.engine in
+    let later = c.run_line.new.engine in
+    let rest = c.split_line-split.result.rest.now in
     let next : Written = next_out out (g.O.Sink.wrote c.run_line.new.out) (g.O.Sink.faults c.run_line.new.out) in
     let step = c.in_default-run_line.ensures.ends in
-    let kept = still engine.after engine.shown names (Unit {0}) engine.names engine.running g.met.G.Engine.goes_on g.met.G.Engine.same_names next c.lines.engine c.run_line.new.engine (c.lines.index + 1) (event_of_line (engine.names c.lines.engine) line) tt inv.running c.run_line.ensures.in_range step in
+    let kept =
+    still engine.after engine.shown names (Unit {0}) engine.names engine.running g.met.G.Engine.goes_on g.met.G.Engine.same_names
+    next now later (c.lines.index + 1) (event_of_line (engine.names now) line) tt inv.running c.run_line.ensures.in_range step in
     record {
-      underway = line_taken engine.after engine.shown names c.args.text.now (trace_by engine.after engine.shown names c.args.engine.now (events_of names (lines_of c.args.text.now))) out (g.O.Sink.wrote c.run_line.new.out) (g.O.Sink.faults c.run_line.new.out)
-          c.lines.engine c.run_line.new.engine c.lines.index c.lines.rest.now line c.split_line-split.result.rest.now tt inv.underway c.split_line-split.ensures.lines c.split_line-split.ensures.shorter
-          (subst (λ (ns : List (List ℕ)). StepEnds {T = Unit {0}} next engine.after engine.shown ns c.lines.engine (c.lines.index + 1) (event_of_line ns line) c.run_line.new.engine (Ok tt)) inv.same_names step);
+      underway =
+          line_taken engine.after engine.shown names c.args.text.now whole out (g.O.Sink.wrote c.run_line.new.out) (g.O.Sink.faults c.run_line.new.out)
+          now later c.lines.index c.lines.rest.now line rest tt inv.underway c.split_line-split.ensures.lines c.split_line-split.ensures.shorter
+          (subst
+          (λ (ns : List (List ℕ)). StepEnds {T = Unit {0}} next engine.after engine.shown ns now (c.lines.index + 1) (event_of_line ns line) later (Ok tt))
+          inv.same_names step);
       running = kept.0;
       same_names = kept.1 ∙ inv.same_names;
     }

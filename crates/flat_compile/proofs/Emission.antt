@@ -3,7 +3,7 @@ use Rattle.std.proofs.Common.{◌≡◌, ℕ, ◌+◌, ◌*◌, List, [], ◌∷
 use Rattle.std.proofs.Math.Seq.{drop-cons}
 use Rattle.chart_syntax.specs.declared.tree.FlatTrans.{FlatTrans}
 use Rattle.chart_syntax.specs.declared.tree.FlatState.{FlatState}
-use Rattle.chart_syntax.specs.FlatChart.{State, state_of}
+use Rattle.chart_syntax.specs.FlatChart.{state_of}
 use Rattle.code_form.specs.declared.instr.Cond.TheVariants as conds
 use Rattle.code_form.specs.declared.instr.Instr.{Instr}
 use Rattle.code_form.specs.declared.instr.Instr.TheVariants as instrs

@@ -1,19 +1,16 @@
 -- The code of a valid chart is well formed.
-use Rattle.std.proofs.Common.{◌≡◌, ℕ, zero, suc, ◌+◌, ◌*◌, ◌^◌, ◌<◌, ◌≤◌, Bool, true, false, not, ◌&&◌, ◌||◌, List, [], ◌∷◌, length, map, Option, Some, None, refl, sym, ap, subst, ◌∙◌, arith}
+use Rattle.std.proofs.Common.{◌≡◌, ℕ, suc, ◌+◌, ◌*◌, ◌<◌, ◌≤◌, Bool, true, false, List, [], ◌∷◌, length, None, refl, sym, ap, subst, arith}
 use Rattle.std.specs.Prelude.{nat_lt}
-use Rattle.std.specs.List.{AllByRecursion, list_all, list_any}
+use Rattle.std.specs.List.{AllByRecursion}
 use Rattle.std.proofs.lemmas.List.{length-map}
 use Rattle.std.proofs.lemmas.Bool.Decides.{nat_tests}
-use Rattle.flow_base.specs.Names.{are_distinct}
-use Rattle.chart_lexer.specs.Words.{is_name}
 use Rattle.chart_syntax.specs.declared.tree.FlatTrans.{FlatTrans}
-use Rattle.chart_syntax.specs.FlatChart.{State, Chart, TransInRange, InRange, IsValid, state_names}
+use Rattle.chart_syntax.specs.FlatChart.{State, Chart, TransInRange, IsValid, state_names}
 use Rattle.code_form.specs.declared.instr.Cond.TheVariants as conds
 use Rattle.code_form.specs.declared.instr.Instr.{Instr}
 use Rattle.code_form.specs.declared.instr.Instr.TheVariants as instrs
 use Rattle.code_form.specs.declared.fault.CodeKind.{CodeKind}
-use Rattle.code_form.specs.Program.{Program}
-use Rattle.code_form.specs.WellFormed.{unless, first_of, too_many, is_table, starts_known, instrs_fault, proc_fault, procs_fault, code_fault, last_returns, IsCode}
+use Rattle.code_form.specs.WellFormed.{unless, too_many, is_table, instrs_fault, proc_fault, last_returns, IsCode}
 use Rattle.flat_compile.specs.Emitted.{compiled, start_code, transes_code, states_code}
 
 below : (a b : ℕ) → a < b → nat_lt a b ≡ true

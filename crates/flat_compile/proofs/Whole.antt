@@ -1,23 +1,21 @@
 -- The code of a flat chart behaves as the chart.
-use Rattle.std.proofs.Common.{◌≡◌, ℕ, zero, suc, ◌+◌, ◌<◌, Bool, true, false, List, [], ◌∷◌, length, map, drop, replicate, Option, Some, None, refl, sym, ap, subst, ◌∙◌, arith}
+use Rattle.std.proofs.Common.{◌≡◌, ℕ, suc, ◌+◌, ◌<◌, Bool, true, false, List, [], ◌∷◌, length, map, replicate, None, refl, sym, ap, subst, arith}
 use Rattle.std.specs.Prelude.{unwrap_or}
 use Rattle.std.specs.List.{AllByRecursion}
 use Rattle.std.proofs.lemmas.List.{length-map}
 use Rattle.flow_base.specs.declared.event.FlatEvent.{FlatEvent}
 use Rattle.flow_base.specs.declared.event.FlatEvent.TheVariants as events
-use Rattle.chart_syntax.specs.FlatChart.{State, Chart, TransInRange, InRange, state_names}
-use Rattle.sos_rules.specs.Flat.{IsEventOf, outer_of, flat_start, flat_react, flat_run, flat_run_from}
+use Rattle.chart_syntax.specs.FlatChart.{State, Chart, InRange}
+use Rattle.sos_rules.specs.Flat.{IsEventOf, outer_of, flat_start, flat_react, flat_run_from}
 use Rattle.sos_rules.proofs.FlatLemmas.{flat_react-in_range}
-use Rattle.code_form.specs.declared.instr.Instr.{Instr}
-use Rattle.code_form.specs.Program.{Program}
 use Rattle.code_form.specs.World.{World, none_active}
-use Rattle.code_form.specs.Machine.{instructions, fetch, number_of, Gives, Starts, Reacts, RunsFrom, CodeRuns}
+use Rattle.code_form.specs.Machine.{instructions, fetch, number_of, Gives, Starts, Reacts, RunsFrom}
 use Rattle.flat_compile.specs.Emitted.{compiled, start_code, states_code}
-use Rattle.flat_compile.specs.Same.{only, world_of, Same}
-use Rattle.flat_compile.proofs.Reach.{Reaches, goes, gives, behind}
+use Rattle.flat_compile.specs.Same.{world_of, Same}
+use Rattle.flat_compile.proofs.Reach.{Reaches, goes, gives}
 use Rattle.flat_compile.proofs.Worlds.{mark_root, mark_leaf}
 use Rattle.flat_compile.proofs.Runs.{at, HasCode, go_mark, same_marks, ret_ends}
-use Rattle.flat_compile.proofs.Reaction.{fires, states_run, active}
+use Rattle.flat_compile.proofs.Reaction.{fires, states_run}
 
 start_there : (c : Chart) → HasCode (compiled c) 0 (start_code c)
 unfolding fetch instructions

@@ -1,4 +1,4 @@
-use Rattle.std.proofs.Common.{◌≡◌, ◌++◌, [], drop, map}
+use Rattle.std.proofs.Common.{◌≡◌, ◌++◌, drop, map}
 use Rattle.chart_syntax.specs.FlatChart.{state_of}
 use Rattle.flat_compile.specs.Emitted.{states_code}
 use Rattle.flat_compile.proofs.emit.react_code.Given as goal

@@ -51,7 +51,8 @@ bare_is_on t s m e = (both_true (is_on s m) _ e).0
 pub bare_child_off : (t : Tree) (s x : ℕ) (m : List Bool) → is_bare t s m ≡ true → parent_of t x ≡ Some s → x < state_count t → is_on x m ≡ false
 unfolding is_bare children_of children_below
 bare_child_off t s x m e up lt =
-    none_in_range (λ x. is_on x m) (is_child t s) 0 (state_count t) x (omega arith) (omega arith) (child_of_parent t s x up) (is_false _ (both_true (is_on s m) _ e).1)
+    none_in_range (λ x. is_on x m) (is_child t s) 0 (state_count t) x (omega arith) (omega arith) (child_of_parent t s x up)
+    (is_false _ (both_true (is_on s m) _ e).1)
 
 pub is_on-with_mark_same : (s : ℕ) (b : Bool) (m : List Bool) → s < mark_count m → is_on s (with_mark s b m) ≡ b
 unfolding is_on with_mark mark_count
@@ -127,9 +128,12 @@ module _ (t : Tree) (m : List Bool) (k : IsConsistent t m) where
   }
     where
       kept : (p : ℕ) → is_on p m ≡ true → is_on p (with_mark s true m) ≡ true
-      kept p on = let ne : p ≢ s = λ e. absurd (let f = can_mark_off t s m can in let g = ap (λ x. is_on x m) e in cc) in is_on-with_mark_other s p true m ne ∙ on
+      kept p on =
+          let ne : p ≢ s = λ e. absurd (let f = can_mark_off t s m can in let g = ap (λ x. is_on x m) e in cc) in
+          is_on-with_mark_other s p true m ne ∙ on
 
-      two : (p x y : ℕ) → comp_of t p ≡ Or → parent_of t x ≡ Some p → parent_of t y ≡ Some p → (x ≡ s) ⊎ (is_on x m ≡ true) → (y ≡ s) ⊎ (is_on y m ≡ true) → x ≡ y
+      two : (p x y : ℕ) → comp_of t p ≡ Or → parent_of t x ≡ Some p → parent_of t y ≡ Some p → (x ≡ s) ⊎ (is_on x m ≡ true)
+          → (y ≡ s) ⊎ (is_on y m ≡ true) → x ≡ y
       two p x y o ux uy (inl e) (inl f) = e ∙ sym f
       two p x y o ux uy (inl e) (inr g) = absurd (alone s y p can o (ap (parent_of t) (sym e) ∙ ux) uy g)
       two p x y o ux uy (inr g) (inl f) = absurd (alone s x p can o (ap (parent_of t) (sym f) ∙ uy) ux g)
@@ -150,7 +154,10 @@ module _ (t : Tree) (m : List Bool) (k : IsConsistent t m) where
 -- no state is active in the empty set
 none_on : (t : Tree) (x : ℕ) → is_on x (no_marks t) ≡ false
 unfolding is_on no_marks
-none_on t x = ⊎_elim (λ lt. get_or-replicate (state_count t) x false false lt) (λ le. get_or-eq_default (replicate (state_count t) false) false (omega (arith, length-replicate (state_count t) false))) (cases_lt x (state_count t))
+none_on t x = ⊎_elim
+    (λ lt. get_or-replicate (state_count t) x false false lt)
+    (λ le. get_or-eq_default (replicate (state_count t) false) false (omega (arith, length-replicate (state_count t) false)))
+    (cases_lt x (state_count t))
 
 none_count : (t : Tree) → mark_count (no_marks t) ≡ state_count t
 unfolding mark_count no_marks
@@ -208,14 +215,18 @@ left_first t s m o e after = record {
 pub left_found : (t : Tree) (s x : ℕ) (m : List Bool) (b : Bool) → Left t s m (Some x) → b ≡ is_on x m → b ≡ true → Some x ≡ active_child t s m
 left_found t s x m b h e on =
     let f : is_on x m ≡ true = sym e ∙ on in
-    sym (h.same ∙ ap (find (λ x. is_on x m)) (children_from-next t s x (h.is_child_of x refl)) ∙ ap (λ c. cond c (Some x) (find (λ x. is_on x m) (children_from t s (next_sibling t x)))) f)
+    sym (h.same
+    ∙ ap (find (λ x. is_on x m)) (children_from-next t s x (h.is_child_of x refl))
+    ∙ ap (λ c. cond c (Some x) (find (λ x. is_on x m) (children_from t s (next_sibling t x)))) f)
 
 pub left_next : (t : Tree) (s x : ℕ) (m : List Bool) (b : Bool) (o : Option ℕ) → Left t s m (Some x) → b ≡ is_on x m → b ≡ false → o ≡ next_sibling t x
     → IfSome o (λ y. (x < y) × (y < state_count t)) → Left t s m o
 left_next t s x m b o h e off n after =
     let f : is_on x m ≡ false = sym e ∙ off in
     record {
-      same = h.same ∙ ap (find (λ x. is_on x m)) (children_from-next t s x (h.is_child_of x refl)) ∙ ap (λ c. cond c (Some x) (find (λ x. is_on x m) (children_from t s (next_sibling t x)))) f
+      same = h.same
+          ∙ ap (find (λ x. is_on x m)) (children_from-next t s x (h.is_child_of x refl))
+          ∙ ap (λ c. cond c (Some x) (find (λ x. is_on x m) (children_from t s (next_sibling t x)))) f
           ∙ ap (λ r. find (λ x. is_on x m) (children_from t s r)) (sym n);
       is_child_of = λ y g. next_is_child t s x y (h.is_child_of x refl) (sym n ∙ g);
       after = still o after;
@@ -229,7 +240,8 @@ pub left_none : (t : Tree) (s : ℕ) (m : List Bool) → Left t s m None → Non
 unfolding children_from
 left_none t s m h = sym h.same
 
-pub left_falls : (t : Tree) (s x : ℕ) (m : List Bool) (o : Option ℕ) → Left t s m (Some x) → o ≡ next_sibling t x → length (children_from t s o) < length (children_from t s (Some x))
+pub left_falls : (t : Tree) (s x : ℕ) (m : List Bool) (o : Option ℕ) → Left t s m (Some x) → o ≡ next_sibling t x
+    → length (children_from t s o) < length (children_from t s (Some x))
 left_falls t s x m o h n =
     let e = ap length (children_from-next t s x (h.is_child_of x refl) ∙ ap (λ r. x ∷ children_from t s r) (sym n)) in
     omega arith
@@ -243,8 +255,10 @@ left_at t s x m rest e h = subst (Left t s m) e h
 pub left_end : (t : Tree) (s : ℕ) (m : List Bool) (rest : Option ℕ) → rest ≡ None → Left t s m rest → Left t s m None
 left_end t s m rest e h = subst (Left t s m) e h
 
-pub left_falls_at : (t : Tree) (s x : ℕ) (m : List Bool) (rest o : Option ℕ) → rest ≡ Some x → Left t s m rest → o ≡ next_sibling t x → length (children_from t s o) < length (children_from t s rest)
-left_falls_at t s x m rest o e h n = subst (λ r. length (children_from t s o) < length (children_from t s r)) (sym e) (left_falls t s x m o (left_at t s x m rest e h) n)
+pub left_falls_at : (t : Tree) (s x : ℕ) (m : List Bool) (rest o : Option ℕ) → rest ≡ Some x → Left t s m rest → o ≡ next_sibling t x
+    → length (children_from t s o) < length (children_from t s rest)
+left_falls_at t s x m rest o e h n =
+    subst (λ r. length (children_from t s o) < length (children_from t s r)) (sym e) (left_falls t s x m o (left_at t s x m rest e h) n)
 
 -- the flags of a new set
 pub new_flags : (t : Tree) (flags : List Bool) (n : ℕ) → n ≡ state_count t → flags ≡ replicate n false → flags ≡ no_marks t
@@ -263,7 +277,8 @@ some_active m [] = refl
 some_active m (x ∷ xs) = none_at (is_on x m) x _ _ (some_active m xs)
 
 -- an active state is bare where it has no active child
-pub bare_where_on : (t : Tree) (s : ℕ) (m : List Bool) (o : Option ℕ) (b c : Bool) → b ≡ is_on s m → b ≡ true → o ≡ active_child t s m → is_some o ≡ not c → c ≡ is_bare t s m
+pub bare_where_on : (t : Tree) (s : ℕ) (m : List Bool) (o : Option ℕ) (b c : Bool) → b ≡ is_on s m → b ≡ true → o ≡ active_child t s m
+    → is_some o ≡ not c → c ≡ is_bare t s m
 unfolding active_child is_bare
 bare_where_on t s m o b c e on f g =
     twice c ∙ ap not (sym g ∙ ap is_some f ∙ some_active m (children_of t s)) ∙ ap (λ x. x && not (list_any (λ x. is_on x m) (children_of t s))) (sym on ∙ e)
@@ -278,7 +293,8 @@ unfolding is_bare
 bare_where_off t s m b e off = off ∙ ap (λ x. x && not (list_any (λ x. is_on x m) (children_of t s))) (sym off ∙ e)
 
 -- the test that callers of `mark` make
-pub can_mark_where : (t : Tree) (s : ℕ) (m : List Bool) (on takes : Bool) → on ≡ is_on s m → on ≡ false → takes ≡ parent_takes_child t (parent_of t s) m → takes ≡ true → can_mark t s m ≡ true
+pub can_mark_where : (t : Tree) (s : ℕ) (m : List Bool) (on takes : Bool) → on ≡ is_on s m → on ≡ false
+    → takes ≡ parent_takes_child t (parent_of t s) m → takes ≡ true → can_mark t s m ≡ true
 unfolding can_mark
 can_mark_where t s m on takes e off f is =
     ap (λ b. not b && parent_takes_child t (parent_of t s) m) (sym e ∙ off) ∙ sym f ∙ is

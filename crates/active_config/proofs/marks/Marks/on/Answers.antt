@@ -6,4 +6,4 @@ pub index-requires : goal.index-requires
 index-requires c = omega (arith, state_within c.self.inside.flags.items c.args.self.now c.args.state c.self.view_is c.requires)
 
 pub returns : goal.returns
-returns c = flag_read c.self.inside.flags.items c.args.self.now c.args.state _ c.self.view_is (state_within c.self.inside.flags.items c.args.self.now c.args.state c.self.view_is c.requires) c.index.ensures
+returns c = flag_read _ _ c.args.state _ c.self.view_is (state_within _ _ c.args.state c.self.view_is c.requires) c.index.ensures

@@ -1,0 +1,67 @@
+//! How a text is written in one line.
+ghost use Rattle.std.specs.Prelude.{◌<◌, length, IfSome};
+
+use std::alloc::{AllocError, Global};
+use std::fmt;
+
+/// The bytes that a line stands for, unless a backslash of it begins no escape.
+pub fn unescape(alloc: Global, line: &[u8]) -> Result<Option<Vec<u8>>, AllocError> {
+    let mut text = Vec::new(alloc);
+    let mut rest = line;
+    while let Some((byte, behind)) = next_byte(rest) {
+        text.push(byte)?;
+        rest = behind;
+    }
+    Ok(if rest.is_empty() { Some(text) } else { None })
+}
+
+/// The first byte that a line stands for, and the line behind it.
+///
+/// A backslash begins `\n`, `\t`, `\r`, `\\`, or `\x` with two hexadecimal digits.
+fn next_byte(line: &[u8]) -> Option<(u8, &[u8])>
+    ensures { IfSome result (λ next. length next.1.now < length line.now) }
+{
+    match line {
+        [b'\\', b'n', behind @ ..] => Some((b'\n', behind)),
+        [b'\\', b't', behind @ ..] => Some((b'\t', behind)),
+        [b'\\', b'r', behind @ ..] => Some((b'\r', behind)),
+        [b'\\', b'\\', behind @ ..] => Some((b'\\', behind)),
+        [b'\\', b'x', high, low, behind @ ..] => Some((hex_byte(*high, *low)?, behind)),
+        [b'\\', ..] | [] => None,
+        [byte, behind @ ..] => Some((*byte, behind)),
+    }
+}
+
+/// The byte of two hexadecimal digits.
+fn hex_byte(high: u8, low: u8) -> Option<u8> {
+    Some(hex_digit(high)? * 16 + hex_digit(low)?)
+}
+
+/// The value of a hexadecimal digit.
+fn hex_digit(digit: u8) -> Option<u8>
+    ensures { IfSome result (λ value. value < 16) }
+{
+    match digit {
+        b'0'..=b'9' => Some(digit - b'0'),
+        b'a'..=b'f' => Some(digit - b'a' + 10),
+        b'A'..=b'F' => Some(digit - b'A' + 10),
+        _ => None,
+    }
+}
+
+/// A text in one line: its ends of lines are written as `\n`, and its backslashes as `\\`.
+#[derive(Clone, Copy)]
+pub struct Escaped<'a>(pub &'a str);
+
+impl fmt::Display for Escaped<'_> {
+    fn fmt<W: fmt::Write>(&self, f: &mut fmt::Formatter<W>) -> fmt::Result {
+        for c in self.0.chars() {
+            match c {
+                '\n' => f.write_str("\\n")?,
+                '\\' => f.write_str("\\\\")?,
+                _ => f.write_char(c)?,
+            }
+        }
+        Ok(())
+    }
+}

@@ -1,7 +1,7 @@
 #!/usr/bin/env python3
 """Answers a table of calls of `fixed_point` by fractions and whole numbers alone.
 
-    python3 checks/exact_numbers.py < crates/number_table/stdin | diff - crates/number_table/stdout
+    python3 checks/exact_numbers.py < crates/exact_numbers/stdin | diff - crates/exact_numbers/stdout
 
 A number is written as its mantissa and its fraction, `M F`, and is M / 2^F. A scale is written as `s8.0` or `u8.4`: its
 sign, its width, and its fraction. A line is one call, and its answer is one line:

@@ -2,9 +2,9 @@
 use Rattle.std.proofs.Common.{◌≡◌, ℕ, true, ◌<◌, List, ◌++◌, length, Option, None, Some, Result, Ok, Err, refl, sym, ap, ◌∙◌, append-nil, rules}
 use Rattle.std.specs.Prelude.{nat_lt, IfOk}
 use Rattle.std.specs.Io.KnownBytes.{prepend_known, IsAtEnd}
-use Rattle.code_machine.specs.Engine.{Engine}
-use Rattle.code_text.specs.declared.fault.CodeTextFault.TheVariants as faults
-use Rattle.code_text.specs.Reading.{outcome}
+use Rattle.flat_machine.specs.Engine.{Engine}
+use Rattle.flat_code_text.specs.declared.fault.CodeTextFault.TheVariants as faults
+use Rattle.flat_code_text.specs.Reading.{outcome}
 use Rattle.chart_command.specs.declared.ending.Ending.{Ending}
 use Rattle.chart_command.specs.Runner.{IsCodeText}
 use Rattle.chart_command.specs.Answer.{IsTold, HasCode}

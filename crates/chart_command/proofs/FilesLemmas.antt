@@ -5,9 +5,9 @@ use Rattle.std.proofs.lemmas.Slice.Eq.{bytes_eq-Decides}
 use Rattle.std.specs.Option.{option_map}
 use Rattle.std.specs.Str.{bytes_eq}
 use Rattle.flow_base.specs.Causes.{Rose, AllStay, OthersKept}
-use Rattle.step_text.specs.declared.events.LineFault.{LineFault}
-use Rattle.step_text.specs.declared.events.LineFault.TheVariants as line_faults
-use Rattle.step_text.specs.Events.{refused_line}
+use Rattle.flat_lines.specs.declared.events.LineFault.{LineFault}
+use Rattle.flat_lines.specs.declared.events.LineFault.TheVariants as line_faults
+use Rattle.flat_lines.specs.Events.{refused_line}
 use Rattle.chart_command.specs.declared.ending.Ending.{Ending}
 use Rattle.chart_command.specs.declared.ending.Ending.TheVariants as endings
 use Rattle.chart_command.specs.Flat.{file_refusal, is_long}

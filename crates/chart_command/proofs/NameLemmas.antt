@@ -3,9 +3,9 @@ use Rattle.std.proofs.Common.{◌≡◌, ℕ, zero, suc, ◌<◌, List, [], ◌�
 use Rattle.std.proofs.lemmas.List.{length-map}
 use Rattle.flow_base.specs.Lists.{items_of}
 use Rattle.flow_base.specs.Names.{name_at}
-use Rattle.chart_syntax.specs.declared.tree.FlatState.{FlatState}
-use Rattle.chart_syntax.specs.declared.tree.FlatChart.{FlatChart}
-use Rattle.chart_syntax.specs.FlatChart.{State, Chart, state_of, chart_of, state_names}
+use Rattle.flat_syntax.specs.declared.tree.FlatState.{FlatState}
+use Rattle.flat_syntax.specs.declared.tree.FlatChart.{FlatChart}
+use Rattle.flat_syntax.specs.FlatChart.{State, Chart, state_of, chart_of, state_names}
 
 named_at : (states : List FlatState) (n : ℕ) (d : FlatState) → n < length states → name_at (map (λ (s : State). s.name) (map state_of states)) n ≡ (get_or states n d).name
 named_at [] n d h = absurd (omega arith)

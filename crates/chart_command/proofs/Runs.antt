@@ -2,16 +2,16 @@
 use Rattle.std.proofs.Common.{◌≡◌, ℕ, true, List, [], ◌∷◌, map, Some, refl, sym, ap, subst}
 use Rattle.flow_base.specs.Names.{name_at}
 use Rattle.flow_base.specs.declared.event.FlatEvent.{FlatEvent}
-use Rattle.chart_syntax.specs.FlatChart.{Chart, IsValid, state_names}
-use Rattle.sos_rules.specs.Flat.{flat_start, flat_react, flat_run_from}
-use Rattle.sos_interpreter.specs.FlatWorld.{FlatWorld}
-use Rattle.code_form.specs.Program.{Program}
-use Rattle.code_form.specs.WellFormed.{IsCode}
-use Rattle.code_form.specs.Machine.{Starts}
-use Rattle.code_machine.specs.Engine.{Engine}
-use Rattle.step_text.specs.Lines.{lines_of}
-use Rattle.step_text.specs.Events.{events_of}
-use Rattle.step_text.specs.Trace.{trace}
+use Rattle.flat_syntax.specs.FlatChart.{Chart, IsValid, state_names}
+use Rattle.flat_rules.specs.Flat.{flat_start, flat_react, flat_run_from}
+use Rattle.flat_interpreter.specs.FlatWorld.{FlatWorld}
+use Rattle.flat_code.specs.Program.{Program}
+use Rattle.flat_code.specs.WellFormed.{IsCode}
+use Rattle.flat_code.specs.Machine.{Starts}
+use Rattle.flat_machine.specs.Engine.{Engine}
+use Rattle.flat_lines.specs.Lines.{lines_of}
+use Rattle.flat_lines.specs.Events.{events_of}
+use Rattle.flat_lines.specs.Trace.{trace}
 use Rattle.chart_command.specs.declared.ending.Ending.{Ending}
 use Rattle.chart_command.specs.FlatEngine.{IsRunning, flat_after, flat_shown}
 use Rattle.chart_command.specs.CodeEngine.{IsRunningCode, code_after, code_shown}

@@ -1,11 +1,11 @@
 -- A run over the lines of a text, between two lines.
 use Rattle.std.proofs.Common.{◌≡◌, ℕ, ◌+◌, ◌≤◌, ◌<◌, List, [], ◌∷◌, ◌++◌, map, Option, Some, Result, Ok, Err, length, refl, sym, ap, subst, ◌∙◌, arith, codes}
 use Rattle.flow_base.specs.declared.event.FlatEvent.{FlatEvent}
-use Rattle.step_text.specs.declared.events.LineFault.{LineFault}
-use Rattle.step_text.specs.Lines.{lines_of}
-use Rattle.step_text.specs.Trace.{trace_line, trace_from, event_word}
+use Rattle.flat_lines.specs.declared.events.LineFault.{LineFault}
+use Rattle.flat_lines.specs.Lines.{lines_of}
+use Rattle.flat_lines.specs.Trace.{trace_line, trace_from, event_word}
 use Rattle.std.specs.Prelude.{IfOk}
-use Rattle.step_text.specs.Events.{IsEventIn, event_of_line, event_then, events_of, refused_or, refused_from, refused_line}
+use Rattle.flat_lines.specs.Events.{IsEventIn, event_of_line, event_then, events_of, refused_or, refused_from, refused_line}
 use Rattle.chart_command.specs.declared.ending.Ending.{Ending}
 use Rattle.chart_command.specs.declared.ending.Ending.TheVariants as endings
 use Rattle.chart_command.specs.Steps.{Written, WroteAll, RunEnds, LineEnds, StepEnds, shown_after, trace_by}

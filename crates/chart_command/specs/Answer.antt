@@ -9,14 +9,14 @@ use Rattle.flow_base.specs.declared.status.Status.{Status}
 use Rattle.token_grammar.specs.declared.token.Span.{Span}
 use Rattle.chart_tree.specs.declared.fault.FormKind.{FormKind}
 use Rattle.chart_tree.specs.declared.fault.FormFault.TheVariants as form_faults
-use Rattle.chart_syntax.specs.FlatChart.{Chart}
-use Rattle.chart_syntax.specs.FlatText.{IsFlat, IsRefusal}
+use Rattle.flat_syntax.specs.FlatChart.{Chart}
+use Rattle.flat_syntax.specs.FlatText.{IsFlat, IsRefusal}
 use Rattle.chart_reader.specs.Text as texts
 use Rattle.chart_format.specs.Text.{IsFormatted}
-use Rattle.code_form.specs.Program.{Program}
-use Rattle.code_text.specs.declared.fault.CodeTextFault.{CodeTextFault}
-use Rattle.code_text.specs.Reading.{outcome}
-use Rattle.step_text.specs.declared.events.LineFault.{LineFault}
+use Rattle.flat_code.specs.Program.{Program}
+use Rattle.flat_code_text.specs.declared.fault.CodeTextFault.{CodeTextFault}
+use Rattle.flat_code_text.specs.Reading.{outcome}
+use Rattle.flat_lines.specs.declared.events.LineFault.{LineFault}
 use Rattle.chart_command.specs.declared.ending.Ending.{Ending}
 use Rattle.chart_command.specs.declared.ending.Ending.TheVariants as endings
 use Rattle.chart_command.specs.Ending.{status_of, line_of}

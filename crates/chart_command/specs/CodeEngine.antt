@@ -1,11 +1,11 @@
 -- The run of code as an engine.
 use Rattle.std.specs.Prelude.{◌≡◌, ℕ, suc, ◌+◌, Bool, true, List, length}
 use Rattle.flow_base.specs.declared.event.FlatEvent.{FlatEvent}
-use Rattle.code_form.specs.Program.{Program}
-use Rattle.code_form.specs.World.{World, is_on}
-use Rattle.code_form.specs.WellFormed.{IsCode}
-use Rattle.code_form.specs.Machine.{Standing, Over, Unfinished, run, called, instructions, number_of}
-use Rattle.code_machine.specs.Engine.{Engine}
+use Rattle.flat_code.specs.Program.{Program}
+use Rattle.flat_code.specs.World.{World, is_on}
+use Rattle.flat_code.specs.WellFormed.{IsCode}
+use Rattle.flat_code.specs.Machine.{Standing, Over, Unfinished, run, called, instructions, number_of}
+use Rattle.flat_machine.specs.Engine.{Engine}
 use Rattle.chart_command.specs.CodeTrace.{active_names}
 
 -- the world in which a run ended, or else another

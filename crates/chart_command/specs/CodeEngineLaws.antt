@@ -6,14 +6,14 @@ use Rattle.std.proofs.lemmas.Bool.{and_parts, cases_Bool, ltb-false}
 use Rattle.flow_base.specs.Names.{are_distinct}
 use Rattle.flow_base.specs.declared.event.FlatEvent.{FlatEvent}
 use Rattle.chart_lexer.specs.Words.{is_name}
-use Rattle.code_form.specs.declared.fault.CodeKind.TheVariants as kinds
-use Rattle.code_form.specs.Program.{Program}
-use Rattle.code_form.specs.World.{World, is_on}
-use Rattle.code_form.specs.WellFormed.{IsCode, is_table, too_many, starts_known, first_of, unless, procs_fault}
-use Rattle.code_form.proofs.WellFormedLemmas.{neither, passed}
-use Rattle.code_machine.specs.Engine.{Engine}
-use Rattle.step_text.specs.Events.{IsEventIn}
-use Rattle.step_text.specs.Trace.{event_word, trace}
+use Rattle.flat_code.specs.declared.fault.CodeKind.TheVariants as kinds
+use Rattle.flat_code.specs.Program.{Program}
+use Rattle.flat_code.specs.World.{World, is_on}
+use Rattle.flat_code.specs.WellFormed.{IsCode, is_table, too_many, starts_known, first_of, unless, procs_fault}
+use Rattle.flat_code.proofs.WellFormedLemmas.{neither, passed}
+use Rattle.flat_machine.specs.Engine.{Engine}
+use Rattle.flat_lines.specs.Events.{IsEventIn}
+use Rattle.flat_lines.specs.Trace.{event_word, trace}
 use Rattle.chart_command.specs.CodeTrace.{active_from, active_names, code_trace}
 use Rattle.chart_command.specs.CodeEngine.{IsRunningCode, IsSingle, code_after, code_shown}
 use Rattle.chart_command.specs.CodeRuns.{react_single, worlds_from}

@@ -4,16 +4,16 @@ use Rattle.std.specs.Prelude.{slice_get, slice_index_or, slice_set, replicate}
 use Rattle.std.specs.List.{list_any}
 use Rattle.std.proofs.lemmas.Bool.{cases_Bool, cases_eq, ltb-true}
 use Rattle.flow_base.specs.declared.event.FlatEvent.{FlatEvent}
-use Rattle.code_form.specs.declared.instr.Instr.{Instr}
-use Rattle.code_form.specs.declared.instr.Instr.TheVariants as instrs
-use Rattle.code_form.specs.declared.frame.Frame.{Frame}
-use Rattle.code_form.specs.Program.{Program}
-use Rattle.code_form.specs.World.{World, is_on, is_bare, is_open, mark, clear, none_active}
-use Rattle.code_form.specs.WellFormed.{IsCode}
-use Rattle.code_form.specs.Sound.{IsSoundAt}
-use Rattle.code_form.specs.Machine.{State, Next, Goes, Stops, Standing, Over, run, step, act, act_on, and_then, fetch, instructions, holds, called, number_of, Starts, Reacts, RunsFrom, CodeRuns}
-use Rattle.code_form.proofs.WellFormedLemmas.{sound, react_known, first_place}
-use Rattle.code_form.proofs.RunLemmas.{one_ending}
+use Rattle.flat_code.specs.declared.instr.Instr.{Instr}
+use Rattle.flat_code.specs.declared.instr.Instr.TheVariants as instrs
+use Rattle.flat_code.specs.declared.frame.Frame.{Frame}
+use Rattle.flat_code.specs.Program.{Program}
+use Rattle.flat_code.specs.World.{World, is_on, is_bare, is_open, mark, clear, none_active}
+use Rattle.flat_code.specs.WellFormed.{IsCode}
+use Rattle.flat_code.specs.Sound.{IsSoundAt}
+use Rattle.flat_code.specs.Machine.{State, Next, Goes, Stops, Standing, Over, run, step, act, act_on, and_then, fetch, instructions, holds, called, number_of, Starts, Reacts, RunsFrom, CodeRuns}
+use Rattle.flat_code.proofs.WellFormedLemmas.{sound, react_known, first_place}
+use Rattle.flat_code.proofs.RunLemmas.{one_ending}
 use Rattle.chart_command.specs.CodeEngine.{react_world, ended_or, IsSingle}
 
 -- the run is over

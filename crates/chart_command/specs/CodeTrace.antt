@@ -1,9 +1,9 @@
 -- What the machine writes for code and an event file.
 use Rattle.std.specs.Prelude.{ℕ, ◌+◌, List, [], ◌∷◌, Bool, map, drop, if◌then◌else◌}
 use Rattle.flow_base.specs.declared.event.FlatEvent.{FlatEvent}
-use Rattle.code_form.specs.Program.{Program}
-use Rattle.code_form.specs.World.{World, is_on}
-use Rattle.step_text.specs.Trace.{trace}
+use Rattle.flat_code.specs.Program.{Program}
+use Rattle.flat_code.specs.World.{World, is_on}
+use Rattle.flat_lines.specs.Trace.{trace}
 
 -- the names of the active states, from state k on
 abbrev pub active_from : ℕ → List (List ℕ) → List Bool → List (List ℕ)

@@ -4,11 +4,11 @@ use Rattle.flow_base.specs.declared.status.Status.{Status}
 use Rattle.flow_base.specs.declared.status.Status.TheVariants as statuses
 use Rattle.token_grammar.specs.declared.token.Span.{Span}
 use Rattle.chart_tree.specs.Form.{form_number, form_name}
-use Rattle.code_form.specs.declared.fault.CodeKind.{CodeKind}
-use Rattle.code_form.specs.Form.{code_number, code_name}
-use Rattle.code_text.specs.declared.fault.CodeTextFault.{CodeTextFault}
-use Rattle.code_text.specs.declared.fault.CodeTextFault.TheVariants as code_faults
-use Rattle.step_text.specs.Events.{line_fault_number, line_fault_name}
+use Rattle.flat_code.specs.declared.fault.CodeKind.{CodeKind}
+use Rattle.flat_code.specs.Form.{code_number, code_name}
+use Rattle.flat_code_text.specs.declared.fault.CodeTextFault.{CodeTextFault}
+use Rattle.flat_code_text.specs.declared.fault.CodeTextFault.TheVariants as code_faults
+use Rattle.flat_lines.specs.Events.{line_fault_number, line_fault_name}
 use Rattle.chart_command.specs.declared.ending.Ending.{Ending}
 use Rattle.chart_command.specs.declared.ending.Ending.TheVariants as endings
 

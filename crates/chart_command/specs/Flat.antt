@@ -2,11 +2,11 @@
 use Rattle.std.specs.Prelude.{ℕ, Bool, nat_lt, List, [], ◌∷◌, map, length, Option, Some, if◌then◌else◌}
 use Rattle.flow_base.specs.Names.{name_at}
 use Rattle.flow_base.specs.declared.event.FlatEvent.{FlatEvent}
-use Rattle.chart_syntax.specs.FlatChart.{Chart, state_names}
-use Rattle.sos_rules.specs.Flat.{flat_run}
-use Rattle.step_text.specs.declared.events.LineFault.TheVariants as line_faults
-use Rattle.step_text.specs.Events.{RefusedLine, refused_line}
-use Rattle.step_text.specs.Trace.{trace}
+use Rattle.flat_syntax.specs.FlatChart.{Chart, state_names}
+use Rattle.flat_rules.specs.Flat.{flat_run}
+use Rattle.flat_lines.specs.declared.events.LineFault.TheVariants as line_faults
+use Rattle.flat_lines.specs.Events.{RefusedLine, refused_line}
+use Rattle.flat_lines.specs.Trace.{trace}
 
 -- the trace of a run: after each event the one active state
 abbrev pub flat_trace : Chart → List FlatEvent → List ℕ

@@ -3,9 +3,9 @@ use Rattle.std.specs.Prelude.{◌≡◌, ℕ, ◌<◌, List, [], ◌∷◌, Opti
 use Rattle.std.specs.Option.{option_map}
 use Rattle.flow_base.specs.Names.{name_at}
 use Rattle.flow_base.specs.declared.event.FlatEvent.{FlatEvent}
-use Rattle.chart_syntax.specs.FlatChart.{Chart, IsValid, state_names}
-use Rattle.sos_rules.specs.Flat.{flat_react}
-use Rattle.sos_interpreter.specs.FlatWorld.{FlatWorld}
+use Rattle.flat_syntax.specs.FlatChart.{Chart, IsValid, state_names}
+use Rattle.flat_rules.specs.Flat.{flat_react}
+use Rattle.flat_interpreter.specs.FlatWorld.{FlatWorld}
 
 -- the name of a state, as the trace shows it
 abbrev pub shown_state : Chart → Option ℕ → List (List ℕ)

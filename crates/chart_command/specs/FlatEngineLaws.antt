@@ -10,11 +10,11 @@ use Rattle.token_grammar.specs.declared.token.Kind.TheVariants as kinds
 use Rattle.token_grammar.specs.Token.{kind_eq}
 use Rattle.chart_lexer.specs.Bytes.{is_letter, begins}
 use Rattle.chart_lexer.specs.Words.{name_length, word_kind, is_name}
-use Rattle.sos_rules.specs.Flat.{flat_react}
-use Rattle.sos_rules.proofs.FlatLemmas.{flat_react-in_range}
-use Rattle.sos_interpreter.specs.FlatWorld.{FlatWorld}
-use Rattle.step_text.specs.Events.{IsEventIn}
-use Rattle.step_text.specs.Trace.{event_word}
+use Rattle.flat_rules.specs.Flat.{flat_react}
+use Rattle.flat_rules.proofs.FlatLemmas.{flat_react-in_range}
+use Rattle.flat_interpreter.specs.FlatWorld.{FlatWorld}
+use Rattle.flat_lines.specs.Events.{IsEventIn}
+use Rattle.flat_lines.specs.Trace.{event_word}
 use Rattle.chart_command.specs.FlatEngine.{IsRunning, flat_after}
 
 -- a name has at most 63 bytes

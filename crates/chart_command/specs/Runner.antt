@@ -1,15 +1,15 @@
 -- What runs over an event file, what it writes, and what `compile` writes.
 use Rattle.std.specs.Prelude.{◌≡◌, ℕ, Bool, true, false, List, []}
 use Rattle.flow_base.specs.declared.event.FlatEvent.{FlatEvent}
-use Rattle.chart_syntax.specs.FlatChart.{Chart}
-use Rattle.code_form.specs.Program.{Program}
-use Rattle.code_form.specs.World.{World}
-use Rattle.code_form.specs.WellFormed.{IsCode}
-use Rattle.code_form.specs.Machine.{CodeRuns}
-use Rattle.code_text.specs.Spelling.{code_text}
+use Rattle.flat_syntax.specs.FlatChart.{Chart}
+use Rattle.flat_code.specs.Program.{Program}
+use Rattle.flat_code.specs.World.{World}
+use Rattle.flat_code.specs.WellFormed.{IsCode}
+use Rattle.flat_code.specs.Machine.{CodeRuns}
+use Rattle.flat_code_text.specs.Spelling.{code_text}
 use Rattle.flat_compile.specs.Same.{Same}
-use Rattle.step_text.specs.Lines.{lines_of}
-use Rattle.step_text.specs.Events.{events_of}
+use Rattle.flat_lines.specs.Lines.{lines_of}
+use Rattle.flat_lines.specs.Events.{events_of}
 use Rattle.chart_command.specs.Flat.{flat_trace, is_long}
 use Rattle.chart_command.specs.CodeTrace.{code_trace}
 

@@ -4,12 +4,12 @@ use Rattle.std.specs.Io.KnownBytes.{append_known}
 use Rattle.flow_base.specs.Causes.{Rose, AllStay}
 use Rattle.flow_base.specs.Bytes.{AppendsProperFront}
 use Rattle.flow_base.specs.declared.event.FlatEvent.{FlatEvent}
-use Rattle.code_text.specs.Reading.{outcome}
-use Rattle.step_text.specs.Trace.{trace_line, event_word, trace}
-use Rattle.step_text.specs.declared.events.LineFault.{LineFault}
-use Rattle.step_text.specs.declared.events.LineFault.TheVariants as line_faults
-use Rattle.step_text.specs.Lines.{lines_of}
-use Rattle.step_text.specs.Events.{refused_line, events_of}
+use Rattle.flat_code_text.specs.Reading.{outcome}
+use Rattle.flat_lines.specs.Trace.{trace_line, event_word, trace}
+use Rattle.flat_lines.specs.declared.events.LineFault.{LineFault}
+use Rattle.flat_lines.specs.declared.events.LineFault.TheVariants as line_faults
+use Rattle.flat_lines.specs.Lines.{lines_of}
+use Rattle.flat_lines.specs.Events.{refused_line, events_of}
 use Rattle.chart_command.specs.Runner.{Runner, event_names, IsTrace}
 use Rattle.chart_command.specs.declared.ending.Ending.{Ending}
 use Rattle.chart_command.specs.declared.ending.Ending.TheVariants as endings

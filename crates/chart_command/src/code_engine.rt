@@ -4,7 +4,7 @@ ghost use Rattle.std.specs.Option.{option_to_list, option_copied};
 ghost use Rattle.chart_command.specs.CodeEngine.{IsRunningCode, code_shown};
 
 use crate::engine::Engine;
-use code_machine::Machine;
+use flat_machine::Machine;
 use flow_base::{FlatEvent, Text};
 
 impl Engine for Machine {

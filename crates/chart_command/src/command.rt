@@ -1,7 +1,7 @@
 //! The program.
 ghost use Rattle.std.specs.Prelude.{◌≡◌, ◌↔◌, None, IfOk, string_bytes};
-ghost use Rattle.chart_syntax.specs.FlatChart.{chart_of, IsValid};
-ghost use Rattle.code_form.specs.WellFormed.{IsCode};
+ghost use Rattle.flat_syntax.specs.FlatChart.{chart_of, IsValid};
+ghost use Rattle.flat_code.specs.WellFormed.{IsCode};
 ghost use Rattle.chart_command.specs.Words.{command_of};
 ghost use Rattle.chart_command.specs.Runner.{ByRules, OnMachine, IsCompiled};
 ghost use Rattle.chart_command.specs.Steps.{RunTraces, TextEnds};
@@ -22,12 +22,12 @@ use crate::files::{read_chart, read_events, read_formatted, read_machine};
 use crate::report::report;
 use crate::run::run;
 use crate::words::{Command, command_from};
-use chart_syntax::FlatChart;
-use code_machine::Machine;
-use code_text::print_code;
+use flat_code_text::print_code;
 use flat_compile::compile_flat;
+use flat_interpreter::FlatRules;
+use flat_machine::Machine;
+use flat_syntax::FlatChart;
 use flow_base::{Inputs, Memory, Sink, Status, write_all};
-use sos_interpreter::FlatRules;
 use std::alloc::Global;
 
 /// Does all that the program does: reads the files that the words name, writes the answer on

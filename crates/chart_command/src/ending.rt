@@ -2,10 +2,10 @@
 ghost use Rattle.std.specs.Prelude.{◌≡◌};
 ghost use Rattle.chart_command.specs.Ending.{status_of};
 
-use chart_syntax::{FormKind, Span};
-use code_text::CodeTextFault;
+use flat_code_text::CodeTextFault;
+use flat_lines::LineFault;
+use flat_syntax::{FormKind, Span};
 use flow_base::Status;
-use step_text::LineFault;
 
 /// How a call of the program ends.
 #[derive(Clone, Copy, Debug, PartialEq, Eq)]

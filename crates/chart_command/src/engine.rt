@@ -2,8 +2,8 @@
 ghost use Rattle.std.specs.Prelude.{◌≡◌, ◌<◌, ◌≤◌, ◌^◌, ℕ, List, IfSome, length};
 ghost use Rattle.std.specs.Option.{option_to_list, option_copied};
 ghost use Rattle.flow_base.specs.declared.event.FlatEvent.{FlatEvent};
-ghost use Rattle.step_text.specs.Events.{IsEventIn};
-ghost use Rattle.step_text.specs.Trace.{event_word};
+ghost use Rattle.flat_lines.specs.Events.{IsEventIn};
+ghost use Rattle.flat_lines.specs.Trace.{event_word};
 
 use flow_base::{FlatEvent, Text};
 

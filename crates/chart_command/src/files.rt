@@ -2,7 +2,7 @@
 ghost use Rattle.std.specs.Prelude.{◌≡◌, ◌≤◌, [], List, IfOk, IfErr, OnOk, OnErr, length, false, string_bytes};
 ghost use Rattle.std.specs.Option.{option_map};
 ghost use Rattle.flow_base.specs.Causes.{OthersKept, NoneFalls, AllStay};
-ghost use Rattle.chart_syntax.specs.FlatChart.{chart_of, IsValid};
+ghost use Rattle.flat_syntax.specs.FlatChart.{chart_of, IsValid};
 ghost use Rattle.chart_command.specs.Flat.{is_long};
 ghost use Rattle.chart_command.specs.Runner.{IsCodeText};
 ghost use Rattle.chart_command.specs.Answer.{IsTold, HasChart, HasFormatted, HasCode};
@@ -10,12 +10,12 @@ ghost use Rattle.chart_command.specs.Steps.{ChartFails, ChartTextFails, CodeFail
 
 use crate::ending::Ending;
 use chart_format::format_text;
-use chart_syntax::{FlatChart, FormFault, FormKind, Span, read_flat};
-use code_machine::Machine;
-use code_text::{CodeTextFault, read_code};
+use flat_code_text::{CodeTextFault, read_code};
+use flat_lines::LineFault;
+use flat_machine::Machine;
+use flat_syntax::{FlatChart, FormFault, FormKind, Span, read_flat};
 use flow_base::{Inputs, ReadEnd, read_whole};
 use std::alloc::Global;
-use step_text::LineFault;
 
 /// The greatest length of a chart text.
 const LONGEST_CHART: usize = 1_048_576;

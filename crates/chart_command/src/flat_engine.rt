@@ -1,7 +1,7 @@
 //! The run of a flat chart by the rules, as an engine.
 use crate::engine::Engine;
+use flat_interpreter::FlatRules;
 use flow_base::{FlatEvent, Text};
-use sos_interpreter::FlatRules;
 
 impl Engine for FlatRules {
     ghost use Rattle.chart_command.specs.FlatEngine.{IsRunning, flat_shown, flat_after};

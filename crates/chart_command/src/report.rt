@@ -5,9 +5,9 @@ ghost use Rattle.flow_base.specs.Causes.{HasCause};
 ghost use Rattle.chart_command.specs.Ending.{place_text, cause_text, line_text, kind_text, at_text, code_cause, line_of};
 
 use crate::ending::Ending;
-use chart_syntax::Span;
-use code_form::CodeKind;
-use code_text::CodeTextFault;
+use flat_code::CodeKind;
+use flat_code_text::CodeTextFault;
+use flat_syntax::Span;
 use flow_base::{Failed, Sink, write_all};
 use itoa::Buffer;
 

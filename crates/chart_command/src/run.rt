@@ -1,14 +1,14 @@
 //! A run over the lines of an event file.
 ghost use Rattle.std.specs.Prelude.{◌≤◌, IfOk, length};
-ghost use Rattle.step_text.specs.Events.{event_of_line, events_of, IsEventIn};
-ghost use Rattle.step_text.specs.Lines.{lines_of};
-ghost use Rattle.step_text.specs.Trace.{trace_line, event_word};
+ghost use Rattle.flat_lines.specs.Events.{event_of_line, events_of, IsEventIn};
+ghost use Rattle.flat_lines.specs.Lines.{lines_of};
+ghost use Rattle.flat_lines.specs.Trace.{trace_line, event_word};
 ghost use Rattle.chart_command.specs.Steps.{Written, LineEnds, StepEnds, RunEnds, trace_by};
 
 use crate::ending::Ending;
 use crate::engine::Engine;
+use flat_lines::{event_of_line, event_word, split_line, trace_line};
 use flow_base::{FlatEvent, Sink, write_all};
-use step_text::{event_of_line, event_word, split_line, trace_line};
 
 /// Runs over the lines of a text, and writes a line of the trace for the start and for each event.
 pub fn run<G: Engine, O: Sink>(engine: &mut G, text: &[u8], out: &mut O) -> Ending

@@ -1,12 +1,12 @@
 -- Code that is written piece by piece.
 use Rattle.std.proofs.Common.{◌≡◌, ℕ, ◌+◌, ◌*◌, List, [], ◌∷◌, ◌++◌, map, drop, length, get_or, refl, sym, ap, ◌∙◌, append_assoc, ◌<◌, add-one}
 use Rattle.std.proofs.Math.Seq.{drop-cons}
-use Rattle.chart_syntax.specs.declared.tree.FlatTrans.{FlatTrans}
-use Rattle.chart_syntax.specs.declared.tree.FlatState.{FlatState}
-use Rattle.chart_syntax.specs.FlatChart.{state_of}
-use Rattle.code_form.specs.declared.instr.Cond.TheVariants as conds
-use Rattle.code_form.specs.declared.instr.Instr.{Instr}
-use Rattle.code_form.specs.declared.instr.Instr.TheVariants as instrs
+use Rattle.flat_syntax.specs.declared.tree.FlatTrans.{FlatTrans}
+use Rattle.flat_syntax.specs.declared.tree.FlatState.{FlatState}
+use Rattle.flat_syntax.specs.FlatChart.{state_of}
+use Rattle.flat_code.specs.declared.instr.Cond.TheVariants as conds
+use Rattle.flat_code.specs.declared.instr.Instr.{Instr}
+use Rattle.flat_code.specs.declared.instr.Instr.TheVariants as instrs
 use Rattle.flat_compile.specs.Emitted.{trans_code, transes_code, state_code, states_code}
 
 -- the code of transitions with nothing behind them, and then the rest

@@ -3,10 +3,10 @@ use Rattle.std.proofs.Common.{ℕ, ◌+◌, ◌^◌, ◌<◌, ◌≤◌, List, [
 use Rattle.std.specs.List.{AllByRecursion}
 use Rattle.std.proofs.lemmas.List.Elements.{All-from_recursion}
 use Rattle.std.proofs.lemmas.List.{length-map}
-use Rattle.chart_syntax.specs.declared.tree.FlatTrans.{FlatTrans}
-use Rattle.chart_syntax.specs.declared.tree.FlatState.{FlatState}
-use Rattle.chart_syntax.specs.FlatChart.{State, TransInRange, IsValid, state_of, chart_of}
-use Rattle.chart_syntax.specs.declared.tree.FlatChart.{FlatChart}
+use Rattle.flat_syntax.specs.declared.tree.FlatTrans.{FlatTrans}
+use Rattle.flat_syntax.specs.declared.tree.FlatState.{FlatState}
+use Rattle.flat_syntax.specs.FlatChart.{State, TransInRange, IsValid, state_of, chart_of}
+use Rattle.flat_syntax.specs.declared.tree.FlatChart.{FlatChart}
 use Rattle.flow_base.specs.Lists.{items_of}
 use Rattle.flat_compile.specs.Emitted.{FitsIn}
 

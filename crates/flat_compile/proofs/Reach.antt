@@ -2,10 +2,10 @@
 use Rattle.std.proofs.Common.{◌≡◌, ℕ, zero, suc, ◌+◌, List, [], ◌∷◌, drop, Some, refl, sym, ap, ◌∙◌}
 use Rattle.std.proofs.lemmas.List.{drop-drop}
 use Rattle.std.specs.Prelude.{slice_get}
-use Rattle.code_form.specs.declared.instr.Instr.{Instr}
-use Rattle.code_form.specs.Program.{Program}
-use Rattle.code_form.specs.World.{World}
-use Rattle.code_form.specs.Machine.{State, Next, Goes, run, step, and_then, Gives}
+use Rattle.flat_code.specs.declared.instr.Instr.{Instr}
+use Rattle.flat_code.specs.Program.{Program}
+use Rattle.flat_code.specs.World.{World}
+use Rattle.flat_code.specs.Machine.{State, Next, Goes, run, step, and_then, Gives}
 
 -- every run from the second is the end of one from the first
 pub record Reaches (P : Program) (m m' : State) : Type 0 where

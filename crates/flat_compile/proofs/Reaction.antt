@@ -4,14 +4,14 @@ use Rattle.std.specs.Prelude.{unwrap_or, nat_eq}
 use Rattle.std.specs.List.{AllByRecursion}
 use Rattle.std.proofs.lemmas.Bool.{cases_Bool}
 use Rattle.std.proofs.lemmas.Bool.Decides.{nat_tests}
-use Rattle.chart_syntax.specs.declared.tree.FlatTrans.{FlatTrans}
-use Rattle.chart_syntax.specs.FlatChart.{State, TransInRange}
-use Rattle.sos_rules.specs.Flat.{outer_of, destination}
-use Rattle.code_form.specs.declared.instr.Cond.TheVariants as conds
-use Rattle.code_form.specs.declared.instr.Instr.{Instr}
-use Rattle.code_form.specs.Program.{Program}
-use Rattle.code_form.specs.World.{World, is_on}
-use Rattle.code_form.specs.Machine.{is_current, Gives}
+use Rattle.flat_syntax.specs.declared.tree.FlatTrans.{FlatTrans}
+use Rattle.flat_syntax.specs.FlatChart.{State, TransInRange}
+use Rattle.flat_rules.specs.Flat.{outer_of, destination}
+use Rattle.flat_code.specs.declared.instr.Cond.TheVariants as conds
+use Rattle.flat_code.specs.declared.instr.Instr.{Instr}
+use Rattle.flat_code.specs.Program.{Program}
+use Rattle.flat_code.specs.World.{World, is_on}
+use Rattle.flat_code.specs.Machine.{is_current, Gives}
 use Rattle.flat_compile.specs.Emitted.{trans_code, transes_code, states_code}
 use Rattle.flat_compile.specs.Same.{only}
 use Rattle.flat_compile.proofs.Reach.{Reaches, stays, goes, gives, behind, past_is}

@@ -1,14 +1,14 @@
 -- Procedures of one frame, instruction by instruction.
 use Rattle.std.proofs.Common.{◌≡◌, ℕ, zero, suc, ◌+◌, Bool, true, false, List, [], ◌∷◌, drop, Option, Some, refl, ap, subst, ◌∙◌}
 use Rattle.std.specs.Prelude.{slice_get, if◌then◌else◌}
-use Rattle.code_form.specs.declared.instr.Cond.{Cond}
-use Rattle.code_form.specs.declared.instr.Cond.TheVariants as conds
-use Rattle.code_form.specs.declared.instr.Instr.{Instr}
-use Rattle.code_form.specs.declared.instr.Instr.TheVariants as instrs
-use Rattle.code_form.specs.declared.frame.Frame.{Frame}
-use Rattle.code_form.specs.Program.{Program}
-use Rattle.code_form.specs.World.{World, is_on, mark, clear}
-use Rattle.code_form.specs.Machine.{State, Next, Goes, run, step, act, and_then, fetch, holds, is_current, next, past, Gives}
+use Rattle.flat_code.specs.declared.instr.Cond.{Cond}
+use Rattle.flat_code.specs.declared.instr.Cond.TheVariants as conds
+use Rattle.flat_code.specs.declared.instr.Instr.{Instr}
+use Rattle.flat_code.specs.declared.instr.Instr.TheVariants as instrs
+use Rattle.flat_code.specs.declared.frame.Frame.{Frame}
+use Rattle.flat_code.specs.Program.{Program}
+use Rattle.flat_code.specs.World.{World, is_on, mark, clear}
+use Rattle.flat_code.specs.Machine.{State, Next, Goes, run, step, act, and_then, fetch, holds, is_current, next, past, Gives}
 use Rattle.flat_compile.proofs.Reach.{Reaches, one_step, at_place}
 
 -- the frame at a place of procedure p

@@ -4,13 +4,13 @@ use Rattle.std.specs.Prelude.{nat_lt}
 use Rattle.std.specs.List.{AllByRecursion}
 use Rattle.std.proofs.lemmas.List.{length-map}
 use Rattle.std.proofs.lemmas.Bool.Decides.{nat_tests}
-use Rattle.chart_syntax.specs.declared.tree.FlatTrans.{FlatTrans}
-use Rattle.chart_syntax.specs.FlatChart.{State, Chart, TransInRange, IsValid, state_names}
-use Rattle.code_form.specs.declared.instr.Cond.TheVariants as conds
-use Rattle.code_form.specs.declared.instr.Instr.{Instr}
-use Rattle.code_form.specs.declared.instr.Instr.TheVariants as instrs
-use Rattle.code_form.specs.declared.fault.CodeKind.{CodeKind}
-use Rattle.code_form.specs.WellFormed.{unless, too_many, is_table, instrs_fault, proc_fault, last_returns, IsCode}
+use Rattle.flat_syntax.specs.declared.tree.FlatTrans.{FlatTrans}
+use Rattle.flat_syntax.specs.FlatChart.{State, Chart, TransInRange, IsValid, state_names}
+use Rattle.flat_code.specs.declared.instr.Cond.TheVariants as conds
+use Rattle.flat_code.specs.declared.instr.Instr.{Instr}
+use Rattle.flat_code.specs.declared.instr.Instr.TheVariants as instrs
+use Rattle.flat_code.specs.declared.fault.CodeKind.{CodeKind}
+use Rattle.flat_code.specs.WellFormed.{unless, too_many, is_table, instrs_fault, proc_fault, last_returns, IsCode}
 use Rattle.flat_compile.specs.Emitted.{compiled, start_code, transes_code, states_code}
 
 below : (a b : ℕ) → a < b → nat_lt a b ≡ true

@@ -5,11 +5,11 @@ use Rattle.std.specs.List.{AllByRecursion}
 use Rattle.std.proofs.lemmas.List.{length-map}
 use Rattle.flow_base.specs.declared.event.FlatEvent.{FlatEvent}
 use Rattle.flow_base.specs.declared.event.FlatEvent.TheVariants as events
-use Rattle.chart_syntax.specs.FlatChart.{State, Chart, InRange}
-use Rattle.sos_rules.specs.Flat.{IsEventOf, outer_of, flat_start, flat_react, flat_run_from}
-use Rattle.sos_rules.proofs.FlatLemmas.{flat_react-in_range}
-use Rattle.code_form.specs.World.{World, none_active}
-use Rattle.code_form.specs.Machine.{instructions, fetch, number_of, Gives, Starts, Reacts, RunsFrom}
+use Rattle.flat_syntax.specs.FlatChart.{State, Chart, InRange}
+use Rattle.flat_rules.specs.Flat.{IsEventOf, outer_of, flat_start, flat_react, flat_run_from}
+use Rattle.flat_rules.proofs.FlatLemmas.{flat_react-in_range}
+use Rattle.flat_code.specs.World.{World, none_active}
+use Rattle.flat_code.specs.Machine.{instructions, fetch, number_of, Gives, Starts, Reacts, RunsFrom}
 use Rattle.flat_compile.specs.Emitted.{compiled, start_code, states_code}
 use Rattle.flat_compile.specs.Same.{world_of, Same}
 use Rattle.flat_compile.proofs.Reach.{Reaches, goes, gives}

@@ -2,7 +2,7 @@
 use Rattle.std.proofs.Common.{◌≡◌, ◌≢◌, ℕ, zero, suc, ◌+◌, ◌<◌, Bool, true, false, List, ◌∷◌, replicate, refl, ap, add-one, arith}
 use Rattle.std.specs.Prelude.{slice_index_or, slice_set}
 use Rattle.std.specs.List.{list_any}
-use Rattle.code_form.specs.World.{is_on, is_bare, mark, clear}
+use Rattle.flat_code.specs.World.{is_on, is_bare, mark, clear}
 use Rattle.flat_compile.specs.Same.{only}
 
 no_leaf : (n : ℕ) → list_any (λ (on : Bool). on) (replicate n false) ≡ false

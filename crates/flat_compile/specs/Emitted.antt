@@ -1,11 +1,11 @@
 -- The code of a flat chart.
 use Rattle.std.specs.Prelude.{ℕ, ◌+◌, ◌*◌, ◌^◌, ◌<◌, List, [], ◌∷◌, All, length}
-use Rattle.chart_syntax.specs.declared.tree.FlatTrans.{FlatTrans}
-use Rattle.chart_syntax.specs.FlatChart.{State, Chart, state_names}
-use Rattle.code_form.specs.declared.instr.Cond.TheVariants as conds
-use Rattle.code_form.specs.declared.instr.Instr.{Instr}
-use Rattle.code_form.specs.declared.instr.Instr.TheVariants as instrs
-use Rattle.code_form.specs.Program.{Program}
+use Rattle.flat_syntax.specs.declared.tree.FlatTrans.{FlatTrans}
+use Rattle.flat_syntax.specs.FlatChart.{State, Chart, state_names}
+use Rattle.flat_code.specs.declared.instr.Cond.TheVariants as conds
+use Rattle.flat_code.specs.declared.instr.Instr.{Instr}
+use Rattle.flat_code.specs.declared.instr.Instr.TheVariants as instrs
+use Rattle.flat_code.specs.Program.{Program}
 
 -- the start: the root, and then the default state; state s of the chart is state s + 1 of the code
 abbrev pub start_code_to : ℕ → List Instr

@@ -2,11 +2,11 @@
 use Rattle.std.specs.Prelude.{◌≡◌, ℕ, zero, suc, Bool, true, false, List, [], ◌∷◌, length, map, replicate}
 use Rattle.std.specs.List.{AllByRecursion}
 use Rattle.flow_base.specs.declared.event.FlatEvent.{FlatEvent}
-use Rattle.chart_syntax.specs.FlatChart.{Chart, state_names}
-use Rattle.sos_rules.specs.Flat.{IsEventOf, flat_run}
-use Rattle.code_form.specs.Program.{Program}
-use Rattle.code_form.specs.World.{World}
-use Rattle.code_form.specs.Machine.{CodeRuns}
+use Rattle.flat_syntax.specs.FlatChart.{Chart, state_names}
+use Rattle.flat_rules.specs.Flat.{IsEventOf, flat_run}
+use Rattle.flat_code.specs.Program.{Program}
+use Rattle.flat_code.specs.World.{World}
+use Rattle.flat_code.specs.Machine.{CodeRuns}
 
 -- of so many states the one of that number is active
 abbrev pub only : ℕ → ℕ → List Bool

@@ -1,14 +1,14 @@
 //! Compiles a flat chart.
 ghost use Rattle.std.specs.Prelude.{◌≡◌, ◌+◌, ◌^◌, ◌<◌, ◌∷◌, IfOk, map};
-ghost use Rattle.chart_syntax.specs.FlatChart.{State, chart_of, state_of, IsValid};
-ghost use Rattle.code_form.specs.Program.{program_of};
+ghost use Rattle.flat_syntax.specs.FlatChart.{State, chart_of, state_of, IsValid};
+ghost use Rattle.flat_code.specs.Program.{program_of};
 ghost use Rattle.flow_base.specs.Lists.{items_of};
 ghost use Rattle.flat_compile.specs.Emitted.{compiled, start_code_to};
 ghost use Rattle.flat_compile.specs.Same.{Same};
 
 use crate::emit::react_code;
-use chart_syntax::{FlatChart, FlatState};
-use code_form::{Code, CodeEnd, Instr, RawCode, accept};
+use flat_code::{Code, CodeEnd, Instr, RawCode, accept};
+use flat_syntax::{FlatChart, FlatState};
 use flow_base::{List, Memory, Text};
 use std::alloc::{AllocError, Global};
 

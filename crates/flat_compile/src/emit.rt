@@ -1,13 +1,13 @@
 //! Writes the instructions of a flat chart.
 ghost use Rattle.std.specs.Prelude.{◌≡◌, ◌+◌, ◌*◌, ◌^◌, ◌<◌, ◌≤◌, ◌++◌, ◌∷◌, [], List, All, OnOk, IfOk, length, map};
 ghost use Rattle.flow_base.specs.Lists.{items_of};
-ghost use Rattle.chart_syntax.specs.declared.tree.FlatTrans.{FlatTrans};
-ghost use Rattle.chart_syntax.specs.declared.tree.FlatState.{FlatState};
-ghost use Rattle.chart_syntax.specs.FlatChart.{state_of};
+ghost use Rattle.flat_syntax.specs.declared.tree.FlatTrans.{FlatTrans};
+ghost use Rattle.flat_syntax.specs.declared.tree.FlatState.{FlatState};
+ghost use Rattle.flat_syntax.specs.FlatChart.{state_of};
 ghost use Rattle.flat_compile.specs.Emitted.{trans_code, transes_code, state_code, states_code, FitsIn};
 
-use chart_syntax::{FlatState, FlatTrans};
-use code_form::{Cond, Instr};
+use flat_code::{Cond, Instr};
+use flat_syntax::{FlatState, FlatTrans};
 use std::alloc::{AllocError, Global};
 
 /// Appends the instructions of a transition of the state.

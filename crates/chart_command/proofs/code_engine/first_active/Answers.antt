@@ -1,5 +1,5 @@
 use Rattle.std.proofs.Common.{◌≡◌, ◌≤◌, ◌<◌, ℕ, true, false, List, [], ◌∷◌, get_or, length, sym, ap, subst, ◌∙◌, arith, rules}
-use Rattle.code_form.specs.World.{is_on}
+use Rattle.flat_code.specs.World.{is_on}
 use Rattle.chart_command.specs.CodeEngineLaws.{shown_active, shown_next, each_short, table}
 use Rattle.chart_command.proofs.code_engine.first_active.Goals as goal
 

@@ -1,5 +1,5 @@
 use Rattle.std.proofs.Common.{ℕ, List, refl, subst, Option}
-use Rattle.chart_syntax.specs.FlatChart.{chart_of}
+use Rattle.flat_syntax.specs.FlatChart.{chart_of}
 use Rattle.chart_command.specs.Runner.{ByRules}
 use Rattle.chart_command.specs.Answer.{Call, ByChart, IsTold}
 use Rattle.chart_command.specs.Steps.{Written, RunTraces}

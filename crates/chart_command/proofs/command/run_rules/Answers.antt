@@ -1,7 +1,7 @@
 use Rattle.std.proofs.Common.{ap, ◌∙◌, Some}
-use Rattle.chart_syntax.specs.FlatChart.{chart_of}
-use Rattle.sos_rules.specs.Flat.{flat_start}
-use Rattle.sos_interpreter.specs.FlatWorld.{FlatWorld}
+use Rattle.flat_syntax.specs.FlatChart.{chart_of}
+use Rattle.flat_rules.specs.Flat.{flat_start}
+use Rattle.flat_interpreter.specs.FlatWorld.{FlatWorld}
 use Rattle.chart_command.proofs.Runs.{started_rules, ran_rules}
 use Rattle.chart_command.proofs.command.run_rules.Goals as goal
 

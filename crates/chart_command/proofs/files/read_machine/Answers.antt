@@ -1,5 +1,5 @@
 use Rattle.std.proofs.Common.{ℕ, List, ap, subst, Err, IfOk}
-use Rattle.code_machine.specs.Engine.{Engine}
+use Rattle.flat_machine.specs.Engine.{Engine}
 use Rattle.chart_command.specs.Runner.{IsCodeText}
 use Rattle.chart_command.specs.Answer.{IsTold}
 use Rattle.chart_command.proofs.ToldLemmas.{long_text}

@@ -1,6 +1,6 @@
 use Rattle.std.proofs.Common.{List, ℕ, ◌+◌, Ok, Err, subst, ◌∙◌}
-use Rattle.step_text.specs.Events.{event_of_line, events_of}
-use Rattle.step_text.specs.Lines.{lines_of}
+use Rattle.flat_lines.specs.Events.{event_of_line, events_of}
+use Rattle.flat_lines.specs.Lines.{lines_of}
 use Rattle.chart_command.specs.Steps.{Written, StepEnds, trace_by}
 use Rattle.chart_command.proofs.Underway.{line_taken, line_ends, next_out, still}
 use Rattle.chart_command.proofs.run.run.Goals as goal

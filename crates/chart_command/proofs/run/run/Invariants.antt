@@ -1,6 +1,6 @@
 use Rattle.std.proofs.Common.{◌≡◌, length}
-use Rattle.step_text.specs.Events.{events_of}
-use Rattle.step_text.specs.Lines.{lines_of}
+use Rattle.flat_lines.specs.Events.{events_of}
+use Rattle.flat_lines.specs.Lines.{lines_of}
 use Rattle.chart_command.specs.Steps.{trace_by}
 use Rattle.chart_command.proofs.Underway.{Underway}
 use Rattle.chart_command.proofs.run.run.Given as goal

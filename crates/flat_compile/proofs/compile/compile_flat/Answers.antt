@@ -1,7 +1,7 @@
 use Rattle.std.proofs.Common.{sym, subst, ◌∙◌}
-use Rattle.chart_syntax.specs.FlatChart.{chart_of}
-use Rattle.code_form.specs.Program.{program_of}
-use Rattle.code_form.specs.WellFormed.{IsCode}
+use Rattle.flat_syntax.specs.FlatChart.{chart_of}
+use Rattle.flat_code.specs.Program.{program_of}
+use Rattle.flat_code.specs.WellFormed.{IsCode}
 use Rattle.flat_compile.specs.Same.{Same}
 use Rattle.flat_compile.proofs.WellFormed.{well_formed}
 use Rattle.flat_compile.proofs.Whole.{same}

@@ -1,5 +1,5 @@
 use Rattle.std.proofs.Common.{◌≡◌, ◌∷◌, map, take}
-use Rattle.chart_syntax.specs.FlatChart.{State, state_of}
+use Rattle.flat_syntax.specs.FlatChart.{State, state_of}
 use Rattle.flat_compile.proofs.compile.names.Given as goal
 
 -- the root's name and those so far are copied

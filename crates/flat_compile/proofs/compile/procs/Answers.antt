@@ -1,6 +1,6 @@
 use Rattle.std.proofs.Common.{All, List, sym, subst}
-use Rattle.chart_syntax.specs.declared.tree.FlatState.{FlatState}
-use Rattle.chart_syntax.specs.FlatChart.{state_of}
+use Rattle.flat_syntax.specs.declared.tree.FlatState.{FlatState}
+use Rattle.flat_syntax.specs.FlatChart.{state_of}
 use Rattle.flat_compile.specs.Emitted.{FitsIn}
 use Rattle.flat_compile.proofs.Fits.{all_fit}
 use Rattle.flat_compile.proofs.compile.procs.Goals as goal

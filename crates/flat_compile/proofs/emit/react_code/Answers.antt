@@ -1,6 +1,6 @@
 use Rattle.std.proofs.Common.{◌++◌, [], ap, ◌∙◌, arith}
-use Rattle.chart_syntax.specs.declared.tree.FlatState.{FlatState}
-use Rattle.chart_syntax.specs.FlatChart.{state_of}
+use Rattle.flat_syntax.specs.declared.tree.FlatState.{FlatState}
+use Rattle.flat_syntax.specs.FlatChart.{state_of}
 use Rattle.flat_compile.specs.Emitted.{state_code}
 use Rattle.flat_compile.proofs.Emission.{state_written}
 use Rattle.flat_compile.proofs.emit.react_code.Goals as goal

@@ -1,5 +1,5 @@
 use Rattle.std.proofs.Common.{◌≡◌, ◌++◌, drop, map}
-use Rattle.chart_syntax.specs.FlatChart.{state_of}
+use Rattle.flat_syntax.specs.FlatChart.{state_of}
 use Rattle.flat_compile.specs.Emitted.{states_code}
 use Rattle.flat_compile.proofs.emit.react_code.Given as goal
 

@@ -1,6 +1,6 @@
 use Rattle.std.proofs.Common.{◌≡◌, ◌≤◌, ℕ, List, [], ◌∷◌, Option, get_or, length, sym, ap, subst, ◌∙◌}
 use Rattle.flow_base.specs.Names.{name_at}
-use Rattle.chart_syntax.specs.FlatChart.{state_names}
+use Rattle.flat_syntax.specs.FlatChart.{state_names}
 use Rattle.chart_command.specs.FlatEngine.{shown_state}
 use Rattle.chart_command.specs.FlatEngineLaws.{name_at-short}
 use Rattle.chart_command.proofs.NameLemmas.{name_of_state}

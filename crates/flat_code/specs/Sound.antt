@@ -1,0 +1,11 @@
+-- What every instruction of well-formed code keeps to, so that a run stays in the code.
+use Rattle.std.specs.Prelude.{◌≡◌, ℕ, ◌+◌, ◌<◌, true, false}
+use Rattle.flat_code.specs.declared.instr.Instr.{Instr}
+use Rattle.flat_code.specs.Program.{Program}
+use Rattle.flat_code.specs.WellFormed.{instr_known, stays_within, is_ret}
+
+-- it names what is there, and where it goes on from place i is one of so many instructions
+pub record IsSoundAt (P : Program) (len i : ℕ) (x : Instr) : Type 0 where
+  pub known : instr_known P x ≡ true
+  pub within : stays_within len i x ≡ true
+  pub goes_on : is_ret x ≡ false → i + 1 < len

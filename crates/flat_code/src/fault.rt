@@ -1,0 +1,64 @@
+//! Why code isn't well formed.
+ghost use Rattle.std.specs.Prelude.{◌≡◌};
+ghost use Rattle.flat_code.specs.Form.{code_number, code_name};
+
+/// What is wrong with code, at a place.
+#[derive(Clone, Copy, Debug, PartialEq, Eq)]
+pub enum CodeKind {
+    /// `start` or `react` is no procedure, or an instruction names a state or an event that isn't there.
+    BadNumber,
+    /// An `Unless` passes over more than there is behind it in its procedure.
+    SkipOut,
+    /// Over 262,144 procedures, or a procedure of over 1,000,000,000 instructions.
+    TooManyProcs,
+    /// A procedure has no instruction, or its last one isn't a `Ret`.
+    NoRet,
+    /// The states aren't a root with states below it, there are too many states or events, or a name is
+    /// none or is there twice.
+    BadTable,
+}
+
+impl CodeKind {
+    /// The number that stands before the name in a refusal.
+    pub fn number(self) -> u8
+        ensures { result ≡ code_number self }
+    {
+        match self {
+            CodeKind::BadNumber => 1,
+            CodeKind::SkipOut => 2,
+            CodeKind::TooManyProcs => 7,
+            CodeKind::NoRet => 8,
+            CodeKind::BadTable => 9,
+        }
+    }
+
+    /// The name, as a refusal prints it.
+    pub fn name(self) -> &'static str
+        ensures { result.now ≡ code_name self }
+    {
+        match self {
+            CodeKind::BadNumber => "BadNumber",
+            CodeKind::SkipOut => "SkipOut",
+            CodeKind::TooManyProcs => "TooManyProcs",
+            CodeKind::NoRet => "NoRet",
+            CodeKind::BadTable => "BadTable",
+        }
+    }
+}
+
+/// What is wrong with code, and where: a procedure and a place in it, both 0 where it is in none.
+#[derive(Clone, Copy, Debug, PartialEq, Eq)]
+pub struct CodeFault {
+    pub kind: CodeKind,
+    pub proc: u32,
+    pub place: u32,
+}
+
+/// Why code isn't accepted.
+#[derive(Clone, Copy, Debug, PartialEq, Eq)]
+pub enum CodeEnd {
+    /// The code isn't well formed, and this is its first fault.
+    Fault(CodeFault),
+    /// Memory ran out.
+    Memory,
+}

@@ -1,0 +1,28 @@
+//! What a run of code comes to is determined, and well-formed code keeps a run inside.
+ghost use Rattle.std.specs.Prelude.{◌≡◌, ◌<◌, ℕ, List, Some, length};
+ghost use Rattle.flow_base.specs.declared.event.FlatEvent.{FlatEvent};
+ghost use Rattle.flat_code.specs.Program.{Program};
+ghost use Rattle.flat_code.specs.World.{World};
+ghost use Rattle.flat_code.specs.Machine.{State, Gives, CodeRuns, instructions, fetch};
+ghost use Rattle.flat_code.specs.WellFormed.{IsCode};
+ghost use Rattle.flat_code.specs.Sound.{IsSoundAt};
+ghost use Rattle.flat_code.specs.declared.instr.Instr.{Instr};
+
+/// A run has one ending, and so all events have: the same code comes to the same worlds.
+pub fn one_run()
+    ensures ending { (P : Program) (m : State) (w w' : World)
+        → Gives P m w → Gives P m w' → w ≡ w' }
+    ensures worlds { (P : Program) (es : List FlatEvent) (ws ws' : List World)
+        → CodeRuns P es ws → CodeRuns P es ws' → ws ≡ ws' }
+{}
+
+/// In well-formed code the procedures of the start and of a reaction are there, each procedure has
+/// an instruction, and each instruction leads to one of its procedure or returns.
+pub fn code_is_sound()
+    ensures start { (P : Program) → IsCode P → P.start < length P.procs }
+    ensures react { (P : Program) → IsCode P → P.react < length P.procs }
+    ensures first { (P : Program) (p : ℕ) → IsCode P → p < length P.procs
+        → 0 < length (instructions P p) }
+    ensures each { (P : Program) (p i : ℕ) (x : Instr) → IsCode P → fetch P p i ≡ Some x
+        → IsSoundAt P (length (instructions P p)) i x }
+{}

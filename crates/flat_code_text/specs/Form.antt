@@ -1,0 +1,37 @@
+-- How the faults of a text are printed.
+use Rattle.std.specs.Prelude.{ℕ, List, Option, Some, None, codes}
+use Rattle.flat_code_text.specs.declared.fault.CodeTextFault.{CodeTextFault}
+use Rattle.flat_code_text.specs.declared.fault.CodeTextFault.TheVariants as faults
+
+-- the number of a fault; no refusal prints want of memory
+abbrev pub fault_number : CodeTextFault → ℕ
+fault_number (faults.BadLine n) = 1
+fault_number faults.Truncated = 2
+fault_number (faults.Trailing n) = 3
+fault_number faults.Version = 4
+fault_number faults.TextTooLong = 5
+fault_number (faults.Form fault) = 6
+fault_number (faults.NotBuilt n) = 7
+fault_number faults.Memory = 0
+
+-- its name
+abbrev pub fault_name : CodeTextFault → List ℕ
+fault_name (faults.BadLine n) = codes "BadLine"
+fault_name faults.Truncated = codes "Truncated"
+fault_name (faults.Trailing n) = codes "Trailing"
+fault_name faults.Version = codes "Version"
+fault_name faults.TextTooLong = codes "TextTooLong"
+fault_name (faults.Form fault) = codes "Form"
+fault_name (faults.NotBuilt n) = codes "NotBuilt"
+fault_name faults.Memory = codes "Memory"
+
+-- the line that it names
+abbrev pub fault_line : CodeTextFault → Option ℕ
+fault_line (faults.BadLine n) = Some n
+fault_line faults.Truncated = None
+fault_line (faults.Trailing n) = Some n
+fault_line faults.Version = None
+fault_line faults.TextTooLong = None
+fault_line (faults.Form fault) = None
+fault_line (faults.NotBuilt n) = Some n
+fault_line faults.Memory = None

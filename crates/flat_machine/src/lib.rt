@@ -1,0 +1,14 @@
+//! The machine that runs code.
+//!
+//! The public type is `Machine`: a run of code, event by event. Read `specs/Engine.antt` of this
+//! crate and `specs/Machine.antt` of `flat_code` first.
+#![tactic(auto)]
+
+mod engine;
+mod marks;
+mod run;
+
+pub use engine::Machine;
+
+#[cfg(test)]
+mod tests;

@@ -102,7 +102,7 @@ class Fault(Exception):
 
 # ---- the tree, in which paths, statements and first values are their canonical text
 
-Number = namedtuple('Number', 'whole behind bits')           # its digits: before the point, behind it, behind q or None
+Number = namedtuple('Number', 'whole behind bits')           # its digits: before the point, after it, after q or None
 Plain = namedtuple('Plain', 'text')                          # an operand that is written as it is
 Sign = namedtuple('Sign', 'operator operand')
 Between = namedtuple('Between', 'operator left right')

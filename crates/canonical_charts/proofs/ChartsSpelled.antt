@@ -145,7 +145,7 @@ sizes_of_events events = sizes (λ e. after_event none) events
 abbrev pub sizes_of_vars : List Var → Counts
 sizes_of_vars vars = sizes (λ v. after_variable none) vars
 
--- the counts behind a chart are those of all that it has
+-- the counts after a chart are those of all that it has
 behind_chart : (events : List EventText) (vars : List Var) (parts : Parts) (states : States)
     → behind_all ((at_begin ⊕ sizes_of_events events) ⊕ sizes_of_vars vars) parts states
     ≡ size_of_chart (record { events = events; vars = vars; root = StateOf parts states })

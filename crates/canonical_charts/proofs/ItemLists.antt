@@ -44,11 +44,11 @@ next_of p z = beginning (p.set z) (p.item z)
 abbrev pub items_of : Place → Seen → Grammar (List (Counted Item))
 items_of p z = many_from p.set (next_of p) after_item z
 
--- items sorted and without places, and the counts behind them
+-- items sorted and without places, and the counts after them
 abbrev pub left : Place → Counts → List (Counted Item) → Sorted × Counts
 left p n xs = (sorted p.name p.comp (map unplaced_item (values xs)), counts_behind n xs)
 
--- behind what was seen, the words spell items that sort so and leave these counts
+-- after what was seen, the words spell items that sort so and leave these counts
 abbrev pub Tail : Place → Seen → List Word → Sorted → Counts → Type 0
 Tail p z words s m = WordsSpell (items_of p z) (left p z.counts) words (s, m)
 
@@ -71,7 +71,7 @@ after_same z (StateItem s) n = refl
 after_same z (EventItem e) n = refl
 after_same z (VarItem v) n = refl
 
--- and its counts are those behind it
+-- and its counts are those after it
 pub after_counts : (z : Seen) (x : Item) (n : Counts) → (after_item z (behind x n)).counts ≡ n
 after_counts z (Entry block) n = refl
 after_counts z (During block) n = refl
@@ -90,7 +90,7 @@ unfolding many_from
 tail_end p z [] h = record { value = []; spelled = refl; looks = refl }
 tail_end p z (t ∷ u) h = absurd cc
 
--- one item, and those behind it
+-- one item, and those after it
 pub tail_next : (p : Place) (z : Seen) (a b : List Word) (y : Item) (n : Counts) (s : Sorted) (m : Counts) → ItemWords p z a y n
     → Tail p (after_item z (behind y n)) b s m → Tail p z (a ++ b) (put y s) m
 unfolding many_from
@@ -130,7 +130,7 @@ module _ {T U : Type 0} (p : Place) (seen : Seen → Type 0) (has : T → Type 0
     (keeps : (z : Seen) (y : U) (n : Counts) → seen z → seen (after_item z (behind (item y) n)))
     (reads : (z : Seen) → seen z → (t : T) → has t → IsWithin (z.counts ⊕ size t)
     → ItemWords p z (words_in (pieces t)) (item (view t)) (z.counts ⊕ size t)) where
-  -- their words, and the words of what stands behind them
+  -- their words, and the words of what stands after them
   pub segment : (ts : List T) → AllByRecursion has ts → (n : Counts) → IsWithin (n ⊕ sizes size ts) → (w : List Word) (m : Counts)
       → Rest p seen (n ⊕ sizes size ts) w (fill []) m → Rest p seen n (words_in (flat_map pieces ts) ++ w) (fill (map view ts)) m
   segment [] all n within w m rest z q counts = rest z q (counts ∙ sym (sum-none n))

@@ -51,7 +51,7 @@ module _ (p : Place) (first seen : Seen → Type 0) (has : List Stmt → Type 0)
     (keeps : (z : Seen) (b : List Stmt) (n : Counts) → first z → seen (after_item z (behind (item b) n)))
     (reads : (z : Seen) → first z → (b : List Stmt) → has b → IsWithin (z.counts ⊕ size_of_block b)
     → ItemWords p z (keyed k (block_pieces b)) (item (unplaced_block b)) (z.counts ⊕ size_of_block b)) where
-  -- the line of an action, or none, and what stands behind it
+  -- the line of an action, or none, and what stands after it
   action : (b : List Stmt) → IfAny has b → (n : Counts) → IsWithin (n ⊕ size_of_block b) → (w : List Word) (m : Counts)
       → Rest p seen (n ⊕ size_of_block b) w (fill []) m → Rest p first n (words_in (action_line level k b) ++ w) (fill (unplaced_block b)) m
   unfolding action_line
@@ -147,7 +147,7 @@ pub record HasItems (has_exit : List Stmt → Type 0) (has_outer : Trans → Typ
   pub junctions : AllByRecursion IsJunction parts.junctions
   pub states : AllByRecursion nested (listed children)
 
--- the counts behind all of them, one kind after the other
+-- the counts after all of them, one kind after the other
 abbrev pub behind_actions : Counts → Parts → Counts
 behind_actions n parts = ((n ⊕ size_of_block parts.entry) ⊕ size_of_block parts.during) ⊕ size_of_block parts.exit
 

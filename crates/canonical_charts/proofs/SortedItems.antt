@@ -58,7 +58,7 @@ IsNew z (StateItem s) = Unit {0}
 IsNew z (EventItem e) = Unit {0}
 IsNew z (VarItem v) = Unit {0}
 
--- an item behind what was seen, with the counts behind it
+-- an item after what was seen, with the counts after it
 pub record Found (deep : ℕ) (may : Item → Type 0) (z : Seen) (x : Counted Item) : Type 0 where
   pub fine : IsItem deep x.value
   pub place : may x.value
@@ -150,7 +150,7 @@ put_sorted deep (VarItem v) s h a = record { parts = a.parts; states = a.states;
 
 -- ---- the flags of actions
 
--- an action that is new replaces none, where none stands behind one of its kind
+-- an action that is new replaces none, where none stands after one of its kind
 is_free : (z : Seen) (x : Item) (n : Counts) (s : Sorted) → ((after_item z (behind x n)).entry ≡ true → s.parts.entry ≡ [])
     → ((after_item z (behind x n)).during ≡ true → s.parts.during ≡ []) → ((after_item z (behind x n)).exit ≡ true → s.parts.exit ≡ []) → IsFree x s
 is_free z (Entry block) n s e d q = e refl
@@ -158,7 +158,7 @@ is_free z (During block) n s e d q = d refl
 is_free z (Exit block) n s e d q = q refl
 is_free z x n s e d q = record {}
 
--- behind an action that has been seen none of its kind comes
+-- after an action that has been seen none of its kind comes
 no_entry : (z : Seen) (x : Item) (n : Counts) (s : Sorted) → IsNew z x → ((after_item z (behind x n)).entry ≡ true → s.parts.entry ≡ [])
     → z.entry ≡ true → (put x s).parts.entry ≡ []
 no_entry z (Entry block) n s once rest seen = absurd cc
@@ -176,7 +176,7 @@ no_exit z x n s once rest seen = rest seen
 
 -- ---- all items
 
--- what items have that are spelled behind what was seen
+-- what items have that are spelled after what was seen
 pub record Gathered (deep : ℕ) (may : Item → Type 0) (name : NameText) (comp : CompText) (z : Seen) (xs : List (Counted Item)) : Type 0 where
   pub fine : AreSorted deep (sorted name comp (values xs))
   pub places : AllByRecursion may (values xs)

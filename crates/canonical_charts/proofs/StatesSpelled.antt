@@ -31,7 +31,7 @@ use Rattle.canonical_charts.proofs.ItemsSpelled.{Leads, leads_more, keyed_leads,
 
 -- ---- how states, junctions and charts begin and end
 
--- what begins with a keyword does so whatever stands behind it
+-- what begins with a keyword does so whatever stands after it
 head_leads : (level : ℕ) (k : Kind) (name : NameText) (comp : CompText) → Leads k (words_in (head_line level k name comp))
 head_leads level k name comp = record { rest = _; is = head_words level k name comp }
 
@@ -184,7 +184,7 @@ module _ (t : TransitionClaims) (level : ℕ) (nested : State → Type 0) (st : 
 
 -- ---- states
 
--- the counts behind a state are those of all its items
+-- the counts after a state are those of all its items
 behind_state : (n : Counts) (parts : Parts) (states : States) → behind_all (after_state n) parts states ≡ n ⊕ size_of_state (StateOf parts states)
 behind_state n parts states =
     let nested = listed_sizes states in
@@ -214,7 +214,7 @@ state_items deep parts states h nested = record {
 }
 
 module _ (e : ExpressionClaims) (t : TransitionClaims) where
-  -- what stands behind the word `state`
+  -- what stands after the word `state`
   state_body_spelled : (deep : ℕ) (st : StateGrammar) (level : ℕ)
       → ((n : Counts) (s : State) → IsNested deep s → IsWithin (n ⊕ size_of_state s)
       → WordsSpell (st n) (counted unplaced_state) (words_in (state_pieces (level + 1) s)) (behind (unplaced_state s) (n ⊕ size_of_state s)))

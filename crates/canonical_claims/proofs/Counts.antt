@@ -49,14 +49,14 @@ one_event n = same_counts _ _ (omega arith)
 pub one_variable : (n : Counts) → after_variable n ≡ n ⊕ after_variable none
 one_variable n = same_counts _ _ (omega arith)
 
--- what comes behind one more is counted behind it
+-- what comes after one more is counted after it
 pub one_junction : (n m : Counts) → after_junction n ⊕ m ≡ n ⊕ (after_junction none ⊕ m)
 one_junction n m = same_counts _ _ (omega arith)
 
 pub one_state : (n m : Counts) → after_state n ⊕ m ≡ n ⊕ (after_state none ⊕ m)
 one_state n m = same_counts _ _ (omega arith)
 
--- statements are counted behind what was before
+-- statements are counted after what was before
 pub one_block : (n : Counts) (stmts : List Stmt) → after_stmts n stmts ≡ n ⊕ size_of_block stmts
 one_block n stmts = same_counts _ _ (omega arith)
 

@@ -7,7 +7,7 @@ use Rattle.token_grammar.proofs.Tokens.{kind_eq-true}
 use Rattle.canonical_claims.specs.Words.{IsCut}
 use Rattle.canonical_claims.specs.Claims.{AreCut}
 
--- the tokens in front, and those behind them
+-- the tokens in front, and those after them
 cut_front : (p q : List Lexeme) → AreCut (p ++ q) → AreCut p
 cut_front [] q h = record {}
 cut_front (t ∷ p) q h = (h.0, cut_front p q h.1)
@@ -25,7 +25,7 @@ pub cut_second : {X Y : Type 0} {g : List Lexeme → X → Type 0} {h : X → Li
     (s : Both g h u y) → AreCut u → AreCut s.q
 cut_second s cut = cut_back s.p s.q (subst AreCut s.parts cut)
 
--- one of many, and those behind it
+-- one of many, and those after it
 pub cut_item : {X : Type 0} {g : List Lexeme → X → Type 0} {x : X} {rest : List Lexeme → Type 0} {u : List Lexeme}
     (s : Before g x rest u) → AreCut u → AreCut s.p
 cut_item s cut = cut_front s.p s.q (subst AreCut s.parts cut)

@@ -22,7 +22,7 @@ pub spell_allowed_word : {Y B : Type 0} {h : Grammar Y} {view : Y → B} {b : Li
     → said ≡ None → WordsSpell h view b y → WordsSpell (allowed (is k) (λ t. said) (token k) >> h) view (keyword k ∷ b) y
 spell_allowed_word k free p = spell_then (spell_allowed (is k) free (spell_token k (kind_bytes k))) (λ v e. p)
 
--- one of several keywords, whose kind matters for what stands behind it
+-- one of several keywords, whose kind matters for what stands after it
 pub spell_kind : {Y B : Type 0} {h : Lexeme → Grammar Y} {view : Y → B} {b : List Word} {y : B} (set : Kind → Bool) (k : Kind)
     → set k ≡ true → ((t : Lexeme) → t.kind ≡ k → WordsSpell (h t) view b y) → WordsSpell (one_of set >>= h) view (keyword k ∷ b) y
 spell_kind set k there p = spell_then (spell_one_of set k (kind_bytes k) there) (λ t e. p t (ap (λ (z : Word). z.kind) e))

@@ -15,7 +15,7 @@ pub run_some : (p : ℕ → Bool) (text : List ℕ) → begins p text ≡ true �
 run_some p [] h = absurd cc
 run_some p (b ∷ text) h = rw h (omega arith)
 
--- where all pass of two texts, all pass of both, one behind the other
+-- where all pass of two texts, all pass of both, one after the other
 pub run_append : (p : ℕ → Bool) (front back : List ℕ) → prefix_len p front ≡ length front → prefix_len p back ≡ length back
     → prefix_len p (front ++ back) ≡ length (front ++ back)
 run_append p front back all all_back =

@@ -81,7 +81,7 @@ spell_give x looks u h = record { value = x; spelled = (no_words u h, refl); loo
 
 -- ---- one after the other
 
--- what is spelled first, and what is spelled behind it whatever that was
+-- what is spelled first, and what is spelled after it whatever that was
 pub spell_then : {X Y A B : Type 0} {g : Grammar X} {h : X → Grammar Y} {first : X → A} {view : Y → B}
     {a b : List Word} {x : A} {y : B}
     → WordsSpell g first a x → ((v : X) → first v ≡ x → WordsSpell (h v) view b y) → WordsSpell (g >>= h) view (a ++ b) y
@@ -171,7 +171,7 @@ pub spell_no_more : {X Y : Type 0} {view : X → Y} (set : Kind → Bool) (g : G
 unfolding many
 spell_no_more set g u e = record { value = []; spelled = no_words u e; looks = refl }
 
--- one, and those behind it
+-- one, and those after it
 pub spell_more : {X Y : Type 0} {g : Grammar X} {view : X → Y} {a b : List Word} {y : Y} {ys : List Y} (set : Kind → Bool)
     → WordsSpell g view a y → WordsSpell (many set g) (λ xs. map view xs) b ys → WordsSpell (many set g) (λ xs. map view xs) (a ++ b) (y ∷ ys)
 unfolding many
@@ -193,7 +193,7 @@ pub spell_end : {S X Y : Type 0} {view : X → Y} (set : S → Kind → Bool) (g
 unfolding many_from
 spell_end set g next s u e = record { value = []; spelled = no_words u e; looks = refl }
 
--- one, and those behind it
+-- one, and those after it
 pub spell_next : {S X Y : Type 0} {view : X → Y} {a b : List Word} {y : Y} {ys : List Y}
     (set : S → Kind → Bool) (g : S → Grammar X) (next : S → X → S) (s : S)
     → WordsSpell (g s) view a y

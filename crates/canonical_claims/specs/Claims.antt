@@ -91,11 +91,11 @@ pub record Adds (n size after : Counts) : Type 0 where
 abbrev pub counted : {X Y : Type 0} → (X → Y) → Counted X → Counted Y
 counted view x = record { value = view x.value; counts = x.counts }
 
--- a value with the counts behind it
+-- a value with the counts after it
 abbrev pub behind : {X : Type 0} → X → Counts → Counted X
 behind x n = record { value = x; counts = n }
 
--- blocks, transitions, junctions and declarations: the same, and behind n things their sizes are added up within the limits
+-- blocks, transitions, junctions and declarations: the same, and after n things their sizes are added up within the limits
 pub record TransitionClaims : Type 0 where
   pub block_has : (n : Counts) (u : List Lexeme) (x : List Stmt) → AreCut u → (block usual n).spells u x
       → IsBlock x × (IsWithin n → IsWithin (n ⊕ size_of_block x))

@@ -14,7 +14,7 @@ use Rattle.canonical_claims.specs.Terms.{HasTerms}
 use Rattle.canonical_claims.proofs.Cut.{cut_first, cut_second, cut_item, cut_rest}
 use Rattle.canonical_expressions.proofs.Costs.{cost, cost-wider, cost-binary}
 
--- an operand of a precedence, behind so many operators: it is told how many there are behind it
+-- an operand of a precedence, after so many operators: it is told how many there are after it
 pub record IsOperand (p before : ℕ) (o : Operand) : Type 0 where
   pub terms : HasTerms o.expr
   pub counted : before + cost p o.expr ≤ o.operators
@@ -43,7 +43,7 @@ operand_wider p r n o h a =
     let least = cost-wider p r o.expr h in
     record { terms = a.terms; counted = let c = a.counted in omega arith; within = a.within }
 
--- with an operator and another operand behind it
+-- with an operator and another operand after it
 joined_one : (p q n : ℕ) (e : Operand) (t : Tail) → precedence t.word ≡ p → left_least t.word ≡ q → e.operators < 64
     → IsOperand q n e → IsOperand (p + 1) (e.operators + 1) t.right → IsOperand p n (with_tail e t)
 joined_one p q n e t word least room a b =
@@ -59,7 +59,7 @@ joined_one p q n e t word least room a b =
 
 module _ (p : ℕ) (set : Kind → Bool) (operand : Operands) (words : (k : Kind) → set k ≡ true → precedence (bin_word k) ≡ p)
     (has : AreOperands (p + 1) operand) where
-  -- an operator of the set and an operand behind another one
+  -- an operator of the set and an operand after another one
   tail_joins : (q n : ℕ) (e : Operand) (u : List Lexeme) (t : Tail) → ((word : BinWord) → precedence word ≡ p → left_least word ≡ q)
       → AreCut u → (tail usual set operand e.operators).spells u t → IsOperand q n e → IsOperand p n (with_tail e t)
   unfolding tail

@@ -17,11 +17,11 @@ use Rattle.canonical_claims.proofs.Spelled.{split, spell_allowed, spell_one_of, 
 abbrev pub unplaced : Operand → Operand
 unplaced o = record { expr = unplaced_expr o.expr; operators = o.operators }
 
--- an operator with the operand behind it, without their places
+-- an operator with the operand after it, without their places
 abbrev pub unplaced_tail : Tail → Tail
 unplaced_tail t = record { word = t.word; at = nowhere; right = unplaced t.right }
 
--- with an operator and another operand behind it, without the place of the operator
+-- with an operator and another operand after it, without the place of the operator
 abbrev pub joined_bare : Operand → Tail → Operand
 joined_bare y t = record { expr = Binary t.word y.expr t.right.expr nowhere; operators = t.right.operators }
 
@@ -33,7 +33,7 @@ unfolding operator
 operator_spelled set k n there room =
     spell_allowed set (rw (lt-ltb n 64 room) refl) (spell_one_of set k (kind_bytes k) there)
 
--- with the operand behind it
+-- with the operand after it
 tail_spelled : (set : Kind → Bool) (operand : Operands) (k : Kind) (n : ℕ) {b : List Word} {y : Operand} → set k ≡ true → n < 64
     → WordsSpell (operand (n + 1)) unplaced b y
     → WordsSpell (tail usual set operand n) unplaced_tail (keyword k ∷ b) (record { word = bin_word k; at = nowhere; right = y })
@@ -50,7 +50,7 @@ joined-append e [] t = refl
 joined-append e (s ∷ ts) t = joined-append (with_tail e s) ts t
 
 module _ (set : Kind → Bool) (operand : Operands) where
-  -- one more behind them
+  -- one more after them
   tails_append : (e : Operand) (u v : List Lexeme) (ts : List Tail) (t : Tail)
       → many_from_spells (λ z. (tail usual set operand z).spells) (λ z t. t.right.operators) e.operators u ts
       → (tail usual set operand (joined e ts).operators).spells v t
@@ -100,7 +100,7 @@ module _ (set : Kind → Bool) (operand : Operands) where
         looks = s.looks;
       }
 
-  -- a chain with one more operator and operand behind it
+  -- a chain with one more operator and operand after it
   chain_more : (n : ℕ) {a b : List Word} {y : Operand} {t : Tail} → WordsSpell (chain usual set operand n) unplaced a y
       → WordsSpell (tail usual set operand y.operators) unplaced_tail b t
       → WordsSpell (chain usual set operand n) unplaced (a ++ b) (joined_bare y t)
@@ -138,7 +138,7 @@ module _ (set : Kind → Bool) (operand : Operands) where
             ∙ ap (λ (z : Tail). joined_bare y z) r.looks;
       }
 
-  -- an operand with an operator and another operand behind it
+  -- an operand with an operator and another operand after it
   pair_more : (n : ℕ) {a b : List Word} {y : Operand} {t : Tail} → WordsSpell (operand n) unplaced a y
       → WordsSpell (tail usual set operand y.operators) unplaced_tail b t
       → WordsSpell (pair usual set operand n) unplaced (a ++ b) (joined_bare y t)

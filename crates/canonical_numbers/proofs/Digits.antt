@@ -31,7 +31,7 @@ leading-Digits text =
     prefix_len_is is_ascii_digit (leading_digits text) (length (leading_digits text)) 0 (omega arith)
     (λ k below. AllPass-leading text k 0 below) (λ past. absurd (omega arith))
 
--- digits with no digit behind them are all that is in front
+-- digits with no digit after them are all that is in front
 pub digits_end : (digits rest : List ℕ) → Digits digits → DigitsEnd rest → prefix_len is_ascii_digit (digits ++ rest) ≡ length digits
 digits_end digits rest all none = run_ends is_ascii_digit digits rest none ∙ all
 
@@ -123,7 +123,7 @@ value_more : (v k n : ℕ) → (v * 10 ^ k + (n / 10) % 10 ^ k) * 10 + n % 10 �
 value_more v k n =
     omega (arith, rest_by_digit n (10 ^ k) (ten_some k), ap (λ (x : ℕ). v * x) (pow-suc 10 k), ap (λ (x : ℕ). n % x) (pow-suc 10 k))
 
--- the value of the last digits, behind another number
+-- the value of the last digits, after another number
 pub value_last : (v k n : ℕ) → value_after v (last_digits k n) ≡ v * 10 ^ k + n % 10 ^ k
 unfolding last_digits value_after
 value_last v zero n = omega (arith, mod-one n)
@@ -133,7 +133,7 @@ value_last v (suc k) n =
 
 -- ---- bounds of what digits tell
 
--- digits behind a number leave it at the front
+-- digits after a number leave it at the front
 pub value_bounds : (v : ℕ) (ds : List ℕ) → Digits ds → (v * 10 ^ length ds ≤ value_after v ds) × (value_after v ds < (v + 1) * 10 ^ length ds)
 unfolding value_after
 value_bounds v [] all = (omega arith, omega arith)

@@ -15,12 +15,12 @@ use Rattle.fixed_point.specs.declared.num.Num.{Num}
 use Rattle.fixed_point.specs.declared.reading.NumFault.{NumFault}
 use Rattle.fixed_point.specs.declared.reading.NumFault.TheVariants.{NotNumber}
 
--- a point and the digits behind it, where there are any
+-- a point and the digits after it, where there are any
 abbrev pub point : List ℕ → List ℕ
 point [] = []
 point (d ∷ ds) = 46 ∷ d ∷ ds
 
--- `q` and the digits behind it, where there are any
+-- `q` and the digits after it, where there are any
 abbrev pub mark : List ℕ → List ℕ
 mark [] = []
 mark (d ∷ ds) = 113 ∷ d ∷ ds
@@ -39,7 +39,7 @@ ScaleIfAny (d ∷ ds) = is_scale (d ∷ ds) ≡ true
 abbrev pub form : List ℕ → List ℕ → List ℕ → List ℕ
 form w f b = w ++ (point f ++ mark b)
 
--- digits before the point and behind it, and of bits
+-- digits before the point and after it, and of bits
 pub record IsForm (w f b : List ℕ) : Type 0 where
   pub whole : Digits w
   pub some : 0 < length w
@@ -85,7 +85,7 @@ mark_scale (d ∷ ds) all good =
     ∙ ap (λ (x : List ℕ). cond (is_scale x) (n + 1) 0) (take-length (d ∷ ds))
     ∙ ap (λ (t : Bool). cond t (n + 1) 0) good ∙ omega arith
 
--- behind the digits stand the point and what follows
+-- after the digits stand the point and what follows
 decimal_is : (w f b : List ℕ) → IsForm w f b → decimal_length (form w f b) ≡ length (w ++ point f)
 unfolding decimal_length
 decimal_is w f b is =
@@ -134,13 +134,13 @@ pub record Reads (text w f b : List ℕ) : Type 0 where
   pub bits : bits_of text ≡ bits_told b
   pub read : number_read text ≡ number_told false w f (bits_told b)
 
--- the digits behind the point
+-- the digits after the point
 behind_is : (f b : List ℕ) → Digits f → digits_behind (point f ++ mark b) ≡ f
 behind_is [] [] all = refl
 behind_is [] (d ∷ ds) all = refl
 behind_is (c ∷ cs) b all = leading-append (c ∷ cs) (mark b) all (mark_ends b)
 
--- and what is behind those
+-- and what is after those
 rest_is : (f b : List ℕ) → Digits f → rest_behind (point f ++ mark b) ≡ mark b
 rest_is [] [] all = refl
 rest_is [] (d ∷ ds) all = refl
@@ -185,8 +185,8 @@ small_scale (a ∷ b ∷ c ∷ s) some few small = absurd (omega arith)
 
 -- ---- the number that it tells
 
--- by its sign, its digits before the point, whether a point stands there, the digits behind it, and
--- what stands behind those
+-- by its sign, its digits before the point, whether a point stands there, the digits after it, and
+-- what stands after those
 number_by : Bool → List ℕ → Bool → List ℕ → List ℕ → Result Num NumFault
 number_by negative whole has behind rest =
     if nat_lt 0 (length whole)

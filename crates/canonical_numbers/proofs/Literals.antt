@@ -25,7 +25,7 @@ use Rattle.canonical_numbers.proofs.NumberParts.{number_parts, point_of}
 
 -- ---- what a number without a fault has
 
--- digits that tell the number, at most 36 of them before and behind the point, and no fault of it
+-- digits that tell the number, at most 36 of them before and after the point, and no fault of it
 record Tells (lit : LitText) (w f b : List ℕ) : Type 0 where
   is : IsForm w f b
   units : lit.units ≡ value_of (w ++ f)
@@ -75,7 +75,7 @@ tells lit h w f b is parts =
 abbrev whole_of : LitText → List ℕ
 whole_of lit = decimal (lit.units / 10 ^ lit.places)
 
--- behind the point
+-- after the point
 abbrev behind_of : LitText → List ℕ
 behind_of lit = last_digits lit.places lit.units
 

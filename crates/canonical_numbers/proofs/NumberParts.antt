@@ -27,7 +27,7 @@ pub point_of : (ds rest : List ℕ) → 0 < length ds → point ds ++ rest ≡ 4
 point_of [] rest some = absurd (omega arith)
 point_of (d ∷ ds) rest some = refl
 
--- digits and what is behind them
+-- digits and what is after them
 leading_parts : (s : List ℕ) → s ≡ leading_digits s ++ drop (digits_length s) s
 leading_parts s = sym (take-append-drop (digits_length s) s)
 

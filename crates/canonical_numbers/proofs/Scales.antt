@@ -88,7 +88,7 @@ int_read scale e =
 NameBytes : List ℕ → Type 0
 NameBytes s = name_length s ≡ length s
 
--- bytes of names behind others are bytes of names
+-- bytes of names after others are bytes of names
 name_append : (front back : List ℕ) → NameBytes front → NameBytes back → NameBytes (front ++ back)
 unfolding NameBytes
 name_append front back all all_back = run_append is_name_byte front back all all_back

@@ -195,7 +195,7 @@ turn_cut p b s rest fronts.Blank e = rw (blank_turn p b s e) (rest 0 (after_byte
 turn_cut p b s rest (fronts.Token kind n) e = rw (token_turn p b s kind n e) (cut_front_token p (b ∷ s) kind n e, rest (n - 1) (after_byte p b))
 turn_cut p b s rest (fronts.Stop stop) e = rw (stop_turn p (b ∷ s) stop e) tt
 
--- from any place on, behind any number of bytes
+-- from any place on, after any number of bytes
 are_cut : (s : List ℕ) (k : ℕ) (p : Span) → AreCut (lexed k p s).tokens
 unfolding lexed
 are_cut [] k p = tt

@@ -1,4 +1,4 @@
--- A number is as long where it is cut off behind its end, and where other text stands behind it.
+-- A number is as long where it is cut off after its end, and where other text stands after it.
 use Rattle.std.proofs.Common.{◌≡◌, ℕ, zero, suc, ◌+◌, ◌-◌, ◌<◌, ◌≤◌, Bool, true, false, ◌&&◌, List, [], ◌∷◌, ◌++◌, length, take, drop, refl, ap, inl, inr, eqb, ltb, add-one, arith}
 use Rattle.std.specs.List.{prefix_len}
 use Rattle.std.specs.Str.{byte}
@@ -10,9 +10,9 @@ use Rattle.chart_lexer.specs.Bytes.{is_digit, is_name_byte, begins}
 use Rattle.chart_lexer.specs.Numbers.{digits_length, fraction_length, is_scale, scale_length, decimal_length, number_length}
 use Rattle.canonical_claims.proofs.Runs.{run_ends, run_some}
 
--- ---- text behind it
+-- ---- text after it
 
--- behind a word or a number: no byte of one, and no point
+-- after a word or a number: no byte of one, and no point
 pub record Ends (s : List ℕ) : Type 0 where
   pub word : begins is_name_byte s ≡ false
   pub point : begins (λ b. eqb b (byte ".")) s ≡ false
@@ -30,7 +30,7 @@ no_digit b h = grind (arith, nat_tests)
 no_q : (b : ℕ) → is_name_byte b ≡ false → eqb b (byte "q") ≡ false
 no_q b h = grind (arith, nat_tests)
 
--- the digits, the fraction and the scale are as long with such text behind them
+-- the digits, the fraction and the scale are as long with such text after them
 digits_behind : (x y : List ℕ) → Ends y → digits_length (x ++ y) ≡ digits_length x
 digits_behind x y e = run_ends is_digit x y (begins_no is_digit is_name_byte y no_digit e.word)
 
@@ -72,7 +72,7 @@ decimal_behind x y e =
       fraction_behind (drop (digits_length x) x) y e,
     ) refl
 
--- a number is as long with such text behind it
+-- a number is as long with such text after it
 pub number_behind : (x y : List ℕ) → Ends y → number_length (x ++ y) ≡ number_length x
 unfolding number_length
 number_behind x y e =
@@ -82,9 +82,9 @@ number_behind x y e =
       scale_behind (drop (decimal_length x) x) y e,
     ) refl
 
--- ---- a number cut off behind its end
+-- ---- a number cut off after its end
 
--- a run of bytes, cut off at or behind its end
+-- a run of bytes, cut off at or after its end
 prefix_cut : (p : ℕ → Bool) (n : ℕ) (s : List ℕ) → prefix_len p s ≤ n → prefix_len p (take n s) ≡ prefix_len p s
 prefix_cut p zero s h = omega arith
 prefix_cut p (suc n) [] h = refl
@@ -94,7 +94,7 @@ prefix_cut p (suc n) (b ∷ s) h =
       | inr fails ↦ rw fails refl
     ]
 
--- the parts of a number, cut off at or behind their end
+-- the parts of a number, cut off at or after their end
 digits_cut : (n : ℕ) (s : List ℕ) → digits_length s ≤ n → digits_length (take n s) ≡ digits_length s
 digits_cut n s h = prefix_cut is_digit n s h
 
@@ -135,7 +135,7 @@ decimal_cut n s h =
     let back : drop d (take n s) ≡ take (n - d) (drop d s) = rw rest at (drop-take d (n - d) s) in
     rw (digits_cut n s (omega arith), back, fraction_cut (n - d) (drop d s) (omega arith)) refl
 
--- a number that is cut off behind its end is still that number
+-- a number that is cut off after its end is still that number
 pub number_cut : (s : List ℕ) → number_length (take (number_length s) s) ≡ number_length s
 unfolding number_length
 number_cut s =

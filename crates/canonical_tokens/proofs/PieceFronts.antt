@@ -52,7 +52,7 @@ word_first : (b : ℕ) (s : List ℕ) → is_letter b ≡ true → front_of (b �
 unfolding front_of
 word_first b s h = rw (letter_blank b h, letter_in_range b h, h) refl
 
--- a word with what ends it behind it
+-- a word with what ends it after it
 pub word_in_front : (k : Kind) (w r : List ℕ) → is_word k w ≡ true → Ends r → front_of (w ++ r) ≡ fronts.Token k (length w)
 word_in_front k [] r h e = absurd cc
 word_in_front k (b ∷ s) r h e =
@@ -74,7 +74,7 @@ number_first : (b : ℕ) (s : List ℕ) → is_digit b ≡ true → front_of (b 
 unfolding front_of
 number_first b s h = rw (digit_blank b h, digit_in_range b h, digit_letter b h, h) refl
 
--- a number with what ends it behind it
+-- a number with what ends it after it
 pub number_in_front : (w r : List ℕ) → IsNumber w → Ends r → front_of (w ++ r) ≡ fronts.Token kinds.Number (length w)
 number_in_front [] r h e = absurd (let no : false ≡ true = h.0 in cc)
 number_in_front (b ∷ s) r h e =
@@ -91,7 +91,7 @@ abbrev pub is_second : ℕ → Bool
 is_second b =
     nat_eq b (byte ">") || (nat_eq b (byte "=") || (nat_eq b (byte "/") || (nat_eq b (byte "&") || nat_eq b (byte "|"))))
 
--- behind a symbol: no such byte
+-- after a symbol: no such byte
 pub record Plain (s : List ℕ) : Type 0 where
   pub first : begins is_second s ≡ false
 
@@ -145,7 +145,7 @@ symbol_first a s h single =
     let back = and_parts (not (is_letter a)) (not (is_digit a)) parts.1 in
     rw (not-true (is_blank a) front.0, front.1, not-true (is_letter a) back.0, not-true (is_digit a) back.1, single) refl
 
--- a symbol with what is plain behind it
+-- a symbol with what is plain after it
 pub symbol_in_front : (k : Kind) (w r : List ℕ) → is_symbol_of k w ≡ true → Plain r → front_of (w ++ r) ≡ fronts.Token k (length w)
 symbol_in_front k [] r h e = absurd cc
 symbol_in_front k (a ∷ []) [] h e =

@@ -63,7 +63,7 @@ symbol_plain : (k : Kind) → (is_symbol k && not (is_merging k)) ≡ true → n
 unfolding kind_bytes
 symbol_plain k h = within (λ j. is_symbol j && not (is_merging j)) (λ j. not (begins is_second (kind_bytes j))) refl k h
 
--- ---- what stands behind a token
+-- ---- what stands after a token
 
 -- a front of bytes that has a byte begins the whole
 begins_front : (p : ℕ → Bool) (a b : List ℕ) → begins (λ c. true) a ≡ true → begins p (a ++ b) ≡ begins p a
@@ -104,7 +104,7 @@ symbol_here k b (inl h) no_word =
 symbol_here k b (inr (inl h)) no_word = absurd (let bad : false ≡ true = rw h.0 at no_word in cc)
 symbol_here k b (inr (inr h)) no_word = absurd (let bad : false ≡ true = rw h.0 at no_word in cc)
 
--- behind a word stand no more bytes of it
+-- after a word stand no more bytes of it
 ends_of : (ps : List Piece) → Apart AfterWord ps → Ends (bytes_of ps)
 unfolding bytes_of
 ends_of [] h = record { word = refl; point = refl }
@@ -121,7 +121,7 @@ ends_of (Token k b ∷ ps) h =
       point = rw symbol.1 (begins_front (λ c. eqb c (byte ".")) (kind_bytes k) (bytes_of ps) some ∙ not-true _ ends.1);
     }
 
--- behind a symbol stands no byte that could belong to it
+-- after a symbol stands no byte that could belong to it
 plain_of : (ps : List Piece) → Apart AfterSymbol ps → Plain (bytes_of ps)
 unfolding bytes_of
 plain_of [] h = record { first = refl }

@@ -1,4 +1,4 @@
--- Pieces that stay apart where they are written one directly behind the other.
+-- Pieces that stay apart where they are written one directly after the other.
 use Rattle.std.proofs.Common.{◌≡◌, ℕ, zero, suc, append_assoc, Bool, true, ◌&&◌, ◌||◌, not, List, [], ◌∷◌, ◌++◌, refl, ◌⊎◌, inl, cond, IsTrue}
 use Rattle.std.specs.Prelude.{nat_le}
 use Rattle.std.specs.List.{AllByRecursion, flat_map}
@@ -11,7 +11,7 @@ use Rattle.chart_lexer.specs.Words.{is_name}
 use Rattle.chart_print.specs.Pieces.{Piece, Token, Blank, kind_bytes, key, space, newline, indent, line}
 use Rattle.canonical_claims.specs.Words.{IsNumber}
 
--- ---- what is behind what
+-- ---- what is after what
 
 -- what stood before a piece: blanks or nothing, a word or a number, a symbol, or any of these tokens
 pub data Seam : Type 0 where
@@ -45,7 +45,7 @@ fits AfterWord k = not (is_wordy k)
 fits AfterSymbol k = not (is_merging k)
 fits AfterToken k = not (is_wordy k) && not (is_merging k)
 
--- what stood before the piece behind a token
+-- what stood before the piece after a token
 abbrev pub seam_of : Kind → Seam
 seam_of k = cond (is_wordy k) AfterWord AfterSymbol
 
@@ -62,19 +62,19 @@ abbrev pub all_blank : List ℕ → Bool
 all_blank [] = true
 all_blank (b ∷ s) = is_blank b && all_blank s
 
--- the pieces, behind what stood before, stay apart
+-- the pieces, after what stood before, stay apart
 abbrev pub Apart : Seam → List Piece → Type 0
 Apart s [] = Unit {0}
 Apart s (Blank b ∷ ps) = (begins is_blank b ≡ true) × ((all_blank b ≡ true) × Apart AfterBlank ps)
 Apart s (Token k b ∷ ps) = Spelling k b × ((fits s k ≡ true) × Apart (seam_of k) ps)
 
--- blanks stand behind anything
+-- blanks stand after anything
 pub loosen : (s : Seam) (ps : List Piece) → Apart s ps → Apart AfterBlank ps
 loosen s [] h = tt
 loosen s (Blank b ∷ ps) h = h
 loosen s (Token k b ∷ ps) h = (h.0, (refl, h.1.1))
 
--- what stands behind any token stands behind a word and behind a symbol
+-- what stands after any token stands after a word and after a symbol
 pub tighten : (s : Seam) (ps : List Piece) → Apart AfterToken ps → Apart s ps
 tighten s [] h = tt
 tighten s (Blank b ∷ ps) h = h

@@ -63,12 +63,12 @@ junction_has c n u x cut s =
 
 -- ---- junctions spelled
 
--- transitions, each with the counts behind it
+-- transitions, each with the counts after it
 abbrev counted_list : Counts → List Trans → List (Counted Trans)
 counted_list n [] = []
 counted_list n (x ∷ xs) = behind (unplaced_trans x) (n ⊕ size_of_trans x) ∷ counted_list (n ⊕ size_of_trans x) xs
 
--- what looks like them has their values, and the counts behind all of them
+-- what looks like them has their values, and the counts after all of them
 record IsList (n : Counts) (list : List (Counted Trans)) (xs : List Trans) : Type 0 where
   values : map unplaced_trans (values list) ≡ map unplaced_trans xs
   counts : counts_behind n list ≡ n ⊕ sizes size_of_trans xs
@@ -94,7 +94,7 @@ line_words : (level : ℕ) (x : Trans) (xs : List Trans)
 unfolding junction_trans_line
 line_words level x xs = simp words_apart
 
--- the lines of transitions spell them behind m things, as they do behind n
+-- the lines of transitions spell them after m things, as they do after n
 abbrev ListSpells : ℕ → Counts → List Trans → Counts → Type 0
 ListSpells level n xs m =
     WordsSpell (junction_list usual m) (λ list. map (counted unplaced_trans) list) (words_in (flat_map (junction_trans_line level) xs))

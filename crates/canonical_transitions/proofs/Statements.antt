@@ -135,7 +135,7 @@ stmt_spelled c (Emit x) has = spell_right (is kinds.Send) (spell_left (is kinds.
 
 -- ---- blocks spelled
 
--- statements, where there is room for them behind those before
+-- statements, where there is room for them after those before
 stmts_spelled : (c : ExpressionClaims) (b : Before) (x : List Stmt) → AllByRecursion IsStmt x
     → b.statements + length x ≤ 256 → b.counts.items + length x ≤ 20000
     → WordsSpell (stmts usual b) unplaced_block (words_in (flat_map block_stmt_pieces x)) (unplaced_block x)

@@ -60,7 +60,7 @@ dest_has c u x cut (inl s) =
     rw named.second.1 (c.name_has named.p named.x (cut_first named (cut_second s cut)) named.first)
 dest_has c u x cut (inr s) = rw s.second.1 (c.path_has s.p s.x (cut_first s cut) s.first)
 
--- a transition behind n things, and the things behind it
+-- a transition after n things, and the things after it
 record Has (n : Counts) (x : Counted Trans) : Type 0 where
   is : IsTrans x.value
   count : x.counts ≡ after_stmts (after_stmts n x.value.cond) x.value.act
@@ -198,7 +198,7 @@ placed_spelled c n at x has within =
       counts = after_stmts (after_stmts n cond) act;
     }) (rw (l1, l2, l3, l4, l5, few, few') refl))))))))))
 
--- a transition that is allowed, and the counts behind it
+-- a transition that is allowed, and the counts after it
 allowed_spelled : (c : ExpressionClaims) (n : Counts) (at : Span) (x : Trans) → IsTrans x → IsWithin (n ⊕ size_of_trans x)
     → WordsSpell (trans usual (after_transition n) at) (counted unplaced_trans) (words_in (trans_pieces x))
     (behind (unplaced_trans x) (n ⊕ size_of_trans x))

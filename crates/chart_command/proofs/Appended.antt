@@ -32,7 +32,7 @@ goes_on before now next text piece rest p e = record {
 pub all_written : (before now : Option (List ℕ)) (text : List ℕ) → Progress before now text [] → now ≡ append_known before text
 all_written before now text p = p.written ∙ ap (append_known before) (sym (p.parts ∙ append-nil p.done))
 
--- a front of the next piece, behind what is written
+-- a front of the next piece, after what is written
 front_is : (done piece rest : List ℕ) (k : ℕ) → k ≤ length piece → take (length done + k) (done ++ (piece ++ rest)) ≡ done ++ take k piece
 front_is done piece rest k h = take-append-add done (piece ++ rest) k ∙ ap (λ (z : List ℕ). done ++ z) (take-append-le k piece rest h)
 

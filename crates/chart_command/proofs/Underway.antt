@@ -11,7 +11,7 @@ use Rattle.chart_command.specs.declared.ending.Ending.TheVariants as endings
 use Rattle.chart_command.specs.Steps.{Written, WroteAll, RunEnds, LineEnds, StepEnds, shown_after, trace_by}
 use Rattle.chart_command.proofs.Appended.{Progress, not_begun, goes_on, all_written, cut_off}
 
--- the sink behind one more call
+-- the sink after one more call
 abbrev pub then_out : Written → Option (List ℕ) → ℕ → Written
 then_out out after writes = record { before = out.before; after = after; writes_before = out.writes_before; writes_after = writes }
 
@@ -171,7 +171,7 @@ module _ {S : Type 0} (next : S → FlatEvent → S) (shown : S → List (List �
       let none_yet : Written = record { before = before; after = before; writes_before = writes; writes_after = writes } in
       line_fails T names text whole none_yet after writes' first later ending refl (not_begun before whole) h
 
-  -- behind a line that was taken the engine goes on under the same names
+  -- after a line that was taken the engine goes on under the same names
   pub still : (T : Type 0) (named : S → List (List ℕ)) (running : S → Type 0)
       → ((s : S) (e : FlatEvent) → running s → IsEventIn (named s) e → running (next s e))
       → ((s : S) (e : FlatEvent) → running s → named (next s e) ≡ named s)

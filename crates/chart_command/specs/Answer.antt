@@ -141,7 +141,7 @@ pub record TraceDone (way : Way) (call : Call) (first second : List ℕ) : Type 
   pub wrote : Wrote call files.output
   pub quiet : IsQuiet call
 
--- the event file is refused at this line, behind the trace of the lines before it
+-- the event file is refused at this line, after the trace of the lines before it
 pub record LineRefused (way : Way) (call : Call) (first second : List ℕ) (number : ℕ) (fault : LineFault) : Type 0 where
   pub files : Files way call first second
   pub refused : file_refusal (event_names files.runner) files.events ≡ Some (record { number = number; fault = fault })
@@ -154,7 +154,7 @@ pub record FirstRefused (call : Call) (cause : Type 0) : Type 0 where
   pub nothing : Nothing call
   pub quiet : IsQuiet call
 
--- a read of the second file failed, behind a good first
+-- a read of the second file failed, after a good first
 pub record SecondFailed (way : Way) (call : Call) (first second : List ℕ) : Type 0 where
   pub runner : Runner
   pub holds : Holds way (call.left first) runner
@@ -165,7 +165,7 @@ pub record ReadFailed (way : Way) (call : Call) (first second : List ℕ) : Type
   pub cause : Rose (call.reads_before first) (call.reads_after first) ⊎ SecondFailed way call first second
   pub nothing : Nothing call
 
--- a write failed, behind a front of the trace that isn't all of it
+-- a write failed, after a front of the trace that isn't all of it
 pub record WriteFailed (way : Way) (call : Call) (first second : List ℕ) : Type 0 where
   pub files : Files way call first second
   pub cause : Rose call.writes_before call.writes_after
@@ -196,7 +196,7 @@ pub record FileRead (call : Call) (first : List ℕ) : Type 0 where
   pub cause : Rose (call.reads_before first) (call.reads_after first)
   pub nothing : Nothing call
 
--- a write failed, behind a front of the code text that isn't all of it
+-- a write failed, after a front of the code text that isn't all of it
 pub record CompileWrite (call : Call) (first : List ℕ) : Type 0 where
   pub chart : Chart
   pub has_chart : HasChart (call.left first) chart
@@ -223,7 +223,7 @@ pub record FmtDone (call : Call) (first : List ℕ) : Type 0 where
   pub wrote : Wrote call canonical
   pub quiet : IsQuiet call
 
--- a write failed, behind a front of the canonical text that isn't all of it
+-- a write failed, after a front of the canonical text that isn't all of it
 pub record FmtWrite (call : Call) (first : List ℕ) : Type 0 where
   pub canonical : List ℕ
   pub has_formatted : HasFormatted (call.left first) canonical

@@ -13,11 +13,11 @@ abbrev pub ended_or : Standing → World → World
 ended_or (Over w) other = w
 ended_or Unfinished other = other
 
--- the world behind one more event: a reaction takes fewer steps than two more than its procedure has instructions
+-- the world after one more event: a reaction takes fewer steps than two more than its procedure has instructions
 abbrev pub react_world : Program → World → FlatEvent → World
 react_world P w e = ended_or (run P (length (instructions P P.react) + 2) (called w (number_of e) P.react)) w
 
--- the machine behind one more event
+-- the machine after one more event
 abbrev pub code_after : Engine → FlatEvent → Engine
 code_after m e = record m { world = react_world m.program m.world e }
 

@@ -71,7 +71,7 @@ pub none_from : (names : List (List ℕ)) (marks : List Bool) (j : ℕ) → ((t 
 none_from [] marks j h = refl
 none_from (name ∷ names) marks j h = rw (h j (omega arith)) (none_from names marks (j + 1) (λ t k. h t (omega arith)))
 
--- behind an active state below the root no other is active
+-- after an active state below the root no other is active
 pub others_off : (marks : List Bool) (s t : ℕ) → IsSingle marks → is_on marks (suc s) ≡ true → suc s < t → is_on marks t ≡ false
 others_off marks s zero single on h = absurd (omega arith)
 others_off marks s (suc t) single on h =
@@ -131,7 +131,7 @@ each_short [] k d lt h = absurd (omega arith)
 each_short (name ∷ names) zero d lt h = name_short name (and_parts (is_name name) (list_all is_name names) h).0
 each_short (name ∷ names) (suc k) d lt h = each_short names k d (omega arith) (and_parts (is_name name) (list_all is_name names) h).1
 
--- the whole engine behind an event
+-- the whole engine after an event
 pub engine_is : (m m' : Engine) (w : World) → m'.program ≡ m.program → m'.world ≡ w → m'.started ≡ m.started → m' ≡ record m { world = w }
 engine_is m m' w program world started =
     ap (λ (p : Program). record m' { program = p }) program ∙ ap (λ (v : World). record m' { program = m.program; world = v }) world

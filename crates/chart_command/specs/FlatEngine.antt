@@ -16,7 +16,7 @@ shown_state c (Some s) = name_at (state_names c) s ∷ []
 abbrev pub flat_shown : FlatWorld → List (List ℕ)
 flat_shown w = shown_state w.chart w.active
 
--- the run behind one more event
+-- the run after one more event
 abbrev pub flat_after : FlatWorld → FlatEvent → FlatWorld
 flat_after w e = record { chart = w.chart; active = option_map (λ s. flat_react w.chart s e) w.active }
 

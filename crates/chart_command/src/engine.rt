@@ -18,7 +18,7 @@ pub trait Engine {
     /// It has been started, and is as its kind wants it.
     ghost running: { Self → Type 0 };
 
-    /// The run behind one more event.
+    /// The run after one more event.
     ghost after: { Self → FlatEvent → Self };
 
     /// The names of the events, in order.

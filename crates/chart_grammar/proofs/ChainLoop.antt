@@ -11,7 +11,7 @@ use Rattle.chart_grammar.specs.Limits.{Limits}
 use Rattle.chart_grammar.specs.Expressions.{Operand, Tail, Operands, tail, tails, with_tail, joined, chain}
 use Rattle.chart_grammar.proofs.ChainLaws.{good_tail}
 
--- what was read so far, and what is still read behind it
+-- what was read so far, and what is still read after it
 abbrev pub resumed : Operand → Outcome (List Tail) → Outcome Operand
 resumed e read = and_then read (λ ts r. Ok (joined e ts, r))
 

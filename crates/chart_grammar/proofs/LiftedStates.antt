@@ -20,7 +20,7 @@ use Rattle.chart_grammar.proofs.LimitLaws.{Comparison, expected, states_too, ite
 use Rattle.chart_grammar.proofs.LiftedWords.{eased_name}
 use Rattle.chart_grammar.proofs.LiftedItemLaws.{ComparedStates, eased_items, eased_chart_items}
 
--- what would stand behind the word `state` where none may
+-- what would stand after the word `state` where none may
 abbrev unread : Counts → Grammar (Counted State)
 unread n = do
   name ← name

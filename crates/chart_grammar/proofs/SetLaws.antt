@@ -14,14 +14,14 @@ only_left : (a : Bool) → (a || false) ≡ true → a ≡ true
 only_left true h = refl
 only_left false h = absurd cc
 
--- what stands behind a part that isn't empty begins nothing
+-- what stands after a part that isn't empty begins nothing
 pub within_clean : (f h : Set) → Within (also f false h) f
 within_clean f h k there = only_left (f k) there
 
 pub good_clean : {X : Type 0} {g : Grammar X} {f m : Set} {n : Bool} (h : Set) → Good g (also f false h) n m → Good g f n m
 good_clean {X} {g} {f} h a = good_wider (within_clean f h) (λ k there. there) a
 
--- and goes on with nothing more where a part that isn't empty stands behind it
+-- and goes on with nothing more where a part that isn't empty stands after it
 pub good_cleaner : {X : Type 0} {g : Grammar X} {f m : Set} {n : Bool} (h h' : Set) → Good g (also f false h) n (also m false h') → Good g f n m
 good_cleaner {X} {g} {f} {m} h h' a = good_wider (within_clean f h) (within_clean m h') a
 

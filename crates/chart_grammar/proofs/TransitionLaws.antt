@@ -20,7 +20,7 @@ use Rattle.chart_grammar.proofs.ExpressionLaws.{operand_heads, fine_expr}
 
 -- ---- statements
 
--- what stands behind the name
+-- what stands after the name
 abbrev pub assigned : Limits → NameText → Grammar Stmt
 assigned l name = do
   token kinds.Assign
@@ -114,7 +114,7 @@ pub fine_dest : Fine dest dest_heads false (is kinds.Slash)
 unfolding dest
 fine_dest = fine_as dest_heads (is kinds.Slash) (fine_either (is kinds.At) fine_to_junction.good fine_to_state refl refl) refl refl
 
--- what stands behind the bracket
+-- what stands after the bracket
 abbrev pub guarded : Limits → Lexeme → Grammar Guard
 guarded l t = do
   e ← expr l
@@ -158,7 +158,7 @@ fine_maybe_action l n =
 
 -- ---- transitions
 
--- what stands behind the actions of a transition, behind its condition action, its guard and its event
+-- what stands after the actions of a transition, after its condition action, its guard and its event
 abbrev pub behind_actions : Counts → Span → Option NameText → Option Guard → List Stmt → List Stmt → Grammar (Counted Trans)
 behind_actions n at event guard cond act = do
   token kinds.Arrow

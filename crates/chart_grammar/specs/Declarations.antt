@@ -19,7 +19,7 @@ use Rattle.chart_grammar.specs.Types.{sort}
 
 -- ---- events
 
--- what begins a declaration of a datum, and what stands behind `event`
+-- what begins a declaration of a datum, and what stands after `event`
 abbrev pub kind_heads : Kind → Bool
 kind_heads k = is kinds.Input k || (is kinds.Local k || is kinds.Output k)
 
@@ -45,7 +45,7 @@ event l n = do
 abbrev pub zero_lit : LitText
 zero_lit = record { units = 0; places = 0; q = None }
 
--- a number of value 0 isn't negative, and has no digits behind the point and no `q`
+-- a number of value 0 isn't negative, and has no digits after the point and no `q`
 abbrev pub plain_init : Bool → LitText → Span → InitText
 plain_init negative lit at =
     if lit.units == 0

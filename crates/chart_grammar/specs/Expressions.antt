@@ -21,7 +21,7 @@ pub record Operand : Type 0 where
   pub expr : Expr
   pub operators : ℕ
 
--- an operator with the operand behind it
+-- an operator with the operand after it
 pub record Tail : Type 0 where
   pub word : BinWord
   pub at : Span
@@ -121,7 +121,7 @@ plain l before =
 
 -- ---- chains of operators of one level, over the operands of the next
 
--- an operator, and the operand behind it
+-- an operator, and the operand after it
 unfoldable pub tail : Limits → (Kind → Bool) → Operands → ℕ → Grammar Tail
 tail l set operand before = do
   t ← operator l set before

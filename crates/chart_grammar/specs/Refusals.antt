@@ -7,7 +7,7 @@ use Rattle.token_grammar.specs.Grammar.{Continues}
 use Rattle.chart_grammar.specs.Limits.{Limits, LiftedFrom, rank}
 use Rattle.chart_grammar.specs.States.{chart}
 
--- behind these tokens, the token doesn't continue though all limits behind the fault's don't count;
+-- after these tokens, the token doesn't continue though all limits after the fault's don't count;
 -- and where it is one of a limit, it continues once that limit doesn't count either
 pub record IsFaultOf (before : List Lexeme) (t : Lexeme) (fault : Fault) : Type 0 where
   pub stays : (l : Limits) → LiftedFrom (rank fault + 1) l

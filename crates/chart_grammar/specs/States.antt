@@ -23,7 +23,7 @@ abbrev pub values : {X : Type 0} → List (Counted X) → List X
 values [] = []
 values (x ∷ xs) = x.value ∷ values xs
 
--- the counts behind the last of them
+-- the counts after the last of them
 abbrev pub counts_behind : {X : Type 0} → Counts → List (Counted X) → Counts
 counts_behind n [] = n
 counts_behind n (x ∷ xs) = counts_behind x.counts xs
@@ -75,7 +75,7 @@ pub record Seen : Type 0 where
 abbrev pub nothing_seen : Counts → Seen
 nothing_seen n = record { entry = false; during = false; exit = false; counts = n }
 
--- what is seen behind an item
+-- what is seen after an item
 abbrev pub after_item : Seen → Counted Item → Seen
 after_item z x = elim x.value [
   | Entry block ↦ record z { entry = true; counts = x.counts }
@@ -126,7 +126,7 @@ variable_item l n = do
   found ← variable l n
   give (record { value = VarItem found; counts = after_variable n })
 
--- what a state may have behind what was seen: each of the three actions at most once
+-- what a state may have after what was seen: each of the three actions at most once
 abbrev pub item_heads : Seen → Kind → Bool
 item_heads z k =
     (is kinds.Entry k && not z.entry) || ((is kinds.During k && not z.during)
@@ -217,7 +217,7 @@ no_items name comp = record {
   vars = [];
 }
 
--- an item goes in front of those behind it
+-- an item goes in front of those after it
 abbrev pub put : Item → Sorted → Sorted
 put (Entry block) s = record s { parts = record s.parts { entry = block } }
 put (During block) s = record s { parts = record s.parts { during = block } }
@@ -260,7 +260,7 @@ comp = either (is kinds.Or) (token kinds.Or >> give comps.Or) (token kinds.And >
 unfoldable pub maybe_comp : Grammar CompText
 maybe_comp = either comp_heads comp (give comps.None)
 
--- what stands behind the word `state`: NAME comp? '{' item* '}'
+-- what stands after the word `state`: NAME comp? '{' item* '}'
 unfoldable pub state_body : Limits → StateGrammar → Counts → Grammar (Counted State)
 state_body l state n = do
   name ← name

@@ -76,7 +76,7 @@ next_stmt l b = allowed stmt_heads (λ t. statement_refused l b.statements b.cou
 unfoldable pub stmts : Limits → Before → Grammar (List Stmt)
 stmts l b = many_from (λ z. stmt_heads) (next_stmt l) (λ z s. after_stmt z) b
 
--- the things behind so many statements
+-- the things after so many statements
 abbrev pub after_stmts : Counts → List Stmt → Counts
 after_stmts n ss = record n { items = n.items + length ss }
 
@@ -163,7 +163,7 @@ unfoldable pub junction_trans : Limits → Counts → Grammar (Counted Trans)
 junction_trans l n =
     allowed trans_heads (λ t. transition_refused l n) (at_first (trans l (after_transition n)))
 
--- a transition of a state, behind its keyword
+-- a transition of a state, after its keyword
 unfoldable pub keyword_trans : Limits → (Kind → Bool) → Counts → Grammar (Counted Trans)
 keyword_trans l set n = do
   t ← allowed set (λ t. transition_refused l n) (one_of set)

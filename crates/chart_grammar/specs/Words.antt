@@ -39,7 +39,7 @@ path = do
 
 -- ---- numbers
 
--- the digits of a number, how many of them stand behind the point, and the bits that `q` asks for
+-- the digits of a number, how many of them stand after the point, and the bits that `q` asks for
 abbrev pub lit_of : List ℕ → LitText
 lit_of text = record {
   units = value_of (whole_digits text ++ behind_digits text);

@@ -57,7 +57,7 @@ unfolding lexed
 pass_one zero p b d some = absurd (omega arith)
 pass_one (suc k) p b d some = let e : suc k - 1 ≡ k = omega arith in rw e refl
 
--- a token in front, and then what is behind it
+-- a token in front, and then what is after it
 pub token_first : (p : Span) (s : List ℕ) (kind : Kind) (n : ℕ) → front_of s ≡ fronts.Token kind n → 0 < n → n ≤ length s
     → lexed 0 p s ≡ before (record { kind = kind; text = take n s; at = p }) (lexed 0 (right_of p n) (drop n s))
 token_first p [] kind n h some within = absurd (omega arith)
@@ -76,7 +76,7 @@ drop_at s i lt = rw (add-one, drop-cons s i 0) refl
 rest_of : (i : ℕ) (s : List ℕ) → take (length s - i) (drop i s) ≡ drop i s
 rest_of i s = rw (← length-drop i s) (take-length (drop i s))
 
--- a token in front of the others is one behind those so far
+-- a token in front of the others is one after those so far
 cut_before : (ts : List Lexeme) (t : Lexeme) (l : Lexemes) → cut ts (before t l) ≡ cut (ts ++ t ∷ []) l
 cut_before ts t l = ap (λ (xs : List Lexeme). record { tokens = xs; stop = l.stop; at = l.at }) (sym (append_assoc ts (t ∷ []) l.tokens))
 
@@ -88,14 +88,14 @@ at_stop ts p s i stop total h so_far =
     let e : cut ts (lexed 0 p (drop i s)) ≡ cut ts (record { tokens = []; stop = stop; at = p }) = ap (cut ts) (stop_turn p (drop i s) stop there) in
     rw (append-nil ts) at (sym e ∙ so_far)
 
--- the loop behind a blank byte
+-- the loop after a blank byte
 pub after_blank : (ts : List Lexeme) (p : Span) (s : List ℕ) (i : ℕ) (total : Lexemes) → i < length s → fronts.Blank ≡ front_of (take (length s - i) (drop i s))
     → cut ts (lexed 0 p (drop i s)) ≡ total → cut ts (lexed 0 (after_byte p (get_or s i 0)) (drop (i + 1) s)) ≡ total
 after_blank ts p s i total lt h so_far =
     let there : front_of (get_or s i 0 ∷ drop (i + 1) s) ≡ fronts.Blank = ap front_of (sym (rest_of i s ∙ drop_at s i lt)) ∙ sym h in
     ap (cut ts) (sym (ap (lexed 0 p) (drop_at s i lt) ∙ blank_turn p (get_or s i 0) (drop (i + 1) s) there)) ∙ so_far
 
--- the loop behind a token
+-- the loop after a token
 pub after_token : (ts : List Lexeme) (p : Span) (s : List ℕ) (i : ℕ) (kind : Kind) (n : ℕ) (total : Lexemes) → fronts.Token kind n ≡ front_of (take (length s - i) (drop i s))
     → 0 < n → n ≤ length (take (length s - i) (drop i s)) → cut ts (lexed 0 p (drop i s)) ≡ total
     → cut (ts ++ record { kind = kind; text = take (i + n - i) (drop i s); at = p } ∷ []) (lexed 0 (right_of p n) (drop (i + n) s)) ≡ total

@@ -43,7 +43,7 @@ run_line p s none i lt =
       | inr other ↦ other
     ]
 
--- one stretch behind another
+-- one stretch after another
 join_line : (n m : ℕ) (s : List ℕ) → OneLine n s → OneLine m (drop n s) → OneLine (n + m) s
 join_line n m s front back i lt =
     elim (lt_or_ge i n) [
@@ -54,7 +54,7 @@ join_line n m s front back i lt =
           rw (ap (λ k. get_or s k 0) (sym e), ← get_or-drop n s (i - n) 0) there
     ]
 
--- a byte other than the newline, and a stretch behind it
+-- a byte other than the newline, and a stretch after it
 marked_line : (c : ℕ) (t : Bool) (n : ℕ) (b : ℕ) (s : List ℕ) → eqb c 10 ≡ false → OneLine n s → OneLine (cond (eqb b c && t) (n + 1) 0) (b ∷ s)
 marked_line c t n b s apart rest =
     elim (cases_Bool (eqb b c)) [

@@ -23,7 +23,7 @@ turn_names p b s rest fronts.Blank e = rw (blank_turn p b s e) (rest 0 (after_by
 turn_names p b s rest (fronts.Token kind n) e = rw (token_turn p b s kind n e) (rw e at (front_named (b ∷ s)), rest (n - 1) (after_byte p b))
 turn_names p b s rest (fronts.Stop stop) e = rw (stop_turn p (b ∷ s) stop e) tt
 
--- from any place on, behind any number of bytes
+-- from any place on, after any number of bytes
 are_names : (s : List ℕ) (k : ℕ) (p : Span) → AreNames (lexed k p s).tokens
 unfolding AreNames lexed
 are_names [] k p = tt

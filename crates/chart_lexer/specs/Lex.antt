@@ -35,7 +35,7 @@ word_front s =
     if nat_lt 63 (name_length s) then fronts.Stop stops.BadToken
     else fronts.Token (word_kind (take (name_length s) s)) (name_length s)
 
--- a number, with no letter or underscore directly behind it
+-- a number, with no letter or underscore directly after it
 abbrev pub number_front : List ℕ → Front
 number_front s =
     if begins is_name_byte (drop (number_length s) s) then fronts.Stop stops.BadToken
@@ -82,7 +82,7 @@ after_byte p b =
     if nat_eq b 10 then record { line = p.line + 1; column = 1 }
     else record { line = p.line; column = p.column + 1 }
 
--- the tokens, what stands behind them, and its place
+-- the tokens, what stands after them, and its place
 pub record Lexemes : Type 0 where
   pub tokens : List Lexeme
   pub stop : Stop
@@ -92,7 +92,7 @@ pub record Lexemes : Type 0 where
 abbrev pub before : Lexeme → Lexemes → Lexemes
 before t l = record { tokens = t ∷ l.tokens; stop = l.stop; at = l.at }
 
--- the tokens of a text from a place on, behind so many bytes of it that are passed over
+-- the tokens of a text from a place on, after so many bytes of it that are passed over
 unfoldable pub lexed : ℕ → Span → List ℕ → Lexemes
 lexed k p [] = record { tokens = []; stop = stops.End; at = p }
 lexed (suc k) p (b ∷ s) = lexed k (after_byte p b) s

@@ -8,7 +8,7 @@ use Rattle.chart_lexer.specs.Bytes.{is_digit}
 abbrev pub digits_length : List ℕ → ℕ
 digits_length s = prefix_len is_digit s
 
--- how many bytes a point and the digits behind it have, where there is such a point
+-- how many bytes a point and the digits after it have, where there is such a point
 unfoldable pub fraction_length : List ℕ → ℕ
 fraction_length [] = 0
 fraction_length (b ∷ s) =
@@ -21,16 +21,16 @@ is_scale (a ∷ []) = true
 is_scale (a ∷ b ∷ []) = nat_le ((a - byte "0") * 10 + (b - byte "0")) 32
 is_scale (a ∷ b ∷ c ∷ s) = false
 
--- how many bytes `q` and the scale behind it have, where there is such a `q`
+-- how many bytes `q` and the scale after it have, where there is such a `q`
 unfoldable pub scale_length : List ℕ → ℕ
 scale_length [] = 0
 scale_length (b ∷ s) =
     if nat_eq b (byte "q") && is_scale (take (digits_length s) s) then digits_length s + 1 else 0
 
--- how many bytes digits have, with a fraction behind them
+-- how many bytes digits have, with a fraction after them
 unfoldable pub decimal_length : List ℕ → ℕ
 decimal_length s = digits_length s + fraction_length (drop (digits_length s) s)
 
--- how many bytes a decimal has, with a scale behind it
+-- how many bytes a decimal has, with a scale after it
 unfoldable pub number_length : List ℕ → ℕ
 number_length s = decimal_length s + scale_length (drop (decimal_length s) s)

@@ -9,7 +9,7 @@ use crate::symbols::{first_pair, first_single};
 use crate::words::{NAME_LIMIT, name_length, word_kind};
 use token_grammar::Kind;
 
-/// What stands behind the tokens of a text.
+/// What stands after the tokens of a text.
 #[derive(Clone, Copy, Debug, PartialEq, Eq)]
 pub enum Stop {
     /// The end of the text.

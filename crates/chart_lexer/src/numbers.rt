@@ -12,7 +12,7 @@ fn digits_length(text: &[u8]) -> usize
     text.iter().take_while(|byte| is_digit(**byte)).count()
 }
 
-/// How many bytes a point and the digits behind it have, 0 where there is no such point.
+/// How many bytes a point and the digits after it have, 0 where there is no such point.
 #[tactic(auto, unfolding(crate::specs::Numbers::fraction_length))]
 fn fraction_length(text: &[u8]) -> usize
     ensures value { result ≡ spec.fraction_length text.now }
@@ -40,7 +40,7 @@ fn is_scale(digits: &[u8]) -> bool
     }
 }
 
-/// How many bytes `q` and the scale behind it have, 0 where there is no such `q`.
+/// How many bytes `q` and the scale after it have, 0 where there is no such `q`.
 #[tactic(auto, unfolding(crate::specs::Numbers::scale_length))]
 fn scale_length(text: &[u8]) -> usize
     ensures value { result ≡ spec.scale_length text.now }
@@ -58,7 +58,7 @@ fn scale_length(text: &[u8]) -> usize
     }
 }
 
-/// How many bytes digits have, with a fraction behind them.
+/// How many bytes digits have, with a fraction after them.
 #[tactic(auto, unfolding(crate::specs::Numbers::decimal_length))]
 fn decimal_length(text: &[u8]) -> usize
     ensures value { result ≡ spec.decimal_length text.now }
@@ -68,7 +68,7 @@ fn decimal_length(text: &[u8]) -> usize
     digits + fraction_length(&text[digits..])
 }
 
-/// How many bytes a decimal has, with a scale behind it.
+/// How many bytes a decimal has, with a scale after it.
 #[tactic(auto, unfolding(crate::specs::Numbers::number_length))]
 pub fn number_length(text: &[u8]) -> usize
     ensures value { result ≡ spec.number_length text.now }

@@ -6,7 +6,7 @@ use std::alloc::{AllocError, Global};
 use std::fmt::Write;
 use std::test::Fail;
 
-/// Each token as KIND@LINE:COLUMN+BYTES, and then what stands behind them.
+/// Each token as KIND@LINE:COLUMN+BYTES, and then what stands after them.
 fn shown(alloc: Global, text: &[u8]) -> Result<String, AllocError>
     requires { length text.now < 2 ^ 31 }
 {

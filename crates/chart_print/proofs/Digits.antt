@@ -10,7 +10,7 @@ pub last_digits-zero : (k n : ℕ) → k ≡ 0 → last_digits k n ≡ []
 unfolding last_digits
 last_digits-zero k n none = rw none refl
 
--- the last digit behind those before it
+-- the last digit after those before it
 pub last_digits-split : (k n : ℕ) → 0 < k → last_digits k n ≡ last_digits (k - 1) (n / 10) ++ decimal (n % 10)
 unfolding last_digits
 last_digits-split zero n some = absurd (omega arith)

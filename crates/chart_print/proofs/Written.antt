@@ -1,4 +1,4 @@
--- Texts with pieces behind them.
+-- Texts with pieces after them.
 use Rattle.std.proofs.Common.{◌≡◌, ℕ, zero, suc, ◌+◌, ◌-◌, ◌<◌, List, [], ◌∷◌, ◌++◌, refl, ap, sym, ◌∙◌, append_assoc, arith}
 use Rattle.std.specs.Prelude.{codes}
 use Rattle.std.proofs.lemmas.List.{append-nil}
@@ -25,7 +25,7 @@ pub written-blank : (text : List ℕ) (bytes : List ℕ) → written text (Blank
 unfolding written bytes_of
 written-blank text bytes = ap (λ (bs : List ℕ). text ++ bs) (append-nil bytes)
 
--- behind nothing stand the bytes themselves
+-- after nothing stand the bytes themselves
 pub written-first : (pieces : List Piece) → written [] pieces ≡ bytes_of pieces
 unfolding written
 written-first pieces = refl

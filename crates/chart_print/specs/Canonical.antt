@@ -34,7 +34,7 @@ end_line level = line level (key kinds.CloseBrace)
 
 -- ---- junctions and states
 
--- the word of a composition, behind a space, where there is one: 'or' | 'and'
+-- the word of a composition, after a space, where there is one: 'or' | 'and'
 unfoldable pub comp_pieces : CompText → List Piece
 comp_pieces comps.None = []
 comp_pieces comps.Or = space ++ key kinds.Or

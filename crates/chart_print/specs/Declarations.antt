@@ -32,7 +32,7 @@ event_pieces event =
 
 -- ---- first values
 
--- the number 0, with no sign, no digits behind the point and no `q`
+-- the number 0, with no sign, no digits after the point and no `q`
 abbrev pub is_plain_zero : Bool → LitText → Bool
 is_plain_zero negative lit =
     not negative && (lit.units == 0 && (lit.places == 0 && is_none lit.q))
@@ -54,7 +54,7 @@ unfoldable pub value_pieces : InitText → List Piece
 value_pieces (inits.Number negative lit at) = sign_pieces negative ++ literal_pieces lit
 value_pieces (inits.Flag value at) = key (flag_kind value)
 
--- '=' and a value, behind a space, unless the value is the one that is meant without it
+-- '=' and a value, after a space, unless the value is the one that is meant without it
 unfoldable pub init_pieces : Sort → InitText → List Piece
 init_pieces sort init =
     if is_missing_init sort init then []

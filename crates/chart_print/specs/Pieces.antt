@@ -18,7 +18,7 @@ piece_bytes (Blank bytes) = bytes
 unfoldable pub bytes_of : List Piece → List ℕ
 bytes_of pieces = flat_map piece_bytes pieces
 
--- a text with pieces behind it
+-- a text with pieces after it
 unfoldable pub written : List ℕ → List Piece → List ℕ
 written text pieces = text ++ bytes_of pieces
 

@@ -1,4 +1,4 @@
--- Statements, blocks and transitions. A missing part is left out with the space behind it.
+-- Statements, blocks and transitions. A missing part is left out with the space after it.
 use Rattle.std.specs.Prelude.{List, [], ◌∷◌, ◌++◌, Option, Some, None}
 use Rattle.std.specs.List.{flat_map}
 use Rattle.token_grammar.specs.declared.token.Kind.TheVariants as kinds
@@ -10,7 +10,7 @@ use Rattle.chart_print.specs.Expressions.{expr_pieces}
 
 -- ---- statements
 
--- the destination of a sent event, behind a space: 'to' path
+-- the destination of a sent event, after a space: 'to' path
 unfoldable pub target_pieces : Option Path → List Piece
 target_pieces None = []
 target_pieces (Some path) = space ++ key kinds.To ++ space ++ path_pieces path
@@ -24,7 +24,7 @@ stmt_pieces (Send name to) =
     key kinds.Send ++ space ++ name_pieces name ++ target_pieces to ++ key kinds.Semicolon
 stmt_pieces (Emit name) = key kinds.Emit ++ space ++ name_pieces name ++ key kinds.Semicolon
 
--- a statement of a block, behind a space
+-- a statement of a block, after a space
 unfoldable pub block_stmt_pieces : Stmt → List Piece
 block_stmt_pieces stmt = space ++ stmt_pieces stmt
 
@@ -40,22 +40,22 @@ unless_empty (stmt ∷ stmts) pieces = pieces
 
 -- ---- transitions
 
--- the event of a transition, with a space behind it: NAME
+-- the event of a transition, with a space after it: NAME
 unfoldable pub trigger_pieces : Option NameText → List Piece
 trigger_pieces None = []
 trigger_pieces (Some name) = name_pieces name ++ space
 
--- the guard, with a space behind it: '[' expr ']'
+-- the guard, with a space after it: '[' expr ']'
 unfoldable pub guard_pieces : Option Guard → List Piece
 guard_pieces None = []
 guard_pieces (Some guard) =
     key kinds.OpenBracket ++ expr_pieces guard.expr ++ key kinds.CloseBracket ++ space
 
--- the condition action, with a space behind it, where it has a statement: block
+-- the condition action, with a space after it, where it has a statement: block
 unfoldable pub condition_pieces : List Stmt → List Piece
 condition_pieces stmts = unless_empty stmts (block_pieces stmts ++ space)
 
--- the transition action, with a space behind it, where it has a statement: '/' block
+-- the transition action, with a space after it, where it has a statement: '/' block
 unfoldable pub action_pieces : List Stmt → List Piece
 action_pieces stmts =
     unless_empty stmts (key kinds.Slash ++ space ++ block_pieces stmts ++ space)

@@ -40,7 +40,7 @@ impl Printer {
         }
     }
 
-    /// Appends the first value of a datum behind its sign, unless it is the one that is meant
+    /// Appends the first value of a datum after its sign, unless it is the one that is meant
     /// without it.
     #[tactic(auto, using(crate::proofs::Written::printed), unfolding(crate::specs::Declarations::init_pieces))]
     fn init(&mut self, sort: SortText, init: InitText) -> Result<(), AllocError>
@@ -104,7 +104,7 @@ fn var_kind(word: VarWord) -> Kind
     }
 }
 
-/// Whether the number is 0, with no sign, no digits behind the point and no `q`.
+/// Whether the number is 0, with no sign, no digits after the point and no `q`.
 fn is_plain_zero(negative: bool, lit: LitText) -> bool
     ensures { result ≡ spec.is_plain_zero negative lit }
 {

@@ -78,7 +78,7 @@ impl Printer {
         self.newline()
     }
 
-    /// Appends the word of a composition behind a space, where there is one.
+    /// Appends the word of a composition after a space, where there is one.
     #[tactic(auto, using(crate::proofs::Written::printed), unfolding(crate::specs::Canonical::comp_pieces))]
     fn comp(&mut self, comp: CompText) -> Result<(), AllocError>
         ensures { OnOk result (self.new ≡ written self.old (spec.comp_pieces comp)) }

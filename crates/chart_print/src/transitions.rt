@@ -14,7 +14,7 @@ use std::alloc::AllocError;
 use token_grammar::Kind;
 
 impl Printer {
-    /// Appends the destination of a sent event behind a space, where it has one.
+    /// Appends the destination of a sent event after a space, where it has one.
     #[tactic(auto, using(crate::proofs::Written::printed), unfolding(crate::specs::Transitions::target_pieces))]
     fn target(&mut self, to: &Option<PathText>) -> Result<(), AllocError>
         ensures { OnOk result
@@ -60,7 +60,7 @@ impl Printer {
         self.key(Kind::Semicolon)
     }
 
-    /// Appends statements, each behind a space.
+    /// Appends statements, each after a space.
     #[tactic(auto, using(crate::proofs::Written::printed), unfolding(crate::specs::Transitions::block_stmt_pieces))]
     fn stmts(&mut self, stmts: &[StmtText]) -> Result<(), AllocError>
         ensures { OnOk result (self.new

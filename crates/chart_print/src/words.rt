@@ -28,7 +28,7 @@ impl Printer {
         self.word(name.text.text())
     }
 
-    /// Appends names, each behind a slash.
+    /// Appends names, each after a slash.
     #[tactic(auto, using(crate::proofs::Written::printed), unfolding(crate::specs::Words::step_pieces))]
     fn steps(&mut self, names: &[NameText]) -> Result<(), AllocError>
         ensures { OnOk result
@@ -149,7 +149,7 @@ impl Printer {
         self.number(u128::from(scale.frac))
     }
 
-    /// Appends the word of a mode behind a space. Saturate has none.
+    /// Appends the word of a mode after a space. Saturate has none.
     #[tactic(auto, using(crate::proofs::Written::printed), unfolding(crate::specs::Words::mode_pieces))]
     fn mode(&mut self, mode: Mode) -> Result<(), AllocError>
         ensures { OnOk result (self.new ≡ written self.old (spec.mode_pieces mode)) }

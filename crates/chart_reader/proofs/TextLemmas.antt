@@ -57,7 +57,7 @@ tokens_named text = kept_named (λ t. not (kind_eq t.kind kinds.Comment)) (cut_o
 
 -- ---- what is read
 
--- the chart that was answered took all tokens, and the text ends behind them
+-- the chart that was answered took all tokens, and the text ends after them
 pub is_spelled : (text : List ℕ) (c : Chart) → length text ≤ 1048576
     → answer (cut_of text).stop (cut_of text).at (whole_reads (chart usual) (tokens_of text)) ≡ Ok c → Spells text c
 is_spelled text c short e = by_read (whole_reads (chart usual) (tokens_of text)) refl e
@@ -107,7 +107,7 @@ end_refused text fault stops.BadByte short s w =
 end_refused text fault stops.BadToken short s w =
     (short, record { stop_is = s; continues = ended_continues (tokens_of text) (text_stops (tokens_of text) [] fault w); place = refl })
 
--- a chart was read, and something else than the end stands behind it
+-- a chart was read, and something else than the end stands after it
 chart_refused : (text : List ℕ) (x : Chart) (r : List Lexeme) (stop : Stop) (e : FormFault) → length text ≤ 1048576 → (cut_of text).stop ≡ stop
     → whole_reads (chart usual) (tokens_of text) ≡ Ok (x, r) → chart_at x stop (cut_of text).at ≡ Err e → IsRefusal text e
 chart_refused text x r stops.End e short s w h = absurd cc

@@ -1,4 +1,4 @@
--- Reading any number of counted things, as a loop does that keeps their values and the counts behind the last.
+-- Reading any number of counted things, as a loop does that keeps their values and the counts after the last.
 use Rattle.std.proofs.Common.{◌≡◌, true, false, List, [], ◌∷◌, ◌++◌, Ok, Err, refl, sym, ap, ◌∙◌, append_assoc}
 use Rattle.std.proofs.lemmas.List.{append-nil}
 use Rattle.token_grammar.specs.declared.fault.ReadError.{ReadError}
@@ -52,7 +52,7 @@ module _ {S X : Type 0} (set : S → Set) (g : S → Grammar (Counted X)) (next 
       sym so_far ∙ ap (λ o. behind front (told n o)) (from_none set g next f m good st s none)
       ∙ ap (λ (vs : List _). Ok (record { value = vs; counts = n }, s)) (append-nil front)
 
--- ---- what stands behind the loop
+-- ---- what stands after the loop
 
 -- what is read from the list is read from its values and counts
 pub told_then : {X Y : Type 0} (n : Counts) (read : Outcome (List (Counted X))) (y : Counted (List X)) (r : List Lexeme)

@@ -25,13 +25,13 @@ abbrev pub fault_at : Fault → List Lexeme → Stop → Span → FormFault
 fault_at fault [] stop at = faults.At (end_kind stop) at
 fault_at fault (t ∷ rest) stop at = faults.At (kind_of fault) t.at
 
--- a chart that took all tokens is that of the text, where the text ends behind them
+-- a chart that took all tokens is that of the text, where the text ends after them
 abbrev pub chart_at : Chart → Stop → Span → Result Chart FormFault
 chart_at c stops.End at = Ok c
 chart_at c stops.BadByte at = Err (faults.At forms.BadByte at)
 chart_at c stops.BadToken at = Err (faults.At forms.BadToken at)
 
--- what the reading of all tokens answers, with what stands behind them and its place
+-- what the reading of all tokens answers, with what stands after them and its place
 abbrev pub answer : Stop → Span → Outcome Chart → Result Chart FormFault
 answer stop at (Ok x) = chart_at x.0 stop at
 answer stop at (Err e) = Err (fault_at e.0 e.1 stop at)

@@ -13,7 +13,7 @@ use Rattle.chart_reader.specs.declared.operands.Level.TheVariants as levels
 abbrev pub operand_of : declared.Operand → Operand
 operand_of o = record { expr = expr_of o.expr; operators = o.operators }
 
--- an operator with the operand behind it
+-- an operator with the operand after it
 abbrev pub tail_of : declared_tail.Tail → Tail
 tail_of t = record { word = t.word; at = t.at; right = operand_of t.right }
 

@@ -46,7 +46,7 @@ pub record StopsAt (text : List ℕ) (fault : Fault) (at : Span) : Type 0 where
   pub kind : IsFaultOf stops.before first fault
   pub place : at ≡ first.at
 
--- behind tokens that continue, no token begins
+-- after tokens that continue, no token begins
 pub record NoToken (text : List ℕ) (stop : Stop) (at : Span) : Type 0 where
   pub stop_is : (cut_of text).stop ≡ stop
   pub continues : Continues (chart usual) (tokens_of text)

@@ -86,7 +86,7 @@ impl<'t, 'a> Reader<'t, 'a> {
         Ok(plain_init(false, lit_of(token.text), token.at))
     }
 
-    /// A number behind a minus sign, as a first value.
+    /// A number after a minus sign, as a first value.
     #[tactic(auto, unfolding(chart_grammar::specs::Declarations::negative_init))]
     fn negative_init(&mut self) -> Result<InitText, ReadError>
         ensures read { Gives (λ i. i) result (lexemes self.new.rest.now)
@@ -128,7 +128,7 @@ impl<'t, 'a> Reader<'t, 'a> {
         }
     }
 
-    /// A first value behind its sign.
+    /// A first value after its sign.
     #[tactic(auto, unfolding(chart_grammar::specs::Declarations::given_init))]
     fn given_init(&mut self) -> Result<InitText, ReadError>
         ensures read { Gives (λ i. i) result (lexemes self.new.rest.now)

@@ -17,7 +17,7 @@ use token_grammar::{Fault, Kind, ReadError, Thing};
 const NESTING: u32 = 64;
 
 impl<'t, 'a> Reader<'t, 'a> {
-    /// An operator of the level and the operand behind it.
+    /// An operator of the level and the operand after it.
     #[cycle(expr)]
     #[tactic(auto, unfolding(chart_grammar::specs::Expressions::tail))]
     fn tail(&mut self, level: Level, depth: u32, before: u32) -> Result<Tail, ReadError>

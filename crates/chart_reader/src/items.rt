@@ -58,7 +58,7 @@ impl<'t, 'a> Reader<'t, 'a> {
         })
     }
 
-    /// The block of an action, behind its keyword.
+    /// The block of an action, after its keyword.
     #[tactic(auto, unfolding(chart_grammar::specs::States::action_item))]
     fn keyword_block(&mut self, keyword: Kind) -> Result<List<StmtText>, ReadError>
         ensures { (item : Statements → states.Item) → Gives
@@ -74,7 +74,7 @@ impl<'t, 'a> Reader<'t, 'a> {
         Ok(block)
     }
 
-    /// Whether an item of a state is at hand, behind those that were seen.
+    /// Whether an item of a state is at hand, after those that were seen.
     fn is_at_item(&self, seen: Seen) -> bool
         ensures { result ≡ heads (states.item_heads (seen_of seen (counts_of self.now.counts)))
             (lexemes self.now.rest.now) }
@@ -85,7 +85,7 @@ impl<'t, 'a> Reader<'t, 'a> {
         }
     }
 
-    /// Whether an item of the chart is at hand, behind those that were seen.
+    /// Whether an item of the chart is at hand, after those that were seen.
     fn is_at_chart_item(&self, seen: Seen) -> bool
         ensures { result ≡ heads (states.chart_heads (seen_of seen (counts_of self.now.counts)))
             (lexemes self.now.rest.now) }

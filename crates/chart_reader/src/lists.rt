@@ -64,7 +64,7 @@ impl Lists {
         }
     }
 
-    /// Puts an item in front of those that stand behind it in the text.
+    /// Puts an item in front of those that stand after it in the text.
     fn put(&mut self, item: Item) -> Result<(), AllocError>
         ensures { OnOk result
             (sorted_of self.new ≡ states.put (item_of item) (sorted_of self.old)) }

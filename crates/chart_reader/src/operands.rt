@@ -32,7 +32,7 @@ pub(crate) struct Tail {
     pub word: BinWord,
     /// Where it stands.
     pub at: Span,
-    /// The operand behind it.
+    /// The operand after it.
     pub right: Operand,
 }
 

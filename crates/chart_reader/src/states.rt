@@ -86,7 +86,7 @@ impl<'t, 'a> Reader<'t, 'a> {
         Ok(state)
     }
 
-    /// What stands behind the word `state`.
+    /// What stands after the word `state`.
     #[cycle(state)]
     #[tactic(auto, unfolding(chart_grammar::specs::States::state_body))]
     fn state_body(&mut self, depth: u32) -> Result<StateText, ReadError>

@@ -58,7 +58,7 @@ fn fault_at(fault: Fault, rest: &[Token<'_>], stop: Stop, end: Span) -> FormFaul
     }
 }
 
-/// The chart that took all tokens, where the text ends behind them.
+/// The chart that took all tokens, where the text ends after them.
 fn chart_at(chart: ChartText, stop: Stop, end: Span) -> Result<ChartText, FormFault>
     ensures { IsAnswer result (spec.chart_at (chart_of chart) stop end) }
 {
@@ -69,7 +69,7 @@ fn chart_at(chart: ChartText, stop: Stop, end: Span) -> Result<ChartText, FormFa
     }
 }
 
-/// What reading all tokens answers, with what stands behind them and its place.
+/// What reading all tokens answers, with what stands after them and its place.
 fn read_tokens(
     alloc: Global,
     tokens: &[Token<'_>],

@@ -67,7 +67,7 @@ fn frac_of(text: &[u8]) -> Option<u8>
     }
 }
 
-/// The scale of a word behind `sfix` or `ufix`.
+/// The scale of a word after `sfix` or `ufix`.
 fn scale_told(signed: bool, text: &[u8]) -> Option<Scale>
     ensures { option_map parts_of result ≡ spec.scale_told signed text.now }
 {

@@ -51,7 +51,7 @@ fn short_bits(bits: Option<u32>) -> Option<u8>
     }
 }
 
-/// The digits of a number, how many of them stand behind the point, and the bits that `q` asks for.
+/// The digits of a number, how many of them stand after the point, and the bits that `q` asks for.
 pub(crate) fn lit_of(text: &[u8]) -> LitText
     requires { IsOk (number_read text.now) }
     ensures { result ≡ spec.lit_of text.now }
@@ -79,7 +79,7 @@ impl<'t, 'a> Reader<'t, 'a> {
         Ok(NameText { text, at: token.at })
     }
 
-    /// A name behind a slash.
+    /// A name after a slash.
     #[tactic(auto, unfolding(chart_grammar::specs::Words::step))]
     fn step(&mut self) -> Result<NameText, ReadError>
         ensures read { Gives (λ n. n) result (lexemes self.new.rest.now)
@@ -90,7 +90,7 @@ impl<'t, 'a> Reader<'t, 'a> {
         self.name()
     }
 
-    /// The names of a path behind its first.
+    /// The names of a path after its first.
     fn steps(&mut self) -> Result<Vec<NameText>, ReadError>
         ensures read { Gives (λ v. v.items) result (lexemes self.new.rest.now)
             ((many (is kinds.Slash) spec.step).reads (lexemes self.old.rest.now)) }

@@ -15,7 +15,7 @@ pub fn unescape(alloc: Global, line: &[u8]) -> Result<Option<Vec<u8>>, AllocErro
     Ok(if rest.is_empty() { Some(text) } else { None })
 }
 
-/// The first byte that a line stands for, and the line behind it.
+/// The first byte that a line stands for, and the line after it.
 ///
 /// A backslash begins `\n`, `\t`, `\r`, `\\`, or `\x` with two hexadecimal digits.
 fn next_byte(line: &[u8]) -> Option<(u8, &[u8])>

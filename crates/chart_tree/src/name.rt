@@ -18,14 +18,14 @@ pub struct PathText {
     pub names: List<NameText>,
 }
 
-/// A number as it is written: `units / 10^places`, and how many bits are to be kept behind the
+/// A number as it is written: `units / 10^places`, and how many bits are to be kept after the
 /// point where a `q` says so.
 #[derive(Clone, Copy, Debug, PartialEq, Eq)]
 pub struct LitText {
     /// The digits as a whole number.
     pub units: u128,
-    /// How many of the digits stand behind the point.
+    /// How many of the digits stand after the point.
     pub places: u8,
-    /// The bits behind the point that `q` asks for, 0 to 32.
+    /// The bits after the point that `q` asks for, 0 to 32.
     pub q: Option<u8>,
 }

@@ -15,11 +15,11 @@ pub enum SortText {
 /// The first value of a datum. A missing one is 0 or false, with the place of the datum's name.
 #[derive(Clone, Copy, Debug, PartialEq, Eq)]
 pub enum InitText {
-    /// A number. One of value 0 isn't negative, and has no digits behind the point and no `q`.
+    /// A number. One of value 0 isn't negative, and has no digits after the point and no `q`.
     Number {
         /// Whether a minus sign stands before it.
         negative: bool,
-        /// The number behind the sign.
+        /// The number after the sign.
         lit: LitText,
         /// The place of its first token.
         at: Span,

@@ -64,7 +64,7 @@ impl fmt::Display for Answer {
     }
 }
 
-/// What a line answers: `read TEXT`, where the text is all behind the first blank, or a call.
+/// What a line answers: `read TEXT`, where the text is all after the first blank, or a call.
 pub fn answer_line(line: &str) -> Answer {
     let (name, rest) = line.split_once(' ').unwrap_or((line, ""));
     if name == "read" {

@@ -7,7 +7,7 @@ use fixed_point::{Num, Scale};
 /// The most magnitude that a mantissa may have.
 const MOST: u128 = 1 << 100;
 
-/// The most bits behind the point.
+/// The most bits after the point.
 const MOST_FRAC: u32 = 64;
 
 /// Whether the mantissa is at most 2^100 in magnitude.

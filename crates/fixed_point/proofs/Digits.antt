@@ -15,7 +15,7 @@ unfolding first_from
 first_from-here test k zero e = refl
 first_from-here test k (suc n) e = ap (λ (b : Bool). cond b k (first_from test (k + 1) n)) e
 
--- or one behind it
+-- or one after it
 pub first_from-later : (test : ℕ → Bool) (k m n : ℕ) → n ≡ suc m → test k ≡ false → first_from test k n ≡ first_from test (k + 1) m
 unfolding first_from
 first_from-later test k m n length_is e =
@@ -27,7 +27,7 @@ unfolding first_from
 first_from-none test k zero e = refl
 first_from-none test k (suc n) e = absurd (omega arith)
 
--- it is at most the one behind the last
+-- it is at most the one after the last
 first_from-within : (test : ℕ → Bool) (k n : ℕ) → first_from test k n ≤ k + n
 unfolding first_from
 first_from-within test k zero = omega arith

@@ -16,7 +16,7 @@ pub floor_by-power : (z : ℤ) (d : ℕ) → int_shr z d ≡ floor_by z (2 ^ d)
 floor_by-power (pos a) d = refl
 floor_by-power (negsuc a) d = refl
 
--- what lies behind the t bits of a goes with the d bits that are dropped
+-- what lies after the t bits of a goes with the d bits that are dropped
 quotient_dropped : (n a r t d : ℕ) → n ≡ a * 2 ^ t + r → r < 2 ^ t → n / 2 ^ (t + d) ≡ a / 2 ^ d
 quotient_dropped n a r t d e small =
     let front : n / 2 ^ t ≡ a = ap (λ (x : ℕ). x / 2 ^ t) e ∙ shr_high a t r small in
@@ -119,7 +119,7 @@ is_whole-zero a frac zero_is =
 test_of_product : (x p : ℕ) → 0 < p → nat_eq (x * p) 0 ≡ nat_eq x 0
 test_of_product x p some = grind (arith, nat_tests)
 
--- at a lower fraction a number is whole where the bits behind it are 0
+-- at a lower fraction a number is whole where the bits after it are 0
 pub is_whole-dropped : (a : Num) (frac : ℕ) → frac ≤ a.frac
     → is_whole a frac ≡ nat_eq (unsigned_abs a.mantissa % 2 ^ (a.frac - frac)) 0
 is_whole-dropped a frac below =

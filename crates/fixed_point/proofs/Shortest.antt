@@ -22,7 +22,7 @@ all_from_pass : (ds : List ℕ) → AllPass is_ascii_digit ds → prefix_len is_
 all_from_pass ds pass =
     prefix_len_is is_ascii_digit ds (length ds) 0 (omega arith) (λ k below. pass k 0 below) (λ past. absurd (omega arith))
 
--- digits behind a number leave it at the front
+-- digits after a number leave it at the front
 value_bounds : (v : ℕ) (ds : List ℕ) → prefix_len is_ascii_digit ds ≡ length ds
     → (v * 10 ^ length ds ≤ value_after v ds) × (value_after v ds < (v + 1) * 10 ^ length ds)
 unfolding value_after
@@ -56,7 +56,7 @@ whole_by_bounds q u s some low high =
 
 -- ---- how long a text is
 
--- a sign and what comes behind it
+-- a sign and what comes after it
 sign_length : (text : List ℕ) → (if is_negative text then 1 else 0) + length (without 45 text) ≤ length text
 sign_length [] = omega arith
 sign_length (c ∷ text) = by_test (nat_eq c 45)
@@ -65,11 +65,11 @@ sign_length (c ∷ text) = by_test (nat_eq c 45)
     by_test true = omega arith
     by_test false = omega arith
 
--- digits and what comes behind them
+-- digits and what comes after them
 digits_length : (text : List ℕ) → length (leading_digits text) + length (after_digits text) ≤ length text
 digits_length text = omega (arith, length-take (prefix_len is_ascii_digit text) text, length-drop (length (leading_digits text)) text)
 
--- a point and digits behind it
+-- a point and digits after it
 point_length : (text : List ℕ) → 0 < length (digits_behind text) → 1 + length (digits_behind text) ≤ length text
 point_length [] some = absurd (omega arith)
 point_length (c ∷ text) some = by_test (nat_eq c 46) some
@@ -90,7 +90,7 @@ sign_size (pos n) = by_test (nat_lt n 0) (not_below n)
     by_test false e = refl
 sign_size (negsuc n) = refl
 
--- the point and the digits behind it
+-- the point and the digits after it
 behind_size : (n frac most : ℕ) → (0 < places_of n frac → 1 + places_of n frac ≤ most) → length (behind_point n frac) ≤ most
 behind_size n frac most room = by_test (nat_eq (n % 2 ^ frac) 0) refl
   where

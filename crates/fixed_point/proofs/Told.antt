@@ -1,4 +1,4 @@
--- The decimal text of a number tells it exactly, with the fewest digits behind the point.
+-- The decimal text of a number tells it exactly, with the fewest digits after the point.
 use Rattle.std.proofs.Common.{◌≡◌, ◌≢◌, ℕ, zero, suc, ◌+◌, ◌-◌, ◌*◌, ◌/◌, ◌%◌, ◌^◌, ◌<◌, ◌≤◌, ℤ, pos, negsuc, int_lt, unsigned_abs, Bool, true, false, not, cond, nat_eq, nat_lt, ◌==◌, ◌&&◌, if◌then◌else◌, List, [], ◌∷◌, ◌++◌, length, take, drop, decimal, refl, sym, ap, ◌∙◌, subst, ⊎_elim, length-append, arith}
 use Rattle.std.proofs.Math.Nat.{one-le-pow, div-div-eq-div-mul, mod-one, pow-suc, div-le_self}
 use Rattle.std.proofs.lemmas.Nat.{div-mul-add, mod-mul-add, div-add-mod', mod_below}
@@ -25,7 +25,7 @@ AreDigits ds = prefix_len is_ascii_digit ds ≡ length ds
 digit_passes : (d : ℕ) → d < 10 → is_ascii_digit (48 + d) ≡ true
 digit_passes d below = grind (arith, nat_tests)
 
--- what stands behind digits goes on from there
+-- what stands after digits goes on from there
 prefix_behind : (front back : List ℕ) → prefix_len is_ascii_digit front ≡ length front
     → prefix_len is_ascii_digit (front ++ back) ≡ length front + prefix_len is_ascii_digit back
 prefix_behind front back all =
@@ -100,7 +100,7 @@ value_more : (v k n : ℕ) → (v * 10 ^ k + (n / 10) % 10 ^ k) * 10 + n % 10 �
 value_more v k n =
     omega (arith, rest_by_digit n (10 ^ k) (ten_some k), ap (λ (x : ℕ). v * x) (pow-suc 10 k), ap (λ (x : ℕ). n % x) (pow-suc 10 k))
 
--- the value of the last digits, behind another number
+-- the value of the last digits, after another number
 value_last : (v k n : ℕ) → value_after v (last_digits k n) ≡ v * 10 ^ k + n % 10 ^ k
 unfolding last_digits value_after
 value_last v zero n = omega (arith, mod-one n)
@@ -183,7 +183,7 @@ is_number-parts : (text : List ℕ) → is_number text ≡ by_parts (whole_digit
 unfolding by_parts
 is_number-parts text = refl
 
--- with nothing behind them, and digits behind a point, they are those of a number
+-- with nothing after them, and digits after a point, they are those of a number
 by_parts-good : (whole : List ℕ) (point : Bool) (behind : List ℕ) (negative : Bool) → 0 < length whole → (point ≡ true → 0 < length behind)
     → by_parts whole point behind [] negative ≡ true
 unfolding by_parts
@@ -267,7 +267,7 @@ no_minus (d ∷ digits) rest all some = by_digit (is_ascii_digit d) refl all
     by_digit true e all = minus_is_none d e
     by_digit false e all = absurd (omega (arith, all))
 
--- a whole number has no digits behind the point
+-- a whole number has no digits after the point
 no_places : (n frac : ℕ) → n % 2 ^ frac ≡ 0 → places_of n frac ≡ 0
 no_places n frac none =
     let same : n * 1 ≡ n = omega arith in
@@ -348,7 +348,7 @@ decimal_text-exact m frac fits =
     let parts = text_parts m frac fits in
     tells_by_parts m frac (decimal_text m frac) (decimal (unsigned_abs m / 2 ^ frac)) parts.0 parts.2 parts.1
 
--- no text that tells it has fewer digits behind the point
+-- no text that tells it has fewer digits after the point
 pub places_fewest : (m : ℤ) (frac : ℕ) (other : List ℕ) → TellsExactly m frac other
     → places_of (unsigned_abs m) frac ≤ length (behind_digits other)
 places_fewest m frac other tells =

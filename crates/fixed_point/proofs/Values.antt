@@ -17,13 +17,13 @@ use Rattle.fixed_point.proofs.Digits.{power_more}
 pub digit_within : (x : ℕ) → is_ascii_digit x ≡ true → x ≤ 57
 digit_within x e = grind (arith, nat_tests)
 
--- the next digit goes behind the number so far
+-- the next digit goes after the number so far
 pub value_after-step : (n : ℕ) (digits : List ℕ) (i : ℕ) → i < length digits
     → value_after (n * 10 + (get_or digits i 0 - 48)) (drop (i + 1) digits) ≡ value_after n (drop i digits)
 unfolding value_after
 value_after-step n digits i below = sym (at_drop_more (value_after n) digits i 0 below)
 
--- behind the last digit it is the value
+-- after the last digit it is the value
 pub value_after-last : (n : ℕ) (digits : List ℕ) (i : ℕ) → length digits ≤ i → value_after n (drop i digits) ≡ n
 unfolding value_after
 value_after-last n digits i past = at_drop_all (value_after n) digits i past
@@ -42,13 +42,13 @@ room_more v d k m room small next fits =
 pub room_below : (v k room : ℕ) → (v + 1) * 10 ^ k ≤ room → v < room
 room_below v k room fits = omega (arith, mul-le (v + 1) 1 (v + 1) (10 ^ k) (omega arith) (one-le-pow k 10 (omega arith)))
 
--- digits behind digits
+-- digits after digits
 pub value_after-append : (n : ℕ) (front back : List ℕ) → value_after n (front ++ back) ≡ value_after (value_after n front) back
 unfolding value_after
 value_after-append n [] back = refl
 value_after-append n (digit ∷ front) back = value_after-append (n * 10 + (digit - 48)) front back
 
--- the second part of so many digits has room behind the first
+-- the second part of so many digits has room after the first
 pub room_behind : (v w b : ℕ) → v < (0 + 1) * 10 ^ w → w + b ≤ 36 → (v + 1) * 10 ^ b ≤ 10 ^ 36
 room_behind v w b below few =
     omega (arith, mul-le (v + 1) (10 ^ b) (10 ^ w) (10 ^ b) (omega arith) (omega arith), pow-add 10 w b, ten_power-le (w + b) 36 few)
@@ -71,7 +71,7 @@ AllPass-leading text = λ k d below.
     let inside : k < prefix_len is_ascii_digit text = omega (arith, length-prefix_len is_ascii_digit text) in
     ap is_ascii_digit (get_or-take (prefix_len is_ascii_digit text) text k d inside) ∙ prefix_len_passes is_ascii_digit text k d inside
 
--- and so are those behind a point
+-- and so are those after a point
 pub AllPass-behind : (text : List ℕ) → AllPass is_ascii_digit (digits_behind text)
 AllPass-behind text = by_point (starts_with 46 text)
   where

@@ -1,5 +1,5 @@
 -- Decimal text as a number: an optional minus sign, digits, optionally a point and digits, and
--- optionally `q` and one or two digits, the number of bits behind the point.
+-- optionally `q` and one or two digits, the number of bits after the point.
 use Rattle.std.specs.Prelude.{ℕ, ◌+◌, ◌-◌, ◌*◌, ◌/◌, ◌%◌, ◌^◌, ◌==◌, nat_lt, nat_le, pos, neg_ℤ, Bool, true, false, not, ◌&&◌, if◌then◌else◌, List, [], ◌∷◌, ◌++◌, length, drop, take_while, Option, Some, None, Result, Ok, Err}
 use Rattle.std.specs.Char.{is_ascii_digit}
 use Rattle.fixed_point.specs.Text.{first_from}
@@ -28,15 +28,15 @@ without byte text = if starts_with byte text then drop 1 text else text
 abbrev pub leading_digits : List ℕ → List ℕ
 leading_digits text = take_while is_ascii_digit text
 
--- what comes behind them
+-- what comes after them
 abbrev pub after_digits : List ℕ → List ℕ
 after_digits text = drop (length (leading_digits text)) text
 
--- the digits behind a point at the front, if there is one
+-- the digits after a point at the front, if there is one
 abbrev pub digits_behind : List ℕ → List ℕ
 digits_behind text = if starts_with 46 text then leading_digits (drop 1 text) else []
 
--- what comes behind the point and those digits
+-- what comes after the point and those digits
 abbrev pub rest_behind : List ℕ → List ℕ
 rest_behind text = if starts_with 46 text then after_digits (drop 1 text) else text
 
@@ -48,7 +48,7 @@ is_negative text = starts_with 45 text
 abbrev pub whole_digits : List ℕ → List ℕ
 whole_digits text = leading_digits (without 45 text)
 
--- what comes behind them
+-- what comes after them
 abbrev pub after_whole : List ℕ → List ℕ
 after_whole text = after_digits (without 45 text)
 
@@ -56,11 +56,11 @@ after_whole text = after_digits (without 45 text)
 abbrev pub has_point : List ℕ → Bool
 has_point text = starts_with 46 (after_whole text)
 
--- the digits behind the point, if there is one
+-- the digits after the point, if there is one
 abbrev pub behind_digits : List ℕ → List ℕ
 behind_digits text = digits_behind (after_whole text)
 
--- what comes behind them
+-- what comes after them
 abbrev pub after_behind : List ℕ → List ℕ
 after_behind text = rest_behind (after_whole text)
 
@@ -68,13 +68,13 @@ after_behind text = rest_behind (after_whole text)
 abbrev pub has_bits : List ℕ → Bool
 has_bits text = starts_with 113 (after_behind text)
 
--- what comes behind the `q`
+-- what comes after the `q`
 abbrev pub bits_digits : List ℕ → List ℕ
 bits_digits text = drop 1 (after_behind text)
 
 -- ---- the number that digits tell
 
--- the number that digits tell, behind the digits of another number
+-- the number that digits tell, after the digits of another number
 unfoldable pub value_after : ℕ → List ℕ → ℕ
 value_after n [] = n
 value_after n (digit ∷ digits) = value_after (n * 10 + (digit - 48)) digits
@@ -109,7 +109,7 @@ is_number text = nat_lt 0 (length (whole_digits text))
 abbrev pub is_exact : ℕ → ℕ → ℕ → Bool
 is_exact units places frac = (units * 2 ^ frac) % 10 ^ places == 0
 
--- the fewest bits behind the point, up to 32, that tell units / 10 ^ places exactly, if any do
+-- the fewest bits after the point, up to 32, that tell units / 10 ^ places exactly, if any do
 abbrev pub exact_frac : ℕ → ℕ → Option ℕ
 exact_frac units places =
     let frac = first_from (is_exact units places) 0 33 in if nat_lt frac 33 then Some frac else None
@@ -142,7 +142,7 @@ number_of negative units places None = Err NotBinary
 number_of negative units places (Some frac) =
     signed_number negative frac (steps_within units places frac)
 
--- the number of digits before and behind the point, at most 36, and of bits, or the first fault
+-- the number of digits before and after the point, at most 36, and of bits, or the first fault
 abbrev pub number_told : Bool → List ℕ → List ℕ → Option ℕ → Result Num NumFault
 number_told negative whole behind bits =
     let units = value_of (whole ++ behind) in

@@ -15,7 +15,7 @@ last_digits (suc k) n = last_digits k (n / 10) ++ (48 + n % 10) ∷ []
 abbrev pub ends_within : ℕ → ℕ → ℕ → Bool
 ends_within n frac places = (n * 10 ^ places) % 2 ^ frac == 0
 
--- the fewest digits behind the point that tell n / 2 ^ frac exactly; frac digits always do
+-- the fewest digits after the point that tell n / 2 ^ frac exactly; frac digits always do
 abbrev pub places_of : ℕ → ℕ → ℕ
 places_of n frac = first_from (ends_within n frac) 0 frac
 
@@ -23,7 +23,7 @@ places_of n frac = first_from (ends_within n frac) 0 frac
 abbrev pub fraction_digits : ℕ → ℕ → List ℕ
 fraction_digits n frac = last_digits (places_of n frac) (n * 10 ^ places_of n frac / 2 ^ frac)
 
--- a point and the digits behind it, or nothing where the number is whole
+-- a point and the digits after it, or nothing where the number is whole
 abbrev pub behind_point : ℕ → ℕ → List ℕ
 behind_point n frac = if n % 2 ^ frac == 0 then [] else 46 ∷ fraction_digits n frac
 

@@ -35,7 +35,7 @@ fn wrapped(to: Scale, mantissa: i128) -> i128
     least + (mantissa - least).rem_euclid(power_of_two(u32::from(to.width)))
 }
 
-/// Brings the number to the scale: bits behind its fraction are dropped by floor, or zero bits are
+/// Brings the number to the scale: bits after its fraction are dropped by floor, or zero bits are
 /// added, and out of range the mode decides.
 #[tactic(auto, unfolding(crate::specs::Scales::fitted))]
 pub fn fit(a: Num, to: Scale, mode: Mode) -> Result<i128, Overflow>

@@ -23,7 +23,7 @@ fn without_bits(mantissa: i128, bits: u32) -> i128
     mantissa >> bits
 }
 
-/// The mantissa at a fraction: bits behind it are dropped by floor, or zero bits are added.
+/// The mantissa at a fraction: bits after it are dropped by floor, or zero bits are added.
 pub(crate) fn floored(a: Num, frac: u32) -> i128
     requires frac { frac ≤ 64 }
     requires size { a.frac ≤ frac → unsigned_abs (spec.scaled a frac) ≤ 2 ^ 100 }

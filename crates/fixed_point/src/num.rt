@@ -5,6 +5,6 @@
 pub struct Num {
     /// The whole number of steps.
     pub mantissa: i128,
-    /// How many bits stand behind the point: a step is `2^-frac`.
+    /// How many bits stand after the point: a step is `2^-frac`.
     pub frac: u32,
 }

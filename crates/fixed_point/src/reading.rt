@@ -54,7 +54,7 @@ fn digit_count(text: &[u8]) -> usize
     text.iter().take_while(|byte| byte.is_ascii_digit()).count()
 }
 
-/// The digits at the front, and what comes behind them.
+/// The digits at the front, and what comes after them.
 pub fn split_digits(text: &[u8]) -> (&[u8], &[u8])
     ensures digits { result.0.now ≡ spec.leading_digits text.now }
     ensures rest { result.1.now ≡ spec.after_digits text.now }
@@ -62,7 +62,7 @@ pub fn split_digits(text: &[u8]) -> (&[u8], &[u8])
     text.split_at(digit_count(text))
 }
 
-/// Whether a point is at the front, the digits behind it, and what comes behind them.
+/// Whether a point is at the front, the digits after it, and what comes after them.
 fn split_behind(text: &[u8]) -> (bool, &[u8], &[u8])
     ensures point { result.0 ≡ spec.starts_with 46 text.now }
     ensures digits { result.1.now ≡ spec.digits_behind text.now }
@@ -77,7 +77,7 @@ fn split_behind(text: &[u8]) -> (bool, &[u8], &[u8])
     }
 }
 
-/// The number that digits tell, behind the digits of another number.
+/// The number that digits tell, after the digits of another number.
 pub fn value_after(start: u128, digits: &[u8]) -> u128
     requires digits { AllPass is_ascii_digit digits.now }
     requires room { (start + 1) * 10 ^ length digits.now ≤ 10 ^ 36 }
@@ -91,7 +91,7 @@ pub fn value_after(start: u128, digits: &[u8]) -> u128
     value
 }
 
-/// The fraction that stands behind `q`. None where it isn't one or two digits, up to 32.
+/// The fraction that stands after `q`. None where it isn't one or two digits, up to 32.
 fn read_bits(digits: &[u8]) -> Option<u32>
     ensures { result ≡ spec.bits_read digits.now }
 {
@@ -112,9 +112,9 @@ pub struct Numeral<'a> {
     pub negative: bool,
     /// The digits before the point, at least one.
     pub whole: &'a [u8],
-    /// The digits behind the point, none where there is no point.
+    /// The digits after the point, none where there is no point.
     pub behind: &'a [u8],
-    /// The bits behind the point that `q` asks for, 0 to 32.
+    /// The bits after the point that `q` asks for, 0 to 32.
     pub bits: Option<u32>,
 }
 

@@ -7,7 +7,7 @@ use crate::power::power_of_ten;
 /// Every mantissa that is read is less.
 const LIMIT: u128 = 1 << 99;
 
-/// The fewest bits behind the point, up to 32, that tell `units / 10^places` exactly.
+/// The fewest bits after the point, up to 32, that tell `units / 10^places` exactly.
 pub(crate) fn exact_frac(units: u128, places: u32) -> Option<u32>
     requires { places ≤ 36 }
     ensures { result ≡ spec.exact_frac units places }

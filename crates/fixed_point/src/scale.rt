@@ -11,7 +11,7 @@ pub struct Scale {
     pub signed: bool,
     /// The bits of a mantissa.
     pub width: u8,
-    /// The bits behind the point.
+    /// The bits after the point.
     pub frac: u8,
     pub ghost some_bits: { 1 ≤ width },
     pub ghost bits_within: { width ≤ 64 },

@@ -5,7 +5,7 @@ ghost use Rattle.fixed_point.specs.Told as told;
 
 use crate::power::unsigned_power;
 
-/// Puts a byte behind the first `at`, and answers how many bytes there are now.
+/// Puts a byte after the first `at`, and answers how many bytes there are now.
 fn put(buf: &mut [u8], at: usize, byte: u8) -> usize
     requires { at < length buf.old }
     ensures text { take result buf.new ≡ take at buf.old ++ byte ∷ [] }
@@ -24,7 +24,7 @@ fn put_sign(buf: &mut [u8], mantissa: i128) -> usize
     if mantissa < 0 { put(buf, 0, b'-') } else { 0 }
 }
 
-/// Puts the digits of a whole number behind the first `at` bytes.
+/// Puts the digits of a whole number after the first `at` bytes.
 fn put_whole(buf: &mut [u8], at: usize, number: u128) -> usize
     requires { at + length (decimal number) ≤ length buf.old }
     ensures text { take result buf.new ≡ take at buf.old ++ decimal number }
@@ -37,7 +37,7 @@ fn put_whole(buf: &mut [u8], at: usize, number: u128) -> usize
     put(buf, front_end, b'0' + (number % 10) as u8)
 }
 
-/// Puts the digits behind the point of `number / 2^frac` behind the first `at` bytes.
+/// Puts the digits after the point of `number / 2^frac` after the first `at` bytes.
 fn put_behind(buf: &mut [u8], at: usize, number: u128, frac: u32) -> usize
     requires frac { frac ≤ 64 }
     requires room { at + 64 ≤ length buf.old }

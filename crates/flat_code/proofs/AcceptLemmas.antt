@@ -46,7 +46,7 @@ short_procs (y ∷ ys) zero x h lt is =
     rw is (grind (arith, nat_tests))
 short_procs (y ∷ ys) (suc p) x h lt is = short_procs ys p x (or_false (nat_lt 1000000000 (length (items_of y))) _ h).1 (omega arith) is
 
--- the first fault of the procedures from one on is its own, or else that of those behind it
+-- the first fault of the procedures from one on is its own, or else that of those after it
 pub procs_fault-drop : (P : Program) (xs : List (Seq Instr)) (q p : ℕ) (x : Seq Instr) → p < length xs
     → x ≡ get_or xs p x
     → procs_fault P q (drop p (map items_of xs)) ≡ first_of (proc_fault P q (items_of x)) (procs_fault P (q + 1) (drop (p + 1) (map items_of xs)))
@@ -65,7 +65,7 @@ pub first_of-none : (o later : Option CodeFault) → is_some o ≡ false → fir
 first_of-none None later h = refl
 first_of-none (Some fault) later h = absurd (cc h)
 
--- names from one on are distinct where it is none of those behind it, and those are distinct
+-- names from one on are distinct where it is none of those after it, and those are distinct
 pub are_distinct-drop : (names : List (List ℕ)) (i : ℕ) (name : List ℕ) → i < length names
     → name ≡ get_or names i name
     → are_distinct (drop i names) ≡ (not (list_any (λ other. bytes_eq other name) (drop (i + 1) names)) && are_distinct (drop (i + 1) names))

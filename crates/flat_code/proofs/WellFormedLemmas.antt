@@ -22,7 +22,7 @@ pub passed : (good : Bool) (kind : CodeKind) (p i : ℕ) → unless good kind p 
 passed true kind p i h = refl
 passed false kind p i h = absurd (cc h)
 
--- behind one that isn't the last there is one more
+-- after one that isn't the last there is one more
 more_behind : (x : Instr) (rest : List Instr) (i len : ℕ) → last_returns x rest ≡ true → i + length (x ∷ rest) ≡ len → is_ret x ≡ false → i + 1 < len
 more_behind x [] i len last e r = absurd (cc (last, r))
 more_behind x (y ∷ rest) i len last e r = omega arith

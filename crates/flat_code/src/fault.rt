@@ -7,7 +7,7 @@ ghost use Rattle.flat_code.specs.Form.{code_number, code_name};
 pub enum CodeKind {
     /// `start` or `react` is no procedure, or an instruction names a state or an event that isn't there.
     BadNumber,
-    /// An `Unless` passes over more than there is behind it in its procedure.
+    /// An `Unless` passes over more than there is after it in its procedure.
     SkipOut,
     /// Over 262,144 procedures, or a procedure of over 1,000,000,000 instructions.
     TooManyProcs,

@@ -72,7 +72,7 @@ cut_from : (text : List ℕ) → CutFrom (parts_at 10 text) text (cut_of text)
 cut_from [] = refl
 cut_from (b ∷ text) = cut_begun b text (nat_eq b 10) (parts_at 10 text) (cut_of text) refl (cut_from text)
 
--- a text with a newline: its first line, and the cut of what is behind it
+-- a text with a newline: its first line, and the cut of what is after it
 pub cut_of-line : (text : List ℕ) (parts : Parts) → Some parts ≡ parts_at 10 text → cut_of text ≡ line_then parts.front (cut_of parts.rest)
 cut_of-line text parts e = let P : Option Parts → Type 0 = λ o. CutFrom o text (cut_of text) in subst P (sym e) (cut_from text)
 

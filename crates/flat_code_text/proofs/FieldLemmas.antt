@@ -31,7 +31,7 @@ drop_front : (words text : List ℕ) → drop (length words) (words ++ text) ≡
 drop_front [] text = refl
 drop_front (w ∷ words) text = drop_front words text
 
--- words and what is behind them
+-- words and what is after them
 pub behind-append : (words text : List ℕ) → behind words (words ++ text) ≡ Some text
 unfolding behind
 behind-append words text =
@@ -133,7 +133,7 @@ or_else_some : {A P : Type 0} (o other : Option A) (x : A) → or_else o other �
 or_else_some None other x h p q = q h
 or_else_some (Some y) other x h p q = p h
 
--- a value that a number behind words makes
+-- a value that a number after words makes
 made_of : {A : Type 0} (f : ℕ → A) (words : List ℕ) (n : ℕ) → IsNumber n → option_map f (number_behind words (words ++ decimal n)) ≡ Some (f n)
 made_of f words n h = ap (λ (o : Option ℕ). option_map f o) (number_behind-line words n h)
 

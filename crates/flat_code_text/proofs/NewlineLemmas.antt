@@ -58,7 +58,7 @@ name_lacks name h = bytes_lack name (is_name-bytes name h)
 number_lacks : (n : ℕ) → IsNumber n → IsLine (decimal n)
 number_lacks n h = decimal-lacks 10 n (omega arith) h
 
--- words and what is behind them
+-- words and what is after them
 words_then : (words text : List ℕ) → list_all (λ b. not (nat_eq b 10)) words ≡ true → IsLine text → IsLine (words ++ text)
 words_then words text h g = line-append words text (tested words h) g
 

@@ -48,7 +48,7 @@ text_of-cut (b ∷ text) = put_back b text (nat_eq b 10) refl (text_of-cut text)
 abbrev outcome_of_lines : Cut → Result Program CodeTextFault
 outcome_of_lines cut = outcome_from nothing_read 1 cut.lines cut.rest
 
--- a program's text with more behind it
+-- a program's text with more after it
 text_outcome : (P : Program) (more : List ℕ) → IsSpellable P
     → outcome_of_lines (cut_of (code_text P ++ more)) ≡ outcome_from (all_done P) (1 + length (code_lines P)) (cut_of more).lines (cut_of more).rest
 unfolding code_text
@@ -91,7 +91,7 @@ pub code_text-one : (P Q : Program) → IsSpellable P → IsSpellable Q → code
 code_text-one P Q h g e =
     let same : Ok P ≡ Ok Q = sym (text_read P h) ∙ (ap (λ t. outcome_of_lines (cut_of t)) e ∙ text_read Q g) in cc
 
--- behind a whole text stands nothing
+-- after a whole text stands nothing
 ends_there : (P Q : Program) (n : ℕ) (more : List ℕ) → outcome_from (all_done P) n (cut_of more).lines (cut_of more).rest ≡ Ok Q → more ≡ []
 ends_there P Q n more h =
     let read = read_from (all_done P) n (cut_of more).lines (cut_of more).rest Q h in

@@ -92,7 +92,7 @@ events_part states =
     line_part (events_left states) event_line IsName (name_behind (codes "e input ")) (λ n xs l. refl) (λ name h. name_behind-line (codes "e input ") name h)
     (λ l name h. name_behind-some (codes "e input ") l name h) (λ n xs. refl)
 
--- procedures that were read, and how many come behind the one that is read now
+-- procedures that were read, and how many come after the one that is read now
 pub record Around : Type 0 where
   pub states : List (List ℕ)
   pub events : List (List ℕ)

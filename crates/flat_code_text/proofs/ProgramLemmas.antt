@@ -78,7 +78,7 @@ lines_read P h =
     ∙ (steps-append (states_done P.states) (events_done P.states P.events) (events_lines P.events) (procs_lines P ++ end_line ∷ []) (events_read P.states P.events h.events h.event_names)
     ∙ (steps-append (events_done P.states P.events) (procs_done P) (procs_lines P) (end_line ∷ []) (procs_read P h) ∙ end_read P))
 
--- names that were read, and the lines behind theirs
+-- names that were read, and the lines after theirs
 record NamesRead (part : List (List ℕ) → List (List ℕ)) (after : List (List ℕ) → Partial) (lines : List (List ℕ)) (q : Partial) : Type 0 where
   names : List (List ℕ)
   others : List (List ℕ)
@@ -152,7 +152,7 @@ events_spelled states lines q h w =
       goes = rest.goes;
     })
 
--- the procedures that were read, and the lines behind theirs
+-- the procedures that were read, and the lines after theirs
 record ProcsRead (states events lines : List (List ℕ)) (q : Partial) : Type 0 where
   start : ℕ
   react : ℕ
@@ -188,7 +188,7 @@ procs_spelled states events lines q h w =
       goes = rest.goes;
     })
 
--- behind the line `end` no line can stand
+-- after the line `end` no line can stand
 pub nothing_behind : (P : Program) (lines : List (List ℕ)) (q : Partial) → steps (all_done P) lines ≡ Some q → (lines ≡ []) × (all_done P ≡ q)
 unfolding next
 nothing_behind P [] q h = (refl, same_Some (all_done P) q h)

@@ -77,7 +77,7 @@ read_from p n [] rest P h =
 read_from p n (line ∷ lines) rest P h =
     read_on p n line lines rest P (next p line) refl h (λ q. read_from q (n + 1) lines rest P)
 
--- the lines of one item, and those behind them
+-- the lines of one item, and those after them
 pub record FrontItem {X : Type 0} (more : List X → Partial) (lines_of : X → List (List ℕ)) (Fits : X → Type 0) (xs : List X) (lines : List (List ℕ)) (q : Partial) : Type 0 where
   pub item : X
   pub others : List (List ℕ)
@@ -90,7 +90,7 @@ pub record IsPart {X : Type 0} (with : ℕ → List X → Partial) (lines_of : X
   pub one_read : (n : ℕ) (xs : List X) (x : X) → Fits x → steps (with (suc n) xs) (lines_of x) ≡ Some (with n (xs ++ x ∷ []))
   pub one_spelled : (n : ℕ) (xs : List X) (lines : List (List ℕ)) (q : Partial) → steps (with (suc n) xs) lines ≡ Some q → IsWhole q → FrontItem (with n) lines_of Fits xs lines q
 
--- the lines of all items, and those behind them
+-- the lines of all items, and those after them
 pub record FrontItems {X : Type 0} (with : ℕ → List X → Partial) (lines_of : X → List (List ℕ)) (Fits : X → Type 0) (n : ℕ) (xs : List X) (lines : List (List ℕ)) (q : Partial) : Type 0 where
   pub items : List X
   pub others : List (List ℕ)

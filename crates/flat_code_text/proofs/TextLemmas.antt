@@ -3,7 +3,7 @@ use Rattle.std.proofs.Common.{◌≡◌, ℕ, List, [], ◌∷◌, ◌++◌, ref
 use Rattle.flat_code.specs.Program.{Program}
 use Rattle.flat_code_text.specs.Spelling.{states_part, events_part, procs_part, end_line, code_lines, text_of, code_text}
 
--- the text of lines and of those behind them
+-- the text of lines and of those after them
 pub text_of-append : (lines others : List (List ℕ)) → text_of (lines ++ others) ≡ text_of lines ++ text_of others
 text_of-append [] others = refl
 text_of-append (line ∷ lines) others = rw (text_of-append lines others, append_assoc line (10 ∷ text_of lines) (text_of others)) refl

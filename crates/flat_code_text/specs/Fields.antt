@@ -17,11 +17,11 @@ number_of token =
     if nat_lt (digits_value 10 token) (2 ^ 32) && bytes_eq (decimal (digits_value 10 token)) token
     then Some (digits_value 10 token) else None
 
--- what stands behind those words, where the text begins with them
+-- what stands after those words, where the text begins with them
 unfoldable pub behind : List ℕ → List ℕ → Option (List ℕ)
 behind words text = if starts_with nat_eq text words then Some (drop (length words) text) else None
 
--- the number behind those words, and nothing behind it
+-- the number after those words, and nothing after it
 unfoldable pub number_behind : List ℕ → List ℕ → Option ℕ
 number_behind words text = option_and_then number_of (behind words text)
 
@@ -29,11 +29,11 @@ number_behind words text = option_and_then number_of (behind words text)
 abbrev pub name_of : List ℕ → Option (List ℕ)
 name_of text = if is_name text then Some text else None
 
--- the name behind those words, and nothing behind it
+-- the name after those words, and nothing after it
 unfoldable pub name_behind : List ℕ → List ℕ → Option (List ℕ)
 name_behind words text = option_and_then name_of (behind words text)
 
--- a number and what stands behind the space that follows it
+-- a number and what stands after the space that follows it
 pub record Numbered : Type 0 where
   pub number : ℕ
   pub rest : List ℕ

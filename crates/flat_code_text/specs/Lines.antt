@@ -2,7 +2,7 @@
 use Rattle.std.specs.Prelude.{ℕ, nat_eq, List, [], ◌∷◌, Option, Some, None, option_map}
 use Rattle.std.specs.Prelude.{if◌then◌else◌}
 
--- what stands before a byte and behind it
+-- what stands before a byte and after it
 pub record Parts : Type 0 where
   pub front : List ℕ
   pub rest : List ℕ
@@ -18,7 +18,7 @@ parts_at byte (b ∷ text) =
     if nat_eq b byte then Some (record { front = []; rest = text })
     else option_map (parts_with b) (parts_at byte text)
 
--- the whole lines of a text, each without its newline, and what stands behind the last newline
+-- the whole lines of a text, each without its newline, and what stands after the last newline
 pub record Cut : Type 0 where
   pub lines : List (List ℕ)
   pub rest : List ℕ
@@ -32,7 +32,7 @@ begun_with b (line ∷ lines) rest = record { lines = (b ∷ line) ∷ lines; re
 abbrev pub line_then : List ℕ → Cut → Cut
 line_then line cut = record { lines = line ∷ cut.lines; rest = cut.rest }
 
--- the text cut behind each newline
+-- the text cut after each newline
 abbrev pub cut_of : List ℕ → Cut
 cut_of [] = record { lines = []; rest = [] }
 cut_of (b ∷ text) =

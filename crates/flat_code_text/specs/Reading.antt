@@ -44,7 +44,7 @@ abbrev pub root_next : ℕ → Expected
 root_next zero = expects.DataCount
 root_next (suc n) = expects.Root n
 
--- with so many states to come behind the root
+-- with so many states to come after the root
 abbrev pub leaf_next : ℕ → Expected
 leaf_next zero = expects.DataCount
 leaf_next (suc n) = expects.Leaf n
@@ -59,11 +59,11 @@ abbrev pub head_next : ℕ → Expected
 head_next zero = expects.End
 head_next (suc n) = expects.Head n
 
--- with one more state, and so many to come behind it
+-- with one more state, and so many to come after it
 abbrev pub with_state : Partial → ℕ → List ℕ → Partial
 with_state p more name = record p { states = p.states ++ name ∷ []; expected = leaf_next more }
 
--- with one more event, and so many to come behind it
+-- with one more event, and so many to come after it
 abbrev pub with_event : Partial → ℕ → List ℕ → Partial
 with_event p more name = record p { events = p.events ++ name ∷ []; expected = event_next more }
 
@@ -72,13 +72,13 @@ abbrev pub with_procs : Partial → Procs → Partial
 with_procs p three =
     record p { start = three.start; react = three.react; expected = head_next three.count }
 
--- with so many instructions to come in the procedure, and so many procedures behind it
+-- with so many instructions to come in the procedure, and so many procedures after it
 abbrev pub instr_next : Partial → ℕ → ℕ → Partial
 instr_next p zero procs =
     record p { procs = p.procs ++ p.instrs ∷ []; instrs = []; expected = head_next procs }
 instr_next p (suc n) procs = record p { expected = expects.Instr n procs }
 
--- with one more instruction, so many to come behind it, and so many procedures behind its own
+-- with one more instruction, so many to come after it, and so many procedures after its own
 abbrev pub with_instr : Partial → ℕ → ℕ → Instr → Partial
 with_instr p more procs i = instr_next (record p { instrs = p.instrs ++ i ∷ [] }) more procs
 
@@ -167,7 +167,7 @@ abbrev pub or_refuse :
 or_refuse None fault go = Err fault
 or_refuse (Some p) fault go = go p
 
--- the outcome of whole lines, the first of which has number n, and of what stands behind them
+-- the outcome of whole lines, the first of which has number n, and of what stands after them
 abbrev pub outcome_from : Partial → ℕ → List (List ℕ) → List ℕ → Result Program CodeTextFault
 outcome_from p n [] rest = at_end p n rest
 outcome_from p n (line ∷ lines) rest =

@@ -15,7 +15,7 @@ use Rattle.flat_code_text.specs.declared.partial.Partial.{Partial as PartialRead
 abbrev pub parts_of : PartsAt → Parts
 parts_of parts = record { front = parts.front.now; rest = parts.rest.now }
 
--- the number and the bytes behind it
+-- the number and the bytes after it
 abbrev pub numbered_of : NumberedAt → Numbered
 numbered_of numbered = record { number = numbered.number; rest = numbered.rest.now }
 

@@ -2,7 +2,7 @@
 ghost use Rattle.std.specs.Prelude.{◌≡◌};
 ghost use Rattle.flat_code_text.specs.Reading as spec;
 
-/// The line that is next. Counts are of what comes behind it.
+/// The line that is next. Counts are of what comes after it.
 #[derive(Clone, Copy, Debug, PartialEq, Eq)]
 pub enum Expected {
     /// The line `flowcode 1`.
@@ -41,7 +41,7 @@ pub fn root_next(count: u32) -> Expected
     }
 }
 
-/// With so many states to come behind the root.
+/// With so many states to come after the root.
 pub fn leaf_next(count: u32) -> Expected
     ensures { result ≡ spec.leaf_next count }
 {

@@ -11,7 +11,7 @@ pub enum CodeTextFault {
     BadLine(u32),
     /// Every whole line can stand, and the text ends before the line `end` is whole.
     Truncated,
-    /// A byte stands behind the line `end`; this is the line after it.
+    /// A byte stands after the line `end`; this is the line after it.
     Trailing(u32),
     /// The first line begins with `flowcode ` and names another version than 1.
     Version,

@@ -11,7 +11,7 @@ use flow_base::Text;
 use itoa::Buffer;
 use std::alloc::{AllocError, Global};
 
-/// A number, and what stands behind the space that follows it.
+/// A number, and what stands after the space that follows it.
 #[derive(Clone, Copy, Debug)]
 pub struct Numbered<'a> {
     pub number: u32,
@@ -44,7 +44,7 @@ pub fn number_of(token: &[u8]) -> Option<u32>
     }
 }
 
-/// What stands behind those words, where the text begins with them.
+/// What stands after those words, where the text begins with them.
 #[tactic(auto, unfolding(crate::specs::Fields::behind))]
 pub fn behind<'a>(words: &[u8], text: &'a [u8]) -> Option<&'a [u8]>
     ensures { option_copied result ≡ spec.behind words.now text.now }
@@ -56,7 +56,7 @@ pub fn behind<'a>(words: &[u8], text: &'a [u8]) -> Option<&'a [u8]>
     }
 }
 
-/// The number behind those words, and nothing behind it.
+/// The number after those words, and nothing after it.
 #[tactic(auto, unfolding(crate::specs::Fields::number_behind))]
 pub fn number_behind(words: &[u8], text: &[u8]) -> Option<u32>
     ensures { result ≡ spec.number_behind words.now text.now }
@@ -64,7 +64,7 @@ pub fn number_behind(words: &[u8], text: &[u8]) -> Option<u32>
     number_of(behind(words, text)?)
 }
 
-/// The name behind those words, and nothing behind it.
+/// The name after those words, and nothing after it.
 #[tactic(auto, unfolding(crate::specs::Fields::name_behind))]
 pub fn name_behind<'a>(words: &[u8], text: &'a [u8]) -> Option<&'a [u8]>
     ensures name { option_copied result ≡ spec.name_behind words.now text.now }

@@ -4,7 +4,7 @@ ghost use Rattle.std.specs.List.{position};
 ghost use Rattle.flat_code_text.specs.Lines as spec;
 ghost use Rattle.flat_code_text.specs.Views.{parts_of};
 
-/// What stands before a byte and behind it.
+/// What stands before a byte and after it.
 #[derive(Clone, Copy, Debug)]
 pub struct Parts<'a> {
     pub front: &'a [u8],

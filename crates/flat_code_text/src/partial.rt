@@ -107,7 +107,7 @@ impl Partial {
         true
     }
 
-    /// A state, whose name stands behind those words.
+    /// A state, whose name stands after those words.
     fn read_state(
         &mut self,
         alloc: Global,
@@ -200,7 +200,7 @@ impl Partial {
         Ok(true)
     }
 
-    /// With so many instructions to come in the procedure, and so many procedures behind it.
+    /// With so many instructions to come in the procedure, and so many procedures after it.
     fn expect_instrs(&mut self, alloc: Global, more: u32, procs: u32) -> Result<(), AllocError>
         ensures { OnOk result
             (partial_of self.new ≡ spec.instr_next (partial_of self.old) more procs) }

@@ -71,7 +71,7 @@ fn read_raw(alloc: Global, text: &[u8]) -> Result<RawCode, CodeTextFault>
     read_to_end(partial, number, rest)
 }
 
-/// The first line of a text, and what stands behind it.
+/// The first line of a text, and what stands after it.
 fn next_line(text: &[u8]) -> Option<Parts<'_>>
     ensures line { MatchOption result (cut_of text.now ≡ record { lines = []; rest = text.now })
         (λ parts. cut_of text.now ≡ line_then parts.front.now (cut_of parts.rest.now)) }
@@ -80,7 +80,7 @@ fn next_line(text: &[u8]) -> Option<Parts<'_>>
     cut_at(text, b'\n')
 }
 
-/// The code, where the line `end` was read and nothing stands behind it. The line that isn't whole
+/// The code, where the line `end` was read and nothing stands after it. The line that isn't whole
 /// has this number.
 fn read_to_end(partial: Partial, number: u32, rest: &[u8]) -> Result<RawCode, CodeTextFault>
     ensures { Answers program_of result (spec.at_end (partial_of partial) number rest.now) }

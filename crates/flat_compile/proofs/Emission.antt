@@ -9,7 +9,7 @@ use Rattle.flat_code.specs.declared.instr.Instr.{Instr}
 use Rattle.flat_code.specs.declared.instr.Instr.TheVariants as instrs
 use Rattle.flat_compile.specs.Emitted.{trans_code, transes_code, state_code, states_code}
 
--- the code of transitions with nothing behind them, and then the rest
+-- the code of transitions with nothing after them, and then the rest
 pub transes-append : (s : ℕ) (ts : List FlatTrans) (rest : List Instr) → transes_code s ts [] ++ rest ≡ transes_code s ts rest
 transes-append s [] rest = refl
 transes-append s (t ∷ ts) rest = ap (trans_code s t) (transes-append s ts rest)

@@ -95,7 +95,7 @@ module _ (P : Program) (p : ℕ) (code : List Instr) (h : HasCode P p code) (cur
             gives P _ _ (active n d) m.0 (one_fires events ts rest (i + 1 + 3) d r.1 m.1 (sym (fires_later cur t ts other) ∙ some))
       ]
 
-  -- behind the transitions of a state the code of the next one stands
+  -- after the transitions of a state the code of the next one stands
   skipped : (k : ℕ) (ts : List FlatTrans) (rest : List Instr) → drop (4 * length ts) (transes_code k ts rest) ≡ rest
   skipped k [] rest = refl
   skipped k (t ∷ ts) rest =
@@ -110,7 +110,7 @@ module _ (P : Program) (p : ℕ) (code : List Instr) (h : HasCode P p code) (cur
     past_is code i (4 * length x.outer) _ _ e ∙ skipped k x.outer (states_code (k + 1) rest),
   )
 
-  -- behind the active state nothing happens
+  -- after the active state nothing happens
   rest_passed : (xs : List State) (k i : ℕ) → s < k → drop i code ≡ states_code k xs → Gives P (at (active n s) cur p i) (active n s)
   rest_passed [] k i lt e = ret_ends P p code h (active n s) cur i 0 [] e
   rest_passed (x ∷ xs) k i lt e =

@@ -40,7 +40,7 @@ pub same_marks : (P : Program) (from : State) (cur : Option ℕ) (p i : ℕ) (ms
     → Reaches P from (at (record { marks = ms }) cur p i) → Reaches P from (at (record { marks = ms' }) cur p i)
 same_marks P from cur p i ms ms' e run = subst (λ (marks : List Bool). Reaches P from (at (record { marks = marks }) cur p i)) e run
 
--- where the machine goes on behind an Unless
+-- where the machine goes on after an Unless
 abbrev unless_next : World → Option ℕ → ℕ → ℕ → ℕ → Bool → Next
 unless_next w cur p i k good = Goes (record (at w cur p i) { frames = (if good then next (frame p i) else past (frame p i) k) ∷ [] })
 

@@ -36,7 +36,7 @@ some-states k (x ∷ xs) = omega arith
 -- ---- instructions
 
 module _ (c : Chart) (len : ℕ) where
-  -- behind a Ret any instruction may stand, or none
+  -- after a Ret any instruction may stand, or none
   ret_last : (rest : List Instr) → last_returns (instrs.Ret 0) rest ≡ true
   ret_last [] = refl
   ret_last (y ∷ rest) = refl

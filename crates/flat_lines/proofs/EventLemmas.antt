@@ -5,7 +5,7 @@ use Rattle.flat_lines.specs.declared.events.LineFault.{LineFault}
 use Rattle.flat_lines.specs.Lines.{lines_of}
 use Rattle.flat_lines.specs.Events.{event_of_line, event_then, events_of, refused_or, refused_from}
 
--- the first line is an event, and the others come behind it
+-- the first line is an event, and the others come after it
 pub events_of-event : (names : List (List ℕ)) (text line rest : List ℕ) (event : FlatEvent) → lines_of text ≡ line ∷ lines_of rest
     → event_of_line names line ≡ Ok event → events_of names (lines_of text) ≡ event ∷ events_of names (lines_of rest)
 events_of-event names text line rest event lines is =

@@ -25,7 +25,7 @@ only : (b : ℕ) (newline : Bool) → (if newline then [] ∷ [] else begun_with
 only b true = refl
 only b false = refl
 
--- the first line goes up to the first newline, and the others come behind it
+-- the first line goes up to the first newline, and the others come after it
 lines_of-first : (text : List ℕ) → 0 < length text → lines_of text ≡ take (line_length text) text ∷ lines_of (drop (line_length text + 1) text)
 lines_of-first [] h = absurd (omega arith)
 lines_of-first (b ∷ []) h = only b (nat_eq b 10)

@@ -12,7 +12,7 @@ name_at-within [] n name within is = absurd (omega arith)
 name_at-within (first ∷ rest) zero name within is = is
 name_at-within (first ∷ rest) (suc n) name within is = name_at-within rest n name (omega arith) is
 
--- a place in a list, one further behind one more name
+-- a place in a list, one further after one more name
 later : (m n : ℕ) → after (cond (nat_lt m n) (Some m) None) ≡ cond (nat_lt (1 + m) (suc n)) (Some (1 + m)) None
 later m n = grind (arith, nat_tests)
 

@@ -38,7 +38,7 @@ abbrev pub event_of_line : List (List ℕ) → List ℕ → Result FlatEvent Lin
 event_of_line names line =
     if bytes_eq line (codes "tick") then Ok events.Tick else named_or (index_of line names) (fault_of_line line)
 
--- an event in front of those behind it, and nothing where the line is refused
+-- an event in front of those after it, and nothing where the line is refused
 abbrev pub event_then : Result FlatEvent LineFault → List FlatEvent → List FlatEvent
 event_then (Ok e) rest = e ∷ rest
 event_then (Err fault) rest = []

@@ -3,16 +3,16 @@ ghost use Rattle.std.specs.Prelude.{◌≡◌, ◌∷◌, ◌<◌, length, nat_e
 ghost use Rattle.std.specs.List.{position};
 ghost use Rattle.flat_lines.specs.Lines.{lines_of};
 
-/// A text cut behind its first line.
+/// A text cut after its first line.
 #[derive(Clone, Copy, Debug)]
 pub struct Split<'a> {
     /// The first line, without its newline.
     pub line: &'a [u8],
-    /// What stands behind the line and its newline.
+    /// What stands after the line and its newline.
     pub rest: &'a [u8],
 }
 
-/// Cuts a text behind its first line, which may lack its newline where it is the last.
+/// Cuts a text after its first line, which may lack its newline where it is the last.
 pub fn split_line(text: &[u8]) -> Split<'_>
     requires { 0 < length text.now }
     ensures lines { lines_of text.now ≡ result.line.now ∷ lines_of result.rest.now }

@@ -52,7 +52,7 @@ one_state : (s : ℕ) (front : List ℕ) (last : ℕ) → s ∷ [] ≡ front ++ 
 one_state s [] last is = cc
 one_state s (x ∷ xs) last is = absurd (omega (arith, ap length is, length-append xs (last ∷ [])))
 
--- behind a run whose last state is known, one event more gives one state more
+-- after a run whose last state is known, one event more gives one state more
 pub flat_run_from-more : (c : Chart) (s : ℕ) (es : List FlatEvent) (e : FlatEvent) (front : List ℕ) (last : ℕ)
     → flat_run_from c s es ≡ front ++ last ∷ [] → flat_run_from c s (es ++ e ∷ []) ≡ flat_run_from c s es ++ flat_react c last e ∷ []
 flat_run_from-more c s [] e front last is = ap (λ (t : ℕ). s ∷ flat_react c t e ∷ []) (one_state s front last is)

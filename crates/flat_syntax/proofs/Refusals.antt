@@ -29,7 +29,7 @@ not_spelled s r fault h c w = let bad = sym (whole_only fine_chart.good s c w) �
 pub spelled_continues : (s : List Lexeme) (c : SpelledChart) → chart.spells s c → Continues chart s
 spelled_continues s c h = record { rest = []; value = c; spelled = rw append-nil h }
 
--- behind a chart that is spelled whole, a byte begins no token
+-- after a chart that is spelled whole, a byte begins no token
 pub no_token : (l : Lexed) (text : List ℕ) (tokens : List Token) (c : SpelledChart) → length text ≤ 1048576 → seen l ≡ cut_of text
     → (l.stop ≡ stops.End → ⊥) → tokens ≡ l.tokens.items → chart.spells (lexemes tokens) c → NoToken text l.at
 no_token l text tokens c short cut more same spelled = record {

@@ -35,7 +35,7 @@ trans = do
 unfoldable pub transes : ℕ → Grammar (List SpelledTrans)
 transes room = up_to (is kinds.Outer) trans room
 
--- state := 'state' NAME '{' trans* '}', behind so many transitions of the chart
+-- state := 'state' NAME '{' trans* '}', after so many transitions of the chart
 unfoldable pub state : ℕ → Grammar SpelledState
 state before = do
   token kinds.State
@@ -49,7 +49,7 @@ state before = do
 abbrev pub counted : ℕ → SpelledState → ℕ
 counted before s = before + length s.outer
 
--- state*, at most 63, behind the first state
+-- state*, at most 63, after the first state
 unfoldable pub states : ℕ → Grammar (List SpelledState)
 states before = up_to_from (is kinds.State) state counted 63 before
 

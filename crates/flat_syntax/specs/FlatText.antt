@@ -41,7 +41,7 @@ pub record StopsAt (text : List ℕ) (at : Span) : Type 0 where
   pub fault : FirstFault chart (cut_of text).tokens (first ∷ others)
   pub place : at ≡ first.at
 
--- behind tokens that continue, a byte begins no token
+-- after tokens that continue, a byte begins no token
 pub record NoToken (text : List ℕ) (at : Span) : Type 0 where
   pub short : length text ≤ 1048576
   pub stop : (cut_of text).stop ≢ stops.End

@@ -13,7 +13,7 @@ use token_grammar::{Cursor, Fault, Kind, ReadError, Span, Token};
 /// The greatest number of events in a chart.
 const EVENTS: usize = 64;
 
-/// The greatest number of states behind the first.
+/// The greatest number of states after the first.
 const OTHER_STATES: usize = 63;
 
 /// The greatest number of transitions in a chart.
@@ -49,7 +49,7 @@ fn read_transes<'a>(
     Ok(found)
 }
 
-/// A state, behind so many transitions of the chart.
+/// A state, after so many transitions of the chart.
 #[tactic(auto, unfolding(crate::specs::FlatGrammar::state))]
 fn read_state<'a>(cursor: &mut Cursor<'_, 'a>, before: usize) -> Result<StateTokens<'a>, ReadError>
     ensures read { Gives state_spelled result (lexemes cursor.new.rest.now)
@@ -64,7 +64,7 @@ fn read_state<'a>(cursor: &mut Cursor<'_, 'a>, before: usize) -> Result<StateTok
     Ok(StateTokens { name, outer })
 }
 
-/// The states behind the first, which has so many transitions.
+/// The states after the first, which has so many transitions.
 fn read_states<'a>(
     cursor: &mut Cursor<'_, 'a>,
     before: usize,

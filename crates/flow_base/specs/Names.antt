@@ -2,7 +2,7 @@
 use Rattle.std.specs.Prelude.{ℕ, zero, suc, ◌+◌, Bool, true, not, ◌&&◌, List, [], ◌∷◌, Option, Some, None, is_some, if◌then◌else◌}
 use Rattle.std.specs.Str.{bytes_eq}
 
--- the number behind the one before
+-- the number after the one before
 abbrev pub after : Option ℕ → Option ℕ
 after None = None
 after (Some n) = Some (n + 1)

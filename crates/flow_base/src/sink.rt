@@ -36,7 +36,7 @@ pub trait Sink {
 pub fn write_all<O: Sink>(out: &mut O, piece: &[u8]) -> Result<(), Failed>
     ensures ok { OnOk result (O.wrote out.new ≡ append_known (O.wrote out.old) piece.now) }
 
-    // A failure is one of the sink, behind a proper front of the piece.
+    // A failure is one of the sink, after a proper front of the piece.
     ensures failed { OnErr result (AppendsProperFront (O.wrote out.old) (O.wrote out.new) piece.now) }
     ensures cause { HasCause (O.faults out.old) (O.faults out.new) result }
     ensures empty { length piece.now ≡ 0 → out.new ≡ out.old }

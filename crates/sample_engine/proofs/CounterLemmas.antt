@@ -35,7 +35,7 @@ pub counter_input : (c same : CounterState) (v : ℕ) (value : Value) → c ≡ 
 counter_input c same v value is fits given =
     input_value c.program.scale c.world v value fits (subst (λ (x : CounterState). IsInputValue (chart_names x.program.scale) v value) (sym is) given)
 
--- behind it the engine goes on
+-- after it the engine goes on
 pub counter_set : (t : Tree) (n : Names) (c same : CounterState) (v : ℕ) (value : Value) (w : World) → c ≡ same → IsCounter t n c
     → same.stage ≡ Running → IsInputValue (chart_names same.program.scale) v value → IsInputSet c.world v value w
     → IsCounter t n (record c { world = w })

@@ -31,7 +31,7 @@ fault_at_stop {X} {g} a s r d e =
       ends = λ tok q h c. let bad = sym (read_through a.good t.used tok c) ∙ t.same (tok ∷ c.rest) (rw h refl) in cc;
     }
 
--- behind what was read
+-- after what was read
 pub fault_after : {X : Type 0} {g : Grammar X} {f m : Set} {n : Bool} → Good g f n m → (s : List Lexeme) (x : X) (tok : Lexeme) (q : List Lexeme)
     → g.reads s ≡ Ok (x, tok ∷ q) → FirstFault g s (tok ∷ q)
 fault_after {X} {g} a s x tok q e =

@@ -101,7 +101,7 @@ pub same_cons : (t : Lexeme) (s r : List Lexeme) → SameHead (t ∷ s) r → (s
 same_cons t s [] h = absurd h
 same_cons t s (t' ∷ s') h = (s', ap (λ (y : Lexeme). y ∷ s') (sym h))
 
--- what follows the tokens may change behind its first
+-- what follows the tokens may change after its first
 pub carried : (s used r r' : List Lexeme) → s ≡ used ++ r → SameHead r r' → SameHead s (used ++ r')
 carried s used r r' e h = subst (λ z. SameHead z (used ++ r')) (sym e) (same-append used r r' h)
 

@@ -25,7 +25,7 @@ then_begun u c samples =
       };
     }
 
--- behind the first part, what continues the second continues the whole
+-- after the first part, what continues the second continues the whole
 pub then_behind : {X Y : Type 0} (g : Grammar X) (h : X → Grammar Y) (p u : List Lexeme) (x : X) → g.spells p x → Continues (h x) u
     → Continues (g >>= h) (p ++ u)
 then_behind g h p u x w c = record {

@@ -55,7 +55,7 @@ past_by s r more p = record {
   continues = more (p.used ++ p.first ∷ []) p.continues;
 }
 
--- behind tokens that were used
+-- after tokens that were used
 pub past_behind : {X Y : Type 0} {g : Grammar X} {h : Grammar Y} (s used q r : List Lexeme) → s ≡ used ++ q
     → ((u : List Lexeme) → Continues g u → Continues h (used ++ u)) → GoesPast g q r → GoesPast h s r
 past_behind {X} {Y} {g} {h} s used q r parts more p = record {

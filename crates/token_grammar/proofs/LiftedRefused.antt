@@ -28,7 +28,7 @@ refused_read set fault a s =
       | inr away ↦ rw (refused_always set (Some fault) s, away) (a.other s away)
     ]
 
--- and whatever would stand behind it
+-- and whatever would stand after it
 pub refused_read_then : {X Y : Type 0} {g : Grammar X} (set : Set) (fault : Fault) (h : X → Grammar Y) → Expects set g → (s : List Lexeme)
     → (allowed set (λ t. Some fault) g >>= h).reads s ≡ (forbidden {X = Y} set fault).reads s
 unfolding forbidden

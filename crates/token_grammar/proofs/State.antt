@@ -35,7 +35,7 @@ module _ {S X : Type 0} (set : S → Set) (g : S → Grammar X) (next : S → X 
     spelled = record { p = u ++ c.rest; q = []; parts = sym (append-nil (u ++ c.rest)); first = c.spelled; second = refl };
   }
 
-  -- behind an item, what continues the others continues the whole
+  -- after an item, what continues the others continues the whole
   pub from_behind : (s : S) (p u : List Lexeme) (x : X) → (g s).spells p x → Continues (many_from set g next (next s x)) u
       → Continues (many_from set g next s) (p ++ u)
   unfolding many_from

@@ -13,7 +13,7 @@ pub record Grammar (X : Type 0) : Type 1 where
   -- what reading from the front gives
   pub reads : List Lexeme → Outcome X
 
--- what reads on behind what was read
+-- what reads on after what was read
 abbrev pub and_then : {X Y : Type 0} → Outcome X → (X → List Lexeme → Outcome Y) → Outcome Y
 and_then (Ok x) f = f x.0 x.1
 and_then (Err e) f = Err e
@@ -195,7 +195,7 @@ many_from_reads set f next (suc n) s t =
     (λ x r. and_then (many_from_reads set f next n (next s x) r) (λ xs q. Ok (x ∷ xs, q)))
     else Ok ([], t)
 
--- any number; next tells what an item leaves for those behind it
+-- any number; next tells what an item leaves for those after it
 unfoldable pub many_from : {S X : Type 0}
     → (S → Kind → Bool) → (S → Grammar X) → (S → X → S) → S → Grammar (List X)
 many_from set g next s = record {
@@ -224,7 +224,7 @@ up_to_reads set f next (suc n) s t =
     (λ x r. and_then (up_to_reads set f next n (next s x) r) (λ xs q. Ok (x ∷ xs, q)))
     else Ok ([], t)
 
--- at most n; next tells what an item leaves for those behind it
+-- at most n; next tells what an item leaves for those after it
 unfoldable pub up_to_from : {S X : Type 0}
     → (Kind → Bool) → (S → Grammar X) → (S → X → S) → ℕ → S → Grammar (List X)
 up_to_from set g next n s = record {

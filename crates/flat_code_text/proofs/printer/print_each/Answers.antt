@@ -6,7 +6,7 @@ use Rattle.flat_code_text.specs.Spelling.{HasNumbers}
 use Rattle.flat_code_text.proofs.TextLemmas.{text_of-append}
 use Rattle.flat_code_text.proofs.printer.print_each.Goals as goal
 
--- what holds of an item, and of those behind it, holds of those from it on
+-- what holds of an item, and of those after it, holds of those from it on
 one_more : {X Y Q : Type 0} (P : Y → Type 0) (f : X → Y) (xs : List X) (i : ℕ) (x : X) → x ≡ get_or xs i x → i < length xs → P (f x)
     → (AllByRecursion P (map f (drop i xs)) → Q) → AllByRecursion P (map f (drop (i + 1) xs)) → Q
 one_more P f xs i x is within here all more =

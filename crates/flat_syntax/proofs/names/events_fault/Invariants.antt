@@ -4,6 +4,6 @@ use Rattle.flat_syntax.specs.FlatNames as spec
 use Rattle.flat_syntax.specs.Spelled.{event_names}
 use Rattle.flat_syntax.proofs.names.events_fault.Given as goal
 
--- behind the events before it, the rest has the fault of all of them
+-- after the events before it, the rest has the fault of all of them
 abbrev pub invariant-loop-i : goal.invariant-loop-i
 invariant-loop-i l = spec.events_fault (event_names (take l.i l.events)) (lexemes (drop l.i l.events)) ≡ spec.events_fault [] (lexemes l.events)

@@ -6,7 +6,7 @@ use Rattle.flat_syntax.specs.FlatGrammar.{state, states, counted}
 use Rattle.flat_syntax.specs.Spelled.{state_spelled}
 use Rattle.flat_syntax.proofs.reader.read_states.Given as goal
 
--- what was found, and as many more as there may be behind so many transitions
+-- what was found, and as many more as there may be after so many transitions
 abbrev pub invariant-items : goal.invariant-items
 invariant-items l = record {
   room : l.transitions ≤ 1024;

@@ -1,18 +1,25 @@
 //! The bounds of a run.
 ghost use Rattle.std.specs.Prelude.{◌≡◌, ◌≤◌, ◌↔◌, IsSome, IfSome};
 ghost use Rattle.flow_base.specs.Bounds.{AreBounds};
+ghost use Rattle.flow_base.specs.declared.bounds.TheConstants.{DEPTH_LIMIT, STEP_LIMIT};
+
+/// The deepest that the depth of a run may be set.
+pub const DEPTH_LIMIT: u32 = 32;
+
+/// The most steps that one event may be given.
+pub const STEP_LIMIT: u32 = 50_000;
 
 /// How deep events may be sent, and how many steps the work of one event may take.
 #[derive(Clone, Copy, Debug, PartialEq, Eq)]
 pub struct Bounds {
-    /// How deep an event that is sent may send further ones: 1 to 32.
+    /// How deep an event that is sent may send further ones: 1 to `DEPTH_LIMIT`.
     pub depth: u32,
-    /// The steps of one event: 1 to 50,000.
+    /// The steps of one event: 1 to `STEP_LIMIT`.
     pub steps: u32,
     pub ghost some_depth: { 1 ≤ depth },
-    pub ghost depth_limit: { depth ≤ 32 },
+    pub ghost depth_limit: { depth ≤ DEPTH_LIMIT },
     pub ghost some_steps: { 1 ≤ steps },
-    pub ghost steps_limit: { steps ≤ 50000 },
+    pub ghost steps_limit: { steps ≤ STEP_LIMIT },
 }
 
 impl Bounds {
@@ -22,7 +29,7 @@ impl Bounds {
         ensures depth { IfSome result (λ bounds. bounds.depth ≡ depth) }
         ensures steps { IfSome result (λ bounds. bounds.steps ≡ steps) }
     {
-        if depth < 1 || depth > 32 || steps < 1 || steps > 50_000 {
+        if depth < 1 || depth > DEPTH_LIMIT || steps < 1 || steps > STEP_LIMIT {
             return None;
         }
         Some(Bounds { depth, steps })

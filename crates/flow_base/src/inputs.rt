@@ -1,11 +1,14 @@
 //! Where bytes come from.
-ghost use Rattle.std.specs.Prelude.{◌≡◌, ℕ, List, Option, OnOk, is_some, Bool};
+ghost use Rattle.std.specs.Prelude.{◌≡◌, ℕ, List, Option, OnOk, OnErr, is_some, Bool};
 ghost use Rattle.std.specs.Io.{ReadsAtMost};
 ghost use Rattle.flow_base.specs.Causes.{HasCause, OthersKept, NoneFalls, AllStay};
 ghost use Rattle.flow_base.specs.Bytes.{ReadTakes};
 
+use thiserror::Error;
+
 /// A read or a write failed.
-#[derive(Clone, Copy, Debug, PartialEq, Eq)]
+#[derive(Clone, Copy, Debug, PartialEq, Eq, Error)]
+#[error("read or write fault")]
 pub struct Failed;
 
 /// Files that are read by name. Each name has a count of its failed reads, which never falls; its
@@ -25,9 +28,10 @@ pub trait Inputs {
     fn read(&mut self, name: &str, buf: &mut [u8]) -> Result<usize, Failed>
         ensures bound { ReadsAtMost result buf.new }
 
-        // The bytes that are given are the next ones, and a failure takes none.
+        // The bytes that are given are the next ones. A failure takes none, and leaves the buffer.
         ensures bytes { ReadTakes (left self.old name.now) (left self.new name.now) result buf.new }
         ensures others { OthersKept name.now (left self.old) (left self.new) }
+        ensures kept { OnErr result (buf.new ≡ buf.old) }
 
         // A failure comes only where the count of that name rose, and success leaves every count.
         ensures cause { HasCause (faults self.old name.now) (faults self.new name.now) result }

@@ -24,7 +24,7 @@ mod tests;
 mod text;
 mod whole;
 
-pub use bounds::Bounds;
+pub use bounds::{Bounds, DEPTH_LIMIT, STEP_LIMIT};
 pub use event::FlatEvent;
 pub use fault::Fault;
 pub use inputs::{Failed, Inputs};

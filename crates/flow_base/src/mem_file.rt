@@ -1,6 +1,6 @@
 //! A file in memory, of which some reads fail.
 ghost use Rattle.std.specs.Prelude.{◌≡◌, ◌<◌, ◌≤◌, ◌++◌, [], Some};
-ghost use Rattle.std.specs.Prelude.{take, length, position, string_bytes};
+ghost use Rattle.std.specs.Prelude.{take, length, position, string_bytes, OnErr};
 ghost use Rattle.std.specs.Result.{result_ok};
 ghost use Rattle.std.specs.Io.{ReadsAtMost};
 ghost use Rattle.flow_base.specs.Bytes.{ReadTakes};
@@ -88,7 +88,7 @@ impl MemFile {
         count
     }
 
-    /// Reads its next bytes, or fails where the number of the read is listed.
+    /// Reads its next bytes, or fails where the number of the read is listed, and leaves the buffer.
     pub(crate) fn read(&mut self, buf: &mut [u8]) -> Result<usize, Failed>
         ensures count { result_ok result ≡ spec.read_count (length buf.new) (Some self.old) }
         ensures state { self.new ≡ spec.after_next (length buf.new) self.old }
@@ -96,6 +96,7 @@ impl MemFile {
         ensures bytes { ReadTakes (Some (spec.bytes_left (Some self.old)))
             (Some (spec.bytes_left (Some self.new)))
             result buf.new }
+        ensures kept { OnErr result (buf.new ≡ buf.old) }
     {
         if self.fails_next() {
             self.reads = self.reads.saturating_add(1);

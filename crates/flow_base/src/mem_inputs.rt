@@ -1,5 +1,6 @@
 //! Files in memory that are read by name.
-ghost use Rattle.std.specs.Prelude.{◌≡◌, ℕ, List, Bool, true, Some, OnOk, is_some, length, refl};
+ghost use Rattle.std.specs.Prelude.{◌≡◌, ℕ, List, Bool, true, Some, OnOk, OnErr, is_some};
+ghost use Rattle.std.specs.Prelude.{length, refl};
 ghost use Rattle.std.specs.Result.{result_ok};
 ghost use Rattle.std.specs.Io.{ReadsAtMost};
 ghost use Rattle.flow_base.specs.Bytes.{ReadTakes};
@@ -45,6 +46,7 @@ impl MemInputs {
         ensures bytes { ReadTakes (spec.left_of self.old.files name.now)
             (spec.left_of self.new.files name.now)
             result buf.new }
+        ensures kept { OnErr result (buf.new ≡ buf.old) }
     {
         match index_of(&self.files, name) {
             Some(index) => {
@@ -73,6 +75,7 @@ impl Inputs for MemInputs {
             result buf.new }
         ensures others { OthersKept name.now
             (spec.left_of self.old.files) (spec.left_of self.new.files) }
+        ensures kept { OnErr result (buf.new ≡ buf.old) }
         ensures cause { HasCause (spec.faults_of self.old name.now)
             (spec.faults_of self.new name.now) result }
         ensures counts { NoneFalls (spec.faults_of self.old) (spec.faults_of self.new) }

@@ -1,6 +1,6 @@
 //! Files of the system that are read by name.
 ghost use Rattle.std.specs.Prelude.{◌≡◌, ◌<◌, ℕ, List, Option, None, Bool, false};
-ghost use Rattle.std.specs.Prelude.{IfSome, is_some, vec_len, refl};
+ghost use Rattle.std.specs.Prelude.{IfSome, OnErr, is_some, vec_len, refl};
 ghost use Rattle.std.specs.Io.{ReadsAtMost};
 
 use crate::inputs::{Failed, Inputs};
@@ -8,6 +8,9 @@ use std::alloc::Global;
 use std::fs;
 use std::io::Read;
 use std::rt::Files;
+
+/// The most bytes that one read gives.
+const PIECE_SIZE: usize = 4_096;
 
 /// Files of the system. A file is opened at the first read of its name and read once: later reads
 /// go on in it, and after its end each gives 0. One that can't be opened fails at each read.
@@ -36,18 +39,23 @@ enum Source<F> {
 
 impl<F: Read + Drop> RealFile<F> {
     fn read(&mut self, buf: &mut [u8]) -> Result<usize, Failed>
-        ensures { ReadsAtMost result buf.new }
+        ensures bound { ReadsAtMost result buf.new }
+        ensures kept { OnErr result (buf.new ≡ buf.old) }
     {
         match &mut self.source {
-            Source::Open(file) => match file.read(buf) {
-                Ok(count) => {
-                    if count == 0 && !buf.is_empty() {
-                        self.source = Source::Ended;
-                    }
-                    Ok(count)
+            Source::Open(file) => {
+                // A file of the system may write into the buffer of a read that fails.
+                let mut piece = [0u8; PIECE_SIZE];
+                let most = buf.len().min(PIECE_SIZE);
+                let Ok(count) = file.read(&mut piece[..most]) else {
+                    return Err(Failed);
+                };
+                buf[..count].copy_from_slice(&piece[..count]);
+                if count == 0 && most > 0 {
+                    self.source = Source::Ended;
                 }
-                Err(_) => Err(Failed),
-            },
+                Ok(count)
+            }
             Source::Ended => Ok(0),
             Source::Missing => Err(Failed),
         }
@@ -93,6 +101,7 @@ impl<R: Files> RealInputs<R> {
 
     fn try_read(&mut self, name: &str, buf: &mut [u8]) -> Result<usize, Failed>
         ensures bound { ReadsAtMost result buf.new }
+        ensures kept { OnErr result (buf.new ≡ buf.old) }
         ensures count { self.new.failed ≡ self.old.failed }
     {
         if self.index_of(name).is_none() {

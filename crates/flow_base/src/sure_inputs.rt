@@ -1,5 +1,6 @@
 //! Files in memory of which no read fails.
-ghost use Rattle.std.specs.Prelude.{◌≡◌, ℕ, List, Bool, true, OnOk, IsOk, is_some, length, refl};
+ghost use Rattle.std.specs.Prelude.{◌≡◌, ℕ, List, Bool, true, OnOk, OnErr, IsOk, is_some};
+ghost use Rattle.std.specs.Prelude.{length, refl};
 ghost use Rattle.std.specs.Io.{ReadsAtMost};
 ghost use Rattle.flow_base.specs.Bytes.{ReadTakes};
 ghost use Rattle.flow_base.specs.Causes.{HasCause, OthersKept, NoneFalls, AllStay};
@@ -48,6 +49,7 @@ impl Inputs for SureInputs {
         ensures bytes { ReadTakes (spec.left_of self.old name.now) (spec.left_of self.new name.now)
             result buf.new }
         ensures others { OthersKept name.now (spec.left_of self.old) (spec.left_of self.new) }
+        ensures kept { OnErr result (buf.new ≡ buf.old) }
         ensures cause { HasCause 0 0 result }
         ensures counts { NoneFalls (λ name. 0) (λ name. 0) }
         ensures ok { OnOk result (AllStay (λ name. 0) (λ name. 0)) }

@@ -7,15 +7,19 @@ ghost use Rattle.flow_base.specs.Causes.{Rose, OthersKept, NoneFalls, AllStay};
 
 use crate::inputs::{Failed, Inputs};
 use std::alloc::{AllocError, Global};
+use thiserror::Error;
 
 /// Why a file wasn't read whole.
-#[derive(Clone, Copy, Debug, PartialEq, Eq)]
+#[derive(Clone, Copy, Debug, PartialEq, Eq, Error)]
 pub enum ReadEnd {
     /// A read failed.
+    #[error("read fault")]
     Failed,
     /// The file has more bytes than the limit.
+    #[error("file too long")]
     TooLong,
     /// Memory ran out.
+    #[error("out of memory")]
     Memory,
 }
 
@@ -40,6 +44,9 @@ impl From<AllocError> for ReadEnd {
         ReadEnd::Memory
     }
 }
+
+/// The most bytes that one read is asked for.
+const PIECE_SIZE: usize = 4_096;
 
 /// Reads the rest of a file whole, where it has at most `limit` bytes. A longer file is refused
 /// after one byte past the limit. What was read before an error is lost.
@@ -70,9 +77,9 @@ pub fn read_whole<I: Inputs>(
         → AllStay (I.faults inputs.old) (I.faults inputs.new) }
 {
     let mut text = Vec::new(alloc);
-    let mut buffer = [0u8; 4096];
+    let mut buffer = [0u8; PIECE_SIZE];
     'pieces: while text.len() <= limit {
-        let most = (limit - text.len()).min(4095) + 1;
+        let most = (limit - text.len()).min(PIECE_SIZE - 1) + 1;
         let count = inputs.read(name, &mut buffer[..most])?;
         if count == 0 {
             return Ok(text);

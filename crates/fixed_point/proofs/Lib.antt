@@ -4,5 +4,6 @@ pub mod Ranges
 pub mod Digits
 pub mod Values
 pub mod Steps
+pub mod Numerals
 pub mod Told
 pub mod Shortest

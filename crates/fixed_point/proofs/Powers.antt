@@ -1,7 +1,7 @@
--- Products with powers of two.
+-- Powers of two and of ten, and products with them.
 use Rattle.std.proofs.Common.{◌≡◌, ℕ, zero, suc, ◌+◌, ◌-◌, ◌*◌, ◌^◌, ◌<◌, ◌≤◌, ℤ, pos, negsuc, neg_ℤ, ◌*ℤ◌, unsigned_abs, FitsSigned, refl, ap, ⊎_elim, arith}
 use Rattle.std.proofs.lemmas.Nat.{pow-add, pow_below, mul-le}
-use Rattle.std.proofs.Math.Nat.{pow-le-pow_right}
+use Rattle.std.proofs.Math.Nat.{one-le-pow, pow-le-pow_right}
 use Rattle.std.proofs.lemmas.Bool.{cases_lt}
 use Rattle.std.proofs.lemmas.Int.{unsigned_abs-mul}
 use Rattle.std.specs.Int.{w128, cast_unsigned}
@@ -49,3 +49,7 @@ power-le i j h = let two : 0 < 2 = omega arith in pow-le-pow_right {n = 2} two {
 -- powers of ten in their order
 pub ten_power-le : (i j : ℕ) → i ≤ j → 10 ^ i ≤ 10 ^ j
 ten_power-le i j h = let ten : 0 < 10 = omega arith in pow-le-pow_right {n = 10} ten {i = i} {j = j} h
+
+-- a power of ten is at least 1
+pub ten_some : (k : ℕ) → 0 < 10 ^ k
+ten_some k = one-le-pow k 10 (omega arith)

@@ -13,46 +13,9 @@ use Rattle.fixed_point.specs.Reading.{without, leading_digits, after_digits, dig
 use Rattle.fixed_point.specs.Told.{TellsExactly, IsShortest}
 use Rattle.fixed_point.proofs.Digits.{length-last_digits}
 use Rattle.fixed_point.proofs.Values.{value_after-append, AllPass-leading, AllPass-behind, digit_within}
-use Rattle.fixed_point.proofs.Told.{places_fewest, quotient_again, ten_some, some_places, product_quotient}
-
--- ---- what digits tell
-
--- a list of digits is all digits at its front
-all_from_pass : (ds : List ℕ) → AllPass is_ascii_digit ds → prefix_len is_ascii_digit ds ≡ length ds
-all_from_pass ds pass =
-    prefix_len_is is_ascii_digit ds (length ds) 0 (omega arith) (λ k below. pass k 0 below) (λ past. absurd (omega arith))
-
--- digits after a number leave it at the front
-value_bounds : (v : ℕ) (ds : List ℕ) → prefix_len is_ascii_digit ds ≡ length ds
-    → (v * 10 ^ length ds ≤ value_after v ds) × (value_after v ds < (v + 1) * 10 ^ length ds)
-unfolding value_after
-value_bounds v [] all = (omega arith, omega arith)
-value_bounds v (d ∷ ds) all =
-    by_digit (is_ascii_digit d) refl all (λ rest. value_bounds (v * 10 + (d - 48)) ds rest)
-  where
-    by_digit : (b : Bool) → is_ascii_digit d ≡ b → cond b (1 + prefix_len is_ascii_digit ds) 0 ≡ suc (length ds)
-        → (prefix_len is_ascii_digit ds ≡ length ds
-        → ((v * 10 + (d - 48)) * 10 ^ length ds ≤ value_after (v * 10 + (d - 48)) ds)
-        × (value_after (v * 10 + (d - 48)) ds < (v * 10 + (d - 48) + 1) * 10 ^ length ds))
-        → (v * 10 ^ suc (length ds) ≤ value_after (v * 10 + (d - 48)) ds)
-        × (value_after (v * 10 + (d - 48)) ds < (v + 1) * 10 ^ suc (length ds))
-    by_digit true e all front =
-        let p = 10 ^ length ds in
-        let bounds = front (omega arith) in
-        let within = digit_within d e in
-        let low : (v * 10) * p ≤ (v * 10 + (d - 48)) * p = mul-le (v * 10) p (v * 10 + (d - 48)) p (omega arith) (omega arith) in
-        let high : (v * 10 + (d - 48) + 1) * p ≤ ((v + 1) * 10) * p = mul-le (v * 10 + (d - 48) + 1) p ((v + 1) * 10) p (omega arith) (omega arith) in (
-          omega (arith, low, bounds.0, ap (λ (x : ℕ). v * x) (pow-suc 10 (length ds))),
-          omega (arith, high, bounds.1, ap (λ (x : ℕ). (v + 1) * x) (pow-suc 10 (length ds))),
-        )
-    by_digit false e all front = absurd (omega (arith, all))
-
--- what lies between two multiples
-whole_by_bounds : (q u s : ℕ) → 0 < s → q * s ≤ u → u < (q + 1) * s → u / s ≡ q
-whole_by_bounds q u s some low high =
-    let rest : u - q * s < s = omega (arith, low, high) in
-    let parts : u ≡ q * s + (u - q * s) = omega (arith, low) in
-    ap (λ (x : ℕ). x / s) parts ∙ div-mul-add q s (u - q * s) rest
+use Rattle.fixed_point.proofs.Powers.{ten_some}
+use Rattle.fixed_point.proofs.Numerals.{AreDigits-from_pass, value_bounds, whole_by_bounds}
+use Rattle.fixed_point.proofs.Told.{places_fewest, quotient_again, some_places, product_quotient}
 
 -- ---- how long a text is
 
@@ -113,12 +76,12 @@ whole_value m frac other tells =
     let n = unsigned_abs m in
     let whole = value_after 0 (whole_digits other) in
     let behind = behind_digits other in
-    let bounds = value_bounds whole behind (all_from_pass behind (AllPass-behind (after_whole other))) in
+    let bounds = value_bounds whole behind (AreDigits-from_pass behind (AllPass-behind (after_whole other))) in
     let told : value_after 0 (whole_digits other ++ behind) ≡ n * 10 ^ length behind / 2 ^ frac = product_quotient _ _ _ (pow_pos frac) tells.value in
     let all : value_after whole behind ≡ n * 10 ^ length behind / 2 ^ frac = sym (value_after-append 0 (whole_digits other) behind) ∙ told in
     sym (quotient_again n (2 ^ frac) (10 ^ length behind) (ten_some (length behind)))
     ∙ ap (λ (x : ℕ). x / 10 ^ length behind) (sym all)
-    ∙ whole_by_bounds whole (value_after whole behind) (10 ^ length behind) (ten_some (length behind)) bounds.0 bounds.1
+    ∙ whole_by_bounds whole (value_after whole behind) (10 ^ length behind) bounds.0 bounds.1
 
 -- so there are at least as many of them
 whole_length : (m : ℤ) (frac : ℕ) (other : List ℕ) → unsigned_abs m < 2 ^ 128 → TellsExactly m frac other → 0 < length (whole_digits other)
@@ -126,7 +89,7 @@ whole_length : (m : ℤ) (frac : ℕ) (other : List ℕ) → unsigned_abs m < 2 
 whole_length m frac other fits tells some =
     let n = unsigned_abs m in
     let digits = whole_digits other in
-    let bounds = value_bounds 0 digits (all_from_pass digits (AllPass-leading (without 45 other))) in
+    let bounds = value_bounds 0 digits (AreDigits-from_pass digits (AllPass-leading (without 45 other))) in
     length-decimal-le_wide (length digits) (n / 2 ^ frac) some
     (omega (arith, whole_value m frac other tells, bounds.1)) (omega (arith, div-le_self n (2 ^ frac)))
 

@@ -1,11 +1,10 @@
 -- A decimal number in steps of a power of two, bit by bit.
 use Rattle.std.proofs.Common.{◌≡◌, ◌≢◌, ℕ, ◌+◌, ◌-◌, ◌*◌, ◌/◌, ◌%◌, ◌^◌, ◌<◌, ◌≤◌, Bool, true, nat_lt, if◌then◌else◌, Some, None, sym, ap, ◌∙◌, arith}
 use Rattle.std.proofs.lemmas.Nat.{mul-le, le-div, div-add-mod'}
-use Rattle.std.proofs.Math.Nat.{one-le-pow}
 use Rattle.std.proofs.lemmas.Bool.Decides.{nat_tests}
 use Rattle.fixed_point.specs.Text.{first_from}
 use Rattle.fixed_point.specs.Reading.{is_exact, exact_frac, steps_of, steps_within}
-use Rattle.fixed_point.proofs.Powers.{power-le}
+use Rattle.fixed_point.proofs.Powers.{power-le, ten_some}
 use Rattle.fixed_point.proofs.Digits.{first_from-here, first_from-later, first_from-none, quotient_times, rest_times, power_more, test_false, test_true}
 
 -- the first of the fractions is this one
@@ -61,7 +60,7 @@ steps-more units places frac whole rest one one_is some whole_is left =
 -- more bits are no fewer steps
 pub steps-grow : (units places few many : ℕ) → few ≤ many → steps_of units places few ≤ steps_of units places many
 steps-grow units places few many h =
-    let some : 0 < 10 ^ places = one-le-pow places 10 (omega arith) in
+    let some : 0 < 10 ^ places = ten_some places in
     le-div (steps_of units places few) (units * 2 ^ many) (10 ^ places) some
     (omega (arith, div-add-mod' (units * 2 ^ few) (10 ^ places), mul-le units (2 ^ few) units (2 ^ many) (omega arith) (power-le few many h)))
 

@@ -13,100 +13,10 @@ use Rattle.fixed_point.specs.Text.{first_from, last_digits, ends_within, places_
 use Rattle.fixed_point.specs.Reading.{starts_with, without, leading_digits, after_digits, digits_behind, rest_behind, is_negative, whole_digits, after_whole, has_point, behind_digits, after_behind, has_bits, is_bits, value_after, value_of, is_number}
 use Rattle.fixed_point.specs.Told.{TellsExactly}
 use Rattle.fixed_point.proofs.Digits.{first_from-here, ends_at_last, length-last_digits, last_digits-none, test_true}
+use Rattle.fixed_point.proofs.Powers.{ten_some}
 use Rattle.fixed_point.proofs.Values.{value_after-append}
+use Rattle.fixed_point.proofs.Numerals.{AreDigits, first_digit, IsNumeral, numeral_decimal, last-AreDigits, value_last, front_digits, back_digits}
 use Rattle.fixed_point.proofs.Floors.{nothing_over}
-
--- ---- digits
-
--- all of these are digits
-AreDigits : List ℕ → Type 0
-AreDigits ds = prefix_len is_ascii_digit ds ≡ length ds
-
-digit_passes : (d : ℕ) → d < 10 → is_ascii_digit (48 + d) ≡ true
-digit_passes d below = grind (arith, nat_tests)
-
--- what stands after digits goes on from there
-prefix_behind : (front back : List ℕ) → prefix_len is_ascii_digit front ≡ length front
-    → prefix_len is_ascii_digit (front ++ back) ≡ length front + prefix_len is_ascii_digit back
-prefix_behind front back all =
-    let same : nat_eq (prefix_len is_ascii_digit front) (length front) ≡ true = equal_numbers _ _ all in
-    prefix_len-append is_ascii_digit front back
-    ∙ ap (λ (b : Bool). cond b (length front + prefix_len is_ascii_digit back) (prefix_len is_ascii_digit front)) same
-  where
-    equal_numbers : (m n : ℕ) → m ≡ n → nat_eq m n ≡ true
-    equal_numbers m n e = grind (arith, nat_tests)
-
--- one more digit
-digits_push : (ds : List ℕ) (d : ℕ) → d < 10 → prefix_len is_ascii_digit ds ≡ length ds
-    → prefix_len is_ascii_digit (ds ++ (48 + d) ∷ []) ≡ length (ds ++ (48 + d) ∷ [])
-digits_push ds d below all =
-    let one : prefix_len is_ascii_digit ((48 + d) ∷ []) ≡ 1 = ap (λ (b : Bool). cond b 1 0) (digit_passes d below) in
-    prefix_behind ds ((48 + d) ∷ []) all ∙ ap (λ (x : ℕ). length ds + x) one ∙ sym (length-append ds ((48 + d) ∷ []))
-
--- its value
-value_push : (v : ℕ) (ds : List ℕ) (d : ℕ) → value_after v (ds ++ (48 + d) ∷ []) ≡ value_after v ds * 10 + d
-unfolding value_after
-value_push v ds d =
-    let last : 48 + d - 48 ≡ d = omega arith in
-    value_after-append v ds ((48 + d) ∷ []) ∙ ap (λ (x : ℕ). value_after v ds * 10 + x) last
-
--- digits that tell a number
-record IsNumeral (n : ℕ) (ds : List ℕ) : Type 0 where
-  all : prefix_len is_ascii_digit ds ≡ length ds
-  some : 0 < length ds
-  value : value_after 0 ds ≡ n
-
-numeral_digit : (n : ℕ) → n < 10 → IsNumeral n ((48 + n) ∷ [])
-unfolding value_after
-numeral_digit n below = record {
-  all = ap (λ (b : Bool). cond b 1 0) (digit_passes n below);
-  some = omega arith;
-  value = omega arith;
-}
-
-numeral_step : (n : ℕ) (ds : List ℕ) → 10 ≤ n → IsNumeral (n / 10) ds → IsNumeral n (ds ++ (48 + n % 10) ∷ [])
-numeral_step n ds many front =
-    let below : n % 10 < 10 = mod_below n 10 (omega arith) in
-    record {
-      all = digits_push ds (n % 10) below front.all;
-      some = omega (arith, length-append ds ((48 + n % 10) ∷ []));
-      value = value_push 0 ds (n % 10) ∙ ap (λ (x : ℕ). x * 10 + n % 10) front.value ∙ div-add-mod' n 10;
-    }
-
-numeral_decimal : (n : ℕ) → n < 10 ^ 64 → IsNumeral n (decimal n)
-numeral_decimal n fits = decimal_by_steps_wide IsNumeral numeral_digit numeral_step n fits
-
--- the last digits are digits
-digits_last : (k n : ℕ) → prefix_len is_ascii_digit (last_digits k n) ≡ length (last_digits k n)
-unfolding last_digits
-digits_last zero n = refl
-digits_last (suc k) n = digits_push (last_digits k (n / 10)) (n % 10) (mod_below n 10 (omega arith)) (digits_last k (n / 10))
-
--- the last k + 1 digits, by the last and those before it
-rest_by_digit : (n s : ℕ) → 0 < s → n % (s * 10) ≡ ((n / 10) % s) * 10 + n % 10
-rest_by_digit n s some =
-    let a = n / 10 in
-    let small : n % 10 < 10 = mod_below n 10 (omega arith) in
-    let below : a % s < s = mod_below a s some in
-    let parts : n ≡ a / s * (s * 10) + ((a % s) * 10 + n % 10) =
-    omega (arith, div-add-mod' n 10, ap (λ (x : ℕ). x * 10) (div-add-mod' a s)) in
-    ap (λ (x : ℕ). x % (s * 10)) parts ∙ mod-mul-add (a / s) (s * 10) ((a % s) * 10 + n % 10) (omega arith)
-
-pub ten_some : (k : ℕ) → 0 < 10 ^ k
-ten_some k = one-le-pow k 10 (omega arith)
-
--- a number before the digit, and the digit
-value_more : (v k n : ℕ) → (v * 10 ^ k + (n / 10) % 10 ^ k) * 10 + n % 10 ≡ v * 10 ^ suc k + n % 10 ^ suc k
-value_more v k n =
-    omega (arith, rest_by_digit n (10 ^ k) (ten_some k), ap (λ (x : ℕ). v * x) (pow-suc 10 k), ap (λ (x : ℕ). n % x) (pow-suc 10 k))
-
--- the value of the last digits, after another number
-value_last : (v k n : ℕ) → value_after v (last_digits k n) ≡ v * 10 ^ k + n % 10 ^ k
-unfolding last_digits value_after
-value_last v zero n = omega (arith, mod-one n)
-value_last v (suc k) n =
-    value_push v (last_digits k (n / 10)) (n % 10) ∙ ap (λ (x : ℕ). x * 10 + n % 10) (value_last v k (n / 10))
-    ∙ value_more v k n
 
 -- ---- a fraction's digits
 
@@ -203,21 +113,8 @@ record HasDigits (text whole behind : List ℕ) : Type 0 where
   whole_is : whole_digits text ≡ whole
   behind_is : behind_digits text ≡ behind
 
--- the digits at the front, where none follow
-front_digits : (digits rest : List ℕ) → prefix_len is_ascii_digit digits ≡ length digits → prefix_len is_ascii_digit rest ≡ 0
-    → leading_digits (digits ++ rest) ≡ digits
-front_digits digits rest all none =
-    let count : prefix_len is_ascii_digit (digits ++ rest) ≡ length digits = prefix_behind digits rest all ∙ omega (arith, none) in
-    ap (λ (x : ℕ). take x (digits ++ rest)) count ∙ take_at digits rest (length digits) refl
-
-back_digits : (digits rest : List ℕ) → prefix_len is_ascii_digit digits ≡ length digits → prefix_len is_ascii_digit rest ≡ 0
-    → after_digits (digits ++ rest) ≡ rest
-back_digits digits rest all none =
-    let size : length (leading_digits (digits ++ rest)) ≡ length digits = ap length (front_digits digits rest all none) in
-    ap (λ (x : ℕ). drop x (digits ++ rest)) size ∙ drop_at digits rest (length digits) refl
-
 -- a whole number
-has_digits-whole : (text whole : List ℕ) → without 45 text ≡ whole ++ [] → prefix_len is_ascii_digit whole ≡ length whole → 0 < length whole
+has_digits-whole : (text whole : List ℕ) → without 45 text ≡ whole ++ [] → AreDigits whole → 0 < length whole
     → HasDigits text whole []
 has_digits-whole text whole body all some =
     let front : whole_digits text ≡ whole = ap leading_digits body ∙ front_digits whole [] all refl in
@@ -235,8 +132,8 @@ has_digits-whole text whole body all some =
     }
 
 -- digits, a point and digits
-has_digits-point : (text whole behind : List ℕ) → without 45 text ≡ whole ++ 46 ∷ behind → prefix_len is_ascii_digit whole ≡ length whole
-    → prefix_len is_ascii_digit behind ≡ length behind → 0 < length whole → 0 < length behind → HasDigits text whole behind
+has_digits-point : (text whole behind : List ℕ) → without 45 text ≡ whole ++ 46 ∷ behind → AreDigits whole
+    → AreDigits behind → 0 < length whole → 0 < length behind → HasDigits text whole behind
 has_digits-point text whole digits body all all_behind some some_behind =
     let front : whole_digits text ≡ whole = ap leading_digits body ∙ front_digits whole (46 ∷ digits) all refl in
     let back : after_whole text ≡ 46 ∷ digits = ap after_digits body ∙ back_digits whole (46 ∷ digits) all refl in
@@ -256,16 +153,12 @@ has_digits-point text whole digits body all all_behind some some_behind =
 -- ---- the text of a number
 
 -- digits don't begin with a minus sign
-no_minus : (digits rest : List ℕ) → prefix_len is_ascii_digit digits ≡ length digits → 0 < length digits → starts_with 45 (digits ++ rest) ≡ false
+no_minus : (digits rest : List ℕ) → AreDigits digits → 0 < length digits → starts_with 45 (digits ++ rest) ≡ false
 no_minus [] rest all some = absurd (omega arith)
-no_minus (d ∷ digits) rest all some = by_digit (is_ascii_digit d) refl all
+no_minus (d ∷ digits) rest all some = minus_is_none d (first_digit d digits all)
   where
     minus_is_none : (d : ℕ) → is_ascii_digit d ≡ true → nat_eq d 45 ≡ false
     minus_is_none d e = grind (arith, nat_tests)
-
-    by_digit : (b : Bool) → is_ascii_digit d ≡ b → cond b (1 + prefix_len is_ascii_digit digits) 0 ≡ suc (length digits) → nat_eq d 45 ≡ false
-    by_digit true e all = minus_is_none d e
-    by_digit false e all = absurd (omega (arith, all))
 
 -- a whole number has no digits after the point
 no_places : (n frac : ℕ) → n % 2 ^ frac ≡ 0 → places_of n frac ≡ 0
@@ -283,7 +176,7 @@ some_places n frac other = positive (places_of n frac) (places_enough n frac)
 
 -- the parts of the text of a number
 has_digits-text : (text whole : List ℕ) (n frac : ℕ) → without 45 text ≡ whole ++ behind_point n frac
-    → prefix_len is_ascii_digit whole ≡ length whole → 0 < length whole → HasDigits text whole (fraction_digits n frac)
+    → AreDigits whole → 0 < length whole → HasDigits text whole (fraction_digits n frac)
 has_digits-text text whole n frac body all some = by_rest (nat_eq (n % 2 ^ frac) 0) refl
   where
     zero_by_test : (x : ℕ) → nat_eq x 0 ≡ true → x ≡ 0
@@ -306,7 +199,7 @@ has_digits-text text whole n frac body all some = by_rest (nat_eq (n % 2 ^ frac)
           some_places n frac (more_by_test (n % 2 ^ frac) e),
         ) in
         has_digits-point text whole (fraction_digits n frac) (body ∙ ap (λ (b : Bool). whole ++ (if b then [] else 46 ∷ fraction_digits n frac)) e)
-        all (digits_last (places_of n frac) (n * 10 ^ places_of n frac / 2 ^ frac)) some more
+        all (last-AreDigits (places_of n frac) (n * 10 ^ places_of n frac / 2 ^ frac)) some more
 
 -- a text with these parts and this sign tells the number
 tells_by_parts : (m : ℤ) (frac : ℕ) (text whole : List ℕ) → HasDigits text whole (fraction_digits (unsigned_abs m) frac)

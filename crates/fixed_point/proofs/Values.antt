@@ -6,11 +6,10 @@ use Rattle.std.proofs.lemmas.List.Sums.{prefix_len_passes}
 use Rattle.std.proofs.lemmas.List.Folds.{length-prefix_len}
 use Rattle.std.specs.List.{prefix_len, AllPass}
 use Rattle.std.proofs.lemmas.Bool.Decides.{nat_tests}
-use Rattle.std.proofs.Math.Nat.{one-le-pow}
 use Rattle.std.specs.Char.{is_ascii_digit}
 use Rattle.fixed_point.specs.Reading.{value_after, number_told, number_of, frac_of, leading_digits, digits_behind, starts_with}
 use Rattle.fixed_point.specs.declared.reading.NumFault.TheVariants.{TooLong}
-use Rattle.fixed_point.proofs.Powers.{ten_power-le}
+use Rattle.fixed_point.proofs.Powers.{ten_some, ten_power-le}
 use Rattle.fixed_point.proofs.Digits.{power_more}
 
 -- a digit is from 48 to 57
@@ -40,7 +39,7 @@ room_more v d k m room small next fits =
 
 -- what has room is below it
 pub room_below : (v k room : ℕ) → (v + 1) * 10 ^ k ≤ room → v < room
-room_below v k room fits = omega (arith, mul-le (v + 1) 1 (v + 1) (10 ^ k) (omega arith) (one-le-pow k 10 (omega arith)))
+room_below v k room fits = omega (arith, mul-le (v + 1) 1 (v + 1) (10 ^ k) (omega arith) (ten_some k))
 
 -- digits after digits
 pub value_after-append : (n : ℕ) (front back : List ℕ) → value_after n (front ++ back) ≡ value_after (value_after n front) back

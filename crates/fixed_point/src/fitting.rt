@@ -7,6 +7,7 @@ use crate::fraction::{floored, is_whole};
 use crate::num::Num;
 use crate::power::power_of_two;
 use crate::scale::Scale;
+use thiserror::Error;
 
 /// No mantissa of a scale is greater in magnitude.
 const FARTHEST: u128 = 1 << 64;
@@ -23,7 +24,8 @@ pub enum Mode {
 }
 
 /// The mantissa is out of range, and the mode is `Error`.
-#[derive(Clone, Copy, Debug, PartialEq, Eq)]
+#[derive(Clone, Copy, Debug, PartialEq, Eq, Error)]
+#[error("mantissa out of range")]
 pub struct Overflow;
 
 /// The mantissa in the scale's range that differs by a multiple of `2^width`.

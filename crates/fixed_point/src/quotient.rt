@@ -4,9 +4,11 @@ ghost use Rattle.fixed_point.specs.Numbers as spec;
 
 use crate::num::Num;
 use crate::power::power_of_two;
+use thiserror::Error;
 
 /// The divisor is 0.
-#[derive(Clone, Copy, Debug, PartialEq, Eq)]
+#[derive(Clone, Copy, Debug, PartialEq, Eq, Error)]
+#[error("division by zero")]
 pub struct Zero;
 
 /// The quotient, rounded towards minus infinity.

@@ -7,15 +7,19 @@ ghost use Rattle.fixed_point.specs.Reading as spec;
 
 use crate::num::Num;
 use crate::rounding::{exact_frac, steps};
+use thiserror::Error;
 
 /// Why a text gives no number.
-#[derive(Clone, Copy, Debug, PartialEq, Eq)]
+#[derive(Clone, Copy, Debug, PartialEq, Eq, Error)]
 pub enum NumFault {
     /// It has another form.
+    #[error("not a number")]
     NotNumber,
     /// It has over 36 digits, or its mantissa is `2^99` or more.
+    #[error("number too long")]
     TooLong,
     /// It has no `q`, and no fraction up to 32 makes it exact.
+    #[error("no binary fraction of at most 32 bits")]
     NotBinary,
 }
 

@@ -1,15 +1,17 @@
 -- A text is a name exactly where it is cut as one.
-use Rattle.std.proofs.Common.{◌≡◌, ℕ, zero, suc, ◌<◌, ◌≤◌, Bool, true, false, ◌&&◌, List, [], ◌∷◌, Option, Some, None, length, take, drop, refl, sym, ap, ◌∙◌, inl, inr, cond, eqb, leb, ltb, eq-eqb, not, ◌↔◌, IsTrue, arith}
-use Rattle.std.specs.Str.{byte}
+use Rattle.std.proofs.Common.{◌≡◌, ℕ, zero, suc, ◌<◌, ◌≤◌, Bool, true, false, ◌&&◌, List, [], ◌∷◌, Option, Some, None, length, take, drop, get_or, refl, sym, ap, ◌∙◌, inl, inr, cond, eqb, leb, ltb, eq-eqb, not, ◌↔◌, IsTrue, arith}
+use Rattle.std.specs.Str.{byte, IsAscii}
 use Rattle.std.proofs.lemmas.Bool.{cases_Bool, eqb-true, leb-true, and_parts, and_from, ltb-false, le-ltb, le-leb, cond_both}
+use Rattle.std.proofs.lemmas.Bool.Decides.{nat_tests}
 use Rattle.std.proofs.lemmas.List.{get_or-take}
 use Rattle.std.proofs.lemmas.List.Sums.{prefix_len_passes, prefix_len_is}
 use Rattle.std.proofs.lemmas.List.Folds.{length-prefix_len}
+use Rattle.std.proofs.lemmas.Str.Ascii.{IsAscii-from_reads}
 use Rattle.std.proofs.Math.Seq.{take-length}
 use Rattle.token_grammar.specs.declared.token.Kind.{Kind}
 use Rattle.token_grammar.specs.declared.token.Kind.TheVariants as kinds
 use Rattle.token_grammar.specs.Token.{kind_eq}
-use Rattle.token_grammar.proofs.Sets.{all_kinds, at, found}
+use Rattle.token_grammar.proofs.Tokens.{kind_eq-true}
 use Rattle.chart_lexer.specs.declared.front.Front.{Front}
 use Rattle.chart_lexer.specs.declared.front.Front.TheVariants as fronts
 use Rattle.chart_lexer.specs.declared.front.Stop.TheVariants as stops
@@ -18,10 +20,6 @@ use Rattle.chart_lexer.specs.Words.{name_length, word_kind, is_name}
 use Rattle.chart_lexer.specs.Numbers.{number_length}
 use Rattle.chart_lexer.specs.Symbols.{pair_kind, single_kind, first_pair, first_single}
 use Rattle.chart_lexer.specs.Lex.{comment_length, begins_comment, longer_symbol, word_front, number_front, symbol_front, front_of, IsOneName}
-
--- kinds of one number are one
-kind_eq-true : (a b : Kind) → kind_eq a b ≡ true → a ≡ b
-kind_eq-true a b h = let e : Some a ≡ Some b = sym (found a) ∙ ap (at all_kinds) (eqb-true _ _ h) ∙ found b in cc
 
 -- a byte that passes a test isn't one that fails it
 other_byte : (p : ℕ → Bool) (b c : ℕ) → p b ≡ true → p c ≡ false → eqb b c ≡ false
@@ -32,12 +30,12 @@ other_byte p b c passes fails =
     ]
 
 -- a letter separates no tokens
-letter_not_blank : (b : ℕ) → is_letter b ≡ true → is_blank b ≡ false
+pub letter_not_blank : (b : ℕ) → is_letter b ≡ true → is_blank b ≡ false
 letter_not_blank b h =
     rw (other_byte is_letter b 32 h refl, other_byte is_letter b 10 h refl, other_byte is_letter b 9 h refl, other_byte is_letter b 13 h refl) refl
 
 -- a letter is one of the allowed bytes
-letter_in_range : (b : ℕ) → is_letter b ≡ true → (leb 32 b && leb b 126) ≡ true
+pub letter_in_range : (b : ℕ) → is_letter b ≡ true → (leb 32 b && leb b 126) ≡ true
 letter_in_range b h =
     elim (cases_Bool (leb 97 b && leb b 122)) [
       | inl low ↦
@@ -54,12 +52,12 @@ letter_in_range b h =
     ]
 
 -- a text that begins with a letter is cut as a word
-word_first : (b : ℕ) (s : List ℕ) → is_letter b ≡ true → front_of (b ∷ s) ≡ word_front (b ∷ s)
+pub word_first : (b : ℕ) (s : List ℕ) → is_letter b ≡ true → front_of (b ∷ s) ≡ word_front (b ∷ s)
 unfolding front_of
 word_first b s h = rw (letter_not_blank b h, letter_in_range b h, h) refl
 
--- a word of so many bytes, which aren't too many
-word_front_is : (w : List ℕ) (n : ℕ) → name_length w ≡ n → n ≤ 63 → word_front w ≡ fronts.Token (word_kind (take n w)) n
+-- a word of n bytes, which aren't too many
+pub word_front_is : (w : List ℕ) (n : ℕ) → name_length w ≡ n → n ≤ 63 → word_front w ≡ fronts.Token (word_kind (take n w)) n
 word_front_is w n e short = rw (e, le-ltb 63 n short) refl
 
 -- a name is cut as one
@@ -75,6 +73,21 @@ name_front (b ∷ s) h =
     let name : word_kind w ≡ kinds.Name = kind_eq-true _ _ back.1 in
     let all : word_kind (take (length w) w) ≡ kinds.Name = ap word_kind (take-length w) ∙ name in
     word_first b s front.0 ∙ cut ∙ ap (λ (k : Kind). fronts.Token k (length w)) all
+
+-- ---- the bytes of a name
+
+name_byte_ascii : (b : ℕ) → is_name_byte b ≡ true → b < 128
+name_byte_ascii b h = grind (arith, nat_tests)
+
+-- a name is ASCII
+pub name_ascii : (w : List ℕ) → is_name w ≡ true → IsAscii w
+name_ascii w h =
+    let halves =
+    and_parts (begins is_letter w && eqb (name_length w) (length w)) (leb (length w) 63 && kind_eq (word_kind w) kinds.Name) h in
+    let front = and_parts (begins is_letter w) (eqb (name_length w) (length w)) halves.0 in
+    let all : name_length w ≡ length w = eqb-true _ _ front.1 in
+    IsAscii-from_reads w (name_length w) (omega arith)
+    (λ k lt. name_byte_ascii (get_or w k 0) (prefix_len_passes is_name_byte w k 0 lt))
 
 -- ---- and back
 

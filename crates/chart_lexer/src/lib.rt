@@ -1,7 +1,8 @@
 //! Cuts a chart text into tokens with their places.
 //!
-//! `lex` is the one call that readers need; `is_name` tells whether a text is one name. Read
-//! `specs/Lex.antt` first: `cut_of` is what a text is cut into, `front_of` what stands in front.
+//! `lex` is the one call that readers need; `is_name` tells whether a text is one name, and
+//! `name_text` keeps one. Read `specs/Lex.antt` first: `cut_of` is what a text is cut into, and
+//! `front_of` what stands in front.
 #![tactic(auto)]
 
 mod bytes;
@@ -15,7 +16,7 @@ mod words;
 pub use front::Stop;
 pub use laws::{a_name_is_cut_as_one, what_is_cut_as_a_name_is_one};
 pub use lexer::{Lexed, lex};
-pub use words::is_name;
+pub use words::{NAME_LIMIT, is_name, name_text};
 
 #[cfg(test)]
 mod tests;

@@ -1,8 +1,10 @@
 //! Names and reserved words.
-ghost use Rattle.std.specs.Prelude.{◌≡◌, ◌≤◌, length};
+ghost use Rattle.std.specs.Prelude.{◌≡◌, ◌≤◌, length, IsTrue, IfOk};
 ghost use Rattle.chart_lexer.specs.Words as spec;
 
 use crate::bytes::{is_letter, is_name_byte};
+use flow_base::Text;
+use std::alloc::{AllocError, Global};
 use token_grammar::Kind;
 
 /// The greatest number of bytes in a name.
@@ -88,4 +90,15 @@ pub fn is_name(text: &[u8]) -> bool
         && name_length(text) == text.len()
         && text.len() <= NAME_LIMIT
         && word_kind(text) == Kind::Name
+}
+
+/// The bytes of a name as a text of their own.
+pub fn name_text(alloc: Global, name: &[u8]) -> Result<Text, AllocError>
+    requires { IsTrue (spec.is_name name.now) }
+    ensures { IfOk result (λ text. text ≡ name.now) }
+{
+    match str::from_utf8(name) {
+        Ok(text) => Ok(Text::of(String::from_str(alloc, text)?)),
+        Err(_) => unreachable!(),
+    }
 }

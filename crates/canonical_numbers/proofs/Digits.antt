@@ -11,7 +11,7 @@ use Rattle.std.specs.Char.{is_ascii_digit}
 use Rattle.fixed_point.specs.Text.{last_digits}
 use Rattle.fixed_point.specs.Reading.{leading_digits, after_digits, value_after, value_of}
 use Rattle.fixed_point.proofs.Values.{value_after-append, digit_within, AllPass-leading}
-use Rattle.fixed_point.proofs.Told.{ten_some}
+use Rattle.fixed_point.proofs.Powers.{ten_some}
 use Rattle.chart_lexer.specs.Bytes.{begins}
 use Rattle.canonical_claims.proofs.Runs.{run_ends, run_append}
 

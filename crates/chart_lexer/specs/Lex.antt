@@ -13,6 +13,7 @@ use Rattle.chart_lexer.specs.declared.front.Stop.TheVariants as stops
 use Rattle.chart_lexer.specs.declared.lexer.Lexed.{Lexed}
 use Rattle.chart_lexer.specs.Bytes.{is_blank, is_allowed, is_letter, is_digit, is_name_byte, begins}
 use Rattle.chart_lexer.specs.Words.{name_length, word_kind, is_name}
+use Rattle.chart_lexer.specs.declared.words.TheConstants.{NAME_LIMIT}
 use Rattle.chart_lexer.specs.Numbers.{number_length}
 use Rattle.chart_lexer.specs.Symbols.{first_pair, first_single}
 
@@ -32,7 +33,7 @@ begins_comment (a ∷ s) = nat_eq a (byte "/") && begins (λ b. nat_eq b (byte "
 -- a word: the longest run of name bytes, at most 63 of them
 abbrev pub word_front : List ℕ → Front
 word_front s =
-    if nat_lt 63 (name_length s) then fronts.Stop stops.BadToken
+    if nat_lt NAME_LIMIT (name_length s) then fronts.Stop stops.BadToken
     else fronts.Token (word_kind (take (name_length s) s)) (name_length s)
 
 -- a number, with no letter or underscore directly after it
@@ -92,7 +93,7 @@ pub record Lexemes : Type 0 where
 abbrev pub before : Lexeme → Lexemes → Lexemes
 before t l = record { tokens = t ∷ l.tokens; stop = l.stop; at = l.at }
 
--- the tokens of a text from a place on, after so many bytes of it that are passed over
+-- the tokens of a text from a place on, after k bytes of it that are passed over
 unfoldable pub lexed : ℕ → Span → List ℕ → Lexemes
 lexed k p [] = record { tokens = []; stop = stops.End; at = p }
 lexed (suc k) p (b ∷ s) = lexed k (after_byte p b) s

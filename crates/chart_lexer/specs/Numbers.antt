@@ -3,6 +3,7 @@ use Rattle.std.specs.Prelude.{ℕ, ◌+◌, ◌-◌, ◌*◌, ◌&&◌, Bool, tr
 use Rattle.std.specs.List.{prefix_len}
 use Rattle.std.specs.Str.{byte}
 use Rattle.chart_lexer.specs.Bytes.{is_digit}
+use Rattle.chart_lexer.specs.declared.numbers.TheConstants.{SCALE_LIMIT}
 
 -- how many digits stand in front
 abbrev pub digits_length : List ℕ → ℕ
@@ -18,7 +19,7 @@ fraction_length (b ∷ s) =
 abbrev pub is_scale : List ℕ → Bool
 is_scale [] = false
 is_scale (a ∷ []) = true
-is_scale (a ∷ b ∷ []) = nat_le ((a - byte "0") * 10 + (b - byte "0")) 32
+is_scale (a ∷ b ∷ []) = nat_le ((a - byte "0") * 10 + (b - byte "0")) SCALE_LIMIT
 is_scale (a ∷ b ∷ c ∷ s) = false
 
 -- how many bytes `q` and the scale after it have, where there is such a `q`

@@ -5,6 +5,7 @@ use Rattle.token_grammar.specs.declared.token.Kind.{Kind}
 use Rattle.token_grammar.specs.declared.token.Kind.TheVariants as kinds
 use Rattle.token_grammar.specs.Token.{kind_eq}
 use Rattle.chart_lexer.specs.Bytes.{is_letter, is_name_byte, begins}
+use Rattle.chart_lexer.specs.declared.words.TheConstants.{NAME_LIMIT}
 
 -- how many name bytes stand in front
 abbrev pub name_length : List ℕ → ℕ
@@ -45,4 +46,4 @@ word_kind w =
 abbrev pub is_name : List ℕ → Bool
 is_name w =
     (begins is_letter w && nat_eq (name_length w) (length w))
-    && (nat_le (length w) 63 && kind_eq (word_kind w) kinds.Name)
+    && (nat_le (length w) NAME_LIMIT && kind_eq (word_kind w) kinds.Name)

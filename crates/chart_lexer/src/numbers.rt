@@ -25,7 +25,10 @@ fn fraction_length(text: &[u8]) -> usize
     if digits > 0 { digits + 1 } else { 0 }
 }
 
-/// Whether the digits are one or two, of a value up to 32.
+/// The greatest scale: the most bits that `q` may ask for.
+pub const SCALE_LIMIT: u32 = 32;
+
+/// Whether the digits are one or two, of a value up to `SCALE_LIMIT`.
 fn is_scale(digits: &[u8]) -> bool
     ensures { result ≡ spec.is_scale digits.now }
 {
@@ -34,7 +37,7 @@ fn is_scale(digits: &[u8]) -> bool
         [tens, units] => {
             let tens = u32::from(tens.saturating_sub(b'0'));
             let units = u32::from(units.saturating_sub(b'0'));
-            tens * 10 + units <= 32
+            tens * 10 + units <= SCALE_LIMIT
         }
         _ => false,
     }

@@ -7,7 +7,7 @@ use flow_base::Text;
 use std::alloc::{AllocError, Global};
 use token_grammar::Kind;
 
-/// The greatest number of bytes in a name.
+/// The most bytes of a name.
 pub const NAME_LIMIT: usize = 63;
 
 /// How many name bytes stand in front.

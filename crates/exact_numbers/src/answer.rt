@@ -3,8 +3,8 @@
 use crate::call::{Call, read_call};
 use crate::conditions::{can_align, can_divide, can_fit, can_multiply, can_write, is_within};
 use fixed_point::{
-    Num, NumFault, Overflow, Scale, Zero, add, compare, div, exact, fit, mul, neg, read_decimal,
-    sub, write_decimal,
+    Num, NumFault, Overflow, Scale, TEXT_LIMIT, Zero, add, compare, div, exact, fit, mul, neg,
+    read_decimal, sub, write_decimal,
 };
 use std::cmp::Ordering;
 use std::fmt;
@@ -19,7 +19,7 @@ pub enum Answer {
     /// The order of two numbers.
     Order(Ordering),
     /// So many bytes of decimal text, and how many.
-    Text([u8; 128], usize),
+    Text([u8; TEXT_LIMIT], usize),
     /// A scale, as `s8.0` or `u8.4`.
     Made(Scale),
     /// The divisor is 0.
@@ -97,7 +97,7 @@ fn answer_call(call: Call) -> Answer {
         },
         Call::Exact(a, to) => exact(a, to).map_or(Answer::Nothing, Answer::Mantissa),
         Call::Write(a) if can_write(a) => {
-            let mut buf = [0; 128];
+            let mut buf = [0; TEXT_LIMIT];
             let len = write_decimal(a.mantissa, a.frac, &mut buf);
             Answer::Text(buf, len)
         }

@@ -3,6 +3,7 @@ use Rattle.std.specs.Prelude.{ℕ, suc, ◌+◌, ◌-◌, ◌*◌, ◌/◌, ◌%
 use Rattle.std.specs.Ordering.{int_cmp}
 use Rattle.std.specs.declared.cmp.Ordering.{Ordering}
 use Rattle.fixed_point.specs.declared.num.Num.{Num}
+use Rattle.fixed_point.specs.declared.num.TheConstants.{MAGNITUDE_LIMIT, FRACTION_LIMIT}
 use Rattle.fixed_point.specs.declared.quotient.Zero.{Zero}
 
 -- the mantissa of the same value at a fraction that is at least its own
@@ -15,10 +16,10 @@ common_frac a b = max a.frac b.frac
 
 -- fractions of at most 64, and at the greater of them mantissas of at most 2 ^ 100 in magnitude
 pub record CanAlign (a b : Num) : Type 0 where
-  pub left_frac : a.frac ≤ 64
-  pub right_frac : b.frac ≤ 64
-  pub left_size : unsigned_abs (scaled a (common_frac a b)) ≤ 2 ^ 100
-  pub right_size : unsigned_abs (scaled b (common_frac a b)) ≤ 2 ^ 100
+  pub left_frac : a.frac ≤ FRACTION_LIMIT
+  pub right_frac : b.frac ≤ FRACTION_LIMIT
+  pub left_size : unsigned_abs (scaled a (common_frac a b)) ≤ MAGNITUDE_LIMIT
+  pub right_size : unsigned_abs (scaled b (common_frac a b)) ≤ MAGNITUDE_LIMIT
 
 -- the sum of the values, at the greater fraction
 abbrev pub sum_of : Num → Num → Num
@@ -62,9 +63,9 @@ dividend_of a b = a.mantissa *ℤ pos (2 ^ ((common_frac a b - a.frac) + b.frac)
 
 -- fractions of at most 64, and a dividend of at most 2 ^ 100 in magnitude
 pub record CanDivide (a b : Num) : Type 0 where
-  pub left_frac : a.frac ≤ 64
-  pub right_frac : b.frac ≤ 64
-  pub size : unsigned_abs (dividend_of a b) ≤ 2 ^ 100
+  pub left_frac : a.frac ≤ FRACTION_LIMIT
+  pub right_frac : b.frac ≤ FRACTION_LIMIT
+  pub size : unsigned_abs (dividend_of a b) ≤ MAGNITUDE_LIMIT
 
 -- the floor of the quotient of the values, at the greater fraction; none by 0
 abbrev pub quotient_of : Num → Num → Result Num Zero

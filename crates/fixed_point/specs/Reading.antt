@@ -4,6 +4,9 @@ use Rattle.std.specs.Prelude.{ℕ, ◌+◌, ◌-◌, ◌*◌, ◌/◌, ◌%◌, 
 use Rattle.std.specs.Char.{is_ascii_digit}
 use Rattle.fixed_point.specs.Text.{first_from}
 use Rattle.fixed_point.specs.declared.num.Num.{Num}
+use Rattle.fixed_point.specs.declared.reading.TheConstants.{DIGIT_LIMIT}
+use Rattle.fixed_point.specs.declared.rounding.TheConstants.{READ_LIMIT}
+use Rattle.fixed_point.specs.declared.scale.TheConstants.{PLACES_LIMIT}
 use Rattle.fixed_point.specs.declared.reading.NumFault.{NumFault}
 use Rattle.fixed_point.specs.declared.reading.NumFault.TheVariants.{NotNumber, TooLong, NotBinary}
 
@@ -86,7 +89,7 @@ value_of digits = value_after 0 digits
 -- one or two digits, of a value up to 32
 abbrev pub is_bits : List ℕ → Bool
 is_bits digits = length (leading_digits digits) == length digits
-    && nat_le 1 (length digits) && nat_le (length digits) 2 && nat_le (value_of digits) 32
+    && nat_le 1 (length digits) && nat_le (length digits) 2 && nat_le (value_of digits) PLACES_LIMIT
 
 -- the number of bits that these digits tell, if they do
 abbrev pub bits_read : List ℕ → Option ℕ
@@ -112,7 +115,8 @@ is_exact units places frac = (units * 2 ^ frac) % 10 ^ places == 0
 -- the fewest bits after the point, up to 32, that tell units / 10 ^ places exactly, if any do
 abbrev pub exact_frac : ℕ → ℕ → Option ℕ
 exact_frac units places =
-    let frac = first_from (is_exact units places) 0 33 in if nat_lt frac 33 then Some frac else None
+    let frac = first_from (is_exact units places) 0 (PLACES_LIMIT + 1) in
+    if nat_lt frac (PLACES_LIMIT + 1) then Some frac else None
 
 -- the bits that `q` asks for, else the fewest that are exact
 abbrev pub frac_of : Option ℕ → ℕ → ℕ → Option ℕ
@@ -126,7 +130,7 @@ steps_of units places frac = units * 2 ^ frac / 10 ^ places
 -- the same where it is less than 2 ^ 99
 abbrev pub steps_within : ℕ → ℕ → ℕ → Option ℕ
 steps_within units places frac =
-    if nat_lt (steps_of units places frac) (2 ^ 99) then Some (steps_of units places frac) else None
+    if nat_lt (steps_of units places frac) READ_LIMIT then Some (steps_of units places frac) else None
 
 -- the number of so many steps, with its sign
 abbrev pub signed_number : Bool → ℕ → Option ℕ → Result Num NumFault
@@ -147,7 +151,7 @@ abbrev pub number_told : Bool → List ℕ → List ℕ → Option ℕ → Resul
 number_told negative whole behind bits =
     let units = value_of (whole ++ behind) in
     let places = length behind in
-    if nat_lt 36 (length (whole ++ behind)) then Err TooLong
+    if nat_lt DIGIT_LIMIT (length (whole ++ behind)) then Err TooLong
     else number_of negative units places (frac_of bits units places)
 
 -- the number that a text tells, or the first fault

@@ -4,6 +4,7 @@ use Rattle.std.specs.Int.{int_rem_euclid}
 use Rattle.fixed_point.specs.Numbers.{floored, is_whole}
 use Rattle.fixed_point.specs.declared.num.Num.{Num}
 use Rattle.fixed_point.specs.declared.scale.Scale.{Scale}
+use Rattle.fixed_point.specs.declared.scale.TheConstants.{WIDTH_LIMIT, PLACES_LIMIT}
 use Rattle.fixed_point.specs.declared.fitting.Mode.{Mode}
 use Rattle.fixed_point.specs.declared.fitting.Mode.TheVariants.{Saturate, Wrap, Error}
 use Rattle.fixed_point.specs.declared.fitting.Overflow.{Overflow}
@@ -11,8 +12,8 @@ use Rattle.fixed_point.specs.declared.fitting.Overflow.{Overflow}
 -- a width of 1 to 64, and a fraction of at most 32 and at most the width
 pub record IsWithinLimits (width frac : ℕ) : Type 0 where
   pub some_bits : 1 ≤ width
-  pub bits_within : width ≤ 64
-  pub frac_within : frac ≤ 32
+  pub bits_within : width ≤ WIDTH_LIMIT
+  pub frac_within : frac ≤ PLACES_LIMIT
   pub frac_in_width : frac ≤ width
 
 -- the scale has these parts

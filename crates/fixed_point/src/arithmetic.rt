@@ -1,6 +1,7 @@
 //! Sums, products and the order of exact numbers.
 ghost use Rattle.std.specs.Prelude.{◌≡◌, ◌≤◌, ◌+◌, ◌^◌, ◌*ℤ◌, unsigned_abs};
 ghost use Rattle.fixed_point.specs.Numbers as spec;
+ghost use Rattle.fixed_point.specs.declared.num.TheConstants.{MAGNITUDE_LIMIT, FRACTION_LIMIT};
 
 use crate::fraction::scaled;
 use crate::num::Num;
@@ -41,7 +42,7 @@ pub fn compare(a: Num, b: Num) -> Ordering
 
 /// The number with the other sign.
 pub fn neg(a: Num) -> Num
-    requires { unsigned_abs a.mantissa ≤ 2 ^ 100 }
+    requires { unsigned_abs a.mantissa ≤ MAGNITUDE_LIMIT }
     ensures { result ≡ spec.negation_of a }
 {
     Num {
@@ -52,8 +53,8 @@ pub fn neg(a: Num) -> Num
 
 /// The exact product, whose fraction is the sum of the two.
 pub fn mul(a: Num, b: Num) -> Num
-    requires size { unsigned_abs (a.mantissa *ℤ b.mantissa) ≤ 2 ^ 100 }
-    requires frac { a.frac + b.frac ≤ 64 }
+    requires size { unsigned_abs (a.mantissa *ℤ b.mantissa) ≤ MAGNITUDE_LIMIT }
+    requires frac { a.frac + b.frac ≤ FRACTION_LIMIT }
     ensures { result ≡ spec.product_of a b }
 {
     Num {

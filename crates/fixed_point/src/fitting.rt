@@ -2,6 +2,7 @@
 ghost use Rattle.std.specs.Prelude.{◌≡◌, ◌≤◌, ◌<◌, ◌^◌, ◌↔◌, IsTrue, unsigned_abs};
 ghost use Rattle.fixed_point.specs.Numbers as spec;
 ghost use Rattle.fixed_point.specs.Scales as scales;
+ghost use Rattle.fixed_point.specs.declared.num.TheConstants.{MAGNITUDE_LIMIT};
 
 use crate::fraction::{floored, is_whole};
 use crate::num::Num;
@@ -30,7 +31,7 @@ pub struct Overflow;
 
 /// The mantissa in the scale's range that differs by a multiple of `2^width`.
 fn wrapped(to: Scale, mantissa: i128) -> i128
-    requires { unsigned_abs mantissa ≤ 2 ^ 100 }
+    requires { unsigned_abs mantissa ≤ MAGNITUDE_LIMIT }
     ensures { result ≡ scales.wrapped to mantissa }
 {
     let least = to.least();
@@ -41,8 +42,8 @@ fn wrapped(to: Scale, mantissa: i128) -> i128
 /// added, and out of range the mode decides.
 #[tactic(auto, unfolding(crate::specs::Scales::fitted))]
 pub fn fit(a: Num, to: Scale, mode: Mode) -> Result<i128, Overflow>
-    requires own { unsigned_abs a.mantissa ≤ 2 ^ 100 }
-    requires brought { unsigned_abs (spec.scaled a to.frac) ≤ 2 ^ 100 }
+    requires own { unsigned_abs a.mantissa ≤ MAGNITUDE_LIMIT }
+    requires brought { unsigned_abs (spec.scaled a to.frac) ≤ MAGNITUDE_LIMIT }
     ensures { result ≡ scales.fitted a to mode }
 {
     let mantissa = floored(a, u32::from(to.frac));

@@ -1,6 +1,7 @@
 //! Numbers at another fraction.
 ghost use Rattle.std.specs.Prelude.{◌≡◌, ◌≤◌, ◌<◌, ◌^◌, unsigned_abs};
 ghost use Rattle.fixed_point.specs.Numbers as spec;
+ghost use Rattle.fixed_point.specs.declared.num.TheConstants.{MAGNITUDE_LIMIT, FRACTION_LIMIT};
 
 use crate::num::Num;
 use crate::power::{power_of_two, unsigned_power};
@@ -8,8 +9,8 @@ use crate::power::{power_of_two, unsigned_power};
 /// The mantissa of the same value at a fraction that is at least its own.
 pub(crate) fn scaled(a: Num, frac: u32) -> i128
     requires above { a.frac ≤ frac }
-    requires most { frac ≤ 64 }
-    requires size { unsigned_abs (spec.scaled a frac) ≤ 2 ^ 100 }
+    requires most { frac ≤ FRACTION_LIMIT }
+    requires size { unsigned_abs (spec.scaled a frac) ≤ MAGNITUDE_LIMIT }
     ensures { result ≡ spec.scaled a frac }
 {
     a.mantissa * power_of_two(frac - a.frac)
@@ -25,8 +26,8 @@ fn without_bits(mantissa: i128, bits: u32) -> i128
 
 /// The mantissa at a fraction: bits after it are dropped by floor, or zero bits are added.
 pub(crate) fn floored(a: Num, frac: u32) -> i128
-    requires frac { frac ≤ 64 }
-    requires size { a.frac ≤ frac → unsigned_abs (spec.scaled a frac) ≤ 2 ^ 100 }
+    requires frac { frac ≤ FRACTION_LIMIT }
+    requires size { a.frac ≤ frac → unsigned_abs (spec.scaled a frac) ≤ MAGNITUDE_LIMIT }
     ensures { result ≡ spec.floored a frac }
 {
     if a.frac <= frac {

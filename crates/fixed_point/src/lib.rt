@@ -19,8 +19,11 @@ mod writing;
 
 pub use arithmetic::{add, compare, mul, neg, sub};
 pub use fitting::{Mode, Overflow, exact, fit};
-pub use num::Num;
+pub use num::{FRACTION_LIMIT, MAGNITUDE_LIMIT, Num};
 pub use quotient::{Zero, div};
-pub use reading::{NumFault, Numeral, read_decimal, split_digits, split_number, value_after};
-pub use scale::Scale;
-pub use writing::write_decimal;
+pub use reading::{
+    DIGIT_LIMIT, NumFault, Numeral, read_decimal, split_digits, split_number, value_after,
+};
+pub use rounding::READ_LIMIT;
+pub use scale::{PLACES_LIMIT, Scale, WIDTH_LIMIT};
+pub use writing::{TEXT_LIMIT, write_decimal};

@@ -1,5 +1,6 @@
 //! Powers of two and of ten.
 ghost use Rattle.std.specs.Prelude.{◌≡◌, ◌<◌, ◌≤◌, ◌^◌, pos};
+ghost use Rattle.fixed_point.specs.declared.reading.TheConstants.{DIGIT_LIMIT};
 
 /// 2 to the exponent.
 pub(crate) fn power_of_two(exponent: u32) -> i128
@@ -19,10 +20,10 @@ pub(crate) fn unsigned_power(exponent: u32) -> u128
 
 /// 10 to the exponent.
 pub(crate) fn power_of_ten(exponent: u32) -> u128
-    requires { exponent ≤ 36 }
+    requires { exponent ≤ DIGIT_LIMIT }
     ensures value { result ≡ 10 ^ exponent }
     ensures some { 1 ≤ result }
-    ensures most { result ≤ 10 ^ 36 }
+    ensures most { result ≤ 10 ^ DIGIT_LIMIT }
 {
     10u128.pow(exponent)
 }

@@ -1,6 +1,7 @@
 //! Quotients, rounded towards minus infinity.
 ghost use Rattle.std.specs.Prelude.{◌≡◌, ◌≢◌, ◌≤◌, ◌^◌, pos, unsigned_abs};
 ghost use Rattle.fixed_point.specs.Numbers as spec;
+ghost use Rattle.fixed_point.specs.declared.num.TheConstants.{MAGNITUDE_LIMIT};
 
 use crate::num::Num;
 use crate::power::power_of_two;
@@ -14,7 +15,7 @@ pub struct Zero;
 /// The quotient, rounded towards minus infinity.
 fn floor_div(dividend: i128, divisor: i128) -> i128
     requires divisor { divisor ≢ pos 0 }
-    requires size { unsigned_abs dividend ≤ 2 ^ 100 }
+    requires size { unsigned_abs dividend ≤ MAGNITUDE_LIMIT }
     ensures { result ≡ spec.floor_div dividend divisor }
 {
     // By a negative divisor `div_euclid` rounds towards plus infinity.

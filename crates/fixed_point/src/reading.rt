@@ -4,9 +4,11 @@ ghost use Rattle.std.specs.List.{prefix_len, AllPass};
 ghost use Rattle.std.specs.Char.{is_ascii_digit};
 ghost use Rattle.fixed_point.specs.Parts as parts;
 ghost use Rattle.fixed_point.specs.Reading as spec;
+ghost use Rattle.fixed_point.specs.declared.reading.TheConstants.{DIGIT_LIMIT};
 
 use crate::num::Num;
 use crate::rounding::{exact_frac, steps};
+use crate::scale::PLACES_LIMIT;
 use thiserror::Error;
 
 /// Why a text gives no number.
@@ -36,8 +38,8 @@ impl NumFault {
     }
 }
 
-/// The digits that a number has at most, those of its fraction's `q` aside.
-const MOST_DIGITS: usize = 36;
+/// The most digits of a number, those of its fraction's `q` aside.
+pub const DIGIT_LIMIT: usize = 36;
 
 /// Whether the text begins with the byte, and the text without it.
 fn skip_byte(text: &[u8], byte: u8) -> (bool, &[u8])
@@ -84,7 +86,7 @@ fn split_behind(text: &[u8]) -> (bool, &[u8], &[u8])
 /// The number that digits tell, after the digits of another number.
 pub fn value_after(start: u128, digits: &[u8]) -> u128
     requires digits { AllPass is_ascii_digit digits.now }
-    requires room { (start + 1) * 10 ^ length digits.now ≤ 10 ^ 36 }
+    requires room { (start + 1) * 10 ^ length digits.now ≤ 10 ^ DIGIT_LIMIT }
     ensures value { result ≡ spec.value_after start digits.now }
     ensures bound { result < (start + 1) * 10 ^ length digits.now }
 {
@@ -103,7 +105,7 @@ fn read_bits(digits: &[u8]) -> Option<u32>
         return None;
     }
     let bits = value_after(0, digits);
-    if bits > 32 {
+    if bits > u128::from(PLACES_LIMIT) {
         return None;
     }
     Some(bits as u32)
@@ -193,7 +195,7 @@ fn number_told(parts: Numeral<'_>) -> Result<Num, NumFault>
         ≡ spec.number_told parts.entry.negative parts.entry.whole.now parts.entry.behind.now
         parts.entry.bits }
 {
-    if parts.whole.len() + parts.behind.len() > MOST_DIGITS {
+    if parts.whole.len() + parts.behind.len() > DIGIT_LIMIT {
         return Err(NumFault::TooLong);
     }
     let units = value_after(value_after(0, parts.whole), parts.behind);

@@ -1,7 +1,14 @@
 //! Scales: how a datum keeps a number.
 ghost use Rattle.std.specs.Prelude.{◌≡◌, ◌≤◌};
+ghost use Rattle.fixed_point.specs.declared.scale.TheConstants.{WIDTH_LIMIT, PLACES_LIMIT};
 
 use crate::power::power_of_two;
+
+/// The most bits of a scale's mantissa.
+pub const WIDTH_LIMIT: u8 = 64;
+
+/// The most bits after the point of a scale, and of a number that is read.
+pub const PLACES_LIMIT: u8 = 32;
 
 /// A scale keeps the numbers `mantissa / 2^frac` whose mantissa has `width` bits, 1 to 64, a sign
 /// bit among them where it is signed. The fraction is 0 to 32 and at most the width.
@@ -14,8 +21,8 @@ pub struct Scale {
     /// The bits after the point.
     pub frac: u8,
     pub ghost some_bits: { 1 ≤ width },
-    pub ghost bits_within: { width ≤ 64 },
-    pub ghost frac_within: { frac ≤ 32 },
+    pub ghost bits_within: { width ≤ WIDTH_LIMIT },
+    pub ghost frac_within: { frac ≤ PLACES_LIMIT },
     pub ghost frac_in_width: { frac ≤ width },
 }
 
@@ -28,7 +35,7 @@ impl Scale {
         ensures made { IsSome result ↔ IsWithinLimits width frac }
         ensures parts { IfSome result (HasParts signed width frac) }
     {
-        if width < 1 || width > 64 || frac > 32 || frac > width {
+        if width < 1 || width > WIDTH_LIMIT || frac > PLACES_LIMIT || frac > width {
             return None;
         }
         Some(Scale {

@@ -18,25 +18,27 @@ fn num(mantissa: i128, frac: u32) -> Num {
     Num { mantissa, frac }
 }
 
-/// Whether the mantissa with so many more bits is at most 2^100 in magnitude.
+/// Whether the mantissa with `bits` more bits is at most 2^100 in magnitude.
 fn has_room(mantissa: i128, bits: u32) -> bool
     ensures { IsTrue result → unsigned_abs (mantissa *ℤ pos (2 ^ bits)) ≤ 2 ^ 100 }
 {
-    bits <= 100 && mantissa.unsigned_abs() <= (1u128 << 100) >> bits
+    bits <= 100 && mantissa.unsigned_abs() <= MAGNITUDE_LIMIT >> bits
 }
 
 fn can_align(a: Num, b: Num) -> bool
     ensures { IsTrue result → CanAlign a b }
 {
     let frac = a.frac.max(b.frac);
-    frac <= 64 && has_room(a.mantissa, frac - a.frac) && has_room(b.mantissa, frac - b.frac)
+    frac <= FRACTION_LIMIT
+        && has_room(a.mantissa, frac - a.frac)
+        && has_room(b.mantissa, frac - b.frac)
 }
 
 fn can_divide(a: Num, b: Num) -> bool
     ensures { IsTrue result → CanDivide a b }
 {
     let frac = a.frac.max(b.frac);
-    frac <= 64 && has_room(a.mantissa, frac - a.frac + b.frac)
+    frac <= FRACTION_LIMIT && has_room(a.mantissa, frac - a.frac + b.frac)
 }
 
 fn can_fit(a: Num, to: Scale) -> bool
@@ -249,7 +251,7 @@ fn writes_texts(rt: HostRuntime) {
         (-MOST, 0, b"-1267650600228229401496703205376"),
     ];
     for (mantissa, frac, text) in rows {
-        let mut buf = [0u8; 128];
+        let mut buf = [0u8; TEXT_LIMIT];
         assert!(rt; frac <= 64 && has_room(mantissa, 0));
         let end = write_decimal(mantissa, frac, &mut buf);
         assert_eq!(rt; &buf[..end], text, "{mantissa} {frac}");

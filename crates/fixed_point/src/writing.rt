@@ -2,8 +2,13 @@
 ghost use Rattle.std.specs.Prelude.{◌≡◌, ◌≤◌, ◌<◌, ◌+◌, ◌^◌, ◌++◌, ◌∷◌, [], take, length, decimal, unsigned_abs};
 ghost use Rattle.fixed_point.specs.Text as spec;
 ghost use Rattle.fixed_point.specs.Told as told;
+ghost use Rattle.fixed_point.specs.declared.num.TheConstants.{MAGNITUDE_LIMIT, FRACTION_LIMIT};
+ghost use Rattle.fixed_point.specs.declared.writing.TheConstants.{TEXT_LIMIT};
 
 use crate::power::unsigned_power;
+
+/// The most bytes of the decimal text of a number.
+pub const TEXT_LIMIT: usize = 128;
 
 /// Puts a byte after the first `at`, and answers how many bytes there are now.
 fn put(buf: &mut [u8], at: usize, byte: u8) -> usize
@@ -39,8 +44,8 @@ fn put_whole(buf: &mut [u8], at: usize, number: u128) -> usize
 
 /// Puts the digits after the point of `number / 2^frac` after the first `at` bytes.
 fn put_behind(buf: &mut [u8], at: usize, number: u128, frac: u32) -> usize
-    requires frac { frac ≤ 64 }
-    requires room { at + 64 ≤ length buf.old }
+    requires frac { frac ≤ FRACTION_LIMIT }
+    requires room { at + FRACTION_LIMIT ≤ length buf.old }
     ensures text { take result buf.new ≡ take at buf.old ++ spec.fraction_digits number frac }
     ensures end { result ≡ at + length (spec.fraction_digits number frac) }
 {
@@ -59,12 +64,12 @@ fn put_behind(buf: &mut [u8], at: usize, number: u128, frac: u32) -> usize
 /// answers its length.
 #[tactic(auto, unfolding(crate::specs::Text::decimal_text))]
 pub fn write_decimal(mantissa: i128, frac: u32, buf: &mut [u8]) -> usize
-    requires size { unsigned_abs mantissa ≤ 2 ^ 100 }
-    requires frac { frac ≤ 64 }
-    requires room { 128 ≤ length buf.old }
+    requires size { unsigned_abs mantissa ≤ MAGNITUDE_LIMIT }
+    requires frac { frac ≤ FRACTION_LIMIT }
+    requires room { TEXT_LIMIT ≤ length buf.old }
     ensures text { take result buf.new ≡ spec.decimal_text mantissa frac }
     ensures end { result ≡ length (spec.decimal_text mantissa frac) }
-    ensures within { result ≤ 128 }
+    ensures within { result ≤ TEXT_LIMIT }
 
     // Read, the text tells the value, and no shorter text tells it.
     ensures exact { told.TellsExactly mantissa frac (spec.decimal_text mantissa frac) }

@@ -10,10 +10,10 @@ loop-bits-init c =
       left = ap (λ (x : ℕ). c.args.units % x) c.power_of_ten-one.ensures.value ∙ ap (λ (x : ℕ). x % 10 ^ c.args.places) same;
     }
 
-pub returns-then-whole-ge-LIMIT : goal.returns-then-whole-ge-LIMIT
-returns-then-whole-ge-LIMIT c =
+pub returns-then-whole-ge-READ_LIMIT : goal.returns-then-whole-ge-READ_LIMIT
+returns-then-whole-ge-READ_LIMIT c =
     let grown = steps-grow c.args.units c.args.places c.loop-bits._bits c.args.frac (omega arith) in
-    sym (steps_within-none c.args.units c.args.places c.args.frac (omega (arith, c.loop-bits.invariant.steps, c.if-whole-ge-LIMIT.true)))
+    sym (steps_within-none c.args.units c.args.places c.args.frac (omega (arith, c.loop-bits.invariant.steps, c.if-whole-ge-READ_LIMIT.true)))
 
 pub loop-bits-preserved : goal.loop-bits-preserved
 loop-bits-preserved c = record {

@@ -3,7 +3,7 @@ ghost use Rattle.std.specs.Prelude.{◌<◌};
 
 use crate::{
     Bounds, Failed, Inputs, List, MemFile, MemInputs, MemSink, ReadEnd, RealInputs, RealSink, Sink,
-    Status, SureInputs, SureSink, Text, read_whole, write_all,
+    SureInputs, SureSink, Text, read_whole, write_all,
 };
 use std::alloc::{AllocError, Global};
 use std::fs;
@@ -54,22 +54,6 @@ fn bounds_are_made_in_range(rt: HostRuntime) {
         );
     }
     assert_eq!(rt; Bounds::make(8, 10_000), Some(Bounds::usual()));
-}
-
-#[test]
-fn status_codes_count_up(rt: HostRuntime) {
-    let cases = [
-        (Status::Ok, 0),
-        (Status::Refused, 1),
-        (Status::Usage, 2),
-        (Status::RunFault, 3),
-        (Status::Read, 4),
-        (Status::Write, 5),
-        (Status::Memory, 6),
-    ];
-    for (status, code) in cases {
-        assert_eq!(rt; status.code(), code);
-    }
 }
 
 #[test]
@@ -186,6 +170,18 @@ fn files_of_the_system_are_read_once(rt: HostRuntime) -> Result<(), Fail> {
     Ok(())
 }
 
+#[test]
+fn a_directory_is_a_read_fault(rt: HostRuntime) {
+    let mut inputs = RealInputs::new(&rt, rt.alloc());
+    let mut buffer = [7u8; 3];
+    for _ in 0..2 {
+        assert_eq!(rt; inputs.read(".", &mut buffer), Err(Failed));
+        assert_eq!(rt; buffer, [7, 7, 7]);
+    }
+    let end = read_whole(rt.alloc(), &mut inputs, ".", 9).err();
+    assert_eq!(rt; end, Some(ReadEnd::Failed));
+}
+
 /// Takes nothing.
 #[derive(Drop)]
 struct FullWriter;
@@ -198,6 +194,51 @@ impl Write for FullWriter {
     fn flush(&mut self) -> io::Result<()> {
         Ok(())
     }
+}
+
+/// Takes one byte of each piece, and fails where its room is taken.
+#[derive(Drop)]
+struct ByteWriter {
+    bytes: Vec<u8>,
+    room: usize,
+}
+
+impl Write for ByteWriter {
+    fn write(&mut self, buf: &[u8]) -> io::Result<usize> {
+        if self.bytes.len() >= self.room {
+            return Err(io::Error::other("full"));
+        }
+        match buf.first() {
+            Some(byte) => {
+                self.bytes.push(*byte)?;
+                Ok(1)
+            }
+            None => Ok(0),
+        }
+    }
+
+    fn flush(&mut self) -> io::Result<()> {
+        Ok(())
+    }
+}
+
+#[test]
+fn short_writes_are_gone_on_with_until_one_fails(rt: HostRuntime) -> Result<(), Fail> {
+    let cases: [(usize, Result<(), Failed>, &[u8]); 3] = [
+        (9, Ok(()), b"abcde"),
+        (3, Err(Failed), b"abc"),
+        (0, Err(Failed), b""),
+    ];
+    for (room, answer, bytes) in cases {
+        let mut writer = ByteWriter {
+            bytes: Vec::new(rt.alloc()),
+            room,
+        };
+        let mut sink = RealSink::new(&mut writer);
+        assert_eq!(rt; write_all(&mut sink, b"abcde"), answer, "with room {room}");
+        assert_eq!(rt; writer.bytes.as_slice(), bytes, "with room {room}");
+    }
+    Ok(())
 }
 
 #[test]

@@ -11,7 +11,8 @@ pub record Alike {X : Type 0} (g h : Grammar X) : Type 0 where
   pub spelled : (u : List Lexeme) (x : X) → g.spells u x → h.spells u x
   pub back : (u : List Lexeme) (x : X) → h.spells u x → g.spells u x
 
-pub takes_alike : {X : Type 0} {g h : Grammar X} → Alike g h → (s : List Lexeme) (x : X) (r : List Lexeme) → Takes h s x r → Takes g s x r
+pub takes_alike : {X : Type 0} {g h : Grammar X} → Alike g h → (s : List Lexeme) (x : X) (r : List Lexeme)
+    → Takes h s x r → Takes g s x r
 takes_alike a s x r t = record {
   used = t.used;
   parts = t.parts;
@@ -22,7 +23,8 @@ takes_alike a s x r t = record {
 pub continues_alike : {X : Type 0} {g h : Grammar X} (u : List Lexeme) → Alike g h → Continues h u → Continues g u
 continues_alike u a c = record { rest = c.rest; value = c.value; spelled = a.back (u ++ c.rest) c.value c.spelled }
 
-stops_alike : {X : Type 0} {g h : Grammar X} → Alike g h → (f : Fault) (s r : List Lexeme) → Stops h f s r → Stops g f s r
+stops_alike : {X : Type 0} {g h : Grammar X} → Alike g h → (f : Fault) (s r : List Lexeme) → Stops h f s r
+    → Stops g f s r
 stops_alike a f s r t = record {
   used = t.used;
   parts = t.parts;

@@ -9,19 +9,22 @@ use Rattle.token_grammar.proofs.Good.{Set, nothing, SameHead, Begins, Takes, Sto
 
 -- ---- what the test says of the first token
 
-refused_same : (set : Set) (test : Lexeme → Option Fault) (r r' : List Lexeme) → SameHead r r' → first_refused set test r ≡ first_refused set test r'
+refused_same : (set : Set) (test : Lexeme → Option Fault) (r r' : List Lexeme) → SameHead r r'
+    → first_refused set test r ≡ first_refused set test r'
 refused_same set test [] [] h = refl
 refused_same set test [] (t ∷ s) h = absurd h
 refused_same set test (t ∷ s) [] h = absurd h
 refused_same set test (t ∷ s) (t' ∷ s') h = ap (λ (x : Lexeme). cond (set x.kind) (test x) None) h
 
 -- of tokens that aren't none, what follows has no say
-refused_front : (set f : Set) (test : Lexeme → Option Fault) (u r : List Lexeme) → Begins f false u → first_refused set test (u ++ r) ≡ first_refused set test u
+refused_front : (set f : Set) (test : Lexeme → Option Fault) (u r : List Lexeme) → Begins f false u
+    → first_refused set test (u ++ r) ≡ first_refused set test u
 refused_front set f test [] r h = absurd cc
 refused_front set f test (t ∷ u) r h = refl
 
 -- what a test says that looks at no token
-pub refused_always : (set : Set) (said : Option Fault) (s : List Lexeme) → first_refused set (λ t. said) s ≡ cond (heads set s) said None
+pub refused_always : (set : Set) (said : Option Fault) (s : List Lexeme)
+    → first_refused set (λ t. said) s ≡ cond (heads set s) said None
 refused_always set said [] = refl
 refused_always set said (t ∷ s) = refl
 
@@ -31,29 +34,34 @@ said_cases (Some f) = inr (f, refl)
 
 -- ---- allowed
 
-pub allowed_begun : {X : Type 0} {g : Grammar X} (set : Set) (test : Lexeme → Option Fault) (t : Lexeme) (u : List Lexeme)
+pub allowed_begun : {X : Type 0} {g : Grammar X} (set : Set) (test : Lexeme → Option Fault) (t : Lexeme)
+    (u : List Lexeme)
     → first_refused set test (t ∷ []) ≡ None → Continues g (t ∷ u) → Continues (allowed set test g) (t ∷ u)
 allowed_begun set test t u passes c = record { rest = c.rest; value = c.value; spelled = (passes, c.spelled) }
 
 allowed_continues : {X : Type 0} {g : Grammar X} (set : Set) (test : Lexeme → Option Fault) (used r : List Lexeme)
-    → first_refused set test (used ++ r) ≡ None → Continues g used ⊎ (used ≡ []) → Continues (allowed set test g) used ⊎ (used ≡ [])
+    → first_refused set test (used ++ r) ≡ None → Continues g used ⊎ (used ≡ [])
+    → Continues (allowed set test g) used ⊎ (used ≡ [])
 allowed_continues set test [] r passes c = inr refl
 allowed_continues set test (t ∷ u) r passes (inl c) = inl (allowed_begun set test t u passes c)
 allowed_continues set test (t ∷ u) r passes (inr none) = inr none
 
 -- the tokens that were used pass as the whole does
-used_pass : (set : Set) (test : Lexeme → Option Fault) (used r : List Lexeme) → first_refused set test (used ++ r) ≡ None
+used_pass : (set : Set) (test : Lexeme → Option Fault) (used r : List Lexeme)
+    → first_refused set test (used ++ r) ≡ None
     → first_refused set test used ≡ None
 used_pass set test [] r passes = refl
 used_pass set test (t ∷ u) r passes = passes
 
-pub takes_allowed : {X : Type 0} {g : Grammar X} (set : Set) (test : Lexeme → Option Fault) (s : List Lexeme) (x : X) (r : List Lexeme)
+pub takes_allowed : {X : Type 0} {g : Grammar X} (set : Set) (test : Lexeme → Option Fault) (s : List Lexeme) (x : X)
+    (r : List Lexeme)
     → first_refused set test s ≡ None → Takes g s x r → Takes (allowed set test g) s x r
 takes_allowed set test s x r passes t = record {
   used = t.used;
   parts = t.parts;
   spelled = (used_pass set test t.used r (ap (first_refused set test) (sym t.parts) ∙ passes), t.spelled);
-  same = λ r' hd. rw (sym (refused_same set test s (t.used ++ r') (carried s t.used r r' t.parts hd)) ∙ passes) (t.same r' hd);
+  same =
+      λ r' hd. rw (sym (refused_same set test s (t.used ++ r') (carried s t.used r r' t.parts hd)) ∙ passes) (t.same r' hd);
 }
 
 stops_allowed : {X : Type 0} {g : Grammar X} (set : Set) (test : Lexeme → Option Fault) (f : Fault) (s r : List Lexeme)
@@ -62,15 +70,18 @@ stops_allowed set test f s r passes t = record {
   used = t.used;
   parts = t.parts;
   continues = allowed_continues set test t.used r (ap (first_refused set test) (sym t.parts) ∙ passes) t.continues;
-  same = λ r' hd. rw (sym (refused_same set test s (t.used ++ r') (carried s t.used r r' t.parts hd)) ∙ passes) (t.same r' hd);
+  same =
+      λ r' hd. rw (sym (refused_same set test s (t.used ++ r') (carried s t.used r r' t.parts hd)) ∙ passes) (t.same r' hd);
 }
 
-stops_refused : {X : Type 0} {g : Grammar X} (set : Set) (test : Lexeme → Option Fault) (d : Fault) (s : List Lexeme) → first_refused set test s ≡ Some d
+stops_refused : {X : Type 0} {g : Grammar X} (set : Set) (test : Lexeme → Option Fault) (d : Fault) (s : List Lexeme)
+    → first_refused set test s ≡ Some d
     → (r : List Lexeme) (f : Fault) → (allowed set test g).reads s ≡ Err (f, r) → Stops (allowed set test g) f s r
 stops_refused {X} {g} set test d s full r f e =
     stops_at_hand (allowed set test g) d s (λ r' h. rw (sym (refused_same set test s r' h) ∙ full) refl) r f e
 
-pub good_allowed : {X : Type 0} {g : Grammar X} {f m : Set} (set : Set) (test : Lexeme → Option Fault) → Good g f false m
+pub good_allowed : {X : Type 0} {g : Grammar X} {f m : Set} (set : Set) (test : Lexeme → Option Fault)
+    → Good g f false m
     → Good (allowed set test g) f false m
 good_allowed {X} {g} {f} set test a = record {
   begins = λ u x w. a.begins u x w.1;
@@ -88,7 +99,8 @@ good_allowed {X} {g} {f} set test a = record {
 }
 
 -- where the test refuses no token of the set
-passes_all : (set : Set) (test : Lexeme → Option Fault) → ((t : Lexeme) → set t.kind ≡ true → test t ≡ None) → (u : List Lexeme)
+passes_all : (set : Set) (test : Lexeme → Option Fault) → ((t : Lexeme) → set t.kind ≡ true → test t ≡ None)
+    → (u : List Lexeme)
     → first_refused set test u ≡ None
 passes_all set test passes [] = refl
 passes_all set test passes (t ∷ u) =
@@ -97,7 +109,8 @@ passes_all set test passes (t ∷ u) =
       | inr away ↦ rw away refl
     ]
 
-pub sample_allowed : {X : Type 0} {g : Grammar X} (set : Set) (test : Lexeme → Option Fault) → ((t : Lexeme) → set t.kind ≡ true → test t ≡ None)
+pub sample_allowed : {X : Type 0} {g : Grammar X} (set : Set) (test : Lexeme → Option Fault)
+    → ((t : Lexeme) → set t.kind ≡ true → test t ≡ None)
     → Sample g → Sample (allowed set test g)
 sample_allowed set test passes z = record { tokens = z.tokens; value = z.value; spelled = (passes_all set test passes z.tokens, z.spelled) }
 

@@ -25,7 +25,8 @@ place_front f (t ∷ u) r h = refl
 
 -- ---- how it continues
 
-begun_at_first : {X : Type 0} (g : Span → Grammar X) (t : Lexeme) (u : List Lexeme) → Continues (g t.at) (t ∷ u) → Continues (at_first g) (t ∷ u)
+begun_at_first : {X : Type 0} (g : Span → Grammar X) (t : Lexeme) (u : List Lexeme) → Continues (g t.at) (t ∷ u)
+    → Continues (at_first g) (t ∷ u)
 begun_at_first g t u c = record { rest = c.rest; value = c.value; spelled = c.spelled }
 
 -- what stands before a fault
@@ -36,36 +37,43 @@ before_at_first {X} g p (t ∷ u) r e (inl c) = inl (begun_at_first g t u (subst
 before_at_first g p (t ∷ u) r e (inr none) = inr none
 
 -- and with the token at which it is
-with_at_first : {X : Type 0} (g : Span → Grammar X) (p : Span) (used : List Lexeme) (t : Lexeme) (q : List Lexeme) → p ≡ first_place (used ++ t ∷ q)
+with_at_first : {X : Type 0} (g : Span → Grammar X) (p : Span) (used : List Lexeme) (t : Lexeme) (q : List Lexeme)
+    → p ≡ first_place (used ++ t ∷ q)
     → Continues (g p) (used ++ t ∷ []) → Continues (at_first g) (used ++ t ∷ [])
 with_at_first {X} g p [] t q e c = begun_at_first g t [] (subst (λ z. Continues (g z) (t ∷ [])) e c)
-with_at_first {X} g p (x ∷ used) t q e c = begun_at_first g x (used ++ t ∷ []) (subst (λ z. Continues (g z) (x ∷ used ++ t ∷ [])) e c)
+with_at_first {X} g p (x ∷ used) t q e c =
+    begun_at_first g x (used ++ t ∷ []) (subst (λ z. Continues (g z) (x ∷ used ++ t ∷ [])) e c)
 
 -- ---- how it reads
 
 takes_at_first : {X : Type 0} {g : Span → Grammar X} {f m : Set} → ((p : Span) → Good (g p) f false m)
     → (s : List Lexeme) (x : X) (r : List Lexeme) → Takes (g (first_place s)) s x r → Takes (at_first g) s x r
 takes_at_first {X} {g} {f} a s x r t =
-    let front : first_place (t.used ++ r) ≡ first_place t.used = place_front f t.used r ((a (first_place s)).begins t.used x t.spelled) in
+    let front : first_place (t.used ++ r) ≡ first_place t.used =
+    place_front f t.used r ((a (first_place s)).begins t.used x t.spelled) in
     let place : first_place s ≡ first_place t.used = ap first_place t.parts ∙ front in
     record {
       used = t.used;
       parts = t.parts;
       spelled = subst (λ p. (g p).spells t.used x) place t.spelled;
       same = λ r' hd.
-          subst (λ p. (g p).reads (t.used ++ r') ≡ Ok (x, r')) (place_same s (t.used ++ r') (carried s t.used r r' t.parts hd)) (t.same r' hd);
+          subst (λ p. (g p).reads (t.used ++ r') ≡ Ok (x, r'))
+          (place_same s (t.used ++ r') (carried s t.used r r' t.parts hd)) (t.same r' hd);
     }
 
-stops_at_first : {X : Type 0} (g : Span → Grammar X) (f : Fault) (s r : List Lexeme) → Stops (g (first_place s)) f s r → Stops (at_first g) f s r
+stops_at_first : {X : Type 0} (g : Span → Grammar X) (f : Fault) (s r : List Lexeme) → Stops (g (first_place s)) f s r
+    → Stops (at_first g) f s r
 stops_at_first {X} g f s r t = record {
   used = t.used;
   parts = t.parts;
   continues = before_at_first g (first_place s) t.used r (ap first_place t.parts) t.continues;
   same = λ r' hd.
-      subst (λ p. (g p).reads (t.used ++ r') ≡ Err (f, r')) (place_same s (t.used ++ r') (carried s t.used r r' t.parts hd)) (t.same r' hd);
+      subst (λ p. (g p).reads (t.used ++ r') ≡ Err (f, r'))
+      (place_same s (t.used ++ r') (carried s t.used r r' t.parts hd)) (t.same r' hd);
 }
 
-past_at_first : {X : Type 0} (g : Span → Grammar X) (s r : List Lexeme) → GoesPast (g (first_place s)) s r → GoesPast (at_first g) s r
+past_at_first : {X : Type 0} (g : Span → Grammar X) (s r : List Lexeme) → GoesPast (g (first_place s)) s r
+    → GoesPast (at_first g) s r
 past_at_first {X} g s r p =
     let whole : s ≡ p.used ++ p.first ∷ p.others = p.parts ∙ ap (λ z. p.used ++ z) p.at in
     record {
@@ -79,7 +87,8 @@ past_at_first {X} g s r p =
 
 -- ---- the laws
 
-pub good_at_first : {X : Type 0} {g : Span → Grammar X} {f m : Set} → ((p : Span) → Good (g p) f false m) → Good (at_first g) f false m
+pub good_at_first : {X : Type 0} {g : Span → Grammar X} {f m : Set} → ((p : Span) → Good (g p) f false m)
+    → Good (at_first g) f false m
 good_at_first {X} {g} {f} a = record {
   begins = λ u x w. (a (first_place u)).begins u x w;
   again = λ u x r w clear.
@@ -89,15 +98,18 @@ good_at_first {X} {g} {f} a = record {
   stops = λ s r d e. stops_at_first g d s r ((a (first_place s)).stops s r d e);
 }
 
-pub starts_at_first : {X : Type 0} {set : Set} {g : Span → Grammar X} → ((p : Span) → Starts set (g p)) → Starts set (at_first g)
+pub starts_at_first : {X : Type 0} {set : Set} {g : Span → Grammar X} → ((p : Span) → Starts set (g p))
+    → Starts set (at_first g)
 starts_at_first {X} {set} {g} a = record { each = λ t there. begun_at_first g t [] ((a t.at).each t there) }
 
 -- where each token of the set begins a spelling, whatever the place, and there is a kind in the set
-pub fine_at_first : {X : Type 0} {g : Span → Grammar X} {f m : Set} (set : Set) (k : Kind) → set k ≡ true → ((p : Span) → Starts set (g p))
+pub fine_at_first : {X : Type 0} {g : Span → Grammar X} {f m : Set} (set : Set) (k : Kind) → set k ≡ true
+    → ((p : Span) → Starts set (g p))
     → ((p : Span) → Good (g p) f false m) → Fine (at_first g) f false m
 fine_at_first set k there starts a = record { good = good_at_first a; sample = sample_starts k there (starts_at_first starts) }
 
-pub lifted_at_first : {X : Type 0} {lifts : Fault → Bool} {g g' : Span → Grammar X} {f m : Set} → ((p : Span) → Good (g' p) f false m)
+pub lifted_at_first : {X : Type 0} {lifts : Fault → Bool} {g g' : Span → Grammar X} {f m : Set}
+    → ((p : Span) → Good (g' p) f false m)
     → ((p : Span) → Lifted lifts (g p) (g' p)) → Lifted lifts (at_first g) (at_first g')
 lifted_at_first {X} {lifts} {g} {g'} a b = record {
   takes = λ s x r e. takes_at_first a s x r ((b (first_place s)).takes s x r e);
@@ -105,7 +117,8 @@ lifted_at_first {X} {lifts} {g} {g'} a b = record {
   passes = λ s r d e lift. past_at_first g' s r ((b (first_place s)).passes s r d e lift);
 }
 
-pub eased_at_first : {X : Type 0} {lifts : Fault → Bool} {g g' : Span → Grammar X} {f m : Set} (set : Set) (k : Kind) → set k ≡ true
+pub eased_at_first : {X : Type 0} {lifts : Fault → Bool} {g g' : Span → Grammar X} {f m : Set} (set : Set) (k : Kind)
+    → set k ≡ true
     → ((p : Span) → Starts set (g' p)) → ((p : Span) → Good (g' p) f false m) → ((p : Span) → Lifted lifts (g p) (g' p))
     → Eased lifts (at_first g) (at_first g')
 eased_at_first set k there starts a b = record { lifted = lifted_at_first a b; sample = sample_starts k there (starts_at_first starts) }

@@ -12,10 +12,12 @@ module _ {S X : Type 0} (set : Set) (g : S → Grammar X) (next : S → X → S)
       → after front ((up_to_from set g next (limit - count) st).reads s) ≡ (up_to_from set g next limit st).reads s
   counted_begins st front s none zero =
       let left : limit - count ≡ limit = omega arith in
-      rw none (begins_with_none ((up_to_from set g next (limit - count) st).reads s)) ∙ ap (λ (n : ℕ). (up_to_from set g next n st).reads s) left
+      rw none (begins_with_none ((up_to_from set g next (limit - count) st).reads s))
+      ∙ ap (λ (n : ℕ). (up_to_from set g next n st).reads s) left
 
   pub counted_goes_on : (st : S) (front : List X) (s : List Lexeme) (x : X) (r : List Lexeme) (total : Outcome (List X))
-      → count < limit → heads set s ≡ true → (g st).reads s ≡ Ok (x, r) → after front ((up_to_from set g next (limit - count) st).reads s) ≡ total
+      → count < limit → heads set s ≡ true → (g st).reads s ≡ Ok (x, r)
+      → after front ((up_to_from set g next (limit - count) st).reads s) ≡ total
       → after (front ++ x ∷ []) ((up_to_from set g next (limit - (count + 1)) (next st x)).reads r) ≡ total
   counted_goes_on st front s x r total room here one so_far =
       let left : limit - count ≡ suc (limit - (count + 1)) = omega arith in
@@ -23,7 +25,8 @@ module _ {S X : Type 0} (set : Set) (g : S → Grammar X) (next : S → X → S)
       (subst (λ (n : ℕ). after front ((up_to_from set g next n st).reads s) ≡ total) left so_far)
 
   pub counted_fails : (st : S) (err : ReadError) (front : List X) (s r : List Lexeme) (total : Outcome (List X))
-      → count < limit → heads set s ≡ true → Fails err r ((g st).reads s) → after front ((up_to_from set g next (limit - count) st).reads s) ≡ total
+      → count < limit → heads set s ≡ true → Fails err r ((g st).reads s)
+      → after front ((up_to_from set g next (limit - count) st).reads s) ≡ total
       → Fails err r total
   counted_fails st err front s r total room here one so_far =
       let left : limit - count ≡ suc (limit - (count + 1)) = omega arith in
@@ -31,11 +34,13 @@ module _ {S X : Type 0} (set : Set) (g : S → Grammar X) (next : S → X → S)
       (subst (λ (n : ℕ). after front ((up_to_from set g next n st).reads s) ≡ total) left so_far)
 
   pub counted_ends : (st : S) (front : List X) (s : List Lexeme) (total : Outcome (List X))
-      → (count < limit → heads set s ≡ false) → after front ((up_to_from set g next (limit - count) st).reads s) ≡ total → total ≡ Ok (front, s)
+      → (count < limit → heads set s ≡ false)
+      → after front ((up_to_from set g next (limit - count) st).reads s) ≡ total → total ≡ Ok (front, s)
   counted_ends st front s total stop so_far =
       elim (cases_lt count limit) [
         | inl room ↦ up_to_ends set g next (limit - count) st front s total (stop room) so_far
         | inr full ↦
             let left : limit - count ≡ 0 = omega arith in
-            up_to_full set g next st front s total (subst (λ (n : ℕ). after front ((up_to_from set g next n st).reads s) ≡ total) left so_far)
+            up_to_full set g next st front s total
+            (subst (λ (n : ℕ). after front ((up_to_from set g next n st).reads s) ≡ total) left so_far)
       ]

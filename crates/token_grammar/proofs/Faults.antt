@@ -9,17 +9,21 @@ use Rattle.token_grammar.proofs.Good.{Set, Good, Takes, done_is, bind_ok, bind_e
 use Rattle.token_grammar.proofs.Fine.{Fine}
 
 -- a spelling of the whole is read, and nothing is left
-pub all_read : {X : Type 0} {g : Grammar X} {f m : Set} {n : Bool} → Good g f n m → (u : List Lexeme) (x : X) → g.spells u x → g.reads u ≡ Ok (x, [])
+pub all_read : {X : Type 0} {g : Grammar X} {f m : Set} {n : Bool} → Good g f n m → (u : List Lexeme) (x : X)
+    → g.spells u x → g.reads u ≡ Ok (x, [])
 all_read {X} {g} a u x h = subst (λ v. g.reads v ≡ Ok (x, [])) (append-nil u) (a.again u x [] h refl)
 
 -- what continues with a token is read, when its end follows
-read_through : {X : Type 0} {g : Grammar X} {f m : Set} {n : Bool} → Good g f n m → (u : List Lexeme) (t : Lexeme) (c : Continues g (u ++ t ∷ []))
+read_through : {X : Type 0} {g : Grammar X} {f m : Set} {n : Bool} → Good g f n m
+    → (u : List Lexeme) (t : Lexeme) (c : Continues g (u ++ t ∷ []))
     → g.reads (u ++ t ∷ c.rest) ≡ Ok (c.value, [])
 read_through {X} {g} a u t c =
-    subst (λ v. g.reads v ≡ Ok (c.value, [])) (append_assoc u (t ∷ []) c.rest) (all_read a ((u ++ t ∷ []) ++ c.rest) c.value c.spelled)
+    subst (λ v. g.reads v ≡ Ok (c.value, [])) (append_assoc u (t ∷ []) c.rest)
+    (all_read a ((u ++ t ∷ []) ++ c.rest) c.value c.spelled)
 
 -- where reading stops, by whatever fault
-pub fault_at_stop : {X : Type 0} {g : Grammar X} {f m : Set} {n : Bool} → Fine g f n m → (s r : List Lexeme) (d : Fault) → g.reads s ≡ Err (d, r)
+pub fault_at_stop : {X : Type 0} {g : Grammar X} {f m : Set} {n : Bool} → Fine g f n m
+    → (s r : List Lexeme) (d : Fault) → g.reads s ≡ Err (d, r)
     → FirstFault g s r
 fault_at_stop {X} {g} a s r d e =
     let t = a.good.stops s r d e in
@@ -32,7 +36,8 @@ fault_at_stop {X} {g} a s r d e =
     }
 
 -- after what was read
-pub fault_after : {X : Type 0} {g : Grammar X} {f m : Set} {n : Bool} → Good g f n m → (s : List Lexeme) (x : X) (tok : Lexeme) (q : List Lexeme)
+pub fault_after : {X : Type 0} {g : Grammar X} {f m : Set} {n : Bool} → Good g f n m
+    → (s : List Lexeme) (x : X) (tok : Lexeme) (q : List Lexeme)
     → g.reads s ≡ Ok (x, tok ∷ q) → FirstFault g s (tok ∷ q)
 fault_after {X} {g} a s x tok q e =
     let t = a.takes s x (tok ∷ q) e in
@@ -53,7 +58,8 @@ fault_after {X} {g} a s x tok q e =
 -- ---- a whole text
 
 -- what is read is spelled so
-pub whole_found : {X : Type 0} {g : Grammar X} {f m : Set} {n : Bool} → Good g f n m → (s : List Lexeme) (x : X) (r : List Lexeme)
+pub whole_found : {X : Type 0} {g : Grammar X} {f m : Set} {n : Bool} → Good g f n m
+    → (s : List Lexeme) (x : X) (r : List Lexeme)
     → whole_reads g s ≡ Ok (x, r) → g.spells s x
 whole_found {X} {g} a s x r e =
     let k = bind_ok (g.reads s) ended x r e in
@@ -67,12 +73,14 @@ whole_found {X} {g} a s x r e =
     nothing_left y (tok ∷ q) e t = absurd cc
 
 -- what is spelled is read
-pub whole_only : {X : Type 0} {g : Grammar X} {f m : Set} {n : Bool} → Good g f n m → (s : List Lexeme) (x : X) → g.spells s x
+pub whole_only : {X : Type 0} {g : Grammar X} {f m : Set} {n : Bool} → Good g f n m → (s : List Lexeme) (x : X)
+    → g.spells s x
     → whole_reads g s ≡ Ok (x, [])
 whole_only a s x h = rw (all_read a s x h) refl
 
 -- where it isn't read, the fault is the first
-pub whole_fault : {X : Type 0} {g : Grammar X} {f m : Set} {n : Bool} → Fine g f n m → (s r : List Lexeme) (d : Fault) → whole_reads g s ≡ Err (d, r)
+pub whole_fault : {X : Type 0} {g : Grammar X} {f m : Set} {n : Bool} → Fine g f n m → (s r : List Lexeme) (d : Fault)
+    → whole_reads g s ≡ Err (d, r)
     → FirstFault g s r
 whole_fault {X} {g} a s r d e =
     elim (bind_err (g.reads s) ended (d, r) e) [

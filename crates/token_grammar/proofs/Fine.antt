@@ -34,7 +34,8 @@ fine_give x = record { good = good_give x; sample = sample_give x }
 
 -- where the first has a spelling
 pub fine_then : {X Y : Type 0} {g : Grammar X} {h : X → Grammar Y} {f1 m1 f2 m2 : Set} {n1 n2 : Bool}
-    → Fine g f1 n1 m1 → ((x : X) → Fine (h x) f2 n2 m2) → disjoint f2 m1 ≡ true → Fine (g >>= h) (also f1 n1 f2) (n1 && n2) (also m2 n2 m1)
+    → Fine g f1 n1 m1 → ((x : X) → Fine (h x) f2 n2 m2) → disjoint f2 m1 ≡ true
+    → Fine (g >>= h) (also f1 n1 f2) (n1 && n2) (also m2 n2 m1)
 fine_then {X} {Y} {g} {h} {f1} {m1} {f2} a b e = record {
   good = then_good a.good (λ x. (b x).good) (λ x. (b x).sample) (apart f2 m1 e);
   sample = sample_then a.sample (λ x. (b x).sample);
@@ -42,7 +43,8 @@ fine_then {X} {Y} {g} {h} {f1} {m1} {f2} a b e = record {
 
 -- where it need not have one
 pub good_then : {X Y : Type 0} {g : Grammar X} {h : X → Grammar Y} {f1 m1 f2 m2 : Set} {n1 n2 : Bool}
-    → Good g f1 n1 m1 → ((x : X) → Fine (h x) f2 n2 m2) → disjoint f2 m1 ≡ true → Good (g >>= h) (also f1 n1 f2) (n1 && n2) (also m2 n2 m1)
+    → Good g f1 n1 m1 → ((x : X) → Fine (h x) f2 n2 m2) → disjoint f2 m1 ≡ true
+    → Good (g >>= h) (also f1 n1 f2) (n1 && n2) (also m2 n2 m1)
 good_then {X} {Y} {g} {h} {f1} {m1} {f2} a b e = then_good a (λ x. (b x).good) (λ x. (b x).sample) (apart f2 m1 e)
 
 -- ---- one or the other: the first of them where the token at hand is in the set
@@ -81,7 +83,8 @@ fine_optional {X} {g} {f} {m} set a p = record {
     only_left true h = refl
     only_left false h = absurd cc
 
-    either_of : (a b : Bool) → (((false || (true && a)) || (true && false)) || (true && b)) ≡ true → (a || (true && b)) ≡ true
+    either_of : (a b : Bool) → (((false || (true && a)) || (true && false)) || (true && b)) ≡ true
+        → (a || (true && b)) ≡ true
     either_of true b h = refl
     either_of false true h = refl
     either_of false false h = absurd cc
@@ -95,13 +98,16 @@ fine_allowed set test a passes = record { good = good_allowed set test a.good; s
 
 -- ---- any number, and at most so many
 
-pub fine_many : {X : Type 0} {g : Grammar X} {f m : Set} (set : Set) → Good g f false m → subset f set ≡ true → disjoint f m ≡ true
+pub fine_many : {X : Type 0} {g : Grammar X} {f m : Set} (set : Set) → Good g f false m → subset f set ≡ true
+    → disjoint f m ≡ true
     → Fine (many set g) f true (also set true m)
 fine_many {X} {g} {f} {m} set a p q = record { good = many_good set a (within f set p) (apart f m q); sample = sample_many set g }
 
 -- every has the sets of all states
-pub fine_many_from : {S X : Type 0} {g : S → Grammar X} {f : S → Set} {m : Set} (set : S → Set) (next : S → X → S) (every : Set) (s : S)
-    → ((z : S) → Good (g z) (f z) false m) → ((z : S) → subset (f z) (set z) ≡ true) → ((z : S) → subset (set z) every ≡ true)
+pub fine_many_from : {S X : Type 0} {g : S → Grammar X} {f : S → Set} {m : Set} (set : S → Set) (next : S → X → S)
+    (every : Set) (s : S)
+    → ((z : S) → Good (g z) (f z) false m) → ((z : S) → subset (f z) (set z) ≡ true)
+    → ((z : S) → subset (set z) every ≡ true)
     → disjoint every m ≡ true → Fine (many_from set g next s) every true (also every true m)
 fine_many_from {S} {X} {g} {f} {m} set next every s a p q e = record {
   good =
@@ -118,7 +124,8 @@ fine_many_from {S} {X} {g} {f} {m} set next every s a p q e = record {
 }
 
 pub fine_up_to : {S X : Type 0} {g : S → Grammar X} {f m : Set} (set : Set) (next : S → X → S) (n : ℕ) (s : S)
-    → ((z : S) → Good (g z) f false m) → subset f set ≡ true → disjoint f m ≡ true → Fine (up_to_from set g next n s) f true (also set true m)
+    → ((z : S) → Good (g z) f false m) → subset f set ≡ true → disjoint f m ≡ true
+    → Fine (up_to_from set g next n s) f true (also set true m)
 fine_up_to {S} {X} {g} {f} {m} set next n s a p q = record {
   good = up_to_good set g next f m a (within f set p) (apart f m q) n s;
   sample = sample_up_to set g next n s;
@@ -126,8 +133,10 @@ fine_up_to {S} {X} {g} {f} {m} set next n s a p q = record {
 
 -- ---- the same with plainer sets
 
-pub good_as : {X : Type 0} {g : Grammar X} {f m : Set} {n : Bool} (f' m' : Set) → Good g f n m → subset f f' ≡ true → subset m m' ≡ true → Good g f' n m'
+pub good_as : {X : Type 0} {g : Grammar X} {f m : Set} {n : Bool} (f' m' : Set) → Good g f n m → subset f f' ≡ true
+    → subset m m' ≡ true → Good g f' n m'
 good_as {X} {g} {f} {m} f' m' a p q = good_wider (within f f' p) (within m m' q) a
 
-pub fine_as : {X : Type 0} {g : Grammar X} {f m : Set} {n : Bool} (f' m' : Set) → Fine g f n m → subset f f' ≡ true → subset m m' ≡ true → Fine g f' n m'
+pub fine_as : {X : Type 0} {g : Grammar X} {f m : Set} {n : Bool} (f' m' : Set) → Fine g f n m → subset f f' ≡ true
+    → subset m m' ≡ true → Fine g f' n m'
 fine_as f' m' a p q = record { good = good_as f' m' a.good p q; sample = a.sample }

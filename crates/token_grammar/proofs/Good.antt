@@ -133,10 +133,12 @@ clear_left a b n (t ∷ r) h = or_false_left _ _ h
 
 pub clear_right : (a b : Set) (n : Bool) (r : List Lexeme) → Clear (also a n b) r → n ≡ true → Clear b r
 clear_right a b n [] h e = refl
-clear_right a b n (t ∷ r) h e = let k : (n && b t.kind) ≡ false = or_false_right (a t.kind) (n && b t.kind) h in rw e at k
+clear_right a b n (t ∷ r) h e =
+    let k : (n && b t.kind) ≡ false = or_false_right (a t.kind) (n && b t.kind) h in rw e at k
 
 -- what begins so, or else goes on clear of the set, is clear of it
-pub begins_clear : (f m : Set) (n : Bool) (q r : List Lexeme) → Begins f n q → Apart f m → (n ≡ true → Clear m r) → Clear m (q ++ r)
+pub begins_clear : (f m : Set) (n : Bool) (q r : List Lexeme) → Begins f n q → Apart f m → (n ≡ true → Clear m r)
+    → Clear m (q ++ r)
 begins_clear f m n [] r a apart clear = clear a
 begins_clear f m n (t ∷ q) r a apart clear = apart t.kind a
 
@@ -170,19 +172,22 @@ stopped_is f d r q e =
     let p : (f, r) ≡ (d, q) = cc in
     record { fault = ap (λ (z : Fault × List Lexeme). z.0) p; rest = ap (λ (z : Fault × List Lexeme). z.1) p }
 
-pub record BindOk {X Y : Type 0} (o : Outcome X) (f : X → List Lexeme → Outcome Y) (y : Y) (q : List Lexeme) : Type 0 where
+pub record BindOk {X Y : Type 0} (o : Outcome X) (f : X → List Lexeme → Outcome Y) (y : Y)
+    (q : List Lexeme) : Type 0 where
   pub x : X
   pub r : List Lexeme
   pub first : o ≡ Ok (x, r)
   pub second : f x r ≡ Ok (y, q)
 
-pub bind_ok : {X Y : Type 0} (o : Outcome X) (f : X → List Lexeme → Outcome Y) (y : Y) (q : List Lexeme) → and_then o f ≡ Ok (y, q)
+pub bind_ok : {X Y : Type 0} (o : Outcome X) (f : X → List Lexeme → Outcome Y) (y : Y) (q : List Lexeme)
+    → and_then o f ≡ Ok (y, q)
     → BindOk o f y q
 bind_ok (Ok p) f y q e = record { x = p.0; r = p.1; first = refl; second = e }
 bind_ok (Err d) f y q e = absurd cc
 
 -- the first part stopped, or the second
-pub bind_err : {X Y : Type 0} (o : Outcome X) (f : X → List Lexeme → Outcome Y) (d : Fault × List Lexeme) → and_then o f ≡ Err d
+pub bind_err : {X Y : Type 0} (o : Outcome X) (f : X → List Lexeme → Outcome Y) (d : Fault × List Lexeme)
+    → and_then o f ≡ Err d
     → (o ≡ Err d) ⊎ ((x : X) × (r : List Lexeme) × (o ≡ Ok (x, r)) × (f x r ≡ Err d))
 bind_err (Ok p) f d e = inr (p.0, p.1, refl, e)
 bind_err (Err d') f d e = inl cc
@@ -190,7 +195,8 @@ bind_err (Err d') f d e = inl cc
 -- ---- what follows from the laws
 
 -- reading stops at the token at hand, whatever follows it
-pub stops_at_hand : {X : Type 0} (g : Grammar X) (d : Fault) (s : List Lexeme) → ((r' : List Lexeme) → SameHead s r' → g.reads r' ≡ Err (d, r'))
+pub stops_at_hand : {X : Type 0} (g : Grammar X) (d : Fault) (s : List Lexeme)
+    → ((r' : List Lexeme) → SameHead s r' → g.reads r' ≡ Err (d, r'))
     → (r : List Lexeme) (f : Fault) → g.reads s ≡ Err (f, r) → Stops g f s r
 stops_at_hand {X} g d s at_hand r f e =
     let i = stopped_is {X = X} d f s r (sym (at_hand s (same-refl s)) ∙ e) in
@@ -198,7 +204,8 @@ stops_at_hand {X} g d s at_hand r f e =
       used = [];
       parts = i.rest;
       continues = inr refl;
-      same = λ r' h. subst (λ z. g.reads r' ≡ Err (z, r')) i.fault (at_hand r' (subst (λ z. SameHead z r') (sym i.rest) h));
+      same =
+          λ r' h. subst (λ z. g.reads r' ≡ Err (z, r')) i.fault (at_hand r' (subst (λ z. SameHead z r') (sym i.rest) h));
     }
 
 -- where some value has a spelling, what stands before a fault continues
@@ -211,7 +218,8 @@ shorter f [] r h = absurd cc
 shorter f (t ∷ u) r h = omega (arith, length-append u r)
 
 -- what was read took a token
-pub took : {X : Type 0} {g : Grammar X} {f m : Set} → Good g f false m → (s : List Lexeme) (x : X) (r : List Lexeme) → g.reads s ≡ Ok (x, r)
+pub took : {X : Type 0} {g : Grammar X} {f m : Set} → Good g f false m → (s : List Lexeme) (x : X) (r : List Lexeme)
+    → g.reads s ≡ Ok (x, r)
     → length r < length s
 took {X} {g} {f} {m} a s x r e =
     let t = a.takes s x r e in
@@ -230,7 +238,8 @@ clear_within m m' [] w h = refl
 clear_within m m' (t ∷ r) w h = not_there (m t.kind) (m' t.kind) (w t.kind) h
 
 -- the same with greater sets
-pub good_wider : {X : Type 0} {g : Grammar X} {f m f' m' : Set} {n : Bool} → Within f f' → Within m m' → Good g f n m → Good g f' n m'
+pub good_wider : {X : Type 0} {g : Grammar X} {f m f' m' : Set} {n : Bool} → Within f f' → Within m m' → Good g f n m
+    → Good g f' n m'
 good_wider {X} {g} {f} {m} {f'} {m'} {n} wf wm a = record {
   begins = λ u x h. begins_wider f f' n u wf (a.begins u x h);
   again = λ u x r h clear. a.again u x r h (clear_within m m' r wm clear);

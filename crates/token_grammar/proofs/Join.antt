@@ -9,7 +9,8 @@ use Rattle.token_grammar.proofs.Good.{Set, also, Apart, Within, Clear, Begins, T
 -- ---- one after the other: how it continues
 
 -- what continues the first part continues the whole
-pub then_begun : {X Y : Type 0} {g : Grammar X} {h : X → Grammar Y} (u : List Lexeme) → Continues g u → ((x : X) → Sample (h x)) → Continues (g >>= h) u
+pub then_begun : {X Y : Type 0} {g : Grammar X} {h : X → Grammar Y} (u : List Lexeme) → Continues g u
+    → ((x : X) → Sample (h x)) → Continues (g >>= h) u
 then_begun u c samples =
     let z = samples c.value in
     record {
@@ -26,7 +27,8 @@ then_begun u c samples =
     }
 
 -- after the first part, what continues the second continues the whole
-pub then_behind : {X Y : Type 0} (g : Grammar X) (h : X → Grammar Y) (p u : List Lexeme) (x : X) → g.spells p x → Continues (h x) u
+pub then_behind : {X Y : Type 0} (g : Grammar X) (h : X → Grammar Y) (p u : List Lexeme) (x : X) → g.spells p x
+    → Continues (h x) u
     → Continues (g >>= h) (p ++ u)
 then_behind g h p u x w c = record {
   rest = c.rest;
@@ -34,7 +36,8 @@ then_behind g h p u x w c = record {
   spelled = record { p = p; q = u ++ c.rest; x = x; parts = append_assoc p u c.rest; first = w; second = c.spelled };
 }
 
-pub sample_then : {X Y : Type 0} {g : Grammar X} {h : X → Grammar Y} → Sample g → ((x : X) → Sample (h x)) → Sample (g >>= h)
+pub sample_then : {X Y : Type 0} {g : Grammar X} {h : X → Grammar Y} → Sample g → ((x : X) → Sample (h x))
+    → Sample (g >>= h)
 sample_then a b =
     let z = b a.value in
     record {
@@ -49,7 +52,8 @@ sample_rest g a = record { tokens = a.spelled.q; value = a.value; spelled = a.sp
 
 -- ---- one after the other: how it reads
 
-pub takes_both : {X Y : Type 0} {g : Grammar X} (h : X → Grammar Y) (s : List Lexeme) (x : X) (m : List Lexeme) (y : Y) (r : List Lexeme)
+pub takes_both : {X Y : Type 0} {g : Grammar X} (h : X → Grammar Y) (s : List Lexeme) (x : X) (m : List Lexeme)
+    (y : Y) (r : List Lexeme)
     → Takes g s x m → Takes (h x) m y r → Takes (g >>= h) s y r
 takes_both h s x m y r t1 t2 = record {
   used = t1.used ++ t2.used;
@@ -60,7 +64,8 @@ takes_both h s x m y r t1 t2 = record {
       rw (append_assoc, e1) (t2.same r' hd);
 }
 
-stops_first : {X Y : Type 0} {g : Grammar X} {h : X → Grammar Y} (f : Fault) (s r : List Lexeme) → Stops g f s r → ((x : X) → Sample (h x))
+stops_first : {X Y : Type 0} {g : Grammar X} {h : X → Grammar Y} (f : Fault) (s r : List Lexeme) → Stops g f s r
+    → ((x : X) → Sample (h x))
     → Stops (g >>= h) f s r
 stops_first f s r t samples = record {
   used = t.used;
@@ -69,7 +74,8 @@ stops_first f s r t samples = record {
   same = λ r' hd. rw (t.same r' hd) refl;
 }
 
-stops_second : {X Y : Type 0} (g : Grammar X) (h : X → Grammar Y) (f : Fault) (s : List Lexeme) (x : X) (m r : List Lexeme)
+stops_second : {X Y : Type 0} (g : Grammar X) (h : X → Grammar Y) (f : Fault) (s : List Lexeme) (x : X)
+    (m r : List Lexeme)
     → Takes g s x m → Stops (h x) f m r → Sample (h x) → Stops (g >>= h) f s r
 stops_second g h f s x m r t1 t2 sample = record {
   used = t1.used ++ t2.used;
@@ -80,18 +86,21 @@ stops_second g h f s x m r t1 t2 sample = record {
       rw (append_assoc, e1) (t2.same r' hd);
 }
 
-begins-append : (f g : Set) (n m : Bool) (p q : List Lexeme) → Begins f n p → Begins g m q → Begins (also f n g) (n && m) (p ++ q)
+begins-append : (f g : Set) (n m : Bool) (p q : List Lexeme) → Begins f n p → Begins g m q
+    → Begins (also f n g) (n && m) (p ++ q)
 begins-append f g n m [] [] a b = rw (a, b) refl
 begins-append f g n m [] (t ∷ q) a b = rw (a, b) (or_true (f t.kind))
 begins-append f g n m (t ∷ p) q a b = rw a refl
 
 then_again : {X Y : Type 0} {g : Grammar X} {h : X → Grammar Y} {f1 m1 f2 m2 : Set} {n1 n2 : Bool}
     → Good g f1 n1 m1 → ((x : X) → Good (h x) f2 n2 m2) → Apart f2 m1
-    → (u : List Lexeme) (y : Y) (r : List Lexeme) → Both g.spells (λ x. (h x).spells) u y → Clear (also m2 n2 m1) r → (g >>= h).reads (u ++ r) ≡ Ok (y, r)
+    → (u : List Lexeme) (y : Y) (r : List Lexeme) → Both g.spells (λ x. (h x).spells) u y → Clear (also m2 n2 m1) r
+    → (g >>= h).reads (u ++ r) ≡ Ok (y, r)
 then_again {X} {Y} {g} {h} {f1} {m1} {f2} {m2} {n1} {n2} a b apart u y r w clear =
     let next = b w.x in
     let clear1 = begins_clear f2 m1 n2 w.q r (next.begins w.q y w.second) apart (clear_right m2 m1 n2 r clear) in
-    let e1 : g.reads (u ++ r) ≡ Ok (w.x, w.q ++ r) = rw (w.parts, append_assoc) (a.again w.p w.x (w.q ++ r) w.first clear1) in
+    let e1 : g.reads (u ++ r) ≡ Ok (w.x, w.q ++ r) =
+    rw (w.parts, append_assoc) (a.again w.p w.x (w.q ++ r) w.first clear1) in
     rw e1 (next.again w.q y r w.second (clear_left m2 m1 n2 r clear))
 
 then_takes : {X Y : Type 0} {g : Grammar X} {h : X → Grammar Y} {f1 m1 f2 m2 : Set} {n1 n2 : Bool}
@@ -114,7 +123,8 @@ pub then_good : {X Y : Type 0} {g : Grammar X} {h : X → Grammar Y} {f1 m1 f2 m
     → Good g f1 n1 m1 → ((x : X) → Good (h x) f2 n2 m2) → ((x : X) → Sample (h x)) → Apart f2 m1
     → Good (g >>= h) (also f1 n1 f2) (n1 && n2) (also m2 n2 m1)
 then_good {X} {Y} {g} {h} {f1} {m1} {f2} {m2} {n1} {n2} a b samples apart = record {
-  begins = λ u y w. rw w.parts (begins-append f1 f2 n1 n2 w.p w.q (a.begins w.p w.x w.first) ((b w.x).begins w.q y w.second));
+  begins =
+      λ u y w. rw w.parts (begins-append f1 f2 n1 n2 w.p w.q (a.begins w.p w.x w.first) ((b w.x).begins w.q y w.second));
   again = then_again a b apart;
   takes = then_takes a b;
   stops = then_stops a b samples;
@@ -122,13 +132,16 @@ then_good {X} {Y} {g} {h} {f1} {m1} {f2} {m2} {n1} {n2} a b samples apart = reco
 
 -- ---- one or the other
 
-pub either_left : {X : Type 0} {g h : Grammar X} (set : Set) (u : List Lexeme) → Continues g u → Continues (either set g h) u
+pub either_left : {X : Type 0} {g h : Grammar X} (set : Set) (u : List Lexeme) → Continues g u
+    → Continues (either set g h) u
 either_left set u c = record { rest = c.rest; value = c.value; spelled = inl c.spelled }
 
-pub either_right : {X : Type 0} {g h : Grammar X} (set : Set) (u : List Lexeme) → Continues h u → Continues (either set g h) u
+pub either_right : {X : Type 0} {g h : Grammar X} (set : Set) (u : List Lexeme) → Continues h u
+    → Continues (either set g h) u
 either_right set u c = record { rest = c.rest; value = c.value; spelled = inr c.spelled }
 
-pub takes_left : {X : Type 0} {g h : Grammar X} (set : Set) (s : List Lexeme) (x : X) (r : List Lexeme) → heads set s ≡ true → Takes g s x r
+pub takes_left : {X : Type 0} {g h : Grammar X} (set : Set) (s : List Lexeme) (x : X) (r : List Lexeme)
+    → heads set s ≡ true → Takes g s x r
     → Takes (either set g h) s x r
 takes_left set s x r left t = record {
   used = t.used;
@@ -137,7 +150,8 @@ takes_left set s x r left t = record {
   same = λ r' hd. rw (heads_carried set true s t.used r r' t.parts hd left) (t.same r' hd);
 }
 
-pub takes_right : {X : Type 0} {g h : Grammar X} (set : Set) (s : List Lexeme) (x : X) (r : List Lexeme) → heads set s ≡ false → Takes h s x r
+pub takes_right : {X : Type 0} {g h : Grammar X} (set : Set) (s : List Lexeme) (x : X) (r : List Lexeme)
+    → heads set s ≡ false → Takes h s x r
     → Takes (either set g h) s x r
 takes_right set s x r right t = record {
   used = t.used;
@@ -146,7 +160,8 @@ takes_right set s x r right t = record {
   same = λ r' hd. rw (heads_carried set false s t.used r r' t.parts hd right) (t.same r' hd);
 }
 
-stops_left : {X : Type 0} {g h : Grammar X} (set : Set) (f : Fault) (s r : List Lexeme) → heads set s ≡ true → Stops g f s r
+stops_left : {X : Type 0} {g h : Grammar X} (set : Set) (f : Fault) (s r : List Lexeme) → heads set s ≡ true
+    → Stops g f s r
     → Stops (either set g h) f s r
 stops_left set f s r left t = record {
   used = t.used;
@@ -155,7 +170,8 @@ stops_left set f s r left t = record {
   same = λ r' hd. rw (heads_carried set true s t.used r r' t.parts hd left) (t.same r' hd);
 }
 
-stops_right : {X : Type 0} {g h : Grammar X} (set : Set) (f : Fault) (s r : List Lexeme) → heads set s ≡ false → Stops h f s r
+stops_right : {X : Type 0} {g h : Grammar X} (set : Set) (f : Fault) (s r : List Lexeme) → heads set s ≡ false
+    → Stops h f s r
     → Stops (either set g h) f s r
 stops_right set f s r right t = record {
   used = t.used;
@@ -176,7 +192,8 @@ pub either_good : {X : Type 0} {g h : Grammar X} {f1 m1 f2 m2 : Set} {n2 : Bool}
     → Good g f1 false m1 → Good h f2 n2 m2 → Within f1 set → Apart f2 set
     → Good (either set g h) (also f1 true f2) n2 (also (also m1 true m2) n2 set)
 either_good {X} {g} {h} {f1} {m1} {f2} {m2} {n2} set a b within apart = record {
-  begins = λ u x w. ⊎_elim (λ l. begins-left f1 f2 n2 u (a.begins u x l)) (λ r. begins-right f1 f2 n2 u (b.begins u x r)) w;
+  begins =
+      λ u x w. ⊎_elim (λ l. begins-left f1 f2 n2 u (a.begins u x l)) (λ r. begins-right f1 f2 n2 u (b.begins u x r)) w;
   again = λ u x r w clear.
       let both = clear_left (also m1 true m2) set n2 r clear in
       ⊎_elim

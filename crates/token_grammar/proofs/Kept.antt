@@ -42,23 +42,29 @@ kept_then {X} {Y} {P} {g} {h} {Q} {R} a b = record {
 }
 
 -- one or the other
-pub kept_either : {X : Type 0} {P : Lexeme → Type 0} {g h : Grammar X} {Q : X → Type 0} (set : Set) → Kept P g Q → Kept P h Q → Kept P (either set g h) Q
+pub kept_either : {X : Type 0} {P : Lexeme → Type 0} {g h : Grammar X} {Q : X → Type 0} (set : Set) → Kept P g Q
+    → Kept P h Q → Kept P (either set g h) Q
 kept_either set a b = record { kept = λ u x w all. ⊎_elim (λ l. a.kept u x l all) (λ r. b.kept u x r all) w }
 
-pub kept_optional : {X : Type 0} {P : Lexeme → Type 0} {g : Grammar X} (Q : Option X → Type 0) (set : Set) → Kept P g (λ x. Q (Some x)) → Q None
+pub kept_optional : {X : Type 0} {P : Lexeme → Type 0} {g : Grammar X} (Q : Option X → Type 0) (set : Set)
+    → Kept P g (λ x. Q (Some x)) → Q None
     → Kept P (optional set g) Q
-kept_optional {X} {P} Q set a none = kept_either set (kept_then a (λ x q. kept_give P Q (Some x) q)) (kept_give P Q None none)
+kept_optional {X} {P} Q set a none =
+    kept_either set (kept_then a (λ x q. kept_give P Q (Some x) q)) (kept_give P Q None none)
 
 -- nothing is asked of the value
 pub kept_any : {X : Type 0} (P : Lexeme → Type 0) (g : Grammar X) → Kept P g (λ x. Unit {0})
 kept_any P g = record { kept = λ u x w all. tt }
 
 -- the test has no fault for the first token
-pub kept_allowed : {X : Type 0} {P : Lexeme → Type 0} {g : Grammar X} {Q : X → Type 0} {f m : Set} (set : Set) (test : Lexeme → Option Fault)
-    → Good g f false m → subset f set ≡ true → ((t : Lexeme) → P t → test t ≡ None → Kept P g Q) → Kept P (allowed set test g) Q
+pub kept_allowed : {X : Type 0} {P : Lexeme → Type 0} {g : Grammar X} {Q : X → Type 0} {f m : Set} (set : Set)
+    (test : Lexeme → Option Fault)
+    → Good g f false m → subset f set ≡ true → ((t : Lexeme) → P t → test t ≡ None → Kept P g Q)
+    → Kept P (allowed set test g) Q
 kept_allowed {X} {P} {g} {Q} {f} set test a p b = record { kept = λ u x w all. first u x (a.begins u x w.1) w.0 w.1 all }
   where
-    first : (u : List Lexeme) (x : X) → Begins f false u → first_refused set test u ≡ None → g.spells u x → AllByRecursion P u → Q x
+    first : (u : List Lexeme) (x : X) → Begins f false u → first_refused set test u ≡ None → g.spells u x
+        → AllByRecursion P u → Q x
     first [] x begins passes w all = absurd cc
     first (t ∷ u) x begins passes w all =
         let there : set t.kind ≡ true = within f set p t.kind begins in
@@ -86,27 +92,33 @@ kept_allowed_token P k test = record {
 }
 
 -- nothing is spelled
-pub kept_forbidden : {X : Type 0} (P : Lexeme → Type 0) (Q : X → Type 0) (set : Set) (fault : Fault) → Kept P (forbidden set fault) Q
+pub kept_forbidden : {X : Type 0} (P : Lexeme → Type 0) (Q : X → Type 0) (set : Set) (fault : Fault)
+    → Kept P (forbidden set fault) Q
 unfolding forbidden
 kept_forbidden P Q set fault = record { kept = λ u x w all. absurd w }
 
 -- ---- any number
 
 -- R is built up from the items, and from what came before them
-pub kept_many_from : {S X : Type 0} {P : Lexeme → Type 0} {g : S → Grammar X} {Q : S → X → Type 0} (set : S → Set) (next : S → X → S)
+pub kept_many_from : {S X : Type 0} {P : Lexeme → Type 0} {g : S → Grammar X} {Q : S → X → Type 0} (set : S → Set)
+    (next : S → X → S)
     (R : S → List X → Type 0) (s : S)
-    → ((z : S) → Kept P (g z) (Q z)) → ((z : S) → R z []) → ((z : S) (x : X) (xs : List X) → Q z x → R (next z x) xs → R z (x ∷ xs))
+    → ((z : S) → Kept P (g z) (Q z)) → ((z : S) → R z [])
+    → ((z : S) (x : X) (xs : List X) → Q z x → R (next z x) xs → R z (x ∷ xs))
     → Kept P (many_from set g next s) (R s)
 unfolding many_from
 kept_many_from {S} {X} {P} {g} {Q} set next R s a none one = record { kept = each s }
   where
-    each : (z : S) (u : List Lexeme) (xs : List X) → many_from_spells (λ z. (g z).spells) next z u xs → AllByRecursion P u → R z xs
+    each : (z : S) (u : List Lexeme) (xs : List X) → many_from_spells (λ z. (g z).spells) next z u xs
+        → AllByRecursion P u → R z xs
     each z u [] w all = none z
     each z u (x ∷ xs) w all =
         let both : AllByRecursion P (w.p ++ w.q) = rw w.parts at all in
-        one z x xs ((a z).kept w.p x w.first (all_front P w.p w.q both)) (each (next z x) w.q xs w.second (all_back P w.p w.q both))
+        one z x xs ((a z).kept w.p x w.first (all_front P w.p w.q both))
+        (each (next z x) w.q xs w.second (all_back P w.p w.q both))
 
-pub kept_many : {X : Type 0} {P : Lexeme → Type 0} {g : Grammar X} {Q : X → Type 0} (set : Set) → Kept P g Q → Kept P (many set g) (AllByRecursion Q)
+pub kept_many : {X : Type 0} {P : Lexeme → Type 0} {g : Grammar X} {Q : X → Type 0} (set : Set) → Kept P g Q
+    → Kept P (many set g) (AllByRecursion Q)
 unfolding many
 kept_many {X} {P} {g} {Q} set a = record { kept = each }
   where
@@ -116,8 +128,10 @@ kept_many {X} {P} {g} {Q} set a = record { kept = each }
         let both : AllByRecursion P (w.p ++ w.q) = rw w.parts at all in
         (a.kept w.p x w.first (all_front P w.p w.q both), each w.q xs w.second (all_back P w.p w.q both))
 
-up_to_kept : {S X : Type 0} (P : Lexeme → Type 0) (g : S → Grammar X) (next : S → X → S) (Q : X → Type 0) → ((s : S) → Kept P (g s) Q)
-    → (n : ℕ) (s : S) (u : List Lexeme) (xs : List X) → up_to_spells (λ z. (g z).spells) next n s u xs → AllByRecursion P u
+up_to_kept : {S X : Type 0} (P : Lexeme → Type 0) (g : S → Grammar X) (next : S → X → S) (Q : X → Type 0)
+    → ((s : S) → Kept P (g s) Q)
+    → (n : ℕ) (s : S) (u : List Lexeme) (xs : List X) → up_to_spells (λ z. (g z).spells) next n s u xs
+    → AllByRecursion P u
     → AllByRecursion Q xs × (length xs ≤ n)
 up_to_kept P g next Q a n s u [] w all = (tt, omega arith)
 up_to_kept P g next Q a zero s u (x ∷ xs) w all = absurd w
@@ -127,7 +141,8 @@ up_to_kept P g next Q a (suc n) s u (x ∷ xs) w all =
     (((a s).kept w.p x w.first (all_front P w.p w.q both), rest.0), omega (arith, rest.1))
 
 -- at most so many
-pub kept_up_to : {S X : Type 0} {P : Lexeme → Type 0} {g : S → Grammar X} {Q : X → Type 0} (set : Set) (next : S → X → S) (n : ℕ) (s : S)
+pub kept_up_to : {S X : Type 0} {P : Lexeme → Type 0} {g : S → Grammar X} {Q : X → Type 0} (set : Set)
+    (next : S → X → S) (n : ℕ) (s : S)
     → ((z : S) → Kept P (g z) Q) → Kept P (up_to_from set g next n s) (λ xs. AllByRecursion Q xs × (length xs ≤ n))
 unfolding up_to_from
 kept_up_to {S} {X} {P} {g} {Q} set next n s a = record { kept = up_to_kept P g next Q a n s }

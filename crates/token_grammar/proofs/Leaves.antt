@@ -21,7 +21,8 @@ kind_eq-refl k = eq-eqb _ _ refl
 abbrev one : Lexeme → List Lexeme → Outcome Lexeme
 one t r = Ok (t, r)
 
-one_of_takes : (set : Set) (s : List Lexeme) (x : Lexeme) (r : List Lexeme) → one_of_at set s ≡ Ok (x, r) → Takes (one_of set) s x r
+one_of_takes : (set : Set) (s : List Lexeme) (x : Lexeme) (r : List Lexeme) → one_of_at set s ≡ Ok (x, r)
+    → Takes (one_of set) s x r
 unfolding one_of
 one_of_takes set [] x r e = absurd cc
 one_of_takes set (t ∷ s) x r e =

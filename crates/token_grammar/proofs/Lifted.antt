@@ -36,15 +36,18 @@ pub record Eased {X : Type 0} (lifts : Fault → Bool) (g g' : Grammar X) : Type
 
 -- ---- tools
 
-pub read_again : {X : Type 0} {g : Grammar X} {s : List Lexeme} {x : X} {r : List Lexeme} → Takes g s x r → g.reads s ≡ Ok (x, r)
+pub read_again : {X : Type 0} {g : Grammar X} {s : List Lexeme} {x : X} {r : List Lexeme} → Takes g s x r
+    → g.reads s ≡ Ok (x, r)
 read_again {X} {g} {s} {x} {r} t = rw t.parts (t.same r (same-refl r))
 
-pub still_reads : {X : Type 0} {lifts : Fault → Bool} {g g' : Grammar X} → Lifted lifts g g' → (s : List Lexeme) (x : X) (r : List Lexeme)
+pub still_reads : {X : Type 0} {lifts : Fault → Bool} {g g' : Grammar X} → Lifted lifts g g'
+    → (s : List Lexeme) (x : X) (r : List Lexeme)
     → g.reads s ≡ Ok (x, r) → g'.reads s ≡ Ok (x, r)
 still_reads a s x r e = read_again (a.takes s x r e)
 
 -- what goes on in g' goes on in another that continues where g' does
-pub past_by : {X Y : Type 0} {g : Grammar X} {h : Grammar Y} (s r : List Lexeme) → ((u : List Lexeme) → Continues g u → Continues h u)
+pub past_by : {X Y : Type 0} {g : Grammar X} {h : Grammar Y} (s r : List Lexeme)
+    → ((u : List Lexeme) → Continues g u → Continues h u)
     → GoesPast g s r → GoesPast h s r
 past_by s r more p = record {
   used = p.used;
@@ -64,10 +67,12 @@ past_behind {X} {Y} {g} {h} s used q r parts more p = record {
   first = p.first;
   others = p.others;
   at = p.at;
-  continues = subst (Continues h) (sym (append_assoc used p.used (p.first ∷ []))) (more (p.used ++ p.first ∷ []) p.continues);
+  continues =
+      subst (Continues h) (sym (append_assoc used p.used (p.first ∷ []))) (more (p.used ++ p.first ∷ []) p.continues);
 }
 
-pub lifted_alike : {X : Type 0} {lifts : Fault → Bool} {g g' h h' : Grammar X} → Alike g h → Alike g' h' → Lifted lifts h h' → Lifted lifts g g'
+pub lifted_alike : {X : Type 0} {lifts : Fault → Bool} {g g' h h' : Grammar X} → Alike g h → Alike g' h'
+    → Lifted lifts h h' → Lifted lifts g g'
 lifted_alike a a' b = record {
   takes = λ s x r e. takes_alike a' s x r (b.takes s x r (sym (a.read s) ∙ e));
   stays = λ s r f e kept. a'.read s ∙ b.stays s r f (sym (a.read s) ∙ e) kept;
@@ -99,13 +104,17 @@ unfolding token one_of
 token_expects k [] r d e = one_of_expects (is k) [] r d e
 token_expects k (t ∷ s) r d e = one_of_expects (is k) (t ∷ s) r d e
 
-pub lifted_one_of : {lifts : Fault → Bool} → lifts faults.Expected ≡ false → (set : Set) → Lifted lifts (one_of set) (one_of set)
-lifted_one_of {lifts} kept set = lifted_same (good_one_of set) (λ s r d e. ap lifts (sym (one_of_expects set s r d e)) ∙ kept)
+pub lifted_one_of : {lifts : Fault → Bool} → lifts faults.Expected ≡ false → (set : Set)
+    → Lifted lifts (one_of set) (one_of set)
+lifted_one_of {lifts} kept set =
+    lifted_same (good_one_of set) (λ s r d e. ap lifts (sym (one_of_expects set s r d e)) ∙ kept)
 
-pub eased_one_of : {lifts : Fault → Bool} → lifts faults.Expected ≡ false → (set : Set) (k : Kind) → set k ≡ true → Eased lifts (one_of set) (one_of set)
+pub eased_one_of : {lifts : Fault → Bool} → lifts faults.Expected ≡ false → (set : Set) (k : Kind) → set k ≡ true
+    → Eased lifts (one_of set) (one_of set)
 eased_one_of kept set k there = record { lifted = lifted_one_of kept set; sample = sample_one_of set k there }
 
-pub lifted_token : {lifts : Fault → Bool} → lifts faults.Expected ≡ false → (k : Kind) → Lifted lifts (token k) (token k)
+pub lifted_token : {lifts : Fault → Bool} → lifts faults.Expected ≡ false → (k : Kind)
+    → Lifted lifts (token k) (token k)
 lifted_token {lifts} kept k = lifted_same (good_token k) (λ s r d e. ap lifts (sym (token_expects k s r d e)) ∙ kept)
 
 pub eased_token : {lifts : Fault → Bool} → lifts faults.Expected ≡ false → (k : Kind) → Eased lifts (token k) (token k)
@@ -133,7 +142,8 @@ lifted_then {X} {Y} {lifts} {g} {g'} {h} {h'} a b = record {
         | inl e1 ↦ past_by s r (λ u c. then_begun u c (λ x. (b x).sample)) (a.passes s r f e1 lift)
         | inr k ↦
             let t = a.takes s k.0 k.1 k.2 in
-            past_behind s t.used k.1 r t.parts (λ u. then_behind g' h' t.used u k.0 t.spelled) ((b k.0).lifted.passes k.1 r f k.3 lift)
+            past_behind s t.used k.1 r t.parts (λ u. then_behind g' h' t.used u k.0 t.spelled)
+            ((b k.0).lifted.passes k.1 r f k.3 lift)
       ];
 }
 

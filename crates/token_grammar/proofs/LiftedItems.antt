@@ -12,9 +12,12 @@ use Rattle.token_grammar.proofs.UpTo.{item_left, item_good, up_to_alike, sample_
 use Rattle.token_grammar.proofs.Lifted.{Lifted, GoesPast, Eased, still_reads, past_by, past_behind, lifted_alike}
 use Rattle.token_grammar.proofs.LiftedLimits.{lifted_forbidden_kept}
 
-module _ {S X : Type 0} {lifts : Fault → Bool} {g g' : S → Grammar X} {f f' : S → Set} {m m' : Set} (set : S → Set) (next : S → X → S)
-    (good : (z : S) → Good (g z) (f z) false m) (good' : (z : S) → Good (g' z) (f' z) false m') (a : (z : S) → Lifted lifts (g z) (g' z)) where
-  reads_too : (n : ℕ) (s : S) (t : List Lexeme) (xs : List X) (r : List Lexeme) → length t < n → (many_from set g next s).reads t ≡ Ok (xs, r)
+module _ {S X : Type 0} {lifts : Fault → Bool} {g g' : S → Grammar X} {f f' : S → Set} {m m' : Set} (set : S → Set)
+    (next : S → X → S)
+    (good : (z : S) → Good (g z) (f z) false m) (good' : (z : S) → Good (g' z) (f' z) false m')
+    (a : (z : S) → Lifted lifts (g z) (g' z)) where
+  reads_too : (n : ℕ) (s : S) (t : List Lexeme) (xs : List X) (r : List Lexeme) → length t < n
+      → (many_from set g next s).reads t ≡ Ok (xs, r)
       → (many_from set g' next s).reads t ≡ Ok (xs, r)
   reads_too zero s t xs r lt e = absurd (omega arith)
   reads_too (suc n) s t xs r lt e =
@@ -28,7 +31,8 @@ module _ {S X : Type 0} {lifts : Fault → Bool} {g g' : S → Grammar X} {f f' 
         | inr none ↦ from_none set g' next f' m' good' s t none ∙ sym (from_none set g next f m good s t none) ∙ e
       ]
 
-  stays_too : (n : ℕ) (s : S) (t r : List Lexeme) (d : Fault) → length t < n → (many_from set g next s).reads t ≡ Err (d, r) → lifts d ≡ false
+  stays_too : (n : ℕ) (s : S) (t r : List Lexeme) (d : Fault) → length t < n
+      → (many_from set g next s).reads t ≡ Err (d, r) → lifts d ≡ false
       → (many_from set g' next s).reads t ≡ Err (d, r)
   stays_too zero s t r d lt e kept = absurd (omega arith)
   stays_too (suc n) s t r d lt e kept =
@@ -48,7 +52,8 @@ module _ {S X : Type 0} {lifts : Fault → Bool} {g g' : S → Grammar X} {f f' 
         | inr none ↦ absurd (let bad = sym (from_none set g next f m good s t none) ∙ e in cc)
       ]
 
-  passes_too : (n : ℕ) (s : S) (t r : List Lexeme) (d : Fault) → length t < n → (many_from set g next s).reads t ≡ Err (d, r) → lifts d ≡ true
+  passes_too : (n : ℕ) (s : S) (t r : List Lexeme) (d : Fault) → length t < n
+      → (many_from set g next s).reads t ≡ Err (d, r) → lifts d ≡ true
       → GoesPast (many_from set g' next s) t r
   passes_too zero s t r d lt e lift = absurd (omega arith)
   passes_too (suc n) s t r d lt e lift =
@@ -61,7 +66,8 @@ module _ {S X : Type 0} {lifts : Fault → Bool} {g g' : S → Grammar X} {f f' 
                     | inl e2 ↦
                         let lt2 = took (good s) t k.0 k.1 k.2 in
                         let one = (a s).takes t k.0 k.1 k.2 in
-                        past_behind t one.used k.1 r one.parts (λ u. from_behind set g' next s one.used u k.0 one.spelled)
+                        past_behind t one.used k.1 r one.parts
+                        (λ u. from_behind set g' next s one.used u k.0 one.spelled)
                         (passes_too n (next s k.0) k.1 r d (omega arith) e2 lift)
                     | inr k2 ↦ absurd (let bad = k2.3 in cc)
                   ]
@@ -73,7 +79,8 @@ module _ {S X : Type 0} {lifts : Fault → Bool} {g g' : S → Grammar X} {f f' 
   eased_many_from s = record {
     lifted = record {
       takes = λ t xs r e.
-          from_takes set g' next f' m' good' (suc (length t)) s t xs r (omega arith) (reads_too (suc (length t)) s t xs r (omega arith) e);
+          from_takes set g' next f' m' good' (suc (length t)) s t xs r (omega arith)
+          (reads_too (suc (length t)) s t xs r (omega arith) e);
       stays = λ t r d e kept. stays_too (suc (length t)) s t r d (omega arith) e kept;
       passes = λ t r d e lift. passes_too (suc (length t)) s t r d (omega arith) e lift;
     };
@@ -91,8 +98,10 @@ eased_many {X} {lifts} {g} {g'} set good good' a = record {
 }
 
 -- at most so many
-pub eased_up_to : {S X : Type 0} {lifts : Fault → Bool} {g g' : S → Grammar X} {f f' m m' : Set} → lifts faults.Expected ≡ false
-    → (set : Set) (next : S → X → S) → ((z : S) → Good (g z) f false m) → ((z : S) → Good (g' z) f' false m') → ((z : S) → Lifted lifts (g z) (g' z))
+pub eased_up_to : {S X : Type 0} {lifts : Fault → Bool} {g g' : S → Grammar X} {f f' m m' : Set}
+    → lifts faults.Expected ≡ false
+    → (set : Set) (next : S → X → S) → ((z : S) → Good (g z) f false m) → ((z : S) → Good (g' z) f' false m')
+    → ((z : S) → Lifted lifts (g z) (g' z))
     → (n : ℕ) (s : S) → Eased lifts (up_to_from set g next n s) (up_to_from set g' next n s)
 eased_up_to {S} {X} {lifts} {g} {g'} {f} {f'} {m} {m'} expected set next good good' a n s = record {
   lifted =

@@ -25,7 +25,8 @@ pub milder_test : (set : Set) (lifts : Fault → Bool) (test : Lexeme → Option
     → Milder set lifts (λ t. unless_lifted none_lifted (test t)) (λ t. unless_lifted lifts (test t))
 milder_test set lifts test t there = ap (unless_lifted lifts) (sym (unless_none (test t)))
 
-milder_first : (set : Set) (lifts : Fault → Bool) (test test' : Lexeme → Option Fault) → Milder set lifts test test' → (s : List Lexeme)
+milder_first : (set : Set) (lifts : Fault → Bool) (test test' : Lexeme → Option Fault) → Milder set lifts test test'
+    → (s : List Lexeme)
     → first_refused set test' s ≡ unless_lifted lifts (first_refused set test s)
 milder_first set lifts test test' milder [] = refl
 milder_first set lifts test test' milder (t ∷ s) =
@@ -35,7 +36,8 @@ milder_first set lifts test test' milder (t ∷ s) =
     ]
 
 -- what is refused begins with a token of the set, which the test refuses
-refused_head : (set : Set) (test : Lexeme → Option Fault) (d : Fault) (s : List Lexeme) → first_refused set test s ≡ Some d
+refused_head : (set : Set) (test : Lexeme → Option Fault) (d : Fault) (s : List Lexeme)
+    → first_refused set test s ≡ Some d
     → (t : Lexeme) × (q : List Lexeme) × (s ≡ t ∷ q) × (set t.kind ≡ true) × (test t ≡ Some d)
 refused_head set test d [] full = absurd cc
 refused_head set test d (t ∷ s) full =
@@ -45,17 +47,21 @@ refused_head set test d (t ∷ s) full =
     ]
 
 -- the token at hand goes on in what begins with it
-past_at_hand : {X : Type 0} {g : Grammar X} (s : List Lexeme) (t : Lexeme) (q : List Lexeme) → s ≡ t ∷ q → Continues g (t ∷ []) → GoesPast g s s
+past_at_hand : {X : Type 0} {g : Grammar X} (s : List Lexeme) (t : Lexeme) (q : List Lexeme) → s ≡ t ∷ q
+    → Continues g (t ∷ []) → GoesPast g s s
 past_at_hand s t q e c = record { used = []; parts = refl; first = t; others = q; at = e; continues = c }
 
 -- ---- allowed
 
-allowed_on : {X : Type 0} {g : Grammar X} (set : Set) (test : Lexeme → Option Fault) (used : List Lexeme) (t : Lexeme) (q : List Lexeme)
-    → first_refused set test (used ++ t ∷ q) ≡ None → Continues g (used ++ t ∷ []) → Continues (allowed set test g) (used ++ t ∷ [])
+allowed_on : {X : Type 0} {g : Grammar X} (set : Set) (test : Lexeme → Option Fault) (used : List Lexeme) (t : Lexeme)
+    (q : List Lexeme)
+    → first_refused set test (used ++ t ∷ q) ≡ None → Continues g (used ++ t ∷ [])
+    → Continues (allowed set test g) (used ++ t ∷ [])
 allowed_on set test [] t q passes c = allowed_begun set test t [] passes c
 allowed_on set test (x ∷ used) t q passes c = allowed_begun set test x (used ++ t ∷ []) passes c
 
-past_allowed : {X : Type 0} {g : Grammar X} (set : Set) (test : Lexeme → Option Fault) (s r : List Lexeme) → first_refused set test s ≡ None
+past_allowed : {X : Type 0} {g : Grammar X} (set : Set) (test : Lexeme → Option Fault) (s r : List Lexeme)
+    → first_refused set test s ≡ None
     → GoesPast g s r → GoesPast (allowed set test g) s r
 past_allowed {X} {g} set test s r passes p =
     let whole : s ≡ p.used ++ p.first ∷ p.others = p.parts ∙ ap (λ z. p.used ++ z) p.at in
@@ -65,7 +71,8 @@ past_allowed {X} {g} set test s r passes p =
       first = p.first;
       others = p.others;
       at = p.at;
-      continues = allowed_on set test p.used p.first p.others (ap (first_refused set test) (sym whole) ∙ passes) p.continues;
+      continues =
+          allowed_on set test p.used p.first p.others (ap (first_refused set test) (sym whole) ∙ passes) p.continues;
     }
 
 module _ {X : Type 0} {lifts : Fault → Bool} {g g' : Grammar X} (set : Set) (test test' : Lexeme → Option Fault)
@@ -75,21 +82,25 @@ module _ {X : Type 0} {lifts : Fault → Bool} {g g' : Grammar X} (set : Set) (t
   passes_too s passes = milder_first set lifts test test' milder s ∙ ap (unless_lifted lifts) passes
 
   -- what is refused on the left, and the fault isn't lifted
-  kept_too : (s : List Lexeme) (d : Fault) → first_refused set test s ≡ Some d → lifts d ≡ false → first_refused set test' s ≡ Some d
+  kept_too : (s : List Lexeme) (d : Fault) → first_refused set test s ≡ Some d → lifts d ≡ false
+      → first_refused set test' s ≡ Some d
   kept_too s d full kept = milder_first set lifts test test' milder s ∙ ap (unless_lifted lifts) full ∙ rw kept refl
 
   -- and the fault is lifted
-  lifted_too : (s : List Lexeme) (d : Fault) → first_refused set test s ≡ Some d → lifts d ≡ true → first_refused set test' s ≡ None
+  lifted_too : (s : List Lexeme) (d : Fault) → first_refused set test s ≡ Some d → lifts d ≡ true
+      → first_refused set test' s ≡ None
   lifted_too s d full lift = milder_first set lifts test test' milder s ∙ ap (unless_lifted lifts) full ∙ rw lift refl
 
-  takes_too : (s : List Lexeme) (x : X) (r : List Lexeme) → (allowed set test g).reads s ≡ Ok (x, r) → Takes (allowed set test' g') s x r
+  takes_too : (s : List Lexeme) (x : X) (r : List Lexeme) → (allowed set test g).reads s ≡ Ok (x, r)
+      → Takes (allowed set test' g') s x r
   takes_too s x r e =
       elim (said_cases (first_refused set test s)) [
         | inl passes ↦ takes_allowed set test' s x r (passes_too s passes) (a.takes s x r (rw passes at e))
         | inr full ↦ absurd (let bad = rw full.1 at e in cc)
       ]
 
-  stays_too : (s r : List Lexeme) (f : Fault) → (allowed set test g).reads s ≡ Err (f, r) → lifts f ≡ false → (allowed set test' g').reads s ≡ Err (f, r)
+  stays_too : (s r : List Lexeme) (f : Fault) → (allowed set test g).reads s ≡ Err (f, r) → lifts f ≡ false
+      → (allowed set test' g').reads s ≡ Err (f, r)
   stays_too s r f e kept =
       elim (said_cases (first_refused set test s)) [
         | inl passes ↦ rw (passes_too s passes) (a.stays s r f (rw passes at e) kept)
@@ -99,7 +110,8 @@ module _ {X : Type 0} {lifts : Fault → Bool} {g g' : Grammar X} (set : Set) (t
       ]
 
   -- what is refused on the left by a lifted fault begins a spelling on the right
-  pub lifted_allowed_where : ((t : Lexeme) (d : Fault) → set t.kind ≡ true → test t ≡ Some d → lifts d ≡ true → Continues g' (t ∷ []))
+  pub lifted_allowed_where :
+      ((t : Lexeme) (d : Fault) → set t.kind ≡ true → test t ≡ Some d → lifts d ≡ true → Continues g' (t ∷ []))
       → Lifted lifts (allowed set test g) (allowed set test' g')
   lifted_allowed_where begun = record {
     takes = takes_too;
@@ -123,11 +135,14 @@ module _ {X : Type 0} {lifts : Fault → Bool} {g g' : Grammar X} (set : Set) (t
   -- no fault of the test is lifted
   pub lifted_allowed_kept : ((t : Lexeme) (d : Fault) → test t ≡ Some d → lifts d ≡ false)
       → Lifted lifts (allowed set test g) (allowed set test' g')
-  lifted_allowed_kept kept = lifted_allowed_where (λ t d there full lift. let bad = sym (kept t d full) ∙ lift in absurd cc)
+  lifted_allowed_kept kept =
+      lifted_allowed_where (λ t d there full lift. let bad = sym (kept t d full) ∙ lift in absurd cc)
 
 -- where the right test refuses no token of the set, and the right grammar has a spelling
-pub eased_allowed : {X : Type 0} {lifts : Fault → Bool} {g g' : Grammar X} (set : Set) (test test' : Lexeme → Option Fault)
-    → Eased lifts g g' → Milder set lifts test test' → Starts set g' → ((t : Lexeme) → set t.kind ≡ true → test' t ≡ None)
+pub eased_allowed : {X : Type 0} {lifts : Fault → Bool} {g g' : Grammar X} (set : Set)
+    (test test' : Lexeme → Option Fault)
+    → Eased lifts g g' → Milder set lifts test test' → Starts set g'
+    → ((t : Lexeme) → set t.kind ≡ true → test' t ≡ None)
     → Eased lifts (allowed set test g) (allowed set test' g')
 eased_allowed set test test' a milder starts passes = record {
   lifted = lifted_allowed set test test' a.lifted milder starts;
@@ -137,7 +152,8 @@ eased_allowed set test test' a milder starts passes = record {
 -- ---- forbidden
 
 -- what is forbidden on the left by a lifted fault is there on the right
-pub lifted_forbidden : {X : Type 0} {lifts : Fault → Bool} {g' : Grammar X} → lifts faults.Expected ≡ false → (set : Set) (fault : Fault) → lifts fault ≡ true
+pub lifted_forbidden : {X : Type 0} {lifts : Fault → Bool} {g' : Grammar X} → lifts faults.Expected ≡ false
+    → (set : Set) (fault : Fault) → lifts fault ≡ true
     → Starts set g' → Expects set g' → Lifted lifts (forbidden set fault) g'
 unfolding forbidden
 lifted_forbidden {X} {lifts} {g'} expected set fault lift starts expects = record {
@@ -158,12 +174,14 @@ lifted_forbidden {X} {lifts} {g'} expected set fault lift starts expects = recor
       ];
 }
   where
-    at_hand : (s : List Lexeme) → heads set s ≡ true → (t : Lexeme) × (q : List Lexeme) × (s ≡ t ∷ q) × (set t.kind ≡ true)
+    at_hand : (s : List Lexeme) → heads set s ≡ true
+        → (t : Lexeme) × (q : List Lexeme) × (s ≡ t ∷ q) × (set t.kind ≡ true)
     at_hand [] here = absurd cc
     at_hand (t ∷ s) here = (t, s, refl, here)
 
 -- what is forbidden on both sides
-pub lifted_forbidden_kept : {X : Type 0} {lifts : Fault → Bool} → lifts faults.Expected ≡ false → (set : Set) (fault : Fault) → lifts fault ≡ false
+pub lifted_forbidden_kept : {X : Type 0} {lifts : Fault → Bool} → lifts faults.Expected ≡ false
+    → (set : Set) (fault : Fault) → lifts fault ≡ false
     → Lifted lifts (forbidden {X = X} set fault) (forbidden set fault)
 unfolding forbidden
 lifted_forbidden_kept {X} {lifts} expected set fault kept = record {

@@ -10,7 +10,8 @@ use Rattle.token_grammar.proofs.Lifted.{Lifted}
 use Rattle.token_grammar.proofs.Starts.{Expects}
 
 -- of the left side only the reading matters
-pub lifted_read : {X : Type 0} {lifts : Fault → Bool} {g h g' : Grammar X} → ((s : List Lexeme) → g.reads s ≡ h.reads s) → Lifted lifts h g'
+pub lifted_read : {X : Type 0} {lifts : Fault → Bool} {g h g' : Grammar X}
+    → ((s : List Lexeme) → g.reads s ≡ h.reads s) → Lifted lifts h g'
     → Lifted lifts g g'
 lifted_read same a = record {
   takes = λ s x r e. a.takes s x r (sym (same s) ∙ e);
@@ -29,7 +30,8 @@ refused_read set fault a s =
     ]
 
 -- and whatever would stand after it
-pub refused_read_then : {X Y : Type 0} {g : Grammar X} (set : Set) (fault : Fault) (h : X → Grammar Y) → Expects set g → (s : List Lexeme)
+pub refused_read_then : {X Y : Type 0} {g : Grammar X} (set : Set) (fault : Fault) (h : X → Grammar Y) → Expects set g
+    → (s : List Lexeme)
     → (allowed set (λ t. Some fault) g >>= h).reads s ≡ (forbidden {X = Y} set fault).reads s
 unfolding forbidden
 refused_read_then set fault h a s = rw (refused_read set fault a s) refl

@@ -11,21 +11,24 @@ use Rattle.token_grammar.proofs.Faults.{all_read, whole_fault}
 use Rattle.token_grammar.proofs.Lifted.{Lifted, GoesPast, still_reads}
 
 -- what is spelled within the limits is spelled without them
-pub lifted_spells : {X : Type 0} {lifts : Fault → Bool} {g g' : Grammar X} {f m : Set} {n : Bool} → Lifted lifts g g' → Good g f n m
+pub lifted_spells : {X : Type 0} {lifts : Fault → Bool} {g g' : Grammar X} {f m : Set} {n : Bool} → Lifted lifts g g'
+    → Good g f n m
     → (u : List Lexeme) (x : X) → g.spells u x → g'.spells u x
 lifted_spells {X} {lifts} {g} {g'} a good u x w =
     let t = a.takes u x [] (all_read good u x w) in
     subst (λ v. g'.spells v x) (sym (append-nil t.used) ∙ sym t.parts) t.spelled
 
 -- what is read within the limits is read without them
-pub whole_too : {X : Type 0} {lifts : Fault → Bool} {g g' : Grammar X} → Lifted lifts g g' → (s : List Lexeme) (x : X) (r : List Lexeme)
+pub whole_too : {X : Type 0} {lifts : Fault → Bool} {g g' : Grammar X} → Lifted lifts g g'
+    → (s : List Lexeme) (x : X) (r : List Lexeme)
     → whole_reads g s ≡ Ok (x, r) → whole_reads g' s ≡ Ok (x, r)
 whole_too {X} {lifts} {g} a s x r e =
     let k = bind_ok (g.reads s) ended x r e in
     rw (still_reads a s k.x k.r k.first) k.second
 
 -- by a fault that is lifted, the text stops at a token that goes on
-pub whole_past : {X : Type 0} {lifts : Fault → Bool} {g g' : Grammar X} → Lifted lifts g g' → lifts faults.Expected ≡ false
+pub whole_past : {X : Type 0} {lifts : Fault → Bool} {g g' : Grammar X} → Lifted lifts g g'
+    → lifts faults.Expected ≡ false
     → (s r : List Lexeme) (d : Fault) → whole_reads g s ≡ Err (d, r) → lifts d ≡ true → GoesPast g' s r
 whole_past {X} {lifts} {g} a expected s r d e lift =
     elim (bind_err (g.reads s) ended (d, r) e) [
@@ -41,7 +44,8 @@ whole_past {X} {lifts} {g} a expected s r d e lift =
         cc
 
 -- what stands before that token continues with it
-pub past_at : {X : Type 0} {g : Grammar X} (s before : List Lexeme) (t : Lexeme) (q : List Lexeme) → s ≡ before ++ t ∷ q → GoesPast g s (t ∷ q)
+pub past_at : {X : Type 0} {g : Grammar X} (s before : List Lexeme) (t : Lexeme) (q : List Lexeme)
+    → s ≡ before ++ t ∷ q → GoesPast g s (t ∷ q)
     → Continues g (before ++ t ∷ [])
 past_at {X} {g} s before t q parts p =
     let front : before ≡ p.used = append_cancel_right before p.used (t ∷ q) (sym parts ∙ p.parts) in
@@ -51,13 +55,17 @@ past_at {X} {g} s before t q parts p =
     head_is : (a b : Lexeme) (q q' : List Lexeme) → a ∷ q ≡ b ∷ q' → a ≡ b
     head_is a b q q' h = cc
 
-pub whole_lifted : {X : Type 0} {lifts : Fault → Bool} {g g' : Grammar X} → Lifted lifts g g' → lifts faults.Expected ≡ false
-    → (s before : List Lexeme) (t : Lexeme) (q : List Lexeme) (d : Fault) → s ≡ before ++ t ∷ q → whole_reads g s ≡ Err (d, t ∷ q) → lifts d ≡ true
+pub whole_lifted : {X : Type 0} {lifts : Fault → Bool} {g g' : Grammar X} → Lifted lifts g g'
+    → lifts faults.Expected ≡ false
+    → (s before : List Lexeme) (t : Lexeme) (q : List Lexeme) (d : Fault) → s ≡ before ++ t ∷ q
+    → whole_reads g s ≡ Err (d, t ∷ q) → lifts d ≡ true
     → Continues g' (before ++ t ∷ [])
-whole_lifted a expected s before t q d parts e lift = past_at s before t q parts (whole_past a expected s (t ∷ q) d e lift)
+whole_lifted a expected s before t q d parts e lift =
+    past_at s before t q parts (whole_past a expected s (t ∷ q) d e lift)
 
 -- a text that ends too early isn't stopped by a fault that is lifted
-pub whole_ends : {X : Type 0} {lifts : Fault → Bool} {g g' : Grammar X} → Lifted lifts g g' → lifts faults.Expected ≡ false
+pub whole_ends : {X : Type 0} {lifts : Fault → Bool} {g g' : Grammar X} → Lifted lifts g g'
+    → lifts faults.Expected ≡ false
     → (s : List Lexeme) (d : Fault) → whole_reads g s ≡ Err (d, []) → lifts d ≡ true → ⊥
 whole_ends a expected s d e lift = let p = whole_past a expected s [] d e lift in let bad = p.at in cc
 
@@ -70,6 +78,7 @@ whole_stays {X} {lifts} {g} a s r d e kept =
       | inr k ↦ rw (still_reads a s k.0 k.1 k.2) k.3
     ]
 
-pub whole_kept : {X : Type 0} {lifts : Fault → Bool} {g g' : Grammar X} {f m : Set} {n : Bool} → Lifted lifts g g' → Fine g' f n m
+pub whole_kept : {X : Type 0} {lifts : Fault → Bool} {g g' : Grammar X} {f m : Set} {n : Bool} → Lifted lifts g g'
+    → Fine g' f n m
     → (s r : List Lexeme) (d : Fault) → whole_reads g s ≡ Err (d, r) → lifts d ≡ false → FirstFault g' s r
 whole_kept a fine s r d e kept = whole_fault fine s r d (whole_stays a s r d e kept)

@@ -10,7 +10,8 @@ use Rattle.token_grammar.proofs.State.{consed, from_good}
 abbrev pub repeated : {X : Type 0} → Set → Grammar X → Grammar (List X)
 repeated set g = many_from (λ (z : ℕ). set) (λ z. g) (λ z x. z) 0
 
-pub on_both : {X Y : Type 0} (o : Outcome X) (j k : X → List Lexeme → Outcome Y) → ((x : X) (r : List Lexeme) → j x r ≡ k x r)
+pub on_both : {X Y : Type 0} (o : Outcome X) (j k : X → List Lexeme → Outcome Y)
+    → ((x : X) (r : List Lexeme) → j x r ≡ k x r)
     → and_then o j ≡ and_then o k
 on_both (Ok p) j k same = same p.0 p.1
 on_both (Err d) j k same = refl
@@ -28,7 +29,8 @@ spelled_so : {X : Type 0} (g : List Lexeme → X → Type 0) (u : List Lexeme) (
 spelled_so g u [] w = w
 spelled_so g u (x ∷ xs) w = record { p = w.p; q = w.q; parts = w.parts; first = w.first; second = spelled_so g w.q xs w.second }
 
-spelled_back : {X : Type 0} (g : List Lexeme → X → Type 0) (u : List Lexeme) (xs : List X) → many_from_spells (λ (z : ℕ). g) (λ z x. z) 0 u xs
+spelled_back : {X : Type 0} (g : List Lexeme → X → Type 0) (u : List Lexeme) (xs : List X)
+    → many_from_spells (λ (z : ℕ). g) (λ z x. z) 0 u xs
     → many_spells g u xs
 spelled_back g u [] w = w
 spelled_back g u (x ∷ xs) w = record { p = w.p; q = w.q; parts = w.parts; first = w.first; second = spelled_back g w.q xs w.second }

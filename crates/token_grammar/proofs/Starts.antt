@@ -35,7 +35,8 @@ pub starts_token : (k : Kind) → Starts (is k) (token k)
 unfolding token
 starts_token k = record { each = λ t there. record { rest = []; value = t; spelled = (refl, there) } }
 
-pub starts_then : {X Y : Type 0} {set : Set} {g : Grammar X} {h : X → Grammar Y} → Starts set g → ((x : X) → Sample (h x)) → Starts set (g >>= h)
+pub starts_then : {X Y : Type 0} {set : Set} {g : Grammar X} {h : X → Grammar Y} → Starts set g
+    → ((x : X) → Sample (h x)) → Starts set (g >>= h)
 starts_then a samples = record { each = λ t there. then_begun (t ∷ []) (a.each t there) samples }
 
 or_cases : {A : Type 0} (a b : Bool) → (a || b) ≡ true → (a ≡ true → A) → (b ≡ true → A) → A
@@ -43,11 +44,13 @@ or_cases true b h f g = f refl
 or_cases false b h f g = g h
 
 -- what begins the first part, or where that may be empty the second, begins the whole
-pub starts_also : {X Y : Type 0} {f1 f2 : Set} {g : Grammar X} {h : X → Grammar Y} (x : X) → g.spells [] x → Starts f1 g → Starts f2 (h x)
+pub starts_also : {X Y : Type 0} {f1 f2 : Set} {g : Grammar X} {h : X → Grammar Y} (x : X) → g.spells [] x
+    → Starts f1 g → Starts f2 (h x)
     → ((y : X) → Sample (h y)) → Starts (also f1 true f2) (g >>= h)
 starts_also {X} {Y} {f1} {f2} {g} {h} x none a b samples = record {
   each = λ t there.
-      or_cases (f1 t.kind) (f2 t.kind) there (λ l. then_begun (t ∷ []) (a.each t l) samples) (λ r. then_behind g h [] (t ∷ []) x none (b.each t r));
+      or_cases (f1 t.kind) (f2 t.kind) there (λ l. then_begun (t ∷ []) (a.each t l) samples)
+      (λ r. then_behind g h [] (t ∷ []) x none (b.each t r));
 }
 
 -- what begins the first of two
@@ -57,10 +60,12 @@ starts_left set a = record { each = λ t there. either_left set (t ∷ []) (a.ea
 pub starts_optional : {X : Type 0} {f : Set} {g : Grammar X} (set : Set) → Starts f g → Starts f (optional set g)
 starts_optional set a = starts_left set (starts_then a (λ x. sample_give (Some x)))
 
-pub starts_either : {X : Type 0} {f1 f2 : Set} {g h : Grammar X} (set : Set) → Starts f1 g → Starts f2 h → Starts (also f1 true f2) (either set g h)
+pub starts_either : {X : Type 0} {f1 f2 : Set} {g h : Grammar X} (set : Set) → Starts f1 g → Starts f2 h
+    → Starts (also f1 true f2) (either set g h)
 starts_either {X} {f1} {f2} set a b = record {
   each = λ t there.
-      or_cases (f1 t.kind) (f2 t.kind) there (λ l. either_left set (t ∷ []) (a.each t l)) (λ r. either_right set (t ∷ []) (b.each t r));
+      or_cases (f1 t.kind) (f2 t.kind) there (λ l. either_left set (t ∷ []) (a.each t l))
+      (λ r. either_right set (t ∷ []) (b.each t r));
 }
 
 -- where the test refuses no token of the set
@@ -88,10 +93,12 @@ expects_token k = record { other = λ s. other s }
     other [] h = refl
     other (t ∷ s) h = rw h refl
 
-pub expects_then : {X Y : Type 0} {set : Set} {g : Grammar X} (h : X → Grammar Y) → Expects set g → Expects set (g >>= h)
+pub expects_then : {X Y : Type 0} {set : Set} {g : Grammar X} (h : X → Grammar Y) → Expects set g
+    → Expects set (g >>= h)
 expects_then h a = record { other = λ s away. rw (a.other s away) refl }
 
-pub expects_either : {X : Type 0} {f1 f2 : Set} {g h : Grammar X} (set : Set) → Expects f1 g → Expects f2 h → Expects (also f1 true f2) (either set g h)
+pub expects_either : {X : Type 0} {f1 f2 : Set} {g h : Grammar X} (set : Set) → Expects f1 g → Expects f2 h
+    → Expects (also f1 true f2) (either set g h)
 expects_either {X} {f1} {f2} set a b = record {
   other = λ s away.
       elim (cases_Bool (heads set s)) [
@@ -101,9 +108,11 @@ expects_either {X} {f1} {f2} set a b = record {
 }
 
 -- no token outside of the set is refused
-pub not_refused : (set : Set) (test : Lexeme → Option Fault) (s : List Lexeme) → heads set s ≡ false → first_refused set test s ≡ None
+pub not_refused : (set : Set) (test : Lexeme → Option Fault) (s : List Lexeme) → heads set s ≡ false
+    → first_refused set test s ≡ None
 not_refused set test [] away = refl
 not_refused set test (t ∷ s) away = rw away refl
 
-pub expects_allowed : {X : Type 0} {g : Grammar X} (set : Set) (test : Lexeme → Option Fault) → Expects set g → Expects set (allowed set test g)
+pub expects_allowed : {X : Type 0} {g : Grammar X} (set : Set) (test : Lexeme → Option Fault) → Expects set g
+    → Expects set (allowed set test g)
 expects_allowed set test a = record { other = λ s away. rw (not_refused set test s away) (a.other s away) }

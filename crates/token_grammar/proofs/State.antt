@@ -16,7 +16,8 @@ front_begins f [] q h = absurd cc
 front_begins f (t ∷ p) q h = h
 
 -- what follows an item is clear of what goes on with it
-pub next_clear : (f m set : Set) (q r : List Lexeme) → Begins f true q → Apart f m → Clear (also set true m) r → Clear m (q ++ r)
+pub next_clear : (f m set : Set) (q r : List Lexeme) → Begins f true q → Apart f m → Clear (also set true m) r
+    → Clear m (q ++ r)
 next_clear f m set q r b apart clear = begins_clear f m true q r b apart (λ e. clear_right set m true r clear refl)
 
 -- ---- how it continues
@@ -36,7 +37,8 @@ module _ {S X : Type 0} (set : S → Set) (g : S → Grammar X) (next : S → X 
   }
 
   -- after an item, what continues the others continues the whole
-  pub from_behind : (s : S) (p u : List Lexeme) (x : X) → (g s).spells p x → Continues (many_from set g next (next s x)) u
+  pub from_behind : (s : S) (p u : List Lexeme) (x : X) → (g s).spells p x
+      → Continues (many_from set g next (next s x)) u
       → Continues (many_from set g next s) (p ++ u)
   unfolding many_from
   from_behind s p u x w c = record {
@@ -71,7 +73,8 @@ module _ {S X : Type 0} (set : S → Set) (g : S → Grammar X) (next : S → X 
   -- one, and then as many as there are
   pub from-unroll : (s : S) (t : List Lexeme)
       → (many_from set g next s).reads t
-      ≡ cond (heads (set s) t) (and_then ((g s).reads t) (λ x r. consed x ((many_from set g next (next s x)).reads r))) (Ok ([], t))
+      ≡ cond (heads (set s) t)
+      (and_then ((g s).reads t) (λ x r. consed x ((many_from set g next (next s x)).reads r))) (Ok ([], t))
   unfolding many_from many_from_reads
   from-unroll s [] = refl
   from-unroll s (x ∷ t) =
@@ -82,7 +85,8 @@ module _ {S X : Type 0} (set : S → Set) (g : S → Grammar X) (next : S → X 
   from_none s t h = rw (from-unroll s t, h) refl
 
   pub from_one : (s : S) (t : List Lexeme) → heads (set s) t ≡ true
-      → (many_from set g next s).reads t ≡ and_then ((g s).reads t) (λ x r. consed x ((many_from set g next (next s x)).reads r))
+      → (many_from set g next s).reads t ≡ and_then ((g s).reads t)
+      (λ x r. consed x ((many_from set g next (next s x)).reads r))
   from_one s t h = rw (from-unroll s t, h) refl
 
   takes_none : (s : S) (t : List Lexeme) → heads (set s) t ≡ false → Takes (many_from set g next s) t [] t
@@ -94,7 +98,8 @@ module _ {S X : Type 0} (set : S → Set) (g : S → Grammar X) (next : S → X 
     same = λ r' hd. from_none s r' (sym (heads-same (set s) t r' hd) ∙ none);
   }
 
-  takes_one : (s : S) (t : List Lexeme) (x : X) (q : List Lexeme) (xs : List X) (r : List Lexeme) → heads (set s) t ≡ true
+  takes_one : (s : S) (t : List Lexeme) (x : X) (q : List Lexeme) (xs : List X) (r : List Lexeme)
+      → heads (set s) t ≡ true
       → Takes (g s) t x q → Takes (many_from set g next (next s x)) q xs r → Takes (many_from set g next s) t (x ∷ xs) r
   unfolding many_from
   takes_one s t x q xs r here t1 t2 =
@@ -107,10 +112,12 @@ module _ {S X : Type 0} (set : S → Set) (g : S → Grammar X) (next : S → X 
         same = λ r' hd.
             let one : (g s).reads (used ++ r') ≡ Ok (x, t2.used ++ r') =
             rw append_assoc (t1.same (t2.used ++ r') (carried q t2.used r r' t2.parts hd)) in
-            from_one s (used ++ r') (heads_carried (set s) true t used r r' parts hd here) ∙ rw (one, t2.same r' hd) refl;
+            from_one s (used ++ r') (heads_carried (set s) true t used r r' parts hd here)
+            ∙ rw (one, t2.same r' hd) refl;
       }
 
-  pub from_takes : (n : ℕ) (s : S) (t : List Lexeme) (xs : List X) (r : List Lexeme) → length t < n → (many_from set g next s).reads t ≡ Ok (xs, r)
+  pub from_takes : (n : ℕ) (s : S) (t : List Lexeme) (xs : List X) (r : List Lexeme) → length t < n
+      → (many_from set g next s).reads t ≡ Ok (xs, r)
       → Takes (many_from set g next s) t xs r
   from_takes zero s t xs r lt e = absurd (omega arith)
   from_takes (suc n) s t xs r lt e =
@@ -129,13 +136,15 @@ module _ {S X : Type 0} (set : S → Set) (g : S → Grammar X) (next : S → X 
             (subst (λ q. Takes (many_from set g next s) t [] q) d.rest (takes_none s t none))
       ]
 
-  stops_here : (s : S) (d : Fault) (t r : List Lexeme) → heads (set s) t ≡ true → Stops (g s) d t r → Stops (many_from set g next s) d t r
+  stops_here : (s : S) (d : Fault) (t r : List Lexeme) → heads (set s) t ≡ true → Stops (g s) d t r
+      → Stops (many_from set g next s) d t r
   stops_here s d t r here st = record {
     used = st.used;
     parts = st.parts;
     continues = elim st.continues [ inl c ↦ inl (from_begun set g next s st.used c) | inr none ↦ inr none ];
     same = λ r' hd.
-        from_one s (st.used ++ r') (heads_carried (set s) true t st.used r r' st.parts hd here) ∙ rw (st.same r' hd) refl;
+        from_one s (st.used ++ r') (heads_carried (set s) true t st.used r r' st.parts hd here)
+        ∙ rw (st.same r' hd) refl;
   }
 
   stops_later : (s : S) (d : Fault) (t : List Lexeme) (x : X) (q r : List Lexeme) → heads (set s) t ≡ true
@@ -146,14 +155,17 @@ module _ {S X : Type 0} (set : S → Set) (g : S → Grammar X) (next : S → X 
       record {
         used = used;
         parts = parts;
-        continues = inl (from_behind set g next s t1.used t2.used x t1.spelled (surely t2.used (sample_from set g next (next s x)) t2.continues));
+        continues =
+            inl (from_behind set g next s t1.used t2.used x t1.spelled (surely t2.used (sample_from set g next (next s x)) t2.continues));
         same = λ r' hd.
             let one : (g s).reads (used ++ r') ≡ Ok (x, t2.used ++ r') =
             rw append_assoc (t1.same (t2.used ++ r') (carried q t2.used r r' t2.parts hd)) in
-            from_one s (used ++ r') (heads_carried (set s) true t used r r' parts hd here) ∙ rw (one, t2.same r' hd) refl;
+            from_one s (used ++ r') (heads_carried (set s) true t used r r' parts hd here)
+            ∙ rw (one, t2.same r' hd) refl;
       }
 
-  from_stops : (n : ℕ) (s : S) (t r : List Lexeme) (d : Fault) → length t < n → (many_from set g next s).reads t ≡ Err (d, r)
+  from_stops : (n : ℕ) (s : S) (t r : List Lexeme) (d : Fault) → length t < n
+      → (many_from set g next s).reads t ≡ Err (d, r)
       → Stops (many_from set g next s) d t r
   from_stops zero s t r d lt e = absurd (omega arith)
   from_stops (suc n) s t r d lt e =
@@ -165,7 +177,8 @@ module _ {S X : Type 0} (set : S → Set) (g : S → Grammar X) (next : S → X 
                   elim (bind_err ((many_from set g next (next s k.0)).reads k.1) _ (d, r) k.3) [
                     | inl e2 ↦
                         let lt2 = took (good s) t k.0 k.1 k.2 in
-                        stops_later s d t k.0 k.1 r here ((good s).takes t k.0 k.1 k.2) (from_stops n (next s k.0) k.1 r d (omega arith) e2)
+                        stops_later s d t k.0 k.1 r here ((good s).takes t k.0 k.1 k.2)
+                        (from_stops n (next s k.0) k.1 r d (omega arith) e2)
                     | inr k2 ↦ absurd (let bad = k2.3 in cc)
                   ]
             ]
@@ -184,20 +197,26 @@ pub record Items {S X : Type 0} (set : S → Set) (g : S → Grammar X) (f : S �
 
 module _ {S X : Type 0} (set : S → Set) (g : S → Grammar X) (next : S → X → S) (f : S → Set) (m first every : Set)
     (a : Items set g f m first every) where
-  from_begins : (s : S) (u : List Lexeme) (xs : List X) → many_from_spells (λ z. (g z).spells) next s u xs → Begins first true u
+  from_begins : (s : S) (u : List Lexeme) (xs : List X) → many_from_spells (λ z. (g z).spells) next s u xs
+      → Begins first true u
   from_begins s u [] w = rw w refl
-  from_begins s u (x ∷ xs) w = rw w.parts (front_begins first w.p w.q (begins_wider (f s) first false w.p (a.heading s) ((a.good s).begins w.p x w.first)))
+  from_begins s u (x ∷ xs) w =
+      rw w.parts
+      (front_begins first w.p w.q (begins_wider (f s) first false w.p (a.heading s) ((a.good s).begins w.p x w.first)))
 
-  from_again : (s : S) (u : List Lexeme) (xs : List X) (r : List Lexeme) → many_from_spells (λ z. (g z).spells) next s u xs
+  from_again : (s : S) (u : List Lexeme) (xs : List X) (r : List Lexeme)
+      → many_from_spells (λ z. (g z).spells) next s u xs
       → Clear (also every true m) r → (many_from set g next s).reads (u ++ r) ≡ Ok (xs, r)
   from_again s u [] r w clear =
       rw w (from_none set g next f m a.good s r (clear_within (set s) every r (a.known s) (clear_left every m true r clear)))
   from_again s u (x ∷ xs) r w clear =
       let b = from_begins (next s x) w.q xs w.second in
       let here : heads (set s) (u ++ r) ≡ true =
-      rw (w.parts, append_assoc) (begins_heads (f s) (set s) w.p (w.q ++ r) ((a.good s).begins w.p x w.first) (a.within s)) in
+      rw (w.parts, append_assoc)
+      (begins_heads (f s) (set s) w.p (w.q ++ r) ((a.good s).begins w.p x w.first) (a.within s)) in
       let one : (g s).reads (u ++ r) ≡ Ok (x, w.q ++ r) =
-      rw (w.parts, append_assoc) ((a.good s).again w.p x (w.q ++ r) w.first (next_clear first m every w.q r b a.apart clear)) in
+      rw (w.parts, append_assoc)
+      ((a.good s).again w.p x (w.q ++ r) w.first (next_clear first m every w.q r b a.apart clear)) in
       from_one set g next f m a.good s (u ++ r) here ∙ rw (one, from_again (next s x) w.q xs r w.second clear) refl
 
   pub from_good : (s : S) → Good (many_from set g next s) first true (also every true m)

@@ -23,7 +23,8 @@ token_taken (t ∷ ts) d k h = rw (h, rest_is ts) refl
     rest_is : (ts : List Token) → take (suc (length ts) - 1) ts ≡ ts
     rest_is ts = rw (let e : suc (length ts) - 1 ≡ length ts = omega arith in e) (take-length ts)
 
-pub token_refused : (ts : List Token) (k : Kind) → heads (is k) (lexemes ts) ≡ false → (token k).reads (lexemes ts) ≡ Err (faults.Expected, lexemes ts)
+pub token_refused : (ts : List Token) (k : Kind) → heads (is k) (lexemes ts) ≡ false
+    → (token k).reads (lexemes ts) ≡ Err (faults.Expected, lexemes ts)
 unfolding token
 token_refused [] k h = refl
 token_refused (t ∷ ts) k h = rw h refl

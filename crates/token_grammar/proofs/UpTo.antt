@@ -13,13 +13,15 @@ use Rattle.token_grammar.proofs.Many.{on_both}
 -- ---- how reading goes
 
 module _ {S X : Type 0} (set : Set) (g : S → Grammar X) (next : S → X → S) where
-  pub none_read : (n : ℕ) (s : S) (t : List Lexeme) → heads set t ≡ false → (up_to_from set g next n s).reads t ≡ Ok ([], t)
+  pub none_read : (n : ℕ) (s : S) (t : List Lexeme) → heads set t ≡ false
+      → (up_to_from set g next n s).reads t ≡ Ok ([], t)
   unfolding up_to_from up_to_reads
   none_read zero s t h = refl
   none_read (suc n) s t h = rw h refl
 
   pub one_read : (n : ℕ) (s : S) (t : List Lexeme) → heads set t ≡ true
-      → (up_to_from set g next (suc n) s).reads t ≡ and_then ((g s).reads t) (λ x r. consed x ((up_to_from set g next n (next s x)).reads r))
+      → (up_to_from set g next (suc n) s).reads t ≡ and_then ((g s).reads t)
+      (λ x r. consed x ((up_to_from set g next n (next s x)).reads r))
   unfolding up_to_from up_to_reads
   one_read n s t h = rw h refl
 
@@ -50,7 +52,8 @@ abbrev pub rationed : {S X : Type 0} → Set → (S → Grammar X) → (S → X 
 rationed {S} set g next n s =
     many_from (λ (z : ℕ × S). set_left set z.0) (λ z. item_left g z.0 z.1) (λ z x. (one_less z.0, next z.1 x)) (n, s)
 
-module _ {S X : Type 0} (set : Set) (g : S → Grammar X) (next : S → X → S) (f m : Set) (good : (s : S) → Good (g s) f false m) where
+module _ {S X : Type 0} (set : Set) (g : S → Grammar X) (next : S → X → S) (f m : Set)
+    (good : (s : S) → Good (g s) f false m) where
   pub item_good : (n : ℕ) (s : S) → Good (item_left g n s) (set_left f n) false m
   item_good zero s = good_wider (λ k there. there) (λ k there. absurd cc) (good_forbidden nothing faults.Expected)
   item_good (suc n) s = good s
@@ -68,17 +71,20 @@ module _ {S X : Type 0} (set : Set) (g : S → Grammar X) (next : S → X → S)
             one_read set g next n s t here
             ∙ on_both ((g s).reads t) _ _ (λ x r. ap (consed x) (read_so n (next s x) r))
             ∙ sym (from_one _ _ _ (λ z. set_left f z.0) m (λ z. item_good z.0 z.1) (suc n, s) t here)
-        | inr none ↦ none_read set g next (suc n) s t none ∙ sym (from_none _ _ _ (λ z. set_left f z.0) m (λ z. item_good z.0 z.1) (suc n, s) t none)
+        | inr none ↦ none_read set g next (suc n) s t none
+            ∙ sym (from_none _ _ _ (λ z. set_left f z.0) m (λ z. item_good z.0 z.1) (suc n, s) t none)
       ]
 
-  spelled_so : (n : ℕ) (s : S) (u : List Lexeme) (xs : List X) → (up_to_from set g next n s).spells u xs → (rationed set g next n s).spells u xs
+  spelled_so : (n : ℕ) (s : S) (u : List Lexeme) (xs : List X) → (up_to_from set g next n s).spells u xs
+      → (rationed set g next n s).spells u xs
   unfolding up_to_from many_from
   spelled_so n s u [] w = w
   spelled_so zero s u (x ∷ xs) w = absurd w
   spelled_so (suc n) s u (x ∷ xs) w =
       record { p = w.p; q = w.q; parts = w.parts; first = w.first; second = spelled_so n (next s x) w.q xs w.second }
 
-  spelled_back : (n : ℕ) (s : S) (u : List Lexeme) (xs : List X) → (rationed set g next n s).spells u xs → (up_to_from set g next n s).spells u xs
+  spelled_back : (n : ℕ) (s : S) (u : List Lexeme) (xs : List X) → (rationed set g next n s).spells u xs
+      → (up_to_from set g next n s).spells u xs
   unfolding up_to_from many_from forbidden
   spelled_back n s u [] w = w
   spelled_back zero s u (x ∷ xs) w = absurd w.first
@@ -88,7 +94,8 @@ module _ {S X : Type 0} (set : Set) (g : S → Grammar X) (next : S → X → S)
   pub up_to_alike : (n : ℕ) (s : S) → Alike (up_to_from set g next n s) (rationed set g next n s)
   up_to_alike n s = record { read = read_so n s; spelled = spelled_so n s; back = spelled_back n s }
 
-  pub up_to_good : Within f set → Apart f m → (n : ℕ) (s : S) → Good (up_to_from set g next n s) f true (also set true m)
+  pub up_to_good : Within f set → Apart f m → (n : ℕ) (s : S)
+      → Good (up_to_from set g next n s) f true (also set true m)
   up_to_good within apart n s =
       good_alike (up_to_alike n s)
       (from_good _ _ _ (λ z. set_left f z.0) m f set

@@ -15,14 +15,15 @@ use Rattle.chart_lexer.proofs.Fronts.{OneLine, front_line}
 abbrev pub cut : List Lexeme → Lexemes → Lexemes
 cut ts l = record { tokens = ts ++ l.tokens; stop = l.stop; at = l.at }
 
--- so many columns to the right
+-- n columns to the right
 abbrev pub right_of : Span → ℕ → Span
 right_of p n = record { line = p.line; column = p.column + n }
 
 -- ---- what is passed over
 
 -- bytes on one line are passed over column by column
-passed_over : (k : ℕ) (p : Span) (s : List ℕ) → k ≤ length s → OneLine k s → lexed k p s ≡ lexed 0 (right_of p k) (drop k s)
+passed_over : (k : ℕ) (p : Span) (s : List ℕ) → k ≤ length s → OneLine k s
+    → lexed k p s ≡ lexed 0 (right_of p k) (drop k s)
 unfolding lexed
 passed_over zero p s le one = rw add-zero refl
 passed_over (suc k) p [] le one = absurd (omega arith)
@@ -35,12 +36,14 @@ passed_over (suc k) p (b ∷ s) le one =
 -- ---- one turn
 
 -- a blank byte is passed over
-pub blank_turn : (p : Span) (b : ℕ) (s : List ℕ) → front_of (b ∷ s) ≡ fronts.Blank → lexed 0 p (b ∷ s) ≡ lexed 0 (after_byte p b) s
+pub blank_turn : (p : Span) (b : ℕ) (s : List ℕ) → front_of (b ∷ s) ≡ fronts.Blank
+    → lexed 0 p (b ∷ s) ≡ lexed 0 (after_byte p b) s
 unfolding lexed
 blank_turn p b s h = rw (h, lexed) refl
 
 -- where no token begins, nothing more is cut
-pub stop_turn : (p : Span) (s : List ℕ) (stop : Stop) → front_of s ≡ fronts.Stop stop → lexed 0 p s ≡ record { tokens = []; stop = stop; at = p }
+pub stop_turn : (p : Span) (s : List ℕ) (stop : Stop) → front_of s ≡ fronts.Stop stop
+    → lexed 0 p s ≡ record { tokens = []; stop = stop; at = p }
 unfolding lexed front_of
 stop_turn p [] stop h = let e : stop ≡ _ = cc in rw e refl
 stop_turn p (b ∷ s) stop h = rw (h, lexed) refl
@@ -51,14 +54,15 @@ pub token_turn : (p : Span) (b : ℕ) (s : List ℕ) (kind : Kind) (n : ℕ) →
 unfolding lexed
 token_turn p b s kind n h = rw (h, lexed) refl
 
--- the first of so many bytes is passed over
+-- the first of n bytes is passed over
 pass_one : (n : ℕ) (p : Span) (b : ℕ) (d : List ℕ) → 0 < n → lexed (n - 1) (after_byte p b) d ≡ lexed n p (b ∷ d)
 unfolding lexed
 pass_one zero p b d some = absurd (omega arith)
 pass_one (suc k) p b d some = let e : suc k - 1 ≡ k = omega arith in rw e refl
 
 -- a token in front, and then what is after it
-pub token_first : (p : Span) (s : List ℕ) (kind : Kind) (n : ℕ) → front_of s ≡ fronts.Token kind n → 0 < n → n ≤ length s
+pub token_first : (p : Span) (s : List ℕ) (kind : Kind) (n : ℕ) → front_of s ≡ fronts.Token kind n → 0 < n
+    → n ≤ length s
     → lexed 0 p s ≡ before (record { kind = kind; text = take n s; at = p }) (lexed 0 (right_of p n) (drop n s))
 token_first p [] kind n h some within = absurd (omega arith)
 token_first p (b ∷ s) kind n h some within =
@@ -78,25 +82,31 @@ rest_of i s = rw (← length-drop i s) (take-length (drop i s))
 
 -- a token in front of the others is one after those so far
 cut_before : (ts : List Lexeme) (t : Lexeme) (l : Lexemes) → cut ts (before t l) ≡ cut (ts ++ t ∷ []) l
-cut_before ts t l = ap (λ (xs : List Lexeme). record { tokens = xs; stop = l.stop; at = l.at }) (sym (append_assoc ts (t ∷ []) l.tokens))
+cut_before ts t l =
+    ap (λ (xs : List Lexeme). record { tokens = xs; stop = l.stop; at = l.at }) (sym (append_assoc ts (t ∷ []) l.tokens))
 
 -- the loop at its end
-pub at_stop : (ts : List Lexeme) (p : Span) (s : List ℕ) (i : ℕ) (stop : Stop) (total : Lexemes) → fronts.Stop stop ≡ front_of (take (length s - i) (drop i s))
+pub at_stop : (ts : List Lexeme) (p : Span) (s : List ℕ) (i : ℕ) (stop : Stop) (total : Lexemes)
+    → fronts.Stop stop ≡ front_of (take (length s - i) (drop i s))
     → cut ts (lexed 0 p (drop i s)) ≡ total → record { tokens = ts; stop = stop; at = p } ≡ total
 at_stop ts p s i stop total h so_far =
     let there : front_of (drop i s) ≡ fronts.Stop stop = ap front_of (sym (rest_of i s)) ∙ sym h in
-    let e : cut ts (lexed 0 p (drop i s)) ≡ cut ts (record { tokens = []; stop = stop; at = p }) = ap (cut ts) (stop_turn p (drop i s) stop there) in
+    let e : cut ts (lexed 0 p (drop i s)) ≡ cut ts (record { tokens = []; stop = stop; at = p }) =
+    ap (cut ts) (stop_turn p (drop i s) stop there) in
     rw (append-nil ts) at (sym e ∙ so_far)
 
 -- the loop after a blank byte
-pub after_blank : (ts : List Lexeme) (p : Span) (s : List ℕ) (i : ℕ) (total : Lexemes) → i < length s → fronts.Blank ≡ front_of (take (length s - i) (drop i s))
+pub after_blank : (ts : List Lexeme) (p : Span) (s : List ℕ) (i : ℕ) (total : Lexemes) → i < length s
+    → fronts.Blank ≡ front_of (take (length s - i) (drop i s))
     → cut ts (lexed 0 p (drop i s)) ≡ total → cut ts (lexed 0 (after_byte p (get_or s i 0)) (drop (i + 1) s)) ≡ total
 after_blank ts p s i total lt h so_far =
-    let there : front_of (get_or s i 0 ∷ drop (i + 1) s) ≡ fronts.Blank = ap front_of (sym (rest_of i s ∙ drop_at s i lt)) ∙ sym h in
+    let there : front_of (get_or s i 0 ∷ drop (i + 1) s) ≡ fronts.Blank =
+    ap front_of (sym (rest_of i s ∙ drop_at s i lt)) ∙ sym h in
     ap (cut ts) (sym (ap (lexed 0 p) (drop_at s i lt) ∙ blank_turn p (get_or s i 0) (drop (i + 1) s) there)) ∙ so_far
 
 -- the loop after a token
-pub after_token : (ts : List Lexeme) (p : Span) (s : List ℕ) (i : ℕ) (kind : Kind) (n : ℕ) (total : Lexemes) → fronts.Token kind n ≡ front_of (take (length s - i) (drop i s))
+pub after_token : (ts : List Lexeme) (p : Span) (s : List ℕ) (i : ℕ) (kind : Kind) (n : ℕ) (total : Lexemes)
+    → fronts.Token kind n ≡ front_of (take (length s - i) (drop i s))
     → 0 < n → n ≤ length (take (length s - i) (drop i s)) → cut ts (lexed 0 p (drop i s)) ≡ total
     → cut (ts ++ record { kind = kind; text = take (i + n - i) (drop i s); at = p } ∷ []) (lexed 0 (right_of p n) (drop (i + n) s)) ≡ total
 after_token ts p s i kind n total h some within so_far =
@@ -104,7 +114,8 @@ after_token ts p s i kind n total h some within so_far =
     let fits : n ≤ length (drop i s) = rw (rest_of i s) at within in
     let first = token_first p (drop i s) kind n there some fits in
     let tok : Lexeme = record { kind = kind; text = take n (drop i s); at = p } in
-    let all : cut (ts ++ tok ∷ []) (lexed 0 (right_of p n) (drop n (drop i s))) ≡ total = sym (cut_before ts tok (lexed 0 (right_of p n) (drop n (drop i s)))) ∙ ap (cut ts) (sym first) ∙ so_far in
+    let all : cut (ts ++ tok ∷ []) (lexed 0 (right_of p n) (drop n (drop i s))) ≡ total =
+    sym (cut_before ts tok (lexed 0 (right_of p n) (drop n (drop i s)))) ∙ ap (cut ts) (sym first) ∙ so_far in
     let e : i + n - i ≡ n = omega arith in
     rw (e, ← drop-drop n i s) all
 

@@ -55,7 +55,8 @@ join_line n m s front back i lt =
     ]
 
 -- a byte other than the newline, and a stretch after it
-marked_line : (c : ℕ) (t : Bool) (n : ℕ) (b : ℕ) (s : List ℕ) → eqb c 10 ≡ false → OneLine n s → OneLine (cond (eqb b c && t) (n + 1) 0) (b ∷ s)
+marked_line : (c : ℕ) (t : Bool) (n : ℕ) (b : ℕ) (s : List ℕ) → eqb c 10 ≡ false → OneLine n s
+    → OneLine (cond (eqb b c && t) (n + 1) 0) (b ∷ s)
 marked_line c t n b s apart rest =
     elim (cases_Bool (eqb b c)) [
       | inl same ↦
@@ -90,12 +91,16 @@ scale_line (b ∷ s) = marked_line _ _ _ b s refl (run_line is_digit s refl)
 -- digits and a fraction
 decimal_line : (s : List ℕ) → OneLine (decimal_length s) s
 unfolding decimal_length
-decimal_line s = join_line (digits_length s) (fraction_length (drop (digits_length s) s)) s (run_line is_digit s refl) (fraction_line (drop (digits_length s) s))
+decimal_line s =
+    join_line (digits_length s) (fraction_length (drop (digits_length s) s)) s (run_line is_digit s refl)
+    (fraction_line (drop (digits_length s) s))
 
 -- a decimal and a scale
 number_line : (s : List ℕ) → OneLine (number_length s) s
 unfolding number_length
-number_line s = join_line (decimal_length s) (scale_length (drop (decimal_length s) s)) s (decimal_line s) (scale_line (drop (decimal_length s) s))
+number_line s =
+    join_line (decimal_length s) (scale_length (drop (decimal_length s) s)) s (decimal_line s)
+    (scale_line (drop (decimal_length s) s))
 
 -- the newline is no symbol
 single_newline : single_kind 10 ≡ None
@@ -137,7 +142,8 @@ single_line a s None e = tt
 single_line a s (Some kind) e = one_byte a s (no_newline single_kind a kind single_newline e)
 
 -- a symbol of two bytes
-pair_line : (a b : ℕ) (s : List ℕ) (o : Option Kind) → o ≡ pair_kind a b → Line (a ∷ b ∷ s) (longer_symbol o (single_kind a))
+pair_line : (a b : ℕ) (s : List ℕ) (o : Option Kind) → o ≡ pair_kind a b
+    → Line (a ∷ b ∷ s) (longer_symbol o (single_kind a))
 pair_line a b s None e = single_line a (b ∷ s) (single_kind a) refl
 pair_line a b s (Some kind) e =
     two_bytes a b s
@@ -153,13 +159,15 @@ symbol_line (a ∷ b ∷ s) = pair_line a b s (pair_kind a b) refl
 -- a word
 word_line : (s : List ℕ) → Line s (word_front s)
 word_line s =
-    either_way (Line s) (nat_lt 63 (name_length s)) (fronts.Stop stops.BadToken) (fronts.Token (word_kind (take (name_length s) s)) (name_length s))
+    either_way (Line s) (nat_lt 63 (name_length s)) (fronts.Stop stops.BadToken)
+    (fronts.Token (word_kind (take (name_length s) s)) (name_length s))
     (tt {0}) (run_line is_name_byte s refl)
 
 -- a number
 digit_line : (s : List ℕ) → Line s (number_front s)
 digit_line s =
-    either_way (Line s) (begins is_name_byte (drop (number_length s) s)) (fronts.Stop stops.BadToken) (fronts.Token kinds.Number (number_length s))
+    either_way (Line s) (begins is_name_byte (drop (number_length s) s)) (fronts.Stop stops.BadToken)
+    (fronts.Token kinds.Number (number_length s))
     (tt {0}) (number_line s)
 
 -- whatever stands in front

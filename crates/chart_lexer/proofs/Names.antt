@@ -57,7 +57,8 @@ unfolding front_of
 word_first b s h = rw (letter_not_blank b h, letter_in_range b h, h) refl
 
 -- a word of n bytes, which aren't too many
-pub word_front_is : (w : List ℕ) (n : ℕ) → name_length w ≡ n → n ≤ 63 → word_front w ≡ fronts.Token (word_kind (take n w)) n
+pub word_front_is : (w : List ℕ) (n : ℕ) → name_length w ≡ n → n ≤ 63
+    → word_front w ≡ fronts.Token (word_kind (take n w)) n
 word_front_is w n e short = rw (e, le-ltb 63 n short) refl
 
 -- a name is cut as one
@@ -65,7 +66,9 @@ pub name_front : (w : List ℕ) → is_name w ≡ true → IsOneName w
 name_front [] h = absurd cc
 name_front (b ∷ s) h =
     let w : List ℕ = b ∷ s in
-    let halves = and_parts (is_letter b && eqb (name_length w) (length w)) (leb (length w) 63 && kind_eq (word_kind w) kinds.Name) h in
+    let halves =
+    and_parts (is_letter b && eqb (name_length w) (length w))
+    (leb (length w) 63 && kind_eq (word_kind w) kinds.Name) h in
     let front = and_parts (is_letter b) (eqb (name_length w) (length w)) halves.0 in
     let back = and_parts (leb (length w) 63) (kind_eq (word_kind w) kinds.Name) halves.1 in
     let cut : word_front w ≡ fronts.Token (word_kind (take (length w) w)) (length w) =
@@ -76,6 +79,7 @@ name_front (b ∷ s) h =
 
 -- ---- the bytes of a name
 
+-- a byte of a name is ASCII
 name_byte_ascii : (b : ℕ) → is_name_byte b ≡ true → b < 128
 name_byte_ascii b h = grind (arith, nat_tests)
 
@@ -83,7 +87,8 @@ name_byte_ascii b h = grind (arith, nat_tests)
 pub name_ascii : (w : List ℕ) → is_name w ≡ true → IsAscii w
 name_ascii w h =
     let halves =
-    and_parts (begins is_letter w && eqb (name_length w) (length w)) (leb (length w) 63 && kind_eq (word_kind w) kinds.Name) h in
+    and_parts (begins is_letter w && eqb (name_length w) (length w))
+    (leb (length w) 63 && kind_eq (word_kind w) kinds.Name) h in
     let front = and_parts (begins is_letter w) (eqb (name_length w) (length w)) halves.0 in
     let all : name_length w ≡ length w = eqb-true _ _ front.1 in
     IsAscii-from_reads w (name_length w) (omega arith)
@@ -97,7 +102,8 @@ NoName None = Unit {0}
 NoName (Some kind) = kind_eq kind kinds.Name ≡ false
 
 -- of a symbol and of what else there is, either isn't a name
-either_symbol : (test : Bool) (kind : Kind) (o : Option Kind) → kind_eq kind kinds.Name ≡ false → NoName o → NoName (cond test (Some kind) o)
+either_symbol : (test : Bool) (kind : Kind) (o : Option Kind) → kind_eq kind kinds.Name ≡ false → NoName o
+    → NoName (cond test (Some kind) o)
 unfolding NoName
 either_symbol true kind o h rest = h
 either_symbol false kind o h rest = rest
@@ -151,7 +157,8 @@ Named s (fronts.Token kind n) = kind_eq kind kinds.Name ≡ true → is_name (ta
 Named s (fronts.Stop stop) = Unit {0}
 
 -- a symbol isn't a name
-symbol_named : (s : List ℕ) (pair single : Option Kind) → NoName pair → NoName single → Named s (longer_symbol pair single)
+symbol_named : (s : List ℕ) (pair single : Option Kind) → NoName pair → NoName single
+    → Named s (longer_symbol pair single)
 unfolding NoName
 symbol_named s (Some kind) single h k = λ name. absurd (let no : true ≡ false = sym name ∙ h in cc)
 symbol_named s None (Some kind) h k = λ name. absurd (let no : true ≡ false = sym name ∙ k in cc)
@@ -166,7 +173,8 @@ first_pair_no_name (a ∷ b ∷ s) = pair_no_name a b
 -- a number isn't a name
 number_named : (s : List ℕ) → Named s (number_front s)
 number_named s =
-    cond_both (begins is_name_byte (drop (number_length s) s)) (fronts.Stop stops.BadToken) (fronts.Token kinds.Number (number_length s)) (Named s)
+    cond_both (begins is_name_byte (drop (number_length s) s)) (fronts.Stop stops.BadToken)
+    (fronts.Token kinds.Number (number_length s)) (Named s)
     (λ letter. tt {0}) (λ end name. absurd (let no : false ≡ true = name in cc))
 
 -- a run of name bytes in front of a text is one, to its end

@@ -17,10 +17,12 @@ AreNames : List Lexeme → Type 0
 AreNames ts = AllByRecursion (λ (t : Lexeme). kind_eq t.kind kinds.Name ≡ true → is_name t.text ≡ true) ts
 
 -- one turn more in front
-turn_names : (p : Span) (b : ℕ) (s : List ℕ) → ((k : ℕ) (q : Span) → AreNames (lexed k q s).tokens) → (front : Front) → front_of (b ∷ s) ≡ front → AreNames (lexed 0 p (b ∷ s)).tokens
+turn_names : (p : Span) (b : ℕ) (s : List ℕ) → ((k : ℕ) (q : Span) → AreNames (lexed k q s).tokens) → (front : Front)
+    → front_of (b ∷ s) ≡ front → AreNames (lexed 0 p (b ∷ s)).tokens
 unfolding AreNames
 turn_names p b s rest fronts.Blank e = rw (blank_turn p b s e) (rest 0 (after_byte p b))
-turn_names p b s rest (fronts.Token kind n) e = rw (token_turn p b s kind n e) (rw e at (front_named (b ∷ s)), rest (n - 1) (after_byte p b))
+turn_names p b s rest (fronts.Token kind n) e =
+    rw (token_turn p b s kind n e) (rw e at (front_named (b ∷ s)), rest (n - 1) (after_byte p b))
 turn_names p b s rest (fronts.Stop stop) e = rw (stop_turn p (b ∷ s) stop e) tt
 
 -- from any place on, after any number of bytes
@@ -31,7 +33,8 @@ are_names (b ∷ s) zero p = turn_names p b s (are_names s) (front_of (b ∷ s))
 are_names (b ∷ s) (suc k) p = are_names s k (after_byte p b)
 
 -- the token at an index
-names_at : (ts : List Lexeme) → AreNames ts → (k : ℕ) (d : Lexeme) → k < length ts → (get_or ts k d).kind ≡ kinds.Name → is_name (get_or ts k d).text ≡ true
+names_at : (ts : List Lexeme) → AreNames ts → (k : ℕ) (d : Lexeme) → k < length ts → (get_or ts k d).kind ≡ kinds.Name
+    → is_name (get_or ts k d).text ≡ true
 unfolding AreNames
 names_at [] h k d lt e = absurd (omega arith)
 names_at (t ∷ ts) h zero d lt e = h.0 (ap (λ (kind : Kind). kind_eq kind kinds.Name) e)

@@ -16,7 +16,8 @@ first_from-here test k zero e = refl
 first_from-here test k (suc n) e = ap (λ (b : Bool). cond b k (first_from test (k + 1) n)) e
 
 -- or one after it
-pub first_from-later : (test : ℕ → Bool) (k m n : ℕ) → n ≡ suc m → test k ≡ false → first_from test k n ≡ first_from test (k + 1) m
+pub first_from-later : (test : ℕ → Bool) (k m n : ℕ) → n ≡ suc m → test k ≡ false
+    → first_from test k n ≡ first_from test (k + 1) m
 unfolding first_from
 first_from-later test k m n length_is e =
     ap (λ (x : ℕ). first_from test k x) length_is ∙ ap (λ (b : Bool). cond b k (first_from test (k + 1) m)) e
@@ -45,6 +46,7 @@ quotient_of_sum a b s some =
     let parts : a * s + b ≡ (a + b / s) * s + b % s = omega (arith, div-add-mod' b s) in
     ap (λ (x : ℕ). x / s) parts ∙ div-mul-add (a + b / s) s (b % s) (mod_below b s some)
 
+-- and what is left of it
 rest_of_sum : (a b s : ℕ) → 0 < s → (a * s + b) % s ≡ b % s
 rest_of_sum a b s some =
     let parts : a * s + b ≡ (a + b / s) * s + b % s = omega (arith, div-add-mod' b s) in
@@ -75,12 +77,15 @@ power_more n b k = omega (arith, ap (λ (x : ℕ). n * x) (ap (λ (x : ℕ). b ^
 -- frac digits are enough
 pub ends_at_last : (number frac : ℕ) → (number * 10 ^ frac) % 2 ^ frac ≡ 0
 ends_at_last number frac =
-    let parts : number * 10 ^ frac ≡ (number * 5 ^ frac) * 2 ^ frac = omega (arith, ap (λ (x : ℕ). number * x) (mul-pow 2 5 frac)) in
+    let parts : number * 10 ^ frac ≡ (number * 5 ^ frac) * 2 ^ frac =
+    omega (arith, ap (λ (x : ℕ). number * x) (mul-pow 2 5 frac)) in
     ap (λ (x : ℕ). x % 2 ^ frac) parts ∙ nothing_over (number * 5 ^ frac) frac
 
+-- a test for 0 fails of another number
 pub test_false : (x : ℕ) → x ≢ 0 → nat_eq x 0 ≡ false
 test_false x other = grind (arith, nat_tests)
 
+-- and passes of 0
 pub test_true : (x : ℕ) → x ≡ 0 → nat_eq x 0 ≡ true
 test_true x e = grind (arith, nat_tests)
 
@@ -102,7 +107,8 @@ Divides-none number frac =
     }
 
 -- a rest that isn't 0 has another digit
-pub Divides-more : (number frac k rest : ℕ) → Divides number frac k rest → rest ≢ 0 → Divides number frac (k + 1) ((rest * 10) % 2 ^ frac)
+pub Divides-more : (number frac k rest : ℕ) → Divides number frac k rest → rest ≢ 0
+    → Divides number frac (k + 1) ((rest * 10) % 2 ^ frac)
 Divides-more number frac k rest so_far other =
     let at_last : k ≡ frac → rest ≡ 0 =
     λ e. so_far.left ∙ ap (λ (x : ℕ). (number * 10 ^ x) % 2 ^ frac) e ∙ ends_at_last number frac in
@@ -121,7 +127,8 @@ Divides-more number frac k rest so_far other =
 -- with no rest these are the digits
 pub Divides-all : (number frac k : ℕ) → Divides number frac k 0 → places_of number frac ≡ k
 Divides-all number frac k so_far =
-    sym so_far.to_come ∙ first_from-here (ends_within number frac) k (frac - k) (test_true ((number * 10 ^ k) % 2 ^ frac) (sym so_far.left))
+    sym so_far.to_come
+    ∙ first_from-here (ends_within number frac) k (frac - k) (test_true ((number * 10 ^ k) % 2 ^ frac) (sym so_far.left))
 
 -- the last digit stands at the end
 last_digits-suc : (k n : ℕ) → last_digits (k + 1) n ≡ last_digits k (n / 10) ++ (48 + n % 10) ∷ []
@@ -157,24 +164,30 @@ unfolding last_digits
 last_digits-none n = refl
 
 -- the digits so far, and the next by the rest
-pub digits_more : (number frac k rest : ℕ) → Divides number frac k rest → last_digits k (number * 10 ^ k / 2 ^ frac) ++ (48 + rest * 10 / 2 ^ frac) ∷ []
+pub digits_more : (number frac k rest : ℕ) → Divides number frac k rest
+    → last_digits k (number * 10 ^ k / 2 ^ frac) ++ (48 + rest * 10 / 2 ^ frac) ∷ []
     ≡ last_digits (k + 1) (number * 10 ^ (k + 1) / 2 ^ frac)
 digits_more number frac k rest so_far =
-    ap (λ (r : ℕ). last_digits k (number * 10 ^ k / 2 ^ frac) ++ (48 + r * 10 / 2 ^ frac) ∷ []) so_far.left ∙ sym (last_digits-more number frac k)
+    ap (λ (r : ℕ). last_digits k (number * 10 ^ k / 2 ^ frac) ++ (48 + r * 10 / 2 ^ frac) ∷ []) so_far.left
+    ∙ sym (last_digits-more number frac k)
 
 -- the digits so far are all of them
-pub digits_all : (number frac k rest : ℕ) → Divides number frac k rest → rest ≡ 0 → last_digits k (number * 10 ^ k / 2 ^ frac) ≡ fraction_digits number frac
+pub digits_all : (number frac k rest : ℕ) → Divides number frac k rest → rest ≡ 0
+    → last_digits k (number * 10 ^ k / 2 ^ frac) ≡ fraction_digits number frac
 digits_all number frac k rest so_far none =
-    let all : places_of number frac ≡ k = Divides-all number frac k (subst (λ (r : ℕ). Divides number frac k r) none so_far) in
+    let all : places_of number frac ≡ k =
+    Divides-all number frac k (subst (λ (r : ℕ). Divides number frac k r) none so_far) in
     ap (λ (x : ℕ). last_digits x (number * 10 ^ x / 2 ^ frac)) (sym all)
 
 -- a rest is left only before the last of frac digits
 pub more_places : (number frac k rest : ℕ) → Divides number frac k rest → rest ≢ 0 → k < frac
-more_places number frac k rest so_far other = let next = Divides-more number frac k rest so_far other in omega (arith, next.few)
+more_places number frac k rest so_far other =
+    let next = Divides-more number frac k rest so_far other in omega (arith, next.few)
 
--- there are so many digits as places
+-- a fraction has a digit for each place
 length-fraction_digits : (number frac : ℕ) → length (fraction_digits number frac) ≡ places_of number frac
-length-fraction_digits number frac = length-last_digits (places_of number frac) (number * 10 ^ places_of number frac / 2 ^ frac)
+length-fraction_digits number frac =
+    length-last_digits (places_of number frac) (number * 10 ^ places_of number frac / 2 ^ frac)
 
 -- at most frac
 pub length-fraction_digits-le : (number frac : ℕ) → length (fraction_digits number frac) ≤ frac

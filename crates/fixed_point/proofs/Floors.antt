@@ -58,9 +58,12 @@ floor_by-raised (negsuc a) f d =
 nothing_left : (a k e : ℕ) → a < 2 ^ k → k ≤ e → a / 2 ^ e ≡ 0
 nothing_left a k e small far = div-eq_of_lt (omega (arith, power-le k e far))
 
+-- where no bit is left the floor stays as it is
 pub floor_by-far : (z : ℤ) (k e : ℕ) → mag z < 2 ^ k → k ≤ e → floor_by z (2 ^ e) ≡ floor_by z (2 ^ k)
-floor_by-far (pos a) k e small far = ap pos (nothing_left a k e small far ∙ sym (nothing_left a k k small (omega arith)))
-floor_by-far (negsuc a) k e small far = ap negsuc (nothing_left a k e small far ∙ sym (nothing_left a k k small (omega arith)))
+floor_by-far (pos a) k e small far =
+    ap pos (nothing_left a k e small far ∙ sym (nothing_left a k k small (omega arith)))
+floor_by-far (negsuc a) k e small far =
+    ap negsuc (nothing_left a k e small far ∙ sym (nothing_left a k k small (omega arith)))
 
 -- at a fraction that is at least its own a number has zero bits more
 pub floored-raised : (a : Num) (frac : ℕ) → a.frac ≤ frac → floored a frac ≡ scaled a frac
@@ -166,7 +169,8 @@ scaled-grows a frac =
     omega (arith, unsigned_abs-mul a.mantissa (pos p), mul-le n 1 n p (omega arith) (pow_pos (frac - a.frac)))
 
 -- at most 32 bits are added to a mantissa of at most 65
-pub scaled-within : (a : Num) (frac : ℕ) → frac ≤ 32 → unsigned_abs a.mantissa ≤ 2 ^ 64 → unsigned_abs (scaled a frac) ≤ 2 ^ 100
+pub scaled-within : (a : Num) (frac : ℕ) → frac ≤ 32 → unsigned_abs a.mantissa ≤ 2 ^ 64
+    → unsigned_abs (scaled a frac) ≤ 2 ^ 100
 scaled-within a frac few small =
     let n = unsigned_abs a.mantissa in
     let p = 2 ^ (frac - a.frac) in

@@ -104,11 +104,13 @@ pub record IsNumeral (n : ℕ) (ds : List ℕ) : Type 0 where
   pub some : 0 < length ds
   pub value : value_of ds ≡ n
 
+-- a digit tells itself
 numeral_digit : (n : ℕ) → n < 10 → IsNumeral n ((48 + n) ∷ [])
 unfolding value_after
 numeral_digit n below =
     record { all = one-AreDigits n below; some = omega arith; value = omega arith }
 
+-- one more digit tells ten times the number, and the digit
 numeral_step : (n : ℕ) (ds : List ℕ) → 10 ≤ n → IsNumeral (n / 10) ds → IsNumeral n (ds ++ (48 + n % 10) ∷ [])
 numeral_step n ds many front =
     let below : n % 10 < 10 = mod_below n 10 (omega arith) in

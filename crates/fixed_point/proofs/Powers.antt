@@ -14,7 +14,8 @@ power_within n e m some fits =
 
 -- the same of a whole number that isn't 0
 pub power_within_of : (z : ℤ) (e m : ℕ) → 0 < unsigned_abs z → unsigned_abs (z *ℤ pos (2 ^ e)) ≤ 2 ^ m → e ≤ m
-power_within_of z e m some fits = power_within (unsigned_abs z) e m some (omega (arith, unsigned_abs-mul z (pos (2 ^ e))))
+power_within_of z e m some fits =
+    power_within (unsigned_abs z) e m some (omega (arith, unsigned_abs-mul z (pos (2 ^ e))))
 
 -- the product of a negative number: -(a + 1) * n is -(a * n + n - 1 + 1)
 pub product_negsuc : (a n : ℕ) → 0 < n → negsuc a *ℤ pos n ≡ negsuc (a * n + (n - 1))

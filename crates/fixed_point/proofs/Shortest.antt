@@ -30,14 +30,16 @@ sign_length (c ∷ text) = by_test (nat_eq c 45)
 
 -- digits and what comes after them
 digits_length : (text : List ℕ) → length (leading_digits text) + length (after_digits text) ≤ length text
-digits_length text = omega (arith, length-take (prefix_len is_ascii_digit text) text, length-drop (length (leading_digits text)) text)
+digits_length text =
+    omega (arith, length-take (prefix_len is_ascii_digit text) text, length-drop (length (leading_digits text)) text)
 
 -- a point and digits after it
 point_length : (text : List ℕ) → 0 < length (digits_behind text) → 1 + length (digits_behind text) ≤ length text
 point_length [] some = absurd (omega arith)
 point_length (c ∷ text) some = by_test (nat_eq c 46) some
   where
-    by_test : (b : Bool) → 0 < length (if b then leading_digits text else []) → 1 + length (if b then leading_digits text else []) ≤ suc (length text)
+    by_test : (b : Bool) → 0 < length (if b then leading_digits text else [])
+        → 1 + length (if b then leading_digits text else []) ≤ suc (length text)
     by_test true some = omega (arith, digits_length text)
     by_test false some = absurd (omega arith)
 
@@ -54,7 +56,8 @@ sign_size (pos n) = by_test (nat_lt n 0) (not_below n)
 sign_size (negsuc n) = refl
 
 -- the point and the digits after it
-behind_size : (n frac most : ℕ) → (0 < places_of n frac → 1 + places_of n frac ≤ most) → length (behind_point n frac) ≤ most
+behind_size : (n frac most : ℕ) → (0 < places_of n frac → 1 + places_of n frac ≤ most)
+    → length (behind_point n frac) ≤ most
 behind_size n frac most room = by_test (nat_eq (n % 2 ^ frac) 0) refl
   where
     more_by_test : (x : ℕ) → nat_eq x 0 ≡ false → x ≢ 0
@@ -71,20 +74,24 @@ behind_size n frac most room = by_test (nat_eq (n % 2 ^ frac) 0) refl
 -- ---- the shortest text
 
 -- the digits before the point tell the whole part
-whole_value : (m : ℤ) (frac : ℕ) (other : List ℕ) → TellsExactly m frac other → unsigned_abs m / 2 ^ frac ≡ value_after 0 (whole_digits other)
+whole_value : (m : ℤ) (frac : ℕ) (other : List ℕ) → TellsExactly m frac other
+    → unsigned_abs m / 2 ^ frac ≡ value_after 0 (whole_digits other)
 whole_value m frac other tells =
     let n = unsigned_abs m in
     let whole = value_after 0 (whole_digits other) in
     let behind = behind_digits other in
     let bounds = value_bounds whole behind (AreDigits-from_pass behind (AllPass-behind (after_whole other))) in
-    let told : value_after 0 (whole_digits other ++ behind) ≡ n * 10 ^ length behind / 2 ^ frac = product_quotient _ _ _ (pow_pos frac) tells.value in
-    let all : value_after whole behind ≡ n * 10 ^ length behind / 2 ^ frac = sym (value_after-append 0 (whole_digits other) behind) ∙ told in
+    let told : value_after 0 (whole_digits other ++ behind) ≡ n * 10 ^ length behind / 2 ^ frac =
+    product_quotient _ _ _ (pow_pos frac) tells.value in
+    let all : value_after whole behind ≡ n * 10 ^ length behind / 2 ^ frac =
+    sym (value_after-append 0 (whole_digits other) behind) ∙ told in
     sym (quotient_again n (2 ^ frac) (10 ^ length behind) (ten_some (length behind)))
     ∙ ap (λ (x : ℕ). x / 10 ^ length behind) (sym all)
     ∙ whole_by_bounds whole (value_after whole behind) (10 ^ length behind) bounds.0 bounds.1
 
 -- so there are at least as many of them
-whole_length : (m : ℤ) (frac : ℕ) (other : List ℕ) → unsigned_abs m < 2 ^ 128 → TellsExactly m frac other → 0 < length (whole_digits other)
+whole_length : (m : ℤ) (frac : ℕ) (other : List ℕ) → unsigned_abs m < 2 ^ 128 → TellsExactly m frac other
+    → 0 < length (whole_digits other)
     → length (decimal (unsigned_abs m / 2 ^ frac)) ≤ length (whole_digits other)
 whole_length m frac other fits tells some =
     let n = unsigned_abs m in

@@ -20,10 +20,12 @@ pub exact_frac-here : (units places frac rest : ℕ) → rest ≡ (units * 2 ^ f
     → first_from (is_exact units places) frac (33 - frac) ≡ first_from (is_exact units places) 0 33
     → rest ≡ 0 → frac < 33 → exact_frac units places ≡ Some frac
 exact_frac-here units places frac rest left to_come none below =
-    first_is _ frac (sym to_come ∙ first_from-here (is_exact units places) frac (33 - frac) (test_true ((units * 2 ^ frac) % 10 ^ places) (sym left ∙ none))) below
+    first_is _ frac
+    (sym to_come ∙ first_from-here (is_exact units places) frac (33 - frac) (test_true ((units * 2 ^ frac) % 10 ^ places) (sym left ∙ none))) below
 
 -- no fraction was exact
-pub exact_frac-none : (units places frac : ℕ) → first_from (is_exact units places) frac (33 - frac) ≡ first_from (is_exact units places) 0 33
+pub exact_frac-none : (units places frac : ℕ)
+    → first_from (is_exact units places) frac (33 - frac) ≡ first_from (is_exact units places) 0 33
     → frac ≡ 33 → exact_frac units places ≡ None
 exact_frac-none units places frac to_come last =
     let past : first_from (is_exact units places) 0 33 ≡ 33 =
@@ -32,7 +34,8 @@ exact_frac-none units places frac to_come last =
 
 -- a rest that isn't 0 goes on
 pub exact_frac-later : (units places frac rest : ℕ) → rest ≡ (units * 2 ^ frac) % 10 ^ places → rest ≢ 0 → frac < 33
-    → first_from (is_exact units places) frac (33 - frac) ≡ first_from (is_exact units places) (frac + 1) (33 - (frac + 1))
+    → first_from (is_exact units places) frac (33 - frac) ≡ first_from (is_exact units places) (frac + 1)
+    (33 - (frac + 1))
 exact_frac-later units places frac rest left other below =
     first_from-later (is_exact units places) frac (33 - (frac + 1)) (33 - frac) (omega arith)
     (test_false ((units * 2 ^ frac) % 10 ^ places) (λ e. other (left ∙ e)))
@@ -46,7 +49,8 @@ rest-more units places frac rest one one_is some left =
     ∙ ap (λ (x : ℕ). (units * 2 ^ (frac + 1)) % x) one_is
 
 -- the whole steps with one more bit
-pub steps-more : (units places frac whole rest one : ℕ) → one ≡ 10 ^ places → 0 < one → whole ≡ steps_of units places frac
+pub steps-more : (units places frac whole rest one : ℕ) → one ≡ 10 ^ places → 0 < one
+    → whole ≡ steps_of units places frac
     → rest ≡ (units * 2 ^ frac) % 10 ^ places → whole * 2 + rest * 2 / one ≡ steps_of units places (frac + 1)
 steps-more units places frac whole rest one one_is some whole_is left =
     let u = units * 2 ^ frac in
@@ -65,7 +69,8 @@ steps-grow units places few many h =
     (omega (arith, div-add-mod' (units * 2 ^ few) (10 ^ places), mul-le units (2 ^ few) units (2 ^ many) (omega arith) (power-le few many h)))
 
 -- too many steps
-pub steps_within-none : (units places frac : ℕ) → 2 ^ 99 ≤ steps_of units places frac → steps_within units places frac ≡ None
+pub steps_within-none : (units places frac : ℕ) → 2 ^ 99 ≤ steps_of units places frac
+    → steps_within units places frac ≡ None
 steps_within-none units places frac over = none_over (steps_of units places frac) over
   where
     none_over : (n : ℕ) → 2 ^ 99 ≤ n → (if nat_lt n (2 ^ 99) then Some n else None) ≡ None

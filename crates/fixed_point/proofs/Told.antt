@@ -21,13 +21,15 @@ use Rattle.fixed_point.proofs.Floors.{nothing_over}
 -- ---- a fraction's digits
 
 -- the first that passes, or the last, passes where the last does
-first_from-passes : (test : ℕ → Bool) (k n last : ℕ) → last ≡ k + n → test last ≡ true → test (first_from test k n) ≡ true
+first_from-passes : (test : ℕ → Bool) (k n last : ℕ) → last ≡ k + n → test last ≡ true
+    → test (first_from test k n) ≡ true
 unfolding first_from
 first_from-passes test k zero last last_is passes = let e : last ≡ k = omega arith in ap test (sym e) ∙ passes
 first_from-passes test k (suc n) last last_is passes =
     by_test (test k) refl (first_from-passes test (k + 1) n last (omega arith) passes)
   where
-    by_test : (b : Bool) → test k ≡ b → test (first_from test (k + 1) n) ≡ true → test (cond b k (first_from test (k + 1) n)) ≡ true
+    by_test : (b : Bool) → test k ≡ b → test (first_from test (k + 1) n) ≡ true
+        → test (cond b k (first_from test (k + 1) n)) ≡ true
     by_test true here later = here
     by_test false here later = later
 
@@ -38,9 +40,11 @@ first_from-least test k zero j from passes = from
 first_from-least test k (suc n) j from passes =
     by_test (test k) refl (λ later. first_from-least test (k + 1) n j later passes)
   where
-    by_test : (b : Bool) → test k ≡ b → (k + 1 ≤ j → first_from test (k + 1) n ≤ j) → cond b k (first_from test (k + 1) n) ≤ j
+    by_test : (b : Bool) → test k ≡ b → (k + 1 ≤ j → first_from test (k + 1) n ≤ j)
+        → cond b k (first_from test (k + 1) n) ≤ j
     by_test true here later = from
-    by_test false here later = later (⊎_elim (λ same. absurd (false≢true (sym here ∙ ap test same ∙ passes))) (λ other. omega arith) (cases_eq k j))
+    by_test false here later =
+        later (⊎_elim (λ same. absurd (false≢true (sym here ∙ ap test same ∙ passes))) (λ other. omega arith) (cases_eq k j))
 
 -- the places of a fraction are enough
 places_enough : (n frac : ℕ) → (n * 10 ^ places_of n frac) % 2 ^ frac ≡ 0
@@ -77,7 +81,8 @@ digits_tell n frac whole whole_is =
     let u = n * 10 ^ p / 2 ^ frac in
     let back : u / 10 ^ p ≡ n / 2 ^ frac = quotient_again n (2 ^ frac) (10 ^ p) (ten_some p) in
     let told : value_after 0 (whole ++ fraction_digits n frac) ≡ u =
-    value_after-append 0 whole (fraction_digits n frac) ∙ ap (λ (x : ℕ). value_after x (fraction_digits n frac)) whole_is
+    value_after-append 0 whole (fraction_digits n frac)
+    ∙ ap (λ (x : ℕ). value_after x (fraction_digits n frac)) whole_is
     ∙ value_last (n / 2 ^ frac) p u ∙ ap (λ (x : ℕ). x * 10 ^ p + u % 10 ^ p) (sym back) ∙ div-add-mod' u (10 ^ p) in
     ap (λ (x : ℕ). x * 2 ^ frac) told ∙ product_back (n * 10 ^ p) (2 ^ frac) (places_enough n frac)
     ∙ ap (λ (x : ℕ). n * 10 ^ x) (sym (length-last_digits p u))
@@ -86,18 +91,24 @@ digits_tell n frac whole whole_is =
 
 -- is_number by the parts of a text
 by_parts : List ℕ → Bool → List ℕ → List ℕ → Bool → Bool
-by_parts whole point behind rest negative = nat_lt 0 (length whole) && (if point then nat_lt 0 (length behind) else true)
+by_parts whole point behind rest negative =
+    nat_lt 0 (length whole) && (if point then nat_lt 0 (length behind) else true)
     && (if starts_with 113 rest then not negative && is_bits (drop 1 rest) else length rest == 0)
 
-is_number-parts : (text : List ℕ) → is_number text ≡ by_parts (whole_digits text) (has_point text) (behind_digits text) (after_behind text) (is_negative text)
+-- a text is a number by its parts
+is_number-parts : (text : List ℕ)
+    → is_number text ≡ by_parts (whole_digits text) (has_point text) (behind_digits text) (after_behind text)
+    (is_negative text)
 unfolding by_parts
 is_number-parts text = refl
 
 -- with nothing after them, and digits after a point, they are those of a number
-by_parts-good : (whole : List ℕ) (point : Bool) (behind : List ℕ) (negative : Bool) → 0 < length whole → (point ≡ true → 0 < length behind)
+by_parts-good : (whole : List ℕ) (point : Bool) (behind : List ℕ) (negative : Bool) → 0 < length whole
+    → (point ≡ true → 0 < length behind)
     → by_parts whole point behind [] negative ≡ true
 unfolding by_parts
-by_parts-good whole true behind negative some_whole some_behind = both (length whole) (length behind) some_whole (some_behind refl)
+by_parts-good whole true behind negative some_whole some_behind =
+    both (length whole) (length behind) some_whole (some_behind refl)
   where
     both : (m n : ℕ) → 0 < m → 0 < n → (nat_lt 0 m && nat_lt 0 n && true) ≡ true
     both m n h k = grind (arith, nat_tests)
@@ -124,7 +135,9 @@ has_digits-whole text whole body all some =
     let behind : behind_digits text ≡ [] = ap digits_behind back in
     let enough : 0 < length (whole_digits text) = omega (arith, ap length front) in
     record {
-      number = is_number-parts text ∙ ap (λ (x : List ℕ). by_parts (whole_digits text) (has_point text) (behind_digits text) x (is_negative text)) rest
+      number =
+          is_number-parts text
+          ∙ ap (λ (x : List ℕ). by_parts (whole_digits text) (has_point text) (behind_digits text) x (is_negative text)) rest
           ∙ by_parts-good (whole_digits text) (has_point text) (behind_digits text) (is_negative text) enough (λ e. absurd (false≢true (sym point ∙ e)));
       no_bits = ap (λ (x : List ℕ). starts_with 113 x) rest;
       whole_is = front;
@@ -138,12 +151,16 @@ has_digits-point text whole digits body all all_behind some some_behind =
     let front : whole_digits text ≡ whole = ap leading_digits body ∙ front_digits whole (46 ∷ digits) all refl in
     let back : after_whole text ≡ 46 ∷ digits = ap after_digits body ∙ back_digits whole (46 ∷ digits) all refl in
     let end : digits ≡ digits ++ [] = sym (append-nil digits) in
-    let rest : after_behind text ≡ [] = ap rest_behind back ∙ ap after_digits end ∙ back_digits digits [] all_behind refl in
-    let behind : behind_digits text ≡ digits = ap digits_behind back ∙ ap leading_digits end ∙ front_digits digits [] all_behind refl in
+    let rest : after_behind text ≡ [] =
+    ap rest_behind back ∙ ap after_digits end ∙ back_digits digits [] all_behind refl in
+    let behind : behind_digits text ≡ digits =
+    ap digits_behind back ∙ ap leading_digits end ∙ front_digits digits [] all_behind refl in
     let enough : 0 < length (whole_digits text) = omega (arith, ap length front) in
     let enough_behind : 0 < length (behind_digits text) = omega (arith, ap length behind) in
     record {
-      number = is_number-parts text ∙ ap (λ (x : List ℕ). by_parts (whole_digits text) (has_point text) (behind_digits text) x (is_negative text)) rest
+      number =
+          is_number-parts text
+          ∙ ap (λ (x : List ℕ). by_parts (whole_digits text) (has_point text) (behind_digits text) x (is_negative text)) rest
           ∙ by_parts-good (whole_digits text) (has_point text) (behind_digits text) (is_negative text) enough (λ e. enough_behind);
       no_bits = ap (λ (x : List ℕ). starts_with 113 x) rest;
       whole_is = front;
@@ -164,7 +181,8 @@ no_minus (d ∷ digits) rest all some = minus_is_none d (first_digit d digits al
 no_places : (n frac : ℕ) → n % 2 ^ frac ≡ 0 → places_of n frac ≡ 0
 no_places n frac none =
     let same : n * 1 ≡ n = omega arith in
-    first_from-here (ends_within n frac) 0 frac (test_true ((n * 1) % 2 ^ frac) (ap (λ (x : ℕ). x % 2 ^ frac) same ∙ none))
+    first_from-here (ends_within n frac) 0 frac
+    (test_true ((n * 1) % 2 ^ frac) (ap (λ (x : ℕ). x % 2 ^ frac) same ∙ none))
 
 -- and another has some
 pub some_places : (n frac : ℕ) → n % 2 ^ frac ≢ 0 → 0 < places_of n frac
@@ -198,7 +216,8 @@ has_digits-text text whole n frac body all some = by_rest (nat_eq (n % 2 ^ frac)
           length-last_digits (places_of n frac) (n * 10 ^ places_of n frac / 2 ^ frac),
           some_places n frac (more_by_test (n % 2 ^ frac) e),
         ) in
-        has_digits-point text whole (fraction_digits n frac) (body ∙ ap (λ (b : Bool). whole ++ (if b then [] else 46 ∷ fraction_digits n frac)) e)
+        has_digits-point text whole (fraction_digits n frac)
+        (body ∙ ap (λ (b : Bool). whole ++ (if b then [] else 46 ∷ fraction_digits n frac)) e)
         all (last-AreDigits (places_of n frac) (n * 10 ^ places_of n frac / 2 ^ frac)) some more
 
 -- a text with these parts and this sign tells the number
@@ -218,7 +237,8 @@ tells_by_parts m frac text whole parts numeral sign_is = record {
 -- the parts of the text, by its sign
 text_parts : (m : ℤ) (frac : ℕ) → unsigned_abs m < 2 ^ 128
     → HasDigits (decimal_text m frac) (decimal (unsigned_abs m / 2 ^ frac)) (fraction_digits (unsigned_abs m) frac)
-    × (is_negative (decimal_text m frac) ≡ int_lt m (pos 0)) × IsNumeral (unsigned_abs m / 2 ^ frac) (decimal (unsigned_abs m / 2 ^ frac))
+    × (is_negative (decimal_text m frac) ≡ int_lt m (pos 0)) × IsNumeral (unsigned_abs m / 2 ^ frac)
+    (decimal (unsigned_abs m / 2 ^ frac))
 unfolding decimal_text
 text_parts (pos n) frac fits =
     let numeral = numeral_decimal (n / 2 ^ frac) (omega (arith, div-le_self n (2 ^ frac))) in
@@ -247,7 +267,8 @@ pub places_fewest : (m : ℤ) (frac : ℕ) (other : List ℕ) → TellsExactly m
 places_fewest m frac other tells =
     let n = unsigned_abs m in
     let over : (n * 10 ^ length (behind_digits other)) % 2 ^ frac ≡ 0 =
-    ap (λ (x : ℕ). x % 2 ^ frac) (sym tells.value) ∙ nothing_over (value_of (whole_digits other ++ behind_digits other)) frac in
+    ap (λ (x : ℕ). x % 2 ^ frac) (sym tells.value)
+    ∙ nothing_over (value_of (whole_digits other ++ behind_digits other)) frac in
     omega (
       arith,
       first_from-least (ends_within n frac) 0 frac (length (behind_digits other)) (omega arith)

@@ -42,22 +42,25 @@ pub room_below : (v k room : ℕ) → (v + 1) * 10 ^ k ≤ room → v < room
 room_below v k room fits = omega (arith, mul-le (v + 1) 1 (v + 1) (10 ^ k) (omega arith) (ten_some k))
 
 -- digits after digits
-pub value_after-append : (n : ℕ) (front back : List ℕ) → value_after n (front ++ back) ≡ value_after (value_after n front) back
+pub value_after-append : (n : ℕ) (front back : List ℕ)
+    → value_after n (front ++ back) ≡ value_after (value_after n front) back
 unfolding value_after
 value_after-append n [] back = refl
 value_after-append n (digit ∷ front) back = value_after-append (n * 10 + (digit - 48)) front back
 
--- the second part of so many digits has room after the first
+-- after w digits there is room for b more, where they are at most 36 together
 pub room_behind : (v w b : ℕ) → v < (0 + 1) * 10 ^ w → w + b ≤ 36 → (v + 1) * 10 ^ b ≤ 10 ^ 36
 room_behind v w b below few =
     omega (arith, mul-le (v + 1) (10 ^ b) (10 ^ w) (10 ^ b) (omega arith) (omega arith), pow-add 10 w b, ten_power-le (w + b) 36 few)
 
 -- the number of at most 36 digits
 pub number_told-is : (negative : Bool) (whole behind : List ℕ) (bits : Option ℕ) → length whole + length behind ≤ 36
-    → number_told negative whole behind bits ≡ number_of negative (value_after (value_after 0 whole) behind) (length behind)
+    → number_told negative whole behind bits ≡ number_of negative (value_after (value_after 0 whole) behind)
+    (length behind)
     (frac_of bits (value_after (value_after 0 whole) behind) (length behind))
 number_told-is negative whole behind bits few =
-    let short : nat_lt 36 (length (whole ++ behind)) ≡ false = not_over (length (whole ++ behind)) (omega (arith, length-append whole behind)) in
+    let short : nat_lt 36 (length (whole ++ behind)) ≡ false =
+    not_over (length (whole ++ behind)) (omega (arith, length-append whole behind)) in
     ap (λ (b : Bool). if b then Err TooLong else number_of negative (value_after 0 (whole ++ behind)) (length behind) (frac_of bits (value_after 0 (whole ++ behind)) (length behind))) short
     ∙ ap (λ (u : ℕ). number_of negative u (length behind) (frac_of bits u (length behind))) (value_after-append 0 whole behind)
   where
@@ -68,7 +71,8 @@ number_told-is negative whole behind bits few =
 pub AllPass-leading : (text : List ℕ) → AllPass is_ascii_digit (leading_digits text)
 AllPass-leading text = λ k d below.
     let inside : k < prefix_len is_ascii_digit text = omega (arith, length-prefix_len is_ascii_digit text) in
-    ap is_ascii_digit (get_or-take (prefix_len is_ascii_digit text) text k d inside) ∙ prefix_len_passes is_ascii_digit text k d inside
+    ap is_ascii_digit (get_or-take (prefix_len is_ascii_digit text) text k d inside)
+    ∙ prefix_len_passes is_ascii_digit text k d inside
 
 -- and so are those after a point
 pub AllPass-behind : (text : List ℕ) → AllPass is_ascii_digit (digits_behind text)

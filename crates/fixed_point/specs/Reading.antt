@@ -132,7 +132,7 @@ abbrev pub steps_within : ℕ → ℕ → ℕ → Option ℕ
 steps_within units places frac =
     if nat_lt (steps_of units places frac) READ_LIMIT then Some (steps_of units places frac) else None
 
--- the number of so many steps, with its sign
+-- the number of `steps` steps, with its sign, where there is a number of steps
 abbrev pub signed_number : Bool → ℕ → Option ℕ → Result Num NumFault
 signed_number negative frac None = Err TooLong
 signed_number negative frac (Some steps) = Ok (record {

@@ -17,11 +17,13 @@ first_place name files = position_or_len (is_named name) files
 pub record KeepsName (change : FileState → FileState) : Type 0 where
   pub name : (file : FileState) → (change file).name ≡ file.name
 
+-- a change that keeps the name keeps whether a file has one
 named_change : (change : FileState → FileState)
     (keeps : KeepsName change) (name : List ℕ) (file : FileState) (b : Bool) →
     is_named name file ≡ b → is_named name (change file) ≡ b
 named_change change keeps name file b e = let k = keeps.name file in rw k e
 
+-- the first file of that name, by whether the file in front has it
 first_of-change_at : (change : FileState → FileState)
     (keeps : KeepsName change) (name : List ℕ) (file : FileState) (files : List FileState) (b : Bool) →
     is_named name file ≡ b →
@@ -39,6 +41,7 @@ first_of-change change keeps name [] = refl
 first_of-change change keeps name (file ∷ files) =
     first_of-change_at change keeps name file files (is_named name file) refl (first_of-change change keeps name files)
 
+-- a file of one name has no other
 not_other : (name other : List ℕ) (file : FileState) → other ≢ name → is_named name file ≡ true →
     is_named other file ≡ false
 not_other name other file ne e =
@@ -47,6 +50,7 @@ not_other name other file ne e =
       | false ↦ λ f. refl
     ] refl
 
+-- the first file of another name, by whether the file in front is changed
 first_of-other_at : (change : FileState → FileState)
     (keeps : KeepsName change) (name other : List ℕ) (file : FileState) (files : List FileState) (b : Bool) →
     other ≢ name → is_named name file ≡ b →
@@ -64,14 +68,17 @@ pub first_of-other : (change : FileState → FileState)
     first_of other (change_first change name files) ≡ first_of other files
 first_of-other change keeps name other [] ne = refl
 first_of-other change keeps name other (file ∷ files) ne =
-    first_of-other_at change keeps name other file files (is_named name file) ne refl (first_of-other change keeps name other files ne)
+    first_of-other_at change keeps name other file files (is_named name file) ne refl
+    (first_of-other change keeps name other files ne)
 
+-- the change as a write at a place, by whether the file in front is changed
 change_first-set_at : (change : FileState → FileState)
     (name : List ℕ) (file d : FileState) (files : List FileState) (b : Bool) →
     is_named name file ≡ b →
     (first_place name files < length files → change_first change name files ≡ set files (first_place name files) (change (get_or files (first_place name files) d))) →
     first_place name (file ∷ files) < length (file ∷ files) →
-    change_first change name (file ∷ files) ≡ set (file ∷ files) (first_place name (file ∷ files)) (change (get_or (file ∷ files) (first_place name (file ∷ files)) d))
+    change_first change name (file ∷ files) ≡ set (file ∷ files) (first_place name (file ∷ files))
+    (change (get_or (file ∷ files) (first_place name (file ∷ files)) d))
 change_first-set_at change name file d files true e rest lt = rw e refl
 change_first-set_at change name file d files false e rest lt =
     let k : ℕ = first_place name files in
@@ -84,7 +91,8 @@ change_first-set_at change name file d files false e rest lt =
 pub change_first-set : (change : FileState → FileState)
     (name : List ℕ) (d : FileState) (files : List FileState) →
     first_place name files < length files →
-    change_first change name files ≡ set files (first_place name files) (change (get_or files (first_place name files) d))
+    change_first change name files ≡ set files (first_place name files)
+    (change (get_or files (first_place name files) d))
 change_first-set change name d [] lt = absurd (omega arith)
 change_first-set change name d (file ∷ files) lt =
     change_first-set_at change name file d files (is_named name file) refl (change_first-set change name d files) lt
@@ -94,17 +102,21 @@ pub record IsFirst (name : List ℕ) (files : List FileState) (index : ℕ) (fil
   pub found : first_of name files ≡ Some file
   pub changed : (change : FileState → FileState) → change_first change name files ≡ set files index (change file)
 
+-- the file at the place of the first of that name is the first
 is_first_at : (name : List ℕ) (files : List FileState) (index : ℕ) (file : FileState) →
     index ≡ first_place name files → index < length files → file ≡ get_or files index file →
     IsFirst name files index file
 is_first_at name files index file at within is = record {
-  found = find_at (is_named name) files ∙ ap (slice_get files) (sym at) ∙ slice_get-get_or files index file within ∙ ap Some (sym is);
+  found =
+      find_at (is_named name) files ∙ ap (slice_get files) (sym at) ∙ slice_get-get_or files index file within
+      ∙ ap Some (sym is);
   changed = λ change.
       let here : first_place name files < length files = omega arith in
       let e = change_first-set change name file files here in
       let f = rw (← at, ← is) at e in f;
 }
 
+-- what a walk answers, by whether there is such a file
 position_cases : (name : List ℕ) (files : List FileState) (answer : Option ℕ) (b : Bool) →
     nat_lt (first_place name files) (length files) ≡ b → answer ≡ position (is_named name) files →
     MatchOption answer (first_of name files ≡ None) (λ index. (index ≡ first_place name files) × (index < length files))
@@ -126,6 +138,7 @@ pub none_at : (name : List ℕ) (files : List FileState) → None ≡ position (
 none_at name files at =
     position_cases name files None (nat_lt (first_place name files) (length files)) refl at
 
+-- a read keeps the name, whether it fails or not
 after_next-name : (room : ℕ) (file : FileState) (b : Bool) →
     (if b then after_failing file else after_giving room file).name ≡ file.name
 after_next-name room file true = refl
@@ -135,6 +148,7 @@ after_next-name room file false = refl
 pub next_keeps : (room : ℕ) → KeepsName (after_next room)
 next_keeps room = record { name = λ file. after_next-name room file (fails_next file) }
 
+-- and so does giving
 pub giving_keeps : (room : ℕ) → KeepsName (after_giving room)
 giving_keeps room = record { name = λ file. refl }
 
@@ -153,6 +167,7 @@ pub set-change_first : (change : FileState → FileState)
     set files index new ≡ change_first change name files
 set-change_first change name files index file new first is = rw is (sym (first.changed change))
 
+-- nothing is changed, by whether the file in front has the name
 change_none_at : (change : FileState → FileState)
     (name : List ℕ) (file : FileState) (files : List FileState) (b : Bool) →
     is_named name file ≡ b → (first_of name files ≡ None → change_first change name files ≡ files) →

@@ -10,12 +10,15 @@ use Rattle.flow_base.specs.Counts.{counted}
 use Rattle.flow_base.specs.MemoryFiles.{FileState, FilesState, first_of, bytes_left, left_of, faults_of, failed_reads, fails_next, after_failing, after_giving, after_next, read_count, after_read}
 use Rattle.flow_base.proofs.MemoryFilesLemmas.{first_of-change, first_of-other, next_keeps}
 
+-- a count never falls
 pub counted-later : (count : ℕ) → count ≤ counted count
 counted-later count = grind arith
 
+-- counted once more it rose
 pub counted-rose : (count : ℕ) → Rose count (counted count)
 counted-rose count = grind arith
 
+-- the bytes of other names stay, by whether there is such a file
 others_at : (room : ℕ) (name : List ℕ) (old : FilesState) (file : Option FileState) →
     OthersKept name (left_of old.files) (left_of (after_read room name old file).files)
 others_at room name old None = λ other ne. refl
@@ -28,31 +31,37 @@ pub others_kept : (room : ℕ) (name : List ℕ) (old new : FilesState) →
     OthersKept name (left_of old.files) (left_of new.files)
 others_kept room name old new is = rw is (others_at room name old (first_of name old.files))
 
+-- the count of a file never falls, whether the read fails or not
 failed-later : (room : ℕ) (file : FileState) (b : Bool) →
     file.failed ≤ (if b then after_failing file else after_giving room file).failed
 failed-later room file true = counted-later file.failed
 failed-later room file false = omega arith
 
+-- with more names missed no count is less
 missed-later : (missed more : ℕ) (file : Option FileState) → missed ≤ more →
     failed_reads missed file ≤ failed_reads more file
 missed-later missed more None le = le
 missed-later missed more (Some file) le = omega arith
 
+-- the count of a name never falls over a read of it
 next-later : (missed room : ℕ) (file : Option FileState) →
     failed_reads missed file ≤ failed_reads missed (option_map (after_next room) file)
 next-later missed room None = omega arith
 next-later missed room (Some file) = failed-later room file (fails_next file)
 
+-- nor does that of another name
 counts_other : (room : ℕ) (name other : List ℕ) (old : FilesState) (file : FileState) (b : Bool) →
     bytes_eq other name ≡ b →
     faults_of old other ≤ faults_of (after_read room name old (Some file)) other
 counts_other room name other old file true e =
     let same : other ≡ name = (bytes_eq-Decides other name).0 e in
-    rw (same, first_of-change (after_next room) (next_keeps room) name old.files) (next-later old.missed room (first_of name old.files))
+    rw (same, first_of-change (after_next room) (next_keeps room) name old.files)
+    (next-later old.missed room (first_of name old.files))
 counts_other room name other old file false e =
     let ne : other ≢ name = λ same. cc ((bytes_eq-Decides other name).1 same) in
     rw (first_of-other (after_next room) (next_keeps room) name other old.files ne) (omega arith)
 
+-- nor of any name, by whether there is such a file
 counts_at : (room : ℕ) (name : List ℕ) (old : FilesState) (file : Option FileState) →
     NoneFalls (faults_of old) (faults_of (after_read room name old file))
 counts_at room name old None =
@@ -66,10 +75,12 @@ pub none_falls : (room : ℕ) (name : List ℕ) (old new : FilesState) →
     NoneFalls (faults_of old) (faults_of new)
 none_falls room name old new is = rw is (counts_at room name old (first_of name old.files))
 
+-- a read that gives bytes leaves the count
 given-failed : (room : ℕ) (file : FileState) → fails_next file ≡ false →
     (after_next room file).failed ≡ file.failed
 given-failed room file e = rw e refl
 
+-- so the counts of all names stay
 stays_other : (room : ℕ) (name other : List ℕ) (old : FilesState) (file : FileState) (b : Bool) →
     bytes_eq other name ≡ b → first_of name old.files ≡ Some file → fails_next file ≡ false →
     faults_of (after_read room name old (Some file)) other ≡ faults_of old other
@@ -86,6 +97,7 @@ count_good : (room count : ℕ) (file : FileState) (b : Bool) → fails_next fil
 count_good room count file true e is = let f : Some count ≡ None = rw e at is in absurd (cc)
 count_good room count file false e is = e
 
+-- and so by whether there is such a file
 stays_at : (room count : ℕ) (name : List ℕ) (old : FilesState) (file : Option FileState) →
     first_of name old.files ≡ file → Some count ≡ read_count room file →
     AllStay (faults_of old) (faults_of (after_read room name old file))
@@ -102,11 +114,13 @@ all_stay room name old new (Ok count) is answer =
     rw is (stays_at room count name old (first_of name old.files) refl answer)
 all_stay room name old new (Err e) is answer = tt
 
+-- a read that gives none is counted
 fails_bad : (room : ℕ) (file : FileState) (b : Bool) → fails_next file ≡ b →
     None ≡ read_count room (Some file) → (after_next room file).failed ≡ counted file.failed
 fails_bad room file true e is = rw e refl
 fails_bad room file false e is = let f = rw e at is in absurd (cc)
 
+-- a failed read is counted, by whether there is such a file
 rose_at : (room : ℕ) (name : List ℕ) (old : FilesState) (file : Option FileState) →
     first_of name old.files ≡ file → None ≡ read_count room file →
     Rose (faults_of old name) (faults_of (after_read room name old file) name)

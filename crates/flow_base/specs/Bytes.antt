@@ -21,7 +21,7 @@ pub record AppendsProperFront (old new : Option (List ℕ)) (piece : List ℕ) :
   pub proper : count < length piece
   pub bytes : new ≡ append_known old (take count piece)
 
--- at most so many bytes of those that were left were taken
+-- at most `most` bytes of those that were left were taken
 pub record TakesAtMost (most : ℕ) (old new : Option (List ℕ)) : Type 0 where
   pub taken : List ℕ
   pub few : length taken ≤ most

@@ -61,7 +61,7 @@ faults_of inputs name = failed_reads inputs.missed (first_of name inputs.files)
 abbrev pub fails_next : FileState → Bool
 fails_next file = is_listed file.fail (counted file.reads)
 
--- how many bytes the next read gives into so much room, where it doesn't fail
+-- how many bytes the next read gives into that room, where it doesn't fail
 abbrev pub next_count : ℕ → FileState → ℕ
 next_count room file = min (min room file.piece) (length file.bytes - file.given)
 

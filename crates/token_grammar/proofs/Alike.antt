@@ -1,4 +1,5 @@
--- Two grammars that spell and read the same: what holds of one holds of the other.
+-- Two equivalent grammars, which spell and read the same: FIRST, nullable and the reading laws of one are those of
+-- the other.
 use Rattle.std.proofs.Common.{◌≡◌, Bool, List, ◌++◌, inl, inr, sym, ◌∙◌}
 use Rattle.token_grammar.specs.declared.fault.Fault.{Fault}
 use Rattle.token_grammar.specs.Token.{Lexeme}
@@ -11,6 +12,7 @@ pub record Alike {X : Type 0} (g h : Grammar X) : Type 0 where
   pub spelled : (u : List Lexeme) (x : X) → g.spells u x → h.spells u x
   pub back : (u : List Lexeme) (x : X) → h.spells u x → g.spells u x
 
+-- what one takes, the other takes
 pub takes_alike : {X : Type 0} {g h : Grammar X} → Alike g h → (s : List Lexeme) (x : X) (r : List Lexeme)
     → Takes h s x r → Takes g s x r
 takes_alike a s x r t = record {
@@ -20,9 +22,11 @@ takes_alike a s x r t = record {
   same = λ r' hd. a.read (t.used ++ r') ∙ t.same r' hd;
 }
 
+-- what continues in one continues in the other
 pub continues_alike : {X : Type 0} {g h : Grammar X} (u : List Lexeme) → Alike g h → Continues h u → Continues g u
 continues_alike u a c = record { rest = c.rest; value = c.value; spelled = a.back (u ++ c.rest) c.value c.spelled }
 
+-- where one stops, the other stops
 stops_alike : {X : Type 0} {g h : Grammar X} → Alike g h → (f : Fault) (s r : List Lexeme) → Stops h f s r
     → Stops g f s r
 stops_alike a f s r t = record {

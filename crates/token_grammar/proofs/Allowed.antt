@@ -1,4 +1,4 @@
--- Limits: a first token that a test refuses, and what is never spelled.
+-- Limits: a first token that a test refuses, and what is never spelled. A limit leaves FIRST as it is.
 use Rattle.std.proofs.Common.{◌≡◌, true, false, cond, List, [], ◌∷◌, ◌++◌, Err, Option, Some, None, ◌⊎◌, inl, inr, refl, sym, ap, ◌∙◌}
 use Rattle.std.proofs.lemmas.Bool.{cases_Bool}
 use Rattle.token_grammar.specs.declared.fault.Fault.{Fault}
@@ -9,6 +9,7 @@ use Rattle.token_grammar.proofs.Good.{Set, nothing, SameHead, Begins, Takes, Sto
 
 -- ---- what the test says of the first token
 
+-- the test looks at no token after the first
 refused_same : (set : Set) (test : Lexeme → Option Fault) (r r' : List Lexeme) → SameHead r r'
     → first_refused set test r ≡ first_refused set test r'
 refused_same set test [] [] h = refl
@@ -28,17 +29,20 @@ pub refused_always : (set : Set) (said : Option Fault) (s : List Lexeme)
 refused_always set said [] = refl
 refused_always set said (t ∷ s) = refl
 
+-- a test has no fault, or one
 pub said_cases : (said : Option Fault) → (said ≡ None) ⊎ ((f : Fault) × (said ≡ Some f))
 said_cases None = inl refl
 said_cases (Some f) = inr (f, refl)
 
 -- ---- allowed
 
+-- what begins with a token that passes continues as it does without the limit
 pub allowed_begun : {X : Type 0} {g : Grammar X} (set : Set) (test : Lexeme → Option Fault) (t : Lexeme)
     (u : List Lexeme)
     → first_refused set test (t ∷ []) ≡ None → Continues g (t ∷ u) → Continues (allowed set test g) (t ∷ u)
 allowed_begun set test t u passes c = record { rest = c.rest; value = c.value; spelled = (passes, c.spelled) }
 
+-- and so does what stands before a fault
 allowed_continues : {X : Type 0} {g : Grammar X} (set : Set) (test : Lexeme → Option Fault) (used r : List Lexeme)
     → first_refused set test (used ++ r) ≡ None → Continues g used ⊎ (used ≡ [])
     → Continues (allowed set test g) used ⊎ (used ≡ [])
@@ -53,6 +57,7 @@ used_pass : (set : Set) (test : Lexeme → Option Fault) (used r : List Lexeme)
 used_pass set test [] r passes = refl
 used_pass set test (t ∷ u) r passes = passes
 
+-- within the limit, what is read is taken
 pub takes_allowed : {X : Type 0} {g : Grammar X} (set : Set) (test : Lexeme → Option Fault) (s : List Lexeme) (x : X)
     (r : List Lexeme)
     → first_refused set test s ≡ None → Takes g s x r → Takes (allowed set test g) s x r
@@ -64,6 +69,7 @@ takes_allowed set test s x r passes t = record {
       λ r' hd. rw (sym (refused_same set test s (t.used ++ r') (carried s t.used r r' t.parts hd)) ∙ passes) (t.same r' hd);
 }
 
+-- within the limit, reading stops as it does without it
 stops_allowed : {X : Type 0} {g : Grammar X} (set : Set) (test : Lexeme → Option Fault) (f : Fault) (s r : List Lexeme)
     → first_refused set test s ≡ None → Stops g f s r → Stops (allowed set test g) f s r
 stops_allowed set test f s r passes t = record {
@@ -74,12 +80,14 @@ stops_allowed set test f s r passes t = record {
       λ r' hd. rw (sym (refused_same set test s (t.used ++ r') (carried s t.used r r' t.parts hd)) ∙ passes) (t.same r' hd);
 }
 
+-- a token that the test refuses stops the reading
 stops_refused : {X : Type 0} {g : Grammar X} (set : Set) (test : Lexeme → Option Fault) (d : Fault) (s : List Lexeme)
     → first_refused set test s ≡ Some d
     → (r : List Lexeme) (f : Fault) → (allowed set test g).reads s ≡ Err (f, r) → Stops (allowed set test g) f s r
 stops_refused {X} {g} set test d s full r f e =
     stops_at_hand (allowed set test g) d s (λ r' h. rw (sym (refused_same set test s r' h) ∙ full) refl) r f e
 
+-- the laws under a limit
 pub good_allowed : {X : Type 0} {g : Grammar X} {f m : Set} (set : Set) (test : Lexeme → Option Fault)
     → Good g f false m
     → Good (allowed set test g) f false m
@@ -109,6 +117,7 @@ passes_all set test passes (t ∷ u) =
       | inr away ↦ rw away refl
     ]
 
+-- a spelling whose first token passes
 pub sample_allowed : {X : Type 0} {g : Grammar X} (set : Set) (test : Lexeme → Option Fault)
     → ((t : Lexeme) → set t.kind ≡ true → test t ≡ None)
     → Sample g → Sample (allowed set test g)
@@ -116,6 +125,7 @@ sample_allowed set test passes z = record { tokens = z.tokens; value = z.value; 
 
 -- ---- forbidden
 
+-- the laws of what is never spelled
 pub good_forbidden : {X : Type 0} (set : Set) (fault : Fault) → Good (forbidden {X = X} set fault) set false nothing
 unfolding forbidden
 good_forbidden {X} set fault = record {

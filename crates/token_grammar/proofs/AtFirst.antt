@@ -1,4 +1,4 @@
--- Grammars that are told the place of their first token.
+-- Grammars that are told the place of their first token: FIRST, and how they are read, whatever the place.
 use Rattle.std.proofs.Common.{◌≡◌, Bool, true, false, List, [], ◌∷◌, ◌++◌, Ok, Err, ◌⊎◌, inl, inr, refl, sym, ap, subst, ◌∙◌}
 use Rattle.token_grammar.specs.declared.token.Kind.{Kind}
 use Rattle.token_grammar.specs.declared.token.Span.{Span}
@@ -12,6 +12,7 @@ use Rattle.token_grammar.proofs.Starts.{Starts, sample_starts}
 
 -- ---- the place of the first token
 
+-- lists that begin with the same token have one first place
 place_same : (r r' : List Lexeme) → SameHead r r' → first_place r ≡ first_place r'
 place_same [] [] h = refl
 place_same [] (t ∷ s) h = absurd h
@@ -25,6 +26,7 @@ place_front f (t ∷ u) r h = refl
 
 -- ---- how it continues
 
+-- what continues at the place of its first token continues
 begun_at_first : {X : Type 0} (g : Span → Grammar X) (t : Lexeme) (u : List Lexeme) → Continues (g t.at) (t ∷ u)
     → Continues (at_first g) (t ∷ u)
 begun_at_first g t u c = record { rest = c.rest; value = c.value; spelled = c.spelled }
@@ -46,6 +48,7 @@ with_at_first {X} g p (x ∷ used) t q e c =
 
 -- ---- how it reads
 
+-- what is read at the place of the first token is taken
 takes_at_first : {X : Type 0} {g : Span → Grammar X} {f m : Set} → ((p : Span) → Good (g p) f false m)
     → (s : List Lexeme) (x : X) (r : List Lexeme) → Takes (g (first_place s)) s x r → Takes (at_first g) s x r
 takes_at_first {X} {g} {f} a s x r t =
@@ -61,6 +64,7 @@ takes_at_first {X} {g} {f} a s x r t =
           (place_same s (t.used ++ r') (carried s t.used r r' t.parts hd)) (t.same r' hd);
     }
 
+-- reading stops as it does at that place
 stops_at_first : {X : Type 0} (g : Span → Grammar X) (f : Fault) (s r : List Lexeme) → Stops (g (first_place s)) f s r
     → Stops (at_first g) f s r
 stops_at_first {X} g f s r t = record {
@@ -72,6 +76,7 @@ stops_at_first {X} g f s r t = record {
       (place_same s (t.used ++ r') (carried s t.used r r' t.parts hd)) (t.same r' hd);
 }
 
+-- and goes past a lifted fault as it does there
 past_at_first : {X : Type 0} (g : Span → Grammar X) (s r : List Lexeme) → GoesPast (g (first_place s)) s r
     → GoesPast (at_first g) s r
 past_at_first {X} g s r p =
@@ -87,6 +92,7 @@ past_at_first {X} g s r p =
 
 -- ---- the laws
 
+-- the laws, where they hold at every place
 pub good_at_first : {X : Type 0} {g : Span → Grammar X} {f m : Set} → ((p : Span) → Good (g p) f false m)
     → Good (at_first g) f false m
 good_at_first {X} {g} {f} a = record {
@@ -98,6 +104,7 @@ good_at_first {X} {g} {f} a = record {
   stops = λ s r d e. stops_at_first g d s r ((a (first_place s)).stops s r d e);
 }
 
+-- FIRST, where it is the same at every place
 pub starts_at_first : {X : Type 0} {set : Set} {g : Span → Grammar X} → ((p : Span) → Starts set (g p))
     → Starts set (at_first g)
 starts_at_first {X} {set} {g} a = record { each = λ t there. begun_at_first g t [] ((a t.at).each t there) }
@@ -108,6 +115,7 @@ pub fine_at_first : {X : Type 0} {g : Span → Grammar X} {f m : Set} (set : Set
     → ((p : Span) → Good (g p) f false m) → Fine (at_first g) f false m
 fine_at_first set k there starts a = record { good = good_at_first a; sample = sample_starts k there (starts_at_first starts) }
 
+-- limits that are lifted at every place are lifted
 pub lifted_at_first : {X : Type 0} {lifts : Fault → Bool} {g g' : Span → Grammar X} {f m : Set}
     → ((p : Span) → Good (g' p) f false m)
     → ((p : Span) → Lifted lifts (g p) (g' p)) → Lifted lifts (at_first g) (at_first g')
@@ -117,6 +125,7 @@ lifted_at_first {X} {lifts} {g} {g'} a b = record {
   passes = λ s r d e lift. past_at_first g' s r ((b (first_place s)).passes s r d e lift);
 }
 
+-- and some value has a spelling
 pub eased_at_first : {X : Type 0} {lifts : Fault → Bool} {g g' : Span → Grammar X} {f m : Set} (set : Set) (k : Kind)
     → set k ≡ true
     → ((p : Span) → Starts set (g' p)) → ((p : Span) → Good (g' p) f false m) → ((p : Span) → Lifted lifts (g p) (g' p))

@@ -1,4 +1,4 @@
--- Reading at most so many, as a loop does that counts what it found.
+-- The reading of at most `limit` items, as a loop does that counts what it found.
 use Rattle.std.proofs.Common.{◌≡◌, true, false, ℕ, ◌+◌, ◌-◌, ◌<◌, suc, List, [], ◌∷◌, ◌++◌, Ok, ap, ◌∙◌, subst, inl, inr, arith}
 use Rattle.std.proofs.lemmas.Bool.{cases_lt}
 use Rattle.token_grammar.specs.declared.fault.ReadError.{ReadError}
@@ -8,6 +8,7 @@ use Rattle.token_grammar.proofs.Good.{Set}
 use Rattle.token_grammar.proofs.Loop.{begins_with_none, up_to_goes_on, up_to_fails, up_to_ends, up_to_full}
 
 module _ {S X : Type 0} (set : Set) (g : S → Grammar X) (next : S → X → S) (limit count : ℕ) where
+  -- before the first turn all is to be read
   pub counted_begins : (st : S) (front : List X) (s : List Lexeme) → front ≡ [] → count ≡ 0
       → after front ((up_to_from set g next (limit - count) st).reads s) ≡ (up_to_from set g next limit st).reads s
   counted_begins st front s none zero =
@@ -15,6 +16,7 @@ module _ {S X : Type 0} (set : Set) (g : S → Grammar X) (next : S → X → S)
       rw none (begins_with_none ((up_to_from set g next (limit - count) st).reads s))
       ∙ ap (λ (n : ℕ). (up_to_from set g next n st).reads s) left
 
+  -- one more item was read, for which there was room
   pub counted_goes_on : (st : S) (front : List X) (s : List Lexeme) (x : X) (r : List Lexeme) (total : Outcome (List X))
       → count < limit → heads set s ≡ true → (g st).reads s ≡ Ok (x, r)
       → after front ((up_to_from set g next (limit - count) st).reads s) ≡ total
@@ -24,6 +26,7 @@ module _ {S X : Type 0} (set : Set) (g : S → Grammar X) (next : S → X → S)
       up_to_goes_on set g next (limit - (count + 1)) st front s x r total here one
       (subst (λ (n : ℕ). after front ((up_to_from set g next n st).reads s) ≡ total) left so_far)
 
+  -- reading an item failed
   pub counted_fails : (st : S) (err : ReadError) (front : List X) (s r : List Lexeme) (total : Outcome (List X))
       → count < limit → heads set s ≡ true → Fails err r ((g st).reads s)
       → after front ((up_to_from set g next (limit - count) st).reads s) ≡ total
@@ -33,6 +36,7 @@ module _ {S X : Type 0} (set : Set) (g : S → Grammar X) (next : S → X → S)
       up_to_fails set g next (limit - (count + 1)) st err front s r total here one
       (subst (λ (n : ℕ). after front ((up_to_from set g next n st).reads s) ≡ total) left so_far)
 
+  -- the limit is reached, or no more items stand there
   pub counted_ends : (st : S) (front : List X) (s : List Lexeme) (total : Outcome (List X))
       → (count < limit → heads set s ≡ false)
       → after front ((up_to_from set g next (limit - count) st).reads s) ≡ total → total ≡ Ok (front, s)

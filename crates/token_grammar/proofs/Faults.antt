@@ -1,4 +1,5 @@
--- The first token that doesn't continue.
+-- The reading of what is no spelling: it stops at the first token that doesn't continue, so that what was read is a
+-- correct prefix.
 use Rattle.std.proofs.Common.{◌≡◌, Bool, List, [], ◌∷◌, ◌++◌, Ok, Err, refl, sym, subst, ◌∙◌, append_assoc, inl, inr}
 use Rattle.std.proofs.lemmas.List.{append-nil}
 use Rattle.token_grammar.specs.declared.fault.Fault.{Fault}

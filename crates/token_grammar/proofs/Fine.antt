@@ -1,4 +1,5 @@
--- Grammars put together: what holds of the parts holds of the whole. The conditions on sets are computed.
+-- Grammars put together: nullable, FIRST and the reading of the whole, by those of the parts. The LL(1) conditions
+-- are computed.
 use Rattle.std.proofs.Common.{◌≡◌, ℕ, Bool, true, false, [], Option, Some, None, refl, inr, ◌&&◌, ◌||◌}
 use Rattle.token_grammar.specs.declared.token.Kind.{Kind}
 use Rattle.token_grammar.specs.declared.fault.Fault.{Fault}
@@ -13,13 +14,14 @@ use Rattle.token_grammar.proofs.Many.{many_good, sample_many}
 use Rattle.token_grammar.proofs.UpTo.{up_to_good, sample_up_to}
 use Rattle.token_grammar.proofs.Sets.{disjoint, subset, apart, within}
 
--- reads as it spells, and has a spelling; it begins with a token of first, or is empty; a token of more may go on with it
-pub record Fine {X : Type 0} (g : Grammar X) (first : Set) (empty : Bool) (more : Set) : Type 0 where
-  pub good : Good g first empty more
+-- g is LL(1) with these sets, and some value has a spelling
+pub record Fine {X : Type 0} (g : Grammar X) (first : Set) (nullable : Bool) (followlast : Set) : Type 0 where
+  pub good : Good g first nullable followlast
   pub sample : Sample g
 
 -- ---- one token, and none
 
+-- one token: FIRST is its kind
 pub fine_token : (k : Kind) → Fine (token k) (λ j. kind_eq j k) false nothing
 fine_token k = record { good = good_token k; sample = sample_token k }
 
@@ -27,6 +29,7 @@ fine_token k = record { good = good_token k; sample = sample_token k }
 pub fine_one_of : (set : Set) (k : Kind) → set k ≡ true → Fine (one_of set) set false nothing
 fine_one_of set k there = record { good = good_one_of set; sample = sample_one_of set k there }
 
+-- no token: nullable, and FIRST is empty
 pub fine_give : {X : Type 0} (x : X) → Fine (give x) nothing true nothing
 fine_give x = record { good = good_give x; sample = sample_give x }
 
@@ -96,8 +99,9 @@ pub fine_allowed : {X : Type 0} {g : Grammar X} {f m : Set} (set : Set) (test : 
     → Fine g f false m → ((t : Lexeme) → set t.kind ≡ true → test t ≡ None) → Fine (allowed set test g) f false m
 fine_allowed set test a passes = record { good = good_allowed set test a.good; sample = sample_allowed set test passes a.sample }
 
--- ---- any number, and at most so many
+-- ---- any number, and at most n
 
+-- any number: nullable, and FIRST is that of the item
 pub fine_many : {X : Type 0} {g : Grammar X} {f m : Set} (set : Set) → Good g f false m → subset f set ≡ true
     → disjoint f m ≡ true
     → Fine (many set g) f true (also set true m)
@@ -123,6 +127,7 @@ fine_many_from {S} {X} {g} {f} {m} set next every s a p q e = record {
   sample = sample_from set g next s;
 }
 
+-- at most n: the same
 pub fine_up_to : {S X : Type 0} {g : S → Grammar X} {f m : Set} (set : Set) (next : S → X → S) (n : ℕ) (s : S)
     → ((z : S) → Good (g z) f false m) → subset f set ≡ true → disjoint f m ≡ true
     → Fine (up_to_from set g next n s) f true (also set true m)
@@ -133,10 +138,12 @@ fine_up_to {S} {X} {g} {f} {m} set next n s a p q = record {
 
 -- ---- the same with plainer sets
 
+-- the laws with greater sets
 pub good_as : {X : Type 0} {g : Grammar X} {f m : Set} {n : Bool} (f' m' : Set) → Good g f n m → subset f f' ≡ true
     → subset m m' ≡ true → Good g f' n m'
 good_as {X} {g} {f} {m} f' m' a p q = good_wider (within f f' p) (within m m' q) a
 
+-- and some value has a spelling
 pub fine_as : {X : Type 0} {g : Grammar X} {f m : Set} {n : Bool} (f' m' : Set) → Fine g f n m → subset f f' ≡ true
     → subset m m' ≡ true → Fine g f' n m'
 fine_as f' m' a p q = record { good = good_as f' m' a.good p q; sample = a.sample }

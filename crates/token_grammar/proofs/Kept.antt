@@ -1,4 +1,4 @@
--- What holds of each token of a spelling holds of what it spells.
+-- What holds of each token of a spelling holds of what it spells. Nothing here is about reading.
 use Rattle.std.proofs.Common.{◌≡◌, ℕ, zero, suc, ◌≤◌, true, false, List, [], ◌∷◌, ◌++◌, length, Option, Some, None, ⊎_elim, arith}
 use Rattle.std.specs.List.{AllByRecursion}
 use Rattle.token_grammar.specs.declared.token.Kind.{Kind}
@@ -12,10 +12,12 @@ use Rattle.token_grammar.proofs.Sets.{subset, within}
 pub record Kept {X : Type 0} (P : Lexeme → Type 0) (g : Grammar X) (Q : X → Type 0) : Type 0 where
   pub kept : (u : List Lexeme) (x : X) → g.spells u x → AllByRecursion P u → Q x
 
+-- what holds of all tokens holds of those in front
 all_front : (P : Lexeme → Type 0) (p q : List Lexeme) → AllByRecursion P (p ++ q) → AllByRecursion P p
 all_front P [] q all = tt
 all_front P (t ∷ p) q all = (all.0, all_front P p q all.1)
 
+-- and of those after them
 all_back : (P : Lexeme → Type 0) (p q : List Lexeme) → AllByRecursion P (p ++ q) → AllByRecursion P q
 all_back P [] q all = all
 all_back P (t ∷ p) q all = all_back P p q all.1
@@ -25,10 +27,12 @@ pub kept_token : (P : Lexeme → Type 0) (k : Kind) → Kept P (token k) (λ t. 
 unfolding token
 kept_token P k = record { kept = λ u t w all. let one = rw w.0 at all in (one.0, w.1) }
 
+-- a token that is read is of the set
 pub kept_one_of : (P : Lexeme → Type 0) (set : Set) → Kept P (one_of set) (λ t. P t × (set t.kind ≡ true))
 unfolding one_of
 kept_one_of P set = record { kept = λ u t w all. let one = rw w.0 at all in (one.0, w.1) }
 
+-- a value that is given without a token
 pub kept_give : {X : Type 0} (P : Lexeme → Type 0) (Q : X → Type 0) (x : X) → Q x → Kept P (give x) Q
 kept_give P Q x q = record { kept = λ u y w all. rw w.1 q }
 
@@ -46,6 +50,7 @@ pub kept_either : {X : Type 0} {P : Lexeme → Type 0} {g h : Grammar X} {Q : X 
     → Kept P h Q → Kept P (either set g h) Q
 kept_either set a b = record { kept = λ u x w all. ⊎_elim (λ l. a.kept u x l all) (λ r. b.kept u x r all) w }
 
+-- one or none
 pub kept_optional : {X : Type 0} {P : Lexeme → Type 0} {g : Grammar X} (Q : Option X → Type 0) (set : Set)
     → Kept P g (λ x. Q (Some x)) → Q None
     → Kept P (optional set g) Q
@@ -81,6 +86,7 @@ kept_allowed_one_of P set test = record {
       (one.0, w.1.1, rw w.1.1 at passes);
 }
 
+-- and so it is for one kind
 pub kept_allowed_token : (P : Lexeme → Type 0) (k : Kind) (test : Lexeme → Option Fault)
     → Kept P (allowed (is k) test (token k)) (λ t. P t × (kind_eq t.kind k ≡ true) × (test t ≡ None))
 unfolding token
@@ -117,6 +123,7 @@ kept_many_from {S} {X} {P} {g} {Q} set next R s a none one = record { kept = eac
         one z x xs ((a z).kept w.p x w.first (all_front P w.p w.q both))
         (each (next z x) w.q xs w.second (all_back P w.p w.q both))
 
+-- any number of the same
 pub kept_many : {X : Type 0} {P : Lexeme → Type 0} {g : Grammar X} {Q : X → Type 0} (set : Set) → Kept P g Q
     → Kept P (many set g) (AllByRecursion Q)
 unfolding many
@@ -128,6 +135,7 @@ kept_many {X} {P} {g} {Q} set a = record { kept = each }
         let both : AllByRecursion P (w.p ++ w.q) = rw w.parts at all in
         (a.kept w.p x w.first (all_front P w.p w.q both), each w.q xs w.second (all_back P w.p w.q both))
 
+-- by how many there may be still
 up_to_kept : {S X : Type 0} (P : Lexeme → Type 0) (g : S → Grammar X) (next : S → X → S) (Q : X → Type 0)
     → ((s : S) → Kept P (g s) Q)
     → (n : ℕ) (s : S) (u : List Lexeme) (xs : List X) → up_to_spells (λ z. (g z).spells) next n s u xs
@@ -140,7 +148,7 @@ up_to_kept P g next Q a (suc n) s u (x ∷ xs) w all =
     let rest = up_to_kept P g next Q a n (next s x) w.q xs w.second (all_back P w.p w.q both) in
     (((a s).kept w.p x w.first (all_front P w.p w.q both), rest.0), omega (arith, rest.1))
 
--- at most so many
+-- at most n, and no more are spelled
 pub kept_up_to : {S X : Type 0} {P : Lexeme → Type 0} {g : S → Grammar X} {Q : X → Type 0} (set : Set)
     (next : S → X → S) (n : ℕ) (s : S)
     → ((z : S) → Kept P (g z) Q) → Kept P (up_to_from set g next n s) (λ xs. AllByRecursion Q xs × (length xs ≤ n))

@@ -1,4 +1,4 @@
--- One token, one of a set, and nothing.
+-- One token, one of a set, and nothing: their FIRST, nullable and the reading.
 use Rattle.std.proofs.Common.{◌≡◌, true, false, List, [], ◌∷◌, Ok, Err, refl, sym, ap, inl, inr, eq-eqb}
 use Rattle.std.proofs.lemmas.Bool.{cases_Bool}
 use Rattle.token_grammar.specs.declared.token.Kind.{Kind}
@@ -13,14 +13,17 @@ use Rattle.token_grammar.proofs.Alike.{Alike, good_alike}
 abbrev pub plain : Kind → Lexeme
 plain k = record { kind = k; text = []; at = record { line = 0; column = 0 } }
 
-kind_eq-refl : (k : Kind) → kind_eq k k ≡ true
+-- a kind is equal to itself
+pub kind_eq-refl : (k : Kind) → kind_eq k k ≡ true
 kind_eq-refl k = eq-eqb _ _ refl
 
 -- ---- one of a set
 
+-- the first token, read
 abbrev one : Lexeme → List Lexeme → Outcome Lexeme
 one t r = Ok (t, r)
 
+-- a token of the set is taken
 one_of_takes : (set : Set) (s : List Lexeme) (x : Lexeme) (r : List Lexeme) → one_of_at set s ≡ Ok (x, r)
     → Takes (one_of set) s x r
 unfolding one_of
@@ -38,6 +41,7 @@ one_of_takes set (t ∷ s) x r e =
       | inr other ↦ absurd (let f = rw other at e in cc)
     ]
 
+-- any other stops the reading
 one_of_stops : (set : Set) (s r : List Lexeme) (f : Fault) → one_of_at set s ≡ Err (f, r) → Stops (one_of set) f s r
 unfolding one_of
 one_of_stops set [] r f e = stops_at_hand (one_of set) faults.Expected [] (λ r' h. rw (same_nil r' h) refl) r f e
@@ -48,6 +52,7 @@ one_of_stops set (t ∷ s) r f e =
           stops_at_hand (one_of set) faults.Expected (t ∷ s) (λ r' h. let p = same_cons t s r' h in rw (p.1, other) refl) r f e
     ]
 
+-- the laws of one token of a set: FIRST is the set
 pub good_one_of : (set : Set) → Good (one_of set) set false nothing
 unfolding one_of
 good_one_of set = record {
@@ -57,12 +62,14 @@ good_one_of set = record {
   stops = one_of_stops set;
 }
 
+-- a token of the set is a spelling
 pub sample_one_of : (set : Set) (k : Kind) → set k ≡ true → Sample (one_of set)
 unfolding one_of
 sample_one_of set k there = record { tokens = plain k ∷ []; value = plain k; spelled = (refl, there) }
 
 -- ---- one of a kind
 
+-- a kind is a set of one
 token_alike : (k : Kind) → Alike (token k) (one_of (is k))
 unfolding token one_of
 token_alike k = record { read = λ s. read_alike s; spelled = λ u x w. w; back = λ u x w. w }
@@ -71,15 +78,18 @@ token_alike k = record { read = λ s. read_alike s; spelled = λ u x w. w; back 
     read_alike [] = refl
     read_alike (t ∷ s) = refl
 
+-- the laws of one token of a kind
 pub good_token : (k : Kind) → Good (token k) (λ j. kind_eq j k) false nothing
 good_token k = good_alike (token_alike k) (good_one_of (is k))
 
+-- a token of the kind is a spelling
 pub sample_token : (k : Kind) → Sample (token k)
 unfolding token
 sample_token k = record { tokens = plain k ∷ []; value = plain k; spelled = (refl, kind_eq-refl k) }
 
 -- ---- nothing
 
+-- the laws of nothing: it is nullable, and FIRST is empty
 pub good_give : {X : Type 0} (x : X) → Good (give x) nothing true nothing
 good_give x = record {
   begins = λ u y h. rw h.0 refl;
@@ -90,5 +100,6 @@ good_give x = record {
   stops = λ s r f e. absurd cc;
 }
 
+-- no token is a spelling
 pub sample_give : {X : Type 0} (x : X) → Sample (give x)
 sample_give x = record { tokens = []; value = x; spelled = (refl, refl) }

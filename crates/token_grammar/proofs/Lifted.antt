@@ -1,4 +1,4 @@
--- A grammar compared with one in which the limits of some faults are lifted.
+-- The reading of a grammar compared with that of one in which the limits of some faults are lifted.
 use Rattle.std.proofs.Common.{◌≡◌, Bool, true, false, List, [], ◌∷◌, ◌++◌, Ok, Err, Some, None, refl, sym, ap, subst, ◌∙◌, append_assoc, inl, inr}
 use Rattle.std.proofs.lemmas.Bool.{cases_Bool}
 use Rattle.token_grammar.specs.declared.token.Kind.{Kind}
@@ -36,10 +36,12 @@ pub record Eased {X : Type 0} (lifts : Fault → Bool) (g g' : Grammar X) : Type
 
 -- ---- tools
 
+-- what was taken is what reading gives
 pub read_again : {X : Type 0} {g : Grammar X} {s : List Lexeme} {x : X} {r : List Lexeme} → Takes g s x r
     → g.reads s ≡ Ok (x, r)
 read_again {X} {g} {s} {x} {r} t = rw t.parts (t.same r (same-refl r))
 
+-- what g reads, g' reads
 pub still_reads : {X : Type 0} {lifts : Fault → Bool} {g g' : Grammar X} → Lifted lifts g g'
     → (s : List Lexeme) (x : X) (r : List Lexeme)
     → g.reads s ≡ Ok (x, r) → g'.reads s ≡ Ok (x, r)
@@ -71,6 +73,7 @@ past_behind {X} {Y} {g} {h} s used q r parts more p = record {
       subst (Continues h) (sym (append_assoc used p.used (p.first ∷ []))) (more (p.used ++ p.first ∷ []) p.continues);
 }
 
+-- of equivalent grammars
 pub lifted_alike : {X : Type 0} {lifts : Fault → Bool} {g g' h h' : Grammar X} → Alike g h → Alike g' h'
     → Lifted lifts h h' → Lifted lifts g g'
 lifted_alike a a' b = record {
@@ -90,6 +93,7 @@ lifted_same a kept = record {
 
 -- ---- one token, and none
 
+-- one of a set has no fault but Expected
 one_of_expects : (set : Set) (s r : List Lexeme) (d : Fault) → (one_of set).reads s ≡ Err (d, r) → faults.Expected ≡ d
 unfolding one_of
 one_of_expects set [] r d e = (stopped_is {X = Lexeme} faults.Expected d [] r e).fault
@@ -99,27 +103,33 @@ one_of_expects set (t ∷ s) r d e =
       | inr away ↦ (stopped_is {X = Lexeme} faults.Expected d (t ∷ s) r (rw away at e)).fault
     ]
 
+-- nor has one of a kind
 token_expects : (k : Kind) (s r : List Lexeme) (d : Fault) → (token k).reads s ≡ Err (d, r) → faults.Expected ≡ d
 unfolding token one_of
 token_expects k [] r d e = one_of_expects (is k) [] r d e
 token_expects k (t ∷ s) r d e = one_of_expects (is k) (t ∷ s) r d e
 
+-- one of a set has no limit
 pub lifted_one_of : {lifts : Fault → Bool} → lifts faults.Expected ≡ false → (set : Set)
     → Lifted lifts (one_of set) (one_of set)
 lifted_one_of {lifts} kept set =
     lifted_same (good_one_of set) (λ s r d e. ap lifts (sym (one_of_expects set s r d e)) ∙ kept)
 
+-- and has a spelling
 pub eased_one_of : {lifts : Fault → Bool} → lifts faults.Expected ≡ false → (set : Set) (k : Kind) → set k ≡ true
     → Eased lifts (one_of set) (one_of set)
 eased_one_of kept set k there = record { lifted = lifted_one_of kept set; sample = sample_one_of set k there }
 
+-- one of a kind has no limit
 pub lifted_token : {lifts : Fault → Bool} → lifts faults.Expected ≡ false → (k : Kind)
     → Lifted lifts (token k) (token k)
 lifted_token {lifts} kept k = lifted_same (good_token k) (λ s r d e. ap lifts (sym (token_expects k s r d e)) ∙ kept)
 
+-- and has a spelling
 pub eased_token : {lifts : Fault → Bool} → lifts faults.Expected ≡ false → (k : Kind) → Eased lifts (token k) (token k)
 eased_token kept k = record { lifted = lifted_token kept k; sample = sample_token k }
 
+-- nothing has no limit, and has a spelling
 pub eased_give : {X : Type 0} {lifts : Fault → Bool} (x : X) → Eased lifts (give x) (give x)
 eased_give x = record { lifted = lifted_same (good_give x) (λ s r d e. absurd cc); sample = sample_give x }
 
@@ -147,6 +157,7 @@ lifted_then {X} {Y} {lifts} {g} {g'} {h} {h'} a b = record {
       ];
 }
 
+-- where both have a spelling
 pub eased_then : {X Y : Type 0} {lifts : Fault → Bool} {g g' : Grammar X} {h h' : X → Grammar Y}
     → Eased lifts g g' → ((x : X) → Eased lifts (h x) (h' x)) → Eased lifts (g >>= h) (g' >>= h')
 eased_then a b = record { lifted = lifted_then a.lifted b; sample = sample_then a.sample (λ x. (b x).sample) }
@@ -174,6 +185,7 @@ lifted_either {X} {lifts} {g} {g'} {h} {h'} set a b = record {
       ];
 }
 
+-- where the second has a spelling
 pub eased_either : {X : Type 0} {lifts : Fault → Bool} {g g' h h' : Grammar X} (set : Set)
     → Lifted lifts g g' → Eased lifts h h' → Eased lifts (either set g h) (either set g' h')
 eased_either set a b = record {
@@ -181,6 +193,7 @@ eased_either set a b = record {
   sample = record { tokens = b.sample.tokens; value = b.sample.value; spelled = inr b.sample.spelled };
 }
 
+-- one or none
 pub eased_optional : {X : Type 0} {lifts : Fault → Bool} {g g' : Grammar X} (set : Set) → Lifted lifts g g'
     → Eased lifts (optional set g) (optional set g')
 eased_optional set a = eased_either set (lifted_then a (λ x. eased_give (Some x))) (eased_give None)

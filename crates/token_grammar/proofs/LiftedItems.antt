@@ -1,4 +1,5 @@
--- Any number of items, compared: the sets, and what an item leaves for the next, are the same on both sides.
+-- The reading of any number of items, compared: the sets, and what an item leaves for the next, are the same on both
+-- sides.
 use Rattle.std.proofs.Common.{◌≡◌, ℕ, zero, suc, ◌<◌, Bool, true, false, List, length, Ok, Err, refl, sym, ◌∙◌, inl, inr, arith}
 use Rattle.std.proofs.lemmas.Bool.{cases_Bool}
 use Rattle.token_grammar.specs.declared.fault.Fault.{Fault}
@@ -16,6 +17,7 @@ module _ {S X : Type 0} {lifts : Fault → Bool} {g g' : S → Grammar X} {f f' 
     (next : S → X → S)
     (good : (z : S) → Good (g z) (f z) false m) (good' : (z : S) → Good (g' z) (f' z) false m')
     (a : (z : S) → Lifted lifts (g z) (g' z)) where
+  -- the items that the left side reads, the right side reads
   reads_too : (n : ℕ) (s : S) (t : List Lexeme) (xs : List X) (r : List Lexeme) → length t < n
       → (many_from set g next s).reads t ≡ Ok (xs, r)
       → (many_from set g' next s).reads t ≡ Ok (xs, r)
@@ -31,6 +33,7 @@ module _ {S X : Type 0} {lifts : Fault → Bool} {g g' : S → Grammar X} {f f' 
         | inr none ↦ from_none set g' next f' m' good' s t none ∙ sym (from_none set g next f m good s t none) ∙ e
       ]
 
+  -- where the left side stops by a fault that isn't lifted, the right side stops
   stays_too : (n : ℕ) (s : S) (t r : List Lexeme) (d : Fault) → length t < n
       → (many_from set g next s).reads t ≡ Err (d, r) → lifts d ≡ false
       → (many_from set g' next s).reads t ≡ Err (d, r)
@@ -52,6 +55,7 @@ module _ {S X : Type 0} {lifts : Fault → Bool} {g g' : S → Grammar X} {f f' 
         | inr none ↦ absurd (let bad = sym (from_none set g next f m good s t none) ∙ e in cc)
       ]
 
+  -- where it stops by one that is, the right side goes on
   passes_too : (n : ℕ) (s : S) (t r : List Lexeme) (d : Fault) → length t < n
       → (many_from set g next s).reads t ≡ Err (d, r) → lifts d ≡ true
       → GoesPast (many_from set g' next s) t r
@@ -75,6 +79,7 @@ module _ {S X : Type 0} {lifts : Fault → Bool} {g g' : S → Grammar X} {f f' 
         | inr none ↦ absurd (let bad = sym (from_none set g next f m good s t none) ∙ e in cc)
       ]
 
+  -- any number of items
   pub eased_many_from : (s : S) → Eased lifts (many_from set g next s) (many_from set g' next s)
   eased_many_from s = record {
     lifted = record {
@@ -97,7 +102,7 @@ eased_many {X} {lifts} {g} {g'} set good good' a = record {
   sample = sample_many set g';
 }
 
--- at most so many
+-- at most n
 pub eased_up_to : {S X : Type 0} {lifts : Fault → Bool} {g g' : S → Grammar X} {f f' m m' : Set}
     → lifts faults.Expected ≡ false
     → (set : Set) (next : S → X → S) → ((z : S) → Good (g z) f false m) → ((z : S) → Good (g' z) f' false m')

@@ -1,4 +1,4 @@
--- Limits compared: what is refused on the left may pass on the right.
+-- The reading under a limit, compared: what is refused on the left may pass on the right.
 use Rattle.std.proofs.Common.{◌≡◌, Bool, true, false, cond, List, [], ◌∷◌, ◌++◌, Ok, Err, Option, Some, None, refl, sym, ap, subst, ◌∙◌, inl, inr}
 use Rattle.std.proofs.lemmas.Bool.{cases_Bool}
 use Rattle.token_grammar.specs.declared.fault.Fault.{Fault}
@@ -16,6 +16,7 @@ use Rattle.token_grammar.proofs.Starts.{Starts, Expects}
 abbrev pub Milder : Set → (Fault → Bool) → (Lexeme → Option Fault) → (Lexeme → Option Fault) → Type 0
 Milder set lifts test test' = (t : Lexeme) → set t.kind ≡ true → test' t ≡ unless_lifted lifts (test t)
 
+-- where none is lifted, the test says what it says
 pub unless_none : (said : Option Fault) → unless_lifted none_lifted said ≡ said
 unless_none None = refl
 unless_none (Some f) = refl
@@ -25,6 +26,7 @@ pub milder_test : (set : Set) (lifts : Fault → Bool) (test : Lexeme → Option
     → Milder set lifts (λ t. unless_lifted none_lifted (test t)) (λ t. unless_lifted lifts (test t))
 milder_test set lifts test t there = ap (unless_lifted lifts) (sym (unless_none (test t)))
 
+-- the same of the first token of a list
 milder_first : (set : Set) (lifts : Fault → Bool) (test test' : Lexeme → Option Fault) → Milder set lifts test test'
     → (s : List Lexeme)
     → first_refused set test' s ≡ unless_lifted lifts (first_refused set test s)
@@ -53,6 +55,7 @@ past_at_hand s t q e c = record { used = []; parts = refl; first = t; others = q
 
 -- ---- allowed
 
+-- what continues after a first token that passes continues under the limit
 allowed_on : {X : Type 0} {g : Grammar X} (set : Set) (test : Lexeme → Option Fault) (used : List Lexeme) (t : Lexeme)
     (q : List Lexeme)
     → first_refused set test (used ++ t ∷ q) ≡ None → Continues g (used ++ t ∷ [])
@@ -60,6 +63,7 @@ allowed_on : {X : Type 0} {g : Grammar X} (set : Set) (test : Lexeme → Option 
 allowed_on set test [] t q passes c = allowed_begun set test t [] passes c
 allowed_on set test (x ∷ used) t q passes c = allowed_begun set test x (used ++ t ∷ []) passes c
 
+-- what goes past a fault goes past it under the limit
 past_allowed : {X : Type 0} {g : Grammar X} (set : Set) (test : Lexeme → Option Fault) (s r : List Lexeme)
     → first_refused set test s ≡ None
     → GoesPast g s r → GoesPast (allowed set test g) s r
@@ -91,6 +95,7 @@ module _ {X : Type 0} {lifts : Fault → Bool} {g g' : Grammar X} (set : Set) (t
       → first_refused set test' s ≡ None
   lifted_too s d full lift = milder_first set lifts test test' milder s ∙ ap (unless_lifted lifts) full ∙ rw lift refl
 
+  -- what is read on the left is read on the right
   takes_too : (s : List Lexeme) (x : X) (r : List Lexeme) → (allowed set test g).reads s ≡ Ok (x, r)
       → Takes (allowed set test' g') s x r
   takes_too s x r e =
@@ -99,6 +104,7 @@ module _ {X : Type 0} {lifts : Fault → Bool} {g g' : Grammar X} (set : Set) (t
         | inr full ↦ absurd (let bad = rw full.1 at e in cc)
       ]
 
+  -- a fault that isn't lifted stays
   stays_too : (s r : List Lexeme) (f : Fault) → (allowed set test g).reads s ≡ Err (f, r) → lifts f ≡ false
       → (allowed set test' g').reads s ≡ Err (f, r)
   stays_too s r f e kept =

@@ -1,4 +1,4 @@
--- What is refused at its first token, compared with what isn't.
+-- The reading of what is refused at its first token, compared with what isn't.
 use Rattle.std.proofs.Common.{◌≡◌, Bool, List, Some, refl, sym, ◌∙◌, inl, inr}
 use Rattle.std.proofs.lemmas.Bool.{cases_Bool}
 use Rattle.token_grammar.specs.declared.fault.Fault.{Fault}

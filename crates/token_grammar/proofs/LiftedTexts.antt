@@ -1,4 +1,4 @@
--- A whole text under limits, and with some of them lifted.
+-- The reading of a whole text under limits, and with some of them lifted.
 use Rattle.std.proofs.Common.{◌≡◌, Bool, true, false, List, [], ◌∷◌, ◌++◌, Ok, Err, refl, sym, ap, subst, ◌∙◌, inl, inr}
 use Rattle.std.proofs.lemmas.List.{append-nil, append_cancel_right}
 use Rattle.token_grammar.specs.declared.fault.Fault.{Fault}
@@ -55,6 +55,7 @@ past_at {X} {g} s before t q parts p =
     head_is : (a b : Lexeme) (q q' : List Lexeme) → a ∷ q ≡ b ∷ q' → a ≡ b
     head_is a b q q' h = cc
 
+-- a text that a lifted fault stops continues with the token at which it stops
 pub whole_lifted : {X : Type 0} {lifts : Fault → Bool} {g g' : Grammar X} → Lifted lifts g g'
     → lifts faults.Expected ≡ false
     → (s before : List Lexeme) (t : Lexeme) (q : List Lexeme) (d : Fault) → s ≡ before ++ t ∷ q
@@ -78,6 +79,7 @@ whole_stays {X} {lifts} {g} a s r d e kept =
       | inr k ↦ rw (still_reads a s k.0 k.1 k.2) k.3
     ]
 
+-- and there the token is the first that doesn't continue
 pub whole_kept : {X : Type 0} {lifts : Fault → Bool} {g g' : Grammar X} {f m : Set} {n : Bool} → Lifted lifts g g'
     → Fine g' f n m
     → (s r : List Lexeme) (d : Fault) → whole_reads g s ≡ Err (d, r) → lifts d ≡ false → FirstFault g' s r

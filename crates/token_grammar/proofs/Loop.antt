@@ -1,4 +1,4 @@
--- Reading any number, as a loop does.
+-- The reading of any number of items, as a loop does: what a turn of it leaves to be read.
 use Rattle.std.proofs.Common.{◌≡◌, true, false, ℕ, zero, suc, List, [], ◌∷◌, ◌++◌, length, Ok, Err, refl, sym, ap, ◌∙◌, append_assoc, ◌<◌}
 use Rattle.std.proofs.lemmas.List.{append-nil, length-map}
 use Rattle.token_grammar.specs.declared.fault.Fault.{Fault}
@@ -12,17 +12,20 @@ use Rattle.token_grammar.proofs.State.{consed, from_none, from_one}
 use Rattle.token_grammar.proofs.Many.{many_alike}
 use Rattle.token_grammar.proofs.UpTo.{none_read, one_read, full_read}
 
+-- before the first turn nothing is read
 pub begins_with_none : {X : Type 0} (read : Outcome (List X)) → after [] read ≡ read
 begins_with_none (Ok x) = refl
 begins_with_none (Err e) = refl
 
 -- ---- one turn of the loop, whatever is read
 
+-- an item goes from what is read to what was read
 regroup : {X : Type 0} (front : List X) (x : X) (read : Outcome (List X))
     → after front (consed x read) ≡ after (front ++ x ∷ []) read
 regroup front x (Ok y) = ap (λ (ys : List _). Ok (ys, y.1)) (sym (append_assoc front (x ∷ []) y.0))
 regroup front x (Err e) = refl
 
+-- the whole stays the same over a turn
 turned : {X : Type 0} (front : List X) (x : X) (read rest total : Outcome (List X)) → read ≡ consed x rest
     → after front read ≡ total
     → after (front ++ x ∷ []) rest ≡ total
@@ -78,6 +81,7 @@ from_ends set g next {f} {m} a st front s total none so_far =
 
 -- ---- any number of the same
 
+-- one more item was read
 pub goes_on : {X : Type 0} (set : Set) (g : Grammar X) {f m : Set} → Good g f false m
     → (front : List X) (s : List Lexeme) (x : X) (r : List Lexeme) (total : Outcome (List X))
     → heads set s ≡ true → g.reads s ≡ Ok (x, r) → after front ((many set g).reads s) ≡ total
@@ -87,6 +91,7 @@ goes_on set g a front s x r total here one so_far =
     ∙ from_goes_on (λ z. set) (λ z. g) (λ z x. z) (λ z. a) 0 front s x r total here one
     (ap (after front) (sym ((many_alike set g).read s)) ∙ so_far)
 
+-- reading an item failed
 pub fails : {X : Type 0} (set : Set) (g : Grammar X) {f m : Set} → Good g f false m
     → (err : ReadError) (front : List X) (s r : List Lexeme) (total : Outcome (List X))
     → heads set s ≡ true → Fails err r (g.reads s) → after front ((many set g).reads s) ≡ total → Fails err r total
@@ -94,6 +99,7 @@ fails set g a err front s r total here one so_far =
     from_fails (λ z. set) (λ z. g) (λ z x. z) (λ z. a) err 0 front s r total here one
     (ap (after front) (sym ((many_alike set g).read s)) ∙ so_far)
 
+-- no more items stand there
 pub ends : {X : Type 0} (set : Set) (g : Grammar X) {f m : Set} → Good g f false m
     → (front : List X) (s : List Lexeme) (total : Outcome (List X))
     → heads set s ≡ false → after front ((many set g).reads s) ≡ total → total ≡ Ok (front, s)
@@ -101,8 +107,9 @@ ends set g a front s total none so_far =
     from_ends (λ z. set) (λ z. g) (λ z x. z) (λ z. a) 0 front s total none
     (ap (after front) (sym ((many_alike set g).read s)) ∙ so_far)
 
--- ---- at most so many
+-- ---- at most n
 
+-- one more item was read, and one fewer may come
 pub up_to_goes_on : {S X : Type 0} (set : Set) (g : S → Grammar X) (next : S → X → S) (n : ℕ) (st : S)
     (front : List X) (s : List Lexeme) (x : X) (r : List Lexeme) (total : Outcome (List X))
     → heads set s ≡ true → (g st).reads s ≡ Ok (x, r) → after front ((up_to_from set g next (suc n) st).reads s) ≡ total
@@ -110,6 +117,7 @@ pub up_to_goes_on : {S X : Type 0} (set : Set) (g : S → Grammar X) (next : S �
 up_to_goes_on set g next n st front s x r total here one so_far =
     turned front x _ _ total (one_read set g next n st s here ∙ rw one refl) so_far
 
+-- reading an item failed
 pub up_to_fails : {S X : Type 0} (set : Set) (g : S → Grammar X) (next : S → X → S) (n : ℕ) (st : S)
     (err : ReadError) (front : List X) (s r : List Lexeme) (total : Outcome (List X))
     → heads set s ≡ true → Fails err r ((g st).reads s)
@@ -118,12 +126,14 @@ up_to_fails set g next n st errors.Memory front s r total here one so_far = tt
 up_to_fails set g next n st (errors.Fault d) front s r total here one so_far =
     failed front d r _ total (one_read set g next n st s here ∙ rw one refl) so_far
 
+-- no more items stand there
 pub up_to_ends : {S X : Type 0} (set : Set) (g : S → Grammar X) (next : S → X → S) (n : ℕ) (st : S)
     (front : List X) (s : List Lexeme) (total : Outcome (List X))
     → heads set s ≡ false → after front ((up_to_from set g next n st).reads s) ≡ total → total ≡ Ok (front, s)
 up_to_ends set g next n st front s total none so_far =
     finished front s _ total (none_read set g next n st s none) so_far
 
+-- no more items may come
 pub up_to_full : {S X : Type 0} (set : Set) (g : S → Grammar X) (next : S → X → S) (st : S) (front : List X)
     (s : List Lexeme) (total : Outcome (List X))
     → after front ((up_to_from set g next zero st).reads s) ≡ total → total ≡ Ok (front, s)

@@ -1,4 +1,4 @@
--- Which tokens a grammar begins with: each token of a set continues, and any other is Expected.
+-- FIRST, from both sides: each token of the set begins a spelling, and any other is Expected.
 use Rattle.std.proofs.Common.{◌≡◌, Bool, true, false, List, [], ◌∷◌, Err, Option, Some, None, refl, inl, inr, ◌||◌}
 use Rattle.std.proofs.lemmas.Bool.{cases_Bool}
 use Rattle.token_grammar.specs.declared.token.Kind.{Kind}
@@ -27,18 +27,22 @@ sample_starts k there a =
     let c = a.each (plain k) there in
     record { tokens = plain k ∷ c.rest; value = c.value; spelled = c.spelled }
 
+-- each token of the set is a spelling of one of it
 pub starts_one_of : (set : Set) → Starts set (one_of set)
 unfolding one_of
 starts_one_of set = record { each = λ t there. record { rest = []; value = t; spelled = (refl, there) } }
 
+-- a token of the kind is a spelling of one
 pub starts_token : (k : Kind) → Starts (is k) (token k)
 unfolding token
 starts_token k = record { each = λ t there. record { rest = []; value = t; spelled = (refl, there) } }
 
+-- what begins the first part begins the whole
 pub starts_then : {X Y : Type 0} {set : Set} {g : Grammar X} {h : X → Grammar Y} → Starts set g
     → ((x : X) → Sample (h x)) → Starts set (g >>= h)
 starts_then a samples = record { each = λ t there. then_begun (t ∷ []) (a.each t there) samples }
 
+-- by which of two holds
 or_cases : {A : Type 0} (a b : Bool) → (a || b) ≡ true → (a ≡ true → A) → (b ≡ true → A) → A
 or_cases true b h f g = f refl
 or_cases false b h f g = g h
@@ -57,9 +61,11 @@ starts_also {X} {Y} {f1} {f2} {g} {h} x none a b samples = record {
 pub starts_left : {X : Type 0} {f : Set} {g h : Grammar X} (set : Set) → Starts f g → Starts f (either set g h)
 starts_left set a = record { each = λ t there. either_left set (t ∷ []) (a.each t there) }
 
+-- what begins the item begins one or none
 pub starts_optional : {X : Type 0} {f : Set} {g : Grammar X} (set : Set) → Starts f g → Starts f (optional set g)
 starts_optional set a = starts_left set (starts_then a (λ x. sample_give (Some x)))
 
+-- what begins either begins the whole
 pub starts_either : {X : Type 0} {f1 f2 : Set} {g h : Grammar X} (set : Set) → Starts f1 g → Starts f2 h
     → Starts (also f1 true f2) (either set g h)
 starts_either {X} {f1} {f2} set a b = record {
@@ -77,6 +83,7 @@ starts_allowed set test a passes = record {
 
 -- ---- what is expected
 
+-- one of a set expects the set
 pub expects_one_of : (set : Set) → Expects set (one_of set)
 unfolding one_of
 expects_one_of set = record { other = λ s. other s }
@@ -85,6 +92,7 @@ expects_one_of set = record { other = λ s. other s }
     other [] h = refl
     other (t ∷ s) h = rw h refl
 
+-- one of a kind expects the kind
 pub expects_token : (k : Kind) → Expects (is k) (token k)
 unfolding token
 expects_token k = record { other = λ s. other s }
@@ -93,10 +101,12 @@ expects_token k = record { other = λ s. other s }
     other [] h = refl
     other (t ∷ s) h = rw h refl
 
+-- the whole expects what the first part does
 pub expects_then : {X Y : Type 0} {set : Set} {g : Grammar X} (h : X → Grammar Y) → Expects set g
     → Expects set (g >>= h)
 expects_then h a = record { other = λ s away. rw (a.other s away) refl }
 
+-- one or the other expects what either does
 pub expects_either : {X : Type 0} {f1 f2 : Set} {g h : Grammar X} (set : Set) → Expects f1 g → Expects f2 h
     → Expects (also f1 true f2) (either set g h)
 expects_either {X} {f1} {f2} set a b = record {
@@ -113,6 +123,7 @@ pub not_refused : (set : Set) (test : Lexeme → Option Fault) (s : List Lexeme)
 not_refused set test [] away = refl
 not_refused set test (t ∷ s) away = rw away refl
 
+-- under a limit the same is expected
 pub expects_allowed : {X : Type 0} {g : Grammar X} (set : Set) (test : Lexeme → Option Fault) → Expects set g
     → Expects set (allowed set test g)
 expects_allowed set test a = record { other = λ s away. rw (not_refused set test s away) (a.other s away) }

@@ -1,4 +1,4 @@
--- Any number of items, where what may come next depends on what came.
+-- Any number of items, where what may come next depends on what came: FIRST, FOLLOW and the reading.
 use Rattle.std.proofs.Common.{◌≡◌, ℕ, zero, suc, ◌≤◌, ◌<◌, true, false, cond, List, [], ◌∷◌, ◌++◌, length, Ok, Err, refl, sym, ap, subst, ◌∙◌, append_assoc, inl, inr, arith}
 use Rattle.std.proofs.lemmas.List.{append-nil}
 use Rattle.std.proofs.lemmas.Bool.{cases_Bool}
@@ -11,6 +11,7 @@ use Rattle.token_grammar.proofs.Good.{Set, Good, Sample, Takes, Stops, Begins, C
 abbrev pub consed : {X : Type 0} → X → Outcome (List X) → Outcome (List X)
 consed x read = and_then read (λ xs q. Ok (x ∷ xs, q))
 
+-- what begins with an item begins so, whatever follows it
 pub front_begins : (f : Set) (p q : List Lexeme) → Begins f false p → Begins f true (p ++ q)
 front_begins f [] q h = absurd cc
 front_begins f (t ∷ p) q h = h
@@ -23,6 +24,7 @@ next_clear f m set q r b apart clear = begins_clear f m true q r b apart (λ e. 
 -- ---- how it continues
 
 module _ {S X : Type 0} (set : S → Set) (g : S → Grammar X) (next : S → X → S) where
+  -- no item is a spelling
   pub sample_from : (s : S) → Sample (many_from set g next s)
   unfolding many_from
   sample_from s = record { tokens = []; value = []; spelled = refl }
@@ -58,6 +60,7 @@ module _ {S X : Type 0} (set : S → Set) (g : S → Grammar X) (next : S → X 
   on_shorter s t j k same (Ok y) e = ap (consed y.0) (same y.0 y.1 (took (good s) t y.0 y.1 e))
   on_shorter s t j k same (Err d) e = refl
 
+  -- a bound of the number of items that is at least the number of tokens changes nothing
   more_fuel : (n k : ℕ) (s : S) (t : List Lexeme) → length t ≤ n → length t ≤ k
       → many_from_reads set (λ z. (g z).reads) next n s t ≡ many_from_reads set (λ z. (g z).reads) next k s t
   unfolding many_from_reads
@@ -81,14 +84,17 @@ module _ {S X : Type 0} (set : S → Set) (g : S → Grammar X) (next : S → X 
       ap (λ (o : Outcome (List _)). cond (set s x.kind) o (Ok ([], x ∷ t)))
       (on_shorter s (x ∷ t) _ _ (λ y r lt. more_fuel (length t) (length r) (next s y) r (omega arith) (omega arith)) ((g s).reads (x ∷ t)) refl)
 
+  -- by a token of no item, none is read
   pub from_none : (s : S) (t : List Lexeme) → heads (set s) t ≡ false → (many_from set g next s).reads t ≡ Ok ([], t)
   from_none s t h = rw (from-unroll s t, h) refl
 
+  -- by another, one is read, and then the others
   pub from_one : (s : S) (t : List Lexeme) → heads (set s) t ≡ true
       → (many_from set g next s).reads t ≡ and_then ((g s).reads t)
       (λ x r. consed x ((many_from set g next (next s x)).reads r))
   from_one s t h = rw (from-unroll s t, h) refl
 
+  -- no item takes no token
   takes_none : (s : S) (t : List Lexeme) → heads (set s) t ≡ false → Takes (many_from set g next s) t [] t
   unfolding many_from
   takes_none s t none = record {
@@ -98,6 +104,7 @@ module _ {S X : Type 0} (set : S → Set) (g : S → Grammar X) (next : S → X 
     same = λ r' hd. from_none s r' (sym (heads-same (set s) t r' hd) ∙ none);
   }
 
+  -- an item and the others take their tokens together
   takes_one : (s : S) (t : List Lexeme) (x : X) (q : List Lexeme) (xs : List X) (r : List Lexeme)
       → heads (set s) t ≡ true
       → Takes (g s) t x q → Takes (many_from set g next (next s x)) q xs r → Takes (many_from set g next s) t (x ∷ xs) r
@@ -116,6 +123,7 @@ module _ {S X : Type 0} (set : S → Set) (g : S → Grammar X) (next : S → X 
             ∙ rw (one, t2.same r' hd) refl;
       }
 
+  -- what is read is spelled
   pub from_takes : (n : ℕ) (s : S) (t : List Lexeme) (xs : List X) (r : List Lexeme) → length t < n
       → (many_from set g next s).reads t ≡ Ok (xs, r)
       → Takes (many_from set g next s) t xs r
@@ -136,6 +144,7 @@ module _ {S X : Type 0} (set : S → Set) (g : S → Grammar X) (next : S → X 
             (subst (λ q. Takes (many_from set g next s) t [] q) d.rest (takes_none s t none))
       ]
 
+  -- where the item stops, the whole stops
   stops_here : (s : S) (d : Fault) (t r : List Lexeme) → heads (set s) t ≡ true → Stops (g s) d t r
       → Stops (many_from set g next s) d t r
   stops_here s d t r here st = record {
@@ -147,6 +156,7 @@ module _ {S X : Type 0} (set : S → Set) (g : S → Grammar X) (next : S → X 
         ∙ rw (st.same r' hd) refl;
   }
 
+  -- or where the others stop
   stops_later : (s : S) (d : Fault) (t : List Lexeme) (x : X) (q r : List Lexeme) → heads (set s) t ≡ true
       → Takes (g s) t x q → Stops (many_from set g next (next s x)) d q r → Stops (many_from set g next s) d t r
   stops_later s d t x q r here t1 t2 =
@@ -164,6 +174,7 @@ module _ {S X : Type 0} (set : S → Set) (g : S → Grammar X) (next : S → X 
             ∙ rw (one, t2.same r' hd) refl;
       }
 
+  -- what stands before a fault continues
   from_stops : (n : ℕ) (s : S) (t r : List Lexeme) (d : Fault) → length t < n
       → (many_from set g next s).reads t ≡ Err (d, r)
       → Stops (many_from set g next s) d t r
@@ -197,6 +208,7 @@ pub record Items {S X : Type 0} (set : S → Set) (g : S → Grammar X) (f : S �
 
 module _ {S X : Type 0} (set : S → Set) (g : S → Grammar X) (next : S → X → S) (f : S → Set) (m first every : Set)
     (a : Items set g f m first every) where
+  -- FIRST of the whole is that of the item, in each state
   from_begins : (s : S) (u : List Lexeme) (xs : List X) → many_from_spells (λ z. (g z).spells) next s u xs
       → Begins first true u
   from_begins s u [] w = rw w refl
@@ -204,6 +216,7 @@ module _ {S X : Type 0} (set : S → Set) (g : S → Grammar X) (next : S → X 
       rw w.parts
       (front_begins first w.p w.q (begins_wider (f s) first false w.p (a.heading s) ((a.good s).begins w.p x w.first)))
 
+  -- what is spelled is read, where no token follows that begins an item
   from_again : (s : S) (u : List Lexeme) (xs : List X) (r : List Lexeme)
       → many_from_spells (λ z. (g z).spells) next s u xs
       → Clear (also every true m) r → (many_from set g next s).reads (u ++ r) ≡ Ok (xs, r)
@@ -219,6 +232,7 @@ module _ {S X : Type 0} (set : S → Set) (g : S → Grammar X) (next : S → X 
       ((a.good s).again w.p x (w.q ++ r) w.first (next_clear first m every w.q r b a.apart clear)) in
       from_one set g next f m a.good s (u ++ r) here ∙ rw (one, from_again (next s x) w.q xs r w.second clear) refl
 
+  -- the laws of any number of items
   pub from_good : (s : S) → Good (many_from set g next s) first true (also every true m)
   unfolding many_from
   from_good s = record {

@@ -1,5 +1,5 @@
--- The first of the tokens that are left.
-use Rattle.std.proofs.Common.{◌≡◌, suc, ◌<◌, ◌-◌, ◌≤◌, Bool, true, false, List, [], ◌∷◌, length, get_or, take, drop, Ok, Err, refl, sym, subst, ◌∙◌, Some, inl, inr, eq-eqb, ap, arith}
+-- The reading of one token, by the first of the tokens that are left.
+use Rattle.std.proofs.Common.{◌≡◌, suc, ◌<◌, ◌-◌, ◌≤◌, Bool, true, false, List, [], ◌∷◌, length, get_or, take, drop, Ok, Err, refl, sym, subst, ◌∙◌, Some, inl, inr, ap, arith}
 use Rattle.std.proofs.Math.Seq.{take-length}
 use Rattle.std.proofs.lemmas.Bool.{cases_Bool, eqb-true}
 use Rattle.token_grammar.proofs.Sets.{all_kinds, at, found}
@@ -9,11 +9,14 @@ use Rattle.token_grammar.specs.declared.fault.Fault.TheVariants as faults
 use Rattle.token_grammar.specs.Token.{lexeme, lexemes, kind_eq}
 use Rattle.token_grammar.specs.Grammar.{token, heads}
 use Rattle.token_grammar.specs.Grammar.{is}
+use Rattle.token_grammar.proofs.Leaves.{kind_eq-refl}
 
+-- where the first token is in a set there is one
 pub heads_some : (set : Kind → Bool) (ts : List Token) → heads set (lexemes ts) ≡ true → 0 < length ts
 heads_some set [] h = absurd cc
 heads_some set (t ∷ ts) h = omega arith
 
+-- a first token of the kind is read
 pub token_taken : (ts : List Token) (d : Token) (k : Kind) → heads (is k) (lexemes ts) ≡ true
     → (token k).reads (lexemes ts) ≡ Ok (lexeme (get_or ts 0 d), lexemes (take (length ts - 1) (drop 1 ts)))
 unfolding token
@@ -23,20 +26,20 @@ token_taken (t ∷ ts) d k h = rw (h, rest_is ts) refl
     rest_is : (ts : List Token) → take (suc (length ts) - 1) ts ≡ ts
     rest_is ts = rw (let e : suc (length ts) - 1 ≡ length ts = omega arith in e) (take-length ts)
 
+-- any other is Expected
 pub token_refused : (ts : List Token) (k : Kind) → heads (is k) (lexemes ts) ≡ false
     → (token k).reads (lexemes ts) ≡ Err (faults.Expected, lexemes ts)
 unfolding token
 token_refused [] k h = refl
 token_refused (t ∷ ts) k h = rw h refl
 
-kind_eq-refl : (k : Kind) → kind_eq k k ≡ true
-kind_eq-refl k = eq-eqb _ _ refl
-
+-- kinds that compare equal are equal
 pub kind_eq-true : (a b : Kind) → kind_eq a b ≡ true → a ≡ b
 kind_eq-true a b h =
     let e : Some a ≡ Some b = sym (found a) ∙ ap (at all_kinds) (eqb-true _ _ h) ∙ found b in
     cc
 
+-- a test that tells whether two kinds are equal is that comparison
 pub kind_is : (a b : Kind) (r : Bool) → (r ≡ true → a ≡ b) → (r ≡ false → a ≡ b → ⊥) → r ≡ kind_eq a b
 kind_is a b true p q = sym (subst (λ z. kind_eq a z ≡ true) (p refl) (kind_eq-refl a))
 kind_is a b false p q =
@@ -45,6 +48,7 @@ kind_is a b false p q =
       | inr ne ↦ sym ne
     ]
 
+-- and so for the kind of the first token
 pub heads_first : (ts : List Token) (d : Token) (k : Kind) (r : Bool) → 1 ≤ length ts
     → (r ≡ true → (get_or ts 0 d).kind ≡ k) → (r ≡ false → (get_or ts 0 d).kind ≡ k → ⊥) → r ≡ heads (is k) (lexemes ts)
 heads_first [] d k r long p q = absurd (omega arith)

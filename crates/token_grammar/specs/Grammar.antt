@@ -1,4 +1,13 @@
 -- Grammars: which tokens spell a value, and what reading from the front gives.
+--
+-- The words are those of LL(1) grammars, whose reader decides by one token of look-ahead. A grammar is
+-- nullable where no token at all spells a value. Its FIRST is the set of the kinds of token with which a
+-- spelling begins, and its FOLLOW the set of those that may come after one in the grammar around it. Of
+-- two grammars, `either` takes the first where the token at hand is in its FIRST, so the FIRST of the
+-- second must have no kind of it. A grammar that may go on after what is a spelling already, as `many`
+-- may with one more item, goes on where the token at hand is of the set that goes on (the followlast
+-- set), so FOLLOW must have no kind of that. `Good` in proofs/Good.antt states this, with what follows
+-- for the reading, and proofs/Fine.antt proves it of each word below from its parts.
 use Rattle.std.specs.Prelude.{◌≡◌, ℕ, zero, suc, Bool, true, false, List, [], ◌∷◌, ◌++◌, length, Ok, Err, Option, Some, None, if◌then◌else◌, ◌⊎◌}
 use Rattle.token_grammar.specs.declared.token.Kind.{Kind}
 use Rattle.token_grammar.specs.declared.token.Span.{Span}
@@ -203,7 +212,7 @@ many_from set g next s = record {
   reads = λ t. many_from_reads set (λ z. (g z).reads) next (length t) s t;
 }
 
--- ---- at most so many, where an item may depend on those before it
+-- ---- at most n, where an item may depend on those before it
 
 -- each part in turn spells its item, by what came before, and there are at most n
 abbrev pub up_to_spells : {S X : Type 0}

@@ -4,6 +4,7 @@ ghost use Rattle.std.specs.Prelude.{◌≡◌};
 ghost use Rattle.token_grammar.specs.declared.fault.ReadError.TheVariants.{Memory};
 
 use std::alloc::{AllocError, AllocFailed};
+use thiserror::Error;
 
 /// What there can be too many of.
 #[derive(Clone, Copy, Debug, PartialEq, Eq)]
@@ -27,26 +28,33 @@ pub enum Thing {
 }
 
 /// What is wrong at the token at hand.
-#[derive(Clone, Copy, Debug, PartialEq, Eq)]
+#[derive(Clone, Copy, Debug, PartialEq, Eq, Error)]
 pub enum Fault {
     /// It doesn't continue the text before it.
+    #[error("unexpected token or end of the text")]
     Expected,
     /// It is a number of over 36 digits, or of a mantissa of 2^99 or more.
+    #[error("number too long")]
     LiteralTooLong,
     /// It is a number that no fraction of up to 32 bits makes exact.
+    #[error("no binary fraction of at most 32 bits")]
     LiteralNotBinary,
     /// It begins a state that is nested too deep.
+    #[error("state nested too deep")]
     NestTooDeep,
     /// It begins one more of these than there may be.
+    #[error("one too many of its sort")]
     TooMany(Thing),
 }
 
 /// Why reading stopped. The token at which it stopped is the first that is left.
-#[derive(Debug, Drop)]
+#[derive(Debug, Drop, Error)]
 pub enum ReadError {
     /// Memory ran out.
+    #[error("out of memory")]
     Memory,
     /// The token at hand, or the end, is at fault.
+    #[error("{0}")]
     Fault(Fault),
 }
 

@@ -5,16 +5,20 @@ use Rattle.chart_lexer.proofs.Cuts.{after_blank, after_token, at_stop, next_line
 use Rattle.chart_lexer.proofs.lexer.lex.Goals as goal
 
 pub returns-in-Stop : goal.returns-in-Stop
-returns-in-Stop c = at_stop (lexemes c.fronts.tokens.items) c.fronts.place c.args.text.now c.fronts.at c.in-Stop.stop _ c.in-Stop.ensures.value c.fronts.invariant.so_far
+returns-in-Stop c =
+    at_stop (lexemes c.fronts.tokens.items) c.fronts.place c.args.text.now c.fronts.at c.in-Stop.stop _ c.in-Stop.ensures.value c.fronts.invariant.so_far
 
 pub fronts-preserved-in-Blank : goal.fronts-preserved-in-Blank
 fronts-preserved-in-Blank c =
-    let some : c.fronts.at < length c.args.text.now = omega (arith, c.in-Blank.ensures.within, length-take {A = ℕ}, length-drop {A = ℕ}) in
+    let some : c.fronts.at < length c.args.text.now =
+    omega (arith, c.in-Blank.ensures.within, length-take {A = ℕ}, length-drop {A = ℕ}) in
     record {
       bound = omega arith;
       line = next_line c.fronts.place _ _ c.fronts.at c.after_byte-place.ensures c.fronts.invariant.line;
       column = next_column c.fronts.place _ _ c.fronts.at c.after_byte-place.ensures c.fronts.invariant.column;
-      so_far = rw c.after_byte-place.ensures (after_blank (lexemes c.fronts.tokens.items) c.fronts.place c.args.text.now c.fronts.at _ some c.in-Blank.ensures.value c.fronts.invariant.so_far);
+      so_far =
+          rw c.after_byte-place.ensures
+          (after_blank (lexemes c.fronts.tokens.items) c.fronts.place c.args.text.now c.fronts.at _ some c.in-Blank.ensures.value c.fronts.invariant.so_far);
     }
 
 pub fronts-preserved : goal.fronts-preserved

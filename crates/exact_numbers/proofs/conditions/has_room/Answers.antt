@@ -9,4 +9,6 @@ returns-then-bits-le100 c =
     room_by_quotient c.args.mantissa c.args.bits _ is
 
 pub returns-else-bits-le100 : goal.returns-else-bits-le100
-returns-else-bits-le100 c = room_for_bits c.args.mantissa c.args.bits (abs_positive c.args.mantissa c.if-mantissa-eq0.false) c.if-bits-le100.false
+returns-else-bits-le100 c =
+    room_for_bits c.args.mantissa c.args.bits
+    (abs_positive c.args.mantissa c.if-mantissa-eq0.false) c.if-bits-le100.false

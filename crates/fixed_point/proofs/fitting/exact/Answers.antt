@@ -23,5 +23,6 @@ returns-then-not-is_whole c =
 pub floored-mantissa-requires-clause-size : goal.floored-mantissa-requires-clause-size
 floored-mantissa-requires-clause-size c = λ above.
     let near : unsigned_abs c.args.a.mantissa ≤ 2 ^ 64 = ⊎_elim
-    (λ far. absurd (false≢true (c.if-is_far.ensures.1 (above, far)))) (λ h. h) (cases_lt (2 ^ 64) (unsigned_abs c.args.a.mantissa)) in
+    (λ far. absurd (false≢true (c.if-is_far.ensures.1 (above, far)))) (λ h. h)
+    (cases_lt (2 ^ 64) (unsigned_abs c.args.a.mantissa)) in
     scaled-within c.args.a c.from-frac.result (omega (arith, c.args.to.frac_within)) near

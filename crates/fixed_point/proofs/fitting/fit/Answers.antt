@@ -9,6 +9,7 @@ use Rattle.fixed_point.proofs.fitting.fit.Goals as goal
 pub wrapped-requires : goal.wrapped-requires
 wrapped-requires c =
     let h = floored-within c.args.a c.args.to.frac (2 ^ 100) c.requires.own c.requires.brought in
-    let e = ap (λ (z : ℤ). unsigned_abs z) (to_z-of_z w128 c.floored-mantissa.result (record { sfits = c.floored-mantissa.type_inv })
+    let e =
+    ap (λ (z : ℤ). unsigned_abs z) (to_z-of_z w128 c.floored-mantissa.result (record { sfits = c.floored-mantissa.type_inv })
     ∙ c.floored-mantissa.ensures ∙ ap (λ (x : ℕ). floored c.args.a x) c.from.ensures) in
     omega arith

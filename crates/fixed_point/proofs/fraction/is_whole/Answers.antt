@@ -21,7 +21,8 @@ returns-then-dropped-lt128 c =
     let d = a.frac - c.args.frac in
     let fits : FitsSigned w128 a.mantissa = search rules in
     let size = c.unsigned_abs.ensures.value ∙ ap (λ (z : ℤ). unsigned_abs z) (to_z-of_z w128 a.mantissa fits) in
-    ap (λ (x : ℕ). nat_eq (c.unsigned_abs.result % x) 0) c.unsigned_power.ensures ∙ ap (λ (x : ℕ). nat_eq (x % 2 ^ d) 0) size
+    ap (λ (x : ℕ). nat_eq (c.unsigned_abs.result % x) 0) c.unsigned_power.ensures
+    ∙ ap (λ (x : ℕ). nat_eq (x % 2 ^ d) 0) size
     ∙ sym (is_whole-dropped a c.args.frac (omega arith))
 
 -- more bits are dropped than there are

@@ -11,13 +11,15 @@ value_after-requires-clause-room c =
 
 pub value_after-units-requires-clause-room : goal.value_after-units-requires-clause-room
 value_after-units-requires-clause-room c =
-    room_behind c.value_after.result (length c.args.parts.whole.now) (length c.args.parts.behind.now) c.value_after.ensures.bound (omega arith)
+    room_behind c.value_after.result (length c.args.parts.whole.now)
+    (length c.args.parts.behind.now) c.value_after.ensures.bound (omega arith)
 
 pub returns : goal.returns
 returns c =
     let parts = c.args.parts in
     let few : length parts.whole.now + length parts.behind.now ≤ 36 = omega arith in
-    let units = c.value_after-units.ensures.value ∙ ap (λ (x : ℕ). value_after x parts.behind.now) c.value_after.ensures.value in
+    let units =
+    c.value_after-units.ensures.value ∙ ap (λ (x : ℕ). value_after x parts.behind.now) c.value_after.ensures.value in
     c.number_of.ensures
     ∙ ap (λ (f : Option ℕ). number_of parts.negative c.value_after-units.result (length parts.behind.now) f) c.frac_of.ensures
     ∙ ap (λ (u : ℕ). number_of parts.negative u (length parts.behind.now) (frac_of parts.bits u (length parts.behind.now))) units

@@ -7,8 +7,10 @@ use Rattle.fixed_point.proofs.reading.read_decimal.Goals as goal
 
 pub number_told-requires-clause-whole : goal.number_told-requires-clause-whole
 number_told-requires-clause-whole c =
-    subst (λ (ds : List ℕ). AllPass is_ascii_digit ds) (sym c.in-Some.ensures.whole_is) (AllPass-leading (without 45 c.args.text.now))
+    subst (λ (ds : List ℕ). AllPass is_ascii_digit ds) (sym c.in-Some.ensures.whole_is)
+    (AllPass-leading (without 45 c.args.text.now))
 
 pub number_told-requires-clause-behind : goal.number_told-requires-clause-behind
 number_told-requires-clause-behind c =
-    subst (λ (ds : List ℕ). AllPass is_ascii_digit ds) (sym c.in-Some.ensures.behind_is) (AllPass-behind (after_whole c.args.text.now))
+    subst (λ (ds : List ℕ). AllPass is_ascii_digit ds) (sym c.in-Some.ensures.behind_is)
+    (AllPass-behind (after_whole c.args.text.now))

@@ -2,7 +2,7 @@ use Rattle.std.proofs.Common.{◌≡◌, ◌*◌, ◌%◌, ◌^◌}
 use Rattle.fixed_point.specs.Reading.{steps_of}
 use Rattle.fixed_point.proofs.rounding.steps.Given as goal
 
--- so many whole steps there are with these bits, and this rest
+-- `whole` steps of 2 ^ -_bits are in the number, and `rest` is left of it
 abbrev pub invariant-loop-bits : goal.invariant-loop-bits
 invariant-loop-bits l = record {
   steps : l.whole ≡ steps_of l.units l.places l._bits;

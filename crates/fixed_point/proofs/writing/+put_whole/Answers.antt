@@ -16,7 +16,8 @@ put-requires t c = omega (arith, length-digit c.args.number c.if-number-lt10.tru
 
 pub returns-then-number-lt10-clause-text : goal.returns-then-number-lt10-clause-text
 returns-then-number-lt10-clause-text t c =
-    c.put.ensures.text ∙ ap (λ (ds : List ℕ). take c.args.at c.args.buf.now ++ ds) (sym (decimal_digit c.args.number c.if-number-lt10.true))
+    c.put.ensures.text
+    ∙ ap (λ (ds : List ℕ). take c.args.at c.args.buf.now ++ ds) (sym (decimal_digit c.args.number c.if-number-lt10.true))
 
 pub returns-then-number-lt10-clause-end : goal.returns-then-number-lt10-clause-end
 returns-then-number-lt10-clause-end t c = omega (arith, length-digit c.args.number c.if-number-lt10.true)

@@ -25,7 +25,9 @@ loop-rest-preserved c =
     let next : c.put-end.result - c.args.at ≡ k + 1 = omega (arith, so_far.started) in
     record {
       started = omega arith;
-      divided = rw (next, c.unsigned_power-one.ensures) (Divides-more c.args.number c.args.frac k c.loop-rest.rest so_far.divided c.loop-rest-test.true);
+      divided =
+          rw (next, c.unsigned_power-one.ensures)
+          (Divides-more c.args.number c.args.frac k c.loop-rest.rest so_far.divided c.loop-rest-test.true);
       text = rw next (c.put-end.ensures.text
           ∙ ap (λ (bs : List ℕ). bs ++ (48 + c.loop-rest.rest * 10 / c.unsigned_power-one.result) ∷ []) so_far.text
           ∙ append_assoc (take c.args.at c.args.buf.now) (last_digits k (c.args.number * 10 ^ k / 2 ^ c.args.frac)) ((48 + c.loop-rest.rest * 10 / c.unsigned_power-one.result) ∷ [])
@@ -41,7 +43,8 @@ returns-clause-text c =
 pub returns-clause-end : goal.returns-clause-end
 returns-clause-end c =
     let k = c.loop-rest.end - c.args.at in
-    let all = digits_all c.args.number c.args.frac k c.loop-rest.rest c.loop-rest.invariant.divided c.loop-rest-test.false in
+    let all =
+    digits_all c.args.number c.args.frac k c.loop-rest.rest c.loop-rest.invariant.divided c.loop-rest-test.false in
     let size : k ≡ length (fraction_digits c.args.number c.args.frac) =
     sym (length-last_digits k (c.args.number * 10 ^ k / 2 ^ c.args.frac)) ∙ ap length all in
     omega (arith, c.loop-rest.invariant.started)

@@ -3,7 +3,7 @@ use Rattle.fixed_point.specs.Text.{last_digits}
 use Rattle.fixed_point.proofs.Digits.{Divides}
 use Rattle.fixed_point.proofs.writing.put_behind.Given as goal
 
--- so many digits are written, and this rest is left
+-- `end - at` digits are written, and `rest` is left
 abbrev pub invariant-loop-rest : goal.invariant-loop-rest
 invariant-loop-rest l = record {
   started : l.at ≤ l.end;

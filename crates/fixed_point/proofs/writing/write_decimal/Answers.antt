@@ -55,13 +55,15 @@ returns-clause-within c = omega (
 )
 
 pub returns-then-number-one-eq0-clause-exact : goal.returns-then-number-one-eq0-clause-exact
-returns-then-number-one-eq0-clause-exact c = decimal_text-exact c.args.mantissa c.args.frac (omega (arith, c.requires.size))
+returns-then-number-one-eq0-clause-exact c =
+    decimal_text-exact c.args.mantissa c.args.frac (omega (arith, c.requires.size))
 
 pub returns-clause-exact : goal.returns-clause-exact
 returns-clause-exact c = decimal_text-exact c.args.mantissa c.args.frac (omega (arith, c.requires.size))
 
 pub returns-then-number-one-eq0-clause-shortest : goal.returns-then-number-one-eq0-clause-shortest
-returns-then-number-one-eq0-clause-shortest c = decimal_text-shortest c.args.mantissa c.args.frac (omega (arith, c.requires.size))
+returns-then-number-one-eq0-clause-shortest c =
+    decimal_text-shortest c.args.mantissa c.args.frac (omega (arith, c.requires.size))
 
 pub returns-clause-shortest : goal.returns-clause-shortest
 returns-clause-shortest c = decimal_text-shortest c.args.mantissa c.args.frac (omega (arith, c.requires.size))

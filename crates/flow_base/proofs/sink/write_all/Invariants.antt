@@ -2,7 +2,7 @@ use Rattle.std.proofs.Common.{◌≡◌, ◌-◌, ◌≤◌, length, take}
 use Rattle.std.specs.Io.KnownBytes.{append_known}
 use Rattle.flow_base.proofs.sink.write_all.Given as goal
 
--- so many bytes of the piece are written, and no write failed
+-- `written` bytes of the piece are written, and no write failed
 abbrev pub invariant-pieces : goal.invariant-pieces
 invariant-pieces g l = record {
   bound : l.written ≤ length l.piece;

@@ -9,5 +9,7 @@ pub returns-in_err-extend_from_slice-clause-bounded :
 returns-in_err-extend_from_slice-clause-bounded g c = record {
   taken = c.pieces.text.items ++ take c.in_ok-count.count c.read.new.buf;
   few = omega (arith, length-append {A = ℕ}, length-take {A = ℕ}, c.in_ok-count.ensures.bound);
-  bytes = one_taken _ _ _ c.pieces.text.items (take c.in_ok-count.count c.read.new.buf) _ c.pieces.invariant.known c.in_ok-count.ensures.bytes.0 refl;
+  bytes =
+      one_taken _ _ _ c.pieces.text.items
+      (take c.in_ok-count.count c.read.new.buf) _ c.pieces.invariant.known c.in_ok-count.ensures.bytes.0 refl;
 }

@@ -7,19 +7,25 @@ use Rattle.flow_base.proofs.mem_inputs.MemInputs.read_first.Goals as goal
 -- the read of the first file of that name
 pub returns-in-Some-clause-count : goal.returns-in-Some-clause-count
 returns-in-Some-clause-count c =
-    let first : IsFirst c.args.name.now c.self.inside.files.items c.in-Some.index c.index_mut-file.result.now = first_at _ _ _ _ (search rules) (search rules) in
+    let first : IsFirst c.args.name.now c.self.inside.files.items c.in-Some.index c.index_mut-file.result.now =
+    first_at _ _ _ _ (search rules) (search rules) in
     rw (← c.self.view_is, first.found) c.read.ensures.count
 
 pub returns-in-Some-clause-state : goal.returns-in-Some-clause-state
 returns-in-Some-clause-state c =
-    let first : IsFirst c.args.name.now c.self.inside.files.items c.in-Some.index c.index_mut-file.result.now = first_at _ _ _ _ (search rules) (search rules) in
+    let first : IsFirst c.args.name.now c.self.inside.files.items c.in-Some.index c.index_mut-file.result.now =
+    first_at _ _ _ _ (search rules) (search rules) in
     let inputs : List FileState → FilesState = λ files. record { files = files; missed = c.self.inside.missed } in
-    rw (← c.self.view_is, first.found) (ap inputs (set-change_first (after_next (length c.read.new.buf)) _ _ _ _ _ first c.read.ensures.state))
+    rw (← c.self.view_is, first.found)
+    (ap inputs (set-change_first (after_next (length c.read.new.buf)) _ _ _ _ _ first c.read.ensures.state))
 
 pub returns-in-Some-clause-bytes : goal.returns-in-Some-clause-bytes
 returns-in-Some-clause-bytes c =
-    let first : IsFirst c.args.name.now c.self.inside.files.items c.in-Some.index c.index_mut-file.result.now = first_at _ _ _ _ (search rules) (search rules) in
-    let now = first_of-written (after_next (length c.read.new.buf)) (next_keeps _) _ _ _ _ c.read.new.self first c.read.ensures.state in
+    let first : IsFirst c.args.name.now c.self.inside.files.items c.in-Some.index c.index_mut-file.result.now =
+    first_at _ _ _ _ (search rules) (search rules) in
+    let now =
+    first_of-written (after_next (length c.read.new.buf))
+    (next_keeps _) _ _ _ _ c.read.new.self first c.read.ensures.state in
     rw (← c.self.view_is, first.found, now) c.read.ensures.bytes
 
 -- no file has that name

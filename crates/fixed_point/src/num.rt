@@ -1,9 +1,9 @@
-//! Exact numbers, and the limits within which is calculated with them.
+//! Exact numbers, and how great their parts may be in a calculation.
 
-/// The greatest magnitude that a mantissa may have at the fraction at which is calculated.
+/// The greatest magnitude of a mantissa in a calculation, at the fraction of the calculation.
 pub const MAGNITUDE_LIMIT: u128 = 1 << 100;
 
-/// The most bits after the point with which is calculated.
+/// The most bits after the point in a calculation.
 pub const FRACTION_LIMIT: u32 = 64;
 
 /// The number `mantissa / 2^frac`. Two of these may be one number: 1 / 2 is 2 / 4.

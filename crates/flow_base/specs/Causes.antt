@@ -1,4 +1,4 @@
--- The causes of a fault: what a source and a sink owe of their counts.
+-- The causes of a fault: what a source and a sink promise of their counts.
 use Rattle.std.specs.Prelude.{◌≡◌, ◌≢◌, ℕ, ◌+◌, ◌-◌, ◌^◌, ◌≤◌, ◌<◌, min, List, Option, Result, OnOk, OnErr}
 
 -- the count rose, or stands at its last value, 2 ^ 64 - 1

@@ -24,11 +24,11 @@ pub trait Inputs {
     ghost faults: { Self → List ℕ → ℕ };
 
     /// Reads the next bytes of that name to the front of `buf`, and answers how many. 0 for a
-    /// buffer that isn't empty is the end.
+    /// buffer that isn't empty is the end. A failed read leaves the buffer as it was.
     fn read(&mut self, name: &str, buf: &mut [u8]) -> Result<usize, Failed>
         ensures bound { ReadsAtMost result buf.new }
 
-        // The bytes that are given are the next ones. A failure takes none, and leaves the buffer.
+        // The bytes that are given are the next ones, and a failure takes none.
         ensures bytes { ReadTakes (left self.old name.now) (left self.new name.now) result buf.new }
         ensures others { OthersKept name.now (left self.old) (left self.new) }
         ensures kept { OnErr result (buf.new ≡ buf.old) }
@@ -38,6 +38,6 @@ pub trait Inputs {
         ensures counts { NoneFalls (faults self.old) (faults self.new) }
         ensures ok { OnOk result (AllStay (faults self.old) (faults self.new)) };
 
-    /// Which of the two it is, is fixed for the type.
+    /// Whether it tells them is fixed for the type.
     ghost fixed: { (inputs : Self) (name : List ℕ) → is_some (left inputs name) ≡ tells };
 }

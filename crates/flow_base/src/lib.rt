@@ -1,7 +1,7 @@
-//! What every other crate speaks in: texts and lists that contracts see as lists, the bounds and
-//! the faults of a run, the status of the program, and the sources and sinks of bytes.
+//! What every other crate uses: texts and lists that contracts see as lists, the bounds and the
+//! faults of a run, the status of the program, and the sources and sinks of bytes.
 //!
-//! Read `specs/Causes.antt` and `specs/Bytes.antt` first: they say what a source and a sink owe.
+//! Read `specs/Causes.antt` and `specs/Bytes.antt` first: they say what a source and a sink promise.
 #![tactic(auto)]
 
 mod bounds;

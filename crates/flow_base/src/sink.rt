@@ -28,7 +28,7 @@ pub trait Sink {
         // A failure comes only where the count rose, and success leaves it.
         ensures cause { HasCause (faults self.old) (faults self.new) result };
 
-    /// Which of the two it is, is fixed for the type.
+    /// Whether it tells that is fixed for the type.
     ghost fixed: { (sink : Self) → is_some (wrote sink) ≡ tells };
 }
 

@@ -1,9 +1,9 @@
 -- What stands in front of a text that begins with a word, a number or a symbol.
 use Rattle.std.proofs.Common.{◌≡◌, ℕ, Bool, true, false, ◌&&◌, ◌||◌, not, List, [], ◌∷◌, ◌++◌, Option, Some, None}
-use Rattle.std.proofs.Common.{length, take, drop, refl, ap, ◌∙◌, eqb, leb, ltb, arith}
+use Rattle.std.proofs.Common.{length, take, drop, refl, ap, ◌∙◌, eqb, leb, arith}
 use Rattle.std.specs.Prelude.{nat_eq, nat_le}
 use Rattle.std.specs.Str.{byte}
-use Rattle.std.proofs.lemmas.Bool.{not-true, and_parts, or_parts, eqb-true, leb-true, le-ltb}
+use Rattle.std.proofs.lemmas.Bool.{not-true, and_parts, or_parts, eqb-true, leb-true}
 use Rattle.std.proofs.lemmas.Bool.Decides.{nat_tests}
 use Rattle.std.proofs.Math.Bool.{and-false}
 use Rattle.std.proofs.Math.Seq.{take-append_seam, drop-append_seam}
@@ -17,7 +17,7 @@ use Rattle.chart_lexer.specs.Bytes.{is_blank, is_letter, is_digit, is_name_byte,
 use Rattle.chart_lexer.specs.Words.{name_length, word_kind}
 use Rattle.chart_lexer.specs.Numbers.{number_length}
 use Rattle.chart_lexer.specs.Symbols.{pair_kind, single_kind}
-use Rattle.chart_lexer.specs.Lex.{word_front, number_front, symbol_front, begins_comment, front_of}
+use Rattle.chart_lexer.specs.Lex.{number_front, symbol_front, begins_comment, front_of}
 use Rattle.chart_lexer.proofs.Names.{word_first, word_front_is}
 use Rattle.canonical_claims.specs.Words.{IsNumber}
 use Rattle.canonical_claims.proofs.Runs.{run_ends}

@@ -1,5 +1,5 @@
 -- The canonical text of a chart that was spelled spells it again.
-use Rattle.std.proofs.Common.{◌≡◌, ℕ, Bool, not, List, [], ◌∷◌, refl, sym, ap, subst, ◌∙◌, inl, inr, Ok}
+use Rattle.std.proofs.Common.{◌≡◌, ℕ, Bool, not, List, [], ◌∷◌, sym, ap, subst, ◌∙◌, inl, inr, Ok}
 use Rattle.std.proofs.lemmas.Bool.{cases_Bool}
 use Rattle.std.specs.List.{filter}
 use Rattle.token_grammar.specs.declared.token.Kind.TheVariants as kinds

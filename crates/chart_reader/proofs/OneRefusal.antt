@@ -1,10 +1,9 @@
 -- A text that is refused is answered with that refusal, so it has no other, and spells no chart.
-use Rattle.std.proofs.Common.{◌≡◌, ◌≢◌, ℕ, ◌≤◌, ◌<◌, List, [], ◌∷◌, ◌++◌, length, Result, Ok, Err, ◌⊎◌, inl, inr}
-use Rattle.std.proofs.Common.{refl, sym, ap, subst, ◌∙◌, append_assoc, arith}
+use Rattle.std.proofs.Common.{◌≡◌, ◌≢◌, ℕ, ◌≤◌, List, [], ◌∷◌, ◌++◌, length, Result, Ok, Err, ◌⊎◌, inl, inr}
+use Rattle.std.proofs.Common.{refl, sym, subst, ◌∙◌, append_assoc, arith}
 use Rattle.std.proofs.lemmas.Bool.{cases_lt}
 use Rattle.token_grammar.specs.declared.token.Span.{Span}
 use Rattle.token_grammar.specs.declared.fault.Fault.{Fault}
-use Rattle.token_grammar.specs.declared.fault.Fault.TheVariants as reading
 use Rattle.token_grammar.specs.Token.{Lexeme, Outcome}
 use Rattle.token_grammar.specs.Grammar.{Continues, FirstFault, whole_reads}
 use Rattle.chart_lexer.specs.declared.front.Stop.{Stop}
@@ -19,10 +18,10 @@ use Rattle.chart_tree.specs.Form.{kind_of, IsTooLong}
 use Rattle.chart_tree.specs.Trees.{Chart}
 use Rattle.chart_grammar.specs.Limits.{usual}
 use Rattle.chart_grammar.specs.States.{chart}
-use Rattle.chart_grammar.proofs.TextLaws.{text_found, text_only, text_stops, text_one_fault, front_continues, one_stop}
-use Rattle.chart_reader.specs.Answer.{end_kind, fault_at, chart_at, answer}
+use Rattle.chart_grammar.proofs.TextLaws.{text_found, text_stops, text_one_fault, front_continues, one_stop}
+use Rattle.chart_reader.specs.Answer.{end_kind, chart_at, answer}
 use Rattle.chart_reader.specs.Text.{tokens_of, Spells, EndsEarly, StopsAt, Stops, NoToken, ReadingStops}
-use Rattle.chart_reader.specs.Text.{IsRefusedWithin, IsRefusal}
+use Rattle.chart_reader.specs.Text.{IsRefusal}
 use Rattle.chart_reader.proofs.TextLemmas.{text_answer, spelled_is_read, is_spelled, refuses}
 
 -- ---- one chart

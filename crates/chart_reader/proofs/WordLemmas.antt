@@ -1,13 +1,10 @@
 -- Tokens that are read as names are names, and numbers that are read are short.
-use Rattle.std.proofs.Common.{◌≡◌, ℕ, ◌+◌, ◌<◌, ◌≤◌, ◌&&◌, Bool, true, not, ◌||◌, eqb, leb, nat_lt, List, [], ◌∷◌}
-use Rattle.std.proofs.Common.{◌++◌, length, get_or, Option, None, Result, Ok, Err, IsOk, IfOk, IfSome, IsTrue}
+use Rattle.std.proofs.Common.{◌≡◌, ℕ, ◌+◌, ◌≤◌, Bool, true, not, ◌||◌, nat_lt, List, [], ◌∷◌}
+use Rattle.std.proofs.Common.{◌++◌, length, Option, None, Result, Ok, Err, IsOk, IfOk, IfSome, IsTrue}
 use Rattle.std.proofs.Common.{IsFalse, inl, inr, sym, ap, length-append, arith}
 use Rattle.std.specs.List.{list_all}
-use Rattle.std.specs.Str.{IsAscii}
-use Rattle.std.proofs.lemmas.Bool.{and_parts, eqb-true, cases_Bool}
+use Rattle.std.proofs.lemmas.Bool.{and_parts, cases_Bool}
 use Rattle.std.proofs.lemmas.Bool.Decides.{nat_tests}
-use Rattle.std.proofs.lemmas.List.Sums.{prefix_len_passes}
-use Rattle.std.proofs.lemmas.Str.Ascii.{IsAscii-from_reads}
 use Rattle.token_grammar.specs.declared.token.Token.{Token}
 use Rattle.token_grammar.specs.declared.token.Kind.TheVariants as kinds
 use Rattle.token_grammar.specs.declared.fault.ReadError.{ReadError}
@@ -20,8 +17,7 @@ use Rattle.fixed_point.specs.declared.reading.NumFault.{NumFault}
 use Rattle.fixed_point.specs.declared.reading.NumFault.TheVariants as num_faults
 use Rattle.fixed_point.specs.Reading.{number_read, number_told, is_number, has_bits, is_negative, bits_of}
 use Rattle.fixed_point.specs.Reading.{whole_digits, behind_digits}
-use Rattle.chart_lexer.specs.Bytes.{is_letter, is_name_byte, begins}
-use Rattle.chart_lexer.specs.Words.{name_length, word_kind, is_name}
+use Rattle.chart_lexer.specs.Words.{is_name}
 use Rattle.chart_grammar.specs.Limits.{usual, unless_lifted}
 use Rattle.chart_grammar.specs.Words.{fault_of_number, literal_refused}
 use Rattle.chart_reader.specs.Named.{is_named, AreNamed}

@@ -1,16 +1,10 @@
 -- A token of kind Name has a NAME as its text.
-use Rattle.std.proofs.Common.{◌≡◌, ℕ, suc, ◌<◌, ◌&&◌, true, eqb, leb, List, [], ◌∷◌, length, get_or, All, arith}
+use Rattle.std.proofs.Common.{◌≡◌, ℕ, suc, true, List, [], ◌∷◌, All, arith}
 use Rattle.std.specs.List.{AllByRecursion}
-use Rattle.std.specs.Str.{IsAscii}
-use Rattle.std.proofs.lemmas.Bool.{and_parts, eqb-true}
-use Rattle.std.proofs.lemmas.Bool.Decides.{nat_tests}
-use Rattle.std.proofs.lemmas.List.Sums.{prefix_len_passes}
-use Rattle.std.proofs.lemmas.Str.Ascii.{IsAscii-from_reads}
 use Rattle.token_grammar.specs.declared.token.Kind.TheVariants as kinds
 use Rattle.token_grammar.specs.Token.{Lexeme, kind_eq}
 use Rattle.token_grammar.proofs.Tokens.{kind_eq-true}
-use Rattle.chart_lexer.specs.Bytes.{is_letter, is_name_byte, begins}
-use Rattle.chart_lexer.specs.Words.{name_length, word_kind, is_name}
+use Rattle.chart_lexer.specs.Words.{is_name}
 use Rattle.chart_lexer.specs.Lex.{cut_of}
 use Rattle.chart_lexer.proofs.TokenNames.{has_names}
 use Rattle.flat_syntax.specs.Spelled.{HasName}

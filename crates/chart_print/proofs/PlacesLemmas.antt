@@ -1,4 +1,5 @@
 -- No place is printed.
+-- `x-same` says that x is the same for a part without its places.
 use Rattle.std.proofs.Common.{◌≡◌, ℕ, ◌+◌, List, [], ◌∷◌, map, Some, None, Option, refl, ap, sym, ◌∙◌}
 use Rattle.std.specs.List.{flat_map}
 use Rattle.std.specs.Option.{option_map}
@@ -7,17 +8,27 @@ use Rattle.chart_tree.specs.declared.name.NameText.{NameText}
 use Rattle.chart_tree.specs.declared.sort.InitText.{InitText}
 use Rattle.chart_tree.specs.declared.sort.InitText.TheVariants as inits
 use Rattle.chart_tree.specs.declared.chart.EventText.{EventText}
-use Rattle.chart_tree.specs.Trees.{Var, Sort, FlagSort, NumberSort, Path, Expr, Lit, Flag, Name, Active, Unary, Binary, Stmt, Assign, Send, Emit, Dest, ToState, ToJunction, Guard, Trans, Junction, Parts, State, StateOf, States, NoState, MoreStates, Chart}
+use Rattle.chart_tree.specs.Trees.{Var, Sort, FlagSort, NumberSort, Path, Expr, Lit, Flag, Name, Active, Unary}
+use Rattle.chart_tree.specs.Trees.{Binary, Stmt, Assign, Send, Emit, Dest, ToState, ToJunction, Guard, Trans}
+use Rattle.chart_tree.specs.Trees.{Junction, Parts, State, StateOf, States, NoState, MoreStates, Chart}
 use Rattle.chart_print.specs.Pieces.{Piece, bytes_of}
 use Rattle.chart_print.specs.Words.{step_pieces, path_pieces}
 use Rattle.chart_print.specs.Expressions.{expr_precedence, expr_pieces}
-use Rattle.chart_print.specs.Transitions.{target_pieces, stmt_pieces, block_stmt_pieces, block_pieces, unless_empty, trigger_pieces, guard_pieces, condition_pieces, action_pieces, dest_pieces, arrow_pieces, trans_pieces}
+use Rattle.chart_print.specs.Transitions.{target_pieces, stmt_pieces, block_stmt_pieces, block_pieces, unless_empty}
+use Rattle.chart_print.specs.Transitions.{trigger_pieces, guard_pieces, condition_pieces, action_pieces, dest_pieces}
+use Rattle.chart_print.specs.Transitions.{arrow_pieces, trans_pieces}
 use Rattle.chart_print.specs.Declarations.{event_pieces, value_pieces, init_pieces, typed_pieces, var_pieces}
-use Rattle.chart_print.specs.Canonical.{head_pieces, head_line, action_line, trans_line, junction_trans_line, junction_pieces, actions_pieces, transitions_pieces, parts_pieces, state_pieces, states_pieces, event_line, var_line, chart_pieces, canonical}
-use Rattle.chart_print.specs.Places.{unplaced_name, unplaced_path, unplaced_expr, unplaced_stmt, unplaced_block, unplaced_dest, unplaced_guard, unplaced_trans, unplaced_junction, unplaced_parts, unplaced_state, unplaced_states, unplaced_event, unplaced_init, unplaced_var, without_places, AreSameApartFromPlaces}
+use Rattle.chart_print.specs.Canonical.{head_pieces, head_line, action_line, trans_line, junction_trans_line}
+use Rattle.chart_print.specs.Canonical.{junction_pieces, actions_pieces, transitions_pieces, parts_pieces}
+use Rattle.chart_print.specs.Canonical.{state_pieces, states_pieces, event_line, var_line, chart_pieces, canonical}
+use Rattle.chart_print.specs.Places.{unplaced_name, unplaced_path, unplaced_expr, unplaced_stmt, unplaced_block}
+use Rattle.chart_print.specs.Places.{unplaced_dest, unplaced_guard, unplaced_trans, unplaced_junction, unplaced_parts}
+use Rattle.chart_print.specs.Places.{unplaced_state, unplaced_states, unplaced_event, unplaced_init, unplaced_var}
+use Rattle.chart_print.specs.Places.{without_places, AreSameApartFromPlaces}
 
 -- what a change of each item doesn't change, it doesn't change of the list
-flat_map-same : {X : Type 0} (f : X → List Piece) (change : X → X) → ((x : X) → f (change x) ≡ f x) → (xs : List X) → flat_map f (map change xs) ≡ flat_map f xs
+flat_map-same : {X : Type 0} (f : X → List Piece) (change : X → X) → ((x : X) → f (change x) ≡ f x) → (xs : List X)
+    → flat_map f (map change xs) ≡ flat_map f xs
 flat_map-same f change same [] = refl
 flat_map-same f change same (x ∷ xs) = rw (same x, flat_map-same f change same xs) refl
 
@@ -47,7 +58,8 @@ expr_pieces-same (Flag value at) = refl
 expr_pieces-same (Name name) = refl
 expr_pieces-same (Active path at) = rw (path_pieces-same path) refl
 expr_pieces-same (Unary word e at) = rw (precedence-same e, expr_pieces-same e) refl
-expr_pieces-same (Binary word l r at) = rw (precedence-same l, precedence-same r, expr_pieces-same l, expr_pieces-same r) refl
+expr_pieces-same (Binary word l r at) =
+    rw (precedence-same l, precedence-same r, expr_pieces-same l, expr_pieces-same r) refl
 
 -- ---- statements and transitions
 
@@ -70,7 +82,8 @@ block_pieces-same : (stmts : List Stmt) → block_pieces (unplaced_block stmts) 
 unfolding block_pieces
 block_pieces-same stmts = rw (flat_map-same block_stmt_pieces unplaced_stmt block_stmt_pieces-same stmts) refl
 
-unless_empty-same : (stmts : List Stmt) (pieces : List Piece) → unless_empty (unplaced_block stmts) pieces ≡ unless_empty stmts pieces
+unless_empty-same : (stmts : List Stmt) (pieces : List Piece)
+    → unless_empty (unplaced_block stmts) pieces ≡ unless_empty stmts pieces
 unless_empty-same [] pieces = refl
 unless_empty-same (stmt ∷ stmts) pieces = refl
 
@@ -110,27 +123,33 @@ trans_pieces-same trans =
 
 -- ---- junctions and states
 
-action_line-same : (level : ℕ) (keyword : Kind) (stmts : List Stmt) → action_line level keyword (unplaced_block stmts) ≡ action_line level keyword stmts
+action_line-same : (level : ℕ) (keyword : Kind) (stmts : List Stmt)
+    → action_line level keyword (unplaced_block stmts) ≡ action_line level keyword stmts
 unfolding action_line
 action_line-same level keyword stmts = rw (block_pieces-same stmts) (unless_empty-same stmts _)
 
-trans_line-same : (level : ℕ) (keyword : Kind) (trans : Trans) → trans_line level keyword (unplaced_trans trans) ≡ trans_line level keyword trans
+trans_line-same : (level : ℕ) (keyword : Kind) (trans : Trans)
+    → trans_line level keyword (unplaced_trans trans) ≡ trans_line level keyword trans
 unfolding trans_line
 trans_line-same level keyword trans = rw (trans_pieces-same trans) refl
 
-junction_trans_line-same : (level : ℕ) (trans : Trans) → junction_trans_line level (unplaced_trans trans) ≡ junction_trans_line level trans
+junction_trans_line-same : (level : ℕ) (trans : Trans)
+    → junction_trans_line level (unplaced_trans trans) ≡ junction_trans_line level trans
 unfolding junction_trans_line
 junction_trans_line-same level trans = rw (trans_pieces-same trans) refl
 
-junction_pieces-same : (level : ℕ) (junction : Junction) → junction_pieces level (unplaced_junction junction) ≡ junction_pieces level junction
+junction_pieces-same : (level : ℕ) (junction : Junction)
+    → junction_pieces level (unplaced_junction junction) ≡ junction_pieces level junction
 unfolding junction_pieces head_line head_pieces
 junction_pieces-same level junction =
-    rw (flat_map-same (junction_trans_line (level + 1)) unplaced_trans (junction_trans_line-same (level + 1)) junction.list) refl
+    rw (flat_map-same (junction_trans_line (level + 1)) unplaced_trans
+    (junction_trans_line-same (level + 1)) junction.list) refl
 
 -- a list of transitions with their keyword
 trans_lines-same : (level : ℕ) (keyword : Kind) (list : List Trans)
     → flat_map (trans_line level keyword) (map unplaced_trans list) ≡ flat_map (trans_line level keyword) list
-trans_lines-same level keyword list = flat_map-same (trans_line level keyword) unplaced_trans (trans_line-same level keyword) list
+trans_lines-same level keyword list =
+    flat_map-same (trans_line level keyword) unplaced_trans (trans_line-same level keyword) list
 
 parts_pieces-same : (level : ℕ) (parts : Parts) → parts_pieces level (unplaced_parts parts) ≡ parts_pieces level parts
 unfolding parts_pieces actions_pieces transitions_pieces
@@ -149,11 +168,14 @@ mutual
   unfolding state_pieces head_line head_pieces
 
   state_pieces-same : (level : ℕ) (state : State) → state_pieces level (unplaced_state state) ≡ state_pieces level state
-  state_pieces-same level (StateOf parts states) = rw (parts_pieces-same (level + 1) parts, states_pieces-same (level + 1) states) refl
+  state_pieces-same level (StateOf parts states) =
+      rw (parts_pieces-same (level + 1) parts, states_pieces-same (level + 1) states) refl
 
-  states_pieces-same : (level : ℕ) (states : States) → states_pieces level (unplaced_states states) ≡ states_pieces level states
+  states_pieces-same : (level : ℕ) (states : States)
+      → states_pieces level (unplaced_states states) ≡ states_pieces level states
   states_pieces-same level NoState = refl
-  states_pieces-same level (MoreStates state others) = rw (state_pieces-same level state, states_pieces-same level others) refl
+  states_pieces-same level (MoreStates state others) =
+      rw (state_pieces-same level state, states_pieces-same level others) refl
 
 -- ---- declarations and charts
 
@@ -173,7 +195,8 @@ unfolding var_line var_pieces typed_pieces
 var_line-same var = rw (init_pieces-same var.sort var.init) refl
 
 -- of a chart whose root is known
-root-same : (events : List EventText) (vars : List Var) (root : State) → let c : Chart = record { events = events; vars = vars; root = root } in
+root-same : (events : List EventText) (vars : List Var) (root : State) → let c : Chart =
+    record { events = events; vars = vars; root = root } in
     chart_pieces (without_places c) ≡ chart_pieces c
 unfolding chart_pieces without_places head_line head_pieces
 root-same events vars (StateOf parts states) =

@@ -1,13 +1,17 @@
 -- A state of the code, seen part by part.
+-- `x-seen` says of the field x of a state of the code what it is in the tree that contracts see.
 use Rattle.std.proofs.Common.{◌≡◌, ℕ, ◌+◌, List, ◌++◌, map, refl, ap}
 use Rattle.std.specs.List.{flat_map}
 use Rattle.token_grammar.specs.declared.token.Kind.TheVariants as kinds
 use Rattle.flow_base.specs.Lists.{items_of}
-use Rattle.chart_tree.specs.declared.state.StateText.{StateText, StateText', Row_of-StateText, end_of-StateText, more_of-StateText, out-StateText, outs-StateText', items-the_row-StateText, items_shown-the_row-StateText-0}
+use Rattle.chart_tree.specs.declared.state.StateText.{StateText, StateText', Row_of-StateText, end_of-StateText}
+use Rattle.chart_tree.specs.declared.state.StateText.{more_of-StateText, out-StateText, outs-StateText'}
+use Rattle.chart_tree.specs.declared.state.StateText.{items-the_row-StateText, items_shown-the_row-StateText-0}
 use Rattle.chart_tree.specs.Trees.{Parts, State, StateOf}
 use Rattle.chart_tree.specs.Views.{block_of, trans_of, junction_of, state_of, states_of}
 use Rattle.chart_print.specs.Pieces.{Piece}
-use Rattle.chart_print.specs.Canonical.{parts_in, states_in, head_line, parts_pieces, end_line, state_pieces, states_pieces}
+use Rattle.chart_print.specs.Canonical.{parts_in, states_in, head_line, parts_pieces, end_line, state_pieces}
+use Rattle.chart_print.specs.Canonical.{states_pieces}
 use Rattle.chart_print.proofs.Written.{printed}
 
 -- what a state of the code has beside its child states
@@ -50,7 +54,8 @@ inner-seen s = ap (λ (p : Parts). p.inner) (parts-seen s)
 pub default-seen : (s : StateText) → (parts_in (state_of s)).default ≡ map trans_of (items_of (out-StateText s).default)
 default-seen s = ap (λ (p : Parts). p.default) (parts-seen s)
 
-pub junctions-seen : (s : StateText) → (parts_in (state_of s)).junctions ≡ map junction_of (items_of (out-StateText s).junctions)
+pub junctions-seen : (s : StateText)
+    → (parts_in (state_of s)).junctions ≡ map junction_of (items_of (out-StateText s).junctions)
 junctions-seen s = ap (λ (p : Parts). p.junctions) (parts-seen s)
 
 -- the states of a row, one after the other
@@ -58,11 +63,13 @@ states-row : (level : ℕ) (n : _) (row : Row_of-StateText n)
     → states_pieces level (states_of row) ≡ flat_map (state_pieces level) (map state_of (items-the_row-StateText n row))
 unfolding states_pieces
 states-row level n end_of-StateText = refl
-states-row level _ (more_of-StateText {n = n} state others) = ap (λ (ps : List Piece). state_pieces level (state_of state) ++ ps) (states-row level n others)
+states-row level _ (more_of-StateText {n = n} state others) =
+    ap (λ (ps : List Piece). state_pieces level (state_of state) ++ ps) (states-row level n others)
 
 -- the child states of a state of the code
 pub states-seen : (level : ℕ) (s : StateText)
-    → states_pieces level (states_in (state_of s)) ≡ flat_map (state_pieces level) (map state_of (items_of (out-StateText s).states))
+    → states_pieces level (states_in (state_of s)) ≡ flat_map (state_pieces level)
+    (map state_of (items_of (out-StateText s).states))
 states-seen level (StateText' name comp entry during exit outer inner default junctions shape states) =
     rw (outs-StateText' name comp entry during exit outer inner default junctions shape states, items_shown-the_row-StateText-0 shape states)
     (states-row level _ states)
@@ -75,7 +82,8 @@ unfolding state_pieces
 state_pieces-parts level (StateOf parts states) = refl
 
 -- the parts of a state as the code has them
-pub ruleset fields = (name-seen, comp-seen, entry-seen, during-seen, exit-seen, outer-seen, inner-seen, default-seen, junctions-seen)
+pub ruleset fields =
+    (name-seen, comp-seen, entry-seen, during-seen, exit-seen, outer-seen, inner-seen, default-seen, junctions-seen)
 
 -- what is written of a state
 pub ruleset seen = (printed, fields, states-seen, state_pieces-parts)

@@ -1,5 +1,6 @@
 -- Texts with pieces after them.
-use Rattle.std.proofs.Common.{◌≡◌, ℕ, zero, suc, ◌+◌, ◌-◌, ◌<◌, List, [], ◌∷◌, ◌++◌, refl, ap, sym, ◌∙◌, append_assoc, arith}
+use Rattle.std.proofs.Common.{◌≡◌, ℕ, zero, suc, ◌+◌, ◌-◌, ◌<◌, List, [], ◌∷◌, ◌++◌, refl, ap, sym, ◌∙◌, append_assoc}
+use Rattle.std.proofs.Common.{arith}
 use Rattle.std.specs.Prelude.{codes}
 use Rattle.std.proofs.lemmas.List.{append-nil}
 use Rattle.std.proofs.lemmas.Grind.{common_steps, flat_map-append}
@@ -7,9 +8,11 @@ use Rattle.token_grammar.specs.declared.token.Kind.{Kind}
 use Rattle.chart_print.specs.Pieces.{Piece, Token, Blank, piece_bytes, bytes_of, written, indent}
 
 -- pieces one after the other are written one after the other
-pub written-append : (text : List ℕ) (front back : List Piece) → written text (front ++ back) ≡ written (written text front) back
+pub written-append : (text : List ℕ) (front back : List Piece)
+    → written text (front ++ back) ≡ written (written text front) back
 unfolding written bytes_of
-written-append text front back = rw (flat_map-append piece_bytes front back) (sym (append_assoc text (bytes_of front) (bytes_of back)))
+written-append text front back =
+    rw (flat_map-append piece_bytes front back) (sym (append_assoc text (bytes_of front) (bytes_of back)))
 
 -- no pieces add nothing
 pub written-none : (text : List ℕ) → written text [] ≡ text
@@ -17,10 +20,12 @@ unfolding written bytes_of
 written-none text = append-nil text
 
 -- one piece adds its bytes
-pub written-token : (text : List ℕ) (kind : Kind) (bytes : List ℕ) → written text (Token kind bytes ∷ []) ≡ text ++ bytes
+pub written-token : (text : List ℕ) (kind : Kind) (bytes : List ℕ)
+    → written text (Token kind bytes ∷ []) ≡ text ++ bytes
 unfolding written bytes_of
 written-token text kind bytes = ap (λ (bs : List ℕ). text ++ bs) (append-nil bytes)
 
+-- a blank is written as its bytes
 pub written-blank : (text : List ℕ) (bytes : List ℕ) → written text (Blank bytes ∷ []) ≡ text ++ bytes
 unfolding written bytes_of
 written-blank text bytes = ap (λ (bs : List ℕ). text ++ bs) (append-nil bytes)
@@ -39,12 +44,14 @@ unfolding indent
 written-indent_none text level none = rw none (written-none text)
 
 -- the blanks of one level, and those of the others
-pub written-indent_more : (text : List ℕ) (level : ℕ) → 0 < level → written text (indent level) ≡ written (text ++ codes "  ") (indent (level - 1))
+pub written-indent_more : (text : List ℕ) (level : ℕ) → 0 < level
+    → written text (indent level) ≡ written (text ++ codes "  ") (indent (level - 1))
 unfolding indent
 written-indent_more text zero some = absurd (omega arith)
 written-indent_more text (suc level) some =
     let less : suc level - 1 ≡ level = omega arith in
-    rw less (written-append text (Blank (codes "  ") ∷ []) (indent level) ∙ ap (λ (t : List ℕ). written t (indent level)) (written-blank text (codes "  ")))
+    rw less (written-append text (Blank (codes "  ") ∷ []) (indent level)
+    ∙ ap (λ (t : List ℕ). written t (indent level)) (written-blank text (codes "  ")))
 
 -- one more level has its blanks, and those of the levels to come are left
 pub indent_step : (before now next : List ℕ) (level counter : ℕ) → counter < level

@@ -7,7 +7,8 @@ use Rattle.chart_tree.specs.declared.name.NameText.{NameText}
 use Rattle.chart_tree.specs.declared.chart.EventText.{EventText}
 use Rattle.chart_tree.specs.declared.state.CompText.{CompText}
 use Rattle.chart_tree.specs.declared.state.CompText.TheVariants as comps
-use Rattle.chart_tree.specs.Trees.{Stmt, Trans, Junction, Parts, State, StateOf, States, NoState, MoreStates, Var, Chart}
+use Rattle.chart_tree.specs.Trees.{Stmt, Trans, Junction, Parts, State, StateOf, States, NoState, MoreStates, Var}
+use Rattle.chart_tree.specs.Trees.{Chart}
 use Rattle.chart_print.specs.Pieces.{Piece, bytes_of, key, space, line}
 use Rattle.chart_print.specs.Words.{name_pieces}
 use Rattle.chart_print.specs.Transitions.{block_pieces, unless_empty, trans_pieces}

@@ -6,7 +6,9 @@ use Rattle.chart_tree.specs.declared.name.NameText.{NameText}
 use Rattle.chart_tree.specs.declared.sort.InitText.{InitText}
 use Rattle.chart_tree.specs.declared.sort.InitText.TheVariants as inits
 use Rattle.chart_tree.specs.declared.chart.EventText.{EventText}
-use Rattle.chart_tree.specs.Trees.{Var, Path, Expr, Lit, Flag, Name, Active, Unary, Binary, Stmt, Assign, Send, Emit, Dest, ToState, ToJunction, Guard, Trans, Junction, Parts, State, StateOf, States, NoState, MoreStates, Chart}
+use Rattle.chart_tree.specs.Trees.{Var, Path, Expr, Lit, Flag, Name, Active, Unary, Binary, Stmt, Assign, Send, Emit}
+use Rattle.chart_tree.specs.Trees.{Dest, ToState, ToJunction, Guard, Trans, Junction, Parts, State, StateOf, States}
+use Rattle.chart_tree.specs.Trees.{NoState, MoreStates, Chart}
 
 -- the place that all have in place of their own
 abbrev pub nowhere : Span

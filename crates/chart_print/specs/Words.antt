@@ -1,5 +1,6 @@
 -- Names, paths, numbers and types.
-use Rattle.std.specs.Prelude.{ℕ, ◌/◌, ◌^◌, ◌==◌, Bool, ◌&&◌, ◌||◌, if◌then◌else◌, List, [], ◌∷◌, ◌++◌, Option, Some, None, codes, decimal}
+use Rattle.std.specs.Prelude.{ℕ, ◌/◌, ◌^◌, ◌==◌, Bool, ◌&&◌, ◌||◌, if◌then◌else◌, List, [], ◌∷◌, ◌++◌, Option, Some}
+use Rattle.std.specs.Prelude.{None, codes, decimal}
 use Rattle.std.specs.List.{flat_map}
 use Rattle.token_grammar.specs.declared.token.Kind.TheVariants as kinds
 use Rattle.fixed_point.specs.declared.fitting.Mode.{Mode}

@@ -6,17 +6,11 @@
 
 mod chart;
 mod declarations;
-#[cfg(test)]
-mod demo;
 mod expressions;
 mod kinds;
 mod laws;
 mod printer;
-#[cfg(test)]
-mod samples;
 mod states;
-#[cfg(test)]
-mod tests;
 mod transitions;
 mod words;
 

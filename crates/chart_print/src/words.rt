@@ -77,7 +77,7 @@ impl Printer {
         self.last_digits(units, places)
     }
 
-    /// Appends the last digits of a number, so many of them.
+    /// Appends the last `places` digits of a number.
     #[tactic(auto, using(crate::proofs::Digits::digits))]
     fn last_digits(&mut self, number: u128, count: u8) -> Result<(), AllocError>
         ensures { OnOk result (self.new ≡ self.old ++ last_digits count number) }
@@ -168,7 +168,7 @@ impl Printer {
     }
 }
 
-/// The part of a number before its last digits, so many of them.
+/// The part of a number before its last `places` digits.
 fn whole_of(number: u128, places: u8) -> u128
     ensures { result ≡ number / 10 ^ places }
 {

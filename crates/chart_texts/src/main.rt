@@ -4,6 +4,10 @@
 
 mod answer;
 mod escape;
+#[cfg(test)]
+mod limit_tests;
+#[cfg(test)]
+mod tree_tests;
 
 use answer::answer_line;
 use escape::Escaped;

@@ -7,6 +7,7 @@ use Rattle.chart_lexer.specs.Words.{is_name}
 use Rattle.flat_syntax.specs.declared.tree.FlatTrans.{FlatTrans}
 use Rattle.flat_syntax.specs.declared.tree.FlatState.{FlatState}
 use Rattle.flat_syntax.specs.declared.tree.FlatChart.{FlatChart}
+use Rattle.flat_syntax.specs.declared.limits.TheConstants.{FLAT_EVENT_LIMIT, FLAT_STATE_LIMIT, FLAT_TRANSITION_LIMIT}
 
 -- a state: its name, and its transitions in order
 pub record State : Type 0 where
@@ -26,7 +27,13 @@ state_of s = record { name = s.name; outer = items_of s.outer }
 
 -- a chart of the code as a contract sees it
 abbrev pub chart_of : FlatChart → Chart
-chart_of c = record { name = c.name; events = items_of c.events; default = c.default; states = map state_of (items_of c.states) }
+chart_of c = record {
+  name = c.name;
+  events = items_of c.events;
+  default = c.default;
+  states = map state_of
+      (items_of c.states);
+}
 
 -- the names of the states, in order
 abbrev pub state_names : Chart → List (List ℕ)
@@ -41,7 +48,8 @@ pub record TransInRange (events states : ℕ) (t : FlatTrans) : Type 0 where
 pub record InRange (c : Chart) : Type 0 where
   pub events : length c.events < 2 ^ 32
   pub default : c.default < length c.states
-  pub transitions : AllByRecursion (λ (s : State). AllByRecursion (TransInRange (length c.events) (length c.states)) s.outer) c.states
+  pub transitions : AllByRecursion
+      (λ (s : State). AllByRecursion (TransInRange (length c.events) (length c.states)) s.outer) c.states
 
 -- numbers are in range, names are NAMEs and different, and the limits hold
 pub record IsValid (c : Chart) : Type 0 where
@@ -51,6 +59,6 @@ pub record IsValid (c : Chart) : Type 0 where
   pub states_differ : are_distinct (state_names c) ≡ true
   pub event_names : list_all is_name c.events ≡ true
   pub state_names : list_all is_name (state_names c) ≡ true
-  pub few_events : length c.events ≤ 64
-  pub few_states : length c.states ≤ 64
-  pub few_transitions : AllByRecursion (λ (s : State). length s.outer ≤ 1024) c.states
+  pub few_events : length c.events ≤ FLAT_EVENT_LIMIT
+  pub few_states : length c.states ≤ FLAT_STATE_LIMIT
+  pub few_transitions : AllByRecursion (λ (s : State). length s.outer ≤ FLAT_TRANSITION_LIMIT) c.states

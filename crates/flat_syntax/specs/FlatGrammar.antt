@@ -1,8 +1,9 @@
--- The grammar of flat charts, with its limits: 64 events, 64 states and 1,024 transitions.
+-- The grammar of flat charts, with its limits.
 use Rattle.std.specs.Prelude.{ℕ, ◌+◌, ◌-◌, List, ◌∷◌, length}
 use Rattle.token_grammar.specs.declared.token.Kind.TheVariants as kinds
 use Rattle.token_grammar.specs.Token.{Lexeme}
 use Rattle.token_grammar.specs.Grammar.{Grammar, is, token, give, up_to, up_to_from, ◌>>=◌, ◌>>◌}
+use Rattle.flat_syntax.specs.declared.limits.TheConstants.{FLAT_EVENT_LIMIT, FLAT_STATE_LIMIT, FLAT_TRANSITION_LIMIT}
 
 -- a transition with the names that it has in the text
 pub record SpelledTrans : Type 0 where
@@ -35,13 +36,13 @@ trans = do
 unfoldable pub transes : ℕ → Grammar (List SpelledTrans)
 transes room = up_to (is kinds.Outer) trans room
 
--- state := 'state' NAME '{' trans* '}', after so many transitions of the chart
+-- state := 'state' NAME '{' trans* '}', after `before` transitions of the chart
 unfoldable pub state : ℕ → Grammar SpelledState
 state before = do
   token kinds.State
   name ← token kinds.Name
   token kinds.OpenBrace
-  outer ← transes (1024 - before)
+  outer ← transes (FLAT_TRANSITION_LIMIT - before)
   token kinds.CloseBrace
   give (record { name = name; outer = outer })
 
@@ -49,9 +50,9 @@ state before = do
 abbrev pub counted : ℕ → SpelledState → ℕ
 counted before s = before + length s.outer
 
--- state*, at most 63, after the first state
+-- state*, after the first state: with it at most FLAT_STATE_LIMIT
 unfoldable pub states : ℕ → Grammar (List SpelledState)
-states before = up_to_from (is kinds.State) state counted 63 before
+states before = up_to_from (is kinds.State) state counted (FLAT_STATE_LIMIT - 1) before
 
 -- event := 'event' 'input' NAME ';'
 unfoldable pub event : Grammar Lexeme
@@ -62,9 +63,9 @@ event = do
   token kinds.Semicolon
   give name
 
--- event*, at most 64
+-- event*, at most FLAT_EVENT_LIMIT
 unfoldable pub events : Grammar (List Lexeme)
-events = up_to (is kinds.Event) event 64
+events = up_to (is kinds.Event) event FLAT_EVENT_LIMIT
 
 -- default := 'default' '->' NAME ';'
 unfoldable pub default : Grammar Lexeme

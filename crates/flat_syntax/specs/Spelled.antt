@@ -13,6 +13,7 @@ use Rattle.flat_syntax.specs.declared.spelled.StateTokens.{StateTokens}
 use Rattle.flat_syntax.specs.declared.spelled.ChartTokens.{ChartTokens}
 use Rattle.flat_syntax.specs.declared.reader.Refusal.{Refusal}
 use Rattle.flat_syntax.specs.declared.reader.Refusal.TheVariants as refusals
+use Rattle.flat_syntax.specs.declared.limits.TheConstants.{FLAT_EVENT_LIMIT, FLAT_STATE_LIMIT, FLAT_TRANSITION_LIMIT}
 use Rattle.flat_syntax.specs.FlatGrammar.{SpelledTrans, SpelledState, SpelledChart, chart}
 use Rattle.flat_syntax.specs.FlatNames.{texts}
 
@@ -48,15 +49,15 @@ HasName t = is_name t.text ≡ true
 -- a state whose name is a NAME, with at most as many transitions as a chart may have
 pub record IsSmallState (s : SpelledState) : Type 0 where
   pub name : HasName s.name
-  pub few_transitions : length s.outer ≤ 1024
+  pub few_transitions : length s.outer ≤ FLAT_TRANSITION_LIMIT
 
 -- a chart within the limits, whose declared names are NAMEs
 pub record IsSmall (c : SpelledChart) : Type 0 where
   pub name : HasName c.name
   pub events : AllByRecursion HasName c.events
   pub states : AllByRecursion IsSmallState c.states
-  pub few_events : length c.events ≤ 64
-  pub few_states : length c.states ≤ 64
+  pub few_events : length c.events ≤ FLAT_EVENT_LIMIT
+  pub few_states : length c.states ≤ FLAT_STATE_LIMIT
 
 -- where the token at hand is at fault, or the end
 abbrev pub refusal_at : List Lexeme → Refusal

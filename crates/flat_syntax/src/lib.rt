@@ -5,6 +5,7 @@
 //! `specs/FlatText.antt` first, in this order.
 #![tactic(auto)]
 
+mod limits;
 mod names;
 mod reader;
 mod spelled;
@@ -12,6 +13,7 @@ mod text;
 mod tree;
 
 pub use chart_tree::{FormFault, FormKind};
+pub use limits::{FLAT_EVENT_LIMIT, FLAT_STATE_LIMIT, FLAT_TRANSITION_LIMIT};
 pub use text::read_flat;
 pub use token_grammar::Span;
 pub use tree::{FlatChart, FlatState, FlatTrans};

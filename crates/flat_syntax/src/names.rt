@@ -1,16 +1,17 @@
 //! The names of a flat chart: the first that is at fault, and numbers in their place.
-ghost use Rattle.std.specs.Prelude.{◌≡◌, ◌≤◌, true, [], map, length, IfOk, IfSome, ◌<◌};
+ghost use Rattle.std.specs.Prelude.{◌≡◌, ◌≤◌, [], map, length, IfOk, IfSome, ◌<◌};
 ghost use Rattle.std.specs.List.{AllByRecursion};
 ghost use Rattle.flow_base.specs.Lists.{items_of};
 ghost use Rattle.flow_base.specs.Names.{index_of};
 ghost use Rattle.token_grammar.specs.Token.{lexemes};
-ghost use Rattle.chart_lexer.specs.Words.{is_name};
+ghost use Rattle.flat_syntax.specs.declared.limits.TheConstants.{FLAT_EVENT_LIMIT, FLAT_STATE_LIMIT};
 ghost use Rattle.flat_syntax.specs.FlatChart.{state_of, chart_of};
 ghost use Rattle.flat_syntax.specs.FlatNames as spec;
 ghost use Rattle.flat_syntax.specs.Spelled.{trans_spelled, state_spelled, chart_spelled, event_names, state_names, HasName, IsSmallState, IsSmall};
 
 use crate::spelled::{ChartTokens, StateTokens, TransTokens};
 use crate::tree::{FlatChart, FlatState, FlatTrans};
+use chart_lexer::name_text;
 use flow_base::{List, Text};
 use std::alloc::{AllocError, Global};
 use token_grammar::{Span, Token};
@@ -93,17 +94,6 @@ pub fn name_fault(chart: &ChartTokens<'_>) -> Option<Span>
     states_fault(&chart.events, &chart.states)
 }
 
-/// The bytes of a name as a text of their own.
-fn name_text(alloc: Global, name: &[u8]) -> Result<Text, AllocError>
-    requires { is_name name.now ≡ true }
-    ensures { IfOk result (λ t. t ≡ name.now) }
-{
-    match str::from_utf8(name) {
-        Ok(text) => Ok(Text::of(String::from_str(alloc, text)?)),
-        Err(_) => unreachable!(),
-    }
-}
-
 /// The texts of the events, in order.
 fn event_texts(alloc: Global, events: &[Token<'_>]) -> Result<Vec<Text>, AllocError>
     requires { AllByRecursion HasName (lexemes events.now) }
@@ -122,8 +112,8 @@ fn numbered_trans(
     states: &[StateTokens<'_>],
     trans: &TransTokens<'_>,
 ) -> FlatTrans
-    requires events { length events.now ≤ 64 }
-    requires states { length states.now ≤ 64 }
+    requires events { length events.now ≤ FLAT_EVENT_LIMIT }
+    requires states { length states.now ≤ FLAT_STATE_LIMIT }
     ensures { result ≡ spec.numbered_trans (event_names events.now) (state_names states.now)
         (trans_spelled trans.now) }
 {
@@ -140,8 +130,8 @@ fn numbered_transes(
     states: &[StateTokens<'_>],
     outer: &[TransTokens<'_>],
 ) -> Result<Vec<FlatTrans>, AllocError>
-    requires events { length events.now ≤ 64 }
-    requires states { length states.now ≤ 64 }
+    requires events { length events.now ≤ FLAT_EVENT_LIMIT }
+    requires states { length states.now ≤ FLAT_STATE_LIMIT }
     ensures { IfOk result (λ v. v.items
         ≡ map (spec.numbered_trans (event_names events.now) (state_names states.now))
         (map trans_spelled outer.now)) }
@@ -159,8 +149,8 @@ fn numbered_states(
     events: &[Token<'_>],
     states: &[StateTokens<'_>],
 ) -> Result<Vec<FlatState>, AllocError>
-    requires events { length events.now ≤ 64 }
-    requires states { length states.now ≤ 64 }
+    requires events { length events.now ≤ FLAT_EVENT_LIMIT }
+    requires states { length states.now ≤ FLAT_STATE_LIMIT }
     requires names { AllByRecursion IsSmallState (map state_spelled states.now) }
     ensures { IfOk result (λ v. map state_of v.items
         ≡ map (spec.numbered_state (event_names events.now) (state_names states.now))

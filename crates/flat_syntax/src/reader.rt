@@ -6,18 +6,10 @@ ghost use Rattle.flat_syntax.specs.FlatGrammar as grammar;
 ghost use Rattle.flat_syntax.specs.FlatGrammar.{SpelledChart};
 ghost use Rattle.flat_syntax.specs.Spelled.{trans_spelled, state_spelled, chart_spelled, refusal_at, IsFirstFault, IsSpelledAs};
 
+use crate::limits::{FLAT_EVENT_LIMIT, FLAT_STATE_LIMIT, FLAT_TRANSITION_LIMIT};
 use crate::spelled::{ChartTokens, StateTokens, TransTokens};
 use std::alloc::Global;
 use token_grammar::{Cursor, Fault, Kind, ReadError, Span, Token};
-
-/// The greatest number of events in a chart.
-const EVENTS: usize = 64;
-
-/// The greatest number of states after the first.
-const OTHER_STATES: usize = 63;
-
-/// The greatest number of transitions in a chart.
-const TRANSITIONS: usize = 1_024;
 
 #[tactic(auto, unfolding(crate::specs::FlatGrammar::trans))]
 fn read_trans<'a>(cursor: &mut Cursor<'_, 'a>) -> Result<TransTokens<'a>, ReadError>
@@ -32,7 +24,7 @@ fn read_trans<'a>(cursor: &mut Cursor<'_, 'a>) -> Result<TransTokens<'a>, ReadEr
     Ok(TransTokens { event, dest })
 }
 
-/// The transitions of a state, as many as the chart still may have.
+/// The transitions of a state, at most `room`: as many as the chart still may have.
 fn read_transes<'a>(
     cursor: &mut Cursor<'_, 'a>,
     room: usize,
@@ -49,33 +41,33 @@ fn read_transes<'a>(
     Ok(found)
 }
 
-/// A state, after so many transitions of the chart.
+/// A state, after `before` transitions of the chart.
 #[tactic(auto, unfolding(crate::specs::FlatGrammar::state))]
 fn read_state<'a>(cursor: &mut Cursor<'_, 'a>, before: usize) -> Result<StateTokens<'a>, ReadError>
     ensures read { Gives state_spelled result (lexemes cursor.new.rest.now)
         ((grammar.state before).reads (lexemes cursor.old.rest.now)) }
-    ensures few { IfOk result (λ s. vec_len s.outer ≤ 1024 - before) }
+    ensures few { IfOk result (λ s. vec_len s.outer ≤ FLAT_TRANSITION_LIMIT - before) }
 {
     cursor.token(Kind::State)?;
     let name = cursor.token(Kind::Name)?;
     cursor.token(Kind::OpenBrace)?;
-    let outer = read_transes(cursor, TRANSITIONS.saturating_sub(before))?;
+    let outer = read_transes(cursor, FLAT_TRANSITION_LIMIT.saturating_sub(before))?;
     cursor.token(Kind::CloseBrace)?;
     Ok(StateTokens { name, outer })
 }
 
-/// The states after the first, which has so many transitions.
+/// The states after the first, which has `before` transitions.
 fn read_states<'a>(
     cursor: &mut Cursor<'_, 'a>,
     before: usize,
 ) -> Result<Vec<StateTokens<'a>>, ReadError>
-    requires { before ≤ 1024 }
+    requires { before ≤ FLAT_TRANSITION_LIMIT }
     ensures { Gives (λ v. map state_spelled v.items) result (lexemes cursor.new.rest.now)
         ((grammar.states before).reads (lexemes cursor.old.rest.now)) }
 {
     let mut found = Vec::new(cursor.alloc);
     let mut transitions = before;
-    'items: while found.len() < OTHER_STATES && cursor.is_at(Kind::State) {
+    'items: while found.len() < FLAT_STATE_LIMIT - 1 && cursor.is_at(Kind::State) {
         let item = read_state(cursor, transitions)?;
         transitions += item.outer.len();
         found.push(item)?;
@@ -100,7 +92,7 @@ fn read_events<'a>(cursor: &mut Cursor<'_, 'a>) -> Result<Vec<Token<'a>>, ReadEr
         (grammar.events.reads (lexemes cursor.old.rest.now)) }
 {
     let mut found = Vec::new(cursor.alloc);
-    'items: while found.len() < EVENTS && cursor.is_at(Kind::Event) {
+    'items: while found.len() < FLAT_EVENT_LIMIT && cursor.is_at(Kind::Event) {
         let item = read_event(cursor)?;
         found.push(item)?;
     }
@@ -120,7 +112,7 @@ fn read_default<'a>(cursor: &mut Cursor<'_, 'a>) -> Result<Token<'a>, ReadError>
 }
 
 #[tactic(auto, unfolding(crate::specs::FlatGrammar::chart))]
-fn read_chart<'a>(cursor: &mut Cursor<'_, 'a>) -> Result<ChartTokens<'a>, ReadError>
+fn read_flat_chart<'a>(cursor: &mut Cursor<'_, 'a>) -> Result<ChartTokens<'a>, ReadError>
     ensures { Gives chart_spelled result (lexemes cursor.new.rest.now)
         (grammar.chart.reads (lexemes cursor.old.rest.now)) }
 {
@@ -147,7 +139,7 @@ fn read_whole<'a>(cursor: &mut Cursor<'_, 'a>) -> Result<ChartTokens<'a>, ReadEr
     ensures { Gives chart_spelled result (lexemes cursor.new.rest.now)
         (whole_reads grammar.chart (lexemes cursor.old.rest.now)) }
 {
-    let chart = read_chart(cursor)?;
+    let chart = read_flat_chart(cursor)?;
     match cursor.rest {
         [] => Ok(chart),
         [_, ..] => Err(ReadError::Fault(Fault::Expected)),

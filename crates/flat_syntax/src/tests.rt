@@ -1,4 +1,4 @@
-//! Flat charts and texts that are none, worked by hand.
+//! Flat charts, and texts that spell none with their refusals, worked by hand.
 use super::{FlatChart, FormFault, read_flat};
 use std::alloc::{AllocError, Global};
 use std::fmt::Write;
@@ -129,7 +129,7 @@ fn expects_more_after_each_token(rt: HostRuntime) -> Result<(), Fail> {
     Ok(())
 }
 
-/// A chart with so many events, and for each number a state with so many transitions, a line each.
+/// A chart with that number of events, and for each number a state with that many transitions.
 fn chart_text(alloc: Global, events: u32, states: &[u32]) -> Result<String, AllocError> {
     let mut text = String::from_str(alloc, "chart C or {\n")?;
     for i in 0..events {

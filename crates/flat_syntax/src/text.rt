@@ -10,16 +10,13 @@ use crate::reader::{Refusal, read_tokens};
 use crate::spelled::ChartTokens;
 use crate::tree::FlatChart;
 use chart_lexer::{Stop, lex};
-use chart_tree::{FormFault, FormKind};
+use chart_tree::{CHART_TEXT_LIMIT, FormFault, FormKind};
 use std::alloc::Global;
 use token_grammar::Span;
 
-/// The greatest number of bytes in a chart text.
-const LONGEST: usize = 1_048_576;
-
 /// The chart that the text spells, before its names are looked up.
 fn read_spelled<'a>(alloc: Global, text: &'a [u8]) -> Result<ChartTokens<'a>, FormFault>
-    requires { length text.now ≤ 1048576 }
+    requires { length text.now ≤ CHART_TEXT_LIMIT }
     ensures found { IfOk result (λ c. Spells text.now (chart_spelled c)) }
     ensures only { (c : SpelledChart) → Spells text.now c → IsReadAsSpelled c result }
     ensures refused { IfErr result (IsRefusal text.now) }
@@ -39,7 +36,7 @@ fn read_spelled<'a>(alloc: Global, text: &'a [u8]) -> Result<ChartTokens<'a>, Fo
 
 /// The flat chart that the text spells, with numbers in place of names.
 ///
-/// A text of over 1,048,576 bytes is `TextTooLong` at its first byte, before all else. A text that
+/// A text of over `CHART_TEXT_LIMIT` bytes is `TextTooLong` at its first byte, before all else. A text that
 /// ends where a chart isn't finished is `Expected` just after its last byte. Any other text that is
 /// no flat chart is `NotBuilt` at its first token, or byte that begins none, that doesn't continue
 /// one or is one more than a limit; or, where the grammar and the limits hold, at the first name
@@ -54,7 +51,7 @@ pub fn read_flat(alloc: Global, text: &[u8]) -> Result<FlatChart, FormFault>
     // Its names and counts are those of a chart.
     ensures valid { IfOk result (λ c. IsValid (chart_of c)) }
 {
-    if text.len() > LONGEST {
+    if text.len() > CHART_TEXT_LIMIT {
         let begin = Span { line: 1, column: 1 };
         return Err(FormFault::At(FormKind::TextTooLong, begin));
     }

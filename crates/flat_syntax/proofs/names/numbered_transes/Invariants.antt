@@ -5,4 +5,5 @@ use Rattle.flat_syntax.proofs.names.numbered_transes.Given as goal
 
 abbrev pub invariant-loop-trans : goal.invariant-loop-trans
 invariant-loop-trans l =
-    l.found.items ≡ map (spec.numbered_trans (event_names l.events) (state_names l.states)) (map trans_spelled (take l.trans-index l.outer))
+    l.found.items ≡ map (spec.numbered_trans (event_names l.events) (state_names l.states))
+    (map trans_spelled (take l.trans-index l.outer))

@@ -6,5 +6,6 @@ use Rattle.flat_syntax.proofs.names.states_fault.Given as goal
 -- after the states before it, the rest has the fault of all of them
 abbrev pub invariant-loop-i : goal.invariant-loop-i
 invariant-loop-i l =
-    spec.states_fault (event_names l.events) (state_names l.states) (state_names (take l.i l.states)) (map state_spelled (drop l.i l.states))
+    spec.states_fault (event_names l.events) (state_names l.states) (state_names (take l.i l.states))
+    (map state_spelled (drop l.i l.states))
     ≡ spec.states_fault (event_names l.events) (state_names l.states) [] (map state_spelled l.states)

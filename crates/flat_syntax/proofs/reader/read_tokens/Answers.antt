@@ -16,9 +16,12 @@ returns-in-Ok-clause-only c =
 
 pub returns-in-Err-Fault-clause-only : goal.returns-in-Err-Fault-clause-only
 returns-in-Err-Fault-clause-only c =
-    λ x h. absurd (not_spelled (lexemes c.args.tokens.now) _ c.in-Err-Fault.field-0-0 (rw c.in-Err-Fault.field-0-is at c.in-Err-Fault.ensures) x h)
+    λ x h. absurd
+    (not_spelled (lexemes c.args.tokens.now) _ c.in-Err-Fault.field-0-0
+    (rw c.in-Err-Fault.field-0-is at c.in-Err-Fault.ensures) x h)
 
 pub returns-in-Err-Fault-clause-refused : goal.returns-in-Err-Fault-clause-refused
 returns-in-Err-Fault-clause-refused c =
-    refused_at (lexemes c.args.tokens.now) (lexemes c.read_whole.new.cursor.rest.now) c.in-Err-Fault.field-0-0 c.refusal_of.result
+    refused_at (lexemes c.args.tokens.now)
+    (lexemes c.read_whole.new.cursor.rest.now) c.in-Err-Fault.field-0-0 c.refusal_of.result
     (rw c.in-Err-Fault.field-0-is at c.in-Err-Fault.ensures) c.refusal_of.ensures

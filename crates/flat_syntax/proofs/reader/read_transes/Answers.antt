@@ -14,7 +14,8 @@ pub items-init : goal.items-init
 unfolding transes
 items-init c = record {
   few = omega arith;
-  so_far = counted_begins (is kinds.Outer) (λ (done : ℕ). trans) (λ done x. done) c.args.room _ 0 _ _ (ap (map trans_spelled) c.new-found.ensures.items) c.new-found.ensures.len;
+  so_far = counted_begins (is kinds.Outer) (λ (done : ℕ). trans) (λ done x. done) c.args.room _ 0 _ _
+      (ap (map trans_spelled) c.new-found.ensures.items) c.new-found.ensures.len;
 }
 
 pub returns-in_err-item-clause-read : goal.returns-in_err-item-clause-read
@@ -24,13 +25,16 @@ returns-in_err-item-clause-read c =
     let here : heads (is kinds.Outer) (lexemes c.items.cursor.rest.now) ≡ true = cc in
     let few : vec_len c.items.found < c.args.room = omega arith in
     rw (p.1, p.2)
-    (counted_fails (is kinds.Outer) (λ (done : ℕ). trans) (λ done x. done) c.args.room (vec_len c.items.found) 0 c.in_err-item.field-0.0
-    (map trans_spelled c.items.found.items) (lexemes c.items.cursor.rest.now) _ _ few here c.in_err-item.ensures c.items.invariant.so_far)
+    (counted_fails (is kinds.Outer) (λ (done : ℕ). trans) (λ done x. done) c.args.room
+    (vec_len c.items.found) 0 c.in_err-item.field-0.0
+    (map trans_spelled c.items.found.items)
+    (lexemes c.items.cursor.rest.now) _ _ few here c.in_err-item.ensures c.items.invariant.so_far)
 
 pub items-preserved : goal.items-preserved
 unfolding transes
 items-preserved c =
-    let found : map trans_spelled c.push.new.self.items ≡ map trans_spelled c.items.found.items ++ trans_spelled c.in_ok-item.item ∷ [] =
+    let found : map trans_spelled c.push.new.self.items
+    ≡ map trans_spelled c.items.found.items ++ trans_spelled c.in_ok-item.item ∷ [] =
     rw c.in_ok-push.ensures.items (map_push _ c.items.found.items c.in_ok-item.item) in
     let here : heads (is kinds.Outer) (lexemes c.items.cursor.rest.now) ≡ true = cc in
     let few : vec_len c.items.found < c.args.room = omega arith in
@@ -38,7 +42,8 @@ items-preserved c =
       few = omega (arith, c.in_ok-push.ensures.len);
       so_far = rw (found, c.in_ok-push.ensures.len)
           (counted_goes_on (is kinds.Outer) (λ (done : ℕ). trans) (λ done x. done) c.args.room (vec_len c.items.found) 0
-          (map trans_spelled c.items.found.items) (lexemes c.items.cursor.rest.now) _ _ _ few here c.in_ok-item.ensures c.items.invariant.so_far);
+          (map trans_spelled c.items.found.items)
+          (lexemes c.items.cursor.rest.now) _ _ _ few here c.in_ok-item.ensures c.items.invariant.so_far);
     }
 
 pub returns-clause-read : goal.returns-clause-read

@@ -9,7 +9,8 @@ use Rattle.flat_syntax.proofs.reader.read_transes.Given as goal
 abbrev pub invariant-items : goal.invariant-items
 invariant-items l = record {
   few : vec_len l.found ≤ l.room;
-  so_far : after (map trans_spelled l.found.items) ((transes (l.room - vec_len l.found)).reads (lexemes l.cursor.rest.now))
+  so_far : after (map trans_spelled l.found.items)
+      ((transes (l.room - vec_len l.found)).reads (lexemes l.cursor.rest.now))
       ≡ (transes l.room).reads (lexemes l.initial.cursor.rest.now);
 }
 

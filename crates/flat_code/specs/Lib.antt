@@ -4,3 +4,4 @@ pub mod WellFormed
 pub mod World
 pub mod Machine
 pub mod Sound
+pub mod Small

@@ -18,7 +18,8 @@ mod refusal;
 
 pub use fault::CodeTextFault;
 pub use laws::{
-    a_text_is_read, no_text_begins_another, one_text_one_program, what_is_read_is_spelled_so,
+    a_text_is_read, no_text_begins_another, one_text_one_program, small_code_is_read,
+    what_is_read_is_spelled_so,
 };
 pub use printer::print_code;
 pub use reader::read_code;

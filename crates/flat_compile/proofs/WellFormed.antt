@@ -25,7 +25,7 @@ length-transes : (s : ℕ) (ts : List FlatTrans) (rest : List Instr) → length 
 length-transes s [] rest = omega arith
 length-transes s (t ∷ ts) rest = omega (arith, length-transes s ts rest)
 
-length-states : (k : ℕ) (xs : List State) → AllByRecursion (λ (x : State). length x.outer ≤ 1024) xs → length (states_code k xs) ≤ 4097 * length xs + 1
+pub length-states : (k : ℕ) (xs : List State) → AllByRecursion (λ (x : State). length x.outer ≤ 1024) xs → length (states_code k xs) ≤ 4097 * length xs + 1
 length-states k [] few = omega arith
 length-states k (x ∷ xs) few = omega (arith, length-transes k x.outer (states_code (k + 1) xs), length-states (k + 1) xs few.1, few.0)
 

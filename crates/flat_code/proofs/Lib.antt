@@ -1,3 +1,4 @@
 pub mod RunLemmas
 pub mod AcceptLemmas
 pub mod WellFormedLemmas
+pub mod CodeParts

@@ -9,7 +9,7 @@ pub enum CodeKind {
     BadNumber,
     /// An `Unless` passes over more than there is after it in its procedure.
     SkipOut,
-    /// Over 262,144 procedures, or a procedure of over 1,000,000,000 instructions.
+    /// Over `PROC_LIMIT` procedures, or a procedure of over `INSTR_LIMIT` instructions.
     TooManyProcs,
     /// A procedure has no instruction, or its last one isn't a `Ret`.
     NoRet,

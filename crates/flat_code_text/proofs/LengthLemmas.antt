@@ -1,5 +1,5 @@
 -- The text of small code is no longer than a text that is read.
-use Rattle.std.proofs.Common.{◌≡◌, ℕ, ◌*◌, ◌≤◌, List, [], ◌∷◌, ◌++◌, length, arith, length-append}
+use Rattle.std.proofs.Common.{◌≡◌, ℕ, ◌*◌, ◌≤◌, List, [], ◌∷◌, ◌++◌, length, Ok, refl, arith, length-append}
 use Rattle.std.specs.Prelude.{codes, decimal}
 use Rattle.std.specs.List.{flat_map, AllByRecursion}
 use Rattle.std.proofs.lemmas.Fmt.{length-decimal-le}
@@ -11,11 +11,14 @@ use Rattle.flat_code.specs.declared.instr.Instr.TheVariants as instrs
 use Rattle.flat_code.specs.Program.{Program}
 use Rattle.flat_code.specs.Small.{IsShort, IsSmall}
 use Rattle.flat_code.specs.WellFormed.{IsCode}
+use Rattle.flat_code_text.specs.declared.limits.TheConstants.{TEXT_LIMIT}
 use Rattle.flat_code_text.specs.Spelling.{cond_words, instr_line, state_lines, proc_lines, leaf_line, event_line}
 use Rattle.flat_code_text.specs.Spelling.{states_part, events_part, procs_part, end_line, code_lines, text_of, code_text}
 use Rattle.flat_code_text.specs.Spelling.{IsNumber, CondHasNumbers, HasNumbers}
+use Rattle.flat_code_text.specs.Reading.{outcome}
 use Rattle.flat_code_text.proofs.NameLemmas.{is_name-short}
 use Rattle.flat_code_text.proofs.EachLine.{HoldsOfLines, each_line}
+use Rattle.flat_code_text.proofs.OutcomeLemmas.{outcome-text}
 use Rattle.flat_code_text.proofs.SpellableLemmas.{code_spellable}
 
 -- a line of at most 72 bytes, as one of words and a name has
@@ -111,8 +114,13 @@ length-code_lines P small =
     )
 
 -- the text of small well-formed code is at most as long as a text that is read
-pub code_text-short : (P : Program) → IsSmall P → IsCode P → length (code_text P) ≤ 268435456
+pub code_text-short : (P : Program) → IsSmall P → IsCode P → length (code_text P) ≤ TEXT_LIMIT
 unfolding code_text
 code_text-short P small code =
     let short = each_line IsShortLine kinds_are_short P (code_spellable P code small.numbers) in
     omega (arith, length-text_of (code_lines P) short, length-code_lines P small)
+
+-- and it is read as that code
+pub code_text-read : (P : Program) → IsSmall P → IsCode P → outcome (code_text P) ≡ Ok P
+code_text-read P small code =
+    outcome-text (code_text P) P (code_spellable P code small.numbers) code refl (code_text-short P small code)

@@ -15,7 +15,7 @@ pub enum CodeTextFault {
     Trailing(u32),
     /// The first line begins with `flowcode ` and names another version than 1.
     Version,
-    /// The text has over 268,435,456 bytes.
+    /// The text has over `TEXT_LIMIT` bytes.
     TextTooLong,
     /// The text is read, and its code isn't well formed.
     Form(CodeFault),

@@ -3,12 +3,13 @@ ghost use Rattle.std.specs.Prelude.{◌≡◌, ◌≤◌, ℕ, List, [], ◌++�
 ghost use Rattle.flat_code.specs.Program.{Program};
 ghost use Rattle.flat_code.specs.Small.{IsSmall};
 ghost use Rattle.flat_code.specs.WellFormed.{IsCode};
+ghost use Rattle.flat_code_text.specs.declared.limits.TheConstants.{TEXT_LIMIT};
 ghost use Rattle.flat_code_text.specs.Spelling.{code_text, IsSpellable};
-ghost use Rattle.flat_code_text.specs.Reading.{spelled_program, outcome, text_limit};
+ghost use Rattle.flat_code_text.specs.Reading.{spelled_program, outcome};
 
 /// The text of a program is read as that program, well formed or not.
 pub fn a_text_is_read()
-    ensures { (P : Program) → IsSpellable P → length (code_text P) ≤ text_limit
+    ensures { (P : Program) → IsSpellable P → length (code_text P) ≤ TEXT_LIMIT
         → spelled_program (code_text P) ≡ Ok P }
 {}
 
@@ -31,6 +32,6 @@ pub fn no_text_begins_another()
 
 /// The text of small well-formed code isn't too long, and it is read as that code.
 pub fn small_code_is_read()
-    ensures short { (P : Program) → IsSmall P → IsCode P → length (code_text P) ≤ text_limit }
+    ensures short { (P : Program) → IsSmall P → IsCode P → length (code_text P) ≤ TEXT_LIMIT }
     ensures read { (P : Program) → IsSmall P → IsCode P → outcome (code_text P) ≡ Ok P }
 {}

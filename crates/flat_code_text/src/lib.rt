@@ -10,6 +10,7 @@ mod fault;
 mod fields;
 mod instr;
 mod laws;
+mod limits;
 mod lines;
 mod partial;
 mod printer;
@@ -21,6 +22,7 @@ pub use laws::{
     a_text_is_read, no_text_begins_another, one_text_one_program, small_code_is_read,
     what_is_read_is_spelled_so,
 };
+pub use limits::TEXT_LIMIT;
 pub use printer::print_code;
 pub use reader::read_code;
 

@@ -15,7 +15,7 @@ mod limits;
 
 pub use acceptance::accept;
 pub use code::{Code, RawCode};
-pub use fault::{CodeEnd, CodeFault, CodeKind};
+pub use fault::{CODE_FAULT_ROOM, CodeEnd, CodeFault, CodeKind};
 pub use frame::Frame;
 pub use instr::{Cond, Instr};
 pub use laws::{code_is_sound, one_run};

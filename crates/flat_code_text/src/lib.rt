@@ -17,7 +17,7 @@ mod printer;
 mod reader;
 mod refusal;
 
-pub use fault::CodeTextFault;
+pub use fault::{CodeTextFault, FAULT_ROOM};
 pub use laws::{
     a_text_is_read, no_text_begins_another, one_text_one_program, small_code_is_read,
     what_is_read_is_spelled_so,

@@ -1,5 +1,5 @@
 -- What well-formed code keeps to, part by part.
-use Rattle.std.proofs.Common.{◌≡◌, ℕ, ◌<◌, ◌≤◌, ◌&&◌, ◌||◌, nat_lt, Bool, true, false, List, length, drop, Option, refl, arith}
+use Rattle.std.proofs.Common.{◌≡◌, ℕ, ◌<◌, ◌≤◌, ◌||◌, nat_lt, Bool, true, false, List, length, refl, arith}
 use Rattle.std.specs.Prelude.{not}
 use Rattle.std.specs.List.{list_all, list_any}
 use Rattle.std.proofs.lemmas.Bool.{and_parts}
@@ -9,7 +9,7 @@ use Rattle.flat_code.specs.declared.limits.TheConstants.{PROC_LIMIT, INSTR_LIMIT
 use Rattle.flat_code.specs.declared.instr.Instr.{Instr}
 use Rattle.flat_code.specs.declared.fault.CodeKind.TheVariants as kinds
 use Rattle.flat_code.specs.Program.{Program}
-use Rattle.flat_code.specs.WellFormed.{first_of, unless, too_many, is_table, starts_known, procs_fault, are_distinct, IsCode}
+use Rattle.flat_code.specs.WellFormed.{unless, too_many, is_table, IsCode}
 use Rattle.flat_code.proofs.WellFormedLemmas.{neither, passed, start_known, react_known}
 
 -- the limits hold, names are names, and the procedures of the start and of a reaction are there

@@ -5,3 +5,4 @@ pub mod World
 pub mod Machine
 pub mod Sound
 pub mod Small
+pub mod Reaction

@@ -83,7 +83,7 @@ lines_say text P h =
     let all = lines_spelled (cut_of text).lines read.last read.steps_are read.whole in
     let lines_are : (cut_of text).lines ≡ code_lines P = all.spelled ∙ ap code_lines read.program in (
       text_of-cut text
-      ∙ (ap (λ t. text_of (cut_of text).lines ++ t) read.nothing_behind ∙ (append-nil (text_of (cut_of text).lines) ∙ ap text_of lines_are)),
+          ∙ (ap (λ t. text_of (cut_of text).lines ++ t) read.nothing_behind ∙ (append-nil (text_of (cut_of text).lines) ∙ ap text_of lines_are)),
       subst IsSpellable read.program all.spellable,
     )
 

@@ -5,3 +5,4 @@ pub mod Underway
 pub mod FilesLemmas
 pub mod Runs
 pub mod CodeTextLemmas
+pub mod CodeTraceLemmas

@@ -15,8 +15,9 @@ use Rattle.flat_lines.specs.Trace.{trace}
 use Rattle.chart_command.specs.declared.ending.Ending.{Ending}
 use Rattle.chart_command.specs.FlatEngine.{IsRunning, flat_after, flat_shown}
 use Rattle.chart_command.specs.CodeEngine.{IsRunningCode, code_after, code_shown}
-use Rattle.chart_command.specs.CodeRuns.{start_single, worlds_from, code_runs}
-use Rattle.chart_command.specs.CodeEngineLaws.{code_trace_by}
+use Rattle.flat_code.specs.Reaction.{worlds_from}
+use Rattle.flat_code.proofs.ReactionLemmas.{start_single, code_runs}
+use Rattle.chart_command.proofs.CodeTraceLemmas.{code_trace_by}
 use Rattle.chart_command.specs.Flat.{flat_trace}
 use Rattle.chart_command.specs.Runner.{ByRules, OnMachine}
 use Rattle.chart_command.specs.Steps.{Written, RunEnds, RunTraces, shown_after, trace_by}

@@ -6,7 +6,6 @@ pub mod Runner
 pub mod FlatEngine
 pub mod FlatEngineLaws
 pub mod CodeEngine
-pub mod CodeRuns
 pub mod CodeEngineLaws
 pub mod Ending
 pub mod Answer

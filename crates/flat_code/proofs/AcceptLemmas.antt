@@ -9,6 +9,7 @@ use Rattle.flow_base.specs.declared.list.List.{List as Seq}
 use Rattle.flow_base.specs.Lists.{items_of}
 use Rattle.flat_code.specs.declared.instr.Instr.{Instr}
 use Rattle.flat_code.specs.declared.fault.CodeFault.{CodeFault}
+use Rattle.flat_code.specs.declared.limits.TheConstants.{INSTR_LIMIT, PROC_LIMIT}
 use Rattle.flat_code.specs.Program.{Program}
 use Rattle.flat_code.specs.WellFormed.{are_distinct, first_of, proc_fault, procs_fault}
 use Rattle.flow_base.specs.Names.{index_of, after}
@@ -38,13 +39,13 @@ or_false false b h = (refl, h)
 
 -- a procedure is short where none is too long
 pub short_procs : (xs : List (Seq Instr)) (p : ℕ) (x : Seq Instr)
-    → list_any (λ (is : List Instr). nat_lt 1000000000 (length is)) (map items_of xs) ≡ false → p < length xs
-    → x ≡ get_or xs p x → length (items_of x) ≤ 1000000000
+    → list_any (λ (is : List Instr). nat_lt INSTR_LIMIT (length is)) (map items_of xs) ≡ false → p < length xs
+    → x ≡ get_or xs p x → length (items_of x) ≤ INSTR_LIMIT
 short_procs [] p x h lt is = absurd (omega arith)
 short_procs (y ∷ ys) zero x h lt is =
-    let here = (or_false (nat_lt 1000000000 (length (items_of y))) _ h).0 in
+    let here = (or_false (nat_lt INSTR_LIMIT (length (items_of y))) _ h).0 in
     rw is (grind (arith, nat_tests))
-short_procs (y ∷ ys) (suc p) x h lt is = short_procs ys p x (or_false (nat_lt 1000000000 (length (items_of y))) _ h).1 (omega arith) is
+short_procs (y ∷ ys) (suc p) x h lt is = short_procs ys p x (or_false (nat_lt INSTR_LIMIT (length (items_of y))) _ h).1 (omega arith) is
 
 -- the first fault of the procedures from one on is its own, or else that of those after it
 pub procs_fault-drop : (P : Program) (xs : List (Seq Instr)) (q p : ℕ) (x : Seq Instr) → p < length xs
@@ -75,12 +76,12 @@ are_distinct-drop (x ∷ xs) (suc i) name lt is =
     let e : suc i + 1 ≡ suc (i + 1) = omega arith in rw e (are_distinct-drop xs i name (omega arith) is)
 
 -- a procedure that is too long makes too many, where there aren't too many procedures
-pub too_long : (xs : List (Seq Instr)) → length xs ≤ 262144
-    → list_any (λ (x : Seq Instr). nat_lt 1000000000 (length (items_of x))) xs ≡ (nat_lt 262144 (length (map items_of xs)) || list_any (λ (is : List Instr). nat_lt 1000000000 (length is)) (map items_of xs))
+pub too_long : (xs : List (Seq Instr)) → length xs ≤ PROC_LIMIT
+    → list_any (λ (x : Seq Instr). nat_lt INSTR_LIMIT (length (items_of x))) xs ≡ (nat_lt PROC_LIMIT (length (map items_of xs)) || list_any (λ (is : List Instr). nat_lt INSTR_LIMIT (length is)) (map items_of xs))
 too_long xs few =
-    let short : nat_lt 262144 (length (map items_of xs)) ≡ false = rw length-map (grind (arith, nat_tests)) in
-    sym (ap (λ b. b || list_any (λ (is : List Instr). nat_lt 1000000000 (length is)) (map items_of xs)) short
-    ∙ list_any-map (λ (is : List Instr). nat_lt 1000000000 (length is)) items_of xs)
+    let short : nat_lt PROC_LIMIT (length (map items_of xs)) ≡ false = rw length-map (grind (arith, nat_tests)) in
+    sym (ap (λ b. b || list_any (λ (is : List Instr). nat_lt INSTR_LIMIT (length is)) (map items_of xs)) short
+    ∙ list_any-map (λ (is : List Instr). nat_lt INSTR_LIMIT (length is)) items_of xs)
 
 -- the elements from one on, taken to the end
 pub rest_of : {X : Type 0} (xs : List X) (i : ℕ) → take (length xs - i) (drop i xs) ≡ drop i xs

@@ -4,3 +4,5 @@ pub mod WellFormed
 pub mod World
 pub mod Machine
 pub mod Sound
+pub mod Small
+pub mod Reaction

@@ -12,6 +12,7 @@ use Rattle.flat_code.specs.declared.fault.CodeKind.TheVariants as kinds
 use Rattle.flat_code.specs.declared.fault.CodeFault.{CodeFault}
 use Rattle.flat_code.specs.declared.fault.CodeEnd.{CodeEnd}
 use Rattle.flat_code.specs.declared.fault.CodeEnd.TheVariants as ends
+use Rattle.flat_code.specs.declared.limits.TheConstants.{PROC_LIMIT, INSTR_LIMIT, STATE_LIMIT, EVENT_LIMIT}
 use Rattle.flat_code.specs.Program.{Program}
 
 -- a fault at a place
@@ -27,14 +28,14 @@ first_of (Some fault) later = Some fault
 abbrev pub unless : Bool → CodeKind → ℕ → ℕ → Option CodeFault
 unless good kind p i = if good then None else fault_at kind p i
 
--- over 262,144 procedures, or a procedure of over 1,000,000,000 instructions
+-- more procedures than there may be, or a procedure of more instructions than it may have
 abbrev pub too_many : Program → Bool
-too_many P = nat_lt 262144 (length P.procs) || list_any (λ (is : List Instr). nat_lt 1000000000 (length is)) P.procs
+too_many P = nat_lt PROC_LIMIT (length P.procs) || list_any (λ (is : List Instr). nat_lt INSTR_LIMIT (length is)) P.procs
 
--- a root with at least one state below it, at most 1,024 states and 512 events; names that are NAMEs, and no two states below the root or events alike
+-- a root with at least one state below it, no more states and events than there may be; names that are NAMEs, and no two states below the root or events alike
 abbrev pub is_table : Program → Bool
 is_table P =
-    nat_lt 1 (length P.states) && (not (nat_lt 1024 (length P.states)) && (not (nat_lt 512 (length P.events))
+    nat_lt 1 (length P.states) && (not (nat_lt STATE_LIMIT (length P.states)) && (not (nat_lt EVENT_LIMIT (length P.events))
     && (list_all is_name P.states && (list_all is_name P.events && (are_distinct (drop 1 P.states) && are_distinct P.events)))))
 
 -- what a condition names is there

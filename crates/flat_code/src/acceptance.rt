@@ -9,21 +9,10 @@ ghost use Rattle.flat_code.specs.WellFormed as spec;
 use crate::code::{Code, RawCode};
 use crate::fault::{CodeEnd, CodeFault, CodeKind};
 use crate::instr::{Cond, Instr};
+use crate::limits::{EVENT_LIMIT, INSTR_LIMIT, PROC_LIMIT, STATE_LIMIT};
 use chart_lexer::is_name;
 use flow_base::{List, Text};
 use std::alloc::Global;
-
-/// The greatest number of procedures.
-const PROC_LIMIT: usize = 262_144;
-
-/// The greatest number of instructions of a procedure.
-const INSTR_LIMIT: usize = 1_000_000_000;
-
-/// The greatest number of states, the root among them.
-const STATE_LIMIT: usize = 1_024;
-
-/// The greatest number of events.
-const EVENT_LIMIT: usize = 512;
 
 /// The code as accepted, or its first fault. Names are compared pair by pair, so that it takes no
 /// memory.
@@ -61,14 +50,14 @@ fn fault_at(kind: CodeKind, proc: u32, place: u32) -> Option<CodeFault>
     Some(CodeFault { kind, proc, place })
 }
 
-/// Over 262,144 procedures, or a procedure of over 1,000,000,000 instructions.
+/// Whether there are more procedures than there may be, or one has more instructions than it may.
 fn too_many(raw: &RawCode) -> bool
     ensures { result ≡ spec.too_many (program_of raw.now) }
 {
     raw.procs.items().len() > PROC_LIMIT || has_long(raw.procs.items())
 }
 
-/// Whether one of the procedures has over 1,000,000,000 instructions.
+/// Whether one of the procedures has more instructions than it may have.
 fn has_long(procs: &[List<Instr>]) -> bool
     ensures { result
         ≡ list_any (λ instrs. nat_lt INSTR_LIMIT (length (items_of instrs))) procs.now }

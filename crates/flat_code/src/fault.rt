@@ -1,6 +1,10 @@
 //! Why code isn't well formed.
-ghost use Rattle.std.specs.Prelude.{◌≡◌};
-ghost use Rattle.flat_code.specs.Form.{code_number, code_name};
+ghost use Rattle.std.specs.Prelude.{◌≡◌, ◌≤◌, length};
+ghost use Rattle.flat_code.specs.Form.{code_number, code_name, code_fault_text};
+
+use arrayvec::ArrayString;
+use itoa::Buffer;
+use thiserror::Error;
 
 /// What is wrong with code, at a place.
 #[derive(Clone, Copy, Debug, PartialEq, Eq)]
@@ -9,7 +13,7 @@ pub enum CodeKind {
     BadNumber,
     /// An `Unless` passes over more than there is after it in its procedure.
     SkipOut,
-    /// Over 262,144 procedures, or a procedure of over 1,000,000,000 instructions.
+    /// Over `PROC_LIMIT` procedures, or a procedure of over `INSTR_LIMIT` instructions.
     TooManyProcs,
     /// A procedure has no instruction, or its last one isn't a `Ret`.
     NoRet,
@@ -34,7 +38,8 @@ impl CodeKind {
 
     /// The name, as a refusal prints it.
     pub fn name(self) -> &'static str
-        ensures { result.now ≡ code_name self }
+        ensures name { result.now ≡ code_name self }
+        ensures short { length result.now ≤ 12 }
     {
         match self {
             CodeKind::BadNumber => "BadNumber",
@@ -46,19 +51,43 @@ impl CodeKind {
     }
 }
 
+/// Room for the text of a fault: three numbers, the longest name and three bytes between them.
+pub const CODE_FAULT_ROOM: usize = 3 * 40 + 12 + 3;
+
 /// What is wrong with code, and where: a procedure and a place in it, both 0 where it is in none.
-#[derive(Clone, Copy, Debug, PartialEq, Eq)]
+#[derive(Clone, Copy, Debug, PartialEq, Eq, Error)]
+#[error("{}", self.text())]
 pub struct CodeFault {
     pub kind: CodeKind,
     pub proc: u32,
     pub place: u32,
 }
 
+impl CodeFault {
+    /// The text of the fault, as standard error gets it. It takes no memory.
+    pub fn text(&self) -> ArrayString<CODE_FAULT_ROOM>
+        ensures { result.bytes ≡ code_fault_text self.now }
+    {
+        let mut text = ArrayString::new();
+        let mut digits = Buffer::new();
+        text.push_str(digits.format(self.kind.number()));
+        text.push_str(" ");
+        text.push_str(self.kind.name());
+        text.push_str(" ");
+        text.push_str(digits.format(self.proc));
+        text.push_str(".");
+        text.push_str(digits.format(self.place));
+        text
+    }
+}
+
 /// Why code isn't accepted.
-#[derive(Clone, Copy, Debug, PartialEq, Eq)]
+#[derive(Clone, Copy, Debug, PartialEq, Eq, Error)]
 pub enum CodeEnd {
     /// The code isn't well formed, and this is its first fault.
+    #[error("{0}")]
     Fault(CodeFault),
     /// Memory ran out.
+    #[error("out of memory")]
     Memory,
 }

@@ -3,7 +3,8 @@ ghost use Rattle.std.specs.Prelude.{◌≡◌, ◌<◌, ℕ, List, Some, length}
 ghost use Rattle.flow_base.specs.declared.event.FlatEvent.{FlatEvent};
 ghost use Rattle.flat_code.specs.Program.{Program};
 ghost use Rattle.flat_code.specs.World.{World};
-ghost use Rattle.flat_code.specs.Machine.{State, Gives, CodeRuns, instructions, fetch};
+ghost use Rattle.flat_code.specs.Machine.{State, Gives, Starts, Reacts, CodeRuns, instructions, fetch};
+ghost use Rattle.flat_code.specs.Reaction.{react_world, IsSingle};
 ghost use Rattle.flat_code.specs.WellFormed.{IsCode};
 ghost use Rattle.flat_code.specs.Sound.{IsSoundAt};
 ghost use Rattle.flat_code.specs.declared.instr.Instr.{Instr};
@@ -25,4 +26,14 @@ pub fn code_is_sound()
         → 0 < length (instructions P p) }
     ensures each { (P : Program) (p i : ℕ) (x : Instr) → IsCode P → fetch P p i ≡ Some x
         → IsSoundAt P (length (instructions P p)) i x }
+{}
+
+/// A reaction of well-formed code ends, and after the start and after each reaction at most one
+/// state below the root is active.
+pub fn reactions_end()
+    ensures ends { (P : Program) (w : World) (e : FlatEvent) → IsCode P
+        → Reacts P w e (react_world P w e) }
+    ensures start { (P : Program) (w : World) → Starts P w → IsSingle w.marks }
+    ensures react { (P : Program) (w : World) (e : FlatEvent) → IsCode P → IsSingle w.marks
+        → IsSingle (react_world P w e).marks }
 {}

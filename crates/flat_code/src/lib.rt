@@ -11,13 +11,15 @@ mod fault;
 mod frame;
 mod instr;
 mod laws;
+mod limits;
 
 pub use acceptance::accept;
 pub use code::{Code, RawCode};
-pub use fault::{CodeEnd, CodeFault, CodeKind};
+pub use fault::{CODE_FAULT_ROOM, CodeEnd, CodeFault, CodeKind};
 pub use frame::Frame;
 pub use instr::{Cond, Instr};
-pub use laws::{code_is_sound, one_run};
+pub use laws::{code_is_sound, one_run, reactions_end};
+pub use limits::{EVENT_LIMIT, INSTR_LIMIT, PROC_LIMIT, STATE_LIMIT};
 
 #[cfg(test)]
 mod tests;

@@ -6,6 +6,8 @@ pub mod FieldLemmas
 pub mod StepLemmas
 pub mod PartLemmas
 pub mod ProgramLemmas
+pub mod EachLine
 pub mod NewlineLemmas
+pub mod LengthLemmas
 pub mod OutcomeLemmas
 pub mod SpellableLemmas

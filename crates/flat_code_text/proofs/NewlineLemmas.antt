@@ -1,7 +1,7 @@
 -- No line of a program has a newline in it.
-use Rattle.std.proofs.Common.{◌≡◌, ℕ, suc, ◌<◌, true, false, nat_eq, List, [], ◌∷◌, ◌++◌, length, map, get_or, refl, arith}
+use Rattle.std.proofs.Common.{◌≡◌, ℕ, suc, ◌<◌, true, false, nat_eq, List, [], ◌∷◌, ◌++◌, length, get_or, refl, arith}
 use Rattle.std.specs.Prelude.{codes, not, decimal}
-use Rattle.std.specs.List.{flat_map, list_all, AllByRecursion}
+use Rattle.std.specs.List.{list_all, AllByRecursion}
 use Rattle.std.proofs.lemmas.Bool.{and_parts}
 use Rattle.std.proofs.lemmas.Bool.Decides.{nat_tests}
 use Rattle.chart_lexer.specs.Bytes.{is_name_byte}
@@ -10,8 +10,9 @@ use Rattle.flat_code.specs.declared.instr.Cond.TheVariants as conds
 use Rattle.flat_code.specs.declared.instr.Instr.{Instr}
 use Rattle.flat_code.specs.declared.instr.Instr.TheVariants as instrs
 use Rattle.flat_code.specs.Program.{Program}
-use Rattle.flat_code_text.specs.Spelling.{version_line, leaf_line, data_line, event_line, cond_words, instr_line, end_line, state_lines, proc_lines}
-use Rattle.flat_code_text.specs.Spelling.{states_part, events_part, procs_part, code_lines, IsNumber, IsName, CondHasNumbers, HasNumbers, ProcHasNumbers, IsSpellable}
+use Rattle.flat_code_text.specs.Spelling.{version_line, data_line, cond_words, instr_line, end_line, code_lines}
+use Rattle.flat_code_text.specs.Spelling.{IsNumber, IsName, CondHasNumbers, HasNumbers, IsSpellable}
+use Rattle.flat_code_text.proofs.EachLine.{HoldsOfLines, each_line}
 use Rattle.flat_code_text.proofs.FieldLemmas.{Lacks, decimal-lacks}
 use Rattle.flat_code_text.proofs.NameLemmas.{is_name-bytes}
 
@@ -36,14 +37,6 @@ line-append (b ∷ words) text h g = (h.0, line-append words text h.1 g)
 -- each is a line
 abbrev pub AreLines : List (List ℕ) → Type 0
 AreLines lines = AllByRecursion IsLine lines
-
-lines-append : (lines others : List (List ℕ)) → AreLines lines → AreLines others → AreLines (lines ++ others)
-lines-append [] others h g = g
-lines-append (line ∷ lines) others h g = (h.0, lines-append lines others h.1 g)
-
-each_line : {A : Type 0} (P : A → Type 0) (line : A → List ℕ) → ((x : A) → P x → IsLine (line x)) → (xs : List A) → AllByRecursion P xs → AreLines (map line xs)
-each_line P line one [] h = tt
-each_line P line one (x ∷ xs) h = (one x h.0, each_line P line one xs h.1)
 
 name_byte_is_no : (b : ℕ) → is_name_byte b ≡ true → nat_eq b 10 ≡ false
 name_byte_is_no b h = grind (arith, nat_tests)
@@ -75,33 +68,24 @@ instr_is (instrs.Clear s) h = words_then (codes "clear ") (decimal s) refl (numb
 instr_is (instrs.Unless k c) h = words_then (codes "unless ") (decimal k ++ 32 ∷ cond_words c) refl (number_then k (cond_words c) h.0 (cond_is c h.1))
 instr_is (instrs.Ret r) h = words_then (codes "ret ") (decimal r) refl (number_lacks r h)
 
-leaf_is : (name : List ℕ) → IsName name → IsLine (leaf_line name)
-leaf_is name h = words_then (codes "s 0 leaf ") name refl (name_lacks name h)
+-- each kind of line is one
+kinds_are_lines : HoldsOfLines IsLine
+kinds_are_lines =
+    record {
+      version = tested version_line refl;
+      state_count = λ n h. words_then (codes "states ") (decimal n) refl (number_lacks n h);
+      root = λ name h. words_then (codes "s - or ") name refl (name_lacks name h);
+      leaf = λ name h. words_then (codes "s 0 leaf ") name refl (name_lacks name h);
+      no_data = tested data_line refl;
+      event_count = λ n h. words_then (codes "events ") (decimal n) refl (number_lacks n h);
+      event = λ name h. words_then (codes "e input ") name refl (name_lacks name h);
+      procs = λ n start react h g k. words_then (codes "procs ") (decimal n ++ 32 ∷ (decimal start ++ 32 ∷ decimal react)) refl
+          (number_then n (decimal start ++ 32 ∷ decimal react) h (number_then start (decimal react) g (number_lacks react k)));
+      head = λ n h. words_then (codes "p ") (decimal n) refl (number_lacks n h);
+      instr = instr_is;
+      last = tested end_line refl;
+    }
 
-event_is : (name : List ℕ) → IsName name → IsLine (event_line name)
-event_is name h = words_then (codes "e input ") name refl (name_lacks name h)
-
-states_are : (names : List (List ℕ)) → AllByRecursion IsName names → AreLines (state_lines names)
-states_are [] h = tt
-states_are (root ∷ names) h = (words_then (codes "s - or ") root refl (name_lacks root h.0), each_line IsName leaf_line leaf_is names h.1)
-
-procs_are : (procs : List (List Instr)) → AllByRecursion ProcHasNumbers procs → AreLines (flat_map proc_lines procs)
-procs_are [] h = tt
-procs_are (is ∷ procs) h =
-    lines-append (proc_lines is) (flat_map proc_lines procs)
-    (words_then (codes "p ") (decimal (length is)) refl (number_lacks (length is) h.0.count), each_line HasNumbers instr_line instr_is is h.0.instrs)
-    (procs_are procs h.1)
-
--- the lines of a program
+-- the lines of a program are lines
 pub code_lines-are : (P : Program) → IsSpellable P → AreLines (code_lines P)
-unfolding code_lines
-code_lines-are P h =
-    let state_count = words_then (codes "states ") (decimal (length P.states)) refl (number_lacks (length P.states) h.states) in
-    let states : AreLines (states_part P.states) = (tested version_line refl, (state_count, states_are P.states h.state_names)) in
-    let event_count = words_then (codes "events ") (decimal (length P.events)) refl (number_lacks (length P.events) h.events) in
-    let events : AreLines (events_part P.events) = (tested data_line refl, (event_count, each_line IsName event_line event_is P.events h.event_names)) in
-    let head = words_then (codes "procs ") (decimal (length P.procs) ++ 32 ∷ (decimal P.start ++ 32 ∷ decimal P.react)) refl
-    (number_then (length P.procs) (decimal P.start ++ 32 ∷ decimal P.react) h.procs (number_then P.start (decimal P.react) h.start (number_lacks P.react h.react))) in
-    let last : AreLines (end_line ∷ []) = (tested end_line refl, tt) in
-    lines-append (states_part P.states) (events_part P.events ++ (procs_part P ++ end_line ∷ [])) states
-    (lines-append (events_part P.events) (procs_part P ++ end_line ∷ []) events (lines-append (procs_part P) (end_line ∷ []) (head, procs_are P.procs h.numbers) last))
+code_lines-are = each_line IsLine kinds_are_lines

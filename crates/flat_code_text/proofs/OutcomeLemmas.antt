@@ -9,6 +9,7 @@ use Rattle.flat_code.specs.WellFormed.{code_fault, IsCode}
 use Rattle.flat_code_text.specs.declared.fault.CodeTextFault.{CodeTextFault}
 use Rattle.flat_code_text.specs.declared.fault.CodeTextFault.TheVariants as faults
 use Rattle.flat_code_text.specs.Lines.{Cut, begun_with, line_then, cut_of}
+use Rattle.flat_code_text.specs.declared.limits.TheConstants.{TEXT_LIMIT}
 use Rattle.flat_code_text.specs.Spelling.{code_lines, text_of, code_text, IsSpellable}
 use Rattle.flat_code_text.specs.Reading.{nothing_read, outcome_from, spelled_program, fault_or, formed, outcome}
 use Rattle.flat_code_text.proofs.FieldLemmas.{parts_at-front}
@@ -60,11 +61,11 @@ text_outcome P more h =
 text_read : (P : Program) → IsSpellable P → outcome_of_lines (cut_of (code_text P)) ≡ Ok P
 text_read P h = ap (λ t. outcome_of_lines (cut_of t)) (sym (append-nil (code_text P))) ∙ text_outcome P [] h
 
-within : (n : ℕ) → n ≤ 268435456 → nat_lt 268435456 n ≡ false
+within : (n : ℕ) → n ≤ TEXT_LIMIT → nat_lt TEXT_LIMIT n ≡ false
 within n h = grind (arith, nat_tests)
 
 -- the text of a program is read as it
-pub spelled_program-text : (P : Program) → IsSpellable P → length (code_text P) ≤ 268435456 → spelled_program (code_text P) ≡ Ok P
+pub spelled_program-text : (P : Program) → IsSpellable P → length (code_text P) ≤ TEXT_LIMIT → spelled_program (code_text P) ≡ Ok P
 spelled_program-text P h few = rw (within (length (code_text P)) few) (text_read P h)
 
 -- what is read from the lines of a text is spelled so
@@ -84,7 +85,7 @@ not_too_long false o P h = h
 
 -- what is read is spelled so
 pub spelled_program-ok : (text : List ℕ) (P : Program) → spelled_program text ≡ Ok P → (text ≡ code_text P) × IsSpellable P
-spelled_program-ok text P h = lines_say text P (not_too_long (nat_lt 268435456 (length text)) (outcome_of_lines (cut_of text)) P h)
+spelled_program-ok text P h = lines_say text P (not_too_long (nat_lt TEXT_LIMIT (length text)) (outcome_of_lines (cut_of text)) P h)
 
 -- one text, one program
 pub code_text-one : (P Q : Program) → IsSpellable P → IsSpellable Q → code_text P ≡ code_text Q → P ≡ Q
@@ -119,8 +120,8 @@ unfolding outcome
 outcome-ok text P h = (spelled_program-ok text P (formed_ok (spelled_program text) P h).0).0
 
 -- the text of well-formed code is read as it
-pub outcome-text : (text : List ℕ) (P : Program) → IsSpellable P → IsCode P → text ≡ code_text P → length text ≤ 268435456 → outcome text ≡ Ok P
+pub outcome-text : (text : List ℕ) (P : Program) → IsSpellable P → IsCode P → text ≡ code_text P → length text ≤ TEXT_LIMIT → outcome text ≡ Ok P
 unfolding outcome
 outcome-text text P h good e few =
-    let few_spelled : length (code_text P) ≤ 268435456 = subst (λ (t : List ℕ). length t ≤ 268435456) e few in
+    let few_spelled : length (code_text P) ≤ TEXT_LIMIT = subst (λ (t : List ℕ). length t ≤ TEXT_LIMIT) e few in
     ap outcome e ∙ (ap formed (spelled_program-text P h few_spelled) ∙ ap (λ o. fault_or o P) good)

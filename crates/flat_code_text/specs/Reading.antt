@@ -12,6 +12,7 @@ use Rattle.flat_code_text.specs.declared.fault.CodeTextFault.{CodeTextFault}
 use Rattle.flat_code_text.specs.declared.fault.CodeTextFault.TheVariants as faults
 use Rattle.flat_code_text.specs.declared.expected.Expected.{Expected}
 use Rattle.flat_code_text.specs.declared.expected.Expected.TheVariants as expects
+use Rattle.flat_code_text.specs.declared.limits.TheConstants.{TEXT_LIMIT}
 use Rattle.flat_code_text.specs.Spelling.{version_line, data_line, end_line}
 use Rattle.flat_code_text.specs.Lines.{cut_of}
 use Rattle.flat_code_text.specs.Fields.{Procs, number_behind, name_behind, instr_of, procs_of}
@@ -173,14 +174,10 @@ outcome_from p n [] rest = at_end p n rest
 outcome_from p n (line ∷ lines) rest =
     or_refuse (next p line) (refusal p.expected n line) (λ q. outcome_from q (n + 1) lines rest)
 
--- the most bytes of a text that is read
-abbrev pub text_limit : ℕ
-text_limit = 268435456
-
 -- the program that the lines of a text spell, or the first fault
 abbrev pub spelled_program : List ℕ → Result Program CodeTextFault
 spelled_program text =
-    if nat_lt text_limit (length text) then Err faults.TextTooLong else
+    if nat_lt TEXT_LIMIT (length text) then Err faults.TextTooLong else
     outcome_from nothing_read 1 (cut_of text).lines (cut_of text).rest
 
 -- the program unless its code has a fault

@@ -1,5 +1,5 @@
 -- The text of code: the one spelling of each program.
-use Rattle.std.specs.Prelude.{ℕ, ◌<◌, ◌^◌, IsTrue, List, [], ◌∷◌, ◌++◌, length, map, codes, decimal}
+use Rattle.std.specs.Prelude.{ℕ, IsTrue, List, [], ◌∷◌, ◌++◌, length, map, codes, decimal}
 use Rattle.std.specs.List.{flat_map, AllByRecursion}
 use Rattle.chart_lexer.specs.Words.{is_name}
 use Rattle.flat_code.specs.declared.instr.Cond.{Cond}
@@ -7,6 +7,7 @@ use Rattle.flat_code.specs.declared.instr.Cond.TheVariants as conds
 use Rattle.flat_code.specs.declared.instr.Instr.{Instr}
 use Rattle.flat_code.specs.declared.instr.Instr.TheVariants as instrs
 use Rattle.flat_code.specs.Program.{Program}
+pub use Rattle.flat_code.specs.Small.{IsNumber, CondHasNumbers, HasNumbers}
 
 -- the first line
 abbrev pub version_line : List ℕ
@@ -95,25 +96,9 @@ text_of (line ∷ lines) = line ++ (10 ∷ text_of lines)
 unfoldable pub code_text : Program → List ℕ
 code_text P = text_of (code_lines P)
 
--- a number that a line can have
-abbrev pub IsNumber : ℕ → Type 0
-IsNumber n = n < 2 ^ 32
-
 -- a name that a line can have
 abbrev pub IsName : List ℕ → Type 0
 IsName name = IsTrue (is_name name)
-
--- a condition with such a number
-abbrev pub CondHasNumbers : Cond → Type 0
-CondHasNumbers (conds.On s) = IsNumber s
-CondHasNumbers (conds.Current e) = IsNumber e
-
--- an instruction with such numbers
-abbrev pub HasNumbers : Instr → Type 0
-HasNumbers (instrs.Mark s) = IsNumber s
-HasNumbers (instrs.Clear s) = IsNumber s
-HasNumbers (instrs.Unless k c) = IsNumber k × CondHasNumbers c
-HasNumbers (instrs.Ret r) = IsNumber r
 
 -- a procedure with such numbers, its count among them
 pub record ProcHasNumbers (is : List Instr) : Type 0 where

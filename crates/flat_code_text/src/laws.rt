@@ -1,12 +1,15 @@
 //! What the spelling of code promises, for all programs at once.
 ghost use Rattle.std.specs.Prelude.{◌≡◌, ◌≤◌, ℕ, List, [], ◌++◌, length, Ok};
 ghost use Rattle.flat_code.specs.Program.{Program};
+ghost use Rattle.flat_code.specs.Small.{IsSmall};
+ghost use Rattle.flat_code.specs.WellFormed.{IsCode};
+ghost use Rattle.flat_code_text.specs.declared.limits.TheConstants.{TEXT_LIMIT};
 ghost use Rattle.flat_code_text.specs.Spelling.{code_text, IsSpellable};
-ghost use Rattle.flat_code_text.specs.Reading.{spelled_program, text_limit};
+ghost use Rattle.flat_code_text.specs.Reading.{spelled_program, outcome};
 
 /// The text of a program is read as that program, well formed or not.
 pub fn a_text_is_read()
-    ensures { (P : Program) → IsSpellable P → length (code_text P) ≤ text_limit
+    ensures { (P : Program) → IsSpellable P → length (code_text P) ≤ TEXT_LIMIT
         → spelled_program (code_text P) ≡ Ok P }
 {}
 
@@ -25,4 +28,10 @@ pub fn one_text_one_program()
 pub fn no_text_begins_another()
     ensures { (P Q : Program) (more : List ℕ) → IsSpellable P → IsSpellable Q
         → code_text P ++ more ≡ code_text Q → more ≡ [] }
+{}
+
+/// The text of small well-formed code isn't too long, and it is read as that code.
+pub fn small_code_is_read()
+    ensures short { (P : Program) → IsSmall P → IsCode P → length (code_text P) ≤ TEXT_LIMIT }
+    ensures read { (P : Program) → IsSmall P → IsCode P → outcome (code_text P) ≡ Ok P }
 {}

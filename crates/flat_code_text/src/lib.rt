@@ -10,16 +10,19 @@ mod fault;
 mod fields;
 mod instr;
 mod laws;
+mod limits;
 mod lines;
 mod partial;
 mod printer;
 mod reader;
 mod refusal;
 
-pub use fault::CodeTextFault;
+pub use fault::{CodeTextFault, FAULT_ROOM};
 pub use laws::{
-    a_text_is_read, no_text_begins_another, one_text_one_program, what_is_read_is_spelled_so,
+    a_text_is_read, no_text_begins_another, one_text_one_program, small_code_is_read,
+    what_is_read_is_spelled_so,
 };
+pub use limits::TEXT_LIMIT;
 pub use printer::print_code;
 pub use reader::read_code;
 

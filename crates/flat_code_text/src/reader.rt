@@ -9,14 +9,12 @@ ghost use Rattle.flat_code_text.specs.Reading as spec;
 ghost use Rattle.flat_code_text.specs.Views.{partial_of, Answers};
 
 use crate::fault::CodeTextFault;
+use crate::limits::TEXT_LIMIT;
 use crate::lines::{Parts, cut_at};
 use crate::partial::Partial;
 use crate::refusal::{is_whole, refusal};
 use flat_code::{Code, CodeEnd, RawCode, accept};
 use std::alloc::Global;
-
-/// The most bytes of a text that is read.
-const TEXT_LIMIT: usize = 268_435_456;
 
 /// The code that a text spells, if it is well formed. The text is read once, from its first line
 /// on, and a count in it takes no memory by itself.
@@ -25,7 +23,7 @@ pub fn read_code(alloc: Global, text: &[u8]) -> Result<Code, CodeTextFault>
     ensures read { IfOk result (λ code. text.now ≡ code_text code) }
     // What is spelled so is read, unless memory runs out.
     ensures only { (P : Program) → IsSpellable P → IsCode P
-        → text.now ≡ code_text P → length text.now ≤ spec.text_limit
+        → text.now ≡ code_text P → length text.now ≤ TEXT_LIMIT
         → MatchResult result (λ code. code ≡ P) (λ fault. fault ≡ CodeTextFault.Memory) }
     // Code and each fault but want of memory are the outcome of the text.
     ensures accepted { IfOk result (λ code. spec.outcome text.now ≡ Ok code) }

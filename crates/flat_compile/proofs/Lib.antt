@@ -4,5 +4,6 @@ pub mod Runs
 pub mod Reaction
 pub mod Whole
 pub mod WellFormed
+pub mod SmallCode
 pub mod Emission
 pub mod Fits

@@ -10,6 +10,7 @@ use Rattle.flat_code.specs.declared.instr.Cond.TheVariants as conds
 use Rattle.flat_code.specs.declared.instr.Instr.{Instr}
 use Rattle.flat_code.specs.declared.instr.Instr.TheVariants as instrs
 use Rattle.flat_code.specs.declared.fault.CodeKind.{CodeKind}
+use Rattle.flat_code.specs.declared.limits.TheConstants.{INSTR_LIMIT, STATE_LIMIT, EVENT_LIMIT}
 use Rattle.flat_code.specs.WellFormed.{unless, too_many, is_table, instrs_fault, proc_fault, last_returns, IsCode}
 use Rattle.flat_compile.specs.Emitted.{compiled, start_code, transes_code, states_code}
 
@@ -25,7 +26,7 @@ length-transes : (s : ℕ) (ts : List FlatTrans) (rest : List Instr) → length 
 length-transes s [] rest = omega arith
 length-transes s (t ∷ ts) rest = omega (arith, length-transes s ts rest)
 
-length-states : (k : ℕ) (xs : List State) → AllByRecursion (λ (x : State). length x.outer ≤ 1024) xs → length (states_code k xs) ≤ 4097 * length xs + 1
+pub length-states : (k : ℕ) (xs : List State) → AllByRecursion (λ (x : State). length x.outer ≤ 1024) xs → length (states_code k xs) ≤ 4097 * length xs + 1
 length-states k [] few = omega arith
 length-states k (x ∷ xs) few = omega (arith, length-transes k x.outer (states_code (k + 1) xs), length-states (k + 1) xs few.1, few.0)
 
@@ -99,11 +100,11 @@ pub well_formed : (c : Chart) → IsValid c → IsCode (compiled c)
 well_formed c v =
     let names : length (state_names c) ≡ length c.states = length-map c.states (λ (x : State). x.name) in
     let long = length-states 0 c.states v.few_transitions in
-    let few : nat_lt 1000000000 (length (states_code 0 c.states)) ≡ false = not_above 1000000000 _ (omega (arith, v.few_states)) in
+    let few : nat_lt INSTR_LIMIT (length (states_code 0 c.states)) ≡ false = not_above INSTR_LIMIT _ (omega (arith, v.few_states)) in
     let procs : too_many (compiled c) ≡ false = rw few refl in
     let some : nat_lt 1 (length (compiled c).states) ≡ true = below 1 _ (omega (arith, names, v.in_range.default)) in
-    let states : nat_lt 1024 (length (compiled c).states) ≡ false = not_above 1024 _ (omega (arith, names, v.few_states)) in
-    let events : nat_lt 512 (length c.events) ≡ false = not_above 512 _ (omega (arith, v.few_events)) in
+    let states : nat_lt STATE_LIMIT (length (compiled c).states) ≡ false = not_above STATE_LIMIT _ (omega (arith, names, v.few_states)) in
+    let events : nat_lt EVENT_LIMIT (length c.events) ≡ false = not_above EVENT_LIMIT _ (omega (arith, v.few_events)) in
     let table : is_table (compiled c) ≡ true = rw (some, states, events, v.name, v.state_names, v.event_names, v.states_differ, v.events_differ) refl in
     let second = react_safe c v (states_code 0 c.states) refl in
     rw (procs, table, start_safe c v, second) refl

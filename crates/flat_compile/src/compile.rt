@@ -2,6 +2,7 @@
 ghost use Rattle.std.specs.Prelude.{◌≡◌, ◌+◌, ◌^◌, ◌<◌, ◌∷◌, IfOk, map};
 ghost use Rattle.flat_syntax.specs.FlatChart.{State, chart_of, state_of, IsValid};
 ghost use Rattle.flat_code.specs.Program.{program_of};
+ghost use Rattle.flat_code.specs.Small.{IsSmall};
 ghost use Rattle.flow_base.specs.Lists.{items_of};
 ghost use Rattle.flat_compile.specs.Emitted.{compiled, start_code_to};
 ghost use Rattle.flat_compile.specs.Same.{Same};
@@ -83,7 +84,9 @@ fn raw_code(alloc: Global, chart: &FlatChart) -> Result<RawCode, AllocError>
 /// Compiles a chart to code that behaves as it does, for every list of events.
 pub fn compile_flat(alloc: Global, chart: &FlatChart) -> Result<Code, Memory>
     requires { IsValid (chart_of chart.now) }
-    ensures { IfOk result (Same (chart_of chart.now)) }
+    ensures same { IfOk result (Same (chart_of chart.now)) }
+    // So its text isn't too long to be read.
+    ensures small { IfOk result IsSmall }
 {
     let Ok(raw) = raw_code(alloc, chart) else {
         return Err(Memory);

@@ -1,5 +1,5 @@
 -- The events of a file, up to the first line that is refused.
-use Rattle.std.specs.Prelude.{ℕ, ◌+◌, ◌<◌, List, [], ◌∷◌, Option, Some, None, Result, Ok, Err, if◌then◌else◌, codes, length}
+use Rattle.std.specs.Prelude.{ℕ, ◌+◌, ◌<◌, List, [], ◌∷◌, ◌++◌, Option, Some, None, Result, Ok, Err, if◌then◌else◌, codes, decimal, length}
 use Rattle.std.specs.Str.{bytes_eq}
 use Rattle.flow_base.specs.Names.{index_of}
 use Rattle.flow_base.specs.declared.event.FlatEvent.{FlatEvent}
@@ -18,6 +18,10 @@ line_fault_number faults.NotBuilt = 7
 abbrev pub line_fault_name : LineFault → List ℕ
 line_fault_name faults.UnknownEvent = codes "UnknownEvent"
 line_fault_name faults.NotBuilt = codes "NotBuilt"
+
+-- number and name, the text of a fault
+abbrev pub line_fault_text : LineFault → List ℕ
+line_fault_text fault = decimal (line_fault_number fault) ++ codes " " ++ line_fault_name fault
 
 -- the event is `tick`, or one of those names
 abbrev pub IsEventIn : List (List ℕ) → FlatEvent → Type 0

@@ -1,13 +1,20 @@
 //! Event lines.
-ghost use Rattle.std.specs.Prelude.{◌≡◌, ◌<◌, ◌^◌, length, IfOk, IfSome};
+ghost use Rattle.std.specs.Prelude.{◌≡◌, ◌<◌, ◌≤◌, ◌^◌, length, IfOk, IfSome};
 ghost use Rattle.flow_base.specs.Names.{index_of};
 ghost use Rattle.flat_lines.specs.Events as spec;
 
+use arrayvec::ArrayString;
 use chart_lexer::is_name;
 use flow_base::{FlatEvent, Text};
+use itoa::Buffer;
+use thiserror::Error;
+
+/// Room for the text of a fault: a number, a space and the longest name.
+pub const LINE_FAULT_ROOM: usize = 40 + 1 + 12;
 
 /// Why a line of an event file is refused.
-#[derive(Clone, Copy, Debug, PartialEq, Eq)]
+#[derive(Clone, Copy, Debug, PartialEq, Eq, Error)]
+#[error("{}", self.text())]
 pub enum LineFault {
     /// The line is a name, but neither `tick` nor that of an event.
     UnknownEvent,
@@ -28,12 +35,25 @@ impl LineFault {
 
     /// The name, as a refusal prints it.
     pub fn name(self) -> &'static str
-        ensures { result.now ≡ spec.line_fault_name self }
+        ensures name { result.now ≡ spec.line_fault_name self }
+        ensures short { length result.now ≤ 12 }
     {
         match self {
             LineFault::UnknownEvent => "UnknownEvent",
             LineFault::NotBuilt => "NotBuilt",
         }
+    }
+
+    /// The text of the fault, as standard error gets it. It takes no memory.
+    pub fn text(&self) -> ArrayString<LINE_FAULT_ROOM>
+        ensures { result.bytes ≡ spec.line_fault_text self.now }
+    {
+        let mut text = ArrayString::new();
+        let mut digits = Buffer::new();
+        text.push_str(digits.format(self.number()));
+        text.push_str(" ");
+        text.push_str(self.name());
+        text
     }
 }
 

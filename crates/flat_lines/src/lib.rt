@@ -4,10 +4,12 @@
 #![tactic(auto)]
 
 mod events;
+mod limits;
 mod lines;
 mod trace;
 
-pub use events::{LineFault, event_of_line};
+pub use events::{LINE_FAULT_ROOM, LineFault, event_of_line};
+pub use limits::EVENTS_LIMIT;
 pub use lines::{Split, split_line};
 pub use trace::{event_word, trace_line};
 

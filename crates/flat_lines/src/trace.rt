@@ -1,7 +1,8 @@
 //! The lines of a trace.
-ghost use Rattle.std.specs.Prelude.{◌≡◌, ◌+◌, ◌≤◌, ◌++◌, IfSome, codes, length};
+ghost use Rattle.std.specs.Prelude.{◌≡◌, ◌+◌, ◌*◌, ◌≤◌, ◌++◌, IfSome, codes, length};
 ghost use Rattle.std.specs.Option.{option_to_list, option_copied};
 ghost use Rattle.arrayvec.specs.ArrayVec.{array_vec_len};
+ghost use Rattle.chart_lexer.specs.declared.words.TheConstants.{NAME_LIMIT};
 ghost use Rattle.flat_lines.specs.Events.{IsEventIn};
 ghost use Rattle.flat_lines.specs.Trace as spec;
 
@@ -11,9 +12,6 @@ use itoa::Buffer;
 
 /// Room for a line: 40 digits, two names of 63 bytes and 13 bytes more.
 pub const LINE_ROOM: usize = 179;
-
-/// The greatest length of a name.
-const NAME_LIMIT: usize = 63;
 
 /// The word of an event, in a chart whose events have these names.
 pub fn event_word<'a>(names: &'a [Text], event: FlatEvent) -> &'a str
@@ -40,7 +38,7 @@ pub fn trace_line(index: u64, event: &str, active: Option<&str>) -> ArrayVec<u8,
 
 /// The pieces of a line.
 fn joined(index: &str, event: &str, active: &str) -> ArrayVec<u8, LINE_ROOM>
-    requires { length index.now + length event.now + length active.now ≤ 166 }
+    requires { length index.now + length event.now + length active.now ≤ 40 + 2 * NAME_LIMIT }
     ensures { result.items ≡
         index.now ++ codes " " ++ event.now ++ codes " [" ++ active.now ++ codes "] - - ok\n" }
 {

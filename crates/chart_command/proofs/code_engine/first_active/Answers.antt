@@ -1,6 +1,8 @@
 use Rattle.std.proofs.Common.{◌≡◌, ◌≤◌, ◌<◌, ℕ, true, false, List, [], ◌∷◌, get_or, length, sym, ap, subst, ◌∙◌, arith, rules}
 use Rattle.flat_code.specs.World.{is_on}
-use Rattle.chart_command.specs.CodeEngineLaws.{shown_active, shown_next, each_short, table}
+use Rattle.flat_code.proofs.CodeParts.{code_parts}
+use Rattle.flat_lines.proofs.NameLemmas.{get_or-short}
+use Rattle.chart_command.proofs.CodeTraceLemmas.{shown_active, shown_next}
 use Rattle.chart_command.proofs.code_engine.first_active.Goals as goal
 
 pub returns-then-on-clause-shown : goal.returns-then-on-clause-shown
@@ -22,7 +24,7 @@ returns-then-on-clause-short c =
     let lt : k < length m.program.states = omega (arith, c.loop-state-test.true, ap (λ (xs : List (List ℕ)). length xs) c.loop-state.invariant.same_states) in
     let named : c.text.result.now ≡ get_or m.program.states k d =
     c.text.ensures ∙ c.index-states-state.is ∙ ap (λ (xs : List (List ℕ)). get_or xs k d) c.loop-state.invariant.same_states in
-    subst (λ (name : List ℕ). length name ≤ 63) (sym named) (each_short m.program.states k d lt (table m.program c.requires.well_formed).state_names)
+    subst (λ (name : List ℕ). length name ≤ 63) (sym named) (get_or-short m.program.states k d lt (code_parts m.program c.requires.well_formed).state_names)
 
 pub loop-state-preserved : goal.loop-state-preserved
 loop-state-preserved c =

@@ -1,6 +1,7 @@
 use Rattle.std.proofs.Common.{◌≡◌, ◌+◌, ◌<◌, drop, length, sym, ap, ◌∙◌, is_some, true, false}
 use Rattle.std.specs.Prelude.{nat_lt}
 use Rattle.flow_base.specs.Lists.{items_of}
+use Rattle.flat_code.specs.declared.limits.TheConstants.{PROC_LIMIT}
 use Rattle.flat_code.specs.Program.{program_of}
 use Rattle.flat_code.specs.WellFormed.{first_of, procs_fault}
 use Rattle.flat_code.proofs.AcceptLemmas.{or_false, short_procs, procs_fault-drop, first_of-some, first_of-none}
@@ -11,7 +12,7 @@ proc_fault-fault-requires c =
     let xs = items_of c.args.raw.now.procs in
     let within : c.loop-p.p < length xs = rw (← c.items-instrs-items.ensures) c.loop-p-test.true in
     let is = rw c.items-instrs-items.ensures at c.instrs-item.is in
-    rw c.items.ensures (short_procs xs c.loop-p.p c.instrs-item.result (or_false (nat_lt 262144 (length (program_of c.args.raw.now).procs)) _ c.requires).1 within is)
+    rw c.items.ensures (short_procs xs c.loop-p.p c.instrs-item.result (or_false (nat_lt PROC_LIMIT (length (program_of c.args.raw.now).procs)) _ c.requires).1 within is)
 
 pub returns-then-is_some : goal.returns-then-is_some
 returns-then-is_some c =

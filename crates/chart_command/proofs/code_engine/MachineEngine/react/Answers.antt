@@ -1,7 +1,7 @@
 use Rattle.std.proofs.Common.{sym, ◌∙◌}
-use Rattle.chart_command.specs.CodeEngine.{react_world}
-use Rattle.chart_command.specs.CodeRuns.{reacts_alone}
-use Rattle.chart_command.specs.CodeEngineLaws.{engine_is}
+use Rattle.flat_code.specs.Reaction.{react_world}
+use Rattle.flat_code.proofs.ReactionLemmas.{reacts_alone}
+use Rattle.chart_command.proofs.CodeTraceLemmas.{engine_is}
 use Rattle.chart_command.proofs.code_engine.MachineEngine.react.Goals as goal
 
 pub returns : goal.returns

@@ -2,7 +2,7 @@ use Rattle.std.proofs.Common.{◌≡◌, ◌≤◌, ℕ, List, [], ◌∷◌, Op
 use Rattle.flow_base.specs.Names.{name_at}
 use Rattle.flat_syntax.specs.FlatChart.{state_names}
 use Rattle.chart_command.specs.FlatEngine.{shown_state}
-use Rattle.chart_command.specs.FlatEngineLaws.{name_at-short}
+use Rattle.flat_lines.proofs.NameLemmas.{name_at-short}
 use Rattle.chart_command.proofs.NameLemmas.{name_of_state}
 use Rattle.chart_command.proofs.flat_engine.FlatRulesEngine.active_name.Goals as goal
 

@@ -14,7 +14,7 @@ use Rattle.flat_code.specs.Sound.{IsSoundAt}
 use Rattle.flat_code.specs.Machine.{State, Next, Goes, Stops, Standing, Over, run, step, act, act_on, and_then, fetch, instructions, holds, called, number_of, Starts, Reacts, RunsFrom, CodeRuns}
 use Rattle.flat_code.proofs.WellFormedLemmas.{sound, react_known, first_place}
 use Rattle.flat_code.proofs.RunLemmas.{one_ending}
-use Rattle.chart_command.specs.CodeEngine.{react_world, ended_or, IsSingle}
+use Rattle.flat_code.specs.Reaction.{react_world, ended_or, worlds_from, IsSingle}
 
 -- the run is over
 pub record Ended (P : Program) (n : ℕ) (m : State) : Type 0 where
@@ -181,11 +181,6 @@ pub react_single : (P : Program) → IsCode P → (w : World) (e : FlatEvent) �
 react_single P ok w e h = let g = reacts P ok w e in run_single P g.steps (called w (number_of e) P.react) (react_world P w e) g.ends h
 
 -- ---- the run over a list of events
-
--- the worlds after each event, from a world on
-abbrev pub worlds_from : Program → World → List FlatEvent → List World
-worlds_from P w [] = w ∷ []
-worlds_from P w (e ∷ es) = w ∷ worlds_from P (react_world P w e) es
 
 pub runs_from : (P : Program) → IsCode P → (w : World) (es : List FlatEvent) → RunsFrom P w es (worlds_from P w es)
 runs_from P ok w [] = refl

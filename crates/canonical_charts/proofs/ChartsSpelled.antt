@@ -1,4 +1,5 @@
 -- The words of the canonical text of a chart spell the chart.
+-- `x_spelled` says that the canonical words of x spell it.
 use Rattle.std.proofs.Common.{◌≡◌, ℕ, true, List, [], ◌∷◌, ◌++◌, map, refl, ap, ◌∙◌, append_assoc, arith}
 use Rattle.std.specs.List.{flat_map}
 use Rattle.token_grammar.specs.declared.token.Kind.TheVariants as kinds
@@ -11,13 +12,18 @@ use Rattle.chart_tree.specs.declared.chart.VarWord.TheVariants as var_words
 use Rattle.chart_tree.specs.Trees.{Stmt, Trans, Parts, State, StateOf, States, Var, Chart}
 use Rattle.chart_grammar.specs.Limits.{Counts, Counted, usual, after_event, after_variable}
 use Rattle.chart_grammar.specs.Declarations.{kind_heads}
-use Rattle.chart_grammar.specs.States.{values, Item, Entry, During, Inner, Default, StateItem, EventItem, VarItem, Seen, nothing_seen, counted_as, StateGrammar, chart_heads, chart_item, chart_items, Sorted, no_items, sorted, state_with, state, at_begin, chart_with, chart}
+use Rattle.chart_grammar.specs.States.{values, Item, Entry, During, Inner, Default, StateItem, EventItem, VarItem}
+use Rattle.chart_grammar.specs.States.{Seen, nothing_seen, counted_as, StateGrammar, chart_heads, chart_item}
+use Rattle.chart_grammar.specs.States.{chart_items, Sorted, no_items, sorted, state_with, state, at_begin, chart_with}
+use Rattle.chart_grammar.specs.States.{chart}
 use Rattle.chart_print.specs.Pieces.{key}
 use Rattle.chart_print.specs.Words.{name_pieces}
 use Rattle.chart_print.specs.Transitions.{block_pieces, trans_pieces}
 use Rattle.chart_print.specs.Declarations.{event_pieces, var_kind, var_pieces}
-use Rattle.chart_print.specs.Canonical.{comp_pieces, parts_pieces, state_pieces, states_pieces, event_line, var_line, chart_pieces}
-use Rattle.chart_print.specs.Places.{unplaced_name, unplaced_parts, unplaced_state, unplaced_states, unplaced_event, unplaced_var, without_places}
+use Rattle.chart_print.specs.Canonical.{comp_pieces, parts_pieces, state_pieces, states_pieces, event_line, var_line}
+use Rattle.chart_print.specs.Canonical.{chart_pieces}
+use Rattle.chart_print.specs.Places.{unplaced_name, unplaced_parts, unplaced_state, unplaced_states, unplaced_event}
+use Rattle.chart_print.specs.Places.{unplaced_var, without_places}
 use Rattle.canonical_claims.specs.Words.{words_in, WordsSpell}
 use Rattle.canonical_claims.specs.Sizes.{none, ◌⊕◌, sizes, size_of_parts, size_of_state, size_of_chart, IsWithin}
 use Rattle.canonical_claims.specs.Terms.{IsNamed, IsVar, IsParts, IsStates, IsChart}
@@ -27,9 +33,13 @@ use Rattle.canonical_claims.proofs.Counts.{same_counts, within_front, one_event,
 use Rattle.canonical_claims.proofs.Spelled.{spell_give, spell_then, spell_left, spell_right, spell_made}
 use Rattle.canonical_claims.proofs.Keywords.{spell_word}
 use Rattle.canonical_charts.proofs.ItemLists.{unplaced_item, Place, ItemWords, segment}
-use Rattle.canonical_charts.proofs.PartsSpelled.{listed, listed_sizes, IsNested, listed_nested, NoAction, Readers, HasItems, behind_all, behind_rest, parts_tail}
-use Rattle.canonical_charts.proofs.ItemsSpelled.{Leads, keyed_leads, spell_beginning, action_item_spelled, trans_item_spelled, junction_item_spelled, event_item_spelled, variable_item_spelled}
-use Rattle.canonical_charts.proofs.StatesSpelled.{junction_leads, state_leads, comp_spelled, unplaced_sorted, sorted_left, state_with_alike, state_of_left, state_spelled}
+use Rattle.canonical_charts.proofs.PartsSpelled.{listed, listed_sizes, IsNested, listed_nested, NoAction, Readers}
+use Rattle.canonical_charts.proofs.PartsSpelled.{HasItems, behind_all, behind_rest, parts_tail}
+use Rattle.canonical_charts.proofs.ItemsSpelled.{Leads, keyed_leads, spell_beginning, action_item_spelled}
+use Rattle.canonical_charts.proofs.ItemsSpelled.{trans_item_spelled, junction_item_spelled, event_item_spelled}
+use Rattle.canonical_charts.proofs.ItemsSpelled.{variable_item_spelled}
+use Rattle.canonical_charts.proofs.StatesSpelled.{junction_leads, state_leads, comp_spelled, unplaced_sorted}
+use Rattle.canonical_charts.proofs.StatesSpelled.{sorted_left, state_with_alike, state_of_left, state_spelled}
 
 -- ---- one item of a chart
 
@@ -42,6 +52,7 @@ event_leads : (x : EventText) → Leads kinds.Event (words_in (event_pieces x))
 unfolding event_pieces key
 event_leads x = record { rest = _; is = refl }
 
+-- the words of a datum begin with its word
 var_leads : (x : Var) → Leads (var_kind x.kind) (words_in (var_pieces x))
 unfolding var_pieces key
 var_leads x = record { rest = _; is = refl }
@@ -56,12 +67,14 @@ var_heads z var_words.Local = refl
 abbrev NoStmts : List Stmt → Type 0
 NoStmts b = ⊥
 
+-- there is no such transition
 abbrev NoTrans : Trans → Type 0
 NoTrans t = ⊥
 
 module _ (t : TransitionClaims) (level : ℕ) (nested : State → Type 0) (st : StateGrammar)
     (reads : (n : Counts) (s : State) → nested s → IsWithin (n ⊕ size_of_state s)
-    → WordsSpell (st n) (counted unplaced_state) (words_in (state_pieces level s)) (behind (unplaced_state s) (n ⊕ size_of_state s)))
+    → WordsSpell (st n) (counted unplaced_state) (words_in (state_pieces level s))
+    (behind (unplaced_state s) (n ⊕ size_of_state s)))
     (name : NameText) (comp : CompText) where
   -- each item of a chart but its declarations
   chart_readers : Readers (in_chart st name comp) level NoStmts NoTrans nested
@@ -103,12 +116,14 @@ module _ (t : TransitionClaims) (level : ℕ) (nested : State → Type 0) (st : 
         (spell_right (is kinds.Junction)
         (spell_right (is kinds.Event)
         (spell_right kind_heads
-        (spell_made (reads z.counts x h within) (λ found e. ap (λ (y : Counted State). counted_as StateItem y) e)))))))));
+        (spell_made (reads z.counts x h within)
+        (λ found e. ap (λ (y : Counted State). counted_as StateItem y) e)))))))));
   }
 
   -- declarations
   event_line_spelled : (z : Seen) (x : EventText) → IsNamed x.name → IsWithin (z.counts ⊕ after_event none)
-      → ItemWords (in_chart st name comp) z (words_in (event_line x)) (EventItem (unplaced_event x)) (z.counts ⊕ after_event none)
+      → ItemWords (in_chart st name comp) z (words_in (event_line x)) (EventItem (unplaced_event x))
+      (z.counts ⊕ after_event none)
   unfolding chart_item event_line
   event_line_spelled z x h within =
       let room : IsWithin (after_event z.counts) = rw (one_event z.counts) within in
@@ -122,7 +137,8 @@ module _ (t : TransitionClaims) (level : ℕ) (nested : State → Type 0) (st : 
       (spell_left (is kinds.Event) (event_item_spelled t z.counts x h room))))))))
 
   variable_line_spelled : (z : Seen) (x : Var) → IsVar x → IsWithin (z.counts ⊕ after_variable none)
-      → ItemWords (in_chart st name comp) z (words_in (var_line x)) (VarItem (unplaced_var x)) (z.counts ⊕ after_variable none)
+      → ItemWords (in_chart st name comp) z (words_in (var_line x)) (VarItem (unplaced_var x))
+      (z.counts ⊕ after_variable none)
   unfolding chart_item var_line
   variable_line_spelled z x h within =
       let room : IsWithin (after_variable z.counts) = rw (one_variable z.counts) within in
@@ -142,6 +158,7 @@ module _ (t : TransitionClaims) (level : ℕ) (nested : State → Type 0) (st : 
 abbrev pub sizes_of_events : List EventText → Counts
 sizes_of_events events = sizes (λ e. after_event none) events
 
+-- the sizes of data
 abbrev pub sizes_of_vars : List Var → Counts
 sizes_of_vars vars = sizes (λ v. after_variable none) vars
 
@@ -164,7 +181,8 @@ unfolding chart_pieces
 chart_words events vars parts states = simp (words_in-append, append_assoc, head_words, end_words)
 
 -- what a chart has, as its items have it
-chart_items_of : (parts : Parts) (states : States) → IsParts parts → IsStates usual.depth states → parts.exit ≡ [] → parts.outer ≡ []
+chart_items_of : (parts : Parts) (states : States) → IsParts parts → IsStates usual.depth states → parts.exit ≡ []
+    → parts.outer ≡ []
     → HasItems NoStmts NoTrans (IsNested usual.depth) parts states
 chart_items_of parts states h nested stays inside = record {
   entry = h.entry;
@@ -178,8 +196,10 @@ chart_items_of parts states h nested stays inside = record {
 }
 
 -- charts of the same parts are the same
-whole_chart : {events events' : List EventText} {vars vars' : List Var} {root root' : State} → events ≡ events' → vars ≡ vars' → root ≡ root'
-    → ◌≡◌ {A = Chart} (record { events = events; vars = vars; root = root }) (record { events = events'; vars = vars'; root = root' })
+whole_chart : {events events' : List EventText} {vars vars' : List Var} {root root' : State} → events ≡ events'
+    → vars ≡ vars' → root ≡ root'
+    → ◌≡◌ {A = Chart} (record { events = events; vars = vars; root = root })
+    (record { events = events'; vars = vars'; root = root' })
 whole_chart e v r = cc
 
 module _ (e : ExpressionClaims) (t : TransitionClaims) where
@@ -202,10 +222,13 @@ module _ (e : ExpressionClaims) (t : TransitionClaims) where
       let nested : State → Type 0 = IsNested usual.depth in
       let reads = state_spelled e t usual.depth 1 in
       let readers = chart_readers t 1 nested st reads there parts.comp in
-      let base : Sorted = record (no_items there parts.comp) { parts = unplaced_parts parts; states = unplaced_states states } in
-      let items = parts_tail readers parts states (chart_items_of parts states h.parts h.states h.stays h.inside) n2 within in
+      let base : Sorted =
+      record (no_items there parts.comp) { parts = unplaced_parts parts; states = unplaced_states states } in
+      let items =
+      parts_tail readers parts states (chart_items_of parts states h.parts h.states h.stays h.inside) n2 within in
       let vars_tail =
-      segment p NoAction IsVar var_line (λ v. after_variable none) unplaced_var VarItem (λ ys. record base { vars = ys }) (λ y ys. refl) (λ z y k q. q)
+      segment p NoAction IsVar var_line (λ v. after_variable none) unplaced_var VarItem
+      (λ ys. record base { vars = ys }) (λ y ys. refl) (λ z y k q. q)
       (λ z q. variable_line_spelled t 1 nested st reads there parts.comp z) vars h.vars n1 within2 _ m items in
       let events_tail =
       segment p NoAction (λ (x : EventText). IsNamed x.name) event_line (λ x. after_event none) unplaced_event EventItem
@@ -220,25 +243,31 @@ module _ (e : ExpressionClaims) (t : TransitionClaims) where
       spell_word kinds.CloseBrace
       (spell_give _ (looks name named c composed found (ap (λ (x : Sorted × Counts). x.0) sorts)))))))))
     where
-      looks : (name : NameText) → unplaced_name name ≡ unplaced_name parts.name → (c : CompText) → c ≡ parts.comp → (found : List (Counted Item))
+      looks : (name : NameText) → unplaced_name name ≡ unplaced_name parts.name → (c : CompText) → c ≡ parts.comp
+          → (found : List (Counted Item))
           → sorted (unplaced_name parts.name) parts.comp (map unplaced_item (values found))
           ≡ record { parts = unplaced_parts parts; states = unplaced_states states; events = map unplaced_event events; vars = map unplaced_var vars }
-          → without_places (chart_with (sorted name c (values found))) ≡ without_places (record { events = events; vars = vars; root = StateOf parts states })
+          → without_places (chart_with (sorted name c (values found))) ≡ without_places
+          (record { events = events; vars = vars; root = StateOf parts states })
       looks name named c composed found sorts =
           let s : Sorted = sorted name c (values found) in
           let whole : Sorted =
           record { parts = unplaced_parts parts; states = unplaced_states states; events = map unplaced_event events; vars = map unplaced_var vars } in
           let put_so : unplaced_sorted s ≡ whole = sorted_left name _ named c _ composed (values found) whole sorts in
           let root : unplaced_state (state_with s) ≡ unplaced_state (StateOf parts states) =
-          state_with_alike s ∙ ap state_with put_so ∙ state_of_left parts states h.comp (map unplaced_event events) (map unplaced_var vars) in
-          let declared : map unplaced_event s.events ≡ map unplaced_event events = ap (λ (x : Sorted). x.events) put_so in
+          state_with_alike s ∙ ap state_with put_so
+          ∙ state_of_left parts states h.comp (map unplaced_event events) (map unplaced_var vars) in
+          let declared : map unplaced_event s.events ≡ map unplaced_event events =
+          ap (λ (x : Sorted). x.events) put_so in
           let data_so : map unplaced_var s.vars ≡ map unplaced_var vars = ap (λ (x : Sorted). x.vars) put_so in
           whole_chart declared data_so root
 
   -- every chart
-  pub chart_spelled : (x : Chart) → IsChart x → WordsSpell (chart usual) without_places (words_in (chart_pieces x)) (without_places x)
+  pub chart_spelled : (x : Chart) → IsChart x
+      → WordsSpell (chart usual) without_places (words_in (chart_pieces x)) (without_places x)
   chart_spelled x h = of_root x.events x.vars x.root h
     where
-      of_root : (events : List EventText) (vars : List Var) (root : State) → let x : Chart = record { events = events; vars = vars; root = root } in IsChart x
+      of_root : (events : List EventText) (vars : List Var) (root : State) → let x : Chart =
+          record { events = events; vars = vars; root = root } in IsChart x
           → WordsSpell (chart usual) without_places (words_in (chart_pieces x)) (without_places x)
       of_root events vars (StateOf parts states) h = chart_of events vars parts states h

@@ -6,9 +6,12 @@ use Rattle.token_grammar.specs.Grammar.{Grammar, many_from}
 use Rattle.chart_tree.specs.declared.name.NameText.{NameText}
 use Rattle.chart_tree.specs.declared.state.CompText.{CompText}
 use Rattle.chart_grammar.specs.Limits.{Counts, Counted}
-use Rattle.chart_grammar.specs.States.{values, counts_behind, Item, Entry, During, Exit, Outer, Inner, Default, JunctionItem, StateItem, EventItem, VarItem, Seen, after_item, beginning, Sorted, no_items, put, sorted}
+use Rattle.chart_grammar.specs.States.{values, counts_behind, Item, Entry, During, Exit, Outer, Inner, Default}
+use Rattle.chart_grammar.specs.States.{JunctionItem, StateItem, EventItem, VarItem, Seen, after_item, beginning}
+use Rattle.chart_grammar.specs.States.{Sorted, no_items, put, sorted}
 use Rattle.chart_print.specs.Pieces.{Piece}
-use Rattle.chart_print.specs.Places.{unplaced_block, unplaced_trans, unplaced_junction, unplaced_state, unplaced_event, unplaced_var}
+use Rattle.chart_print.specs.Places.{unplaced_block, unplaced_trans, unplaced_junction, unplaced_state}
+use Rattle.chart_print.specs.Places.{unplaced_event, unplaced_var}
 use Rattle.canonical_claims.specs.Words.{Word, words_in, WordsSpell}
 use Rattle.canonical_claims.specs.Sizes.{◌⊕◌, sizes, IsWithin}
 use Rattle.canonical_claims.specs.Claims.{counted, behind}
@@ -91,7 +94,8 @@ tail_end p z [] h = record { value = []; spelled = refl; looks = refl }
 tail_end p z (t ∷ u) h = absurd cc
 
 -- one item, and those after it
-pub tail_next : (p : Place) (z : Seen) (a b : List Word) (y : Item) (n : Counts) (s : Sorted) (m : Counts) → ItemWords p z a y n
+pub tail_next : (p : Place) (z : Seen) (a b : List Word) (y : Item) (n : Counts) (s : Sorted) (m : Counts)
+    → ItemWords p z a y n
     → Tail p (after_item z (behind y n)) b s m → Tail p z (a ++ b) (put y s) m
 unfolding many_from
 tail_next p z a b y n s m one others u e =
@@ -103,8 +107,10 @@ tail_next p z a b y n s m one others u e =
     let after : after_item z (behind y n) ≡ after_item z l.value =
     sym (after_same z l.value.value l.value.counts ∙ ap (λ (x : Counted Item). after_item z x) l.looks) in
     let same : left p (after_item z (behind y n)).counts r.value ≡ (s, m) = r.looks in
-    let put_so : sorted p.name p.comp (map unplaced_item (values r.value)) ≡ s = ap (λ (x : Sorted × Counts). x.0) same in
-    let counted_so : counts_behind (after_item z (behind y n)).counts r.value ≡ m = ap (λ (x : Sorted × Counts). x.1) same in
+    let put_so : sorted p.name p.comp (map unplaced_item (values r.value)) ≡ s =
+    ap (λ (x : Sorted × Counts). x.0) same in
+    let counted_so : counts_behind (after_item z (behind y n)).counts r.value ≡ m =
+    ap (λ (x : Sorted × Counts). x.1) same in
     let from_there : counts_behind l.value.counts r.value ≡ m = rw (counts, ← after_counts z y n) counted_so in
     record {
       value = l.value ∷ r.value;
@@ -120,19 +126,22 @@ tail_next p z a b y n s m one others u e =
 
 -- ---- any number of items of one kind in front
 
--- wherever so many things have been counted, and what was seen is so, the words spell the items from there on
+-- wherever n things have been counted, and what was seen is so, the words spell the items from there on
 abbrev pub Rest : Place → (Seen → Type 0) → Counts → List Word → Sorted → Counts → Type 0
 Rest p seen n words s m = (z : Seen) → seen z → z.counts ≡ n → Tail p z words s m
 
-module _ {T U : Type 0} (p : Place) (seen : Seen → Type 0) (has : T → Type 0) (pieces : T → List Piece) (size : T → Counts)
+module _ {T U : Type 0} (p : Place) (seen : Seen → Type 0) (has : T → Type 0) (pieces : T → List Piece)
+    (size : T → Counts)
     (view : T → U) (item : U → Item) (fill : List U → Sorted)
     (puts : (y : U) (ys : List U) → put (item y) (fill ys) ≡ fill (y ∷ ys))
     (keeps : (z : Seen) (y : U) (n : Counts) → seen z → seen (after_item z (behind (item y) n)))
     (reads : (z : Seen) → seen z → (t : T) → has t → IsWithin (z.counts ⊕ size t)
     → ItemWords p z (words_in (pieces t)) (item (view t)) (z.counts ⊕ size t)) where
   -- their words, and the words of what stands after them
-  pub segment : (ts : List T) → AllByRecursion has ts → (n : Counts) → IsWithin (n ⊕ sizes size ts) → (w : List Word) (m : Counts)
-      → Rest p seen (n ⊕ sizes size ts) w (fill []) m → Rest p seen n (words_in (flat_map pieces ts) ++ w) (fill (map view ts)) m
+  pub segment : (ts : List T) → AllByRecursion has ts → (n : Counts) → IsWithin (n ⊕ sizes size ts)
+      → (w : List Word) (m : Counts)
+      → Rest p seen (n ⊕ sizes size ts) w (fill []) m
+      → Rest p seen n (words_in (flat_map pieces ts) ++ w) (fill (map view ts)) m
   segment [] all n within w m rest z q counts = rest z q (counts ∙ sym (sum-none n))
   segment (t ∷ ts) all n within w m rest z q counts =
       let others : List Word = words_in (flat_map pieces ts) ++ w in
@@ -142,7 +151,14 @@ module _ {T U : Type 0} (p : Place) (seen : Seen → Type 0) (has : T → Type 0
       let behind_it : Seen = after_item z (behind y (z.counts ⊕ size t)) in
       let counted_so : behind_it.counts ≡ n ⊕ size t = after_counts z y (z.counts ⊕ size t) ∙ rw counts refl in
       let tail : Tail p behind_it others (fill (map view ts)) m =
-      segment ts all.1 (n ⊕ size t) all_within w m (λ v k e. rest v k (e ∙ sum-assoc n (size t) (sizes size ts))) behind_it
+      segment ts all.1 (n ⊕ size t) all_within w m
+      (λ v k e. rest v k (e ∙ sum-assoc n (size t) (sizes size ts))) behind_it
       (keeps z (view t) (z.counts ⊕ size t) q) counted_so in
-      rw (words_in-append (pieces t) (flat_map pieces ts), append_assoc (words_in (pieces t)), ← puts (view t) (map view ts))
-      (tail_next p z (words_in (pieces t)) others y (z.counts ⊕ size t) (fill (map view ts)) m (reads z q t all.0 room) tail)
+      rw (
+        words_in-append (pieces t) (flat_map pieces ts),
+        append_assoc (words_in (pieces t)),
+        ← puts (view t)
+            (map view ts),
+      )
+      (tail_next p z (words_in (pieces t)) others y (z.counts ⊕ size t) (fill (map view ts)) m
+      (reads z q t all.0 room) tail)

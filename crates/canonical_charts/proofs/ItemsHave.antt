@@ -1,5 +1,7 @@
 -- What a spelled item of a state or of a chart has.
-use Rattle.std.proofs.Common.{◌≡◌, ℕ, Bool, true, false, not, ◌||◌, List, ◌∷◌, ◌++◌, None, inl, inr, refl, ap, sym, ◌∙◌, subst}
+-- `x_has` says what is so of each x that tokens cut from a text spell.
+use Rattle.std.proofs.Common.{◌≡◌, ℕ, Bool, true, false, not, ◌||◌, List, ◌∷◌, ◌++◌, None, inl, inr, refl, ap, sym}
+use Rattle.std.proofs.Common.{◌∙◌, subst}
 use Rattle.std.proofs.lemmas.Bool.{cases_Bool}
 use Rattle.token_grammar.specs.declared.token.Kind.{Kind}
 use Rattle.token_grammar.specs.declared.token.Kind.TheVariants as kinds
@@ -9,7 +11,10 @@ use Rattle.token_grammar.proofs.Tokens.{kind_eq-true}
 use Rattle.chart_tree.specs.Trees.{Stmt, Trans, Junction, State}
 use Rattle.chart_grammar.specs.Limits.{Counts, Counted, usual, after_event, after_variable}
 use Rattle.chart_grammar.specs.Transitions.{keyword_trans}
-use Rattle.chart_grammar.specs.States.{Item, Entry, During, Exit, Outer, Inner, Default, JunctionItem, StateItem, EventItem, VarItem, Seen, counted_as, StateGrammar, junction, action_item, trans_item, junction_item, event_item, variable_item, item_heads, chart_heads, item, chart_item, unexpected, next_item, next_chart_item}
+use Rattle.chart_grammar.specs.States.{Item, Entry, During, Exit, Outer, Inner, Default, JunctionItem, StateItem}
+use Rattle.chart_grammar.specs.States.{EventItem, VarItem, Seen, counted_as, StateGrammar, junction, action_item}
+use Rattle.chart_grammar.specs.States.{trans_item, junction_item, event_item, variable_item, item_heads, chart_heads}
+use Rattle.chart_grammar.specs.States.{item, chart_item, unexpected, next_item, next_chart_item}
 use Rattle.canonical_claims.specs.Sizes.{◌⊕◌, size_of_block, size_of_state, IsWithin}
 use Rattle.canonical_claims.specs.Terms.{IsBlock}
 use Rattle.canonical_claims.specs.Claims.{AreCut, TransitionClaims, Adds, behind}
@@ -21,7 +26,8 @@ use Rattle.canonical_charts.proofs.SortedItems.{Found}
 -- ---- in general
 
 -- what begins where only a set may begin, begins with a token of the set
-first_in : (set : Kind → Bool) (k : Kind) (u : List Lexeme) (t : Lexeme) (q : List Lexeme) → u ≡ t ∷ q → kind_eq t.kind k ≡ true
+first_in : (set : Kind → Bool) (k : Kind) (u : List Lexeme) (t : Lexeme) (q : List Lexeme) → u ≡ t ∷ q
+    → kind_eq t.kind k ≡ true
     → first_refused (λ j. true) (unexpected set) u ≡ None → set k ≡ true
 first_in set k u t q e same passes =
     let kind : t.kind ≡ k = kind_eq-true t.kind k same in
@@ -32,7 +38,8 @@ first_in set k u t q e same passes =
     ]
 
 -- what is made of one counted value
-counted_has : {X : Type 0} (deep : ℕ) (may : Item → Type 0) (z : Seen) (kind : X → Item) (g : Grammar (Counted X)) (u : List Lexeme) (x : Counted Item)
+counted_has : {X : Type 0} (deep : ℕ) (may : Item → Type 0) (z : Seen) (kind : X → Item) (g : Grammar (Counted X))
+    (u : List Lexeme) (x : Counted Item)
     → AreCut u → ((p : List Lexeme) (v : Counted X) → AreCut p → g.spells p v → Found deep may z (counted_as kind v))
     → (g >>= λ v. give (counted_as kind v)).spells u x → Found deep may z x
 counted_has deep may z kind g u x cut has w =
@@ -58,6 +65,7 @@ InState (StateItem s) = Unit {0}
 InState (EventItem e) = ⊥
 InState (VarItem v) = ⊥
 
+-- what may stand in the chart
 abbrev pub InChart : Item → Type 0
 InChart (Entry block) = Unit {0}
 InChart (During block) = Unit {0}
@@ -81,7 +89,8 @@ module _ (t : TransitionClaims) (deep : ℕ) (st : StateGrammar) (states : State
   action_has : (may : Item → Type 0) (set : Kind → Bool) (k : Kind) (kind : List Stmt → Item)
       → ((b : List Stmt) → IsBlock b → (IsWithin z.counts → IsWithin (z.counts ⊕ size_of_block b)) → set k ≡ true
       → Found deep may z (behind (kind b) (z.counts ⊕ size_of_block b)))
-      → first_refused (λ j. true) (unexpected set) u ≡ None → (action_item usual k kind z.counts).spells u x → Found deep may z x
+      → first_refused (λ j. true) (unexpected set) u ≡ None → (action_item usual k kind z.counts).spells u x
+      → Found deep may z x
   unfolding action_item token
   action_has may set k kind found passes w =
       let rest = w.second in
@@ -90,19 +99,24 @@ module _ (t : TransitionClaims) (deep : ℕ) (st : StateGrammar) (states : State
       let is = rest.second.1 ∙ ap (λ (m : Counts). behind (kind rest.x) m) (one_block z.counts rest.x) in
       subst (Found deep may z) (sym is) (found rest.x has.0 has.1 (first_in set k u w.x w.q begun w.first.1 passes))
 
-  entry_has : (may : Item → Type 0) → ((b : List Stmt) → may (Entry b)) → (set : Kind → Bool) → (set kinds.Entry ≡ true → z.entry ≡ false)
-      → first_refused (λ j. true) (unexpected set) u ≡ None → (action_item usual kinds.Entry Entry z.counts).spells u x → Found deep may z x
+  entry_has : (may : Item → Type 0) → ((b : List Stmt) → may (Entry b)) → (set : Kind → Bool)
+      → (set kinds.Entry ≡ true → z.entry ≡ false)
+      → first_refused (λ j. true) (unexpected set) u ≡ None
+      → (action_item usual kinds.Entry Entry z.counts).spells u x → Found deep may z x
   entry_has may place set new =
       action_has may set kinds.Entry Entry (λ b fine within there.
       record { fine = fine; place = place b; adds = record { count = refl; within = within }; once = new there })
 
-  during_has : (may : Item → Type 0) → ((b : List Stmt) → may (During b)) → (set : Kind → Bool) → (set kinds.During ≡ true → z.during ≡ false)
-      → first_refused (λ j. true) (unexpected set) u ≡ None → (action_item usual kinds.During During z.counts).spells u x → Found deep may z x
+  during_has : (may : Item → Type 0) → ((b : List Stmt) → may (During b)) → (set : Kind → Bool)
+      → (set kinds.During ≡ true → z.during ≡ false)
+      → first_refused (λ j. true) (unexpected set) u ≡ None
+      → (action_item usual kinds.During During z.counts).spells u x → Found deep may z x
   during_has may place set new =
       action_has may set kinds.During During (λ b fine within there.
       record { fine = fine; place = place b; adds = record { count = refl; within = within }; once = new there })
 
-  exit_has : first_refused (λ j. true) (unexpected (item_heads z)) u ≡ None → (action_item usual kinds.Exit Exit z.counts).spells u x
+  exit_has : first_refused (λ j. true) (unexpected (item_heads z)) u ≡ None
+      → (action_item usual kinds.Exit Exit z.counts).spells u x
       → Found deep InState z x
   exit_has =
       action_has InState (item_heads z) kinds.Exit Exit (λ b fine within there.
@@ -116,14 +130,16 @@ module _ (t : TransitionClaims) (deep : ℕ) (st : StateGrammar) (states : State
       let h = t.trans_has kinds.Outer z.counts p v c s in
       record { fine = h.0; place = record {}; adds = h.1; once = record {} }) w
 
-  inner_has : (may : Item → Type 0) → ((v : Trans) → may (Inner v)) → (trans_item usual kinds.Inner Inner z.counts).spells u x → Found deep may z x
+  inner_has : (may : Item → Type 0) → ((v : Trans) → may (Inner v))
+      → (trans_item usual kinds.Inner Inner z.counts).spells u x → Found deep may z x
   unfolding trans_item
   inner_has may place w =
       counted_has deep may z Inner (keyword_trans usual (is kinds.Inner) z.counts) u x cut (λ p v c s.
       let h = t.trans_has kinds.Inner z.counts p v c s in
       record { fine = h.0; place = place v.value; adds = h.1; once = record {} }) w
 
-  default_has : (may : Item → Type 0) → ((v : Trans) → may (Default v)) → (trans_item usual kinds.Default Default z.counts).spells u x
+  default_has : (may : Item → Type 0) → ((v : Trans) → may (Default v))
+      → (trans_item usual kinds.Default Default z.counts).spells u x
       → Found deep may z x
   unfolding trans_item
   default_has may place w =
@@ -132,14 +148,16 @@ module _ (t : TransitionClaims) (deep : ℕ) (st : StateGrammar) (states : State
       record { fine = h.0; place = place v.value; adds = h.1; once = record {} }) w
 
   -- junctions and states
-  junction_has : (may : Item → Type 0) → ((v : Junction) → may (JunctionItem v)) → (junction_item usual z.counts).spells u x → Found deep may z x
+  junction_has : (may : Item → Type 0) → ((v : Junction) → may (JunctionItem v))
+      → (junction_item usual z.counts).spells u x → Found deep may z x
   unfolding junction_item
   junction_has may place w =
       counted_has deep may z JunctionItem (junction usual z.counts) u x cut (λ p v c s.
       let h = t.junction_has z.counts p v c s in
       record { fine = h.0; place = place v.value; adds = h.1; once = record {} }) w
 
-  state_has : (may : Item → Type 0) → ((v : State) → may (StateItem v)) → (st z.counts >>= λ v. give (counted_as StateItem v)).spells u x
+  state_has : (may : Item → Type 0) → ((v : State) → may (StateItem v))
+      → (st z.counts >>= λ v. give (counted_as StateItem v)).spells u x
       → Found deep may z x
   state_has may place w =
       counted_has deep may z StateItem (st z.counts) u x cut (λ p v c s.

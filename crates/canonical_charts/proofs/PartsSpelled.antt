@@ -1,17 +1,23 @@
 -- The words of the canonical items of a state or a chart, from the actions to the child states.
-use Rattle.std.proofs.Common.{◌≡◌, ℕ, zero, suc, false, List, [], ◌∷◌, ◌++◌, map, append_assoc, append-nil, arith, refl, ap, sym, ◌∙◌, subst}
+-- `x_spelled` says that the canonical words of x spell it.
+use Rattle.std.proofs.Common.{◌≡◌, ℕ, zero, suc, false, List, [], ◌∷◌, ◌++◌, map, append_assoc, append-nil, arith}
+use Rattle.std.proofs.Common.{refl, ap, sym, ◌∙◌, subst}
 use Rattle.std.specs.List.{AllByRecursion, flat_map}
 use Rattle.token_grammar.specs.declared.token.Kind.{Kind}
 use Rattle.token_grammar.specs.declared.token.Kind.TheVariants as kinds
 use Rattle.chart_tree.specs.Trees.{Stmt, Trans, Junction, Parts, State, States, NoState, MoreStates}
 use Rattle.chart_grammar.specs.Limits.{Counts}
-use Rattle.chart_grammar.specs.States.{Item, Entry, During, Exit, Outer, Inner, Default, JunctionItem, StateItem, Seen, after_item, Sorted, no_items, put}
+use Rattle.chart_grammar.specs.States.{Item, Entry, During, Exit, Outer, Inner, Default, JunctionItem, StateItem}
+use Rattle.chart_grammar.specs.States.{Seen, after_item, Sorted, no_items, put}
 use Rattle.chart_print.specs.Pieces.{Piece, key, space, line}
 use Rattle.chart_print.specs.Transitions.{block_pieces, trans_pieces}
-use Rattle.chart_print.specs.Canonical.{action_line, trans_line, junction_pieces, actions_pieces, transitions_pieces, parts_pieces, state_pieces, states_pieces}
-use Rattle.chart_print.specs.Places.{unplaced_block, unplaced_trans, unplaced_junction, unplaced_parts, unplaced_state, unplaced_states}
+use Rattle.chart_print.specs.Canonical.{action_line, trans_line, junction_pieces, actions_pieces, transitions_pieces}
+use Rattle.chart_print.specs.Canonical.{parts_pieces, state_pieces, states_pieces}
+use Rattle.chart_print.specs.Places.{unplaced_block, unplaced_trans, unplaced_junction, unplaced_parts}
+use Rattle.chart_print.specs.Places.{unplaced_state, unplaced_states}
 use Rattle.canonical_claims.specs.Words.{Word, words_in}
-use Rattle.canonical_claims.specs.Sizes.{◌⊕◌, sizes, size_of_block, size_of_trans, size_of_junction, size_of_parts, size_of_state, size_of_states, IsWithin}
+use Rattle.canonical_claims.specs.Sizes.{◌⊕◌, sizes, size_of_block, size_of_trans, size_of_junction, size_of_parts}
+use Rattle.canonical_claims.specs.Sizes.{size_of_state, size_of_states, IsWithin}
 use Rattle.canonical_claims.specs.Terms.{IsBlock, IsTrans, IsJunction, IsStates, IsState}
 use Rattle.canonical_claims.specs.Claims.{behind}
 use Rattle.canonical_claims.proofs.Words.{words_line, words_in-append, keyword}
@@ -25,10 +31,12 @@ abbrev pub keyed : Kind → List Piece → List Word
 keyed k pieces = keyword k ∷ words_in pieces
 
 -- a line that begins with a keyword
-keyed_line : (level : ℕ) (k : Kind) (content : List Piece) → words_in (line level (key k ++ space ++ content)) ≡ keyed k content
+keyed_line : (level : ℕ) (k : Kind) (content : List Piece)
+    → words_in (line level (key k ++ space ++ content)) ≡ keyed k content
 unfolding key space
 keyed_line level k content = words_line level _
 
+-- the words of a transition's line
 trans_line_words : (level : ℕ) (k : Kind) (t : Trans) → words_in (trans_line level k t) ≡ keyed k (trans_pieces t)
 unfolding trans_line
 trans_line_words level k t = keyed_line level k (trans_pieces t)
@@ -40,11 +48,13 @@ abbrev pub IfAny : (List Stmt → Type 0) → List Stmt → Type 0
 IfAny has [] = Unit {0}
 IfAny has (x ∷ xs) = has (x ∷ xs)
 
+-- a block is one wherever there is one
 pub any_block : (b : List Stmt) → IsBlock b → IfAny IsBlock b
 any_block [] h = record {}
 any_block (x ∷ xs) h = h
 
-module _ (p : Place) (first seen : Seen → Type 0) (has : List Stmt → Type 0) (item : List Stmt → Item) (level : ℕ) (k : Kind)
+module _ (p : Place) (first seen : Seen → Type 0) (has : List Stmt → Type 0) (item : List Stmt → Item) (level : ℕ)
+    (k : Kind)
     (fill : List Stmt → Sorted)
     (puts : (b : List Stmt) → put (item b) (fill []) ≡ fill b)
     (weaker : (z : Seen) → first z → seen z)
@@ -53,7 +63,8 @@ module _ (p : Place) (first seen : Seen → Type 0) (has : List Stmt → Type 0)
     → ItemWords p z (keyed k (block_pieces b)) (item (unplaced_block b)) (z.counts ⊕ size_of_block b)) where
   -- the line of an action, or none, and what stands after it
   action : (b : List Stmt) → IfAny has b → (n : Counts) → IsWithin (n ⊕ size_of_block b) → (w : List Word) (m : Counts)
-      → Rest p seen (n ⊕ size_of_block b) w (fill []) m → Rest p first n (words_in (action_line level k b) ++ w) (fill (unplaced_block b)) m
+      → Rest p seen (n ⊕ size_of_block b) w (fill []) m
+      → Rest p first n (words_in (action_line level k b) ++ w) (fill (unplaced_block b)) m
   unfolding action_line
   action [] h n within w m rest z q counts = rest z (weaker z q) (counts ∙ sym (sum-none n))
   action (x ∷ xs) h n within w m rest z q counts =
@@ -69,6 +80,7 @@ module _ (p : Place) (first seen : Seen → Type 0) (has : List Stmt → Type 0)
 
 -- ---- child states as a list
 
+-- states as a list
 abbrev pub listed : States → List State
 listed NoState = []
 listed (MoreStates state others) = state ∷ listed others
@@ -83,20 +95,25 @@ listed_view : (states : States) → unlisted (map unplaced_state (listed states)
 listed_view NoState = refl
 listed_view (MoreStates state others) = ap (λ (s : States). MoreStates (unplaced_state state) s) (listed_view others)
 
-listed_pieces : (level : ℕ) (states : States) → flat_map (state_pieces level) (listed states) ≡ states_pieces level states
+-- they have the same pieces
+listed_pieces : (level : ℕ) (states : States)
+    → flat_map (state_pieces level) (listed states) ≡ states_pieces level states
 unfolding states_pieces
 listed_pieces level NoState = refl
-listed_pieces level (MoreStates state others) = ap (λ (w : List Piece). state_pieces level state ++ w) (listed_pieces level others)
+listed_pieces level (MoreStates state others) =
+    ap (λ (w : List Piece). state_pieces level state ++ w) (listed_pieces level others)
 
+-- and the same sizes
 pub listed_sizes : (states : States) → sizes size_of_state (listed states) ≡ size_of_states states
 listed_sizes NoState = refl
 listed_sizes (MoreStates state others) = ap (λ (n : Counts). size_of_state state ⊕ n) (listed_sizes others)
 
--- a state that may stand where so many levels are left
+-- a state that may stand where `deep` levels are left
 abbrev pub IsNested : ℕ → State → Type 0
 IsNested zero state = ⊥
 IsNested (suc deeper) state = IsState deeper state
 
+-- and are nested as deep
 pub listed_nested : (deep : ℕ) (states : States) → IsStates deep states → AllByRecursion (IsNested deep) (listed states)
 listed_nested deep NoState h = record {}
 listed_nested zero (MoreStates state others) h = absurd h
@@ -108,17 +125,22 @@ listed_nested (suc deeper) (MoreStates state others) h = (h.0, listed_nested (su
 abbrev pub NoAction : Seen → Type 0
 NoAction z = (z.entry ≡ false) × (z.during ≡ false) × (z.exit ≡ false)
 
+-- at most an entry action was seen
 abbrev pub EntryAtMost : Seen → Type 0
 EntryAtMost z = (z.during ≡ false) × (z.exit ≡ false)
 
+-- no exit action was seen
 abbrev pub NoExit : Seen → Type 0
 NoExit z = z.exit ≡ false
 
+-- whatever was seen
 abbrev pub Anything : Seen → Type 0
 Anything z = Unit {0}
 
--- what is spelled as an item of a place: exit actions and outer transitions are not everywhere, and child states are these
-pub record Readers (p : Place) (level : ℕ) (has_exit : List Stmt → Type 0) (has_outer : Trans → Type 0) (nested : State → Type 0) : Type 0 where
+-- what is spelled as an item of a place: exit actions and outer transitions are not everywhere, and child states are
+-- these
+pub record Readers (p : Place) (level : ℕ) (has_exit : List Stmt → Type 0) (has_outer : Trans → Type 0)
+    (nested : State → Type 0) : Type 0 where
   pub entry : (z : Seen) → z.entry ≡ false → (b : List Stmt) → IsBlock b → IsWithin (z.counts ⊕ size_of_block b)
       → ItemWords p z (keyed kinds.Entry (block_pieces b)) (Entry (unplaced_block b)) (z.counts ⊕ size_of_block b)
   pub during : (z : Seen) → z.during ≡ false → (b : List Stmt) → IsBlock b → IsWithin (z.counts ⊕ size_of_block b)
@@ -132,12 +154,14 @@ pub record Readers (p : Place) (level : ℕ) (has_exit : List Stmt → Type 0) (
   pub outer : (z : Seen) (t : Trans) → has_outer t → IsWithin (z.counts ⊕ size_of_trans t)
       → ItemWords p z (keyed kinds.Outer (trans_pieces t)) (Outer (unplaced_trans t)) (z.counts ⊕ size_of_trans t)
   pub junction : (z : Seen) (j : Junction) → IsJunction j → IsWithin (z.counts ⊕ size_of_junction j)
-      → ItemWords p z (words_in (junction_pieces level j)) (JunctionItem (unplaced_junction j)) (z.counts ⊕ size_of_junction j)
+      → ItemWords p z (words_in (junction_pieces level j)) (JunctionItem (unplaced_junction j))
+      (z.counts ⊕ size_of_junction j)
   pub state : (z : Seen) (s : State) → nested s → IsWithin (z.counts ⊕ size_of_state s)
       → ItemWords p z (words_in (state_pieces level s)) (StateItem (unplaced_state s)) (z.counts ⊕ size_of_state s)
 
 -- what a state of these parts and states has
-pub record HasItems (has_exit : List Stmt → Type 0) (has_outer : Trans → Type 0) (nested : State → Type 0) (parts : Parts) (children : States) : Type 0 where
+pub record HasItems (has_exit : List Stmt → Type 0) (has_outer : Trans → Type 0) (nested : State → Type 0)
+    (parts : Parts) (children : States) : Type 0 where
   pub entry : IsBlock parts.entry
   pub during : IsBlock parts.during
   pub exit : IfAny has_exit parts.exit
@@ -151,22 +175,29 @@ pub record HasItems (has_exit : List Stmt → Type 0) (has_outer : Trans → Typ
 abbrev pub behind_actions : Counts → Parts → Counts
 behind_actions n parts = ((n ⊕ size_of_block parts.entry) ⊕ size_of_block parts.during) ⊕ size_of_block parts.exit
 
+-- the counts after the transitions
 abbrev pub behind_transitions : Counts → Parts → Counts
-behind_transitions n parts = ((n ⊕ sizes size_of_trans parts.default) ⊕ sizes size_of_trans parts.inner) ⊕ sizes size_of_trans parts.outer
+behind_transitions n parts =
+    ((n ⊕ sizes size_of_trans parts.default) ⊕ sizes size_of_trans parts.inner) ⊕ sizes size_of_trans parts.outer
 
+-- the counts after all items
 abbrev pub behind_all : Counts → Parts → States → Counts
 behind_all n parts states =
-    (behind_transitions (behind_actions n parts) parts ⊕ sizes size_of_junction parts.junctions) ⊕ sizes size_of_state (listed states)
+    (behind_transitions
+    (behind_actions n parts) parts ⊕ sizes size_of_junction parts.junctions) ⊕ sizes size_of_state (listed states)
 
 -- they are those before, and those of all the rest
-pub behind_rest : (n : Counts) (parts : Parts) (states : States) → behind_all n parts states ≡ n ⊕ (size_of_parts parts ⊕ sizes size_of_state (listed states))
+pub behind_rest : (n : Counts) (parts : Parts) (states : States)
+    → behind_all n parts states ≡ n ⊕ (size_of_parts parts ⊕ sizes size_of_state (listed states))
 behind_rest n parts states = same_counts _ _ (omega arith)
 
 module _ {p : Place} {level : ℕ} {has_exit : List Stmt → Type 0} {has_outer : Trans → Type 0} {nested : State → Type 0}
     (r : Readers p level has_exit has_outer nested) where
   -- the child states, and the end
-  states_tail : (states : States) → AllByRecursion nested (listed states) → (n : Counts) → IsWithin (n ⊕ sizes size_of_state (listed states))
-      → Rest p Anything n (words_in (states_pieces level states)) (record (no_items p.name p.comp) { states = unplaced_states states })
+  states_tail : (states : States) → AllByRecursion nested (listed states) → (n : Counts)
+      → IsWithin (n ⊕ sizes size_of_state (listed states))
+      → Rest p Anything n (words_in (states_pieces level states))
+      (record (no_items p.name p.comp) { states = unplaced_states states })
       (n ⊕ sizes size_of_state (listed states))
   states_tail states all n within =
       let m : Counts = n ⊕ sizes size_of_state (listed states) in
@@ -174,14 +205,25 @@ module _ {p : Place} {level : ℕ} {has_exit : List Stmt → Type 0} {has_outer 
       λ z q e. subst (λ (k : Counts). Tail p z [] (no_items p.name p.comp) k) e (tail_end p z) in
       let front =
       segment p Anything nested (state_pieces level) size_of_state unplaced_state StateItem
-      (λ ys. record (no_items p.name p.comp) { states = unlisted ys }) (λ y ys. refl) (λ z y k q. q) (λ z q s. r.state z s)
+      (λ ys. record (no_items p.name p.comp) { states = unlisted ys }) (λ y ys. refl) (λ z y k q. q)
+      (λ z q s. r.state z s)
       (listed states) all n within [] m end in
-      rw (← listed_pieces level states, ← append-nil (words_in (flat_map (state_pieces level) (listed states))), ← listed_view states) front
+      rw (
+        ← listed_pieces level states,
+        ← append-nil
+            (words_in (flat_map (state_pieces level) (listed states))),
+        ← listed_view states,
+      ) front
 
   -- all items and the end
-  pub parts_tail : (parts : Parts) (states : States) → HasItems has_exit has_outer nested parts states → (n : Counts) → IsWithin (behind_all n parts states)
+  pub parts_tail : (parts : Parts) (states : States) → HasItems has_exit has_outer nested parts states → (n : Counts)
+      → IsWithin (behind_all n parts states)
       → Rest p NoAction n (words_in (parts_pieces level parts ++ states_pieces level states))
-      (record (no_items p.name p.comp) { parts = record (unplaced_parts parts) { name = p.name; comp = p.comp }; states = unplaced_states states })
+      (record (no_items p.name p.comp) {
+        parts = record
+            (unplaced_parts parts) { name = p.name; comp = p.comp };
+        states = unplaced_states states;
+      })
       (behind_all n parts states)
   unfolding parts_pieces actions_pieces transitions_pieces
   parts_tail parts states h n within =
@@ -201,7 +243,8 @@ module _ {p : Place} {level : ℕ} {has_exit : List Stmt → Type 0} {has_outer 
       let within2 : IsWithin n2 = within_front n2 (size_of_block parts.exit) within3 in
       let within1 : IsWithin n1 = within_front n1 (size_of_block parts.during) within2 in
       let base : Sorted = record (no_items p.name p.comp) { states = unplaced_states states } in
-      let base6 : Sorted = record base { parts = record base.parts { junctions = map unplaced_junction parts.junctions } } in
+      let base6 : Sorted =
+      record base { parts = record base.parts { junctions = map unplaced_junction parts.junctions } } in
       let base5 : Sorted = record base { parts = record base6.parts { outer = map unplaced_trans parts.outer } } in
       let base4 : Sorted = record base { parts = record base5.parts { inner = map unplaced_trans parts.inner } } in
       let base3 : Sorted = record base { parts = record base4.parts { default = map unplaced_trans parts.default } } in
@@ -210,7 +253,8 @@ module _ {p : Place} {level : ℕ} {has_exit : List Stmt → Type 0} {has_outer 
       let s8 = states_tail states h.states n7 within in
       let s7 =
       segment p Anything IsJunction (junction_pieces level) size_of_junction unplaced_junction JunctionItem
-      (λ ys. record base { parts = record base.parts { junctions = ys } }) (λ y ys. refl) (λ z y k q. q) (λ z q. r.junction z)
+      (λ ys. record base { parts = record base.parts { junctions = ys } }) (λ y ys. refl) (λ z y k q. q)
+      (λ z q. r.junction z)
       parts.junctions h.junctions n6 within7 _ m s8 in
       let s6 =
       segment p Anything has_outer (trans_line level kinds.Outer) size_of_trans unplaced_trans Outer
@@ -228,15 +272,18 @@ module _ {p : Place} {level : ℕ} {has_exit : List Stmt → Type 0} {has_outer 
       (λ z q t. rw (trans_line_words level kinds.Default t) (r.default z t))
       parts.default h.default n3 within4 _ m s5 in
       let s3 =
-      action p NoExit Anything has_exit Exit level kinds.Exit (λ b. record base { parts = record base3.parts { exit = b } })
+      action p NoExit Anything has_exit Exit level kinds.Exit
+      (λ b. record base { parts = record base3.parts { exit = b } })
       (λ b. refl) (λ z q. tt {0}) (λ z b k q. tt {0}) r.exit
       parts.exit h.exit n2 within3 _ m s4 in
       let s2 =
-      action p EntryAtMost NoExit IsBlock During level kinds.During (λ b. record base { parts = record base2.parts { during = b } })
+      action p EntryAtMost NoExit IsBlock During level kinds.During
+      (λ b. record base { parts = record base2.parts { during = b } })
       (λ b. refl) (λ z q. q.1) (λ z b k q. q.1) (λ z q. r.during z q.0)
       parts.during (any_block parts.during h.during) n1 within2 _ m s3 in
       let s1 =
-      action p NoAction EntryAtMost IsBlock Entry level kinds.Entry (λ b. record base { parts = record base1.parts { entry = b } })
+      action p NoAction EntryAtMost IsBlock Entry level kinds.Entry
+      (λ b. record base { parts = record base1.parts { entry = b } })
       (λ b. refl) (λ z q. (q.1, q.2)) (λ z b k q. (q.1, q.2)) (λ z q. r.entry z q.0)
       parts.entry (any_block parts.entry h.entry) n within1 _ m s2 in
       simp (words_in-append, append_assoc) s1

@@ -1,4 +1,5 @@
 -- The words of a state spell it, with the states nested in it.
+-- `x_spelled` says that the canonical words of x spell it.
 use Rattle.std.proofs.Common.{◌≡◌, ℕ, zero, suc, ◌+◌, List, [], ◌∷◌, ◌++◌, map, refl, ap, sym, ◌∙◌, append_assoc, arith}
 use Rattle.std.specs.List.{flat_map}
 use Rattle.token_grammar.specs.declared.token.Kind.{Kind}
@@ -10,12 +11,18 @@ use Rattle.chart_tree.specs.declared.state.CompText.TheVariants as comps
 use Rattle.chart_tree.specs.declared.chart.EventText.{EventText}
 use Rattle.chart_tree.specs.Trees.{Junction, Parts, State, StateOf, States, NoState, MoreStates, Var}
 use Rattle.chart_grammar.specs.Limits.{Counts, Counted, usual, after_state}
-use Rattle.chart_grammar.specs.States.{values, counts_behind, Item, Entry, During, Exit, Outer, Inner, Default, JunctionItem, StateItem, EventItem, VarItem, nothing_seen, counted_as, StateGrammar, item_heads, item, items, Sorted, no_items, put, sorted, comp_with, state_with, comp_heads, comp, maybe_comp, state_body, state_over, state}
+use Rattle.chart_grammar.specs.States.{values, counts_behind, Item, Entry, During, Exit, Outer, Inner, Default}
+use Rattle.chart_grammar.specs.States.{JunctionItem, StateItem, EventItem, VarItem, nothing_seen, counted_as}
+use Rattle.chart_grammar.specs.States.{StateGrammar, item_heads, item, items, Sorted, no_items, put, sorted}
+use Rattle.chart_grammar.specs.States.{comp_with, state_with, comp_heads, comp, maybe_comp, state_body, state_over}
+use Rattle.chart_grammar.specs.States.{state}
 use Rattle.chart_print.specs.Pieces.{Piece, key, space}
 use Rattle.chart_print.specs.Words.{name_pieces}
 use Rattle.chart_print.specs.Transitions.{block_pieces, trans_pieces}
-use Rattle.chart_print.specs.Canonical.{comp_pieces, head_line, end_line, junction_trans_line, junction_pieces, parts_pieces, state_pieces, states_pieces}
-use Rattle.chart_print.specs.Places.{unplaced_name, unplaced_parts, unplaced_state, unplaced_states, unplaced_event, unplaced_var}
+use Rattle.chart_print.specs.Canonical.{comp_pieces, head_line, end_line, junction_trans_line, junction_pieces}
+use Rattle.chart_print.specs.Canonical.{parts_pieces, state_pieces, states_pieces}
+use Rattle.chart_print.specs.Places.{unplaced_name, unplaced_parts, unplaced_state, unplaced_states, unplaced_event}
+use Rattle.chart_print.specs.Places.{unplaced_var}
 use Rattle.canonical_claims.specs.Words.{words_in, WordsSpell}
 use Rattle.canonical_claims.specs.Sizes.{◌⊕◌, size_of_parts, size_of_state, size_of_states, IsWithin}
 use Rattle.canonical_claims.specs.Terms.{IsBlock, IsTrans, IsComp, IsParts, IsState, IsStates}
@@ -26,15 +33,19 @@ use Rattle.canonical_claims.proofs.Spelled.{spell_give, spell_then, spell_left, 
 use Rattle.canonical_claims.proofs.Keywords.{spell_word, spell_allowed_word}
 use Rattle.canonical_claims.proofs.Room.{state_room}
 use Rattle.canonical_charts.proofs.ItemLists.{unplaced_item, Place, left}
-use Rattle.canonical_charts.proofs.PartsSpelled.{listed_sizes, IsNested, listed_nested, any_block, Readers, HasItems, behind_all, parts_tail}
-use Rattle.canonical_charts.proofs.ItemsSpelled.{Leads, leads_more, keyed_leads, spell_beginning, action_item_spelled, trans_item_spelled, junction_item_spelled}
+use Rattle.canonical_charts.proofs.PartsSpelled.{listed_sizes, IsNested, listed_nested, any_block, Readers, HasItems}
+use Rattle.canonical_charts.proofs.PartsSpelled.{behind_all, parts_tail}
+use Rattle.canonical_charts.proofs.ItemsSpelled.{Leads, leads_more, keyed_leads, spell_beginning, action_item_spelled}
+use Rattle.canonical_charts.proofs.ItemsSpelled.{trans_item_spelled, junction_item_spelled}
 
 -- ---- how states, junctions and charts begin and end
 
 -- what begins with a keyword does so whatever stands after it
-head_leads : (level : ℕ) (k : Kind) (name : NameText) (comp : CompText) → Leads k (words_in (head_line level k name comp))
+head_leads : (level : ℕ) (k : Kind) (name : NameText) (comp : CompText)
+    → Leads k (words_in (head_line level k name comp))
 head_leads level k name comp = record { rest = _; is = head_words level k name comp }
 
+-- the words of a junction begin with its keyword
 pub junction_leads : (level : ℕ) (x : Junction) → Leads kinds.Junction (words_in (junction_pieces level x))
 unfolding junction_pieces
 junction_leads level x =
@@ -43,6 +54,7 @@ junction_leads level x =
     leads_more kinds.Junction (head ++ list) (end_line level)
     (leads_more kinds.Junction head list (head_leads level kinds.Junction x.name comps.None))
 
+-- the words of a state begin with its keyword
 pub state_leads : (level : ℕ) (x : State) → Leads kinds.State (words_in (state_pieces level x))
 unfolding state_pieces
 state_leads level (StateOf parts states) =
@@ -77,7 +89,8 @@ unplaced_sorted s = record {
 sorted_alike : (name : NameText) (c : CompText) (xs : List Item)
     → unplaced_sorted (sorted name c xs) ≡ sorted (unplaced_name name) c (map unplaced_item xs)
 sorted_alike name c [] = refl
-sorted_alike name c (x ∷ xs) = put_alike x (sorted name c xs) ∙ ap (λ (s : Sorted). put (unplaced_item x) s) (sorted_alike name c xs)
+sorted_alike name c (x ∷ xs) =
+    put_alike x (sorted name c xs) ∙ ap (λ (s : Sorted). put (unplaced_item x) s) (sorted_alike name c xs)
   where
     put_alike : (x : Item) (s : Sorted) → unplaced_sorted (put x s) ≡ put (unplaced_item x) (unplaced_sorted s)
     put_alike (Entry block) s = refl
@@ -92,7 +105,8 @@ sorted_alike name c (x ∷ xs) = put_alike x (sorted name c xs) ∙ ap (λ (s : 
     put_alike (VarItem v) s = refl
 
 -- items that sort so without places sort so with the name and composition that were spelled
-pub sorted_left : (name there : NameText) → unplaced_name name ≡ there → (c word : CompText) → c ≡ word → (xs : List Item) (s : Sorted)
+pub sorted_left : (name there : NameText) → unplaced_name name ≡ there → (c word : CompText) → c ≡ word
+    → (xs : List Item) (s : Sorted)
     → sorted there word (map unplaced_item xs) ≡ s → unplaced_sorted (sorted name c xs) ≡ s
 sorted_left name there named c word composed xs s e = sorted_alike name c xs ∙ rw (named, composed) e
 
@@ -106,14 +120,18 @@ comp_alike comps.And states = refl
 -- the state of sorted items without its places
 pub state_with_alike : (s : Sorted) → unplaced_state (state_with s) ≡ state_with (unplaced_sorted s)
 state_with_alike s =
-    ap (λ (c : CompText). StateOf (record (unplaced_parts s.parts) { comp = c }) (unplaced_states s.states)) (sym (comp_alike s.parts.comp s.states))
+    ap (λ (c : CompText). StateOf (record (unplaced_parts s.parts) { comp = c }) (unplaced_states s.states))
+    (sym (comp_alike s.parts.comp s.states))
 
 -- the state of what the canonical items leave
-pub state_of_left : (parts : Parts) (states : States) → IsComp parts.comp states → (events : List EventText) (vars : List Var)
-    → state_with (record { parts = unplaced_parts parts; states = unplaced_states states; events = events; vars = vars })
+pub state_of_left : (parts : Parts) (states : States) → IsComp parts.comp states
+    → (events : List EventText) (vars : List Var)
+    → state_with
+    (record { parts = unplaced_parts parts; states = unplaced_states states; events = events; vars = vars })
     ≡ unplaced_state (StateOf parts states)
 state_of_left parts states h events vars =
-    ap (λ (c : CompText). StateOf (record (unplaced_parts parts) { comp = c }) (unplaced_states states)) (comp_alike parts.comp states ∙ h)
+    ap (λ (c : CompText). StateOf (record (unplaced_parts parts) { comp = c }) (unplaced_states states))
+    (comp_alike parts.comp states ∙ h)
 
 -- ---- one item of a state
 
@@ -123,7 +141,8 @@ in_state st name comp = record { set = item_heads; item = item usual st; name = 
 
 module _ (t : TransitionClaims) (level : ℕ) (nested : State → Type 0) (st : StateGrammar)
     (reads : (n : Counts) (s : State) → nested s → IsWithin (n ⊕ size_of_state s)
-    → WordsSpell (st n) (counted unplaced_state) (words_in (state_pieces level s)) (behind (unplaced_state s) (n ⊕ size_of_state s))) where
+    → WordsSpell (st n) (counted unplaced_state) (words_in (state_pieces level s))
+    (behind (unplaced_state s) (n ⊕ size_of_state s))) where
   -- each item of a state
   pub state_readers : (name : NameText) (comp : CompText) → Readers (in_state st name comp) level IsBlock IsTrans nested
   unfolding item
@@ -160,7 +179,8 @@ module _ (t : TransitionClaims) (level : ℕ) (nested : State → Type 0) (st : 
         (spell_right (is kinds.Exit)
         (spell_right (is kinds.Outer)
         (spell_right (is kinds.Inner)
-        (spell_left (is kinds.Default) (trans_item_spelled t kinds.Default Default (λ x. refl) z.counts x h within)))))));
+        (spell_left (is kinds.Default)
+        (trans_item_spelled t kinds.Default Default (λ x. refl) z.counts x h within)))))));
     junction = λ z x h within.
         spell_beginning (item_heads z) kinds.Junction _ (junction_leads level x) refl
         (spell_right (is kinds.Entry)
@@ -179,13 +199,15 @@ module _ (t : TransitionClaims) (level : ℕ) (nested : State → Type 0) (st : 
         (spell_right (is kinds.Inner)
         (spell_right (is kinds.Default)
         (spell_right (is kinds.Junction)
-        (spell_made (reads z.counts x h within) (λ found e. ap (λ (y : Counted State). counted_as StateItem y) e)))))))));
+        (spell_made (reads z.counts x h within)
+        (λ found e. ap (λ (y : Counted State). counted_as StateItem y) e)))))))));
   }
 
 -- ---- states
 
 -- the counts after a state are those of all its items
-behind_state : (n : Counts) (parts : Parts) (states : States) → behind_all (after_state n) parts states ≡ n ⊕ size_of_state (StateOf parts states)
+behind_state : (n : Counts) (parts : Parts) (states : States)
+    → behind_all (after_state n) parts states ≡ n ⊕ size_of_state (StateOf parts states)
 behind_state n parts states =
     let nested = listed_sizes states in
     rw nested (same_counts _ _ (omega arith))
@@ -217,8 +239,10 @@ module _ (e : ExpressionClaims) (t : TransitionClaims) where
   -- what stands after the word `state`
   state_body_spelled : (deep : ℕ) (st : StateGrammar) (level : ℕ)
       → ((n : Counts) (s : State) → IsNested deep s → IsWithin (n ⊕ size_of_state s)
-      → WordsSpell (st n) (counted unplaced_state) (words_in (state_pieces (level + 1) s)) (behind (unplaced_state s) (n ⊕ size_of_state s)))
-      → (n : Counts) (parts : Parts) (states : States) → IsState deep (StateOf parts states) → IsWithin (n ⊕ size_of_state (StateOf parts states))
+      → WordsSpell (st n) (counted unplaced_state) (words_in (state_pieces (level + 1) s))
+      (behind (unplaced_state s) (n ⊕ size_of_state s)))
+      → (n : Counts) (parts : Parts) (states : States) → IsState deep (StateOf parts states)
+      → IsWithin (n ⊕ size_of_state (StateOf parts states))
       → WordsSpell (state_body usual st (after_state n)) (counted unplaced_state)
       (words_in (name_pieces parts.name) ++ (words_in (comp_pieces parts.comp)
       ++ (keyword kinds.OpenBrace ∷ (words_in (parts_pieces (level + 1) parts ++ states_pieces (level + 1) states)
@@ -230,7 +254,8 @@ module _ (e : ExpressionClaims) (t : TransitionClaims) where
       let all : IsWithin (behind_all (after_state n) parts states) = rw (behind_state n parts states) within in
       let readers = state_readers t (level + 1) (IsNested deep) st reads (unplaced_name parts.name) parts.comp in
       let tail =
-      parts_tail readers parts states (state_items deep parts states h.0 h.2) (after_state n) all (nothing_seen (after_state n)) (refl, refl, refl) refl in
+      parts_tail readers parts states (state_items deep parts states h.0 h.2) (after_state n) all
+      (nothing_seen (after_state n)) (refl, refl, refl) refl in
       spell_then (e.name_spelled parts.name) (λ name named.
       spell_then (comp_spelled parts.comp) (λ c composed.
       spell_word kinds.OpenBrace
@@ -238,19 +263,28 @@ module _ (e : ExpressionClaims) (t : TransitionClaims) where
       spell_word kinds.CloseBrace
       (spell_give _ (looks name named c composed found sorts))))))
     where
-      looks : (name : NameText) → unplaced_name name ≡ unplaced_name parts.name → (c : CompText) → c ≡ parts.comp → (found : List (Counted Item))
+      looks : (name : NameText) → unplaced_name name ≡ unplaced_name parts.name → (c : CompText) → c ≡ parts.comp
+          → (found : List (Counted Item))
           → left (in_state st (unplaced_name parts.name) parts.comp) (after_state n) found
           ≡ (
-            record (no_items (unplaced_name parts.name) parts.comp) { parts = unplaced_parts parts; states = unplaced_states states },
+            record (no_items
+                (unplaced_name parts.name) parts.comp) {
+                  parts = unplaced_parts parts;
+                  states =
+                      unplaced_states states;
+                },
             behind_all (after_state n) parts states,
           )
-          → counted unplaced_state (record { value = state_with (sorted name c (values found)); counts = counts_behind (after_state n) found })
+          → counted unplaced_state
+          (record { value = state_with (sorted name c (values found)); counts = counts_behind (after_state n) found })
           ≡ behind (unplaced_state (StateOf parts states)) (n ⊕ size_of_state (StateOf parts states))
       looks name named c composed found sorts =
           let n1 : Counts = after_state n in
           let s : Sorted = sorted name c (values found) in
-          let whole : Sorted = record (no_items (unplaced_name parts.name) parts.comp) { parts = unplaced_parts parts; states = unplaced_states states } in
-          let put_so : unplaced_sorted s ≡ whole = sorted_left name _ named c _ composed (values found) whole (ap (λ (x : Sorted × Counts). x.0) sorts) in
+          let whole : Sorted = record
+          (no_items (unplaced_name parts.name) parts.comp) { parts = unplaced_parts parts; states = unplaced_states states } in
+          let put_so : unplaced_sorted s ≡ whole =
+          sorted_left name _ named c _ composed (values found) whole (ap (λ (x : Sorted × Counts). x.0) sorts) in
           let value : unplaced_state (state_with s) ≡ unplaced_state (StateOf parts states) =
           state_with_alike s ∙ ap state_with put_so ∙ state_of_left parts states h.1 [] [] in
           let counts : counts_behind n1 found ≡ n ⊕ size_of_state (StateOf parts states) =
@@ -260,19 +294,24 @@ module _ (e : ExpressionClaims) (t : TransitionClaims) where
   -- a state over states whose words spell them
   state_over_spelled : (deep : ℕ) (st : StateGrammar) (level : ℕ)
       → ((n : Counts) (s : State) → IsNested deep s → IsWithin (n ⊕ size_of_state s)
-      → WordsSpell (st n) (counted unplaced_state) (words_in (state_pieces (level + 1) s)) (behind (unplaced_state s) (n ⊕ size_of_state s)))
+      → WordsSpell (st n) (counted unplaced_state) (words_in (state_pieces (level + 1) s))
+      (behind (unplaced_state s) (n ⊕ size_of_state s)))
       → (n : Counts) (s : State) → IsState deep s → IsWithin (n ⊕ size_of_state s)
-      → WordsSpell (state_over usual st n) (counted unplaced_state) (words_in (state_pieces level s)) (behind (unplaced_state s) (n ⊕ size_of_state s))
+      → WordsSpell (state_over usual st n) (counted unplaced_state) (words_in (state_pieces level s))
+      (behind (unplaced_state s) (n ⊕ size_of_state s))
   unfolding state_over
   state_over_spelled deep st level reads n (StateOf parts states) h within =
       let room : IsWithin (after_state n) =
-      within_front (after_state n) (size_of_parts parts ⊕ size_of_states states) (rw (one_state n (size_of_parts parts ⊕ size_of_states states)) within) in
+      within_front (after_state n) (size_of_parts parts ⊕ size_of_states states)
+      (rw (one_state n (size_of_parts parts ⊕ size_of_states states)) within) in
       rw (state_words level parts states)
-      (spell_allowed_word kinds.State (state_room n room) (state_body_spelled deep st level reads n parts states h within))
+      (spell_allowed_word kinds.State (state_room n room)
+      (state_body_spelled deep st level reads n parts states h within))
 
-  -- states nested so deep at most
+  -- states nested to a depth at most
   pub state_spelled : (deep : ℕ) (level : ℕ) (n : Counts) (s : State) → IsNested deep s → IsWithin (n ⊕ size_of_state s)
-      → WordsSpell (state usual deep n) (counted unplaced_state) (words_in (state_pieces level s)) (behind (unplaced_state s) (n ⊕ size_of_state s))
+      → WordsSpell (state usual deep n) (counted unplaced_state) (words_in (state_pieces level s))
+      (behind (unplaced_state s) (n ⊕ size_of_state s))
   unfolding state
   state_spelled zero level n s h within = absurd h
   state_spelled (suc deeper) level n s h within =

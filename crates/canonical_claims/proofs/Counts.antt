@@ -2,7 +2,8 @@
 use Rattle.std.proofs.Common.{◌≡◌, ℕ, List, length, ap, arith}
 use Rattle.std.proofs.lemmas.List.{length-map}
 use Rattle.chart_tree.specs.Trees.{Stmt}
-use Rattle.chart_grammar.specs.Limits.{Counts, after_state, after_junction, after_transition, after_event, after_variable}
+use Rattle.chart_grammar.specs.Limits.{Counts, after_state, after_junction, after_transition, after_event}
+use Rattle.chart_grammar.specs.Limits.{after_variable}
 use Rattle.chart_grammar.specs.Transitions.{after_stmts}
 use Rattle.chart_print.specs.Places.{unplaced_block}
 use Rattle.canonical_claims.specs.Sizes.{none, ◌⊕◌, size_of_block, IsWithin}
@@ -46,6 +47,7 @@ same_length v x e = simp length-map at (ap length e)
 pub one_event : (n : Counts) → after_event n ≡ n ⊕ after_event none
 one_event n = same_counts _ _ (omega arith)
 
+-- one more datum is a sum
 pub one_variable : (n : Counts) → after_variable n ≡ n ⊕ after_variable none
 one_variable n = same_counts _ _ (omega arith)
 
@@ -53,6 +55,7 @@ one_variable n = same_counts _ _ (omega arith)
 pub one_junction : (n m : Counts) → after_junction n ⊕ m ≡ n ⊕ (after_junction none ⊕ m)
 one_junction n m = same_counts _ _ (omega arith)
 
+-- one more state in front of a sum
 pub one_state : (n m : Counts) → after_state n ⊕ m ≡ n ⊕ (after_state none ⊕ m)
 one_state n m = same_counts _ _ (omega arith)
 
@@ -62,5 +65,6 @@ one_block n stmts = same_counts _ _ (omega arith)
 
 -- a transition is counted with the statements of its two blocks
 pub one_transition : (n : Counts) (cond act : List Stmt)
-    → after_stmts (after_stmts (after_transition n) cond) act ≡ n ⊕ (after_transition none ⊕ (size_of_block cond ⊕ size_of_block act))
+    → after_stmts (after_stmts (after_transition n) cond) act ≡ n ⊕
+    (after_transition none ⊕ (size_of_block cond ⊕ size_of_block act))
 one_transition n cond act = same_counts _ _ (omega arith)

@@ -12,16 +12,20 @@ cut_front : (p q : List Lexeme) → AreCut (p ++ q) → AreCut p
 cut_front [] q h = record {}
 cut_front (t ∷ p) q h = (h.0, cut_front p q h.1)
 
+-- tokens at the end are cut
 cut_back : (p q : List Lexeme) → AreCut (p ++ q) → AreCut q
 cut_back [] q h = h
 cut_back (t ∷ p) q h = cut_back p q h.1
 
 -- two parts, one after the other
-pub cut_first : {X Y : Type 0} {g : List Lexeme → X → Type 0} {h : X → List Lexeme → Y → Type 0} {u : List Lexeme} {y : Y}
+pub cut_first : {X Y : Type 0} {g : List Lexeme → X → Type 0} {h : X → List Lexeme → Y → Type 0} {u : List Lexeme}
+    {y : Y}
     (s : Both g h u y) → AreCut u → AreCut s.p
 cut_first s cut = cut_front s.p s.q (subst AreCut s.parts cut)
 
-pub cut_second : {X Y : Type 0} {g : List Lexeme → X → Type 0} {h : X → List Lexeme → Y → Type 0} {u : List Lexeme} {y : Y}
+-- those of the second part are
+pub cut_second : {X Y : Type 0} {g : List Lexeme → X → Type 0} {h : X → List Lexeme → Y → Type 0} {u : List Lexeme}
+    {y : Y}
     (s : Both g h u y) → AreCut u → AreCut s.q
 cut_second s cut = cut_back s.p s.q (subst AreCut s.parts cut)
 
@@ -30,6 +34,7 @@ pub cut_item : {X : Type 0} {g : List Lexeme → X → Type 0} {x : X} {rest : L
     (s : Before g x rest u) → AreCut u → AreCut s.p
 cut_item s cut = cut_front s.p s.q (subst AreCut s.parts cut)
 
+-- and those of the rest
 pub cut_rest : {X : Type 0} {g : List Lexeme → X → Type 0} {x : X} {rest : List Lexeme → Type 0} {u : List Lexeme}
     (s : Before g x rest u) → AreCut u → AreCut s.q
 cut_rest s cut = cut_back s.p s.q (subst AreCut s.parts cut)

@@ -2,6 +2,7 @@
 use Rattle.std.proofs.Common.{◌≡◌, ℕ, Option, ap, ◌∙◌}
 use Rattle.chart_tree.specs.declared.name.LitText.{LitText}
 
+-- numbers of the same digits, places and bits are one
 pub same_literal : (a b : LitText) → a.units ≡ b.units → a.places ≡ b.places → a.q ≡ b.q → a ≡ b
 same_literal a b units places q =
     ap (λ (x : ℕ). record { units = x; places = a.places; q = a.q }) units

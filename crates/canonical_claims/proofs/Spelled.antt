@@ -1,11 +1,13 @@
 -- What words spell, put together: what the parts spell, the whole does.
-use Rattle.std.proofs.Common.{◌≡◌, ℕ, Bool, true, false, List, [], ◌∷◌, ◌++◌, map, Option, Some, None, refl, ap, sym, ◌∙◌, inl, inr, eq-eqb, append-nil, if◌then◌else◌}
+use Rattle.std.proofs.Common.{◌≡◌, ℕ, Bool, true, false, List, [], ◌∷◌, ◌++◌, map, Option, Some, None, refl, ap, sym}
+use Rattle.std.proofs.Common.{◌∙◌, inl, inr, eq-eqb, append-nil, if◌then◌else◌}
 use Rattle.std.specs.Option.{option_map}
 use Rattle.token_grammar.specs.declared.token.Kind.{Kind}
 use Rattle.token_grammar.specs.declared.token.Span.{Span}
 use Rattle.token_grammar.specs.declared.fault.Fault.{Fault}
 use Rattle.token_grammar.specs.Token.{Lexeme, kind_eq}
-use Rattle.token_grammar.specs.Grammar.{Grammar, token, one_of, give, ◌>>=◌, either, optional, allowed, at_first, many, many_from, first_refused}
+use Rattle.token_grammar.specs.Grammar.{Grammar, token, one_of, give, ◌>>=◌, either, optional, allowed, at_first}
+use Rattle.token_grammar.specs.Grammar.{many, many_from, first_refused}
 use Rattle.canonical_claims.specs.Words.{Word, word_of, words_of, WordsSpell}
 use Rattle.canonical_claims.proofs.Words.{one}
 
@@ -43,7 +45,8 @@ no_words (t ∷ u) h = absurd cc
 -- ---- the same in another way
 
 -- the same words, written otherwise
-pub spell_as : {X Y : Type 0} {g : Grammar X} {view : X → Y} {a b : List Word} {y : Y} → b ≡ a → WordsSpell g view a y → WordsSpell g view b y
+pub spell_as : {X Y : Type 0} {g : Grammar X} {view : X → Y} {a b : List Word} {y : Y} → b ≡ a
+    → WordsSpell g view a y → WordsSpell g view b y
 spell_as e p u h = p u (h ∙ e)
 
 -- what looks like that one way looks like this the other way
@@ -54,7 +57,8 @@ spell_seen p same u e = let s = p u e in record { value = s.value; spelled = s.s
 -- ---- one token, and none
 
 -- one token of a kind
-pub spell_token : (k : Kind) (text : List ℕ) → WordsSpell (token k) word_of (one k text) (record { kind = k; text = text })
+pub spell_token : (k : Kind) (text : List ℕ)
+    → WordsSpell (token k) word_of (one k text) (record { kind = k; text = text })
 unfolding token
 spell_token k text [] h = absurd cc
 spell_token k text (t ∷ []) h =
@@ -84,7 +88,8 @@ spell_give x looks u h = record { value = x; spelled = (no_words u h, refl); loo
 -- what is spelled first, and what is spelled after it whatever that was
 pub spell_then : {X Y A B : Type 0} {g : Grammar X} {h : X → Grammar Y} {first : X → A} {view : Y → B}
     {a b : List Word} {x : A} {y : B}
-    → WordsSpell g first a x → ((v : X) → first v ≡ x → WordsSpell (h v) view b y) → WordsSpell (g >>= h) view (a ++ b) y
+    → WordsSpell g first a x → ((v : X) → first v ≡ x → WordsSpell (h v) view b y)
+    → WordsSpell (g >>= h) view (a ++ b) y
 spell_then {a = a} {b = b} p q u e =
     let s = split u a b e in
     let l = p s.front s.first in
@@ -96,13 +101,15 @@ spell_then {a = a} {b = b} p q u e =
     }
 
 -- what is spelled is made into another value
-pub spell_made : {X Y A B : Type 0} {g : Grammar X} {f : X → Y} {first : X → A} {view : Y → B} {w : List Word} {x : A} {y : B}
+pub spell_made : {X Y A B : Type 0} {g : Grammar X} {f : X → Y} {first : X → A} {view : Y → B} {w : List Word}
+    {x : A} {y : B}
     → WordsSpell g first w x → ((v : X) → first v ≡ x → view (f v) ≡ y) → WordsSpell (g >>= λ v. give (f v)) view w y
 spell_made {f = f} p same u e =
     let s = p u e in
     record {
       value = f s.value;
-      spelled = record { p = u; q = []; x = s.value; parts = sym (append-nil u); first = s.spelled; second = (refl, refl) };
+      spelled =
+          record { p = u; q = []; x = s.value; parts = sym (append-nil u); first = s.spelled; second = (refl, refl) };
       looks = same s.value s.looks;
     }
 
@@ -121,7 +128,8 @@ spell_right set p u e = let s = p u e in record { value = s.value; spelled = inr
 -- ---- what may be missing
 
 -- no words, where nothing is there
-pub spell_none : {X Y : Type 0} {view : X → Y} (set : Kind → Bool) (g : Grammar X) → WordsSpell (optional set g) (option_map view) [] None
+pub spell_none : {X Y : Type 0} {view : X → Y} (set : Kind → Bool) (g : Grammar X)
+    → WordsSpell (optional set g) (option_map view) [] None
 spell_none set g = spell_right set (spell_give None refl)
 
 -- and the words of what is there
@@ -137,16 +145,19 @@ none_refused true free = free
 none_refused false free = refl
 
 -- where the test says the same of each token
-pub spell_allowed : {X Y : Type 0} {g : Grammar X} {view : X → Y} {w : List Word} {y : Y} (set : Kind → Bool) {said : Option Fault}
+pub spell_allowed : {X Y : Type 0} {g : Grammar X} {view : X → Y} {w : List Word} {y : Y} (set : Kind → Bool)
+    {said : Option Fault}
     → said ≡ None → WordsSpell g view w y → WordsSpell (allowed set (λ t. said) g) view w y
-spell_allowed set {said} free p u e = let s = p u e in record { value = s.value; spelled = (passes u, s.spelled); looks = s.looks }
+spell_allowed set {said} free p u e = let s =
+    p u e in record { value = s.value; spelled = (passes u, s.spelled); looks = s.looks }
   where
     passes : (u : List Lexeme) → first_refused set (λ t. said) u ≡ None
     passes [] = refl
     passes (t ∷ u) = none_refused (set t.kind) free
 
 -- where it looks at the first word
-pub spell_tested : {X Y : Type 0} {g : Grammar X} {view : X → Y} {w : List Word} {y : Y} (set : Kind → Bool) (test : Lexeme → Option Fault)
+pub spell_tested : {X Y : Type 0} {g : Grammar X} {view : X → Y} {w : List Word} {y : Y} (set : Kind → Bool)
+    (test : Lexeme → Option Fault)
     (k : Kind) (text : List ℕ) → ((t : Lexeme) → t.kind ≡ k → t.text ≡ text → test t ≡ None)
     → WordsSpell g view (record { kind = k; text = text } ∷ w) y
     → WordsSpell (allowed set test g) view (record { kind = k; text = text } ∷ w) y
@@ -167,13 +178,16 @@ spell_at_first p u e = let s = p _ u e in record { value = s.value; spelled = s.
 -- ---- any number
 
 -- none
-pub spell_no_more : {X Y : Type 0} {view : X → Y} (set : Kind → Bool) (g : Grammar X) → WordsSpell (many set g) (λ xs. map view xs) [] []
+pub spell_no_more : {X Y : Type 0} {view : X → Y} (set : Kind → Bool) (g : Grammar X)
+    → WordsSpell (many set g) (λ xs. map view xs) [] []
 unfolding many
 spell_no_more set g u e = record { value = []; spelled = no_words u e; looks = refl }
 
 -- one, and those after it
-pub spell_more : {X Y : Type 0} {g : Grammar X} {view : X → Y} {a b : List Word} {y : Y} {ys : List Y} (set : Kind → Bool)
-    → WordsSpell g view a y → WordsSpell (many set g) (λ xs. map view xs) b ys → WordsSpell (many set g) (λ xs. map view xs) (a ++ b) (y ∷ ys)
+pub spell_more : {X Y : Type 0} {g : Grammar X} {view : X → Y} {a b : List Word} {y : Y} {ys : List Y}
+    (set : Kind → Bool)
+    → WordsSpell g view a y → WordsSpell (many set g) (λ xs. map view xs) b ys
+    → WordsSpell (many set g) (λ xs. map view xs) (a ++ b) (y ∷ ys)
 unfolding many
 spell_more {a = a} {b = b} set p q u e =
     let s = split u a b e in

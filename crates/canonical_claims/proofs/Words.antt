@@ -21,7 +21,8 @@ keyword k = record { kind = k; text = kind_bytes k }
 -- the words of pieces one after the other
 pub words_in-append : (a b : List Piece) → words_in (a ++ b) ≡ words_in a ++ words_in b
 words_in-append [] b = refl
-words_in-append (Token kind bytes ∷ a) b = ap (λ (w : List Word). record { kind = kind; text = bytes } ∷ w) (words_in-append a b)
+words_in-append (Token kind bytes ∷ a) b =
+    ap (λ (w : List Word). record { kind = kind; text = bytes } ∷ w) (words_in-append a b)
 words_in-append (Blank bytes ∷ a) b = words_in-append a b
 
 -- the words of keywords, symbols and names

@@ -18,15 +18,18 @@ use Rattle.chart_grammar.specs.Transitions.{block, keyword_trans}
 use Rattle.chart_grammar.specs.Declarations.{event, variable, zero_lit}
 use Rattle.chart_grammar.specs.States.{junction, chart}
 use Rattle.chart_print.specs.Pieces.{kind_bytes}
-use Rattle.chart_print.specs.Words.{name_pieces, path_pieces, literal_pieces, digits_bytes, bits_bytes, is_int, int_bytes, fix_bytes}
+use Rattle.chart_print.specs.Words.{name_pieces, path_pieces, literal_pieces, digits_bytes, bits_bytes, is_int}
+use Rattle.chart_print.specs.Words.{int_bytes, fix_bytes}
 use Rattle.chart_print.specs.Expressions.{expr_pieces}
 use Rattle.chart_print.specs.Transitions.{block_pieces, trans_pieces}
 use Rattle.chart_print.specs.Declarations.{event_pieces, var_pieces}
 use Rattle.chart_print.specs.Canonical.{junction_pieces, chart_pieces}
-use Rattle.chart_print.specs.Places.{unplaced_name, unplaced_path, unplaced_expr, unplaced_block, unplaced_trans, unplaced_junction, unplaced_event, unplaced_var, without_places}
+use Rattle.chart_print.specs.Places.{unplaced_name, unplaced_path, unplaced_expr, unplaced_block, unplaced_trans}
+use Rattle.chart_print.specs.Places.{unplaced_junction, unplaced_event, unplaced_var, without_places}
 use Rattle.canonical_claims.specs.Words.{words_in, IsNumber, IsCut, WordsSpell}
 use Rattle.canonical_claims.specs.Sizes.{◌⊕◌, size_of_block, size_of_trans, size_of_junction, IsWithin}
-use Rattle.canonical_claims.specs.Terms.{IsNamed, IsPath, IsLiteral, IsScale, IsExpr, IsBlock, IsTrans, IsJunction, IsVar, IsChart}
+use Rattle.canonical_claims.specs.Terms.{IsNamed, IsPath, IsLiteral, IsScale, IsExpr, IsBlock, IsTrans, IsJunction}
+use Rattle.canonical_claims.specs.Terms.{IsVar, IsChart}
 
 -- all tokens are cut from a text
 abbrev pub AreCut : List Lexeme → Type 0
@@ -66,7 +69,8 @@ pub record NumberClaims : Type 0 where
 
 -- ---- names, paths and expressions
 
--- names, paths, numbers and expressions: what is spelled has what Terms lists, and what has it is spelled by its canonical words
+-- names, paths, numbers and expressions: what is spelled has what Terms lists, and what has it is spelled by its
+-- canonical words
 pub record ExpressionClaims : Type 0 where
   pub name_has : (u : List Lexeme) (x : NameText) → AreCut u → name.spells u x → IsNamed x
   -- whatever its text, since only the kind of the word counts here
@@ -78,11 +82,12 @@ pub record ExpressionClaims : Type 0 where
   pub number_spelled : (lit : LitText) → IsLiteral lit
       → WordsSpell (number usual) (λ t. lit_of t.text) (words_in (literal_pieces lit)) lit
   pub expr_has : (u : List Lexeme) (x : Expr) → AreCut u → (expr usual).spells u x → IsExpr x
-  pub expr_spelled : (x : Expr) → IsExpr x → WordsSpell (expr usual) unplaced_expr (words_in (expr_pieces x)) (unplaced_expr x)
+  pub expr_spelled : (x : Expr) → IsExpr x
+      → WordsSpell (expr usual) unplaced_expr (words_in (expr_pieces x)) (unplaced_expr x)
 
 -- ---- blocks, transitions, junctions and declarations
 
--- where there were n things, a part of a size leaves so many, and no more than may be
+-- where there were n things, after a part of that size there are `after`, and no more than may be
 pub record Adds (n size after : Counts) : Type 0 where
   pub count : after ≡ n ⊕ size
   pub within : IsWithin n → IsWithin after
@@ -95,7 +100,8 @@ counted view x = record { value = view x.value; counts = x.counts }
 abbrev pub behind : {X : Type 0} → X → Counts → Counted X
 behind x n = record { value = x; counts = n }
 
--- blocks, transitions, junctions and declarations: the same, and after n things their sizes are added up within the limits
+-- blocks, transitions, junctions and declarations: the same, and after n things their sizes are added up within the
+-- limits
 pub record TransitionClaims : Type 0 where
   pub block_has : (n : Counts) (u : List Lexeme) (x : List Stmt) → AreCut u → (block usual n).spells u x
       → IsBlock x × (IsWithin n → IsWithin (n ⊕ size_of_block x))
@@ -106,7 +112,8 @@ pub record TransitionClaims : Type 0 where
       → (keyword_trans usual (is k) n).spells u x → IsTrans x.value × Adds n (size_of_trans x.value) x.counts
   pub trans_spelled : (k : Kind) (n : Counts) (x : Trans) → IsTrans x → IsWithin (n ⊕ size_of_trans x)
       → WordsSpell (keyword_trans usual (is k) n) (counted unplaced_trans)
-      (record { kind = k; text = kind_bytes k } ∷ words_in (trans_pieces x)) (behind (unplaced_trans x) (n ⊕ size_of_trans x))
+      (record { kind = k; text = kind_bytes k } ∷ words_in (trans_pieces x))
+      (behind (unplaced_trans x) (n ⊕ size_of_trans x))
   pub junction_has : (n : Counts) (u : List Lexeme) (x : Counted Junction) → AreCut u
       → (junction usual n).spells u x → IsJunction x.value × Adds n (size_of_junction x.value) x.counts
   -- at any level of indentation
@@ -127,4 +134,5 @@ pub record TransitionClaims : Type 0 where
 -- charts: a chart that is spelled has what Terms lists, and one that has it is spelled by its canonical words
 pub record ChartClaims : Type 0 where
   pub chart_has : (u : List Lexeme) (x : Chart) → AreCut u → (chart usual).spells u x → IsChart x
-  pub chart_spelled : (x : Chart) → IsChart x → WordsSpell (chart usual) without_places (words_in (chart_pieces x)) (without_places x)
+  pub chart_spelled : (x : Chart) → IsChart x
+      → WordsSpell (chart usual) without_places (words_in (chart_pieces x)) (without_places x)

@@ -2,8 +2,10 @@
 -- parts, and how many operators and parentheses in an expression.
 use Rattle.std.specs.Prelude.{ℕ, ◌+◌, ◌≤◌, nat_lt, Bool, true, false, List, [], ◌∷◌, length}
 use Rattle.token_grammar.specs.declared.fault.Thing.TheVariants as things
-use Rattle.chart_tree.specs.Trees.{Expr, Lit, Flag, Name, Active, Unary, Binary, Stmt, Trans, Junction, Parts, State, StateOf, States, NoState, MoreStates, Chart}
-use Rattle.chart_grammar.specs.Limits.{Counts, most, after_state, after_junction, after_transition, after_event, after_variable}
+use Rattle.chart_tree.specs.Trees.{Expr, Lit, Flag, Name, Active, Unary, Binary, Stmt, Trans, Junction, Parts, State}
+use Rattle.chart_tree.specs.Trees.{StateOf, States, NoState, MoreStates, Chart}
+use Rattle.chart_grammar.specs.Limits.{Counts, most, after_state, after_junction, after_transition, after_event}
+use Rattle.chart_grammar.specs.Limits.{after_variable}
 use Rattle.chart_print.specs.Expressions.{expr_precedence, left_least, right_least, tightest}
 
 -- ---- operators

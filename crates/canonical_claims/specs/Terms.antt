@@ -2,6 +2,7 @@
 use Rattle.std.specs.Prelude.{◌≡◌, ℕ, zero, suc, ◌≤◌, Bool, false, IsTrue, List, [], ◌∷◌, length, Option, Some, None}
 use Rattle.std.specs.List.{AllByRecursion}
 use Rattle.token_grammar.specs.declared.fault.Thing.TheVariants as things
+use Rattle.fixed_point.specs.declared.scale.TheConstants.{WIDTH_LIMIT, PLACES_LIMIT}
 use Rattle.fixed_point.specs.Reading.{number_read}
 use Rattle.chart_lexer.specs.Words.{is_name}
 use Rattle.chart_tree.specs.declared.name.NameText.{NameText}
@@ -10,7 +11,9 @@ use Rattle.chart_tree.specs.declared.state.CompText.{CompText}
 use Rattle.chart_tree.specs.declared.sort.InitText.{InitText}
 use Rattle.chart_tree.specs.declared.sort.InitText.TheVariants as inits
 use Rattle.chart_tree.specs.declared.chart.EventText.{EventText}
-use Rattle.chart_tree.specs.Trees.{ScaleParts, Sort, FlagSort, NumberSort, Var, Path, Expr, Lit, Flag, Name, Active, Unary, Binary, Stmt, Assign, Send, Emit, Dest, ToState, ToJunction, Trans, Junction, Parts, State, StateOf, States, NoState, MoreStates, Chart}
+use Rattle.chart_tree.specs.Trees.{ScaleParts, Sort, FlagSort, NumberSort, Var, Path, Expr, Lit, Flag, Name, Active}
+use Rattle.chart_tree.specs.Trees.{Unary, Binary, Stmt, Assign, Send, Emit, Dest, ToState, ToJunction, Trans}
+use Rattle.chart_tree.specs.Trees.{Junction, Parts, State, StateOf, States, NoState, MoreStates, Chart}
 use Rattle.chart_grammar.specs.Limits.{most, usual}
 use Rattle.chart_grammar.specs.Words.{lit_of, fault_of_number}
 use Rattle.chart_grammar.specs.Declarations.{zero_lit}
@@ -42,11 +45,12 @@ pub record IsLiteral (lit : LitText) : Type 0 where
   pub sound : fault_of_number (number_read text) ≡ None
   pub told : lit ≡ lit_of text
 
--- a width of 1 to 64, and a fraction of at most 32 and at most the width
+-- a width of at least 1 and at most WIDTH_LIMIT, and a fraction of at most PLACES_LIMIT and at most
+-- the width
 pub record IsScale (scale : ScaleParts) : Type 0 where
   pub some : 1 ≤ scale.width
-  pub narrow : scale.width ≤ 64
-  pub short : scale.frac ≤ 32
+  pub narrow : scale.width ≤ WIDTH_LIMIT
+  pub short : scale.frac ≤ PLACES_LIMIT
   pub inside : scale.frac ≤ scale.width
 
 -- numbers have a scale
@@ -78,7 +82,7 @@ IsStmt (Assign name value) = IsNamed name × IsExpr value
 IsStmt (Send name to) = IsNamed name × IfThere IsPath to
 IsStmt (Emit name) = IsNamed name
 
--- a block of so many statements as may be
+-- a block of at most as many statements as may be
 pub record IsBlock (stmts : List Stmt) : Type 0 where
   pub each : AllByRecursion IsStmt stmts
   pub few : length stmts ≤ most things.Statements
@@ -138,11 +142,11 @@ abbrev pub IsComp : CompText → States → Type 0
 IsComp comp states = comp_with comp states ≡ comp
 
 abbrev mutual
-  -- a state, with states nested in it so deep at most
+  -- a state, with states nested in it `deep` levels at most
   pub IsState : ℕ → State → Type 0
   IsState deep (StateOf parts states) = IsParts parts × IsComp parts.comp states × IsStates deep states
 
-  -- states, nested so deep at most
+  -- states, nested `deep` levels at most
   pub IsStates : ℕ → States → Type 0
   IsStates deep NoState = Unit {0}
   IsStates zero (MoreStates state others) = ⊥

@@ -1,12 +1,16 @@
 -- Words that spell a chain of operators, put together from those of its parts.
-use Rattle.std.proofs.Common.{◌≡◌, ℕ, ◌+◌, ◌<◌, Bool, true, List, [], ◌∷◌, ◌++◌, Some, None, refl, ap, sym, ◌∙◌, subst, inl, inr, append-nil, append_assoc}
+-- `x_spelled` says that the canonical words of x spell it.
+use Rattle.std.proofs.Common.{◌≡◌, ℕ, ◌+◌, ◌<◌, Bool, true, List, [], ◌∷◌, ◌++◌, Some, None, refl, ap, sym, ◌∙◌}
+use Rattle.std.proofs.Common.{subst, inl, inr, append-nil, append_assoc}
 use Rattle.std.proofs.lemmas.Bool.{lt-ltb}
 use Rattle.token_grammar.specs.declared.token.Kind.{Kind}
 use Rattle.token_grammar.specs.Token.{Lexeme}
 use Rattle.token_grammar.specs.Grammar.{many_from, many_from_spells}
+use Rattle.chart_tree.specs.declared.limits.TheConstants.{OPERATOR_LIMIT}
 use Rattle.chart_tree.specs.Trees.{Binary}
 use Rattle.chart_grammar.specs.Limits.{usual}
-use Rattle.chart_grammar.specs.Expressions.{Operand, Tail, Operands, bin_word, operator, tail, tails, with_tail, joined, chain, pair}
+use Rattle.chart_grammar.specs.Expressions.{Operand, Tail, Operands, bin_word, operator, tail, tails, with_tail}
+use Rattle.chart_grammar.specs.Expressions.{joined, chain, pair}
 use Rattle.chart_print.specs.Pieces.{kind_bytes}
 use Rattle.chart_print.specs.Places.{nowhere, unplaced_expr}
 use Rattle.canonical_claims.specs.Words.{Word, word_of, WordsSpell}
@@ -27,16 +31,18 @@ joined_bare y t = record { expr = Binary t.word y.expr t.right.expr nowhere; ope
 
 -- ---- one operator
 
-pub operator_spelled : (set : Kind → Bool) (k : Kind) (n : ℕ) → set k ≡ true → n < 64
+pub operator_spelled : (set : Kind → Bool) (k : Kind) (n : ℕ) → set k ≡ true → n < OPERATOR_LIMIT
     → WordsSpell (operator usual set n) word_of (keyword k ∷ []) (record { kind = k; text = kind_bytes k })
 unfolding operator
 operator_spelled set k n there room =
-    spell_allowed set (rw (lt-ltb n 64 room) refl) (spell_one_of set k (kind_bytes k) there)
+    spell_allowed set (rw (lt-ltb n OPERATOR_LIMIT room) refl) (spell_one_of set k (kind_bytes k) there)
 
 -- with the operand after it
-tail_spelled : (set : Kind → Bool) (operand : Operands) (k : Kind) (n : ℕ) {b : List Word} {y : Operand} → set k ≡ true → n < 64
+tail_spelled : (set : Kind → Bool) (operand : Operands) (k : Kind) (n : ℕ) {b : List Word} {y : Operand}
+    → set k ≡ true → n < OPERATOR_LIMIT
     → WordsSpell (operand (n + 1)) unplaced b y
-    → WordsSpell (tail usual set operand n) unplaced_tail (keyword k ∷ b) (record { word = bin_word k; at = nowhere; right = y })
+    → WordsSpell (tail usual set operand n) unplaced_tail (keyword k ∷ b)
+    (record { word = bin_word k; at = nowhere; right = y })
 unfolding tail
 tail_spelled set operand k n there room p =
     spell_then (operator_spelled set k n there room) (λ t is.
@@ -45,6 +51,7 @@ tail_spelled set operand k n there room p =
 
 -- ---- chains
 
+-- one operator more is joined last
 joined-append : (e : Operand) (ts : List Tail) (t : Tail) → joined e (ts ++ t ∷ []) ≡ with_tail (joined e ts) t
 joined-append e [] t = refl
 joined-append e (s ∷ ts) t = joined-append (with_tail e s) ts t
@@ -54,8 +61,10 @@ module _ (set : Kind → Bool) (operand : Operands) where
   tails_append : (e : Operand) (u v : List Lexeme) (ts : List Tail) (t : Tail)
       → many_from_spells (λ z. (tail usual set operand z).spells) (λ z t. t.right.operators) e.operators u ts
       → (tail usual set operand (joined e ts).operators).spells v t
-      → many_from_spells (λ z. (tail usual set operand z).spells) (λ z t. t.right.operators) e.operators (u ++ v) (ts ++ t ∷ [])
-  tails_append e u v [] t none s = record { p = v; q = []; parts = rw none (sym (append-nil v)); first = s; second = refl }
+      → many_from_spells (λ z. (tail usual set operand z).spells) (λ z t. t.right.operators) e.operators (u ++ v)
+      (ts ++ t ∷ [])
+  tails_append e u v [] t none s =
+      record { p = v; q = []; parts = rw none (sym (append-nil v)); first = s; second = refl }
   tails_append e u v (x ∷ ts) t c s = record {
     p = c.p;
     q = c.q ++ v;
@@ -112,7 +121,8 @@ module _ (set : Kind → Bool) (operand : Operands) where
       let c = l.spelled in
       let d = c.second in
       let front : s.front ≡ c.p ++ d.p =
-      c.parts ∙ ap (λ (v : List Lexeme). c.p ++ v) (d.parts ∙ ap (λ (v : List Lexeme). d.p ++ v) d.second.0 ∙ append-nil d.p) in
+      c.parts ∙ ap (λ (v : List Lexeme). c.p ++ v)
+      (d.parts ∙ ap (λ (v : List Lexeme). d.p ++ v) d.second.0 ∙ append-nil d.p) in
       let same : unplaced (joined c.x d.x) ≡ y = ap unplaced (sym d.second.1) ∙ l.looks in
       let before : y.operators ≡ (joined c.x d.x).operators = sym (ap (λ (o : Operand). o.operators) same) in
       let last = subst (λ (z : ℕ). (tail usual set operand z).spells s.back r.value) before r.spelled in
@@ -134,7 +144,8 @@ module _ (set : Kind → Bool) (operand : Operands) where
           };
         };
         looks =
-            ap unplaced (joined-append c.x d.x r.value) ∙ ap (λ (z : Operand). joined_bare z (unplaced_tail r.value)) same
+            ap unplaced (joined-append c.x d.x r.value)
+            ∙ ap (λ (z : Operand). joined_bare z (unplaced_tail r.value)) same
             ∙ ap (λ (z : Tail). joined_bare y z) r.looks;
       }
 
@@ -162,21 +173,31 @@ module _ (set : Kind → Bool) (operand : Operands) where
             q = [];
             x = Some r.value;
             parts = sym (append-nil s.back);
-            first = inl (record { p = s.back; q = []; x = r.value; parts = sym (append-nil s.back); first = last; second = (refl, refl) });
+            first = inl
+                (record {
+                  p = s.back;
+                  q = [];
+                  x = r.value;
+                  parts = sym (append-nil s.back);
+                  first = last;
+                  second =
+                      (refl, refl);
+                });
             second = (refl, refl);
           };
         };
-        looks = ap (λ (z : Operand). joined_bare z (unplaced_tail r.value)) l.looks ∙ ap (λ (z : Tail). joined_bare y z) r.looks;
+        looks = ap (λ (z : Operand). joined_bare z (unplaced_tail r.value)) l.looks
+            ∙ ap (λ (z : Tail). joined_bare y z) r.looks;
       }
 
   -- an operator between two operands
-  pub chain_binary : (k : Kind) (n : ℕ) {a b : List Word} {y z : Operand} → set k ≡ true → y.operators < 64
+  pub chain_binary : (k : Kind) (n : ℕ) {a b : List Word} {y z : Operand} → set k ≡ true → y.operators < OPERATOR_LIMIT
       → WordsSpell (chain usual set operand n) unplaced a y → WordsSpell (operand (y.operators + 1)) unplaced b z
       → WordsSpell (chain usual set operand n) unplaced (a ++ (keyword k ∷ b))
       (record { expr = Binary (bin_word k) y.expr z.expr nowhere; operators = z.operators })
   chain_binary k n {y = y} there room f g = chain_more n f (tail_spelled set operand k y.operators there room g)
 
-  pub pair_binary : (k : Kind) (n : ℕ) {a b : List Word} {y z : Operand} → set k ≡ true → y.operators < 64
+  pub pair_binary : (k : Kind) (n : ℕ) {a b : List Word} {y z : Operand} → set k ≡ true → y.operators < OPERATOR_LIMIT
       → WordsSpell (operand n) unplaced a y → WordsSpell (operand (y.operators + 1)) unplaced b z
       → WordsSpell (pair usual set operand n) unplaced (a ++ (keyword k ∷ b))
       (record { expr = Binary (bin_word k) y.expr z.expr nowhere; operators = z.operators })

@@ -13,14 +13,17 @@ use Rattle.canonical_claims.specs.Sizes.{enclosing, operators_in}
 abbrev pub cost : ℕ → Expr → ℕ
 cost p e = enclosing (ltb (expr_precedence e) p) (operators_in e)
 
+-- parentheses take no operator away
 at_least : (b : Bool) (n : ℕ) → n ≤ enclosing b n
 at_least true n = omega arith
 at_least false n = omega arith
 
+-- and add one at most
 at_most : (b : Bool) (n : ℕ) → enclosing b n ≤ n + 1
 at_most true n = omega arith
 at_most false n = omega arith
 
+-- a looser place needs parentheses less often
 wider : (q p r n : ℕ) → p ≤ r → enclosing (ltb q p) n ≤ enclosing (ltb q r) n
 wider q p r n h =
     elim (cases_Bool (ltb q p)) [
@@ -30,6 +33,7 @@ wider q p r n h =
       | inr high ↦ rw high (at_least (ltb q r) n)
     ]
 
+-- no operator has the precedence 0
 binary_precedence_some : (word : BinWord) → 1 ≤ precedence word
 binary_precedence_some bin_words.Or = omega arith
 binary_precedence_some bin_words.And = omega arith
@@ -44,6 +48,7 @@ binary_precedence_some bin_words.Sub = omega arith
 binary_precedence_some bin_words.Mul = omega arith
 binary_precedence_some bin_words.Div = omega arith
 
+-- nor has an expression
 pub precedence_some : (e : Expr) → 1 ≤ expr_precedence e
 precedence_some (Lit lit at) = omega arith
 precedence_some (Flag value at) = omega arith

@@ -1,17 +1,23 @@
 -- What a spelled expression has.
+-- `x_has` says what is so of each x that tokens cut from a text spell.
 use Rattle.std.proofs.Common.{◌≡◌, ℕ, zero, suc, ◌+◌, List, refl, arith, inl, inr, sym, subst}
 use Rattle.token_grammar.specs.declared.token.Kind.TheVariants as kinds
 use Rattle.token_grammar.specs.Token.{Lexeme}
 use Rattle.token_grammar.specs.Grammar.{is}
+use Rattle.chart_tree.specs.declared.limits.TheConstants.{OPERATOR_LIMIT}
 use Rattle.chart_tree.specs.Trees.{Expr, Lit, Flag, Name, Active}
 use Rattle.chart_grammar.specs.Limits.{usual}
 use Rattle.chart_grammar.specs.Words.{lit_of, name_of}
-use Rattle.chart_grammar.specs.Expressions.{Operand, Operands, un_word, sign_heads, product_heads, sum_heads, comparison_heads, literal, flag, datum, active, plain, product, sum, comparison, conjunction, disjunction, signed, parens, nested, unary, operand, expr}
+use Rattle.chart_grammar.specs.Expressions.{Operand, Operands, un_word, sign_heads, product_heads, sum_heads}
+use Rattle.chart_grammar.specs.Expressions.{comparison_heads, literal, flag, datum, active, plain, product, sum}
+use Rattle.chart_grammar.specs.Expressions.{comparison, conjunction, disjunction, signed, parens, nested, unary}
+use Rattle.chart_grammar.specs.Expressions.{operand, expr}
 use Rattle.canonical_claims.specs.Claims.{AreCut}
 use Rattle.canonical_claims.specs.Terms.{HasTerms, IsExpr}
 use Rattle.canonical_claims.proofs.Cut.{cut_token, cut_first, cut_second}
 use Rattle.canonical_expressions.proofs.Costs.{cost, cost-unary, cost-most, cost-whole}
-use Rattle.canonical_expressions.proofs.Precedences.{product_precedence, sum_precedence, comparison_precedence, conjunction_precedence, disjunction_precedence}
+use Rattle.canonical_expressions.proofs.Precedences.{product_precedence, sum_precedence, comparison_precedence}
+use Rattle.canonical_expressions.proofs.Precedences.{conjunction_precedence, disjunction_precedence}
 use Rattle.canonical_expressions.proofs.ChainsHave.{IsOperand, AreOperands, operator_room, chain_has, pair_has}
 use Rattle.canonical_expressions.proofs.Names.{path_has}
 use Rattle.canonical_expressions.proofs.Numbers.{number_has}
@@ -24,24 +30,29 @@ product_has operand has = chain_has 5 product_heads operand product_precedence h
 
 sum_has : (operand : Operands) → AreOperands 6 operand → AreOperands 4 (sum usual operand)
 unfolding sum
-sum_has operand has = chain_has 4 sum_heads (product usual operand) sum_precedence (product_has operand has) (λ word e. rw e refl)
+sum_has operand has =
+    chain_has 4 sum_heads (product usual operand) sum_precedence (product_has operand has) (λ word e. rw e refl)
 
 comparison_has : (operand : Operands) → AreOperands 6 operand → AreOperands 3 (comparison usual operand)
 unfolding comparison
-comparison_has operand has = pair_has 3 comparison_heads (sum usual operand) comparison_precedence (sum_has operand has) (λ word e. rw e refl)
+comparison_has operand has =
+    pair_has 3 comparison_heads (sum usual operand) comparison_precedence (sum_has operand has) (λ word e. rw e refl)
 
 conjunction_has : (operand : Operands) → AreOperands 6 operand → AreOperands 2 (conjunction usual operand)
 unfolding conjunction
 conjunction_has operand has =
-    chain_has 2 (is kinds.AndAnd) (comparison usual operand) conjunction_precedence (comparison_has operand has) (λ word e. rw e refl)
+    chain_has 2 (is kinds.AndAnd) (comparison usual operand) conjunction_precedence (comparison_has operand has)
+    (λ word e. rw e refl)
 
 disjunction_has : (operand : Operands) → AreOperands 6 operand → AreOperands 1 (disjunction usual operand)
 unfolding disjunction
 disjunction_has operand has =
-    chain_has 1 (is kinds.OrOr) (conjunction usual operand) disjunction_precedence (conjunction_has operand has) (λ word e. rw e refl)
+    chain_has 1 (is kinds.OrOr) (conjunction usual operand) disjunction_precedence (conjunction_has operand has)
+    (λ word e. rw e refl)
 
 -- ---- operands without an operator
 
+-- an operand without an operator costs none
 plain_operand : (p n : ℕ) (e : Expr) → HasTerms e → cost p e ≡ 0 → IsOperand p n (record { expr = e; operators = n })
 plain_operand p n e terms none = record { terms = terms; counted = omega arith; within = λ low. low }
 
@@ -127,7 +138,8 @@ unary_has (suc d) n u o cut (inr s) = plain_has n u o cut s
 pub expr_has : (u : List Lexeme) (x : Expr) → AreCut u → (expr usual).spells u x → IsExpr x
 unfolding expr operand
 expr_has u x cut s =
-    let has = disjunction_has (unary usual 64) (unary_has 64) 0 s.p s.x (cut_first s cut) s.first in
+    let has =
+    disjunction_has (unary usual OPERATOR_LIMIT) (unary_has OPERATOR_LIMIT) 0 s.p s.x (cut_first s cut) s.first in
     subst IsExpr (sym s.second.1)
     (record {
       terms = has.terms;

@@ -1,4 +1,7 @@
 -- Names and paths: what spelled ones have, and their canonical words spell them.
+-- `x_has` says what is so of each x that tokens cut from a text spell, and `x_spelled` that the canonical words of an
+-- x of
+-- which that is so spell it.
 use Rattle.std.proofs.Common.{List, [], ◌∷◌, map, refl, ap, sym, subst}
 use Rattle.std.specs.List.{AllByRecursion, flat_map}
 use Rattle.token_grammar.specs.declared.token.Kind.TheVariants as kinds
@@ -30,7 +33,8 @@ step_has : (u : List Lexeme) (x : NameText) → AreCut u → step.spells u x →
 unfolding step
 step_has u x cut s = name_has s.q x (cut_second s cut) s.second
 
-steps_have : (u : List Lexeme) (xs : List NameText) → AreCut u → many_spells step.spells u xs → AllByRecursion IsNamed xs
+steps_have : (u : List Lexeme) (xs : List NameText) → AreCut u → many_spells step.spells u xs
+    → AllByRecursion IsNamed xs
 steps_have u [] cut s = record {}
 steps_have u (x ∷ xs) cut s =
     (step_has s.p x (cut_item s cut) s.first, steps_have s.q xs (cut_rest s cut) s.second)
@@ -55,7 +59,8 @@ unfolding step step_pieces key
 step_spelled x = spell_word kinds.Slash (name_spelled x)
 
 steps_spelled : (xs : List NameText)
-    → WordsSpell (many (is kinds.Slash) step) (λ xs. map unplaced_name xs) (words_in (flat_map step_pieces xs)) (map unplaced_name xs)
+    → WordsSpell (many (is kinds.Slash) step) (λ xs. map unplaced_name xs) (words_in (flat_map step_pieces xs))
+    (map unplaced_name xs)
 steps_spelled [] = spell_no_more (is kinds.Slash) step
 steps_spelled (x ∷ xs) =
     rw (words_in-append (step_pieces x) (flat_map step_pieces xs))

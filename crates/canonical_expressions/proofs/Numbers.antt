@@ -1,36 +1,23 @@
 -- Numbers: spelled ones have no fault, and their canonical words spell them.
-use Rattle.std.proofs.Common.{◌≡◌, false, List, [], ◌∷◌, Option, Some, None, refl, ap, subst, ◌∙◌}
+-- `x_has` says what is so of each x that tokens cut from a text spell, and `x_spelled` that the canonical words of an
+-- x of
+-- which that is so spell it.
+use Rattle.std.proofs.Common.{◌≡◌, List, [], ◌∷◌, Option, Some, None, refl, ap, subst, ◌∙◌}
 use Rattle.token_grammar.specs.declared.token.Kind.TheVariants as kinds
 use Rattle.token_grammar.specs.declared.fault.Fault.{Fault}
-use Rattle.token_grammar.specs.declared.fault.Fault.TheVariants as faults
-use Rattle.token_grammar.specs.declared.fault.Thing.TheVariants as things
 use Rattle.token_grammar.specs.Token.{Lexeme}
 use Rattle.token_grammar.specs.Grammar.{token, is, first_refused}
 use Rattle.fixed_point.specs.Reading.{number_read}
 use Rattle.chart_tree.specs.declared.name.LitText.{LitText}
-use Rattle.chart_grammar.specs.Limits.{usual, is_lifted, unless_lifted}
+use Rattle.chart_grammar.specs.Limits.{usual, unless_lifted}
 use Rattle.chart_grammar.specs.Words.{number, lit_of, literal_refused, fault_of_number}
+use Rattle.chart_grammar.proofs.LimitLaws.{usual_kept}
 use Rattle.chart_print.specs.Words.{literal_pieces}
 use Rattle.canonical_claims.specs.Words.{Word, words_in, WordsSpell}
 use Rattle.canonical_claims.specs.Claims.{AreCut, literal_bytes, NumberClaims}
 use Rattle.canonical_claims.specs.Terms.{IsLiteral}
 use Rattle.canonical_claims.proofs.Cut.{cut_token}
 use Rattle.canonical_claims.proofs.Spelled.{spell_token, spell_tested, spell_seen}
-
--- all limits count
-usual_kept : (f : Fault) → is_lifted usual f ≡ false
-usual_kept faults.Expected = refl
-usual_kept faults.LiteralTooLong = refl
-usual_kept faults.LiteralNotBinary = refl
-usual_kept faults.NestTooDeep = refl
-usual_kept (faults.TooMany things.States) = refl
-usual_kept (faults.TooMany things.Junctions) = refl
-usual_kept (faults.TooMany things.Transitions) = refl
-usual_kept (faults.TooMany things.Variables) = refl
-usual_kept (faults.TooMany things.Events) = refl
-usual_kept (faults.TooMany things.Statements) = refl
-usual_kept (faults.TooMany things.Operators) = refl
-usual_kept (faults.TooMany things.Items) = refl
 
 -- where nothing is refused, there was no fault
 no_fault : (said : Option Fault) → unless_lifted usual said ≡ None → said ≡ None
@@ -50,11 +37,13 @@ number_has u t cut s =
       told = refl;
     }
 
-pub number_spelled : NumberClaims → (lit : LitText) → IsLiteral lit → WordsSpell (number usual) (λ t. lit_of t.text) (words_in (literal_pieces lit)) lit
+pub number_spelled : NumberClaims → (lit : LitText) → IsLiteral lit
+    → WordsSpell (number usual) (λ t. lit_of t.text) (words_in (literal_pieces lit)) lit
 unfolding number literal_pieces
 number_spelled claims lit has =
     let read = claims.literal_is_read lit has in
     let text = literal_bytes lit in
     spell_seen
-    (spell_tested (is kinds.Number) (literal_refused usual) kinds.Number text (λ t _ same. rw (same, read.sound) refl) (spell_token kinds.Number text))
+    (spell_tested (is kinds.Number) (literal_refused usual) kinds.Number text
+    (λ t _ same. rw (same, read.sound) refl) (spell_token kinds.Number text))
     (λ t looks. ap (λ (w : Word). lit_of w.text) looks ∙ read.told)

@@ -14,6 +14,7 @@ use Rattle.chart_print.specs.Expressions.{precedence, left_least, right_least}
 of_kind : (p : ℕ) (k j : Kind) → precedence (bin_word k) ≡ p → is k j ≡ true → precedence (bin_word j) ≡ p
 of_kind p k j e h = subst (λ (z : Kind). precedence (bin_word z) ≡ p) (sym (kind_eq-true j k h)) e
 
+-- the operators of products have the precedence 5
 pub product_precedence : (k : Kind) → product_heads k ≡ true → precedence (bin_word k) ≡ 5
 product_precedence k h =
     elim (or_cases (is kinds.Star k) (is kinds.Slash k) h) [
@@ -21,6 +22,7 @@ product_precedence k h =
       | inr a ↦ of_kind 5 kinds.Slash k refl a
     ]
 
+-- those of sums 4
 pub sum_precedence : (k : Kind) → sum_heads k ≡ true → precedence (bin_word k) ≡ 4
 sum_precedence k h =
     elim (or_cases (is kinds.Plus k) (is kinds.Minus k) h) [
@@ -28,6 +30,7 @@ sum_precedence k h =
       | inr a ↦ of_kind 4 kinds.Minus k refl a
     ]
 
+-- those of comparisons 3
 pub comparison_precedence : (k : Kind) → comparison_heads k ≡ true → precedence (bin_word k) ≡ 3
 comparison_precedence k h =
     elim (or_cases (is kinds.EqualEqual k) _ h) [
@@ -47,12 +50,15 @@ comparison_precedence k h =
       ]
     ]
 
+-- that of conjunctions 2
 pub conjunction_precedence : (k : Kind) → is kinds.AndAnd k ≡ true → precedence (bin_word k) ≡ 2
 conjunction_precedence k h = of_kind 2 kinds.AndAnd k refl h
 
+-- that of disjunctions 1
 pub disjunction_precedence : (k : Kind) → is kinds.OrOr k ≡ true → precedence (bin_word k) ≡ 1
 disjunction_precedence k h = of_kind 1 kinds.OrOr k refl h
 
+-- no left operand needs more than the tightest precedence
 pub left_low : (word : BinWord) → left_least word ≤ 6
 left_low bin_words.Or = omega arith
 left_low bin_words.And = omega arith
@@ -67,6 +73,7 @@ left_low bin_words.Sub = omega arith
 left_low bin_words.Mul = omega arith
 left_low bin_words.Div = omega arith
 
+-- nor does a right one
 pub right_low : (word : BinWord) → right_least word ≤ 6
 right_low bin_words.Or = omega arith
 right_low bin_words.And = omega arith

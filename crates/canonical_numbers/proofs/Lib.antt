@@ -1,4 +1,4 @@
-pub mod Digits
+pub mod DigitEnds
 pub mod Forms
 pub mod NumberParts
 pub mod Literals

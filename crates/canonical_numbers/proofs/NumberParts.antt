@@ -1,15 +1,17 @@
 -- Every text that is one number has the parts of one.
-use Rattle.std.proofs.Common.{◌≡◌, ℕ, ◌+◌, ◌<◌, Bool, true, cond, nat_lt, nat_eq, ◌&&◌, List, [], ◌∷◌, ◌++◌, length, drop, refl, sym, ap, ◌∙◌, inl, inr, add-one, arith}
+use Rattle.std.proofs.Common.{◌≡◌, ℕ, ◌+◌, ◌<◌, Bool, true, cond, nat_lt, nat_eq, ◌&&◌, List, [], ◌∷◌, ◌++◌, length}
+use Rattle.std.proofs.Common.{drop, refl, sym, ap, ◌∙◌, inl, inr, add-one, arith}
 use Rattle.std.proofs.lemmas.Bool.{cases_Bool, eqb-true, ltb-true, and_parts}
 use Rattle.std.proofs.lemmas.List.{take-append-drop, drop-drop, drop_all, append-nil}
 use Rattle.std.proofs.lemmas.List.Folds.{length-prefix_len}
 use Rattle.std.specs.Char.{is_ascii_digit}
 use Rattle.fixed_point.specs.Reading.{leading_digits}
+use Rattle.fixed_point.proofs.Numerals.{AreDigits, leading-AreDigits}
 use Rattle.chart_lexer.specs.Bytes.{is_digit}
-use Rattle.chart_lexer.specs.Numbers.{digits_length, fraction_length, is_scale, scale_length, decimal_length, number_length}
+use Rattle.chart_lexer.specs.Numbers.{digits_length, fraction_length, is_scale, scale_length, decimal_length}
+use Rattle.chart_lexer.specs.Numbers.{number_length}
 use Rattle.canonical_claims.specs.Words.{IsNumber}
 use Rattle.canonical_claims.proofs.Runs.{run_some}
-use Rattle.canonical_numbers.proofs.Digits.{Digits, leading-Digits}
 use Rattle.canonical_numbers.proofs.Forms.{point, mark, form, ScaleIfAny, IsForm}
 
 -- ---- a point and digits
@@ -18,7 +20,7 @@ use Rattle.canonical_numbers.proofs.Forms.{point, mark, form, ScaleIfAny, IsForm
 record Fraction (text : List ℕ) (size : ℕ) : Type 0 where
   digits : List ℕ
   rest : List ℕ
-  are : Digits digits
+  are : AreDigits digits
   parts : text ≡ point digits ++ rest
   behind : drop size text ≡ rest
 
@@ -31,6 +33,7 @@ point_of (d ∷ ds) rest some = refl
 leading_parts : (s : List ℕ) → s ≡ leading_digits s ++ drop (digits_length s) s
 leading_parts s = sym (take-append-drop (digits_length s) s)
 
+-- what the fraction's length cuts off is a point and digits, or nothing
 fraction_parts : (text : List ℕ) → Fraction text (fraction_length text)
 unfolding fraction_length
 fraction_parts [] = record { digits = []; rest = []; are = refl; parts = refl; behind = refl }
@@ -46,12 +49,19 @@ fraction_parts (b ∷ s) =
           record {
             digits = leading_digits s;
             rest = drop n s;
-            are = leading-Digits s;
+            are = leading-AreDigits s;
             parts = ap (λ (x : ℕ). x ∷ s) dot ∙ ap (λ (x : List ℕ). 46 ∷ x) (leading_parts s)
                 ∙ sym (point_of (leading_digits s) (drop n s) size);
             behind = ap (λ (t : Bool). drop (sized t) (b ∷ s)) there ∙ ap (λ (k : ℕ). drop k (b ∷ s)) (add-one n);
           }
-      | inr none ↦ record { digits = []; rest = b ∷ s; are = refl; parts = refl; behind = ap (λ (t : Bool). drop (sized t) (b ∷ s)) none }
+      | inr none ↦ record {
+        digits = [];
+        rest = b ∷ s;
+        are = refl;
+        parts = refl;
+        behind = ap
+            (λ (t : Bool). drop (sized t) (b ∷ s)) none;
+      }
     ]
 
 -- ---- `q` and a scale
@@ -60,11 +70,12 @@ fraction_parts (b ∷ s) =
 record Marked (text : List ℕ) (size : ℕ) : Type 0 where
   digits : List ℕ
   rest : List ℕ
-  are : Digits digits
+  are : AreDigits digits
   scale : ScaleIfAny digits
   parts : text ≡ mark digits ++ rest
   behind : drop size text ≡ rest
 
+-- digits after `q` that name a scale are one or two
 scale_if_any : (ds : List ℕ) → is_scale ds ≡ true → ScaleIfAny ds
 scale_if_any [] e = absurd cc
 scale_if_any (d ∷ ds) e = e
@@ -74,6 +85,7 @@ mark_of : (ds rest : List ℕ) → is_scale ds ≡ true → mark ds ++ rest ≡ 
 mark_of [] rest some = absurd cc
 mark_of (d ∷ ds) rest some = refl
 
+-- what the scale's length cuts off is `q` and digits, or nothing
 scale_parts : (text : List ℕ) → Marked text (scale_length text)
 unfolding scale_length
 scale_parts [] = record { digits = []; rest = []; are = refl; scale = tt; parts = refl; behind = refl }
@@ -87,13 +99,21 @@ scale_parts (b ∷ s) =
           record {
             digits = leading_digits s;
             rest = drop n s;
-            are = leading-Digits s;
+            are = leading-AreDigits s;
             scale = scale_if_any (leading_digits s) tests.1;
             parts = ap (λ (x : ℕ). x ∷ s) q ∙ ap (λ (x : List ℕ). 113 ∷ x) (leading_parts s)
                 ∙ sym (mark_of (leading_digits s) (drop n s) tests.1);
             behind = ap (λ (t : Bool). drop (sized t) (b ∷ s)) there ∙ ap (λ (k : ℕ). drop k (b ∷ s)) (add-one n);
           }
-      | inr none ↦ record { digits = []; rest = b ∷ s; are = refl; scale = tt; parts = refl; behind = ap (λ (t : Bool). drop (sized t) (b ∷ s)) none }
+      | inr none ↦ record {
+        digits = [];
+        rest = b ∷ s;
+        are = refl;
+        scale = tt;
+        parts = refl;
+        behind = ap
+            (λ (t : Bool). drop (sized t) (b ∷ s)) none;
+      }
     ]
 
 -- ---- the whole text
@@ -118,7 +138,8 @@ number_parts text number =
     let scale = scale_parts last in
     let k : ℕ = scale_length last in
     let last_is : last ≡ fraction.rest = sym (drop-drop m n text) ∙ fraction.behind in
-    let none : scale.rest ≡ [] = sym scale.behind ∙ drop-drop k (n + m) text ∙ drop_all (n + m + k) text (omega (arith, number.1)) in
+    let none : scale.rest ≡ [] =
+    sym scale.behind ∙ drop-drop k (n + m) text ∙ drop_all (n + m + k) text (omega (arith, number.1)) in
     let marked : fraction.rest ≡ mark scale.digits =
     sym last_is ∙ scale.parts ∙ ap (λ (r : List ℕ). mark scale.digits ++ r) none ∙ append-nil (mark scale.digits) in
     record {
@@ -126,12 +147,13 @@ number_parts text number =
       behind = fraction.digits;
       bits = scale.digits;
       is = record {
-        whole = leading-Digits text;
+        whole = leading-AreDigits text;
         some = omega (arith, run_some is_digit text number.0, length-prefix_len is_ascii_digit text);
         behind = fraction.are;
         bits = scale.are;
         scale = scale.scale;
       };
       parts = leading_parts text
-          ∙ ap (λ (r : List ℕ). leading_digits text ++ r) (fraction.parts ∙ ap (λ (r : List ℕ). point fraction.digits ++ r) marked);
+          ∙ ap (λ (r : List ℕ). leading_digits text ++ r)
+          (fraction.parts ∙ ap (λ (r : List ℕ). point fraction.digits ++ r) marked);
     }

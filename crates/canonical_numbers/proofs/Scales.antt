@@ -1,20 +1,26 @@
 -- The word of a scale is a name, and names that scale.
-use Rattle.std.proofs.Common.{◌≡◌, ℕ, ◌+◌, ◌/◌, ◌%◌, ◌^◌, ◌<◌, ◌≤◌, Bool, true, false, ◌&&◌, ◌||◌, nat_le, eqb, List, [], ◌∷◌, ◌++◌, Option, Some, None, if◌then◌else◌, length, decimal, codes, bytes_eq, refl, sym, ap, ◌∙◌, subst, inl, inr, append_assoc, length-append, arith}
+use Rattle.std.proofs.Common.{◌≡◌, ℕ, ◌+◌, ◌/◌, ◌%◌, ◌^◌, ◌<◌, ◌≤◌, Bool, true, false, ◌&&◌, ◌||◌, nat_le, eqb, List}
+use Rattle.std.proofs.Common.{[], ◌∷◌, ◌++◌, Option, Some, None, if◌then◌else◌, length, decimal, codes, bytes_eq}
+use Rattle.std.proofs.Common.{refl, sym, ap, ◌∙◌, subst, inl, inr, append_assoc, length-append, arith}
 use Rattle.std.proofs.lemmas.Bool.{cases_Bool, eqb-true, and_parts, and_from, le-leb, or_left, or_right, eq-eqb}
 use Rattle.std.proofs.lemmas.Fmt.{decimal_digit, decimal_step, length-decimal-le_wide}
 use Rattle.std.specs.Char.{is_ascii_digit}
 use Rattle.std.proofs.lemmas.Slice.Eq.{bytes_eq-Decides}
 use Rattle.token_grammar.specs.declared.token.Kind.TheVariants as kinds
+use Rattle.fixed_point.specs.declared.scale.TheConstants.{WIDTH_LIMIT, PLACES_LIMIT}
 use Rattle.fixed_point.specs.Reading.{leading_digits, after_digits, value_of}
+use Rattle.fixed_point.proofs.Numerals.{AreDigits, front_digits, back_digits, first_digit, other_digits}
+use Rattle.fixed_point.proofs.Numerals.{numeral_decimal}
 use Rattle.chart_tree.specs.Trees.{ScaleParts}
+use Rattle.chart_lexer.specs.declared.words.TheConstants.{NAME_LIMIT}
 use Rattle.chart_lexer.specs.Bytes.{is_letter, is_digit, is_name_byte}
 use Rattle.chart_lexer.specs.Words.{name_length, word_kind, is_name}
-use Rattle.chart_grammar.specs.Types.{ScaleWord, plain_number, scale_within, frac_told, scale_told, scale_of, scale_word, type_word}
+use Rattle.chart_grammar.specs.Types.{ScaleWord, plain_number, scale_within, frac_told, scale_told, scale_of}
+use Rattle.chart_grammar.specs.Types.{scale_word, type_word}
 use Rattle.chart_print.specs.Words.{is_int, int_bytes, fix_bytes}
 use Rattle.canonical_claims.specs.Terms.{IsScale}
 use Rattle.canonical_claims.specs.Claims.{scale_bytes, ScaleIsRead}
 use Rattle.canonical_claims.proofs.Runs.{run_append}
-use Rattle.canonical_numbers.proofs.Digits.{Digits, first_digit, other_digits, numeral_decimal, leading-append, after-append}
 
 -- a scale by the word that it has
 read_as : (scale : ScaleParts) (text : List ℕ) → scale_bytes scale ≡ text → is_name text ≡ true
@@ -26,36 +32,48 @@ read_as scale text bytes name told = record { named = ap is_name bytes ∙ name;
 -- two digits
 decimal_two : (n : ℕ) → 10 ≤ n → n < 100 → decimal n ≡ (48 + n / 10) ∷ (48 + n % 10) ∷ []
 decimal_two n many few =
-    decimal_step n many (omega arith) ∙ ap (λ (ds : List ℕ). ds ++ (48 + n % 10) ∷ []) (decimal_digit (n / 10) (omega arith))
+    decimal_step n many (omega arith)
+    ∙ ap (λ (ds : List ℕ). ds ++ (48 + n % 10) ∷ []) (decimal_digit (n / 10) (omega arith))
 
 -- the same letters, and the digits
 behind : {a b : List ℕ} (front : List ℕ) → a ≡ b → front ++ a ≡ front ++ b
 behind front e = ap (λ (x : List ℕ). front ++ x) e
 
--- a whole number of so many bits
+-- a whole number of `width` bits
 abbrev whole_number : Bool → ℕ → ScaleParts
 whole_number signed width = record { signed = signed; width = width; frac = 0 }
 
 -- of 8, 16, 32 and 64 bits
 read_8 : (signed : Bool) → ScaleIsRead (whole_number signed 8)
 unfolding int_bytes word_kind scale_of type_word
-read_8 true = read_as (whole_number true 8) (codes "int8") (behind (codes "int") (decimal_digit 8 (omega arith))) refl refl
-read_8 false = read_as (whole_number false 8) (codes "uint8") (behind (codes "uint") (decimal_digit 8 (omega arith))) refl refl
+read_8 true =
+    read_as (whole_number true 8) (codes "int8") (behind (codes "int") (decimal_digit 8 (omega arith))) refl refl
+read_8 false =
+    read_as (whole_number false 8) (codes "uint8") (behind (codes "uint") (decimal_digit 8 (omega arith))) refl refl
 
+-- a whole number of 16 bits
 read_16 : (signed : Bool) → ScaleIsRead (whole_number signed 16)
 unfolding int_bytes word_kind scale_of type_word
-read_16 true = read_as (whole_number true 16) (codes "int16") (behind (codes "int") (decimal_two 16 (omega arith) (omega arith))) refl refl
-read_16 false = read_as (whole_number false 16) (codes "uint16") (behind (codes "uint") (decimal_two 16 (omega arith) (omega arith))) refl refl
+read_16 true = read_as (whole_number true 16) (codes "int16")
+    (behind (codes "int") (decimal_two 16 (omega arith) (omega arith))) refl refl
+read_16 false = read_as (whole_number false 16) (codes "uint16")
+    (behind (codes "uint") (decimal_two 16 (omega arith) (omega arith))) refl refl
 
+-- of 32 bits
 read_32 : (signed : Bool) → ScaleIsRead (whole_number signed 32)
 unfolding int_bytes word_kind scale_of type_word
-read_32 true = read_as (whole_number true 32) (codes "int32") (behind (codes "int") (decimal_two 32 (omega arith) (omega arith))) refl refl
-read_32 false = read_as (whole_number false 32) (codes "uint32") (behind (codes "uint") (decimal_two 32 (omega arith) (omega arith))) refl refl
+read_32 true = read_as (whole_number true 32) (codes "int32")
+    (behind (codes "int") (decimal_two 32 (omega arith) (omega arith))) refl refl
+read_32 false = read_as (whole_number false 32) (codes "uint32")
+    (behind (codes "uint") (decimal_two 32 (omega arith) (omega arith))) refl refl
 
+-- of 64 bits
 read_64 : (signed : Bool) → ScaleIsRead (whole_number signed 64)
 unfolding int_bytes word_kind scale_of type_word
-read_64 true = read_as (whole_number true 64) (codes "int64") (behind (codes "int") (decimal_two 64 (omega arith) (omega arith))) refl refl
-read_64 false = read_as (whole_number false 64) (codes "uint64") (behind (codes "uint") (decimal_two 64 (omega arith) (omega arith))) refl refl
+read_64 true = read_as (whole_number true 64) (codes "int64")
+    (behind (codes "int") (decimal_two 64 (omega arith) (omega arith))) refl refl
+read_64 false = read_as (whole_number false 64) (codes "uint64")
+    (behind (codes "uint") (decimal_two 64 (omega arith) (omega arith))) refl refl
 
 -- one of them, by its width
 of_width : (scale : ScaleParts) (width : ℕ) → ((signed : Bool) → ScaleIsRead (whole_number signed width))
@@ -69,7 +87,8 @@ of_width scale width read wide whole =
 -- any of them
 int_read : (scale : ScaleParts) → is_int scale ≡ true → ScaleIsRead scale
 int_read scale e =
-    let tests = and_parts (eqb scale.frac 0) (eqb scale.width 8 || (eqb scale.width 16 || (eqb scale.width 32 || eqb scale.width 64))) e in
+    let tests = and_parts (eqb scale.frac 0)
+    (eqb scale.width 8 || (eqb scale.width 16 || (eqb scale.width 32 || eqb scale.width 64))) e in
     let whole : scale.frac ≡ 0 = eqb-true scale.frac 0 tests.0 in
     elim (cases_Bool (eqb scale.width 8)) [
       | inl w8 ↦ of_width scale 8 read_8 (eqb-true scale.width 8 w8) whole
@@ -77,7 +96,8 @@ int_read scale e =
         | inl w16 ↦ of_width scale 16 read_16 (eqb-true scale.width 16 w16) whole
         | inr not_16 ↦ elim (cases_Bool (eqb scale.width 32)) [
           | inl w32 ↦ of_width scale 32 read_32 (eqb-true scale.width 32 w32) whole
-          | inr not_32 ↦ of_width scale 64 read_64 (eqb-true scale.width 64 (rw (not_8, not_16, not_32) at tests.1)) whole
+          | inr not_32 ↦ of_width scale 64 read_64
+              (eqb-true scale.width 64 (rw (not_8, not_16, not_32) at tests.1)) whole
         ]
       ]
     ]
@@ -98,7 +118,7 @@ digit_is_name_byte : (d : ℕ) → is_ascii_digit d ≡ true → is_name_byte d 
 digit_is_name_byte d e = or_right (is_letter d) (is_digit d || eqb d 95) (or_left (is_digit d) (eqb d 95) e)
 
 -- digits are bytes of names
-digits_name : (ds : List ℕ) → Digits ds → NameBytes ds
+digits_name : (ds : List ℕ) → AreDigits ds → NameBytes ds
 unfolding NameBytes
 digits_name [] all = refl
 digits_name (d ∷ ds) all =
@@ -121,7 +141,8 @@ scaled_names scale is =
 -- there are few of them
 scaled_few : (scale : ScaleParts) → IsScale scale → length (scaled_bytes scale) ≤ 7
 scaled_few scale is =
-    let wide = length-decimal-le_wide 2 scale.width (omega arith) (omega (arith, is.narrow)) (omega (arith, is.narrow)) in
+    let wide =
+    length-decimal-le_wide 2 scale.width (omega arith) (omega (arith, is.narrow)) (omega (arith, is.narrow)) in
     let short = length-decimal-le_wide 2 scale.frac (omega arith) (omega (arith, is.short)) (omega (arith, is.short)) in
     omega (arith, length-append (decimal scale.width) (95 ∷ 69 ∷ 110 ∷ decimal scale.frac))
 
@@ -133,13 +154,14 @@ fixed_named letter s first all few kind =
     let w : List ℕ = letter ∷ 102 ∷ 105 ∷ 120 ∷ s in
     let run : name_length w ≡ length w = rw first (omega (arith, all)) in
     and_from _ _ (and_from _ _ first (eq-eqb (name_length w) (length w) run))
-    (and_from _ _ (le-leb (length w) 63 (omega arith)) (rw kind refl))
+    (and_from _ _ (le-leb (length w) NAME_LIMIT (omega arith)) (rw kind refl))
 
 -- it is no reserved word, since none begins that way
 signed_kind : (s : List ℕ) → word_kind (115 ∷ 102 ∷ 105 ∷ 120 ∷ s) ≡ kinds.Name
 unfolding word_kind
 signed_kind s = refl
 
+-- a word that begins with `ufix` is no keyword
 unsigned_kind : (s : List ℕ) → word_kind (117 ∷ 102 ∷ 105 ∷ 120 ∷ s) ≡ kinds.Name
 unfolding word_kind
 unsigned_kind s = refl
@@ -149,6 +171,7 @@ signed_word : (s : List ℕ) → type_word (115 ∷ 102 ∷ 105 ∷ 120 ∷ s) �
 unfolding type_word scale_of
 signed_word s = refl
 
+-- and names an unsigned scale
 unsigned_word : (s : List ℕ) → type_word (117 ∷ 102 ∷ 105 ∷ 120 ∷ s) ≡ scale_word (scale_told false s)
 unfolding type_word scale_of
 unsigned_word s = refl
@@ -167,12 +190,16 @@ told_again scale is =
     let rest : List ℕ = 95 ∷ 69 ∷ 110 ∷ decimal scale.frac in
     let wide = numeral_decimal scale.width (omega (arith, is.narrow)) in
     let front : plain_number (leading_digits (scaled_bytes scale)) ≡ Some scale.width =
-    ap plain_number (leading-append (decimal scale.width) rest wide.all refl) ∙ plain_decimal scale.width (omega (arith, is.narrow)) in
+    ap plain_number (front_digits (decimal scale.width) rest wide.all refl)
+    ∙ plain_decimal scale.width (omega (arith, is.narrow)) in
     let back : frac_told (after_digits (scaled_bytes scale)) ≡ Some scale.frac =
-    ap frac_told (after-append (decimal scale.width) rest wide.all refl) ∙ plain_decimal scale.frac (omega (arith, is.short)) in
-    let within : ((nat_le 1 scale.width && nat_le scale.width 64) && (nat_le scale.frac 32 && nat_le scale.frac scale.width)) ≡ true =
-    and_from _ _ (and_from _ _ (le-leb 1 scale.width is.some) (le-leb scale.width 64 is.narrow))
-    (and_from _ _ (le-leb scale.frac 32 is.short) (le-leb scale.frac scale.width is.inside)) in
+    ap frac_told (back_digits (decimal scale.width) rest wide.all refl)
+    ∙ plain_decimal scale.frac (omega (arith, is.short)) in
+    let within :
+    ((nat_le 1 scale.width && nat_le scale.width WIDTH_LIMIT) && (nat_le scale.frac PLACES_LIMIT && nat_le scale.frac scale.width))
+    ≡ true =
+    and_from _ _ (and_from _ _ (le-leb 1 scale.width is.some) (le-leb scale.width WIDTH_LIMIT is.narrow))
+    (and_from _ _ (le-leb scale.frac PLACES_LIMIT is.short) (le-leb scale.frac scale.width is.inside)) in
     ap (λ (x : Option ℕ). scale_within scale.signed x (frac_told (after_digits (scaled_bytes scale)))) front
     ∙ ap (λ (x : Option ℕ). scale_within scale.signed (Some scale.width) x) back
     ∙ ap (λ (t : Bool). if t then Some scale else None) within
@@ -195,12 +222,14 @@ fixed_read scale is true sign bytes =
     let s : List ℕ = scaled_bytes scale in
     let told : scale_told true s ≡ Some scale = ap (λ (x : Bool). scale_told x s) (sym sign) ∙ told_again scale is in
     read_as scale (115 ∷ 102 ∷ 105 ∷ 120 ∷ s) bytes
-    (fixed_named 115 s refl (scaled_names scale is) (scaled_few scale is) (signed_kind s)) (signed_word s ∙ ap scale_word told)
+    (fixed_named 115 s refl (scaled_names scale is) (scaled_few scale is) (signed_kind s))
+    (signed_word s ∙ ap scale_word told)
 fixed_read scale is false sign bytes =
     let s : List ℕ = scaled_bytes scale in
     let told : scale_told false s ≡ Some scale = ap (λ (x : Bool). scale_told x s) (sym sign) ∙ told_again scale is in
     read_as scale (117 ∷ 102 ∷ 105 ∷ 120 ∷ s) bytes
-    (fixed_named 117 s refl (scaled_names scale is) (scaled_few scale is) (unsigned_kind s)) (unsigned_word s ∙ ap scale_word told)
+    (fixed_named 117 s refl (scaled_names scale is) (scaled_few scale is) (unsigned_kind s))
+    (unsigned_word s ∙ ap scale_word told)
 
 -- every scale
 pub scale_is_read : (scale : ScaleParts) → IsScale scale → ScaleIsRead scale

@@ -1,4 +1,5 @@
 -- A canonical text is cut into the words of its pieces.
+-- `on_x` says that the pieces of x stay apart, and from the pieces after them, where these stay apart after x.
 use Rattle.std.proofs.Common.{◌≡◌, ℕ, zero, suc, ◌+◌, true, List, [], ◌++◌, refl, append_assoc}
 use Rattle.std.proofs.lemmas.List.{append-nil}
 use Rattle.std.specs.List.{AllByRecursion, flat_map}
@@ -8,41 +9,54 @@ use Rattle.chart_tree.specs.declared.name.NameText.{NameText}
 use Rattle.chart_tree.specs.declared.chart.EventText.{EventText}
 use Rattle.chart_tree.specs.declared.state.CompText.{CompText}
 use Rattle.chart_tree.specs.declared.state.CompText.TheVariants as comps
-use Rattle.chart_tree.specs.Trees.{Stmt, Trans, Junction, Parts, State, StateOf, States, NoState, MoreStates, Var, Chart}
+use Rattle.chart_tree.specs.Trees.{Stmt, Trans, Junction, Parts, State, StateOf, States, NoState, MoreStates, Var}
+use Rattle.chart_tree.specs.Trees.{Chart}
 use Rattle.chart_grammar.specs.Limits.{usual}
 use Rattle.chart_print.specs.Pieces.{Piece}
-use Rattle.chart_print.specs.Canonical.{action_line, trans_line, junction_trans_line, end_line, comp_pieces, head_pieces, head_line, junction_pieces, actions_pieces, transitions_pieces, parts_pieces, parts_in, states_in, state_pieces, states_pieces, event_line, var_line, chart_pieces, canonical}
-use Rattle.canonical_claims.specs.Terms.{IsNamed, IsBlock, IsTrans, IsJunction, IsVar, IsParts, IsState, IsStates, IsChart}
+use Rattle.chart_print.specs.Canonical.{action_line, trans_line, junction_trans_line, end_line, comp_pieces}
+use Rattle.chart_print.specs.Canonical.{head_pieces, head_line, junction_pieces, actions_pieces, transitions_pieces}
+use Rattle.chart_print.specs.Canonical.{parts_pieces, parts_in, states_in, state_pieces, states_pieces, event_line}
+use Rattle.chart_print.specs.Canonical.{var_line, chart_pieces, canonical}
+use Rattle.canonical_claims.specs.Terms.{IsNamed, IsBlock, IsTrans, IsJunction, IsVar, IsParts, IsState, IsStates}
+use Rattle.canonical_claims.specs.Terms.{IsChart}
 use Rattle.canonical_claims.specs.Claims.{NumberClaims}
-use Rattle.canonical_tokens.proofs.Seams.{AfterBlank, AfterWord, AfterSymbol, is_fixed, seam_of, Apart, on_key, on_space, on_newline, on_line, on_each}
+use Rattle.canonical_tokens.proofs.Seams.{AfterBlank, AfterWord, AfterSymbol, is_fixed, seam_of, Apart, on_key}
+use Rattle.canonical_tokens.proofs.Seams.{on_space, on_newline, on_line, on_each}
 use Rattle.canonical_tokens.proofs.ExpressionPieces.{on_name}
 use Rattle.canonical_tokens.proofs.TransitionPieces.{on_block, on_unless, on_trans, on_event, on_var}
 use Rattle.canonical_tokens.proofs.PiecesCut.{WordsAreCut, words_cut}
 
 -- ---- lines
 
-on_action_line : NumberClaims → (level : ℕ) (k : Kind) (stmts : List Stmt) (rest : List Piece) → is_fixed k ≡ true → IsBlock stmts
+on_action_line : NumberClaims → (level : ℕ) (k : Kind) (stmts : List Stmt) (rest : List Piece) → is_fixed k ≡ true
+    → IsBlock stmts
     → Apart AfterBlank rest → Apart AfterBlank (action_line level k stmts ++ rest)
 unfolding action_line
 on_action_line claims level k stmts rest fixed has h =
     on_unless stmts AfterBlank _ rest (on_line level _ rest (simp append_assoc
-    (on_key k AfterBlank _ fixed refl (on_space (seam_of k) _ (on_block claims stmts _ has (on_newline AfterSymbol rest h)))))) h
+    (on_key k AfterBlank _ fixed refl
+    (on_space (seam_of k) _ (on_block claims stmts _ has (on_newline AfterSymbol rest h)))))) h
 
-on_trans_line : NumberClaims → (level : ℕ) (k : Kind) → is_fixed k ≡ true → (trans : Trans) → IsTrans trans → (rest : List Piece)
+on_trans_line : NumberClaims → (level : ℕ) (k : Kind) → is_fixed k ≡ true → (trans : Trans) → IsTrans trans
+    → (rest : List Piece)
     → Apart AfterBlank rest → Apart AfterBlank (trans_line level k trans ++ rest)
 unfolding trans_line
 on_trans_line claims level k fixed trans has rest h =
     on_line level _ rest (simp append_assoc
-    (on_key k AfterBlank _ fixed refl (on_space (seam_of k) _ (on_trans claims trans _ has (on_newline AfterSymbol rest h)))))
+    (on_key k AfterBlank _ fixed refl
+    (on_space (seam_of k) _ (on_trans claims trans _ has (on_newline AfterSymbol rest h)))))
 
-on_junction_line : NumberClaims → (level : ℕ) (trans : Trans) → IsTrans trans → (rest : List Piece) → Apart AfterBlank rest
+on_junction_line : NumberClaims → (level : ℕ) (trans : Trans) → IsTrans trans → (rest : List Piece)
+    → Apart AfterBlank rest
     → Apart AfterBlank (junction_trans_line level trans ++ rest)
 unfolding junction_trans_line
-on_junction_line claims level trans has rest h = on_line level _ rest (on_trans claims trans _ has (on_newline AfterSymbol rest h))
+on_junction_line claims level trans has rest h =
+    on_line level _ rest (on_trans claims trans _ has (on_newline AfterSymbol rest h))
 
 on_end : (level : ℕ) (rest : List Piece) → Apart AfterBlank rest → Apart AfterBlank (end_line level ++ rest)
 unfolding end_line
-on_end level rest h = on_line level _ rest (on_key kinds.CloseBrace AfterBlank _ refl refl (on_newline AfterSymbol rest h))
+on_end level rest h =
+    on_line level _ rest (on_key kinds.CloseBrace AfterBlank _ refl refl (on_newline AfterSymbol rest h))
 
 -- ---- junctions and states
 
@@ -52,23 +66,31 @@ on_comp comps.None rest h = h
 on_comp comps.Or rest h = simp append_assoc (on_space AfterWord _ (on_key kinds.Or AfterBlank rest refl refl h))
 on_comp comps.And rest h = simp append_assoc (on_space AfterWord _ (on_key kinds.And AfterBlank rest refl refl h))
 
-on_head : (level : ℕ) (k : Kind) (name : NameText) (comp : CompText) (rest : List Piece) → is_fixed k ≡ true → IsNamed name
+on_head : (level : ℕ) (k : Kind) (name : NameText) (comp : CompText) (rest : List Piece) → is_fixed k ≡ true
+    → IsNamed name
     → Apart AfterBlank rest → Apart AfterBlank (head_line level k name comp ++ rest)
 unfolding head_line head_pieces
 on_head level k name comp rest fixed named h =
-    on_line level _ rest (simp append_assoc (on_key k AfterBlank _ fixed refl (on_space (seam_of k) _ (on_name name AfterBlank _ named refl
-    (on_comp comp _ (on_space AfterWord _ (on_key kinds.OpenBrace AfterBlank _ refl refl (on_newline AfterSymbol rest h))))))))
+    on_line level _ rest
+    (simp append_assoc
+    (on_key k AfterBlank _ fixed refl (on_space (seam_of k) _ (on_name name AfterBlank _ named refl
+    (on_comp comp _
+    (on_space AfterWord _ (on_key kinds.OpenBrace AfterBlank _ refl refl (on_newline AfterSymbol rest h))))))))
 
-on_junction : NumberClaims → (level : ℕ) (junction : Junction) → IsJunction junction → (rest : List Piece) → Apart AfterBlank rest
+on_junction : NumberClaims → (level : ℕ) (junction : Junction) → IsJunction junction → (rest : List Piece)
+    → Apart AfterBlank rest
     → Apart AfterBlank (junction_pieces level junction ++ rest)
 unfolding junction_pieces
 on_junction claims level junction has rest h =
     simp append_assoc (on_head level kinds.Junction junction.name comps.None _ refl has.name
-    (on_each (junction_trans_line (level + 1)) IsTrans AfterBlank junction.list _ (on_junction_line claims (level + 1)) has.list (on_end level rest h)))
+    (on_each (junction_trans_line (level + 1)) IsTrans AfterBlank junction.list _
+    (on_junction_line claims (level + 1)) has.list (on_end level rest h)))
 
-on_trans_lines : NumberClaims → (level : ℕ) (k : Kind) (list : List Trans) (rest : List Piece) → is_fixed k ≡ true → AllByRecursion IsTrans list
+on_trans_lines : NumberClaims → (level : ℕ) (k : Kind) (list : List Trans) (rest : List Piece) → is_fixed k ≡ true
+    → AllByRecursion IsTrans list
     → Apart AfterBlank rest → Apart AfterBlank (flat_map (trans_line level k) list ++ rest)
-on_trans_lines claims level k list rest fixed has h = on_each (trans_line level k) IsTrans AfterBlank list rest (on_trans_line claims level k fixed) has h
+on_trans_lines claims level k list rest fixed has h =
+    on_each (trans_line level k) IsTrans AfterBlank list rest (on_trans_line claims level k fixed) has h
 
 on_parts : NumberClaims → (level : ℕ) (parts : Parts) (rest : List Piece) → IsParts parts → Apart AfterBlank rest
     → Apart AfterBlank (parts_pieces level parts ++ rest)
@@ -81,31 +103,38 @@ on_parts claims level parts rest has h =
     (on_trans_lines claims level kinds.Default parts.default _ refl has.default
     (on_trans_lines claims level kinds.Inner parts.inner _ refl has.inner
     (on_trans_lines claims level kinds.Outer parts.outer _ refl has.outer
-    (on_each (junction_pieces level) IsJunction AfterBlank parts.junctions rest (on_junction claims level) has.junctions h)))))))
+    (on_each (junction_pieces level) IsJunction AfterBlank parts.junctions rest
+    (on_junction claims level) has.junctions h)))))))
 
 mutual
   unfolding state_pieces
 
-  on_state : NumberClaims → (level deep : ℕ) (state : State) (rest : List Piece) → IsState deep state → Apart AfterBlank rest
+  on_state : NumberClaims → (level deep : ℕ) (state : State) (rest : List Piece) → IsState deep state
+      → Apart AfterBlank rest
       → Apart AfterBlank (state_pieces level state ++ rest)
   on_state claims level deep (StateOf parts states) rest has h =
       simp append_assoc (on_head level kinds.State parts.name parts.comp _ refl has.0.name
-      (on_parts claims (level + 1) parts _ has.0 (on_states claims (level + 1) deep states _ has.2 (on_end level rest h))))
+      (on_parts claims (level + 1) parts _ has.0
+      (on_states claims (level + 1) deep states _ has.2 (on_end level rest h))))
 
-  on_states : NumberClaims → (level deep : ℕ) (states : States) (rest : List Piece) → IsStates deep states → Apart AfterBlank rest
+  on_states : NumberClaims → (level deep : ℕ) (states : States) (rest : List Piece) → IsStates deep states
+      → Apart AfterBlank rest
       → Apart AfterBlank (states_pieces level states ++ rest)
   on_states claims level deep NoState rest has h = h
   on_states claims level zero (MoreStates state others) rest has h = absurd has
   on_states claims level (suc deeper) (MoreStates state others) rest has h =
-      simp append_assoc (on_state claims level deeper state _ has.0 (on_states claims level (suc deeper) others rest has.1 h))
+      simp append_assoc
+      (on_state claims level deeper state _ has.0 (on_states claims level (suc deeper) others rest has.1 h))
 
 -- ---- charts
 
-on_event_line : (event : EventText) → IsNamed event.name → (rest : List Piece) → Apart AfterBlank rest → Apart AfterBlank (event_line event ++ rest)
+on_event_line : (event : EventText) → IsNamed event.name → (rest : List Piece) → Apart AfterBlank rest
+    → Apart AfterBlank (event_line event ++ rest)
 unfolding event_line
 on_event_line event has rest h = on_line 1 _ rest (on_event event _ has (on_newline AfterSymbol rest h))
 
-on_var_line : NumberClaims → (var : Var) → IsVar var → (rest : List Piece) → Apart AfterBlank rest → Apart AfterBlank (var_line var ++ rest)
+on_var_line : NumberClaims → (var : Var) → IsVar var → (rest : List Piece) → Apart AfterBlank rest
+    → Apart AfterBlank (var_line var ++ rest)
 unfolding var_line
 on_var_line claims var has rest h = on_line 1 _ rest (on_var claims var _ has (on_newline AfterSymbol rest h))
 

@@ -32,11 +32,13 @@ no_comments (Blank b ∷ ps) s h = no_comments ps AfterBlank h.1.1
 no_comments (Token k b ∷ ps) s h = (no_comment k b h.0, no_comments ps (seam_of k) h.1.1)
 
 -- of tokens without a comment all are left
-all_left : (u : List Lexeme) → AllByRecursion IsNoComment (words_of u) → filter (λ t. not (kind_eq t.kind kinds.Comment)) u ≡ u
+all_left : (u : List Lexeme) → AllByRecursion IsNoComment (words_of u)
+    → filter (λ t. not (kind_eq t.kind kinds.Comment)) u ≡ u
 all_left [] h = refl
 all_left (t ∷ u) h = rw (h.0, all_left u h.1) refl
 
 -- so of the tokens of a canonical text all are left
 pub none_left_out : NumberClaims → (c : Chart) → IsChart c → (u : List Lexeme) → words_of u ≡ words_in (chart_pieces c)
     → filter (λ t. not (kind_eq t.kind kinds.Comment)) u ≡ u
-none_left_out claims c is u words = all_left u (rw words (no_comments (chart_pieces c) AfterBlank (on_chart claims c is)))
+none_left_out claims c is u words =
+    all_left u (rw words (no_comments (chart_pieces c) AfterBlank (on_chart claims c is)))

@@ -1,5 +1,6 @@
 -- A number is as long where it is cut off after its end, and where other text stands after it.
-use Rattle.std.proofs.Common.{◌≡◌, ℕ, zero, suc, ◌+◌, ◌-◌, ◌<◌, ◌≤◌, Bool, true, false, ◌&&◌, List, [], ◌∷◌, ◌++◌, length, take, drop, refl, ap, inl, inr, eqb, ltb, add-one, arith}
+use Rattle.std.proofs.Common.{◌≡◌, ℕ, zero, suc, ◌+◌, ◌-◌, ◌<◌, ◌≤◌, Bool, true, false, ◌&&◌, List, [], ◌∷◌, ◌++◌}
+use Rattle.std.proofs.Common.{length, take, drop, refl, ap, inl, inr, eqb, ltb, add-one, arith}
 use Rattle.std.specs.List.{prefix_len}
 use Rattle.std.specs.Str.{byte}
 use Rattle.std.proofs.lemmas.Bool.{cases_Bool, ltb-false, cond_both}
@@ -7,7 +8,8 @@ use Rattle.std.proofs.lemmas.Bool.Decides.{nat_tests}
 use Rattle.std.proofs.lemmas.List.{take-append-le, drop-append-le, length-drop, drop-take}
 use Rattle.std.proofs.lemmas.List.Sums.{prefix_len-le-length}
 use Rattle.chart_lexer.specs.Bytes.{is_digit, is_name_byte, begins}
-use Rattle.chart_lexer.specs.Numbers.{digits_length, fraction_length, is_scale, scale_length, decimal_length, number_length}
+use Rattle.chart_lexer.specs.Numbers.{digits_length, fraction_length, is_scale, scale_length, decimal_length}
+use Rattle.chart_lexer.specs.Numbers.{number_length}
 use Rattle.canonical_claims.proofs.Runs.{run_ends, run_some}
 
 -- ---- text after it
@@ -18,7 +20,8 @@ pub record Ends (s : List ℕ) : Type 0 where
   pub point : begins (λ b. eqb b (byte ".")) s ≡ false
 
 -- what one test refuses, a narrower one refuses
-begins_no : (p q : ℕ → Bool) (s : List ℕ) → ((b : ℕ) → q b ≡ false → p b ≡ false) → begins q s ≡ false → begins p s ≡ false
+begins_no : (p q : ℕ → Bool) (s : List ℕ) → ((b : ℕ) → q b ≡ false → p b ≡ false) → begins q s ≡ false
+    → begins p s ≡ false
 begins_no p q [] narrow h = refl
 begins_no p q (b ∷ s) narrow h = narrow b h
 
@@ -34,12 +37,14 @@ no_q b h = grind (arith, nat_tests)
 digits_behind : (x y : List ℕ) → Ends y → digits_length (x ++ y) ≡ digits_length x
 digits_behind x y e = run_ends is_digit x y (begins_no is_digit is_name_byte y no_digit e.word)
 
+-- what ends a number changes no fraction before it
 fraction_behind : (x y : List ℕ) → Ends y → fraction_length (x ++ y) ≡ fraction_length x
 unfolding fraction_length
 fraction_behind [] [] e = refl
 fraction_behind [] (c ∷ y) e = rw e.point refl
 fraction_behind (b ∷ x) y e = rw (digits_behind x y e) refl
 
+-- nor a scale
 scale_behind : (x y : List ℕ) → Ends y → scale_length (x ++ y) ≡ scale_length x
 unfolding scale_length
 scale_behind [] [] e = refl
@@ -49,13 +54,16 @@ scale_behind (b ∷ x) y e =
 
 -- ---- how long the parts are at most
 
+-- a fraction is no longer than its text
 fraction_within : (s : List ℕ) → fraction_length s ≤ length s
 unfolding fraction_length
 fraction_within [] = omega arith
 fraction_within (b ∷ s) =
     let le = prefix_len-le-length is_digit s in
-    cond_both (eqb b (byte ".") && ltb 0 (digits_length s)) (digits_length s + 1) 0 (λ (n : ℕ). n ≤ suc (length s)) (λ _. omega arith) (λ _. omega arith)
+    cond_both (eqb b (byte ".") && ltb 0 (digits_length s)) (digits_length s + 1) 0 (λ (n : ℕ). n ≤ suc (length s))
+    (λ _. omega arith) (λ _. omega arith)
 
+-- nor are digits with a fraction
 decimal_within : (s : List ℕ) → decimal_length s ≤ length s
 unfolding decimal_length
 decimal_within s =
@@ -63,6 +71,7 @@ decimal_within s =
     let more = fraction_within (drop (digits_length s) s) in
     omega (arith, length-drop (digits_length s) s)
 
+-- what ends a number changes no digits before it
 decimal_behind : (x y : List ℕ) → Ends y → decimal_length (x ++ y) ≡ decimal_length x
 unfolding decimal_length
 decimal_behind x y e =
@@ -98,6 +107,7 @@ prefix_cut p (suc n) (b ∷ s) h =
 digits_cut : (n : ℕ) (s : List ℕ) → digits_length s ≤ n → digits_length (take n s) ≡ digits_length s
 digits_cut n s h = prefix_cut is_digit n s h
 
+-- a fraction is as long where its text is cut off after it
 fraction_cut : (n : ℕ) (s : List ℕ) → fraction_length s ≤ n → fraction_length (take n s) ≡ fraction_length s
 unfolding fraction_length
 fraction_cut zero s h = omega arith
@@ -112,11 +122,13 @@ fraction_cut (suc n) (b ∷ s) h =
       | inr other ↦ rw other refl
     ]
 
+-- a text that is cut off twice at one place
 cut_twice : (n : ℕ) (s : List ℕ) → take n (take n s) ≡ take n s
 cut_twice zero s = refl
 cut_twice (suc n) [] = refl
 cut_twice (suc n) (b ∷ s) = ap (λ (t : List ℕ). b ∷ t) (cut_twice n s)
 
+-- a scale is as long where its text is cut off after it
 scale_cut : (s : List ℕ) → scale_length (take (scale_length s) s) ≡ scale_length s
 unfolding scale_length
 scale_cut [] = refl
@@ -127,6 +139,7 @@ scale_cut (b ∷ s) =
       | inr none ↦ rw none refl
     ]
 
+-- and so are digits with a fraction
 decimal_cut : (n : ℕ) (s : List ℕ) → decimal_length s ≤ n → decimal_length (take n s) ≡ decimal_length s
 unfolding decimal_length
 decimal_cut n s h =
@@ -152,6 +165,7 @@ scale_within (b ∷ s) =
     cond_both (eqb b (byte "q") && is_scale (take (digits_length s) s)) (digits_length s + 1) 0
     (λ (n : ℕ). n ≤ suc (length s)) (λ _. omega arith) (λ _. omega arith)
 
+-- a number is no longer than its text
 pub number_within : (s : List ℕ) → number_length s ≤ length s
 unfolding number_length
 number_within s =

@@ -1,5 +1,7 @@
 -- Pieces that stay apart where they are written one directly after the other.
-use Rattle.std.proofs.Common.{◌≡◌, ℕ, zero, suc, append_assoc, Bool, true, ◌&&◌, ◌||◌, not, List, [], ◌∷◌, ◌++◌, refl, ◌⊎◌, inl, cond, IsTrue}
+-- `on_x` says that the pieces of x stay apart, and from the pieces after them, where these stay apart after x.
+use Rattle.std.proofs.Common.{◌≡◌, ℕ, zero, suc, append_assoc, Bool, true, ◌&&◌, ◌||◌, not, List, [], ◌∷◌, ◌++◌, refl}
+use Rattle.std.proofs.Common.{◌⊎◌, inl, cond, IsTrue}
 use Rattle.std.specs.Prelude.{nat_le}
 use Rattle.std.specs.List.{AllByRecursion, flat_map}
 use Rattle.std.proofs.lemmas.Bool.{and_parts}
@@ -88,7 +90,8 @@ tighten s (Token k b ∷ ps) h = (h.0, (looser s k h.1.0, h.1.1))
 
 -- ---- one piece in front
 
-pub on_key : (k : Kind) (s : Seam) (rest : List Piece) → is_fixed k ≡ true → fits s k ≡ true → Apart (seam_of k) rest → Apart s (key k ++ rest)
+pub on_key : (k : Kind) (s : Seam) (rest : List Piece) → is_fixed k ≡ true → fits s k ≡ true → Apart (seam_of k) rest
+    → Apart s (key k ++ rest)
 unfolding key
 on_key k s rest fixed fit h = (inl (fixed, refl), (fit, h))
 
@@ -106,12 +109,15 @@ on_indent zero rest h = h
 on_indent (suc level) rest h = (refl, (refl, on_indent level rest h))
 
 -- a line of its own
-pub on_line : (level : ℕ) (content rest : List Piece) → Apart AfterBlank (content ++ (newline ++ rest)) → Apart AfterBlank (line level content ++ rest)
+pub on_line : (level : ℕ) (content rest : List Piece) → Apart AfterBlank (content ++ (newline ++ rest))
+    → Apart AfterBlank (line level content ++ rest)
 unfolding line
 on_line level content rest h = simp append_assoc (on_indent level (content ++ (newline ++ rest)) h)
 
 -- the pieces of each of a list
 pub on_each : {X : Type 0} (f : X → List Piece) (has : X → Type 0) (s : Seam) (xs : List X) (rest : List Piece)
-    → ((x : X) → has x → (r : List Piece) → Apart s r → Apart s (f x ++ r)) → AllByRecursion has xs → Apart s rest → Apart s (flat_map f xs ++ rest)
+    → ((x : X) → has x → (r : List Piece) → Apart s r → Apart s (f x ++ r)) → AllByRecursion has xs → Apart s rest
+    → Apart s (flat_map f xs ++ rest)
 on_each f has s [] rest one all h = h
-on_each f has s (x ∷ xs) rest one all h = rw append_assoc (one x all.0 (flat_map f xs ++ rest) (on_each f has s xs rest one all.1 h))
+on_each f has s (x ∷ xs) rest one all h =
+    rw append_assoc (one x all.0 (flat_map f xs ++ rest) (on_each f has s xs rest one all.1 h))

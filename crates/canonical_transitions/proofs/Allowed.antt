@@ -10,7 +10,8 @@ use Rattle.canonical_claims.specs.Claims.{AreCut}
 use Rattle.canonical_claims.proofs.Cut.{cut_first}
 
 -- what may be missing has it where what is there does
-pub optional_has : {X : Type 0} (P : X → Type 0) (set : Kind → Bool) (g : Grammar X) (u : List Lexeme) (x : Option X) → AreCut u
+pub optional_has : {X : Type 0} (P : X → Type 0) (set : Kind → Bool) (g : Grammar X) (u : List Lexeme) (x : Option X)
+    → AreCut u
     → ((v : List Lexeme) (y : X) → AreCut v → g.spells v y → P y) → (optional set g).spells u x → IfThere P x
 optional_has P set g u x cut has (inl s) = rw s.second.1 (has s.p s.x (cut_first s cut) s.first)
 optional_has P set g u x cut has (inr s) = rw s.1 (record {})

@@ -1,4 +1,7 @@
 -- Declarations of events and data: what spelled ones have, and their canonical words spell them.
+-- `x_has` says what is so of each x that tokens cut from a text spell, and `x_spelled` that the canonical words of an
+-- x of
+-- which that is so spell it.
 use Rattle.std.proofs.Common.{◌≡◌, true, List, [], ◌∷◌, ◌++◌, refl, sym, subst}
 use Rattle.token_grammar.specs.declared.token.Kind.TheVariants as kinds
 use Rattle.token_grammar.specs.Token.{Lexeme}
@@ -34,7 +37,8 @@ use Rattle.canonical_transitions.proofs.Inits.{maybe_init_has, maybe_init_spelle
 -- ---- events
 
 -- its name is one, and there is room for it
-pub event_has : (d : ExpressionClaims) (n : Counts) (u : List Lexeme) (x : EventText) → AreCut u → (event usual n).spells u x
+pub event_has : (d : ExpressionClaims) (n : Counts) (u : List Lexeme) (x : EventText) → AreCut u
+    → (event usual n).spells u x
     → IsNamed x.name × (IsWithin n → IsWithin (after_event n))
 unfolding event
 event_has d n u x cut s =
@@ -50,6 +54,7 @@ event_there event_words.Input = refl
 event_there event_words.Local = refl
 event_there event_words.Output = refl
 
+-- the word of an event tells who raises it
 event_told : (w : EventWord) → event_word (event_kind w) ≡ w
 event_told event_words.Input = refl
 event_told event_words.Local = refl
@@ -74,7 +79,8 @@ event_spelled d n x has within =
 
 -- ---- data
 
-pub variable_has : (c : NumberClaims) (d : ExpressionClaims) (n : Counts) (u : List Lexeme) (x : Var) → AreCut u → (variable usual n).spells u x
+pub variable_has : (c : NumberClaims) (d : ExpressionClaims) (n : Counts) (u : List Lexeme) (x : Var) → AreCut u
+    → (variable usual n).spells u x
     → IsVar x × (IsWithin n → IsWithin (after_variable n))
 unfolding variable
 variable_has c d n u x cut s =
@@ -98,6 +104,7 @@ var_there var_words.Input = refl
 var_there var_words.Output = refl
 var_there var_words.Local = refl
 
+-- the word of a datum tells who sets it
 var_told : (w : VarWord) → var_word (var_kind w) ≡ w
 var_told var_words.Input = refl
 var_told var_words.Output = refl
@@ -110,7 +117,8 @@ var_words_in : (x : Var) → words_in (var_pieces x)
 unfolding var_pieces typed_pieces
 var_words_in x = simp words_apart
 
-pub variable_spelled : (c : NumberClaims) (d : ExpressionClaims) (n : Counts) (x : Var) → IsVar x → IsWithin (after_variable n)
+pub variable_spelled : (c : NumberClaims) (d : ExpressionClaims) (n : Counts) (x : Var) → IsVar x
+    → IsWithin (after_variable n)
     → WordsSpell (variable usual n) unplaced_var (words_in (var_pieces x)) (unplaced_var x)
 unfolding variable word_pieces
 variable_spelled c d n x has within =
@@ -121,10 +129,13 @@ variable_spelled c d n x has within =
     (spell_then (sort_spelled c x.sort has.sort) (λ sort e.
     spell_then (spell_init name sort e) (λ init r.
     spell_word kinds.Semicolon
-    (spell_give (record { kind = var_word t.kind; name = name; sort = sort; init = init }) (rw (kind, var_told x.kind, l, e, r) refl))))))))
+    (spell_give (record { kind = var_word t.kind; name = name; sort = sort; init = init })
+    (rw (kind, var_told x.kind, l, e, r) refl))))))))
   where
     spell_init : (name : NameText) (sort : Sort) → sort ≡ x.sort
-        → WordsSpell (maybe_init usual sort name.at) unplaced_init (words_in (init_pieces x.sort x.init)) (unplaced_init x.init)
+        → WordsSpell (maybe_init usual sort name.at) unplaced_init (words_in (init_pieces x.sort x.init))
+        (unplaced_init x.init)
     spell_init name sort e =
-        subst (λ z. WordsSpell (maybe_init usual z name.at) unplaced_init (words_in (init_pieces x.sort x.init)) (unplaced_init x.init))
+        subst (λ z. WordsSpell (maybe_init usual z name.at) unplaced_init (words_in (init_pieces x.sort x.init))
+        (unplaced_init x.init))
         (sym e) (maybe_init_spelled d x.sort name.at x.init has.init)

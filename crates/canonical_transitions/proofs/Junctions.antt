@@ -1,4 +1,7 @@
 -- Junctions: what spelled ones have, and their canonical words spell them.
+-- `x_has` says what is so of each x that tokens cut from a text spell, and `x_spelled` that the canonical words of an
+-- x of
+-- which that is so spell it.
 use Rattle.std.proofs.Common.{◌≡◌, ℕ, ◌+◌, List, [], ◌∷◌, ◌++◌, map, refl, ap, sym, subst, ◌∙◌, arith}
 use Rattle.std.specs.List.{AllByRecursion, flat_map}
 use Rattle.token_grammar.specs.declared.token.Kind.TheVariants as kinds
@@ -36,7 +39,8 @@ adds_both n a m b k p q = record {
 }
 
 -- a junction's transitions
-list_has : (c : ExpressionClaims) (n : Counts) (u : List Lexeme) (x : List (Counted Trans)) → AreCut u → (junction_list usual n).spells u x
+list_has : (c : ExpressionClaims) (n : Counts) (u : List Lexeme) (x : List (Counted Trans)) → AreCut u
+    → (junction_list usual n).spells u x
     → AllByRecursion IsTrans (values x) × Adds n (sizes size_of_trans (values x)) (counts_behind n x)
 unfolding junction_list many_from
 list_has c n u [] cut s = (record {}, record { count = sym (sum-none n); within = λ w. w })
@@ -45,7 +49,8 @@ list_has c n u (x ∷ xs) cut s =
     let others = list_has c x.counts s.q xs (cut_rest s cut) s.second in
     ((here.0, others.0), adds_both n _ x.counts _ (counts_behind x.counts xs) here.1 others.1)
 
-pub junction_has : (c : ExpressionClaims) (n : Counts) (u : List Lexeme) (x : Counted Junction) → AreCut u → (junction usual n).spells u x
+pub junction_has : (c : ExpressionClaims) (n : Counts) (u : List Lexeme) (x : Counted Junction) → AreCut u
+    → (junction usual n).spells u x
     → IsJunction x.value × Adds n (size_of_junction x.value) x.counts
 unfolding junction
 junction_has c n u x cut s =
@@ -55,11 +60,13 @@ junction_has c n u x cut s =
     let cut_list = cut_second named.second (cut_second named cut_named) in
     let free = was_allowed (is kinds.Junction) _ s.p ((good_token kinds.Junction).begins s.p s.x s.first.1) s.first.0 in
     let inside = list_has c (after_junction n) list.p list.x (cut_first list cut_list) list.first in
-    let adds : Adds n (after_junction none ⊕ sizes size_of_trans (values list.x)) (counts_behind (after_junction n) list.x) = record {
+    let adds : Adds n (after_junction none ⊕ sizes size_of_trans (values list.x))
+    (counts_behind (after_junction n) list.x) = record {
       count = inside.1.count ∙ one_junction n (sizes size_of_trans (values list.x));
       within = λ w. inside.1.within (junction_within n free w);
     } in
-    rw list.second.second.1 (record { name = c.name_has named.p named.x (cut_first named cut_named) named.first; list = inside.0 }, adds)
+    rw list.second.second.1
+    (record { name = c.name_has named.p named.x (cut_first named cut_named) named.first; list = inside.0 }, adds)
 
 -- ---- junctions spelled
 
@@ -73,7 +80,9 @@ record IsList (n : Counts) (list : List (Counted Trans)) (xs : List Trans) : Typ
   values : map unplaced_trans (values list) ≡ map unplaced_trans xs
   counts : counts_behind n list ≡ n ⊕ sizes size_of_trans xs
 
-is_list : (n : Counts) (list : List (Counted Trans)) (xs : List Trans) → map (counted unplaced_trans) list ≡ counted_list n xs → IsList n list xs
+-- a counted list without its places is the list
+is_list : (n : Counts) (list : List (Counted Trans)) (xs : List Trans)
+    → map (counted unplaced_trans) list ≡ counted_list n xs → IsList n list xs
 is_list n [] [] e = record { values = refl; counts = sym (sum-none n) }
 is_list n [] (x ∷ xs) e = absurd cc
 is_list n (v ∷ vs) [] e = absurd cc
@@ -90,17 +99,20 @@ is_list n (v ∷ vs) (x ∷ xs) e =
 
 -- the words of lines, the first line first
 line_words : (level : ℕ) (x : Trans) (xs : List Trans)
-    → words_in (flat_map (junction_trans_line level) (x ∷ xs)) ≡ words_in (trans_pieces x) ++ words_in (flat_map (junction_trans_line level) xs)
+    → words_in (flat_map (junction_trans_line level) (x ∷ xs)) ≡ words_in (trans_pieces x) ++ words_in
+    (flat_map (junction_trans_line level) xs)
 unfolding junction_trans_line
 line_words level x xs = simp words_apart
 
 -- the lines of transitions spell them after m things, as they do after n
 abbrev ListSpells : ℕ → Counts → List Trans → Counts → Type 0
 ListSpells level n xs m =
-    WordsSpell (junction_list usual m) (λ list. map (counted unplaced_trans) list) (words_in (flat_map (junction_trans_line level) xs))
+    WordsSpell (junction_list usual m) (λ list. map (counted unplaced_trans) list)
+    (words_in (flat_map (junction_trans_line level) xs))
     (counted_list n xs)
 
-list_spelled : (c : ExpressionClaims) (level : ℕ) (n : Counts) (xs : List Trans) → AllByRecursion IsTrans xs → IsWithin (n ⊕ sizes size_of_trans xs)
+list_spelled : (c : ExpressionClaims) (level : ℕ) (n : Counts) (xs : List Trans) → AllByRecursion IsTrans xs
+    → IsWithin (n ⊕ sizes size_of_trans xs)
     → ListSpells level n xs n
 unfolding junction_list
 list_spelled c level n [] each within = spell_end (λ z. trans_heads) (junction_trans usual) (λ z t. t.counts) n
@@ -110,7 +122,8 @@ list_spelled c level n (x ∷ xs) each within =
     (junction_trans_spelled c n x each.0 (omega arith))
     (λ v e.
     subst (ListSpells level (n ⊕ size_of_trans x) xs)
-    (sym (ap (λ (z : Counted Trans). z.counts) e)) (list_spelled c level (n ⊕ size_of_trans x) xs each.1 (omega arith))))
+    (sym (ap (λ (z : Counted Trans). z.counts) e))
+    (list_spelled c level (n ⊕ size_of_trans x) xs each.1 (omega arith))))
 
 -- the words of a junction one by one
 junction_words : (level : ℕ) (x : Junction) → words_in (junction_pieces level x)
@@ -119,7 +132,8 @@ junction_words : (level : ℕ) (x : Junction) → words_in (junction_pieces leve
 unfolding junction_pieces comp_pieces
 junction_words level x = simp (words_apart, head_words, end_words)
 
-pub junction_spelled : (c : ExpressionClaims) (level : ℕ) (n : Counts) (x : Junction) → IsJunction x → IsWithin (n ⊕ size_of_junction x)
+pub junction_spelled : (c : ExpressionClaims) (level : ℕ) (n : Counts) (x : Junction) → IsJunction x
+    → IsWithin (n ⊕ size_of_junction x)
     → WordsSpell (junction usual n) (counted unplaced_junction) (words_in (junction_pieces level x))
     (behind (unplaced_junction x) (n ⊕ size_of_junction x))
 unfolding junction word_pieces
@@ -131,5 +145,6 @@ junction_spelled c level n x has within =
     (spell_then (list_spelled c (level + 1) (after_junction n) x.list has.list (omega arith)) (λ list r.
     let same = is_list (after_junction n) list x.list r in
     spell_word kinds.CloseBrace
-    (spell_give (record { value = record { name = name; list = values list }; counts = counts_behind (after_junction n) list })
+    (spell_give
+    (record { value = record { name = name; list = values list }; counts = counts_behind (after_junction n) list })
     (rw (l, same.values, same.counts, ← one_junction n (sizes size_of_trans x.list)) refl)))))))

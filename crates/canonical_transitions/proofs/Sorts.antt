@@ -1,4 +1,7 @@
 -- Types of data: what spelled ones have, and their canonical words spell them.
+-- `x_has` says what is so of each x that tokens cut from a text spell, and `x_spelled` that the canonical words of an
+-- x of
+-- which that is so spell it.
 use Rattle.std.proofs.Common.{◌≡◌, ℕ, true, List, [], ◌∷◌, ◌++◌, Option, Some, None, codes, refl, ap, sym, subst}
 use Rattle.token_grammar.specs.declared.token.Kind.{Kind}
 use Rattle.token_grammar.specs.declared.token.Kind.TheVariants as kinds
@@ -7,14 +10,16 @@ use Rattle.token_grammar.specs.Grammar.{is, token, first_refused}
 use Rattle.fixed_point.specs.declared.fitting.Mode.{Mode}
 use Rattle.fixed_point.specs.declared.fitting.Mode.TheVariants as modes
 use Rattle.chart_tree.specs.Trees.{ScaleParts, Sort, FlagSort, NumberSort}
-use Rattle.chart_grammar.specs.Types.{TypeWord, FlagWord, ScaleWord, type_word, no_type, type_refused, named_type, type_name, mode_heads, mode_word, mode, maybe_mode, mode_of_type, sort}
+use Rattle.chart_grammar.specs.Types.{TypeWord, FlagWord, ScaleWord, type_word, no_type, type_refused, named_type}
+use Rattle.chart_grammar.specs.Types.{type_name, mode_heads, mode_word, mode, maybe_mode, mode_of_type, sort}
 use Rattle.chart_print.specs.Pieces.{key, space}
 use Rattle.chart_print.specs.Words.{word_pieces, scale_pieces, mode_pieces, sort_pieces}
 use Rattle.canonical_claims.specs.Words.{Word, words_in, WordsSpell}
 use Rattle.canonical_claims.specs.Terms.{IsSort}
 use Rattle.canonical_claims.specs.Claims.{scale_bytes, NumberClaims}
 use Rattle.canonical_claims.proofs.Words.{one, keyword, words_apart}
-use Rattle.canonical_claims.proofs.Spelled.{spell_token, spell_then, spell_give, spell_left, spell_right, spell_tested, spell_as, spell_made}
+use Rattle.canonical_claims.proofs.Spelled.{spell_token, spell_then, spell_give, spell_left, spell_right}
+use Rattle.canonical_claims.proofs.Spelled.{spell_tested, spell_as, spell_made}
 use Rattle.canonical_claims.proofs.Keywords.{spell_kind}
 
 -- ---- what spelled types have
@@ -52,10 +57,12 @@ sort_has c u x s = by_word s.x (type_name_has s.p s.x s.first) s.second
 
 -- ---- types spelled
 
-type_name_spelled : (text : List ℕ) (w : TypeWord) → type_word text ≡ Some w → WordsSpell type_name (λ (v : TypeWord). v) (one kinds.Name text) w
+type_name_spelled : (text : List ℕ) (w : TypeWord) → type_word text ≡ Some w
+    → WordsSpell type_name (λ (v : TypeWord). v) (one kinds.Name text) w
 unfolding type_name
 type_name_spelled text w told =
-    spell_made (spell_tested (is kinds.Name) type_refused kinds.Name text (λ t _ same. rw (same, told) refl) (spell_token kinds.Name text)) (λ t e.
+    spell_made (spell_tested (is kinds.Name) type_refused kinds.Name text (λ t _ same. rw (same, told) refl)
+    (spell_token kinds.Name text)) (λ t e.
     let same : t.text ≡ text = ap (λ (z : Word). z.text) e in
     rw (same, told) refl)
 
@@ -78,7 +85,8 @@ sort_words : (scale : ScaleParts) (m : Mode)
 unfolding sort_pieces scale_pieces
 sort_words scale m = simp words_apart
 
-pub sort_spelled : (c : NumberClaims) (x : Sort) → IsSort x → WordsSpell sort (λ (v : Sort). v) (words_in (sort_pieces x)) x
+pub sort_spelled : (c : NumberClaims) (x : Sort) → IsSort x
+    → WordsSpell sort (λ (v : Sort). v) (words_in (sort_pieces x)) x
 unfolding sort sort_pieces word_pieces
 sort_spelled c FlagSort has =
     spell_then (type_name_spelled (codes "bool") FlagWord c.flag_is_told) (λ w e.

@@ -1,4 +1,7 @@
 -- Statements and blocks of statements: what spelled ones have, and their canonical words spell them.
+-- `x_has` says what is so of each x that tokens cut from a text spell, and `x_spelled` that the canonical words of an
+-- x of
+-- which that is so spell it.
 use Rattle.std.proofs.Common.{◌≡◌, ◌+◌, ◌≤◌, List, [], ◌∷◌, ◌++◌, length, Option, Some, None, inl, inr, refl, ap, arith}
 use Rattle.std.specs.Option.{option_map}
 use Rattle.std.specs.List.{AllByRecursion, flat_map}
@@ -6,9 +9,11 @@ use Rattle.token_grammar.specs.declared.token.Kind.TheVariants as kinds
 use Rattle.token_grammar.specs.Token.{Lexeme}
 use Rattle.token_grammar.specs.Grammar.{is, many_from}
 use Rattle.chart_tree.specs.declared.name.NameText.{NameText}
+use Rattle.chart_tree.specs.declared.limits.TheConstants.{STATEMENT_LIMIT, ITEM_LIMIT}
 use Rattle.chart_tree.specs.Trees.{Path, Expr, Stmt, Assign, Send, Emit}
 use Rattle.chart_grammar.specs.Limits.{Counts, usual}
-use Rattle.chart_grammar.specs.Transitions.{assign, target, maybe_target, send, emit, stmt_heads, stmt, Before, after_stmt, next_stmt, stmts, block}
+use Rattle.chart_grammar.specs.Transitions.{assign, target, maybe_target, send, emit, stmt_heads, stmt, Before}
+use Rattle.chart_grammar.specs.Transitions.{after_stmt, next_stmt, stmts, block}
 use Rattle.chart_grammar.proofs.TransitionLaws.{fine_stmt}
 use Rattle.chart_print.specs.Pieces.{key, space}
 use Rattle.chart_print.specs.Words.{word_pieces}
@@ -21,7 +26,8 @@ use Rattle.canonical_claims.specs.Claims.{AreCut, ExpressionClaims}
 use Rattle.canonical_claims.proofs.Words.{words_in-append, keyword, words_apart}
 use Rattle.canonical_claims.proofs.Cut.{cut_first, cut_second, cut_item, cut_rest}
 use Rattle.canonical_claims.proofs.Room.{had_statement_room, statement_room}
-use Rattle.canonical_claims.proofs.Spelled.{spell_then, spell_give, spell_left, spell_right, spell_allowed, spell_end, spell_next, spell_as, spell_none, spell_some}
+use Rattle.canonical_claims.proofs.Spelled.{spell_then, spell_give, spell_left, spell_right, spell_allowed, spell_end}
+use Rattle.canonical_claims.proofs.Spelled.{spell_next, spell_as, spell_none, spell_some}
 use Rattle.canonical_claims.proofs.Keywords.{spell_word}
 use Rattle.canonical_transitions.proofs.Allowed.{optional_has, was_allowed}
 
@@ -47,7 +53,8 @@ send_has c u x cut s =
     let to = named.second in
     let behind = cut_second s cut in
     let name = c.name_has named.p named.x (cut_first named behind) named.first in
-    let path = optional_has IsPath (is kinds.To) target to.p to.x (cut_first to (cut_second named behind)) (target_has c) to.first in
+    let path = optional_has IsPath (is kinds.To) target to.p to.x (cut_first to (cut_second named behind))
+    (target_has c) to.first in
     rw to.second.second.1 (name, path)
 
 emit_has : (c : ExpressionClaims) (u : List Lexeme) (x : Stmt) → AreCut u → emit.spells u x → IsStmt x
@@ -65,22 +72,27 @@ stmt_has c u x cut (inr (inr s)) = assign_has c u x cut s
 
 -- ---- what spelled blocks have
 
-stmts_have : (c : ExpressionClaims) (b : Before) (u : List Lexeme) (x : List Stmt) → AreCut u → (stmts usual b).spells u x → AllByRecursion IsStmt x
+stmts_have : (c : ExpressionClaims) (b : Before) (u : List Lexeme) (x : List Stmt) → AreCut u
+    → (stmts usual b).spells u x → AllByRecursion IsStmt x
 unfolding stmts many_from next_stmt
 stmts_have c b u [] cut s = record {}
-stmts_have c b u (x ∷ xs) cut s = (stmt_has c s.p x (cut_item s cut) s.first.1, stmts_have c (after_stmt b) s.q xs (cut_rest s cut) s.second)
+stmts_have c b u (x ∷ xs) cut s =
+    (stmt_has c s.p x (cut_item s cut) s.first.1, stmts_have c (after_stmt b) s.q xs (cut_rest s cut) s.second)
 
 -- each was allowed where there was room for one more
 stmts_room : (b : Before) (u : List Lexeme) (x : List Stmt) → (stmts usual b).spells u x
-    → (b.statements ≤ 256 → b.statements + length x ≤ 256) × (b.counts.items ≤ 20000 → b.counts.items + length x ≤ 20000)
+    → (b.statements ≤ STATEMENT_LIMIT → b.statements + length x ≤ STATEMENT_LIMIT)
+    × (b.counts.items ≤ ITEM_LIMIT → b.counts.items + length x ≤ ITEM_LIMIT)
 unfolding stmts many_from next_stmt
 stmts_room b u [] s = omega arith
 stmts_room b u (x ∷ xs) s =
-    let here = had_statement_room b.statements b.counts (was_allowed stmt_heads _ s.p ((fine_stmt usual).good.begins s.p x s.first.1) s.first.0) in
+    let here = had_statement_room b.statements b.counts
+    (was_allowed stmt_heads _ s.p ((fine_stmt usual).good.begins s.p x s.first.1) s.first.0) in
     let others = stmts_room (after_stmt b) s.q xs s.second in
     (λ few. omega arith, λ few. omega arith)
 
-pub block_has : (c : ExpressionClaims) (n : Counts) (u : List Lexeme) (x : List Stmt) → AreCut u → (block usual n).spells u x
+pub block_has : (c : ExpressionClaims) (n : Counts) (u : List Lexeme) (x : List Stmt) → AreCut u
+    → (block usual n).spells u x
     → IsBlock x × (IsWithin n → IsWithin (n ⊕ size_of_block x))
 unfolding block
 block_has c n u x cut s =
@@ -120,14 +132,16 @@ send_spelled c x to has =
     spell_then (target_spelled c to has) (λ w r.
     spell_word kinds.Semicolon (spell_give (Send v w) (rw (l, r) refl))))))
 
-emit_spelled : (c : ExpressionClaims) (x : NameText) → WordsSpell emit unplaced_stmt (words_in (stmt_pieces (Emit x))) (unplaced_stmt (Emit x))
+emit_spelled : (c : ExpressionClaims) (x : NameText)
+    → WordsSpell emit unplaced_stmt (words_in (stmt_pieces (Emit x))) (unplaced_stmt (Emit x))
 unfolding emit stmt_pieces key space word_pieces
 emit_spelled c x =
     spell_word kinds.Emit
     (spell_then (c.name_spelled x) (λ v l.
     spell_word kinds.Semicolon (spell_give (Emit v) (ap Emit l))))
 
-stmt_spelled : (c : ExpressionClaims) (x : Stmt) → IsStmt x → WordsSpell (stmt usual) unplaced_stmt (words_in (stmt_pieces x)) (unplaced_stmt x)
+stmt_spelled : (c : ExpressionClaims) (x : Stmt) → IsStmt x
+    → WordsSpell (stmt usual) unplaced_stmt (words_in (stmt_pieces x)) (unplaced_stmt x)
 unfolding stmt
 stmt_spelled c (Assign x e) has = spell_right (is kinds.Send) (spell_right (is kinds.Emit) (assign_spelled c x e has.1))
 stmt_spelled c (Send x to) has = spell_left (is kinds.Send) (send_spelled c x to has.1)
@@ -137,19 +151,21 @@ stmt_spelled c (Emit x) has = spell_right (is kinds.Send) (spell_left (is kinds.
 
 -- statements, where there is room for them after those before
 stmts_spelled : (c : ExpressionClaims) (b : Before) (x : List Stmt) → AllByRecursion IsStmt x
-    → b.statements + length x ≤ 256 → b.counts.items + length x ≤ 20000
+    → b.statements + length x ≤ STATEMENT_LIMIT → b.counts.items + length x ≤ ITEM_LIMIT
     → WordsSpell (stmts usual b) unplaced_block (words_in (flat_map block_stmt_pieces x)) (unplaced_block x)
 unfolding stmts next_stmt block_stmt_pieces space
 stmts_spelled c b [] each few room = spell_end (λ z. stmt_heads) (next_stmt usual) (λ z s. after_stmt z) b
 stmts_spelled c b (x ∷ xs) each few room =
     spell_as (words_in-append (stmt_pieces x) (flat_map block_stmt_pieces xs))
     (spell_next (λ z. stmt_heads) (next_stmt usual) (λ z s. after_stmt z) b
-    (spell_allowed stmt_heads (statement_room b.statements b.counts (omega arith) (omega arith)) (stmt_spelled c x each.0))
+    (spell_allowed stmt_heads (statement_room b.statements b.counts (omega arith) (omega arith))
+    (stmt_spelled c x each.0))
     (λ v l. stmts_spelled c (after_stmt b) xs each.1 (omega arith) (omega arith)))
 
 -- the words of a block: a brace, statements, a brace
 block_words : (x : List Stmt)
-    → words_in (block_pieces x) ≡ keyword kinds.OpenBrace ∷ (words_in (flat_map block_stmt_pieces x) ++ keyword kinds.CloseBrace ∷ [])
+    → words_in (block_pieces x) ≡ keyword kinds.OpenBrace ∷
+    (words_in (flat_map block_stmt_pieces x) ++ keyword kinds.CloseBrace ∷ [])
 unfolding block_pieces
 block_words x = simp words_apart
 

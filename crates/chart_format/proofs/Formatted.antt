@@ -21,7 +21,7 @@ use Rattle.canonical_charts.proofs.Claims.{chart_claims}
 use Rattle.canonical_tokens.proofs.CutTokens.{tokens_are_cut}
 use Rattle.canonical_tokens.proofs.ChartPieces.{words_are_cut}
 use Rattle.canonical_tokens.proofs.NoComments.{none_left_out}
-use Rattle.chart_format.specs.Text.{SpellsAgain, IsFormatted}
+use Rattle.chart_format.specs.Text.{SpellsAgain, IsKept, IsFormatted}
 
 -- what is cut from a text is still that when some of it is left out
 some_cut : (keeps : Lexeme → Bool) (u : List Lexeme) → AreCut u → AreCut (filter keeps u)
@@ -46,9 +46,11 @@ one_chart u c d a b =
 
 -- ---- what is claimed of parts, put together
 
+-- what is claimed of transitions
 transitions : TransitionClaims
 transitions = transition_claims number_claims (expression_claims number_claims)
 
+-- what is claimed of charts
 charts : ChartClaims
 charts = chart_claims (expression_claims number_claims) transitions
 
@@ -57,28 +59,37 @@ charts = chart_claims (expression_claims number_claims) transitions
 -- a chart that a text spells has what a spelled chart has
 spelled_has : (text : List ℕ) (c : Chart) → Spells text c → IsChart c
 unfolding tokens_of
-spelled_has text c s = charts.chart_has _ c (some_cut (λ t. not (kind_eq t.kind kinds.Comment)) _ (tokens_are_cut text)) s.spelled
+spelled_has text c s =
+    charts.chart_has _ c (some_cut (λ t. not (kind_eq t.kind kinds.Comment)) _ (tokens_are_cut text)) s.spelled
 
+-- the canonical text of a chart that has what spelled ones have spells it again
 spells_again : (c : Chart) → IsChart c → SpellsAgain (canonical c) c
 unfolding tokens_of
 spells_again c is =
     let cut = words_are_cut number_claims c is in
-    let all : tokens_of (canonical c) ≡ (cut_of (canonical c)).tokens = none_left_out number_claims c is (cut_of (canonical c)).tokens cut.words in
+    let all : tokens_of (canonical c) ≡ (cut_of (canonical c)).tokens =
+    none_left_out number_claims c is (cut_of (canonical c)).tokens cut.words in
     let found = charts.chart_spelled c is (cut_of (canonical c)).tokens cut.words in
     record { chart = found.value; whole = cut.whole; spelled = rw all found.spelled; same = found.looks }
 
--- so what is written of a text is right
-canonical_is_formatted : (text : List ℕ) (c : Chart) → Spells text c → IsFormatted text (canonical c)
-canonical_is_formatted text c s =
+-- so the canonical text of a chart that a text spells keeps it
+pub canonical_keeps : (text : List ℕ) (c : Chart) → Spells text c → IsKept (canonical c) c
+canonical_keeps text c s =
     let found = spells_again c (spelled_has text c s) in
     record {
-      chart = c;
-      spelled = s;
-      written_is = refl;
       again = found;
       is_read = λ short. record { short = short; whole = found.whole; spelled = found.spelled };
-      stays = λ d spells. ap canonical (one_chart _ d found.chart spells.spelled found.spelled) ∙ canonical-apart found.chart c found.same;
+      stays = λ d spells.
+          ap canonical (one_chart _ d found.chart spells.spelled found.spelled)
+          ∙ canonical-apart found.chart c found.same;
     }
 
-pub is_formatted : (text written : List ℕ) (c : Chart) → Spells text c → written ≡ canonical c → IsFormatted text written
-is_formatted text written c s is = subst (IsFormatted text) (sym is) (canonical_is_formatted text c s)
+-- what is written of a text is right
+pub is_formatted : (text written : List ℕ) (c : Chart) → Spells text c → written ≡ canonical c
+    → IsFormatted text written
+is_formatted text written c s is = record {
+  chart = c;
+  spelled = s;
+  written_is = is;
+  kept = subst (λ w. IsKept w c) (sym is) (canonical_keeps text c s);
+}

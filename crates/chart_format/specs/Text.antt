@@ -2,6 +2,7 @@
 use Rattle.std.specs.Prelude.{◌≡◌, ℕ, ◌≤◌, List, length}
 use Rattle.chart_lexer.specs.declared.front.Stop.TheVariants as stops
 use Rattle.chart_lexer.specs.Lex.{cut_of}
+use Rattle.chart_tree.specs.declared.limits.TheConstants.{CHART_TEXT_LIMIT}
 use Rattle.chart_tree.specs.Trees.{Chart}
 use Rattle.chart_grammar.specs.Limits.{usual}
 use Rattle.chart_grammar.specs.States as grammar
@@ -16,12 +17,16 @@ pub record SpellsAgain (text : List ℕ) (c : Chart) : Type 0 where
   pub spelled : (grammar.chart usual).spells (tokens_of text) chart
   pub same : AreSameApartFromPlaces chart c
 
--- what is written of a text: the canonical text of the chart that it spells, which spells that
--- chart again; where it isn't too long for a chart text, it is one, and is written as it is
+-- what a canonical text of a chart keeps: it spells the chart again; where it isn't too long for a
+-- chart text it is one, and each chart that it spells has it as its canonical text
+pub record IsKept (written : List ℕ) (c : Chart) : Type 0 where
+  pub again : SpellsAgain written c
+  pub is_read : length written ≤ CHART_TEXT_LIMIT → Spells written again.chart
+  pub stays : (d : Chart) → Spells written d → canonical d ≡ written
+
+-- what is written of a text: the canonical text of the chart that it spells, which keeps it
 pub record IsFormatted (text written : List ℕ) : Type 0 where
   pub chart : Chart
   pub spelled : Spells text chart
   pub written_is : written ≡ canonical chart
-  pub again : SpellsAgain written chart
-  pub is_read : length written ≤ 1048576 → Spells written again.chart
-  pub stays : (d : Chart) → Spells written d → canonical d ≡ written
+  pub kept : IsKept written chart

@@ -9,15 +9,18 @@ ghost use Rattle.chart_tree.specs.Trees.{Chart};
 ghost use Rattle.chart_reader.specs.Text.{Spells, IsRefusal};
 ghost use Rattle.chart_format.specs.Text.{IsFormatted};
 
+mod laws;
+
 use chart_print::print_chart;
 use chart_reader::read_chart;
 use chart_tree::FormFault;
+pub use laws::a_canonical_text_spells_its_chart_again;
 use std::alloc::Global;
 
 /// The canonical text of the chart that the text spells.
 ///
 /// A text that is no chart text is refused as `read_chart` says. A canonical text can be longer
-/// than 1,048,576 bytes, and is no chart text then.
+/// than `CHART_TEXT_LIMIT`, and is no chart text then.
 pub fn format_text(alloc: Global, text: &[u8]) -> Result<String, FormFault>
     ensures formatted { IfOk result (λ s. IsFormatted text.now (string_bytes s)) }
     // Each chart text is formatted, unless memory runs out.

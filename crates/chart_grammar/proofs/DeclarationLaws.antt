@@ -1,4 +1,8 @@
 -- Declarations of events and data read as they spell.
+-- `fine_x` says of the production x that it is LL(1): with its FIRST set, whether it is nullable, and the kinds that
+-- may
+-- go on with what is read, which its FOLLOW must not have. `good_x` says so of one of which limits may leave no
+-- spelling.
 use Rattle.std.proofs.Common.{true, false, refl, ◌||◌}
 use Rattle.token_grammar.specs.declared.token.Kind.TheVariants as kinds
 use Rattle.token_grammar.specs.declared.token.Span.{Span}
@@ -6,12 +10,15 @@ use Rattle.token_grammar.specs.Grammar.{is}
 use Rattle.token_grammar.proofs.Good.{Set, nothing, Good}
 use Rattle.token_grammar.proofs.Leaves.{good_token, good_one_of}
 use Rattle.token_grammar.proofs.Allowed.{good_allowed}
-use Rattle.token_grammar.proofs.Fine.{Fine, fine_token, fine_one_of, fine_give, fine_then, good_then, fine_either, good_as, fine_as}
+use Rattle.token_grammar.proofs.Fine.{Fine, fine_token, fine_one_of, fine_give, fine_then, good_then, fine_either}
+use Rattle.token_grammar.proofs.Fine.{good_as, fine_as}
 use Rattle.chart_tree.specs.declared.sort.InitText.TheVariants as inits
 use Rattle.chart_tree.specs.Trees.{Sort}
 use Rattle.chart_grammar.specs.Limits.{Limits, Counts, event_refused, variable_refused}
 use Rattle.chart_grammar.specs.Words.{lit_of}
-use Rattle.chart_grammar.specs.Declarations.{kind_heads, event_word, event, plain_init, positive_init, negative_init, flag_heads, flag_init, init, given_init, missing_init, maybe_init, var_word, variable}
+use Rattle.chart_grammar.specs.Declarations.{kind_heads, event_word, event, plain_init, positive_init, negative_init}
+use Rattle.chart_grammar.specs.Declarations.{flag_heads, flag_init, init, given_init, missing_init, maybe_init}
+use Rattle.chart_grammar.specs.Declarations.{var_word, variable}
 use Rattle.chart_grammar.proofs.WordLaws.{fine_name, fine_number}
 use Rattle.chart_grammar.proofs.TypeLaws.{fine_sort}
 
@@ -30,7 +37,8 @@ good_event l n =
 pub fine_positive_init : (l : Limits) → Fine (positive_init l) (is kinds.Number) false nothing
 unfolding positive_init
 fine_positive_init l =
-    fine_as (is kinds.Number) nothing (fine_then (fine_number l) (λ t. fine_give (plain_init false (lit_of t.text) t.at)) refl) refl refl
+    fine_as (is kinds.Number) nothing
+    (fine_then (fine_number l) (λ t. fine_give (plain_init false (lit_of t.text) t.at)) refl) refl refl
 
 pub fine_negative_init : (l : Limits) → Fine (negative_init l) (is kinds.Minus) false nothing
 unfolding negative_init
@@ -44,8 +52,10 @@ pub fine_flag_init : Fine flag_init flag_heads false nothing
 unfolding flag_init
 fine_flag_init =
     fine_as flag_heads nothing
-    (fine_then (fine_one_of flag_heads kinds.True refl) (λ t. fine_give (inits.Flag (is kinds.True t.kind) t.at)) refl) refl refl
+    (fine_then (fine_one_of flag_heads kinds.True refl)
+    (λ t. fine_give (inits.Flag (is kinds.True t.kind) t.at)) refl) refl refl
 
+-- the FIRST set of a first value
 abbrev pub init_heads : Set
 init_heads k = is kinds.Minus k || (is kinds.Number k || flag_heads k)
 
@@ -58,9 +68,11 @@ fine_init l =
 
 pub fine_given_init : (l : Limits) → Fine (given_init l) (is kinds.Assign) false nothing
 unfolding given_init
-fine_given_init l = fine_as (is kinds.Assign) nothing (fine_then (fine_token kinds.Assign) (λ _. fine_init l) refl) refl refl
+fine_given_init l =
+    fine_as (is kinds.Assign) nothing (fine_then (fine_token kinds.Assign) (λ _. fine_init l) refl) refl refl
 
-pub fine_maybe_init : (l : Limits) (sort : Sort) (at : Span) → Fine (maybe_init l sort at) (is kinds.Assign) true (is kinds.Assign)
+pub fine_maybe_init : (l : Limits) (sort : Sort) (at : Span)
+    → Fine (maybe_init l sort at) (is kinds.Assign) true (is kinds.Assign)
 unfolding maybe_init
 fine_maybe_init l sort at =
     fine_as (is kinds.Assign) (is kinds.Assign)

@@ -1,4 +1,8 @@
 -- Junctions and the items of states read as they spell.
+-- `fine_x` says of the production x that it is LL(1): with its FIRST set, whether it is nullable, and the kinds that
+-- may
+-- go on with what is read, which its FOLLOW must not have. `good_x` says so of one of which limits may leave no
+-- spelling.
 use Rattle.std.proofs.Common.{◌≡◌, Bool, true, false, List, refl, ◌||◌}
 use Rattle.token_grammar.specs.declared.token.Kind.{Kind}
 use Rattle.token_grammar.specs.declared.token.Kind.TheVariants as kinds
@@ -7,12 +11,18 @@ use Rattle.token_grammar.proofs.Good.{Set, nothing, also, Good}
 use Rattle.token_grammar.proofs.Sets.{subset}
 use Rattle.token_grammar.proofs.Leaves.{good_token}
 use Rattle.token_grammar.proofs.Allowed.{good_allowed}
-use Rattle.token_grammar.proofs.Fine.{Fine, fine_token, fine_give, fine_then, good_then, good_either, fine_many_from, good_as, fine_as}
+use Rattle.token_grammar.proofs.Fine.{Fine, fine_token, fine_give, fine_then, good_then, good_either, fine_many_from}
+use Rattle.token_grammar.proofs.Fine.{good_as, fine_as}
 use Rattle.chart_tree.specs.Trees.{Stmt, Trans}
-use Rattle.chart_grammar.specs.Limits.{Limits, Counts, Counted, junction_refused, after_junction, after_event, after_variable}
+use Rattle.chart_grammar.specs.Limits.{Limits, Counts, Counted, junction_refused, after_junction, after_event}
+use Rattle.chart_grammar.specs.Limits.{after_variable}
 use Rattle.chart_grammar.specs.Transitions.{block, after_stmts, trans_heads}
 use Rattle.chart_grammar.specs.Declarations.{kind_heads}
-use Rattle.chart_grammar.specs.States.{values, counts_behind, junction_list, junction, StateGrammar, Item, Entry, During, Exit, Outer, Inner, Default, JunctionItem, StateItem, EventItem, VarItem, Seen, after_item, counted_as, action_item, trans_item, junction_item, event_item, variable_item, item_heads, chart_heads, item, chart_item, next_item, next_chart_item, items, chart_items}
+use Rattle.chart_grammar.specs.States.{values, counts_behind, junction_list, junction, StateGrammar, Item, Entry}
+use Rattle.chart_grammar.specs.States.{During, Exit, Outer, Inner, Default, JunctionItem, StateItem, EventItem}
+use Rattle.chart_grammar.specs.States.{VarItem, Seen, after_item, counted_as, action_item, trans_item, junction_item}
+use Rattle.chart_grammar.specs.States.{event_item, variable_item, item_heads, chart_heads, item, chart_item}
+use Rattle.chart_grammar.specs.States.{next_item, next_chart_item, items, chart_items}
 use Rattle.chart_grammar.proofs.SetLaws.{good_clean, same_set, good_beginning}
 use Rattle.chart_grammar.proofs.WordLaws.{fine_name}
 use Rattle.chart_grammar.proofs.TransitionLaws.{fine_block, good_junction_trans, good_keyword_trans}
@@ -24,7 +34,8 @@ pub fine_junction_list : (l : Limits) (n : Counts) → Fine (junction_list l n) 
 unfolding junction_list
 fine_junction_list l n =
     fine_as trans_heads trans_heads
-    (fine_many_from (λ z. trans_heads) (λ z t. t.counts) trans_heads n (good_junction_trans l) (λ z. refl) (λ z. refl) refl) refl refl
+    (fine_many_from (λ z. trans_heads) (λ z t. t.counts) trans_heads n (good_junction_trans l) (λ z. refl)
+    (λ z. refl) refl) refl refl
 
 pub good_junction : (l : Limits) (n : Counts) → Good (junction l n) (is kinds.Junction) false nothing
 unfolding junction
@@ -42,50 +53,62 @@ good_junction l n =
 
 -- ---- items
 
--- an item of so many statements
+-- the item of an action, with the counts after its statements
 abbrev pub acted : (List Stmt → Item) → Counts → List Stmt → Counted Item
 acted kind n found = record { value = kind found; counts = after_stmts n found }
 
-pub fine_action_item : (l : Limits) (keyword : Kind) (kind : List Stmt → Item) (n : Counts) → Fine (action_item l keyword kind n) (is keyword) false nothing
+pub fine_action_item : (l : Limits) (keyword : Kind) (kind : List Stmt → Item) (n : Counts)
+    → Fine (action_item l keyword kind n) (is keyword) false nothing
 unfolding action_item
 fine_action_item l keyword kind n = record { good = good_clean (is kinds.OpenBrace) whole.good; sample = whole.sample }
   where
     rest : Fine (block l n >>= λ found. give (acted kind n found)) (is kinds.OpenBrace) false nothing
-    rest = fine_as (is kinds.OpenBrace) nothing (fine_then (fine_block l n) (λ found. fine_give (acted kind n found)) refl) refl refl
+    rest = fine_as (is kinds.OpenBrace) nothing
+        (fine_then (fine_block l n) (λ found. fine_give (acted kind n found)) refl) refl refl
 
     whole : Fine (action_item l keyword kind n) (also (is keyword) false (is kinds.OpenBrace)) false nothing
     whole = fine_then (fine_token keyword) (λ _. rest) refl
 
-pub good_trans_item : (l : Limits) (keyword : Kind) (kind : Trans → Item) (n : Counts) → Good (trans_item l keyword kind n) (is keyword) false nothing
+pub good_trans_item : (l : Limits) (keyword : Kind) (kind : Trans → Item) (n : Counts)
+    → Good (trans_item l keyword kind n) (is keyword) false nothing
 unfolding trans_item
 good_trans_item l keyword kind n =
-    good_clean nothing (good_then (good_keyword_trans l (is keyword) n) (λ found. fine_give (counted_as kind found)) refl)
+    good_clean nothing
+    (good_then (good_keyword_trans l (is keyword) n) (λ found. fine_give (counted_as kind found)) refl)
 
 pub good_junction_item : (l : Limits) (n : Counts) → Good (junction_item l n) (is kinds.Junction) false nothing
 unfolding junction_item
-good_junction_item l n = good_clean nothing (good_then (good_junction l n) (λ found. fine_give (counted_as JunctionItem found)) refl)
+good_junction_item l n =
+    good_clean nothing (good_then (good_junction l n) (λ found. fine_give (counted_as JunctionItem found)) refl)
 
 pub good_event_item : (l : Limits) (n : Counts) → Good (event_item l n) (is kinds.Event) false nothing
 unfolding event_item
 good_event_item l n =
-    good_clean nothing (good_then (good_event l n) (λ found. fine_give (record { value = EventItem found; counts = after_event n })) refl)
+    good_clean nothing
+    (good_then (good_event l n)
+    (λ found. fine_give (record { value = EventItem found; counts = after_event n })) refl)
 
 pub good_variable_item : (l : Limits) (n : Counts) → Good (variable_item l n) kind_heads false nothing
 unfolding variable_item
 good_variable_item l n =
-    good_clean nothing (good_then (good_variable l n) (λ found. fine_give (record { value = VarItem found; counts = after_variable n })) refl)
+    good_clean nothing
+    (good_then (good_variable l n)
+    (λ found. fine_give (record { value = VarItem found; counts = after_variable n })) refl)
 
 -- ---- items over states that read as they spell
 
 -- what begins an item of a state, and of a chart
 abbrev pub item_kinds : Set
 item_kinds k =
-    is kinds.Entry k || (is kinds.During k || (is kinds.Exit k || (is kinds.Outer k || (is kinds.Inner k || (is kinds.Default k
+    is kinds.Entry k ||
+    (is kinds.During k || (is kinds.Exit k || (is kinds.Outer k || (is kinds.Inner k || (is kinds.Default k
     || (is kinds.Junction k || is kinds.State k))))))
 
+-- the FIRST set of an item of the chart
 abbrev pub chart_kinds : Set
 chart_kinds k =
-    is kinds.Entry k || (is kinds.During k || (is kinds.Inner k || (is kinds.Default k || (is kinds.Junction k || (is kinds.Event k
+    is kinds.Entry k ||
+    (is kinds.During k || (is kinds.Inner k || (is kinds.Default k || (is kinds.Junction k || (is kinds.Event k
     || (kind_heads k || is kinds.State k))))))
 
 -- each set of items that may come next is within those
@@ -100,6 +123,7 @@ seen_items false true false n = refl
 seen_items false false true n = refl
 seen_items false false false n = refl
 
+-- what may stand in the chart after what was seen is in the FIRST set of an item of the chart
 seen_chart : (entry during exit : Bool) (n : Counts)
     → subset (chart_heads (record { entry = entry; during = during; exit = exit; counts = n })) chart_kinds ≡ true
 seen_chart true true exit n = refl
@@ -108,7 +132,8 @@ seen_chart false true exit n = refl
 seen_chart false false exit n = refl
 
 module _ (l : Limits) {state : StateGrammar} (a : (n : Counts) → Good (state n) (is kinds.State) false nothing) where
-  good_state_item : (n : Counts) → Good (state n >>= λ found. give (counted_as StateItem found)) (is kinds.State) false nothing
+  good_state_item : (n : Counts)
+      → Good (state n >>= λ found. give (counted_as StateItem found)) (is kinds.State) false nothing
   good_state_item n = good_clean nothing (good_then (a n) (λ found. fine_give (counted_as StateItem found)) refl)
 
   pub good_item : (z : Seen) → Good (item l state z) item_kinds false nothing

@@ -1,4 +1,7 @@
 -- Expressions, where some limits don't count.
+-- `lifted_x` compares the production x under the usual limits with x under limits of which some don't count. `eased_x`
+-- says so too, and that x has a spelling. `starts_x` says that each token of a set begins x, and `expects_x` that no
+-- other does.
 use Rattle.std.proofs.Common.{◌≡◌, ℕ, zero, suc, ◌+◌, true, false, Some, refl}
 use Rattle.token_grammar.specs.declared.token.Kind.TheVariants as kinds
 use Rattle.token_grammar.specs.declared.fault.Fault.{Fault}
@@ -9,25 +12,33 @@ use Rattle.token_grammar.proofs.Good.{nothing}
 use Rattle.token_grammar.proofs.Leaves.{sample_token, sample_give}
 use Rattle.token_grammar.proofs.Join.{sample_then}
 use Rattle.token_grammar.proofs.Fine.{Fine}
-use Rattle.token_grammar.proofs.Lifted.{Lifted, Eased, eased_token, eased_one_of, eased_give, lifted_then, eased_then, lifted_either, eased_either}
+use Rattle.token_grammar.proofs.Lifted.{Lifted, Eased, eased_token, eased_one_of, eased_give, lifted_then, eased_then}
+use Rattle.token_grammar.proofs.Lifted.{lifted_either, eased_either}
 use Rattle.token_grammar.proofs.LiftedLimits.{lifted_allowed_kept, lifted_forbidden}
 use Rattle.token_grammar.proofs.LiftedRefused.{lifted_read, refused_read}
 use Rattle.token_grammar.proofs.Starts.{Starts, Expects, starts_then, starts_either, expects_then, expects_either}
 use Rattle.chart_tree.specs.Trees.{Lit, Flag, Name, Active, Unary}
 use Rattle.chart_grammar.specs.Limits.{Limits, usual, lifts_from}
 use Rattle.chart_grammar.specs.Words.{name_of, lit_of}
-use Rattle.chart_grammar.specs.Expressions.{Operands, product_heads, sum_heads, comparison_heads, sign_heads, nested_heads, flag_heads, un_word, literal, flag, datum, active, plain, product, sum, comparison, conjunction, disjunction, signed, parens, nested, too_nested, unary, operand, expr}
-use Rattle.chart_grammar.proofs.ExpressionLaws.{operand_heads, sum_more, comparison_more, conjunction_more, fine_plain_operand, fine_product, fine_sum, fine_comparison, fine_conjunction, fine_disjunction, fine_unary}
+use Rattle.chart_grammar.specs.Expressions.{Operands, product_heads, sum_heads, comparison_heads, sign_heads}
+use Rattle.chart_grammar.specs.Expressions.{nested_heads, flag_heads, un_word, literal, flag, datum, active, plain}
+use Rattle.chart_grammar.specs.Expressions.{product, sum, comparison, conjunction, disjunction, signed, parens}
+use Rattle.chart_grammar.specs.Expressions.{nested, too_nested, unary, operand, expr}
+use Rattle.chart_grammar.proofs.ExpressionLaws.{operand_heads, sum_more, comparison_more, conjunction_more}
+use Rattle.chart_grammar.proofs.ExpressionLaws.{fine_plain_operand, fine_product, fine_sum, fine_comparison}
+use Rattle.chart_grammar.proofs.ExpressionLaws.{fine_conjunction, fine_disjunction, fine_unary}
 use Rattle.chart_grammar.proofs.LimitLaws.{Comparison, expected, Deeper, bound_deeper}
 use Rattle.chart_grammar.proofs.LiftedWords.{eased_path, eased_number}
-use Rattle.chart_grammar.proofs.LiftedChains.{lifted_operator, starts_operator, expects_operator, Compared, eased_chain, eased_pair}
+use Rattle.chart_grammar.proofs.LiftedChains.{lifted_operator, starts_operator, expects_operator, Compared}
+use Rattle.chart_grammar.proofs.LiftedChains.{eased_chain, eased_pair}
 
 -- ---- operands without an operator
 
 module _ {k : ℕ} {l : Limits} (c : Comparison k l) where
   eased_literal : (n : ℕ) → Eased (lifts_from k) (literal usual n) (literal l n)
   unfolding literal
-  eased_literal n = eased_then (eased_number c) (λ t. eased_give (record { expr = Lit (lit_of t.text) t.at; operators = n }))
+  eased_literal n =
+      eased_then (eased_number c) (λ t. eased_give (record { expr = Lit (lit_of t.text) t.at; operators = n }))
 
   eased_flag : (n : ℕ) → Eased (lifts_from k) (flag n) (flag n)
   unfolding flag
@@ -37,7 +48,8 @@ module _ {k : ℕ} {l : Limits} (c : Comparison k l) where
 
   eased_datum : (n : ℕ) → Eased (lifts_from k) (datum n) (datum n)
   unfolding datum
-  eased_datum n = eased_then (eased_token (expected c) kinds.Name) (λ t. eased_give (record { expr = Name (name_of t); operators = n }))
+  eased_datum n = eased_then (eased_token (expected c) kinds.Name)
+      (λ t. eased_give (record { expr = Name (name_of t); operators = n }))
 
   eased_active : (n : ℕ) → Eased (lifts_from k) (active n) (active n)
   unfolding active
@@ -57,7 +69,8 @@ module _ {k : ℕ} {l : Limits} (c : Comparison k l) where
 
 -- ---- levels, and nesting
 
-module _ {k : ℕ} {l : Limits} {unary unary' : Operands} (c : Comparison k l) (a : Compared k operand_heads nothing unary unary') where
+module _ {k : ℕ} {l : Limits} {unary unary' : Operands} (c : Comparison k l)
+    (a : Compared k operand_heads nothing unary unary') where
   products : Compared k operand_heads product_heads (product usual unary) (product l unary')
   unfolding product
   products = record { fine = fine_product usual a.fine; fine' = fine_product l a.fine'; eased = eased_chain c product_heads a }
@@ -107,7 +120,8 @@ module _ {k : ℕ} {l : Limits} {unary unary' : Operands} (c : Comparison k l) (
 
 -- ---- what nesting begins with
 
-module _ {k : ℕ} {l : Limits} {unary : Operands} (c : Comparison k l) (lift : lifts_from k (faults.TooMany things.Operators) ≡ true)
+module _ {k : ℕ} {l : Limits} {unary : Operands} (c : Comparison k l)
+    (lift : lifts_from k (faults.TooMany things.Operators) ≡ true)
     (a : (n : ℕ) → Fine (unary n) operand_heads false nothing) where
   starts_signed : (n : ℕ) → Starts sign_heads (signed l unary n)
   unfolding signed
@@ -128,9 +142,10 @@ module _ {k : ℕ} {l : Limits} {unary : Operands} (c : Comparison k l) (lift : 
 expects_nested : (l : Limits) (unary : Operands) (n : ℕ) → Expects nested_heads (nested l unary n)
 unfolding nested signed parens
 expects_nested l unary n =
-    expects_either sign_heads (expects_then _ (expects_operator l sign_heads n)) (expects_then _ (expects_operator l (is kinds.OpenParen) n))
+    expects_either sign_heads (expects_then _ (expects_operator l sign_heads n))
+    (expects_then _ (expects_operator l (is kinds.OpenParen) n))
 
--- ---- nested so deep, and deeper where that is lifted
+-- ---- nested to a depth, and deeper where that is lifted
 
 module _ {k : ℕ} {l : Limits} (c : Comparison k l) where
   plain_operands : Compared k operand_heads nothing (plain usual) (plain l)
@@ -138,25 +153,31 @@ module _ {k : ℕ} {l : Limits} (c : Comparison k l) where
 
   -- one more operator or parenthesis is refused on both sides
   lifted_none : lifts_from k (faults.TooMany things.Operators) ≡ false → (n : ℕ)
-      → Lifted (lifts_from k) (allowed nested_heads too_nested (nested usual (plain usual) n)) (allowed nested_heads too_nested (nested l (plain l) n))
+      → Lifted (lifts_from k) (allowed nested_heads too_nested (nested usual (plain usual) n))
+      (allowed nested_heads too_nested (nested l (plain l) n))
   lifted_none kept n =
-      lifted_allowed_kept nested_heads too_nested too_nested (lifted_nested c plain_operands n) (λ t there. rw kept refl) (λ t f said. same f said)
+      lifted_allowed_kept nested_heads too_nested too_nested (lifted_nested c plain_operands n)
+      (λ t there. rw kept refl) (λ t f said. same f said)
     where
       same : (f : Fault) → Some (faults.TooMany things.Operators) ≡ Some f → lifts_from k f ≡ false
       same f said = let e : faults.TooMany things.Operators ≡ f = cc in rw (← e) kept
 
   -- and on the left alone
-  lifted_one : lifts_from k (faults.TooMany things.Operators) ≡ true → (unary : Operands) → ((n : ℕ) → Fine (unary n) operand_heads false nothing)
-      → (n : ℕ) → Lifted (lifts_from k) (allowed nested_heads too_nested (nested usual (plain usual) n)) (nested l unary n)
+  lifted_one : lifts_from k (faults.TooMany things.Operators) ≡ true → (unary : Operands)
+      → ((n : ℕ) → Fine (unary n) operand_heads false nothing)
+      → (n : ℕ) → Lifted (lifts_from k) (allowed nested_heads too_nested (nested usual (plain usual) n))
+      (nested l unary n)
   lifted_one lift unary a n =
       lifted_read (refused_read nested_heads (faults.TooMany things.Operators) (expects_nested usual (plain usual) n))
-      (lifted_forbidden (expected c) nested_heads (faults.TooMany things.Operators) lift (starts_nested c lift a n) (expects_nested l unary n))
+      (lifted_forbidden (expected c) nested_heads (faults.TooMany things.Operators) lift (starts_nested c lift a n)
+      (expects_nested l unary n))
 
   pub eased_unary : (d e : ℕ) → Deeper (lifts_from k (faults.TooMany things.Operators)) d e → (n : ℕ)
       → Eased (lifts_from k) (unary usual d n) (unary l e n)
   unfolding unary
   eased_unary zero zero kept n = eased_either nested_heads (lifted_none kept n) (eased_plain c n)
-  eased_unary zero (suc e) lift n = eased_either nested_heads (lifted_one lift (unary l e) (fine_unary l e) n) (eased_plain c n)
+  eased_unary zero (suc e) lift n =
+      eased_either nested_heads (lifted_one lift (unary l e) (fine_unary l e) n) (eased_plain c n)
   eased_unary (suc d) zero h n = absurd h
   eased_unary (suc d) (suc e) h n =
       let deeper : Compared k operand_heads nothing (unary usual d) (unary l e) = record {

@@ -1,4 +1,7 @@
 -- Junctions and the items of states, where some limits don't count.
+-- `lifted_x` compares the production x under the usual limits with x under limits of which some don't count. `eased_x`
+-- says so too, and that x has a spelling. `starts_x` says that each token of a set begins x, and `expects_x` that no
+-- other does.
 use Rattle.std.proofs.Common.{◌≡◌, ℕ, true, false, List, Some, inl, inr}
 use Rattle.std.proofs.lemmas.Bool.{cases_Bool}
 use Rattle.token_grammar.specs.declared.token.Kind.{Kind}
@@ -14,10 +17,15 @@ use Rattle.token_grammar.proofs.LiftedItems.{eased_many_from}
 use Rattle.token_grammar.proofs.LiftedLimits.{lifted_allowed}
 use Rattle.token_grammar.proofs.Starts.{starts_token}
 use Rattle.chart_tree.specs.Trees.{Stmt, Trans}
-use Rattle.chart_grammar.specs.Limits.{Limits, usual, Counts, junction_refused, after_junction, after_event, after_variable, lifts_from}
+use Rattle.chart_grammar.specs.Limits.{Limits, usual, Counts, junction_refused, after_junction, after_event}
+use Rattle.chart_grammar.specs.Limits.{after_variable, lifts_from}
 use Rattle.chart_grammar.specs.Transitions.{trans_heads}
 use Rattle.chart_grammar.specs.Declarations.{kind_heads}
-use Rattle.chart_grammar.specs.States.{junction_list, junction, StateGrammar, Item, Entry, During, Exit, Outer, Inner, Default, JunctionItem, StateItem, EventItem, VarItem, Seen, after_item, counted_as, action_item, trans_item, junction_item, event_item, variable_item, item_heads, chart_heads, item, chart_item, unexpected, beginning, items, chart_items}
+use Rattle.chart_grammar.specs.States.{junction_list, junction, StateGrammar, Item, Entry, During, Exit, Outer, Inner}
+use Rattle.chart_grammar.specs.States.{Default, JunctionItem, StateItem, EventItem, VarItem, Seen, after_item}
+use Rattle.chart_grammar.specs.States.{counted_as, action_item, trans_item, junction_item, event_item, variable_item}
+use Rattle.chart_grammar.specs.States.{item_heads, chart_heads, item, chart_item, unexpected, beginning, items}
+use Rattle.chart_grammar.specs.States.{chart_items}
 use Rattle.chart_grammar.proofs.TransitionLaws.{good_junction_trans}
 use Rattle.chart_grammar.proofs.ItemLaws.{acted, good_next_item, good_next_chart_item}
 use Rattle.chart_grammar.proofs.LimitLaws.{Comparison, expected, item_alike}
@@ -25,6 +33,7 @@ use Rattle.chart_grammar.proofs.LiftedWords.{eased_name}
 use Rattle.chart_grammar.proofs.LiftedDeclarations.{lifted_expected, lifted_event, lifted_variable}
 use Rattle.chart_grammar.proofs.LiftedTransitions.{eased_block, lifted_junction_trans, lifted_keyword_trans}
 
+-- a token out of the set is Expected
 only_expected : (set : Set) (t : Lexeme) (f : Fault) → unexpected set t ≡ Some f → faults.Expected ≡ f
 only_expected set t f said =
     elim (cases_Bool (set t.kind)) [
@@ -32,7 +41,9 @@ only_expected set t f said =
       | inr away ↦ let same = rw away at said in cc
     ]
 
-lifted_beginning : {X : Type 0} {k : ℕ} {l : Limits} {g g' : Grammar X} → Comparison k l → (set : Set) → Lifted (lifts_from k) g g'
+-- what begins with a token of the set does so under other limits
+lifted_beginning : {X : Type 0} {k : ℕ} {l : Limits} {g g' : Grammar X} → Comparison k l → (set : Set)
+    → Lifted (lifts_from k) g g'
     → Lifted (lifts_from k) (beginning set g) (beginning set g')
 lifted_beginning c set a = lifted_expected c (λ k. true) (unexpected set) (only_expected set) a
 
@@ -42,14 +53,16 @@ module _ {k : ℕ} {l : Limits} (c : Comparison k l) where
   eased_junction_list : (n : Counts) → Eased (lifts_from k) (junction_list usual n) (junction_list l n)
   unfolding junction_list
   eased_junction_list n =
-      eased_many_from (λ z. trans_heads) (λ z t. t.counts) (good_junction_trans usual) (good_junction_trans l) (lifted_junction_trans c) n
+      eased_many_from (λ z. trans_heads) (λ z t. t.counts) (good_junction_trans usual) (good_junction_trans l)
+      (lifted_junction_trans c) n
 
   lifted_junction : (n : Counts) → Lifted (lifts_from k) (junction usual n) (junction l n)
   unfolding junction
   lifted_junction n =
       lifted_then
       (lifted_allowed (is kinds.Junction) (λ t. junction_refused usual n) (λ t. junction_refused l n)
-      (eased_token (expected c) kinds.Junction).lifted (λ t there. item_alike c things.Junctions n.junctions n) (starts_token kinds.Junction)) (λ _.
+      (eased_token (expected c) kinds.Junction).lifted (λ t there. item_alike c things.Junctions n.junctions n)
+      (starts_token kinds.Junction)) (λ _.
       eased_then (eased_name c) (λ name.
       eased_then (eased_token (expected c) kinds.OpenBrace) (λ _.
       eased_then (eased_junction_list (after_junction n)) (λ list.
@@ -69,7 +82,8 @@ module _ {k : ℕ} {l : Limits} (c : Comparison k l) where
   lifted_trans_item : (keyword : Kind) (kind : Trans → Item) (n : Counts)
       → Lifted (lifts_from k) (trans_item usual keyword kind n) (trans_item l keyword kind n)
   unfolding trans_item
-  lifted_trans_item keyword kind n = lifted_then (lifted_keyword_trans c (is keyword) n) (λ found. eased_give (counted_as kind found))
+  lifted_trans_item keyword kind n =
+      lifted_then (lifted_keyword_trans c (is keyword) n) (λ found. eased_give (counted_as kind found))
 
   lifted_junction_item : (n : Counts) → Lifted (lifts_from k) (junction_item usual n) (junction_item l n)
   unfolding junction_item
@@ -77,12 +91,14 @@ module _ {k : ℕ} {l : Limits} (c : Comparison k l) where
 
   lifted_event_item : (n : Counts) → Lifted (lifts_from k) (event_item usual n) (event_item l n)
   unfolding event_item
-  lifted_event_item n = lifted_then (lifted_event c n) (λ found. eased_give (record { value = EventItem found; counts = after_event n }))
+  lifted_event_item n = lifted_then (lifted_event c n)
+      (λ found. eased_give (record { value = EventItem found; counts = after_event n }))
 
   lifted_variable_item : (n : Counts) → Lifted (lifts_from k) (variable_item usual n) (variable_item l n)
   unfolding variable_item
   lifted_variable_item n =
-      lifted_then (lifted_variable c n) (λ found. eased_give (record { value = VarItem found; counts = after_variable n }))
+      lifted_then (lifted_variable c n)
+      (λ found. eased_give (record { value = VarItem found; counts = after_variable n }))
 
 -- ---- items over states
 
@@ -92,9 +108,11 @@ pub record ComparedStates (k : ℕ) (state state' : StateGrammar) : Type 0 where
   pub good' : (n : Counts) → Good (state' n) (is kinds.State) false nothing
   pub lifted : (n : Counts) → Lifted (lifts_from k) (state n) (state' n)
 
-module _ {k : ℕ} {l : Limits} {state state' : StateGrammar} (c : Comparison k l) (a : ComparedStates k state state') where
+module _ {k : ℕ} {l : Limits} {state state' : StateGrammar} (c : Comparison k l)
+    (a : ComparedStates k state state') where
   lifted_state_item : (n : Counts)
-      → Lifted (lifts_from k) (state n >>= λ found. give (counted_as StateItem found)) (state' n >>= λ found. give (counted_as StateItem found))
+      → Lifted (lifts_from k) (state n >>= λ found. give (counted_as StateItem found))
+      (state' n >>= λ found. give (counted_as StateItem found))
   lifted_state_item n = lifted_then (a.lifted n) (λ found. eased_give (counted_as StateItem found))
 
   lifted_item : (z : Seen) → Lifted (lifts_from k) (item usual state z) (item l state' z)

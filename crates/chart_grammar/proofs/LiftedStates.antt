@@ -1,4 +1,7 @@
 -- States and charts, where some limits don't count.
+-- `lifted_x` compares the production x under the usual limits with x under limits of which some don't count. `eased_x`
+-- says so too, and that x has a spelling. `starts_x` says that each token of a set begins x, and `expects_x` that no
+-- other does.
 use Rattle.std.proofs.Common.{◌≡◌, ℕ, zero, suc, ◌≤◌, true, false, Some, refl}
 use Rattle.token_grammar.specs.declared.token.Kind.TheVariants as kinds
 use Rattle.token_grammar.specs.declared.fault.Fault.{Fault}
@@ -9,14 +12,19 @@ use Rattle.token_grammar.proofs.Good.{nothing, Good}
 use Rattle.token_grammar.proofs.Lifted.{Lifted, Eased, eased_token, eased_give, lifted_then, eased_then, eased_either}
 use Rattle.token_grammar.proofs.LiftedLimits.{lifted_allowed, lifted_allowed_kept, lifted_forbidden}
 use Rattle.token_grammar.proofs.LiftedRefused.{lifted_read, refused_read_then}
-use Rattle.token_grammar.proofs.Starts.{Starts, Expects, starts_token, starts_then, starts_allowed, expects_token, expects_then, expects_allowed}
+use Rattle.token_grammar.proofs.Starts.{Starts, Expects, starts_token, starts_then, starts_allowed, expects_token}
+use Rattle.token_grammar.proofs.Starts.{expects_then, expects_allowed}
 use Rattle.chart_tree.specs.declared.state.CompText.TheVariants as comps
 use Rattle.chart_tree.specs.Trees.{State, StateOf, NoState}
-use Rattle.chart_grammar.specs.Limits.{Limits, usual, Counts, Counted, state_refused, after_state, lifts_from, LiftedFrom}
+use Rattle.chart_grammar.specs.Limits.{Limits, usual, Counts, Counted, state_refused, after_state, lifts_from}
+use Rattle.chart_grammar.specs.Limits.{LiftedFrom}
 use Rattle.chart_grammar.specs.Words.{name}
-use Rattle.chart_grammar.specs.States.{values, StateGrammar, nothing_seen, no_items, sorted, comp_heads, comp, maybe_comp, state_body, state_over, no_state, state, at_begin, chart_with, chart}
+use Rattle.chart_grammar.specs.States.{values, StateGrammar, nothing_seen, no_items, sorted, comp_heads, comp}
+use Rattle.chart_grammar.specs.States.{maybe_comp, state_body, state_over, no_state, state, at_begin, chart_with}
+use Rattle.chart_grammar.specs.States.{chart}
 use Rattle.chart_grammar.proofs.StateLaws.{fine_state_body, good_state}
-use Rattle.chart_grammar.proofs.LimitLaws.{Comparison, expected, states_too, item_alike, item_free, Deeper, bound_deeper}
+use Rattle.chart_grammar.proofs.LimitLaws.{Comparison, expected, states_too, item_alike, item_free, Deeper}
+use Rattle.chart_grammar.proofs.LimitLaws.{bound_deeper}
 use Rattle.chart_grammar.proofs.LiftedWords.{eased_name}
 use Rattle.chart_grammar.proofs.LiftedItemLaws.{ComparedStates, eased_items, eased_chart_items}
 
@@ -39,7 +47,8 @@ module _ {k : ℕ} {l : Limits} (c : Comparison k l) where
   unfolding maybe_comp
   eased_maybe_comp = eased_either comp_heads eased_comp.lifted (eased_give comps.None)
 
-  eased_state_body : {st st' : StateGrammar} → ComparedStates k st st' → (n : Counts) → Eased (lifts_from k) (state_body usual st n) (state_body l st' n)
+  eased_state_body : {st st' : StateGrammar} → ComparedStates k st st' → (n : Counts)
+      → Eased (lifts_from k) (state_body usual st n) (state_body l st' n)
   unfolding state_body
   eased_state_body a n =
       eased_then (eased_name c) (λ name.
@@ -54,28 +63,33 @@ module _ {k : ℕ} {l : Limits} (c : Comparison k l) where
   unfolding state_over
   lifted_state_over a n =
       lifted_then
-      (lifted_allowed (is kinds.State) (λ t. state_refused usual n) (λ t. state_refused l n) (eased_token (expected c) kinds.State).lifted
+      (lifted_allowed (is kinds.State) (λ t. state_refused usual n) (λ t. state_refused l n)
+      (eased_token (expected c) kinds.State).lifted
       (λ t there. item_alike c things.States n.states n) (starts_token kinds.State)) (λ _.
       eased_state_body a (after_state n))
 
   -- ---- what a state begins with, where there is no limit on them
 
   starts_state_over : {st : StateGrammar} → lifts_from k (faults.TooMany things.States) ≡ true
-      → ((n : Counts) → Good (st n) (is kinds.State) false nothing) → (n : Counts) → Starts (is kinds.State) (state_over l st n)
+      → ((n : Counts) → Good (st n) (is kinds.State) false nothing) → (n : Counts)
+      → Starts (is kinds.State) (state_over l st n)
   unfolding state_over
   starts_state_over lift a n =
       starts_then
-      (starts_allowed (is kinds.State) (λ t. state_refused l n) (starts_token kinds.State) (λ t there. item_free c things.States n.states n lift))
+      (starts_allowed (is kinds.State) (λ t. state_refused l n) (starts_token kinds.State)
+      (λ t there. item_free c things.States n.states n lift))
       (λ _. (fine_state_body l a (after_state n)).sample)
 
   expects_state_over : (st : StateGrammar) (n : Counts) → Expects (is kinds.State) (state_over l st n)
   unfolding state_over
-  expects_state_over st n = expects_then _ (expects_allowed (is kinds.State) (λ t. state_refused l n) (expects_token kinds.State))
+  expects_state_over st n =
+      expects_then _ (expects_allowed (is kinds.State) (λ t. state_refused l n) (expects_token kinds.State))
 
-  -- ---- nested so deep, and deeper where that is lifted
+  -- ---- nested to a depth, and deeper where that is lifted
 
   -- a state nested deeper is refused on both sides
-  lifted_no_state : lifts_from k faults.NestTooDeep ≡ false → (n : Counts) → Lifted (lifts_from k) (no_state n) (no_state n)
+  lifted_no_state : lifts_from k faults.NestTooDeep ≡ false → (n : Counts)
+      → Lifted (lifts_from k) (no_state n) (no_state n)
   unfolding no_state
   lifted_no_state kept n =
       lifted_then
@@ -88,14 +102,17 @@ module _ {k : ℕ} {l : Limits} (c : Comparison k l) where
       same f said = let e : faults.NestTooDeep ≡ f = cc in rw (← e) kept
 
   -- and on the left alone
-  lifted_one_state : {st : StateGrammar} → lifts_from k faults.NestTooDeep ≡ true → ((n : Counts) → Good (st n) (is kinds.State) false nothing)
+  lifted_one_state : {st : StateGrammar} → lifts_from k faults.NestTooDeep ≡ true
+      → ((n : Counts) → Good (st n) (is kinds.State) false nothing)
       → (n : Counts) → Lifted (lifts_from k) (no_state n) (state_over l st n)
   unfolding no_state
   lifted_one_state {st} lift a n =
       lifted_read (refused_read_then (is kinds.State) faults.NestTooDeep (λ t. unread n) (expects_token kinds.State))
-      (lifted_forbidden (expected c) (is kinds.State) faults.NestTooDeep lift (starts_state_over (states_too k lift) a n) (expects_state_over st n))
+      (lifted_forbidden (expected c) (is kinds.State) faults.NestTooDeep lift
+      (starts_state_over (states_too k lift) a n) (expects_state_over st n))
 
-  lifted_state : (d e : ℕ) → Deeper (lifts_from k faults.NestTooDeep) d e → (n : Counts) → Lifted (lifts_from k) (state usual d n) (state l e n)
+  lifted_state : (d e : ℕ) → Deeper (lifts_from k faults.NestTooDeep) d e → (n : Counts)
+      → Lifted (lifts_from k) (state usual d n) (state l e n)
   unfolding state
   lifted_state zero zero kept n = lifted_no_state kept n
   lifted_state zero (suc e) lift n = lifted_one_state lift (good_state l e) n

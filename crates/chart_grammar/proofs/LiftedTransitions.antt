@@ -1,4 +1,7 @@
 -- Statements, blocks and transitions, where some limits don't count.
+-- `lifted_x` compares the production x under the usual limits with x under limits of which some don't count. `eased_x`
+-- says so too, and that x has a spelling. `starts_x` says that each token of a set begins x, and `expects_x` that no
+-- other does.
 use Rattle.std.proofs.Common.{ℕ, [], None, inr, refl}
 use Rattle.token_grammar.specs.declared.token.Kind.TheVariants as kinds
 use Rattle.token_grammar.specs.declared.token.Span.{Span}
@@ -7,16 +10,24 @@ use Rattle.token_grammar.specs.Grammar.{is, token}
 use Rattle.token_grammar.proofs.Good.{Set}
 use Rattle.token_grammar.proofs.Leaves.{sample_give}
 use Rattle.token_grammar.proofs.Join.{sample_rest}
-use Rattle.token_grammar.proofs.Lifted.{Lifted, Eased, eased_token, lifted_one_of, eased_give, lifted_then, eased_then, eased_either, eased_optional}
+use Rattle.token_grammar.proofs.Lifted.{Lifted, Eased, eased_token, lifted_one_of, eased_give, lifted_then}
+use Rattle.token_grammar.proofs.Lifted.{eased_then, eased_either, eased_optional}
 use Rattle.token_grammar.proofs.LiftedItems.{eased_many_from}
 use Rattle.token_grammar.proofs.LiftedLimits.{lifted_allowed}
 use Rattle.token_grammar.proofs.AtFirst.{starts_at_first, lifted_at_first}
-use Rattle.token_grammar.proofs.Starts.{Starts, starts_token, starts_one_of, starts_then, starts_also, starts_left, starts_optional, starts_either}
+use Rattle.token_grammar.proofs.Starts.{Starts, starts_token, starts_one_of, starts_then, starts_also, starts_left}
+use Rattle.token_grammar.proofs.Starts.{starts_optional, starts_either}
 use Rattle.chart_tree.specs.Trees.{Assign, Send, Emit, ToState, ToJunction}
-use Rattle.chart_grammar.specs.Limits.{Limits, usual, Counts, statement_refused, transition_refused, after_transition, lifts_from}
+use Rattle.chart_grammar.specs.Limits.{Limits, usual, Counts, statement_refused, transition_refused, after_transition}
+use Rattle.chart_grammar.specs.Limits.{lifts_from}
 use Rattle.chart_grammar.specs.Words.{name}
-use Rattle.chart_grammar.specs.Transitions.{assign, target, maybe_target, send, emit, stmt_heads, stmt, Before, after_stmt, next_stmt, stmts, after_stmts, block, to_junction, to_state, dest, guard, action, maybe_event, maybe_guard, maybe_block, maybe_action, trans, trans_heads, junction_trans, keyword_trans}
-use Rattle.chart_grammar.proofs.TransitionLaws.{fine_assigned, fine_send, fine_emit, good_next_stmt, fine_block, fine_guarded, fine_behind_actions, fine_behind_block, fine_behind_guard, fine_behind_event, fine_trans}
+use Rattle.chart_grammar.specs.Transitions.{assign, target, maybe_target, send, emit, stmt_heads, stmt, Before}
+use Rattle.chart_grammar.specs.Transitions.{after_stmt, next_stmt, stmts, after_stmts, block, to_junction, to_state}
+use Rattle.chart_grammar.specs.Transitions.{dest, guard, action, maybe_event, maybe_guard, maybe_block, maybe_action}
+use Rattle.chart_grammar.specs.Transitions.{trans, trans_heads, junction_trans, keyword_trans}
+use Rattle.chart_grammar.proofs.TransitionLaws.{fine_assigned, fine_send, fine_emit, good_next_stmt, fine_block}
+use Rattle.chart_grammar.proofs.TransitionLaws.{fine_guarded, fine_behind_actions, fine_behind_block}
+use Rattle.chart_grammar.proofs.TransitionLaws.{fine_behind_guard, fine_behind_event, fine_trans}
 use Rattle.chart_grammar.proofs.LimitLaws.{Comparison, expected, item_alike}
 use Rattle.chart_grammar.proofs.LiftedWords.{eased_name, eased_path}
 use Rattle.chart_grammar.proofs.LiftedExpressions.{eased_expr}
@@ -30,22 +41,28 @@ starts_name = starts_then (starts_token kinds.Name) (λ t. sample_give _)
 starts_stmt : (l : Limits) → Starts stmt_heads (stmt l)
 unfolding stmt send emit assign
 starts_stmt l =
-    starts_either (is kinds.Send) (starts_then (starts_token kinds.Send) (λ _. sample_rest (token kinds.Send) fine_send.sample))
-    (starts_either (is kinds.Emit) (starts_then (starts_token kinds.Emit) (λ _. sample_rest (token kinds.Emit) fine_emit.sample))
+    starts_either (is kinds.Send)
+    (starts_then (starts_token kinds.Send) (λ _. sample_rest (token kinds.Send) fine_send.sample))
+    (starts_either (is kinds.Emit)
+    (starts_then (starts_token kinds.Emit) (λ _. sample_rest (token kinds.Emit) fine_emit.sample))
     (starts_then starts_name (λ name. (fine_assigned l name).sample)))
 
 starts_block : (l : Limits) (n : Counts) → Starts (is kinds.OpenBrace) (block l n)
 unfolding block
-starts_block l n = starts_then (starts_token kinds.OpenBrace) (λ _. sample_rest (token kinds.OpenBrace) (fine_block l n).sample)
+starts_block l n =
+    starts_then (starts_token kinds.OpenBrace) (λ _. sample_rest (token kinds.OpenBrace) (fine_block l n).sample)
 
 -- each part that may be missing is skipped in turn
 starts_trans : (l : Limits) (n : Counts) (at : Span) → Starts trans_heads (trans l n at)
 unfolding trans maybe_event maybe_guard maybe_block maybe_action guard action
 starts_trans l n at =
-    let arrow = starts_then (starts_token kinds.Arrow) (λ _. sample_rest (token kinds.Arrow) (fine_behind_actions n at None None [] []).sample) in
-    let act = starts_left (is kinds.Slash) (starts_then (starts_token kinds.Slash) (λ _. (fine_block l (after_stmts n [])).sample)) in
+    let arrow = starts_then (starts_token kinds.Arrow)
+    (λ _. sample_rest (token kinds.Arrow) (fine_behind_actions n at None None [] []).sample) in
+    let act = starts_left (is kinds.Slash)
+    (starts_then (starts_token kinds.Slash) (λ _. (fine_block l (after_stmts n [])).sample)) in
     let cond = starts_left (is kinds.OpenBrace) (starts_block l n) in
-    let guarding = starts_optional (is kinds.OpenBracket) (starts_then (starts_token kinds.OpenBracket) (λ t. (fine_guarded l t).sample)) in
+    let guarding = starts_optional (is kinds.OpenBracket)
+    (starts_then (starts_token kinds.OpenBracket) (λ t. (fine_guarded l t).sample)) in
     let event = starts_optional (is kinds.Name) starts_name in
     starts_also None (inr (refl, refl)) event
     (starts_also None (inr (refl, refl)) guarding
@@ -95,17 +112,20 @@ module _ {k : ℕ} {l : Limits} (c : Comparison k l) where
 
   eased_stmt : Eased (lifts_from k) (stmt usual) (stmt l)
   unfolding stmt
-  eased_stmt = eased_either (is kinds.Send) eased_send.lifted (eased_either (is kinds.Emit) eased_emit.lifted eased_assign)
+  eased_stmt =
+      eased_either (is kinds.Send) eased_send.lifted (eased_either (is kinds.Emit) eased_emit.lifted eased_assign)
 
   lifted_next_stmt : (b : Before) → Lifted (lifts_from k) (next_stmt usual b) (next_stmt l b)
   unfolding next_stmt
   lifted_next_stmt b =
-      lifted_allowed stmt_heads (λ t. statement_refused usual b.statements b.counts) (λ t. statement_refused l b.statements b.counts)
+      lifted_allowed stmt_heads (λ t. statement_refused usual b.statements b.counts)
+      (λ t. statement_refused l b.statements b.counts)
       eased_stmt.lifted (λ t there. item_alike c things.Statements b.statements b.counts) (starts_stmt l)
 
   eased_stmts : (b : Before) → Eased (lifts_from k) (stmts usual b) (stmts l b)
   unfolding stmts
-  eased_stmts b = eased_many_from (λ z. stmt_heads) (λ z s. after_stmt z) (good_next_stmt usual) (good_next_stmt l) lifted_next_stmt b
+  eased_stmts b = eased_many_from (λ z. stmt_heads) (λ z s. after_stmt z) (good_next_stmt usual)
+      (good_next_stmt l) lifted_next_stmt b
 
   pub eased_block : (n : Counts) → Eased (lifts_from k) (block usual n) (block l n)
   unfolding block
@@ -119,7 +139,8 @@ module _ {k : ℕ} {l : Limits} (c : Comparison k l) where
 
   eased_to_junction : Eased (lifts_from k) to_junction to_junction
   unfolding to_junction
-  eased_to_junction = eased_then (eased_token (expected c) kinds.At) (λ _. eased_then (eased_name c) (λ name. eased_give (ToJunction name)))
+  eased_to_junction = eased_then (eased_token (expected c) kinds.At)
+      (λ _. eased_then (eased_name c) (λ name. eased_give (ToJunction name)))
 
   eased_to_state : Eased (lifts_from k) to_state to_state
   unfolding to_state
@@ -175,13 +196,17 @@ module _ {k : ℕ} {l : Limits} (c : Comparison k l) where
   unfolding junction_trans
   lifted_junction_trans n =
       lifted_allowed trans_heads (λ t. transition_refused usual n) (λ t. transition_refused l n)
-      (lifted_at_first (λ at. (fine_trans l (after_transition n) at).good) (λ at. (eased_trans (after_transition n) at).lifted))
-      (λ t there. item_alike c things.Transitions n.transitions n) (starts_at_first (starts_trans l (after_transition n)))
+      (lifted_at_first (λ at. (fine_trans l (after_transition n) at).good)
+      (λ at. (eased_trans (after_transition n) at).lifted))
+      (λ t there. item_alike c things.Transitions n.transitions n)
+      (starts_at_first (starts_trans l (after_transition n)))
 
-  pub lifted_keyword_trans : (set : Set) (n : Counts) → Lifted (lifts_from k) (keyword_trans usual set n) (keyword_trans l set n)
+  pub lifted_keyword_trans : (set : Set) (n : Counts)
+      → Lifted (lifts_from k) (keyword_trans usual set n) (keyword_trans l set n)
   unfolding keyword_trans
   lifted_keyword_trans set n =
       lifted_then
-      (lifted_allowed set (λ t. transition_refused usual n) (λ t. transition_refused l n) (lifted_one_of (expected c) set)
+      (lifted_allowed set (λ t. transition_refused usual n) (λ t. transition_refused l n)
+      (lifted_one_of (expected c) set)
       (λ t there. item_alike c things.Transitions n.transitions n) (starts_one_of set)) (λ t.
       eased_trans (after_transition n) t.at)

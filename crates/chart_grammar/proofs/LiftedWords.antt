@@ -1,4 +1,7 @@
 -- Names, paths and numbers, where some limits don't count.
+-- `lifted_x` compares the production x under the usual limits with x under limits of which some don't count. `eased_x`
+-- says so too, and that x has a spelling. `starts_x` says that each token of a set begins x, and `expects_x` that no
+-- other does.
 use Rattle.std.proofs.Common.{ℕ, ◌∷◌}
 use Rattle.token_grammar.specs.declared.token.Kind.TheVariants as kinds
 use Rattle.token_grammar.specs.Grammar.{is}
@@ -30,7 +33,8 @@ pub eased_number : {k : ℕ} {l : Limits} → Comparison k l → Eased (lifts_fr
 unfolding number
 eased_number {k} {l} c = record {
   lifted =
-      lifted_allowed (is kinds.Number) (literal_refused usual) (literal_refused l) (eased_token (expected c) kinds.Number).lifted
+      lifted_allowed (is kinds.Number) (literal_refused usual) (literal_refused l)
+      (eased_token (expected c) kinds.Number).lifted
       (λ t there. literal_alike c t) (starts_token kinds.Number);
   sample = (fine_number l).sample;
 }

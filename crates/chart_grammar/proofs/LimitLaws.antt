@@ -1,5 +1,6 @@
 -- What the usual limits refuse, and what is refused where those from a rank on don't count.
-use Rattle.std.proofs.Common.{◌≡◌, ℕ, zero, suc, ◌≤◌, ◌<◌, Bool, true, false, Option, Some, None, inl, inr, refl, sym, subst, ltb, arith}
+use Rattle.std.proofs.Common.{◌≡◌, ℕ, zero, suc, ◌≤◌, ◌<◌, Bool, true, false, Option, Some, None, inl, inr, refl, sym}
+use Rattle.std.proofs.Common.{subst, ltb, arith}
 use Rattle.std.proofs.lemmas.Bool.{cases_Bool, leb-true, le-leb, lt-leb}
 use Rattle.token_grammar.specs.declared.fault.Fault.{Fault}
 use Rattle.token_grammar.specs.declared.fault.Fault.TheVariants as faults
@@ -8,7 +9,8 @@ use Rattle.token_grammar.specs.declared.fault.Thing.TheVariants as things
 use Rattle.token_grammar.specs.Token.{Lexeme}
 use Rattle.token_grammar.specs.Grammar.{unless_lifted as unless_out}
 use Rattle.fixed_point.specs.Reading.{number_read}
-use Rattle.chart_grammar.specs.Limits.{Limits, usual, rank, is_lifted, most, unless_lifted, one_more, first_of, Counts, one_more_item, lifts_from, LiftedBound, LiftedFrom}
+use Rattle.chart_grammar.specs.Limits.{Limits, usual, rank, is_lifted, most, unless_lifted, one_more, first_of}
+use Rattle.chart_grammar.specs.Limits.{Counts, one_more_item, lifts_from, LiftedBound, LiftedFrom}
 use Rattle.chart_grammar.specs.Words.{fault_of_number, literal_refused}
 
 -- limits compared with the usual ones: those of rank k and above don't count, and k isn't 0
@@ -16,12 +18,14 @@ pub record Comparison (k : ℕ) (l : Limits) : Type 0 where
   pub some : 1 ≤ k
   pub from : LiftedFrom k l
 
+-- Expected is no limit, so it is never lifted
 pub expected : {k : ℕ} {l : Limits} → Comparison k l → lifts_from k faults.Expected ≡ false
 expected {k} c = lt-leb k 0 (omega (arith, c.some))
 
 -- ---- one fault
 
-usual_kept : (f : Fault) → is_lifted usual f ≡ false
+-- all of the usual limits count
+pub usual_kept : (f : Fault) → is_lifted usual f ≡ false
 usual_kept faults.Expected = refl
 usual_kept faults.LiteralTooLong = refl
 usual_kept faults.LiteralNotBinary = refl
@@ -41,10 +45,12 @@ pub said_alike : {k : ℕ} {l : Limits} → Comparison k l → (said : Option Fa
 said_alike c None = refl
 said_alike c (Some f) = rw (usual_kept f, c.from.from) refl
 
+-- a fault of a number is refused unless it is lifted
 pub literal_alike : {k : ℕ} {l : Limits} → Comparison k l → (t : Lexeme)
     → literal_refused l t ≡ unless_out (lifts_from k) (literal_refused usual t)
 literal_alike c t = said_alike c (fault_of_number (number_read t.text))
 
+-- one more of a thing is refused as usual, unless it is lifted
 pub one_more_alike : {k : ℕ} {l : Limits} → Comparison k l → (thing : Thing) (count : ℕ)
     → one_more l thing count ≡ unless_out (lifts_from k) (one_more usual thing count)
 one_more_alike c thing count =
@@ -54,7 +60,8 @@ one_more_alike c thing count =
     ]
 
 -- where its limit is lifted, no count is too many
-pub one_more_free : {k : ℕ} {l : Limits} → Comparison k l → (thing : Thing) (count : ℕ) → lifts_from k (faults.TooMany thing) ≡ true
+pub one_more_free : {k : ℕ} {l : Limits} → Comparison k l → (thing : Thing) (count : ℕ)
+    → lifts_from k (faults.TooMany thing) ≡ true
     → one_more l thing count ≡ None
 one_more_free c thing count lift =
     elim (cases_Bool (ltb count (most thing))) [
@@ -65,7 +72,8 @@ one_more_free c thing count lift =
 -- ---- the first of two faults
 
 -- where the second is lifted with the first
-first_alike : (lifts : Fault → Bool) (a b : Option Fault) → ((f g : Fault) → a ≡ Some f → b ≡ Some g → lifts f ≡ true → lifts g ≡ true)
+first_alike : (lifts : Fault → Bool) (a b : Option Fault)
+    → ((f g : Fault) → a ≡ Some f → b ≡ Some g → lifts f ≡ true → lifts g ≡ true)
     → first_of (unless_out lifts a) (unless_out lifts b) ≡ unless_out lifts (first_of a b)
 first_alike lifts None b h = refl
 first_alike lifts (Some f) None h =
@@ -90,7 +98,9 @@ ranks_below things.Statements = omega arith
 ranks_below things.Operators = omega arith
 ranks_below things.Items = omega arith
 
-pub items_too : (k : ℕ) (thing : Thing) → lifts_from k (faults.TooMany thing) ≡ true → lifts_from k (faults.TooMany things.Items) ≡ true
+-- where the limit of a thing is lifted, so is that of all items
+pub items_too : (k : ℕ) (thing : Thing) → lifts_from k (faults.TooMany thing) ≡ true
+    → lifts_from k (faults.TooMany things.Items) ≡ true
 items_too k thing lift =
     let low = leb-true k (rank (faults.TooMany thing)) lift in
     let high = ranks_below thing in
@@ -100,13 +110,16 @@ items_too k thing lift =
 pub states_too : (k : ℕ) → lifts_from k faults.NestTooDeep ≡ true → lifts_from k (faults.TooMany things.States) ≡ true
 states_too k lift = let low = leb-true k 3 lift in le-leb k 4 (omega arith)
 
+-- one more of a thing has the fault of that thing
 one_more_says : (thing : Thing) (count : ℕ) (f : Fault) → one_more usual thing count ≡ Some f → faults.TooMany thing ≡ f
 one_more_says thing count f e =
     elim (cases_Bool (ltb count (most thing))) [
       | inl room ↦ absurd (let bad = rw room at e in cc)
-      | inr full ↦ let said : Some (faults.TooMany thing) ≡ Some f = rw (full, usual_kept (faults.TooMany thing)) at e in cc
+      | inr full ↦ let said : Some (faults.TooMany thing) ≡ Some f =
+          rw (full, usual_kept (faults.TooMany thing)) at e in cc
     ]
 
+-- one more item is refused as usual, unless it is lifted
 pub item_alike : {k : ℕ} {l : Limits} → Comparison k l → (thing : Thing) (count : ℕ) (n : Counts)
     → one_more_item l thing count n ≡ unless_out (lifts_from k) (one_more_item usual thing count n)
 item_alike {k} c thing count n =
@@ -118,9 +131,12 @@ item_alike {k} c thing count n =
     let first = subst (λ z. lifts_from k z ≡ true) (sym one) lift in
     subst (λ z. lifts_from k z ≡ true) other (items_too k thing first)))
 
-pub item_free : {k : ℕ} {l : Limits} → Comparison k l → (thing : Thing) (count : ℕ) (n : Counts) → lifts_from k (faults.TooMany thing) ≡ true
+-- where the limit of a thing is lifted, one more of it as an item is free
+pub item_free : {k : ℕ} {l : Limits} → Comparison k l → (thing : Thing) (count : ℕ) (n : Counts)
+    → lifts_from k (faults.TooMany thing) ≡ true
     → one_more_item l thing count n ≡ None
-item_free {k} c thing count n lift = rw (one_more_free c thing count lift, one_more_free c things.Items n.items (items_too k thing lift)) refl
+item_free {k} c thing count n lift =
+    rw (one_more_free c thing count lift, one_more_free c things.Items n.items (items_too k thing lift)) refl
 
 -- ---- depths
 
@@ -131,16 +147,19 @@ Deeper lifted zero (suc e) = lifted ≡ true
 Deeper lifted (suc d) zero = ⊥
 Deeper lifted (suc d) (suc e) = Deeper lifted d e
 
+-- a greater depth is deeper where depth is lifted
 deeper_more : (d e : ℕ) → d < e → Deeper true d e
 deeper_more zero zero h = absurd (omega arith)
 deeper_more zero (suc e) h = refl
 deeper_more (suc d) zero h = absurd (omega arith)
 deeper_more (suc d) (suc e) h = deeper_more d e (omega arith)
 
+-- the same depth is as deep where it isn't
 deeper_same : (d : ℕ) → Deeper false d d
 deeper_same zero = refl
 deeper_same (suc d) = deeper_same d
 
+-- a bound on nesting is as deep as it says
 pub bound_deeper : (lifted : Bool) (d e : ℕ) → LiftedBound lifted d e → Deeper lifted d e
 bound_deeper true d e h = deeper_more d e h
 bound_deeper false d e h = rw h (deeper_same d)

@@ -1,4 +1,8 @@
 -- Names, paths and numbers read as they spell.
+-- `fine_x` says of the production x that it is LL(1): with its FIRST set, whether it is nullable, and the kinds that
+-- may
+-- go on with what is read, which its FOLLOW must not have. `good_x` says so of one of which limits may leave no
+-- spelling.
 use Rattle.std.proofs.Common.{◌≡◌, false, [], ◌∷◌, None, refl}
 use Rattle.token_grammar.specs.declared.token.Kind.TheVariants as kinds
 use Rattle.token_grammar.specs.Token.{Lexeme}
@@ -14,7 +18,8 @@ use Rattle.chart_grammar.specs.Words.{name, name_of, step, path, fault_of_number
 
 pub fine_name : Fine name (is kinds.Name) false nothing
 unfolding name
-fine_name = fine_as (is kinds.Name) nothing (fine_then (fine_token kinds.Name) (λ t. fine_give (name_of t)) refl) refl refl
+fine_name =
+    fine_as (is kinds.Name) nothing (fine_then (fine_token kinds.Name) (λ t. fine_give (name_of t)) refl) refl refl
 
 pub fine_step : Fine step (is kinds.Slash) false nothing
 unfolding step
@@ -34,6 +39,7 @@ fine_path =
 abbrev zero_token : Lexeme
 zero_token = record { kind = kinds.Number; text = 48 ∷ []; at = record { line = 0; column = 0 } }
 
+-- `0` has no fault, so a number has a spelling
 zero_passes : fault_of_number (number_read (48 ∷ [])) ≡ None
 unfolding number_read value_after first_from
 zero_passes = refl
@@ -44,4 +50,8 @@ sample_number l = record { tokens = zero_token ∷ []; value = zero_token; spell
 
 pub fine_number : (l : Limits) → Fine (number l) (is kinds.Number) false nothing
 unfolding number
-fine_number l = record { good = good_allowed (is kinds.Number) (literal_refused l) (good_token kinds.Number); sample = sample_number l }
+fine_number l = record {
+  good = good_allowed (is kinds.Number) (literal_refused l)
+      (good_token kinds.Number);
+  sample = sample_number l;
+}

@@ -7,7 +7,8 @@ use Rattle.token_grammar.specs.declared.fault.Fault.{Fault}
 use Rattle.token_grammar.specs.declared.fault.Fault.TheVariants as faults
 use Rattle.token_grammar.specs.declared.fault.Thing.TheVariants as things
 use Rattle.token_grammar.specs.Token.{Lexeme}
-use Rattle.token_grammar.specs.Grammar.{Grammar, is, token, one_of, allowed, give, either, optional, many_from, ◌>>=◌, ◌>>◌}
+use Rattle.token_grammar.specs.Grammar.{Grammar, is, token, one_of, allowed, give, either, optional, many_from, ◌>>=◌}
+use Rattle.token_grammar.specs.Grammar.{◌>>◌}
 use Rattle.chart_tree.specs.declared.expr.UnWord.{UnWord}
 use Rattle.chart_tree.specs.declared.expr.UnWord.TheVariants as un_words
 use Rattle.chart_tree.specs.declared.expr.BinWord.{BinWord}
@@ -27,7 +28,7 @@ pub record Tail : Type 0 where
   pub at : Span
   pub right : Operand
 
--- what operands are read where there were so many operators
+-- how operands are read, by the number of operators before them
 abbrev pub Operands : Type 1
 Operands = ℕ → Grammar Operand
 
@@ -79,7 +80,7 @@ bin_word k =
 abbrev pub un_word : Kind → UnWord
 un_word k = if is kinds.Minus k then un_words.Neg else un_words.Not
 
--- one of the operators, or an opening parenthesis, where there were so many
+-- one of the operators, or an opening parenthesis, after `before` of them
 unfoldable pub operator : Limits → (Kind → Bool) → ℕ → Grammar Lexeme
 operator l set before = allowed set (λ t. one_more l things.Operators before) (one_of set)
 
@@ -206,7 +207,8 @@ nested l unary before = either sign_heads (signed l unary before) (parens l unar
 abbrev pub too_nested : Lexeme → Option Fault
 too_nested t = Some (faults.TooMany things.Operators)
 
--- unary := ('-' | '!') unary | '(' expr ')' | an operand without an operator; nested so deep at most
+-- unary := ('-' | '!') unary | '(' expr ')' | an operand without an operator; at most as deep
+-- as the first number says, after as many operators as the second says
 unfoldable pub unary : Limits → ℕ → ℕ → Grammar Operand
 unary l zero before =
     either nested_heads (allowed nested_heads too_nested (nested l (plain l) before)) (plain l before)

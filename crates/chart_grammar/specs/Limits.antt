@@ -4,6 +4,9 @@ use Rattle.token_grammar.specs.declared.fault.Fault.{Fault}
 use Rattle.token_grammar.specs.declared.fault.Fault.TheVariants as faults
 use Rattle.token_grammar.specs.declared.fault.Thing.{Thing}
 use Rattle.token_grammar.specs.declared.fault.Thing.TheVariants as things
+use Rattle.chart_tree.specs.declared.limits.TheConstants.{STATE_DEPTH_LIMIT, STATE_LIMIT, JUNCTION_LIMIT}
+use Rattle.chart_tree.specs.declared.limits.TheConstants.{TRANSITION_LIMIT, VARIABLE_LIMIT, EVENT_LIMIT}
+use Rattle.chart_tree.specs.declared.limits.TheConstants.{STATEMENT_LIMIT, OPERATOR_LIMIT, ITEM_LIMIT}
 
 -- where a fault stands among those of one token
 abbrev pub rank : Fault → ℕ
@@ -26,9 +29,10 @@ pub record Limits : Type 0 where
   pub nesting : ℕ
   pub lifted_from : ℕ
 
--- the limits of the language: all count. 64 nested operators are 64 operators
+-- the limits of the language: all count. Nested operators are operators of one expression, so their
+-- limit is that of operators
 abbrev pub usual : Limits
-usual = record { depth = 16; nesting = 64; lifted_from = 12 }
+usual = record { depth = STATE_DEPTH_LIMIT; nesting = OPERATOR_LIMIT; lifted_from = 12 }
 
 -- whether the limit of a fault doesn't count
 abbrev pub is_lifted : Limits → Fault → Bool
@@ -36,21 +40,21 @@ is_lifted l fault = nat_le l.lifted_from (rank fault)
 
 -- how many of a thing there may be
 abbrev pub most : Thing → ℕ
-most things.States = 1024
-most things.Junctions = 4096
-most things.Transitions = 8192
-most things.Variables = 512
-most things.Events = 512
-most things.Statements = 256
-most things.Operators = 64
-most things.Items = 20000
+most things.States = STATE_LIMIT
+most things.Junctions = JUNCTION_LIMIT
+most things.Transitions = TRANSITION_LIMIT
+most things.Variables = VARIABLE_LIMIT
+most things.Events = EVENT_LIMIT
+most things.Statements = STATEMENT_LIMIT
+most things.Operators = OPERATOR_LIMIT
+most things.Items = ITEM_LIMIT
 
 -- a fault, unless its limit doesn't count
 abbrev pub unless_lifted : Limits → Option Fault → Option Fault
 unless_lifted l None = None
 unless_lifted l (Some fault) = if is_lifted l fault then None else Some fault
 
--- what is wrong with one more of a thing where there are so many
+-- what is wrong with one more of a thing where there are `count`
 abbrev pub one_more : Limits → Thing → ℕ → Option Fault
 one_more l thing count =
     if nat_lt count (most thing) then None else unless_lifted l (Some (faults.TooMany thing))
@@ -94,7 +98,7 @@ after_variable n = record n { variables = n.variables + 1; items = n.items + 1 }
 abbrev pub after_event : Counts → Counts
 after_event n = record n { events = n.events + 1; items = n.items + 1 }
 
--- the fault of one more of a thing where there are so many, which is one more item too
+-- the fault of one more of a thing where there are `count`, which is one more item too
 abbrev pub one_more_item : Limits → Thing → ℕ → Counts → Option Fault
 one_more_item l thing count n = first_of (one_more l thing count) (one_more l things.Items n.items)
 
@@ -118,7 +122,7 @@ variable_refused l n = one_more_item l things.Variables n.variables n
 abbrev pub event_refused : Limits → Counts → Option Fault
 event_refused l n = one_more_item l things.Events n.events n
 
--- the fault of one more statement in a block that has so many
+-- the fault of one more statement in a block that has `before` of them
 abbrev pub statement_refused : Limits → ℕ → Counts → Option Fault
 statement_refused l before n = one_more_item l things.Statements before n
 

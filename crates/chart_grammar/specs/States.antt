@@ -1,5 +1,6 @@
 -- Junctions, states and charts.
-use Rattle.std.specs.Prelude.{ℕ, zero, suc, Bool, true, false, not, ◌&&◌, ◌||◌, List, [], ◌∷◌, Option, Some, None, if◌then◌else◌}
+use Rattle.std.specs.Prelude.{ℕ, zero, suc, Bool, true, false, not, ◌&&◌, ◌||◌, List, [], ◌∷◌, Option, Some, None}
+use Rattle.std.specs.Prelude.{if◌then◌else◌}
 use Rattle.token_grammar.specs.declared.token.Kind.{Kind}
 use Rattle.token_grammar.specs.declared.token.Kind.TheVariants as kinds
 use Rattle.token_grammar.specs.declared.fault.Fault.{Fault}
@@ -10,8 +11,10 @@ use Rattle.chart_tree.specs.declared.name.NameText.{NameText}
 use Rattle.chart_tree.specs.declared.chart.EventText.{EventText}
 use Rattle.chart_tree.specs.declared.state.CompText.{CompText}
 use Rattle.chart_tree.specs.declared.state.CompText.TheVariants as comps
-use Rattle.chart_tree.specs.Trees.{Stmt, Trans, Junction, Parts, State, StateOf, States, NoState, MoreStates, Var, Chart}
-use Rattle.chart_grammar.specs.Limits.{Limits, Counts, Counted, state_refused, junction_refused, after_state, after_junction, after_event, after_variable}
+use Rattle.chart_tree.specs.Trees.{Stmt, Trans, Junction, Parts, State, StateOf, States, NoState, MoreStates, Var}
+use Rattle.chart_tree.specs.Trees.{Chart}
+use Rattle.chart_grammar.specs.Limits.{Limits, Counts, Counted, state_refused, junction_refused, after_state}
+use Rattle.chart_grammar.specs.Limits.{after_junction, after_event, after_variable}
 use Rattle.chart_grammar.specs.Words.{name}
 use Rattle.chart_grammar.specs.Transitions.{block, after_stmts, trans_heads, junction_trans, keyword_trans}
 use Rattle.chart_grammar.specs.Declarations.{event, variable, kind_heads}
@@ -45,7 +48,7 @@ junction l n = do
     counts = counts_behind (after_junction n) list;
   })
 
--- how states are read where there are so many things
+-- how states are read, by the number of things before them
 abbrev pub StateGrammar : Type 1
 StateGrammar = Counts → Grammar (Counted State)
 
@@ -286,7 +289,7 @@ no_state n = do
   name ← name
   give (record { value = StateOf (no_items name comps.None).parts NoState; counts = n })
 
--- state := 'state' NAME comp? '{' item* '}', nested so deep at most
+-- state := 'state' NAME comp? '{' item* '}', with states nested in it to the given depth at most
 unfoldable pub state : Limits → ℕ → Counts → Grammar (Counted State)
 state l zero n = no_state n
 state l (suc deeper) n = state_over l (state l deeper) n

@@ -3,7 +3,8 @@ use Rattle.std.specs.Prelude.{ℕ, ◌+◌, Bool, ◌||◌, List, [], length, Op
 use Rattle.token_grammar.specs.declared.token.Kind.{Kind}
 use Rattle.token_grammar.specs.declared.token.Kind.TheVariants as kinds
 use Rattle.token_grammar.specs.declared.token.Span.{Span}
-use Rattle.token_grammar.specs.Grammar.{Grammar, is, token, one_of, allowed, at_first, give, either, optional, many_from, ◌>>=◌, ◌>>◌}
+use Rattle.token_grammar.specs.Grammar.{Grammar, is, token, one_of, allowed, at_first, give, either, optional}
+use Rattle.token_grammar.specs.Grammar.{many_from, ◌>>=◌, ◌>>◌}
 use Rattle.chart_tree.specs.declared.name.NameText.{NameText}
 use Rattle.chart_tree.specs.Trees.{Path, Stmt, Assign, Send, Emit, Dest, ToState, ToJunction, Guard, Trans}
 use Rattle.chart_grammar.specs.Limits.{Limits, Counts, Counted, statement_refused, transition_refused, after_transition}
@@ -76,7 +77,7 @@ next_stmt l b = allowed stmt_heads (λ t. statement_refused l b.statements b.cou
 unfoldable pub stmts : Limits → Before → Grammar (List Stmt)
 stmts l b = many_from (λ z. stmt_heads) (next_stmt l) (λ z s. after_stmt z) b
 
--- the things after so many statements
+-- the things after the statements
 abbrev pub after_stmts : Counts → List Stmt → Counts
 after_stmts n ss = record n { items = n.items + length ss }
 

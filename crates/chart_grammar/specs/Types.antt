@@ -1,5 +1,7 @@
 -- Types: the words after the colon of a datum.
-use Rattle.std.specs.Prelude.{ℕ, nat_le, Bool, true, false, ◌&&◌, ◌||◌, List, [], ◌∷◌, take, drop, Option, Some, None, decimal, codes, bytes_eq, if◌then◌else◌}
+use Rattle.std.specs.Prelude.{ℕ, nat_le, Bool, true, false, ◌&&◌, ◌||◌, List, [], ◌∷◌, take, drop, Option, Some, None}
+use Rattle.std.specs.Prelude.{decimal, codes, bytes_eq, if◌then◌else◌}
+use Rattle.fixed_point.specs.declared.scale.TheConstants.{WIDTH_LIMIT, PLACES_LIMIT}
 use Rattle.fixed_point.specs.declared.fitting.Mode.{Mode}
 use Rattle.fixed_point.specs.declared.fitting.Mode.TheVariants as modes
 use Rattle.fixed_point.specs.Reading.{value_of, leading_digits, after_digits}
@@ -20,13 +22,13 @@ pub data TypeWord : Type 0 where
 abbrev pub plain_number : List ℕ → Option ℕ
 plain_number text = if bytes_eq (decimal (value_of text)) text then Some (value_of text) else None
 
--- a scale of these parts, where they are within the limits: a width of 1 to 64, and a fraction of
--- at most 32 and at most the width
+-- a scale of these parts, where they are within the limits: a width of at least 1
+-- and at most WIDTH_LIMIT, and a fraction of at most PLACES_LIMIT and at most the width
 abbrev pub scale_within : Bool → Option ℕ → Option ℕ → Option ScaleParts
 scale_within signed None frac = None
 scale_within signed (Some width) None = None
 scale_within signed (Some width) (Some frac) =
-    if (nat_le 1 width && nat_le width 64) && (nat_le frac 32 && nat_le frac width)
+    if (nat_le 1 width && nat_le width WIDTH_LIMIT) && (nat_le frac PLACES_LIMIT && nat_le frac width)
     then Some (record { signed = signed; width = width; frac = frac }) else None
 
 -- a missing fraction is 0
@@ -40,7 +42,7 @@ abbrev pub scale_told : Bool → List ℕ → Option ScaleParts
 scale_told signed text =
     scale_within signed (plain_number (leading_digits text)) (frac_told (after_digits text))
 
--- a whole number of so many bits
+-- a whole number of `width` bits
 abbrev pub whole : Bool → ℕ → Option ScaleParts
 whole signed width = Some (record { signed = signed; width = width; frac = 0 })
 

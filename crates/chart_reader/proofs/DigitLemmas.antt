@@ -1,5 +1,7 @@
 -- Numbers of one or two digits.
-use Rattle.std.proofs.Common.{◌≡◌, ℕ, ◌+◌, ◌-◌, ◌*◌, ◌/◌, ◌%◌, ◌<◌, ◌≤◌, Bool, true, false, nat_lt, if◌then◌else◌, List, [], ◌∷◌, ◌++◌, length, get_or, Some, None, inl, inr, ◌⊎◌, ⊎_elim, refl, sym, ap, ◌∙◌, arith}
+use Rattle.std.proofs.Common.{◌≡◌, ℕ, ◌+◌, ◌-◌, ◌*◌, ◌/◌, ◌%◌, ◌<◌, ◌≤◌, Bool, true, false, nat_lt, if◌then◌else◌}
+use Rattle.std.proofs.Common.{List, [], ◌∷◌, ◌++◌, length, get_or, Some, None, inl, inr, ◌⊎◌, ⊎_elim, refl, sym, ap}
+use Rattle.std.proofs.Common.{◌∙◌, arith}
 use Rattle.std.specs.Fmt.{decimal}
 use Rattle.std.specs.Str.{bytes_eq}
 use Rattle.std.proofs.lemmas.Bool.{cases_lt}
@@ -18,20 +20,24 @@ decimal_one n small = decimal_digit n small
 
 -- the text of a number from 10 to 99
 decimal_two : (n : ℕ) → 10 ≤ n → n < 100 → decimal n ≡ (48 + n / 10) ∷ (48 + n % 10) ∷ []
-decimal_two n large small = decimal_step n large (omega arith) ∙ ap (λ (ds : List ℕ). ds ++ (48 + n % 10) ∷ []) (decimal_digit (n / 10) (omega arith))
+decimal_two n large small = decimal_step n large (omega arith)
+    ∙ ap (λ (ds : List ℕ). ds ++ (48 + n % 10) ∷ []) (decimal_digit (n / 10) (omega arith))
 
 -- the number whose text it is
-number_is : (text : List ℕ) (n : ℕ) → value_of text ≡ n → n < 100 → decimal n ≡ text → below_hundred (plain_number text) ≡ Some n
+number_is : (text : List ℕ) (n : ℕ) → value_of text ≡ n → n < 100 → decimal n ≡ text
+    → below_hundred (plain_number text) ≡ Some n
 number_is text n value small told =
     let same : bytes_eq (decimal n) text ≡ true = (bytes_eq-Decides (decimal n) text).1 told in
     let below : nat_lt n 100 ≡ true = grind (arith, nat_tests) in
     rw value (rw same (rw below refl))
 
 -- no number below 100 has that text
-no_number : (text : List ℕ) (n : ℕ) → value_of text ≡ n → (n < 100 → decimal n ≡ text → ⊥) → below_hundred (plain_number text) ≡ None
+no_number : (text : List ℕ) (n : ℕ) → value_of text ≡ n → (n < 100 → decimal n ≡ text → ⊥)
+    → below_hundred (plain_number text) ≡ None
 no_number text n value other = rw value (by_test (bytes_eq (decimal n) text) (nat_lt n 100) refl refl)
   where
-    by_test : (same small : Bool) → bytes_eq (decimal n) text ≡ same → nat_lt n 100 ≡ small → below_hundred (if same then Some n else None) ≡ None
+    by_test : (same small : Bool) → bytes_eq (decimal n) text ≡ same → nat_lt n 100 ≡ small
+        → below_hundred (if same then Some n else None) ≡ None
     by_test true true e lt = absurd (other (grind (arith, nat_tests)) ((bytes_eq-Decides (decimal n) text).0 e))
     by_test true false e lt = rw lt refl
     by_test false small e lt = refl
@@ -62,6 +68,7 @@ value_one : (d : ℕ) → value_of (d ∷ []) ≡ d - 48
 unfolding value_after
 value_one d = omega arith
 
+-- the value of two digits
 value_two : (t d : ℕ) → value_of (t ∷ d ∷ []) ≡ (t - 48) * 10 + (d - 48)
 unfolding value_after
 value_two t d = omega arith
@@ -70,8 +77,10 @@ value_two t d = omega arith
 pub one_is : (d : ℕ) → 48 ≤ d → d ≤ 57 → below_hundred (plain_number (d ∷ [])) ≡ Some (d - 48)
 one_is d from to =
     let same : 48 + (d - 48) ≡ d = omega arith in
-    number_is (d ∷ []) (d - 48) (value_one d) (omega arith) (decimal_one (d - 48) (omega arith) ∙ ap (λ (x : ℕ). x ∷ []) same)
+    number_is (d ∷ []) (d - 48) (value_one d) (omega arith)
+    (decimal_one (d - 48) (omega arith) ∙ ap (λ (x : ℕ). x ∷ []) same)
 
+-- a byte that is no digit is no number below 100
 pub one_other : (d : ℕ) → (48 ≤ d → d ≤ 57 → ⊥) → below_hundred (plain_number (d ∷ [])) ≡ None
 one_other d other =
     no_number (d ∷ []) (d - 48) (value_one d) (λ small told.
@@ -92,8 +101,10 @@ two_are t d from to from' to' =
     let first : 48 + n / 10 ≡ t = omega arith in
     let second : 48 + n % 10 ≡ d = omega arith in
     number_is (t ∷ d ∷ []) n (value_two t d) (omega arith)
-    (decimal_two n (omega arith) (omega arith) ∙ ap (λ (x : ℕ). x ∷ (48 + n % 10) ∷ []) first ∙ ap (λ (x : ℕ). t ∷ x ∷ []) second)
+    (decimal_two n (omega arith) (omega arith) ∙ ap (λ (x : ℕ). x ∷ (48 + n % 10) ∷ []) first
+    ∙ ap (λ (x : ℕ). t ∷ x ∷ []) second)
 
+-- nor are two bytes that aren't digits, the first of them no 0
 pub two_other : (t d : ℕ) → (49 ≤ t → t ≤ 57 → 48 ≤ d → d ≤ 57 → ⊥) → below_hundred (plain_number (t ∷ d ∷ [])) ≡ None
 two_other t d other =
     let n = (t - 48) * 10 + (d - 48) in

@@ -14,3 +14,4 @@ pub mod SortLemmas
 pub mod ChildLemmas
 pub mod ItemLoop
 pub mod StateLemmas
+pub mod OneRefusal

@@ -10,12 +10,15 @@ use Rattle.token_grammar.specs.Grammar.{and_then, heads, token}
 use Rattle.token_grammar.proofs.Good.{Set, nothing}
 use Rattle.token_grammar.proofs.Fine.{Fine}
 use Rattle.chart_tree.specs.declared.name.NameText.{NameText}
+use Rattle.chart_tree.specs.declared.limits.TheConstants.{OPERATOR_LIMIT}
 use Rattle.chart_tree.specs.Trees.{Name}
 use Rattle.chart_grammar.specs.Limits.{usual, one_more}
 use Rattle.chart_grammar.specs.Words.{name, name_of}
-use Rattle.chart_grammar.specs.Expressions.{Operand, Tail, Operands, operator, datum, tail, tails, with_tail, product_heads}
+use Rattle.chart_grammar.specs.Expressions.{Operand, Tail, Operands, operator, datum, tail, tails, with_tail}
+use Rattle.chart_grammar.specs.Expressions.{product_heads}
 use Rattle.chart_grammar.proofs.ChainLoop.{resumed, chain_goes_on}
-use Rattle.chart_grammar.proofs.ExpressionLaws.{operand_heads, sum_more, comparison_more, conjunction_more, fine_product, fine_sum, fine_comparison, fine_conjunction}
+use Rattle.chart_grammar.proofs.ExpressionLaws.{operand_heads, sum_more, comparison_more, conjunction_more}
+use Rattle.chart_grammar.proofs.ExpressionLaws.{fine_product, fine_sum, fine_comparison, fine_conjunction}
 use Rattle.chart_reader.specs.declared.operands.Level.{Level}
 use Rattle.chart_reader.specs.declared.operands.Level.TheVariants as levels
 use Rattle.chart_reader.specs.Groups.{set_of}
@@ -24,35 +27,42 @@ use Rattle.chart_reader.proofs.RefusalLemmas.{one_of_room}
 
 -- ---- operators
 
-few_operators : (before : ℕ) → one_more usual things.Operators before ≡ None → before < 64
+-- where one more isn't refused, there are few so far
+few_operators : (before : ℕ) → one_more usual things.Operators before ≡ None → before < OPERATOR_LIMIT
 few_operators before h = grind arith
 
--- an operator that was read is one of 64 at most
+-- an operator that was read is one of OPERATOR_LIMIT at most
 pub operator_room : (set : Set) (before : ℕ) (s r : List Lexeme) (result : Result Token ReadError)
-    → Gives lexeme result r ((operator usual set before).reads s) → OnOk result (before < 64)
+    → Gives lexeme result r ((operator usual set before).reads s) → OnOk result (before < OPERATOR_LIMIT)
 unfolding operator
 operator_room set before s r (Ok t) e = few_operators before (one_of_room set _ s r (Ok t) e)
 operator_room set before s r (Err e) read = tt
 
 -- ---- the value of a datum is a name
 
+-- what reading a name gives as an operand
 abbrev datum_of : ℕ → NameText → List Lexeme → Outcome Operand
 datum_of n x r = Ok (record { expr = Name x; operators = n }, r)
 
+-- a token as a name, and then as an operand
 named : (n : ℕ) (read : Outcome Lexeme)
     → and_then read (λ t r. datum_of n (name_of t) r) ≡ and_then (and_then read (λ t r. Ok (name_of t, r))) (datum_of n)
 named n (Ok y) = refl
 named n (Err e) = refl
 
+-- a datum is read as its name
 datum_named : (n : ℕ) (s : List Lexeme) → (datum n).reads s ≡ and_then (name.reads s) (datum_of n)
 unfolding datum name
 datum_named n s = named n ((token kinds.Name).reads s)
 
+-- a name was read
 pub datum_read : (n : ℕ) (s : List Lexeme) (x : NameText) (r : List Lexeme) → name.reads s ≡ Ok (x, r)
     → (datum n).reads s ≡ Ok (record { expr = Name x; operators = n }, r)
 datum_read n s x r e = datum_named n s ∙ rw e refl
 
-pub datum_fails : (n : ℕ) (err : ReadError) (s r : List Lexeme) → Fails err r (name.reads s) → Fails err r ((datum n).reads s)
+-- none was
+pub datum_fails : (n : ℕ) (err : ReadError) (s r : List Lexeme) → Fails err r (name.reads s)
+    → Fails err r ((datum n).reads s)
 datum_fails n errors.Memory s r e = tt
 datum_fails n (errors.Fault f) s r e = datum_named n s ∙ rw e refl
 

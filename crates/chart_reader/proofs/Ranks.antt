@@ -3,6 +3,7 @@ use Rattle.std.proofs.Common.{ℕ}
 use Rattle.chart_reader.specs.declared.operands.Level.{Level}
 use Rattle.chart_reader.specs.declared.operands.Level.TheVariants as levels
 
+-- how far up a level lies, with room for the calls between two levels
 abbrev pub rank : Level → ℕ
 rank levels.Products = 2
 rank levels.Sums = 5

@@ -9,6 +9,7 @@ use Rattle.token_grammar.specs.Token.{Lexeme, lexeme, Gives}
 use Rattle.token_grammar.specs.Grammar.{is, token, one_of, allowed}
 use Rattle.token_grammar.proofs.Good.{Set}
 
+-- a token that is refused isn't read
 refused_one : (set : Set) (f : Fault) (s : List Lexeme) (x : Lexeme) (r : List Lexeme)
     → (allowed set (λ t. Some f) (one_of set)).reads s ≡ Ok (x, r) → ⊥
 unfolding one_of
@@ -20,7 +21,8 @@ refused_one set f (t ∷ s) x r e = by_kind (set t.kind) refl
         let stopped : (allowed set (λ z. Some f) (one_of set)).reads (t ∷ s) ≡ Err (f, t ∷ s) = rw h refl in
         absurd cc
     by_kind false h =
-        let stopped : (allowed set (λ z. Some f) (one_of set)).reads (t ∷ s) ≡ Err (faults.Expected, t ∷ s) = rw h refl in
+        let stopped : (allowed set (λ z. Some f) (one_of set)).reads (t ∷ s) ≡ Err (faults.Expected, t ∷ s) =
+        rw h refl in
         absurd cc
 
 -- what was read wasn't refused
@@ -36,12 +38,15 @@ unfolding one_of token
 one_of_kind k [] = refl
 one_of_kind k (t ∷ s) = refl
 
+-- a keyword is read as one of a set of one
 pub keyword_read : (k : Kind) (said : Option Fault) (s : List Lexeme)
     → (allowed (is k) (λ t. said) (one_of (is k))).reads s ≡ (allowed (is k) (λ t. said) (token k)).reads s
 keyword_read k said s = rw one_of_kind refl
 
+-- a keyword that was read wasn't refused
 pub keyword_room : (k : Kind) (said : Option Fault) (s r : List Lexeme) (result : Result Token ReadError)
     → Gives lexeme result r ((allowed (is k) (λ t. said) (token k)).reads s) → OnOk result (said ≡ None)
 keyword_room k said s r result e =
-    let read : Gives lexeme result r ((allowed (is k) (λ t. said) (one_of (is k))).reads s) = rw (keyword_read k said s) e in
+    let read : Gives lexeme result r ((allowed (is k) (λ t. said) (one_of (is k))).reads s) =
+    rw (keyword_read k said s) e in
     one_of_room (is k) said s r result read

@@ -15,6 +15,7 @@ put_last [] x s = refl
 put_last (y ∷ xs) x s = ap (put y) (put_last xs x s)
 
 -- all of them in front of none
-pub put_sorted : (name : NameText) (comp : CompText) (xs : List Item) → put_all xs (no_items name comp) ≡ sorted name comp xs
+pub put_sorted : (name : NameText) (comp : CompText) (xs : List Item)
+    → put_all xs (no_items name comp) ≡ sorted name comp xs
 put_sorted name comp [] = refl
 put_sorted name comp (x ∷ xs) = ap (put x) (put_sorted name comp xs)

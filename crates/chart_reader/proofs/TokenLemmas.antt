@@ -10,29 +10,35 @@ use Rattle.token_grammar.specs.Token.{Lexeme}
 use Rattle.token_grammar.specs.Grammar.{one_of, token, heads, is, allowed, first_refused}
 
 -- it is taken where it is of the set
-one_taken : (t : Lexeme) (r : List Lexeme) (set : Kind → Bool) → heads set (t ∷ r) ≡ true → (one_of set).reads (t ∷ r) ≡ Ok (t, r)
+one_taken : (t : Lexeme) (r : List Lexeme) (set : Kind → Bool) → heads set (t ∷ r) ≡ true
+    → (one_of set).reads (t ∷ r) ≡ Ok (t, r)
 unfolding one_of
 one_taken t r set h = rw h refl
 
+-- a token of the set is read
 pub one_read : (s : List Lexeme) (t : Lexeme) (r : List Lexeme) (set : Kind → Bool) → s ≡ t ∷ r → heads set s ≡ true
     → (one_of set).reads s ≡ Ok (t, r)
 one_read s t r set e h = rw e (one_taken t r set (rw e at h))
 
 -- and refused where it isn't, or where there is none
-pub one_refused : (s : List Lexeme) (set : Kind → Bool) → heads set s ≡ false → (one_of set).reads s ≡ Err (faults.Expected, s)
+pub one_refused : (s : List Lexeme) (set : Kind → Bool) → heads set s ≡ false
+    → (one_of set).reads s ≡ Err (faults.Expected, s)
 unfolding one_of
 one_refused [] set h = refl
 one_refused (t ∷ s) set h = rw h refl
 
 -- the same of one kind
-token_taken : (t : Lexeme) (r : List Lexeme) (k : Kind) → heads (is k) (t ∷ r) ≡ true → (token k).reads (t ∷ r) ≡ Ok (t, r)
+token_taken : (t : Lexeme) (r : List Lexeme) (k : Kind) → heads (is k) (t ∷ r) ≡ true
+    → (token k).reads (t ∷ r) ≡ Ok (t, r)
 unfolding token
 token_taken t r k h = rw h refl
 
+-- a token of the kind is read
 pub token_read : (s : List Lexeme) (t : Lexeme) (r : List Lexeme) (k : Kind) → s ≡ t ∷ r → heads (is k) s ≡ true
     → (token k).reads s ≡ Ok (t, r)
 token_read s t r k e h = rw e (token_taken t r k (rw e at h))
 
+-- and any other is Expected
 pub token_refused : (s : List Lexeme) (k : Kind) → heads (is k) s ≡ false → (token k).reads s ≡ Err (faults.Expected, s)
 unfolding token
 token_refused [] k h = refl
@@ -45,7 +51,8 @@ allowed_passes k None s t r e = refl
 allowed_passes k (Some f) s t r e =
     elim (cases_Bool (heads (is k) s)) [
       | inl here ↦
-          let refused : first_refused (is k) (λ t. Some f) s ≡ Some f = refused_always (is k) (Some f) s ∙ rw here refl in
+          let refused : first_refused (is k) (λ t. Some f) s ≡ Some f =
+          refused_always (is k) (Some f) s ∙ rw here refl in
           let bad = rw refused at e in cc
       | inr other ↦
           let passes : first_refused (is k) (λ t. Some f) s ≡ None = refused_always (is k) (Some f) s ∙ rw other refl in

@@ -15,21 +15,26 @@ use Rattle.chart_reader.specs.Told.{told}
 abbrev pub behind : {X : Type 0} → List X → Outcome (Counted (List X)) → Outcome (Counted (List X))
 behind front read = and_then read (λ x r. Ok (record { value = front ++ x.value; counts = x.counts }, r))
 
+-- before the first nothing is counted
 pub told_begins : {X : Type 0} (read : Outcome (Counted (List X))) → behind [] read ≡ read
 told_begins (Ok x) = refl
 told_begins (Err e) = refl
 
+-- one more in front is one more counted
 regroup : {X : Type 0} (front : List X) (n : Counts) (x : Counted X) (rest : Outcome (List (Counted X)))
     → behind front (told n (consed x rest)) ≡ behind (front ++ x.value ∷ []) (told x.counts rest)
 regroup front n x (Ok y) =
-    ap (λ (vs : List _). Ok (record { value = vs; counts = counts_behind x.counts y.0 }, y.1)) (sym (append_assoc front (x.value ∷ []) (values y.0)))
+    ap (λ (vs : List _). Ok (record { value = vs; counts = counts_behind x.counts y.0 }, y.1))
+    (sym (append_assoc front (x.value ∷ []) (values y.0)))
 regroup front n x (Err e) = refl
 
 module _ {S X : Type 0} (set : S → Set) (g : S → Grammar (Counted X)) (next : S → Counted X → S) {f : S → Set} {m : Set}
     (good : (z : S) → Good (g z) (f z) false m) where
   -- one more was read
-  pub told_goes_on : (st : S) (n : Counts) (front : List X) (s : List Lexeme) (x : Counted X) (r : List Lexeme) (total : Outcome (Counted (List X)))
-      → heads (set st) s ≡ true → (g st).reads s ≡ Ok (x, r) → behind front (told n ((many_from set g next st).reads s)) ≡ total
+  pub told_goes_on : (st : S) (n : Counts) (front : List X) (s : List Lexeme) (x : Counted X) (r : List Lexeme)
+      (total : Outcome (Counted (List X)))
+      → heads (set st) s ≡ true → (g st).reads s ≡ Ok (x, r)
+      → behind front (told n ((many_from set g next st).reads s)) ≡ total
       → behind (front ++ x.value ∷ []) (told x.counts ((many_from set g next (next st x)).reads r)) ≡ total
   told_goes_on st n front s x r total here one so_far =
       sym (regroup front n x ((many_from set g next (next st x)).reads r))
@@ -37,11 +42,14 @@ module _ {S X : Type 0} (set : S → Set) (g : S → Grammar (Counted X)) (next 
       ∙ so_far
 
   -- reading one failed
-  pub told_fails : (err : ReadError) (st : S) (n : Counts) (front : List X) (s r : List Lexeme) (total : Outcome (Counted (List X)))
-      → heads (set st) s ≡ true → Fails err r ((g st).reads s) → behind front (told n ((many_from set g next st).reads s)) ≡ total → Fails err r total
+  pub told_fails : (err : ReadError) (st : S) (n : Counts) (front : List X) (s r : List Lexeme)
+      (total : Outcome (Counted (List X)))
+      → heads (set st) s ≡ true → Fails err r ((g st).reads s)
+      → behind front (told n ((many_from set g next st).reads s)) ≡ total → Fails err r total
   told_fails errors.Memory st n front s r total here one so_far = tt
   told_fails (errors.Fault d) st n front s r total here one so_far =
-      let stopped : (many_from set g next st).reads s ≡ Err (d, r) = from_one set g next f m good st s here ∙ rw one refl in
+      let stopped : (many_from set g next st).reads s ≡ Err (d, r) =
+      from_one set g next f m good st s here ∙ rw one refl in
       sym so_far ∙ ap (λ o. behind front (told n o)) stopped
 
   -- no more stand there

@@ -7,18 +7,22 @@ use Rattle.token_grammar.specs.Token.{Lexeme}
 use Rattle.token_grammar.specs.Grammar.{heads, is, token}
 use Rattle.token_grammar.proofs.Allowed.{refused_always}
 use Rattle.chart_grammar.specs.Limits.{Limits, Counts, transition_refused}
-use Rattle.chart_grammar.specs.Transitions.{trans, trans_heads, maybe_event, maybe_guard, maybe_block, maybe_action, junction_trans}
+use Rattle.chart_grammar.specs.Transitions.{trans, trans_heads, maybe_event, maybe_guard, maybe_block, maybe_action}
+use Rattle.chart_grammar.specs.Transitions.{junction_trans}
 
+-- where neither holds, the first doesn't
 not_first : (a b : Bool) → (a || b) ≡ false → a ≡ false
 not_first true b h = h
 not_first false b h = refl
 
+-- nor the second
 not_second : (a b : Bool) → (a || b) ≡ false → b ≡ false
 not_second true b h = absurd cc
 not_second false b h = h
 
 -- where no transition begins, its arrow is missing
-trans_misses : (l : Limits) (n : Counts) (at : Span) (s : List Lexeme) → heads trans_heads s ≡ false → (trans l n at).reads s ≡ Err (faults.Expected, s)
+trans_misses : (l : Limits) (n : Counts) (at : Span) (s : List Lexeme) → heads trans_heads s ≡ false
+    → (trans l n at).reads s ≡ Err (faults.Expected, s)
 unfolding trans maybe_event maybe_guard maybe_block maybe_action token
 trans_misses l n at [] h = refl
 trans_misses l n at (t ∷ s) h =
@@ -32,6 +36,7 @@ trans_misses l n at (t ∷ s) h =
     let arrow = not_second (is kinds.Slash t.kind) _ rest in
     rw (name, bracket, brace, slash, arrow) refl
 
+-- where no transition is at hand, none is read
 pub junction_trans_misses : (l : Limits) (n : Counts) (s : List Lexeme) → heads trans_heads s ≡ false
     → (junction_trans l n).reads s ≡ Err (faults.Expected, s)
 unfolding junction_trans

@@ -16,7 +16,8 @@ rest_or d (Ok p) = p.1
 rest_or d (Err e) = d
 
 -- reading takes it
-pub type_taken : (s r : List Lexeme) (t : Lexeme) (word : TypeWord) → first_type s ≡ Some word → (token kinds.Name).reads s ≡ Ok (t, r)
+pub type_taken : (s r : List Lexeme) (t : Lexeme) (word : TypeWord) → first_type s ≡ Some word
+    → (token kinds.Name).reads s ≡ Ok (t, r)
     → type_name.reads s ≡ Ok (word, r)
 unfolding token type_name
 type_taken [] r t word named e = absurd cc
@@ -25,12 +26,14 @@ type_taken (u ∷ s) r t word named e =
       | inl is_so ↦
           let read = rw is_so at e in
           let same : s ≡ r = ap (rest_or s) read in
-          rw (is_so, named) (ap (λ (w : Option TypeWord). Ok (named_type w, s)) named ∙ ap (λ (q : List Lexeme). Ok (word, q)) same)
+          rw (is_so, named)
+          (ap (λ (w : Option TypeWord). Ok (named_type w, s)) named ∙ ap (λ (q : List Lexeme). Ok (word, q)) same)
       | inr not_so ↦ let read = rw not_so at e in absurd cc
     ]
 
 -- where it isn't a token of kind Name, reading stops
-pub type_fails : (err : ReadError) (s r : List Lexeme) (word : TypeWord) → first_type s ≡ Some word → Fails err r ((token kinds.Name).reads s)
+pub type_fails : (err : ReadError) (s r : List Lexeme) (word : TypeWord) → first_type s ≡ Some word
+    → Fails err r ((token kinds.Name).reads s)
     → Fails err r (type_name.reads s)
 unfolding token type_name
 type_fails errors.Memory s r word named e = tt

@@ -3,7 +3,8 @@ use Rattle.std.specs.Prelude.{Bool}
 use Rattle.token_grammar.specs.declared.token.Kind.{Kind}
 use Rattle.token_grammar.specs.declared.token.Kind.TheVariants as kinds
 use Rattle.token_grammar.specs.Grammar.{is}
-use Rattle.chart_grammar.specs.Expressions.{product_heads, sum_heads, comparison_heads, sign_heads, nested_heads, flag_heads}
+use Rattle.chart_grammar.specs.Expressions.{product_heads, sum_heads, comparison_heads, sign_heads, nested_heads}
+use Rattle.chart_grammar.specs.Expressions.{flag_heads}
 use Rattle.chart_grammar.specs.Transitions.{stmt_heads, trans_heads}
 use Rattle.chart_grammar.specs.Types.{mode_heads}
 use Rattle.chart_grammar.specs.Declarations.{kind_heads}

@@ -1,5 +1,5 @@
 -- Which texts are chart texts, and how another text is refused.
-use Rattle.std.specs.Prelude.{◌≡◌, ℕ, ◌<◌, ◌≤◌, not, List, [], ◌∷◌, length, Result, Ok, Err, ◌⊎◌}
+use Rattle.std.specs.Prelude.{◌≡◌, ◌≢◌, ℕ, ◌<◌, ◌≤◌, not, List, [], ◌∷◌, length, Result, Ok, Err, ◌⊎◌}
 use Rattle.std.specs.List.{filter}
 use Rattle.token_grammar.specs.declared.token.Kind.TheVariants as kinds
 use Rattle.token_grammar.specs.declared.token.Span.{Span}
@@ -7,26 +7,28 @@ use Rattle.token_grammar.specs.declared.fault.Fault.{Fault}
 use Rattle.token_grammar.specs.declared.fault.Fault.TheVariants as reading
 use Rattle.token_grammar.specs.Token.{Lexeme, kind_eq}
 use Rattle.token_grammar.specs.Grammar.{Continues, FirstFault}
-use Rattle.chart_lexer.specs.declared.front.Stop.{Stop}
 use Rattle.chart_lexer.specs.declared.front.Stop.TheVariants as stops
-use Rattle.chart_lexer.specs.Lex.{cut_of, begin}
-use Rattle.chart_tree.specs.declared.fault.FormKind.TheVariants as forms
+use Rattle.chart_lexer.specs.Lex.{cut_of}
+use Rattle.chart_tree.specs.declared.fault.FormKind.{FormKind}
 use Rattle.chart_tree.specs.declared.fault.FormFault.{FormFault}
 use Rattle.chart_tree.specs.declared.fault.FormFault.TheVariants as faults
 use Rattle.chart_tree.specs.declared.chart.ChartText.{ChartText}
+use Rattle.chart_tree.specs.declared.limits.TheConstants.{CHART_TEXT_LIMIT}
 use Rattle.chart_tree.specs.Trees.{Chart}
+use Rattle.chart_tree.specs.Form.{kind_of, IsTooLong}
 use Rattle.chart_tree.specs.Views.{chart_of}
 use Rattle.chart_grammar.specs.Limits.{usual}
 use Rattle.chart_grammar.specs.States.{chart}
 use Rattle.chart_grammar.specs.Refusals.{IsFaultOf}
+use Rattle.chart_reader.specs.Answer.{end_kind}
 
 -- the tokens of a text, without its comments
 unfoldable pub tokens_of : List ℕ → List Lexeme
 tokens_of text = filter (λ t. not (kind_eq t.kind kinds.Comment)) (cut_of text).tokens
 
--- a text of at most 1,048,576 bytes, whose tokens to its end spell the chart within the limits
+-- a text of at most CHART_TEXT_LIMIT bytes, whose tokens to its end spell the chart within the limits
 pub record Spells (text : List ℕ) (c : Chart) : Type 0 where
-  pub short : length text ≤ 1048576
+  pub short : length text ≤ CHART_TEXT_LIMIT
   pub whole : (cut_of text).stop ≡ stops.End
   pub spelled : (chart usual).spells (tokens_of text) c
 
@@ -46,36 +48,33 @@ pub record StopsAt (text : List ℕ) (fault : Fault) (at : Span) : Type 0 where
   pub kind : IsFaultOf stops.before first fault
   pub place : at ≡ first.at
 
--- after tokens that continue, no token begins
-pub record NoToken (text : List ℕ) (stop : Stop) (at : Span) : Type 0 where
-  pub stop_is : (cut_of text).stop ≡ stop
+-- when a fault of reading comes, and where: at the first token that doesn't continue, or, as Expected,
+-- at the end of a text that ends too early
+abbrev pub Stops : List ℕ → Fault → Span → Type 0
+Stops text fault at = StopsAt text fault at ⊎ (fault ≡ reading.Expected) × EndsEarly text at
+
+-- after tokens that continue, no token begins, and the kind says what stands there: a byte that no
+-- chart text may have, or one that begins no token
+pub record NoToken (text : List ℕ) (kind : FormKind) (at : Span) : Type 0 where
+  pub cut_short : (cut_of text).stop ≢ stops.End
+  pub kind_is : kind ≡ end_kind (cut_of text).stop
   pub continues : Continues (chart usual) (tokens_of text)
   pub place : at ≡ (cut_of text).at
 
--- when a fault of reading comes, and where
-abbrev pub Stops : List ℕ → Fault → Span → Type 0
-Stops text reading.Expected at = EndsEarly text at ⊎ StopsAt text reading.Expected at
-Stops text reading.LiteralTooLong at = StopsAt text reading.LiteralTooLong at
-Stops text reading.LiteralNotBinary at = StopsAt text reading.LiteralNotBinary at
-Stops text reading.NestTooDeep at = StopsAt text reading.NestTooDeep at
-Stops text (reading.TooMany thing) at = StopsAt text (reading.TooMany thing) at
+-- reading stops there, and the kind is that of its fault
+pub record ReadingStops (text : List ℕ) (kind : FormKind) (at : Span) : Type 0 where
+  pub fault : Fault
+  pub kind_is : kind ≡ kind_of fault
+  pub stops : Stops text fault at
 
--- a text that isn't too long has that fault there
-abbrev pub Within : List ℕ → Type 0 → Type 0
-Within text refused = (length text ≤ 1048576) × refused
+-- a text that isn't too long is refused where no token begins, or where reading stops
+abbrev pub IsRefusedWithin : List ℕ → FormKind → Span → Type 0
+IsRefusedWithin text kind at =
+    (length text ≤ CHART_TEXT_LIMIT) × (NoToken text kind at ⊎ ReadingStops text kind at)
 
--- when each fault comes, and where
+-- when a text is refused, with which kind of fault and where; memory may run out at any text
 abbrev pub IsRefusal : List ℕ → FormFault → Type 0
-IsRefusal text (faults.At forms.BadByte at) = Within text (NoToken text stops.BadByte at)
-IsRefusal text (faults.At forms.BadToken at) = Within text (NoToken text stops.BadToken at)
-IsRefusal text (faults.At forms.Expected at) = Within text (Stops text reading.Expected at)
-IsRefusal text (faults.At forms.LiteralTooLong at) = Within text (Stops text reading.LiteralTooLong at)
-IsRefusal text (faults.At forms.LiteralNotBinary at) =
-    Within text (Stops text reading.LiteralNotBinary at)
-IsRefusal text (faults.At forms.TextTooLong at) = (1048576 < length text) × (at ≡ begin)
-IsRefusal text (faults.At forms.NestTooDeep at) = Within text (Stops text reading.NestTooDeep at)
-IsRefusal text (faults.At (forms.TooMany thing) at) = Within text (Stops text (reading.TooMany thing) at)
-IsRefusal text (faults.At forms.NotBuilt at) = ⊥
+IsRefusal text (faults.At kind at) = IsTooLong text kind at ⊎ IsRefusedWithin text kind at
 IsRefusal text faults.Memory = Unit {0}
 
 -- this chart was read, unless memory ran out

@@ -1,5 +1,6 @@
 -- Types of the code as contracts see them.
-use Rattle.std.specs.Prelude.{ℕ, nat_lt, true, false, take, drop, codes, bytes_eq, List, [], ◌∷◌, Option, Some, None, if◌then◌else◌}
+use Rattle.std.specs.Prelude.{ℕ, nat_lt, true, false, take, drop, codes, bytes_eq, List, [], ◌∷◌, Option, Some, None}
+use Rattle.std.specs.Prelude.{if◌then◌else◌}
 use Rattle.token_grammar.specs.Token.{Lexeme}
 use Rattle.chart_tree.specs.Trees.{ScaleParts}
 use Rattle.chart_tree.specs.Views.{parts_of}

@@ -5,6 +5,10 @@ ghost use Rattle.chart_grammar.specs.Limits.{usual};
 ghost use Rattle.chart_grammar.specs.States as states;
 ghost use Rattle.chart_reader.specs.Counts.{counts_of};
 
+use chart_tree::{
+    EVENT_LIMIT, ITEM_LIMIT, JUNCTION_LIMIT, OPERATOR_LIMIT, STATE_LIMIT, STATEMENT_LIMIT,
+    TRANSITION_LIMIT, VARIABLE_LIMIT,
+};
 use token_grammar::{Fault, Thing};
 
 /// How many things have begun so far.
@@ -23,18 +27,18 @@ fn most(thing: Thing) -> u32
     ensures { result ≡ spec.most thing }
 {
     match thing {
-        Thing::States => 1_024,
-        Thing::Junctions => 4_096,
-        Thing::Transitions => 8_192,
-        Thing::Variables => 512,
-        Thing::Events => 512,
-        Thing::Statements => 256,
-        Thing::Operators => 64,
-        Thing::Items => 20_000,
+        Thing::States => STATE_LIMIT,
+        Thing::Junctions => JUNCTION_LIMIT,
+        Thing::Transitions => TRANSITION_LIMIT,
+        Thing::Variables => VARIABLE_LIMIT,
+        Thing::Events => EVENT_LIMIT,
+        Thing::Statements => STATEMENT_LIMIT,
+        Thing::Operators => OPERATOR_LIMIT,
+        Thing::Items => ITEM_LIMIT,
     }
 }
 
-/// What is wrong with one more of a thing where there are so many.
+/// What is wrong with one more of a thing where there are `count`.
 pub(crate) fn one_more(thing: Thing, count: u32) -> Option<Fault>
     ensures { result ≡ spec.one_more usual thing count }
 {
@@ -60,7 +64,7 @@ impl Counts {
         }
     }
 
-    /// What is wrong with one more of a thing where there are so many, which is one more item too.
+    /// What is wrong with one more of a thing where there are `count`, which is one more item too.
     fn one_more_item(self, thing: Thing, count: u32) -> Option<Fault>
         ensures { result ≡ spec.one_more_item usual thing count (counts_of self) }
     {
@@ -105,7 +109,7 @@ impl Counts {
         self.one_more_item(Thing::Events, self.events)
     }
 
-    /// The fault of one more statement in a block that has so many.
+    /// The fault of one more statement in a block that has `before` of them.
     pub fn statement_refused(self, before: u32) -> Option<Fault>
         ensures { result ≡ spec.statement_refused usual before (counts_of self) }
     {

@@ -10,11 +10,8 @@ ghost use Rattle.chart_reader.specs.Operands.{operand_of, tail_of, group_of, bel
 use crate::group::Group;
 use crate::operands::{Level, Operand, Tail, bin_word, un_word, with_tail};
 use crate::reader::Reader;
-use chart_tree::ExprText;
+use chart_tree::{ExprText, OPERATOR_LIMIT};
 use token_grammar::{Fault, Kind, ReadError, Thing};
-
-/// How deep expressions may be nested.
-const NESTING: u32 = 64;
 
 impl<'t, 'a> Reader<'t, 'a> {
     /// An operator of the level and the operand after it.
@@ -155,7 +152,7 @@ impl<'t, 'a> Reader<'t, 'a> {
             ((grammar.expr usual).reads (lexemes self.old.rest.now)) }
         ensures counts { self.new.counts ≡ self.old.counts }
     {
-        let whole = self.chain(Level::Disjunctions, NESTING, 0)?;
+        let whole = self.chain(Level::Disjunctions, OPERATOR_LIMIT, 0)?;
         Ok(whole.expr)
     }
 }

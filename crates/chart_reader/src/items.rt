@@ -13,12 +13,9 @@ ghost use Rattle.chart_reader.specs.Told.{told};
 use crate::content::{Item, Seen};
 use crate::group::Group;
 use crate::reader::Reader;
-use chart_tree::{JunctionText, StmtText, TransText};
+use chart_tree::{JunctionText, STATE_DEPTH_LIMIT, StmtText, TransText};
 use flow_base::List;
 use token_grammar::{Kind, ReadError};
-
-/// How deep states may be nested.
-const DEPTH: u32 = 16;
 
 impl<'t, 'a> Reader<'t, 'a> {
     /// The transitions of a junction.
@@ -96,7 +93,7 @@ impl<'t, 'a> Reader<'t, 'a> {
         }
     }
 
-    /// An item of a state, with states nested so deep in it at most.
+    /// An item of a state, with states nested at most `depth` deep in it.
     #[cycle(state)]
     #[tactic(auto, unfolding(chart_grammar::specs::States::item, chart_grammar::specs::States::trans_item, chart_grammar::specs::States::junction_item))]
     fn item(&mut self, depth: u32) -> Result<Item, ReadError>
@@ -151,7 +148,7 @@ impl<'t, 'a> Reader<'t, 'a> {
     fn chart_item(&mut self) -> Result<Item, ReadError>
         ensures { Gives (λ x. record { value = item_of x; counts = counts_of self.new.counts })
             result (lexemes self.new.rest.now)
-            ((states.chart_item usual (states.state usual 16)
+            ((states.chart_item usual (states.state usual STATE_DEPTH_LIMIT)
             (states.nothing_seen (counts_of self.old.counts))).reads
             (lexemes self.old.rest.now)) }
     {
@@ -170,7 +167,7 @@ impl<'t, 'a> Reader<'t, 'a> {
         } else if self.is_at_one_of(Group::Kinds) {
             Ok(Item::Var(self.variable()?))
         } else {
-            Ok(Item::State(self.state(DEPTH)?))
+            Ok(Item::State(self.state(STATE_DEPTH_LIMIT)?))
         }
     }
 
@@ -180,7 +177,7 @@ impl<'t, 'a> Reader<'t, 'a> {
             (λ v. record { value = map item_of v.items; counts = counts_of self.new.counts })
             result (lexemes self.new.rest.now)
             (told (counts_of self.old.counts)
-            ((states.chart_items usual (states.state usual 16)
+            ((states.chart_items usual (states.state usual STATE_DEPTH_LIMIT)
             (states.nothing_seen (counts_of self.old.counts))).reads
             (lexemes self.old.rest.now))) }
     {

@@ -10,16 +10,19 @@ mod declarations;
 mod expressions;
 mod group;
 mod items;
+mod laws;
 mod lists;
 mod operands;
 mod reader;
 mod statements;
 mod states;
-#[cfg(test)]
-mod tests;
 mod text;
 mod transitions;
 mod types;
 mod words;
 
+pub use laws::{
+    a_refused_text_spells_no_chart, a_text_has_one_refusal, a_text_is_a_chart_or_is_refused,
+    a_text_spells_one_chart,
+};
 pub use text::read_chart;

@@ -3,6 +3,7 @@ ghost use Rattle.std.specs.Prelude.{◌≡◌, ◌<◌, IfOk, OnOk};
 ghost use Rattle.token_grammar.specs.Token.{lexeme, lexemes, Gives};
 ghost use Rattle.token_grammar.specs.declared.token.Kind.TheVariants as kinds;
 ghost use Rattle.token_grammar.specs.Grammar.{is};
+ghost use Rattle.chart_tree.specs.declared.limits.TheConstants.{OPERATOR_LIMIT};
 ghost use Rattle.chart_grammar.specs.Limits.{usual};
 ghost use Rattle.chart_grammar.specs.Expressions as grammar;
 ghost use Rattle.chart_reader.specs.Groups.{set_of};
@@ -21,7 +22,7 @@ use token_grammar::{Kind, ReadError, Span, Thing, Token};
 pub(crate) struct Operand {
     /// The expression.
     pub expr: ExprText,
-    /// How many operators and opening parentheses, 64 at most.
+    /// How many operators and opening parentheses, at most `OPERATOR_LIMIT`.
     pub operators: u32,
 }
 
@@ -117,26 +118,26 @@ pub(crate) fn with_tail(alloc: Global, left: Operand, tail: Tail) -> Result<Oper
 }
 
 impl<'t, 'a> Reader<'t, 'a> {
-    /// An operator, where there were so many.
+    /// An operator, after `before` of them.
     #[tactic(auto, unfolding(chart_grammar::specs::Expressions::operator))]
     pub fn operator(&mut self, group: Group, before: u32) -> Result<Token<'a>, ReadError>
         ensures read { Gives lexeme result (lexemes self.new.rest.now)
             ((grammar.operator usual (set_of group) before).reads
             (lexemes self.old.rest.now)) }
         ensures counts { self.new.counts ≡ self.old.counts }
-        ensures room { OnOk result (before < 64) }
+        ensures room { OnOk result (before < OPERATOR_LIMIT) }
     {
         let refused = one_more(Thing::Operators, before);
         self.allowed_one_of(group, refused)
     }
 
-    /// An opening parenthesis, where there were so many operators.
+    /// An opening parenthesis, after `before` operators.
     pub fn opening(&mut self, before: u32) -> Result<Token<'a>, ReadError>
         ensures read { Gives lexeme result (lexemes self.new.rest.now)
             ((grammar.operator usual (is kinds.OpenParen) before).reads
             (lexemes self.old.rest.now)) }
         ensures counts { self.new.counts ≡ self.old.counts }
-        ensures room { OnOk result (before < 64) }
+        ensures room { OnOk result (before < OPERATOR_LIMIT) }
     {
         let refused = one_more(Thing::Operators, before);
         self.allowed_token(Kind::OpenParen, refused)
@@ -196,7 +197,7 @@ impl<'t, 'a> Reader<'t, 'a> {
         })
     }
 
-    /// An operand without an operator, where there were so many.
+    /// An operand without an operator, after `before` operators.
     #[tactic(auto, unfolding(chart_grammar::specs::Expressions::plain))]
     pub fn plain(&mut self, before: u32) -> Result<Operand, ReadError>
         ensures read { Gives operand_of result (lexemes self.new.rest.now)

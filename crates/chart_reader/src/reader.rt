@@ -8,7 +8,7 @@ ghost use Rattle.chart_reader.specs.Named.{AreNamed};
 use crate::counts::Counts;
 use crate::group::Group;
 use std::alloc::Global;
-use token_grammar::{Fault, Kind, ReadError, Token};
+use token_grammar::{Cursor, Fault, Kind, ReadError, Token};
 
 /// Reads the tokens of a chart text. It never moves past the token at which it stops.
 #[derive(Drop)]
@@ -25,10 +25,11 @@ impl<'t, 'a> Reader<'t, 'a> {
     pub fn is_at(&self, kind: Kind) -> bool
         ensures { result ≡ heads (is kind) (lexemes self.now.rest.now) }
     {
-        match self.rest {
-            [token, ..] => token.kind == kind,
-            [] => false,
-        }
+        let cursor = Cursor {
+            alloc: self.alloc,
+            rest: self.rest,
+        };
+        cursor.is_at(kind)
     }
 
     /// Whether the token at hand is of the group.

@@ -92,7 +92,7 @@ impl<'t, 'a> Reader<'t, 'a> {
         }
     }
 
-    /// A statement of a block that has so many before it.
+    /// A statement of a block that has `before` of them before it.
     #[tactic(auto, unfolding(chart_grammar::specs::Transitions::next_stmt))]
     fn next_stmt(&mut self, before: u32) -> Result<StmtText, ReadError>
         ensures read { Gives stmt_of result (lexemes self.new.rest.now)

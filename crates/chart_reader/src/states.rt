@@ -57,7 +57,7 @@ impl<'t, 'a> Reader<'t, 'a> {
         }
     }
 
-    /// A state, nested so deep at most.
+    /// A state, where it and the states nested in it take at most `depth` levels.
     #[cycle(state)]
     pub fn state(&mut self, depth: u32) -> Result<StateText, ReadError>
         ensures { Gives (λ s. record { value = state_of s; counts = counts_of self.new.counts })
@@ -71,7 +71,7 @@ impl<'t, 'a> Reader<'t, 'a> {
         self.state_over(depth - 1)
     }
 
-    /// A state with states nested so deep in it at most, where there is room for one more.
+    /// A state with states nested at most `depth` deep in it, where there is room for one more.
     #[cycle(state)]
     #[tactic(auto, unfolding(chart_grammar::specs::States::state_over))]
     fn state_over(&mut self, depth: u32) -> Result<StateText, ReadError>

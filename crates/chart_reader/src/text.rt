@@ -16,12 +16,9 @@ ghost use Rattle.chart_reader.specs.Text.{Spells, IsReadAs, IsRefusal};
 use crate::counts::Counts;
 use crate::reader::Reader;
 use chart_lexer::{Stop, lex};
-use chart_tree::{ChartText, FormFault, FormKind};
+use chart_tree::{CHART_TEXT_LIMIT, ChartText, FormFault, FormKind};
 use std::alloc::{AllocError, Global};
 use token_grammar::{Fault, Kind, ReadError, Span, Token};
-
-/// The greatest number of bytes in a chart text.
-const LONGEST: usize = 1_048_576;
 
 impl<'t, 'a> Reader<'t, 'a> {
     /// A chart, and then the end.
@@ -108,7 +105,7 @@ fn without_comments<'a>(alloc: Global, tokens: &[Token<'a>]) -> Result<Vec<Token
 
 /// The chart that the text spells.
 ///
-/// A text of over 1,048,576 bytes is `TextTooLong` at its first byte, before all else. Any other
+/// A text of over `CHART_TEXT_LIMIT` bytes is `TextTooLong` at its first byte, before all else. Any other
 /// text that is no chart text is refused at its first token, byte or end that doesn't continue one
 /// within the limits, with the fault that it has there.
 pub fn read_chart(alloc: Global, text: &[u8]) -> Result<ChartText, FormFault>
@@ -119,7 +116,7 @@ pub fn read_chart(alloc: Global, text: &[u8]) -> Result<ChartText, FormFault>
     // Each refusal has its cause and its place.
     ensures refused { IfErr result (IsRefusal text.now) }
 {
-    if text.len() > LONGEST {
+    if text.len() > CHART_TEXT_LIMIT {
         let begin = Span { line: 1, column: 1 };
         return Err(FormFault::At(FormKind::TextTooLong, begin));
     }

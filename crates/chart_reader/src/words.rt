@@ -1,32 +1,21 @@
 //! Reads names, paths and numbers.
-ghost use Rattle.std.specs.Prelude.{◌≡◌, ◌≤◌, true, IfSome, IfOk, IsOk};
+ghost use Rattle.std.specs.Prelude.{◌≡◌, ◌≤◌, IfSome, IfOk, IsOk};
 ghost use Rattle.flow_base.specs.Lists.{items_of};
 ghost use Rattle.token_grammar.specs.Token.{lexeme, lexemes, Gives};
 ghost use Rattle.token_grammar.specs.declared.token.Kind.TheVariants as kinds;
 ghost use Rattle.token_grammar.specs.Grammar.{is, many, first_refused};
+ghost use Rattle.fixed_point.specs.declared.scale.TheConstants.{PLACES_LIMIT};
 ghost use Rattle.fixed_point.specs.Reading.{number_read};
-ghost use Rattle.chart_lexer.specs.Words.{is_name};
 ghost use Rattle.chart_tree.specs.Views.{path_of};
 ghost use Rattle.chart_grammar.specs.Limits.{usual, unless_lifted};
 ghost use Rattle.chart_grammar.specs.Words as spec;
 
 use crate::reader::Reader;
+use chart_lexer::name_text;
 use chart_tree::{LitText, NameText, PathText};
 use fixed_point::{NumFault, read_decimal, split_number, value_after};
-use flow_base::{List, Text};
-use std::alloc::{AllocError, Global};
+use flow_base::List;
 use token_grammar::{Fault, Kind, ReadError, Token};
-
-/// The bytes of a name as a text of their own.
-fn name_text(alloc: Global, name: &[u8]) -> Result<Text, AllocError>
-    requires { is_name name.now ≡ true }
-    ensures { IfOk result (λ t. t ≡ name.now) }
-{
-    match str::from_utf8(name) {
-        Ok(text) => Ok(Text::of(String::from_str(alloc, text)?)),
-        Err(_) => unreachable!(),
-    }
-}
 
 /// What is wrong with the text of a number.
 fn literal_fault(text: &[u8]) -> Option<Fault>
@@ -42,7 +31,7 @@ fn literal_fault(text: &[u8]) -> Option<Fault>
 
 /// The bits that `q` asks for, in a byte.
 fn short_bits(bits: Option<u32>) -> Option<u8>
-    requires { IfSome bits (λ b. b ≤ 32) }
+    requires { IfSome bits (λ b. b ≤ PLACES_LIMIT) }
     ensures { result ≡ bits }
 {
     match bits {

@@ -1,10 +1,12 @@
--- How the kinds of fault of a text are printed.
-use Rattle.std.specs.Prelude.{ℕ, List, codes}
+-- The kinds of fault of a text: how they are printed, and when a text is too long.
+use Rattle.std.specs.Prelude.{◌≡◌, ℕ, ◌<◌, List, length, codes}
+use Rattle.token_grammar.specs.declared.token.Span.{Span}
 use Rattle.token_grammar.specs.declared.fault.Fault.{Fault}
 use Rattle.token_grammar.specs.declared.fault.Fault.TheVariants as reading
 use Rattle.token_grammar.specs.declared.fault.Thing.TheVariants as things
 use Rattle.chart_tree.specs.declared.fault.FormKind.{FormKind}
 use Rattle.chart_tree.specs.declared.fault.FormKind.TheVariants as forms
+use Rattle.chart_tree.specs.declared.limits.TheConstants.{CHART_TEXT_LIMIT}
 
 -- the kind of a fault of reading
 abbrev pub kind_of : Fault → FormKind
@@ -44,3 +46,9 @@ form_name (forms.TooMany things.Statements) = codes "TooMany statements"
 form_name (forms.TooMany things.Operators) = codes "TooMany operators"
 form_name (forms.TooMany things.Items) = codes "TooMany items"
 form_name forms.NotBuilt = codes "NotBuilt"
+
+-- a text that is too long is refused at its first byte, before all else
+pub record IsTooLong (text : List ℕ) (kind : FormKind) (at : Span) : Type 0 where
+  pub kind_is : kind ≡ forms.TextTooLong
+  pub long : CHART_TEXT_LIMIT < length text
+  pub place : at ≡ record { line = 1; column = 1 }

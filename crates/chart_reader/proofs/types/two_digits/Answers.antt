@@ -2,11 +2,14 @@ use Rattle.std.proofs.Common.{sym, arith}
 use Rattle.std.proofs.lemmas.Bool.Decides.{nat_tests}
 use Rattle.chart_reader.proofs.DigitLemmas.{two_are, two_other}
 use Rattle.chart_reader.proofs.types.two_digits.Goals as goal
-use Rattle.chart_reader.proofs.types.two_digits.Goals.{else-is_ascii_digit-via-then-is_ascii_digit+then-tens-ne48+else-is_ascii_digit-2, else-is_ascii_digit-via-then-is_ascii_digit+else-tens-ne48, else-is_ascii_digit-via-else-is_ascii_digit}
+use Rattle.chart_reader.proofs.types.two_digits.Goals.{else-is_ascii_digit-via-then-is_ascii_digit+then-tens-ne48+else-is_ascii_digit-2}
+use Rattle.chart_reader.proofs.types.two_digits.Goals.{else-is_ascii_digit-via-then-is_ascii_digit+else-tens-ne48}
+use Rattle.chart_reader.proofs.types.two_digits.Goals.{else-is_ascii_digit-via-else-is_ascii_digit}
 
 pub returns-then-is_ascii_digit-2 : goal.returns-then-is_ascii_digit-2
 returns-then-is_ascii_digit-2 c =
-    sym (two_are c.args.tens c.args.digit (grind (arith, nat_tests)) (grind (arith, nat_tests)) (grind (arith, nat_tests)) (grind (arith, nat_tests)))
+    sym (two_are c.args.tens c.args.digit (grind (arith, nat_tests)) (grind (arith, nat_tests))
+    (grind (arith, nat_tests)) (grind (arith, nat_tests)))
 
 pub returns-else-is_ascii_digit : goal.returns-else-is_ascii_digit
 returns-else-is_ascii_digit c =

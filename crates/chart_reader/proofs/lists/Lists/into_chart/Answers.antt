@@ -16,7 +16,8 @@ returns-clause-chart c =
     let events : items_of c.of-6.result ≡ reverse s.events.items = c.of-6.ensures ∙ c.reverse-6.ensures.items in
     let vars : items_of c.of-7.result ≡ reverse s.vars.items = c.of-7.ensures ∙ c.reverse-7.ensures.items in
     let comp : c.comp_with.result ≡ comp_with s.comp (children_of (reverse s.states.items)) =
-    c.comp_with.ensures ∙ ap (λ ss. comp_with s.comp (children_of ss)) (c.deref.ensures.value ∙ c.reverse-5.ensures.items) in
+    c.comp_with.ensures
+    ∙ ap (λ ss. comp_with s.comp (children_of ss)) (c.deref.ensures.value ∙ c.reverse-5.ensures.items) in
     rw (rolled, outer, inner, default, junctions, states, events, vars, comp) refl
 
 pub returns-clause-root : goal.returns-clause-root
@@ -28,5 +29,6 @@ returns-clause-root c =
     let junctions : items_of c.of-4.result ≡ reverse s.junctions.items = c.of-4.ensures ∙ c.reverse-4.ensures.items in
     let states : items_of c.of-5.result ≡ reverse s.states.items = c.of-5.ensures ∙ c.reverse-5.ensures.items in
     let comp : c.comp_with.result ≡ comp_with s.comp (children_of (reverse s.states.items)) =
-    c.comp_with.ensures ∙ ap (λ ss. comp_with s.comp (children_of ss)) (c.deref.ensures.value ∙ c.reverse-5.ensures.items) in
+    c.comp_with.ensures
+    ∙ ap (λ ss. comp_with s.comp (children_of ss)) (c.deref.ensures.value ∙ c.reverse-5.ensures.items) in
     rw (rolled, outer, inner, default, junctions, states, comp) refl

@@ -36,8 +36,10 @@ abbrev pub invariant-chain-operators : goal.invariant-chain-operators
 invariant-chain-operators l = record {
   counts : l.self.counts ≡ l.fn.self.counts;
   so_far : resumed (operand_of l.left)
-      ((tails usual (set_of (group_of l.level)) (below l.level (unary usual l.depth)) l.left.operators).reads (lexemes l.self.rest.now))
-      ≡ (chain usual (set_of (group_of l.level)) (below l.level (unary usual l.depth)) l.before).reads (lexemes l.fn.self.rest.now);
+      ((tails usual (set_of (group_of l.level)) (below l.level (unary usual l.depth)) l.left.operators).reads
+      (lexemes l.self.rest.now))
+      ≡ (chain usual (set_of (group_of l.level)) (below l.level (unary usual l.depth)) l.before).reads
+      (lexemes l.fn.self.rest.now);
 }
 
 abbrev pub decreases-chain-operators : goal.decreases-chain-operators

@@ -21,27 +21,33 @@ items-items-init t c =
     let st = state usual c.args.depth in
     let n = counts_of c.args.self.now.counts in
     items_begin item_heads (item usual st) (good_next_item usual (good_state usual c.args.depth)) (λ z s. refl)
-    c.nothing-seen.result n c.new-found.result.items (lexemes c.args.self.now.rest.now) (c.nothing-seen.ensures n) c.new-found.ensures.items
+    c.nothing-seen.result n c.new-found.result.items (lexemes c.args.self.now.rest.now)
+    (c.nothing-seen.ensures n) c.new-found.ensures.items
 
 pub items-returns-in_err-item : goal.items-returns-in_err-item
 unfolding items item
 items-returns-in_err-item t c =
     let p = err_from_is_err_and c.from_residual.result c.from_residual.ensures.1 in
     let st = state usual c.args.depth in
-    let here : heads (item_heads (seen_of c.items.seen (counts_of c.items.self.counts))) (lexemes c.items.self.rest.now) ≡ true =
+    let here : heads (item_heads (seen_of c.items.seen (counts_of c.items.self.counts)))
+    (lexemes c.items.self.rest.now) ≡ true =
     sym c.is_at_item.ensures ∙ c.items-test.true in
     rw (p.1, p.2)
-    (items_fail item_heads (item usual st) (good_next_item usual (good_state usual c.args.depth)) (λ z s. refl) c.in_err-item.field-0.0
-    c.items.seen (counts_of c.items.self.counts) c.items.found.items (lexemes c.items.self.rest.now) _ _ here c.in_err-item.ensures c.items.invariant)
+    (items_fail item_heads (item usual st) (good_next_item usual (good_state usual c.args.depth))
+    (λ z s. refl) c.in_err-item.field-0.0
+    c.items.seen (counts_of c.items.self.counts) c.items.found.items
+    (lexemes c.items.self.rest.now) _ _ here c.in_err-item.ensures c.items.invariant)
 
 pub items-items-smaller : goal.items-items-smaller
 unfolding item
 items-items-smaller t c =
     let st = state usual c.args.depth in
-    let here : heads (item_heads (seen_of c.items.seen (counts_of c.items.self.counts))) (lexemes c.items.self.rest.now) ≡ true =
+    let here : heads (item_heads (seen_of c.items.seen (counts_of c.items.self.counts)))
+    (lexemes c.items.self.rest.now) ≡ true =
     sym c.is_at_item.ensures ∙ c.items-test.true in
     items_fewer item_heads (item usual st) (good_next_item usual (good_state usual c.args.depth)) (λ z s. refl)
-    c.items.seen (counts_of c.items.self.counts) _ c.items.self.rest.now c.item.new.self.rest.now here c.in_ok-item.ensures
+    c.items.seen
+    (counts_of c.items.self.counts) _ c.items.self.rest.now c.item.new.self.rest.now here c.in_ok-item.ensures
 
 pub items-items-preserved : goal.items-items-preserved
 unfolding items item
@@ -49,9 +55,11 @@ items-items-preserved t c =
     let st = state usual c.args.depth in
     let n = counts_of c.items.self.counts in
     let m = counts_of c.item.new.self.counts in
-    let here : heads (item_heads (seen_of c.items.seen n)) (lexemes c.items.self.rest.now) ≡ true = sym c.is_at_item.ensures ∙ c.items-test.true in
+    let here : heads (item_heads (seen_of c.items.seen n)) (lexemes c.items.self.rest.now) ≡ true =
+    sym c.is_at_item.ensures ∙ c.items-test.true in
     items_go_on item_heads (item usual st) (good_next_item usual (good_state usual c.args.depth)) (λ z s. refl)
-    c.items.seen c.after-seen.result n m c.items.found.items c.in_ok-item.item c.push.new.self.items (lexemes c.items.self.rest.now) _ _ here
+    c.items.seen c.after-seen.result n m c.items.found.items c.in_ok-item.item c.push.new.self.items
+    (lexemes c.items.self.rest.now) _ _ here
     c.in_ok-item.ensures c.items.invariant (c.after-seen.ensures n m) c.in_ok-push.ensures.items
 
 pub items-returns : goal.items-returns
@@ -59,28 +67,35 @@ unfolding items item
 items-returns t c =
     let st = state usual c.args.depth in
     let n = counts_of c.items.self.counts in
-    let none : heads (item_heads (seen_of c.items.seen n)) (lexemes c.items.self.rest.now) ≡ false = sym c.is_at_item.ensures ∙ c.items-test.false in
+    let none : heads (item_heads (seen_of c.items.seen n)) (lexemes c.items.self.rest.now) ≡ false =
+    sym c.is_at_item.ensures ∙ c.items-test.false in
     items_end item_heads (item usual st) (good_next_item usual (good_state usual c.args.depth)) (λ z s. refl)
     c.items.seen n c.items.found.items (lexemes c.items.self.rest.now) _ none c.items.invariant
 
 pub state-returns-then-depth-eq0 : goal.state-returns-then-depth-eq0
 state-returns-then-depth-eq0 t c =
-    rw (state_none usual c.args.depth (counts_of c.args.self.now.counts) (lexemes c.args.self.now.rest.now) c.if-depth-eq0.true) c.no_state.ensures
+    rw (state_none usual c.args.depth (counts_of c.args.self.now.counts)
+    (lexemes c.args.self.now.rest.now) c.if-depth-eq0.true) c.no_state.ensures
 
 pub state-returns : goal.state-returns
 state-returns t c =
-    rw (state_nested usual c.args.depth (counts_of c.args.self.now.counts) (lexemes c.args.self.now.rest.now) (omega arith)) c.state_over.ensures
+    rw (state_nested usual c.args.depth (counts_of c.args.self.now.counts) (lexemes c.args.self.now.rest.now)
+    (omega arith)) c.state_over.ensures
 
 pub state_over-after_state-self-requires : goal.state_over-after_state-self-requires
 state_over-after_state-self-requires t c =
     rw c.in_ok-allowed_token.ensures.counts
     (sym c.state_refused.ensures
-    ∙ allowed_passes kinds.State c.state_refused.result (lexemes c.args.self.now.rest.now) _ _ c.in_ok-allowed_token.ensures.read)
+    ∙ allowed_passes kinds.State c.state_refused.result
+    (lexemes c.args.self.now.rest.now) _ _ c.in_ok-allowed_token.ensures.read)
 
 pub state_body-returns : goal.state_body-returns
 state_body-returns t c =
     let same = c.in_ok-token.ensures.counts ∙ c.in_ok-comp.ensures.counts ∙ c.in_ok-name.ensures.counts in
-    body_read usual (state usual c.args.depth) (counts_of c.args.self.now.counts) (counts_of c.token.new.self.counts) (ap counts_of same)
-    (lexemes c.args.self.now.rest.now) _ _ _ _ _ _ _ _ _ (map item_of c.in_ok-items.items.items) (counts_of c.items.new.self.counts)
+    body_read usual (state usual c.args.depth) (counts_of c.args.self.now.counts) (counts_of c.token.new.self.counts)
+    (ap counts_of same)
+    (lexemes c.args.self.now.rest.now) _ _ _ _ _ _ _ _ _ (map item_of c.in_ok-items.items.items)
+    (counts_of c.items.new.self.counts)
     c.in_ok-name.ensures.read c.in_ok-comp.ensures.read c.in_ok-token.ensures.read c.in_ok-items.ensures c.in_ok-token-2.ensures.read
-    _ (c.into_chart.ensures.root ∙ ap state_with c.in_ok-lists.ensures) (counts_of c.token-2.new.self.counts) (ap counts_of c.in_ok-token-2.ensures.counts)
+    _ (c.into_chart.ensures.root ∙ ap state_with c.in_ok-lists.ensures) (counts_of c.token-2.new.self.counts)
+    (ap counts_of c.in_ok-token-2.ensures.counts)

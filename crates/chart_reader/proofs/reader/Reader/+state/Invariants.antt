@@ -26,8 +26,12 @@ decreases-state_over l = 8 * l.depth + 4
 abbrev pub invariant-items-items : goal.invariant-items-items
 invariant-items-items l =
     behind (map item_of l.found.items)
-    (told (counts_of l.self.counts) ((items usual (state usual l.depth) (seen_of l.seen (counts_of l.self.counts))).reads (lexemes l.self.rest.now)))
-    ≡ told (counts_of l.fn.self.counts) ((items usual (state usual l.depth) (nothing_seen (counts_of l.fn.self.counts))).reads (lexemes l.fn.self.rest.now))
+    (told (counts_of l.self.counts)
+    ((items usual (state usual l.depth) (seen_of l.seen (counts_of l.self.counts))).reads
+    (lexemes l.self.rest.now)))
+    ≡ told (counts_of l.fn.self.counts)
+    ((items usual (state usual l.depth) (nothing_seen (counts_of l.fn.self.counts))).reads
+    (lexemes l.fn.self.rest.now))
 
 abbrev pub decreases-items-items : goal.decreases-items-items
 decreases-items-items l = length l.self.rest.now

@@ -6,5 +6,6 @@ use Rattle.chart_reader.proofs.reader.Reader.block.Goals as goal
 pub returns-clause-read : goal.returns-clause-read
 returns-clause-read c =
     rw c.of.ensures
-    (block_read _ _ _ _ _ _ _ _ _ (ap counts_of c.in_ok-token.ensures.counts) c.in_ok-token.ensures.read c.in_ok-found.ensures.read
+    (block_read _ _ _ _ _ _ _ _ _
+    (ap counts_of c.in_ok-token.ensures.counts) c.in_ok-token.ensures.read c.in_ok-found.ensures.read
     c.in_ok-token-2.ensures.read)

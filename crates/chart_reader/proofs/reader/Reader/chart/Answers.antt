@@ -9,7 +9,8 @@ use Rattle.chart_reader.proofs.reader.Reader.chart.Goals as goal
 
 pub returns : goal.returns
 returns c =
-    let kept = c.in_ok-token-2.ensures.counts ∙ c.in_ok-comp.ensures.counts ∙ c.in_ok-name.ensures.counts ∙ c.in_ok-token.ensures.counts in
+    let kept = c.in_ok-token-2.ensures.counts ∙ c.in_ok-comp.ensures.counts ∙ c.in_ok-name.ensures.counts
+    ∙ c.in_ok-token.ensures.counts in
     chart_read usual (counts_of c.token-2.new.self.counts) (ap counts_of kept ∙ c.at_begin-self.ensures)
     (lexemes c.args.self.now.rest.now) _ _ _ _ _ _ _ _ _ _ _
     (map item_of c.in_ok-items.items.items) (counts_of c.chart_items.new.self.counts)

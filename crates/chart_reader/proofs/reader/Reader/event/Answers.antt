@@ -11,4 +11,5 @@ pub after_event-self-requires : goal.after_event-self-requires
 after_event-self-requires c =
     ap (λ (n : declared.Counts). event_refused usual (counts_of n)) c.allowed_token.ensures.counts
     ∙ sym c.event_refused-refused.ensures
-    ∙ token_allowed kinds.Event _ (lexemes c.args.self.now.rest.now) _ (lexeme c.in_ok-allowed_token.field-0) c.in_ok-allowed_token.ensures.read
+    ∙ token_allowed kinds.Event _ (lexemes c.args.self.now.rest.now) _
+    (lexeme c.in_ok-allowed_token.field-0) c.in_ok-allowed_token.ensures.read

@@ -7,4 +7,6 @@ use Rattle.chart_reader.proofs.reader.Reader.is_at_item.Goals as goal
 pub returns-in-len1-up : goal.returns-in-len1-up
 returns-in-len1-up c =
     let n = counts_of c.args.self.now.counts in
-    first_in c.args.self.now.rest.now _ (item_heads (seen_of c.args.seen n)) c.lets_in_state.result c.in-len1-up.len_at_least (c.lets_in_state.ensures n)
+    first_in c.args.self.now.rest.now _
+    (item_heads (seen_of c.args.seen n)) c.lets_in_state.result c.in-len1-up.len_at_least
+    (c.lets_in_state.ensures n)

@@ -8,4 +8,5 @@ pub after_junction-self-requires : goal.after_junction-self-requires
 after_junction-self-requires c =
     rw c.in_ok-allowed_token.ensures.counts
     (sym c.junction_refused.ensures
-    ∙ allowed_passes kinds.Junction c.junction_refused.result (lexemes c.args.self.now.rest.now) _ _ c.in_ok-allowed_token.ensures.read)
+    ∙ allowed_passes kinds.Junction c.junction_refused.result
+    (lexemes c.args.self.now.rest.now) _ _ c.in_ok-allowed_token.ensures.read)

@@ -12,7 +12,8 @@ abbrev pub invariant-items : goal.invariant-items
 invariant-items l =
     behind (map trans_of l.found.items)
     (told (counts_of l.self.counts) ((junction_list usual (counts_of l.self.counts)).reads (lexemes l.self.rest.now)))
-    ≡ told (counts_of l.initial.self.counts) ((junction_list usual (counts_of l.initial.self.counts)).reads (lexemes l.initial.self.rest.now))
+    ≡ told (counts_of l.initial.self.counts)
+    ((junction_list usual (counts_of l.initial.self.counts)).reads (lexemes l.initial.self.rest.now))
 
 abbrev pub decreases-items : goal.decreases-items
 decreases-items l = length l.self.rest.now

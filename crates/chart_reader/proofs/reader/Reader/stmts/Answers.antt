@@ -16,11 +16,14 @@ pub returns-in_err-item-clause-read : goal.returns-in_err-item-clause-read
 unfolding stmts
 returns-in_err-item-clause-read c =
     let p = err_from_is_err_and c.from_residual.result c.from_residual.ensures.1 in
-    let here : heads stmt_heads (lexemes c.items.self.rest.now) ≡ true = sym c.is_at_one_of.ensures ∙ c.items-test.true in
+    let here : heads stmt_heads (lexemes c.items.self.rest.now) ≡ true =
+    sym c.is_at_one_of.ensures ∙ c.items-test.true in
     rw (p.1, p.2)
-    (from_fails (λ (b : Before). stmt_heads) (next_stmt usual) (λ b x. after_stmt b) (good_next_stmt usual) c.in_err-item.field-0.0
+    (from_fails (λ (b : Before). stmt_heads) (next_stmt usual) (λ b x. after_stmt b)
+    (good_next_stmt usual) c.in_err-item.field-0.0
     (record { statements = c.items.before; counts = counts_of c.items.self.counts })
-    (block_of c.items.found.items) (lexemes c.items.self.rest.now) _ _ here c.in_err-item.ensures.read c.items.invariant.so_far)
+    (block_of c.items.found.items)
+    (lexemes c.items.self.rest.now) _ _ here c.in_err-item.ensures.read c.items.invariant.so_far)
 
 pub items-smaller : goal.items-smaller
 items-smaller c =
@@ -30,30 +33,37 @@ items-smaller c =
 pub returns-clause-read : goal.returns-clause-read
 unfolding stmts
 returns-clause-read c =
-    let none : heads stmt_heads (lexemes c.items.self.rest.now) ≡ false = sym c.is_at_one_of.ensures ∙ c.items-test.false in
+    let none : heads stmt_heads (lexemes c.items.self.rest.now) ≡ false =
+    sym c.is_at_one_of.ensures ∙ c.items-test.false in
     from_ends (λ (b : Before). stmt_heads) (next_stmt usual) (λ b x. after_stmt b) (good_next_stmt usual)
     (record { statements = c.items.before; counts = counts_of c.items.self.counts })
     (block_of c.items.found.items) (lexemes c.items.self.rest.now) _ none c.items.invariant.so_far
 
 pub overflow_add-before : goal.overflow_add-before
 overflow_add-before c =
-    let here : heads stmt_heads (lexemes c.items.self.rest.now) ≡ true = sym c.is_at_one_of.ensures ∙ c.items-test.true in
-    let few = few_stmts (record { statements = c.items.before; counts = counts_of c.items.self.counts }) (lexemes c.items.self.rest.now) _ _ here
+    let here : heads stmt_heads (lexemes c.items.self.rest.now) ≡ true =
+    sym c.is_at_one_of.ensures ∙ c.items-test.true in
+    let few = few_stmts (record { statements = c.items.before; counts = counts_of c.items.self.counts })
+    (lexemes c.items.self.rest.now) _ _ here
     c.in_ok-item.ensures.read in
     omega (arith, few.0)
 
 pub overflow_add-self : goal.overflow_add-self
 overflow_add-self c =
-    let here : heads stmt_heads (lexemes c.items.self.rest.now) ≡ true = sym c.is_at_one_of.ensures ∙ c.items-test.true in
-    let few = few_stmts (record { statements = c.items.before; counts = counts_of c.items.self.counts }) (lexemes c.items.self.rest.now) _ _ here
+    let here : heads stmt_heads (lexemes c.items.self.rest.now) ≡ true =
+    sym c.is_at_one_of.ensures ∙ c.items-test.true in
+    let few = few_stmts (record { statements = c.items.before; counts = counts_of c.items.self.counts })
+    (lexemes c.items.self.rest.now) _ _ here
     c.in_ok-item.ensures.read in
-    let same : c.next_stmt.new.self.counts.items ≡ c.items.self.counts.items = ap (λ n. n.items) c.in_ok-item.ensures.counts in
+    let same : c.next_stmt.new.self.counts.items ≡ c.items.self.counts.items =
+    ap (λ n. n.items) c.in_ok-item.ensures.counts in
     omega (arith, few.1, same)
 
 pub items-preserved : goal.items-preserved
 unfolding stmts
 items-preserved c =
-    let here : heads stmt_heads (lexemes c.items.self.rest.now) ≡ true = sym c.is_at_one_of.ensures ∙ c.items-test.true in
+    let here : heads stmt_heads (lexemes c.items.self.rest.now) ≡ true =
+    sym c.is_at_one_of.ensures ∙ c.items-test.true in
     let found : block_of c.push.new.self.items ≡ block_of c.items.found.items ++ stmt_of c.in_ok-item.item ∷ [] =
     rw c.in_ok-push.ensures.items (map_push _ c.items.found.items c.in_ok-item.item) in
     let kept : c.next_stmt.new.self.counts ≡ c.items.self.counts = c.in_ok-item.ensures.counts in
@@ -63,5 +73,6 @@ items-preserved c =
       so_far = rw (found, kept)
           (from_goes_on (λ (b : Before). stmt_heads) (next_stmt usual) (λ b x. after_stmt b) (good_next_stmt usual)
           (record { statements = c.items.before; counts = counts_of c.items.self.counts })
-          (block_of c.items.found.items) (lexemes c.items.self.rest.now) _ _ _ here c.in_ok-item.ensures.read c.items.invariant.so_far);
+          (block_of c.items.found.items)
+          (lexemes c.items.self.rest.now) _ _ _ here c.in_ok-item.ensures.read c.items.invariant.so_far);
     }

@@ -10,8 +10,11 @@ use Rattle.chart_reader.proofs.reader.Reader.stmts.Given as goal
 abbrev pub invariant-items : goal.invariant-items
 invariant-items l = record {
   counts : counts_of l.self.counts ≡ after_stmts (counts_of l.fn.self.counts) (block_of l.found.items);
-  so_far : after (block_of l.found.items) ((stmts usual (record { statements = l.before; counts = counts_of l.self.counts })).reads (lexemes l.self.rest.now))
-      ≡ (stmts usual (record { statements = 0; counts = counts_of l.fn.self.counts })).reads (lexemes l.fn.self.rest.now);
+  so_far : after (block_of l.found.items)
+      ((stmts usual (record { statements = l.before; counts = counts_of l.self.counts })).reads
+      (lexemes l.self.rest.now))
+      ≡ (stmts usual (record { statements = 0; counts = counts_of l.fn.self.counts })).reads
+      (lexemes l.fn.self.rest.now);
 }
 
 abbrev pub decreases-items : goal.decreases-items

@@ -11,4 +11,5 @@ pub after_variable-self-requires : goal.after_variable-self-requires
 after_variable-self-requires c =
     ap (λ (n : declared.Counts). variable_refused usual (counts_of n)) c.allowed_one_of.ensures.counts
     ∙ sym c.variable_refused-refused.ensures
-    ∙ one_allowed kind_heads _ (lexemes c.args.self.now.rest.now) _ (lexeme c.in_ok-token.token) c.in_ok-token.ensures.read
+    ∙ one_allowed kind_heads _ (lexemes c.args.self.now.rest.now) _
+    (lexeme c.in_ok-token.token) c.in_ok-token.ensures.read

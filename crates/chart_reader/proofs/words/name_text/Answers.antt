@@ -1,6 +1,0 @@
-use Rattle.std.proofs.lemmas.Str.{IsUtf8-from_ascii}
-use Rattle.chart_reader.proofs.WordLemmas.{name_ascii}
-use Rattle.chart_reader.proofs.words.name_text.Goals as goal
-
-pub unreachable-requires : goal.unreachable-requires
-unreachable-requires c = c.in-Err.ensures.cases.0 (IsUtf8-from_ascii c.args.name.now (name_ascii c.args.name.now c.requires))

@@ -21,16 +21,18 @@ status_of endings.Read = statuses.Read
 status_of endings.Write = statuses.Write
 status_of endings.Memory = statuses.Memory
 
--- a fault of a chart text: its place, and the number and name of its kind
-abbrev pub chart_text : FormKind → Span → List ℕ
-chart_text kind at =
-    codes "chart " ++ decimal at.line ++ codes ":" ++ decimal at.column
-    ++ codes ": " ++ decimal (form_number kind) ++ codes " " ++ form_name kind
+-- a place in a chart text
+abbrev pub place_text : Span → List ℕ
+place_text at = codes "chart " ++ decimal at.line ++ codes ":" ++ decimal at.column
+
+-- number and name of a kind of fault of a chart text
+abbrev pub kind_text : FormKind → List ℕ
+kind_text kind = codes ": " ++ decimal (form_number kind) ++ codes " " ++ form_name kind
 
 -- the line on standard error, none where the answer is whole
 abbrev pub line_of : Ending → List ℕ
 line_of endings.Done = []
-line_of (endings.Chart kind at) = chart_text kind at ++ codes "\n"
+line_of (endings.Chart kind at) = place_text at ++ kind_text kind ++ codes "\n"
 line_of (endings.Line number fault) = codes "event " ++ decimal number ++ codes ": " ++ line_fault_text fault ++ codes "\n"
 line_of (endings.Code fault) = fault_text fault ++ codes "\n"
 line_of endings.Usage =

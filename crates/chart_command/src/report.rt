@@ -2,7 +2,7 @@
 ghost use Rattle.std.specs.Prelude.{◌≡◌, ◌++◌, OnOk, codes, decimal};
 ghost use Rattle.std.specs.Io.KnownBytes.{append_known};
 ghost use Rattle.flow_base.specs.Causes.{HasCause};
-ghost use Rattle.chart_command.specs.Ending.{chart_text, line_of};
+ghost use Rattle.chart_command.specs.Ending.{place_text, kind_text, line_of};
 
 use crate::ending::Ending;
 use flat_syntax::{FormKind, Span};
@@ -28,15 +28,22 @@ fn write_line<E: Sink>(err: &mut E, text: &str) -> Result<(), Failed>
     write_all(err, b"\n")
 }
 
-/// Writes the place, the number and the name of a fault of a chart text.
-fn write_chart<E: Sink>(err: &mut E, kind: FormKind, at: Span) -> Result<(), Failed>
-    ensures ok { OnOk result (E.wrote err.new ≡ append_known (E.wrote err.old) (chart_text kind at)) }
+/// Writes the place of a fault of a chart text.
+fn write_place<E: Sink>(err: &mut E, at: Span) -> Result<(), Failed>
+    ensures ok { OnOk result (E.wrote err.new ≡ append_known (E.wrote err.old) (place_text at)) }
     ensures cause { HasCause (E.faults err.old) (E.faults err.new) result }
 {
     write_all(err, b"chart ")?;
     write_number(err, u64::from(at.line))?;
     write_all(err, b":")?;
-    write_number(err, u64::from(at.column))?;
+    write_number(err, u64::from(at.column))
+}
+
+/// Writes number and name of a kind of fault of a chart text.
+fn write_kind<E: Sink>(err: &mut E, kind: FormKind) -> Result<(), Failed>
+    ensures ok { OnOk result (E.wrote err.new ≡ append_known (E.wrote err.old) (kind_text kind)) }
+    ensures cause { HasCause (E.faults err.old) (E.faults err.new) result }
+{
     write_all(err, b": ")?;
     write_number(err, u64::from(kind.number()))?;
     write_all(err, b" ")?;
@@ -51,7 +58,8 @@ pub fn report<E: Sink>(err: &mut E, ending: Ending) -> Result<(), Failed>
     match ending {
         Ending::Done => Ok(()),
         Ending::Chart(kind, at) => {
-            write_chart(err, kind, at)?;
+            write_place(err, at)?;
+            write_kind(err, kind)?;
             write_all(err, b"\n")
         }
         Ending::Line(number, fault) => {

@@ -1,5 +1,6 @@
 -- How the tests of acceptance go over lists as the code has them.
-use Rattle.std.proofs.Common.{◌≤◌, ◌-◌, take, drop, get_or, ◌≡◌, ℕ, zero, suc, ◌+◌, ◌<◌, ◌||◌, ◌&&◌, not, Bool, true, false, List, [], ◌∷◌, length, map, Option, Some, None, refl, sym, ap, ◌∙◌, arith, is_some}
+use Rattle.std.proofs.Common.{◌≤◌, ◌-◌, take, drop, get_or, ◌≡◌, ℕ, zero, suc, ◌+◌, ◌<◌, ◌||◌, ◌&&◌, not, Bool, true}
+use Rattle.std.proofs.Common.{false, List, [], ◌∷◌, length, map, Option, Some, None, refl, sym, ap, ◌∙◌, arith, is_some}
 use Rattle.std.specs.Prelude.{nat_lt, if◌then◌else◌}
 use Rattle.std.specs.List.{list_any}
 use Rattle.std.specs.Str.{bytes_eq}
@@ -15,20 +16,24 @@ use Rattle.flat_code.specs.WellFormed.{are_distinct, first_of, proc_fault, procs
 use Rattle.flow_base.specs.Names.{index_of, after}
 
 -- a test of what each element is mapped to
-pub list_any-map : {X Y : Type 0} (p : Y → Bool) (f : X → Y) (xs : List X) → list_any p (map f xs) ≡ list_any (λ x. p (f x)) xs
+pub list_any-map : {X Y : Type 0} (p : Y → Bool) (f : X → Y) (xs : List X)
+    → list_any p (map f xs) ≡ list_any (λ x. p (f x)) xs
 list_any-map p f [] = refl
 list_any-map p f (x ∷ xs) = ap (λ b. p (f x) || b) (list_any-map p f xs)
 
+-- a place counted on from one more name is there where the place is
 some_after : (o : Option ℕ) → is_some (after o) ≡ is_some o
 some_after None = refl
 some_after (Some n) = refl
 
+-- the first of the two is there where the test passes, or the rest has it
 is_some-if : (b : Bool) (o : Option ℕ) (t : Bool) → is_some o ≡ t → is_some (if b then Some 0 else after o) ≡ (b || t)
 is_some-if true o t h = refl
 is_some-if false o t h = some_after o ∙ h
 
 -- a name is among these where one of them is that name
-pub is_some-index_of : (name : List ℕ) (names : List (List ℕ)) → is_some (index_of name names) ≡ list_any (λ other. bytes_eq other name) names
+pub is_some-index_of : (name : List ℕ) (names : List (List ℕ))
+    → is_some (index_of name names) ≡ list_any (λ other. bytes_eq other name) names
 is_some-index_of name [] = refl
 is_some-index_of name (first ∷ rest) = is_some-if (bytes_eq first name) (index_of name rest) _ (is_some-index_of name rest)
 
@@ -77,7 +82,9 @@ are_distinct-drop (x ∷ xs) (suc i) name lt is =
 
 -- a procedure that is too long makes too many, where there aren't too many procedures
 pub too_long : (xs : List (Seq Instr)) → length xs ≤ PROC_LIMIT
-    → list_any (λ (x : Seq Instr). nat_lt INSTR_LIMIT (length (items_of x))) xs ≡ (nat_lt PROC_LIMIT (length (map items_of xs)) || list_any (λ (is : List Instr). nat_lt INSTR_LIMIT (length is)) (map items_of xs))
+    → list_any (λ (x : Seq Instr). nat_lt INSTR_LIMIT (length (items_of x))) xs
+    ≡ (nat_lt PROC_LIMIT (length (map items_of xs))
+    || list_any (λ (is : List Instr). nat_lt INSTR_LIMIT (length is)) (map items_of xs))
 too_long xs few =
     let short : nat_lt PROC_LIMIT (length (map items_of xs)) ≡ false = rw length-map (grind (arith, nat_tests)) in
     sym (ap (λ b. b || list_any (λ (is : List Instr). nat_lt INSTR_LIMIT (length is)) (map items_of xs)) short

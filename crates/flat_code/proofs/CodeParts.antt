@@ -23,14 +23,17 @@ pub record CodeParts (P : Program) : Type 0 where
   pub start : P.start < length P.procs
   pub react : P.react < length P.procs
 
+-- what is not true is false
 not_true : (b : Bool) → not b ≡ true → b ≡ false
 not_true true h = absurd cc
 not_true false h = refl
 
+-- of two tests of which none passes, neither does
 neither_holds : (a b : Bool) → (a || b) ≡ false → (a ≡ false) × (b ≡ false)
 neither_holds true b h = absurd cc
 neither_holds false b h = (refl, h)
 
+-- a number that is not above the limit is at most the limit
 not_above : (limit n : ℕ) → nat_lt limit n ≡ false → n ≤ limit
 not_above limit n h = grind (arith, nat_tests)
 

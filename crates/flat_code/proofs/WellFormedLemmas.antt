@@ -1,5 +1,6 @@
 -- What every instruction of well-formed code keeps to.
-use Rattle.std.proofs.Common.{◌≡◌, ℕ, zero, suc, ◌+◌, ◌<◌, not, Bool, true, false, List, [], ◌∷◌, length, get_or, Option, Some, None, refl, sym, ap, ◌∙◌, subst, arith}
+use Rattle.std.proofs.Common.{◌≡◌, ℕ, zero, suc, ◌+◌, ◌<◌, not, Bool, true, false, List, [], ◌∷◌, length, get_or}
+use Rattle.std.proofs.Common.{Option, Some, None, refl, sym, ap, ◌∙◌, subst, arith}
 use Rattle.std.specs.Prelude.{slice_get}
 use Rattle.std.proofs.lemmas.Option.{slice_get-get_or}
 use Rattle.std.proofs.lemmas.Bool.Decides.{nat_tests}
@@ -8,7 +9,8 @@ use Rattle.flat_code.specs.declared.fault.CodeKind.{CodeKind}
 use Rattle.flat_code.specs.declared.fault.CodeKind.TheVariants as kinds
 use Rattle.flat_code.specs.declared.fault.CodeFault.{CodeFault}
 use Rattle.flat_code.specs.Program.{Program}
-use Rattle.flat_code.specs.WellFormed.{first_of, unless, too_many, is_table, starts_known, instr_known, stays_within, is_ret, last_returns, instrs_fault, proc_fault, procs_fault, IsCode}
+use Rattle.flat_code.specs.WellFormed.{first_of, unless, too_many, is_table, starts_known, instr_known, stays_within}
+use Rattle.flat_code.specs.WellFormed.{is_ret, last_returns, instrs_fault, proc_fault, procs_fault, IsCode}
 use Rattle.flat_code.specs.Sound.{IsSoundAt}
 use Rattle.flat_code.specs.Machine.{instructions, fetch, list_or_none}
 
@@ -23,7 +25,8 @@ passed true kind p i h = refl
 passed false kind p i h = absurd (cc h)
 
 -- after one that isn't the last there is one more
-more_behind : (x : Instr) (rest : List Instr) (i len : ℕ) → last_returns x rest ≡ true → i + length (x ∷ rest) ≡ len → is_ret x ≡ false → i + 1 < len
+more_behind : (x : Instr) (rest : List Instr) (i len : ℕ) → last_returns x rest ≡ true → i + length (x ∷ rest) ≡ len
+    → is_ret x ≡ false → i + 1 < len
 more_behind x [] i len last e r = absurd (cc (last, r))
 more_behind x (y ∷ rest) i len last e r = omega arith
 
@@ -58,6 +61,7 @@ proc_sound P p (y ∷ ys) f j x h =
     let at : 0 + j ≡ j = omega arith in
     subst (λ (k : ℕ). IsSoundAt P (length (y ∷ ys)) k x) at (instrs_sound P p (length (y ∷ ys)) 0 (y ∷ ys) f (omega arith) j x h)
 
+-- a procedure without a fault has an instruction
 proc_some : (P : Program) (p : ℕ) (is : List Instr) → proc_fault P p is ≡ None → 0 < length is
 proc_some P p [] f = absurd (cc f)
 proc_some P p (y ∷ ys) f = omega arith
@@ -73,12 +77,15 @@ procs_sound P q (first ∷ rest) f (suc p) is h = procs_sound P (q + 1) rest (ne
 
 -- the parts of well-formedness that a run rests on
 module _ (P : Program) (code : IsCode P) where
+  -- no fault comes after the table
   after_table : first_of (unless (starts_known P) kinds.BadNumber 0 0) (procs_fault P 0 P.procs) ≡ None
   after_table = (neither (unless (is_table P) kinds.BadTable 0 0) _ (neither (unless (not (too_many P)) kinds.TooManyProcs 0 0) _ code).1).1
 
+  -- the procedures of the start and of a reaction are there
   both_known : starts_known P ≡ true
   both_known = passed (starts_known P) kinds.BadNumber 0 0 (neither (unless (starts_known P) kinds.BadNumber 0 0) _ after_table).0
 
+  -- no procedure has a fault
   no_fault : procs_fault P 0 P.procs ≡ None
   no_fault = (neither (unless (starts_known P) kinds.BadNumber 0 0) _ after_table).1
 
@@ -95,15 +102,18 @@ module _ (P : Program) (code : IsCode P) where
   some_instr p is h = let found = procs_sound P 0 P.procs no_fault p is h in proc_some P found.0 is found.1
 
   -- each instruction that is there is sound
-  pub sound_at : (p : ℕ) (is : List Instr) (i : ℕ) (x : Instr) → slice_get P.procs p ≡ Some is → slice_get is i ≡ Some x → IsSoundAt P (length is) i x
+  pub sound_at : (p : ℕ) (is : List Instr) (i : ℕ) (x : Instr) → slice_get P.procs p ≡ Some is → slice_get is i ≡ Some x
+      → IsSoundAt P (length is) i x
   sound_at p is i x h at = let found = procs_sound P 0 P.procs no_fault p is h in proc_sound P found.0 is found.1 i x at
 
 -- the instructions of a procedure that is there
-is_procedure : (P : Program) (p : ℕ) (ps : List (List Instr)) → p < length ps → slice_get ps p ≡ Some (list_or_none (slice_get ps p))
+is_procedure : (P : Program) (p : ℕ) (ps : List (List Instr)) → p < length ps
+    → slice_get ps p ≡ Some (list_or_none (slice_get ps p))
 is_procedure P p [] lt = absurd (omega arith)
 is_procedure P zero (is ∷ rest) lt = refl
 is_procedure P (suc p) (is ∷ rest) lt = is_procedure P p rest (omega arith)
 
+-- a procedure that is there has its instructions
 pub procedure_at : (P : Program) (p : ℕ) → p < length P.procs → slice_get P.procs p ≡ Some (instructions P p)
 unfolding instructions
 procedure_at P p lt = is_procedure P p P.procs lt
@@ -112,6 +122,7 @@ procedure_at P p lt = is_procedure P p P.procs lt
 pub first_place : (P : Program) (p : ℕ) → IsCode P → p < length P.procs → 0 < length (instructions P p)
 first_place P p code lt = some_instr P code p (instructions P p) (procedure_at P p lt)
 
+-- the same for the procedure that is found
 sound_by : (P : Program) → IsCode P → (p i : ℕ) (x : Instr) (o : Option (List Instr))
     → slice_get P.procs p ≡ o → slice_get (list_or_none o) i ≡ Some x
     → IsSoundAt P (length (list_or_none o)) i x
@@ -119,10 +130,12 @@ sound_by P code p i x None h at = absurd (cc at)
 sound_by P code p i x (Some is) h at = sound_at P code p is i x h at
 
 -- each instruction that is there is sound
-pub sound : (P : Program) (p i : ℕ) (x : Instr) → IsCode P → fetch P p i ≡ Some x → IsSoundAt P (length (instructions P p)) i x
+pub sound : (P : Program) (p i : ℕ) (x : Instr) → IsCode P → fetch P p i ≡ Some x
+    → IsSoundAt P (length (instructions P p)) i x
 unfolding fetch instructions
 sound P p i x code at = sound_by P code p i x (slice_get P.procs p) refl at
 
+-- only a procedure that is there has a place
 has_place : (ps : List (List Instr)) (p i : ℕ) → i < length (list_or_none (slice_get ps p)) → p < length ps
 has_place [] p i lt = absurd (omega arith)
 has_place (is ∷ rest) zero i lt = omega arith

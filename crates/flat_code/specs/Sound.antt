@@ -4,7 +4,7 @@ use Rattle.flat_code.specs.declared.instr.Instr.{Instr}
 use Rattle.flat_code.specs.Program.{Program}
 use Rattle.flat_code.specs.WellFormed.{instr_known, stays_within, is_ret}
 
--- it names what is there, and where it goes on from place i is one of so many instructions
+-- it names what is there, and goes on from place i within a procedure of len instructions
 pub record IsSoundAt (P : Program) (len i : ℕ) (x : Instr) : Type 0 where
   pub known : instr_known P x ≡ true
   pub within : stays_within len i x ≡ true

@@ -1,5 +1,6 @@
 -- The world that code changes, and what its instructions do to it. State 0 is the root, an OR with the leaves below it.
-use Rattle.std.specs.Prelude.{ℕ, zero, suc, Bool, true, false, not, ◌&&◌, List, [], ◌∷◌, slice_index_or, slice_set, replicate, if◌then◌else◌}
+use Rattle.std.specs.Prelude.{ℕ, zero, suc, Bool, true, false, not, ◌&&◌, List, [], ◌∷◌, slice_index_or, slice_set}
+use Rattle.std.specs.Prelude.{replicate, if◌then◌else◌}
 use Rattle.std.specs.List.{list_any}
 
 -- marks: one flag for each state, whether it is active

@@ -1,6 +1,7 @@
 //! Code: procedures of instructions, which code is well formed, and what it means.
 //!
-//! `accept` makes a `Code` exactly of what is well formed.
+//! `accept` makes a `Code` exactly of what is well formed. The crate serves flat charts, and goes
+//! when the whole language is built.
 //! Read `specs/Program.antt`, `specs/WellFormed.antt` and `specs/Machine.antt` first, in this
 //! order.
 #![tactic(auto)]

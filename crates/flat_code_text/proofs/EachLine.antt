@@ -3,7 +3,8 @@ use Rattle.std.proofs.Common.{ℕ, List, [], ◌∷◌, ◌++◌, length, map}
 use Rattle.std.specs.List.{flat_map, AllByRecursion}
 use Rattle.flat_code.specs.declared.instr.Instr.{Instr}
 use Rattle.flat_code.specs.Program.{Program}
-use Rattle.flat_code_text.specs.Spelling.{version_line, states_line, root_line, leaf_line, data_line, events_line, event_line}
+use Rattle.flat_code_text.specs.Spelling.{version_line, states_line, root_line, leaf_line, data_line, events_line}
+use Rattle.flat_code_text.specs.Spelling.{event_line}
 use Rattle.flat_code_text.specs.Spelling.{procs_line, head_line, instr_line, end_line, state_lines, proc_lines}
 use Rattle.flat_code_text.specs.Spelling.{states_part, events_part, procs_part, code_lines}
 use Rattle.flat_code_text.specs.Spelling.{IsNumber, IsName, HasNumbers, ProcHasNumbers, IsSpellable}
@@ -24,7 +25,8 @@ pub record HoldsOfLines (Q : List ℕ → Type 0) : Type 0 where
 
 module _ (Q : List ℕ → Type 0) (holds : HoldsOfLines Q) where
   -- of lines and of those after them
-  both : (lines others : List (List ℕ)) → AllByRecursion Q lines → AllByRecursion Q others → AllByRecursion Q (lines ++ others)
+  both : (lines others : List (List ℕ)) → AllByRecursion Q lines → AllByRecursion Q others
+      → AllByRecursion Q (lines ++ others)
   both [] others h g = g
   both (line ∷ lines) others h g = (h.0, both lines others h.1 g)
 
@@ -34,11 +36,14 @@ module _ (Q : List ℕ → Type 0) (holds : HoldsOfLines Q) where
   each P line one [] h = tt
   each P line one (x ∷ xs) h = (one x h.0, each P line one xs h.1)
 
+  -- of the lines of states
   of_states : (names : List (List ℕ)) → AllByRecursion IsName names → AllByRecursion Q (state_lines names)
   of_states [] h = tt
   of_states (root ∷ leaves) h = (holds.root root h.0, each IsName leaf_line holds.leaf leaves h.1)
 
-  of_procs : (procs : List (List Instr)) → AllByRecursion ProcHasNumbers procs → AllByRecursion Q (flat_map proc_lines procs)
+  -- of the lines of procedures
+  of_procs : (procs : List (List Instr)) → AllByRecursion ProcHasNumbers procs
+      → AllByRecursion Q (flat_map proc_lines procs)
   of_procs [] h = tt
   of_procs (is ∷ procs) h =
       both (proc_lines is) (flat_map proc_lines procs)

@@ -13,7 +13,8 @@ use Rattle.flat_code.specs.Small.{IsShort, IsSmall}
 use Rattle.flat_code.specs.WellFormed.{IsCode}
 use Rattle.flat_code_text.specs.declared.limits.TheConstants.{TEXT_LIMIT}
 use Rattle.flat_code_text.specs.Spelling.{cond_words, instr_line, state_lines, proc_lines, leaf_line, event_line}
-use Rattle.flat_code_text.specs.Spelling.{states_part, events_part, procs_part, end_line, code_lines, text_of, code_text}
+use Rattle.flat_code_text.specs.Spelling.{states_part, events_part, procs_part, end_line, code_lines, text_of}
+use Rattle.flat_code_text.specs.Spelling.{code_text}
 use Rattle.flat_code_text.specs.Spelling.{IsNumber, CondHasNumbers, HasNumbers}
 use Rattle.flat_code_text.specs.Reading.{outcome}
 use Rattle.flat_code_text.proofs.NameLemmas.{is_name-short}
@@ -29,10 +30,12 @@ IsShortLine line = length line ≤ 72
 digits : (n : ℕ) → IsNumber n → length (decimal n) ≤ 10
 digits n h = length-decimal-le 10 n (omega arith) (omega arith) (omega arith)
 
+-- the words of a condition
 cond_short : (c : Cond) → CondHasNumbers c → length (cond_words c) ≤ 16
 cond_short (conds.On s) h = omega (arith, length-append (codes "on ") (decimal s), digits s h)
 cond_short (conds.Current e) h = omega (arith, length-append (codes "event ") (decimal e), digits e h)
 
+-- the line of an instruction
 instr_short : (i : Instr) → HasNumbers i → IsShortLine (instr_line i)
 instr_short (instrs.Mark s) h = omega (arith, length-append (codes "mark ") (decimal s), digits s h)
 instr_short (instrs.Clear s) h = omega (arith, length-append (codes "clear ") (decimal s), digits s h)
@@ -46,6 +49,7 @@ instr_short (instrs.Unless k c) h =
     )
 instr_short (instrs.Ret r) h = omega (arith, length-append (codes "ret ") (decimal r), digits r h)
 
+-- the line of the three numbers
 procs_short : (n start react : ℕ) → IsNumber n → IsNumber start → IsNumber react
     → length (codes "procs " ++ (decimal n ++ (32 ∷ (decimal start ++ (32 ∷ decimal react))))) ≤ 72
 procs_short n start react h g k =

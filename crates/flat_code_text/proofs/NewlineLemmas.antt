@@ -20,6 +20,7 @@ use Rattle.flat_code_text.proofs.NameLemmas.{is_name-bytes}
 abbrev pub IsLine : List ℕ → Type 0
 IsLine line = Lacks 10 line
 
+-- a byte that the test tells from another
 differs : (b byte : ℕ) → not (nat_eq b byte) ≡ true → nat_eq b byte ≡ false
 differs b byte h = grind (arith, nat_tests)
 
@@ -30,6 +31,7 @@ tested (b ∷ words) h =
     let both = and_parts (not (nat_eq b 10)) (list_all (λ c. not (nat_eq c 10)) words) h in
     (differs b 10 both.0, tested words both.1)
 
+-- a line and a line after it
 line-append : (words text : List ℕ) → IsLine words → IsLine text → IsLine (words ++ text)
 line-append [] text h g = g
 line-append (b ∷ words) text h g = (h.0, line-append words text h.1 g)
@@ -38,30 +40,38 @@ line-append (b ∷ words) text h g = (h.0, line-append words text h.1 g)
 abbrev pub AreLines : List (List ℕ) → Type 0
 AreLines lines = AllByRecursion IsLine lines
 
+-- a name byte is no newline
 name_byte_is_no : (b : ℕ) → is_name_byte b ≡ true → nat_eq b 10 ≡ false
 name_byte_is_no b h = grind (arith, nat_tests)
 
+-- name bytes have no newline among them
 bytes_lack : (name : List ℕ) → ((k : ℕ) → k < length name → is_name_byte (get_or name k 0) ≡ true) → IsLine name
 bytes_lack [] h = tt
 bytes_lack (b ∷ name) h = (name_byte_is_no b (h 0 (omega arith)), bytes_lack name (λ k lt. h (suc k) (omega arith)))
 
+-- a name is a line
 name_lacks : (name : List ℕ) → IsName name → IsLine name
 name_lacks name h = bytes_lack name (is_name-bytes name h)
 
+-- and a number
 number_lacks : (n : ℕ) → IsNumber n → IsLine (decimal n)
 number_lacks n h = decimal-lacks 10 n (omega arith) h
 
 -- words and what is after them
-words_then : (words text : List ℕ) → list_all (λ b. not (nat_eq b 10)) words ≡ true → IsLine text → IsLine (words ++ text)
+words_then : (words text : List ℕ) → list_all (λ b. not (nat_eq b 10)) words ≡ true → IsLine text
+    → IsLine (words ++ text)
 words_then words text h g = line-append words text (tested words h) g
 
+-- a number, a space and what is after it
 number_then : (n : ℕ) (text : List ℕ) → IsNumber n → IsLine text → IsLine (decimal n ++ 32 ∷ text)
 number_then n text h g = line-append (decimal n) (32 ∷ text) (number_lacks n h) (refl, g)
 
+-- the words of a condition
 cond_is : (c : Cond) → CondHasNumbers c → IsLine (cond_words c)
 cond_is (conds.On s) h = words_then (codes "on ") (decimal s) refl (number_lacks s h)
 cond_is (conds.Current e) h = words_then (codes "event ") (decimal e) refl (number_lacks e h)
 
+-- the line of an instruction
 instr_is : (i : Instr) → HasNumbers i → IsLine (instr_line i)
 instr_is (instrs.Mark s) h = words_then (codes "mark ") (decimal s) refl (number_lacks s h)
 instr_is (instrs.Clear s) h = words_then (codes "clear ") (decimal s) refl (number_lacks s h)

@@ -1,5 +1,6 @@
 -- Tokens that are numbers.
-use Rattle.std.proofs.Common.{◌≡◌, ℕ, ◌^◌, ◌<◌, Bool, true, false, ◌&&◌, cond, nat_lt, List, Option, Some, None, refl, sym, ap, ◌∙◌, subst, arith}
+use Rattle.std.proofs.Common.{◌≡◌, ℕ, ◌^◌, ◌<◌, Bool, true, false, ◌&&◌, cond, nat_lt, List, Option, Some, None, refl}
+use Rattle.std.proofs.Common.{sym, ap, ◌∙◌, subst, arith}
 use Rattle.std.specs.Prelude.{IfSome}
 use Rattle.std.specs.Fmt.{decimal}
 use Rattle.std.specs.Str.{bytes_eq}
@@ -10,12 +11,15 @@ use Rattle.std.proofs.lemmas.Slice.Eq.{bytes_eq-Decides}
 use Rattle.std.proofs.lemmas.Fmt.{decimal_is_IsNumeral}
 use Rattle.flat_code_text.specs.Fields.{number_of}
 
+-- a number of 32 bits passes the test
 below : (n : ℕ) → n < 2 ^ 32 → nat_lt n (2 ^ 32) ≡ true
 below n h = grind (arith, nat_tests)
 
+-- and no other does
 below_true : (n : ℕ) → nat_lt n (2 ^ 32) ≡ true → n < 2 ^ 32
 below_true n h = grind (arith, nat_tests)
 
+-- a value that is taken passed its test
 taken : (b : Bool) (m n : ℕ) → cond b (Some m) None ≡ Some n → (b ≡ true) × (m ≡ n)
 taken true m n h = (refl, cc)
 taken false m n h = cc
@@ -38,11 +42,15 @@ number_of-decimal n h =
     let v : digits_value 10 (decimal n) ≡ n = (decimal_is_IsNumeral n (omega arith)).1 in
     rw (v, below n h, (bytes_eq-Decides (decimal n) (decimal n)).1 refl) refl
 
-is_given : (token : List ℕ) (o r : Option ℕ) → number_of token ≡ r → ((v : ℕ) → v < 2 ^ 32 → token ≡ decimal v → o ≡ Some v)
+-- the number of each decimal form, and of no other token, is what the definition gives
+is_given : (token : List ℕ) (o r : Option ℕ) → number_of token ≡ r
+    → ((v : ℕ) → v < 2 ^ 32 → token ≡ decimal v → o ≡ Some v)
     → IfSome o (λ n. (n < 2 ^ 32) × (token ≡ decimal n)) → o ≡ r
 is_given token o (Some v) e all one = let h = number_of-some token v e in all v h.0 h.1
 is_given token None None e all one = refl
-is_given token (Some n) None e all one = let h = number_of-decimal n one.0 in let same : number_of token ≡ number_of (decimal n) = ap number_of one.1 in cc
+is_given token (Some n) None e all one =
+    let h = number_of-decimal n one.0 in
+    let same : number_of token ≡ number_of (decimal n) = ap number_of one.1 in cc
 
 -- what is the number of each decimal form, and of no other token
 pub number_of-is : (token : List ℕ) (o : Option ℕ) → ((v : ℕ) → v < 2 ^ 32 → token ≡ decimal v → o ≡ Some v)

@@ -7,15 +7,20 @@ use Rattle.std.proofs.lemmas.Option.{same_Some}
 use Rattle.flat_code.specs.declared.instr.Instr.{Instr}
 use Rattle.flat_code.specs.Program.{Program}
 use Rattle.flat_code_text.specs.declared.expected.Expected.TheVariants as expects
-use Rattle.flat_code_text.specs.Spelling.{version_line, states_line, root_line, leaf_line, data_line, events_line, event_line, procs_line, end_line}
-use Rattle.flat_code_text.specs.Spelling.{state_lines, proc_lines, states_part as states_lines, events_part as events_lines, procs_part as procs_lines, code_lines, IsNumber, IsName, ProcHasNumbers, IsSpellable}
+use Rattle.flat_code_text.specs.Spelling.{version_line, states_line, root_line, leaf_line, data_line, events_line}
+use Rattle.flat_code_text.specs.Spelling.{event_line, procs_line, end_line}
+use Rattle.flat_code_text.specs.Spelling.{state_lines, proc_lines, states_part as states_lines}
+use Rattle.flat_code_text.specs.Spelling.{events_part as events_lines, procs_part as procs_lines, code_lines, IsNumber}
+use Rattle.flat_code_text.specs.Spelling.{IsName, ProcHasNumbers, IsSpellable}
 use Rattle.flat_code_text.specs.Fields.{number_behind, name_behind, procs_of}
 use Rattle.flat_code_text.specs.Reading.{Partial, nothing_read, next, program_read, root_next, with_state, with_procs}
-use Rattle.flat_code_text.proofs.FieldLemmas.{option_map_some, number_behind-line, number_behind-some, name_behind-line, name_behind-some, procs_of-line, procs_of-some}
+use Rattle.flat_code_text.proofs.FieldLemmas.{option_map_some, number_behind-line, number_behind-some, name_behind-line}
+use Rattle.flat_code_text.proofs.FieldLemmas.{name_behind-some, procs_of-line, procs_of-some}
 use Rattle.flat_code_text.proofs.StepLemmas.{steps, IsWhole, steps-append, part_read, part_spelled}
-use Rattle.flat_code_text.proofs.PartLemmas.{made, first_line, fixed_some, leaves, leaves_part, events_left, events_part, procs_left, procs_part}
+use Rattle.flat_code_text.proofs.PartLemmas.{made, first_line, fixed_some, leaves, leaves_part, events_left}
+use Rattle.flat_code_text.proofs.PartLemmas.{events_part, procs_left, procs_part}
 
--- the rest of the states, with so many to come
+-- n states to come, the root first
 abbrev states_left : ℕ → Partial
 states_left n = made [] [] 0 0 [] [] (root_next n)
 
@@ -35,7 +40,9 @@ procs_done P = made P.states P.events P.start P.react P.procs [] expects.End
 abbrev pub all_done : Program → Partial
 all_done P = made P.states P.events P.start P.react P.procs [] expects.Nothing
 
-root_read : (names : List (List ℕ)) → AllByRecursion IsName names → steps (states_left (length names)) (state_lines names) ≡ Some (states_done names)
+-- the lines of the states are read
+root_read : (names : List (List ℕ)) → AllByRecursion IsName names
+    → steps (states_left (length names)) (state_lines names) ≡ Some (states_done names)
 unfolding next
 root_read [] h = refl
 root_read (root ∷ names) h =
@@ -44,14 +51,18 @@ root_read (root ∷ names) h =
     ∙ (ap (λ ls. steps (leaves (length names) (root ∷ [])) ls) (sym (flat_map_single leaf_line names))
     ∙ part_read leaves (λ name. leaf_line name ∷ []) IsName leaves_part names (root ∷ []) h.1)
 
-states_read : (names : List (List ℕ)) → IsNumber (length names) → AllByRecursion IsName names → steps nothing_read (states_lines names) ≡ Some (states_done names)
+-- with the version and their count
+states_read : (names : List (List ℕ)) → IsNumber (length names) → AllByRecursion IsName names
+    → steps nothing_read (states_lines names) ≡ Some (states_done names)
 unfolding next
 states_read names n h =
     let p = made [] [] 0 0 [] [] expects.StateCount in
     ap (λ o. option_and_then (λ r. steps r (state_lines names)) (option_map (λ m. record p { expected = root_next m }) o)) (number_behind-line (codes "states ") (length names) n)
     ∙ root_read names h
 
-events_read : (states names : List (List ℕ)) → IsNumber (length names) → AllByRecursion IsName names → steps (states_done states) (events_lines names) ≡ Some (events_done states names)
+-- the lines of the events are read
+events_read : (states names : List (List ℕ)) → IsNumber (length names) → AllByRecursion IsName names
+    → steps (states_done states) (events_lines names) ≡ Some (events_done states names)
 unfolding next
 events_read states names n h =
     let first = ap (λ o. option_and_then (λ r. steps r (map event_line names)) (option_map (λ m. events_left states m []) o)) (number_behind-line (codes "events ") (length names) n) in
@@ -59,13 +70,16 @@ events_read states names n h =
     ∙ (ap (λ ls. steps (events_left states (length names) []) ls) (sym (flat_map_single event_line names))
     ∙ part_read (events_left states) (λ name. event_line name ∷ []) IsName (events_part states) names [] h)
 
+-- those of the procedures
 procs_read : (P : Program) → IsSpellable P → steps (events_done P.states P.events) (procs_lines P) ≡ Some (procs_done P)
 unfolding next
 procs_read P h =
     let first = ap (λ o. option_and_then (λ r. steps r (flat_map proc_lines P.procs)) (option_map (with_procs (events_done P.states P.events)) o))
     (procs_of-line (length P.procs) P.start P.react h.procs h.start h.react) in
-    first ∙ part_read (procs_left P.states P.events P.start P.react) proc_lines ProcHasNumbers (procs_part P.states P.events P.start P.react) P.procs [] h.numbers
+    first
+    ∙ part_read (procs_left P.states P.events P.start P.react) proc_lines ProcHasNumbers (procs_part P.states P.events P.start P.react) P.procs [] h.numbers
 
+-- and the last line
 end_read : (P : Program) → steps (procs_done P) (end_line ∷ []) ≡ Some (all_done P)
 unfolding next
 end_read P = refl
@@ -87,7 +101,9 @@ record NamesRead (part : List (List ℕ) → List (List ℕ)) (after : List (Lis
   are_names : AllByRecursion IsName names
   goes : steps (after names) others ≡ Some q
 
-root_spelled : (n : ℕ) (lines : List (List ℕ)) (q : Partial) → IsNumber n → steps (states_left n) lines ≡ Some q → IsWhole q
+-- lines that are read as states begin with those of the states
+root_spelled : (n : ℕ) (lines : List (List ℕ)) (q : Partial) → IsNumber n → steps (states_left n) lines ≡ Some q
+    → IsWhole q
     → NamesRead (λ names. states_line (length names) ∷ state_lines names) states_done (states_line n ∷ lines) q
 unfolding next
 root_spelled zero lines q m h w = record { names = []; others = lines; is = refl; count = m; are_names = tt; goes = h }
@@ -96,7 +112,8 @@ root_spelled (suc n) lines q m h w =
     let first = first_line p q lines h w refl in
     option_map_some (with_state p n) (name_behind (codes "s - or ") first.line) first.after first.read (λ root is made_is.
     let got = name_behind-some (codes "s - or ") first.line root is in
-    let goes : steps (leaves n (root ∷ [])) first.others ≡ Some q = ap (λ r. steps r first.others) made_is ∙ first.goes in
+    let goes : steps (leaves n (root ∷ [])) first.others ≡ Some q = ap (λ r. steps r first.others) made_is
+    ∙ first.goes in
     let all = part_spelled leaves (λ name. leaf_line name ∷ []) IsName leaves_part n (root ∷ []) first.others q goes w in
     let count : suc n ≡ suc (length all.items) = ap (λ k. suc k) (sym all.count) in
     record {
@@ -110,7 +127,9 @@ root_spelled (suc n) lines q m h w =
       goes = all.goes;
     })
 
-states_spelled : (lines : List (List ℕ)) (q : Partial) → steps nothing_read lines ≡ Some q → IsWhole q → NamesRead states_lines states_done lines q
+-- with the version and their count
+states_spelled : (lines : List (List ℕ)) (q : Partial) → steps nothing_read lines ≡ Some q → IsWhole q
+    → NamesRead states_lines states_done lines q
 unfolding next
 states_spelled lines q h w =
     let version = first_line nothing_read q lines h w refl in
@@ -124,13 +143,16 @@ states_spelled lines q h w =
     record {
       names = rest.names;
       others = rest.others;
-      is = version.is ∙ (ap (λ l. l ∷ version.others) same.0 ∙ ap (λ ls. version_line ∷ ls) (first.is ∙ (ap (λ l. l ∷ first.others) got.0 ∙ rest.is)));
+      is = version.is
+          ∙ (ap (λ l. l ∷ version.others) same.0 ∙ ap (λ ls. version_line ∷ ls) (first.is ∙ (ap (λ l. l ∷ first.others) got.0 ∙ rest.is)));
       count = rest.count;
       are_names = rest.are_names;
       goes = rest.goes;
     })
 
-events_spelled : (states lines : List (List ℕ)) (q : Partial) → steps (states_done states) lines ≡ Some q → IsWhole q → NamesRead events_lines (events_done states) lines q
+-- then come those of the events
+events_spelled : (states lines : List (List ℕ)) (q : Partial) → steps (states_done states) lines ≡ Some q → IsWhole q
+    → NamesRead events_lines (events_done states) lines q
 unfolding next
 events_spelled states lines q h w =
     let none = first_line (states_done states) q lines h w refl in
@@ -165,7 +187,9 @@ record ProcsRead (states events lines : List (List ℕ)) (q : Partial) : Type 0 
   numbers : AllByRecursion ProcHasNumbers procs
   goes : steps (made states events start react procs [] expects.End) others ≡ Some q
 
-procs_spelled : (states events lines : List (List ℕ)) (q : Partial) → steps (events_done states events) lines ≡ Some q → IsWhole q → ProcsRead states events lines q
+-- those of the procedures
+procs_spelled : (states events lines : List (List ℕ)) (q : Partial) → steps (events_done states events) lines ≡ Some q
+    → IsWhole q → ProcsRead states events lines q
 unfolding next
 procs_spelled states events lines q h w =
     let p = events_done states events in
@@ -174,13 +198,15 @@ procs_spelled states events lines q h w =
     let got = procs_of-some first.line three is in
     let rest = part_spelled (procs_left states events three.start three.react) proc_lines ProcHasNumbers (procs_part states events three.start three.react) three.count [] first.others q
     (ap (λ r. steps r first.others) made_is ∙ first.goes) w in
-    let line_is : first.line ≡ procs_line (length rest.items) three.start three.react = got.spelled ∙ ap (λ n. procs_line n three.start three.react) (sym rest.count) in
+    let line_is : first.line ≡ procs_line (length rest.items) three.start three.react = got.spelled
+    ∙ ap (λ n. procs_line n three.start three.react) (sym rest.count) in
     record {
       start = three.start;
       react = three.react;
       procs = rest.items;
       others = rest.others;
-      is = first.is ∙ (ap (λ l. l ∷ first.others) line_is ∙ ap (λ ls. procs_line (length rest.items) three.start three.react ∷ ls) rest.is);
+      is = first.is
+          ∙ (ap (λ l. l ∷ first.others) line_is ∙ ap (λ ls. procs_line (length rest.items) three.start three.react ∷ ls) rest.is);
       count = subst IsNumber (sym rest.count) got.count;
       start_is = got.start;
       react_is = got.react;
@@ -189,12 +215,15 @@ procs_spelled states events lines q h w =
     })
 
 -- after the line `end` no line can stand
-pub nothing_behind : (P : Program) (lines : List (List ℕ)) (q : Partial) → steps (all_done P) lines ≡ Some q → (lines ≡ []) × (all_done P ≡ q)
+pub nothing_behind : (P : Program) (lines : List (List ℕ)) (q : Partial) → steps (all_done P) lines ≡ Some q
+    → (lines ≡ []) × (all_done P ≡ q)
 unfolding next
 nothing_behind P [] q h = (refl, same_Some (all_done P) q h)
 nothing_behind P (line ∷ lines) q h = absurd cc
 
-end_spelled : (P : Program) (lines : List (List ℕ)) (q : Partial) → steps (procs_done P) lines ≡ Some q → IsWhole q → (lines ≡ end_line ∷ []) × (all_done P ≡ q)
+-- and the last line, with nothing after it
+end_spelled : (P : Program) (lines : List (List ℕ)) (q : Partial) → steps (procs_done P) lines ≡ Some q → IsWhole q
+    → (lines ≡ end_line ∷ []) × (all_done P ≡ q)
 unfolding next
 end_spelled P lines q h w =
     let first = first_line (procs_done P) q lines h w refl in
@@ -208,7 +237,8 @@ pub record AreSpelled (lines : List (List ℕ)) (P : Program) : Type 0 where
   pub spellable : IsSpellable P
 
 -- what is read to the end is the lines of the program that was read
-pub lines_spelled : (lines : List (List ℕ)) (q : Partial) → steps nothing_read lines ≡ Some q → IsWhole q → AreSpelled lines (program_read q)
+pub lines_spelled : (lines : List (List ℕ)) (q : Partial) → steps nothing_read lines ≡ Some q → IsWhole q
+    → AreSpelled lines (program_read q)
 unfolding code_lines
 lines_spelled lines q h w =
     let states = states_spelled lines q h w in
@@ -217,7 +247,8 @@ lines_spelled lines q h w =
     let P : Program = record { states = states.names; events = events.names; start = procs.start; react = procs.react; procs = procs.procs } in
     let last = end_spelled P procs.others q procs.goes w in
     let spelled : lines ≡ states_lines states.names ++ (events_lines events.names ++ (procs_lines P ++ end_line ∷ [])) =
-    states.is ∙ ap (λ ls. states_lines states.names ++ ls) (events.is ∙ ap (λ ls. events_lines events.names ++ ls) (procs.is ∙ ap (λ ls. procs_lines P ++ ls) last.0)) in
+    states.is
+    ∙ ap (λ ls. states_lines states.names ++ ls) (events.is ∙ ap (λ ls. events_lines events.names ++ ls) (procs.is ∙ ap (λ ls. procs_lines P ++ ls) last.0)) in
     let spellable : IsSpellable P =
     record {
       states = states.count;

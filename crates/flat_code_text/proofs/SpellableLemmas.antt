@@ -17,7 +17,8 @@ are_names [] h = tt
 are_names (name ∷ names) h = let both = and_parts (is_name name) _ h in (both.0, are_names names both.1)
 
 -- a procedure that isn't longer than the limit has a count of 32 bits
-count_fits : (is : List Instr) (procs : List (List Instr)) → list_any (λ (js : List Instr). nat_lt INSTR_LIMIT (length js)) (is ∷ procs) ≡ false
+count_fits : (is : List Instr) (procs : List (List Instr))
+    → list_any (λ (js : List Instr). nat_lt INSTR_LIMIT (length js)) (is ∷ procs) ≡ false
     → (length is ≤ INSTR_LIMIT) × (list_any (λ (js : List Instr). nat_lt INSTR_LIMIT (length js)) procs ≡ false)
 count_fits is procs h = by_test (nat_lt INSTR_LIMIT (length is)) refl h
   where
@@ -32,7 +33,8 @@ procs_fit : (procs : List (List Instr)) → list_any (λ (is : List Instr). nat_
     → AllByRecursion (AllByRecursion HasNumbers) procs → AllByRecursion ProcHasNumbers procs
 procs_fit [] h g = tt
 procs_fit (is ∷ procs) h g =
-    let fits = count_fits is procs h in (record { count = omega (arith, fits.0); instrs = g.0 }, procs_fit procs fits.1 g.1)
+    let fits = count_fits is procs h in
+    (record { count = omega (arith, fits.0); instrs = g.0 }, procs_fit procs fits.1 g.1)
 
 -- well-formed code whose instructions have numbers of a text
 pub code_spellable : (P : Program) → IsCode P → AllByRecursion (AllByRecursion HasNumbers) P.procs → IsSpellable P

@@ -1,5 +1,6 @@
 -- Lines read one after another, and parts of a text that have a count.
-use Rattle.std.proofs.Common.{◌≡◌, ℕ, zero, suc, ◌+◌, Bool, true, false, List, [], ◌∷◌, ◌++◌, length, Option, Some, None, Ok, Err, refl, sym, ap, ◌∙◌, append_assoc, arith}
+use Rattle.std.proofs.Common.{◌≡◌, ℕ, zero, suc, ◌+◌, Bool, true, false, List, [], ◌∷◌, ◌++◌, length, Option, Some}
+use Rattle.std.proofs.Common.{None, Ok, Err, refl, sym, ap, ◌∙◌, append_assoc, arith}
 use Rattle.std.specs.Prelude.{option_and_then, nat_eq, not, if◌then◌else◌}
 use Rattle.std.specs.List.{flat_map, AllByRecursion}
 use Rattle.std.proofs.lemmas.Option.{same_Some, option_and_then_some}
@@ -18,7 +19,9 @@ steps p (line ∷ lines) = option_and_then (λ q. steps q lines) (next p line)
 abbrev pub IsWhole : Partial → Type 0
 IsWhole p = is_whole p.expected ≡ true
 
-pub steps-append : (p q : Partial) (lines others : List (List ℕ)) → steps p lines ≡ Some q → steps p (lines ++ others) ≡ steps q others
+-- steps over lines, and over those after them
+pub steps-append : (p q : Partial) (lines others : List (List ℕ)) → steps p lines ≡ Some q
+    → steps p (lines ++ others) ≡ steps q others
 steps-append p q [] others h = ap (λ r. steps r others) (same_Some p q h)
 steps-append p q (line ∷ lines) others h =
     option_and_then_some (λ r. steps r lines) (next p line) q h (λ r e g.
@@ -45,19 +48,26 @@ pub record ReadFrom (p : Partial) (lines : List (List ℕ)) (rest : List ℕ) (P
   pub nothing_behind : rest ≡ []
   pub program : program_read last ≡ P
 
-ended : (whole empty : Bool) (p : Partial) (n : ℕ) (rest : List ℕ) (P : Program) → is_whole p.expected ≡ whole → nat_eq (length rest) 0 ≡ empty
-    → (if not whole then Err faults.Truncated else if empty then Ok (program_read p) else Err (faults.Trailing n)) ≡ Ok P → (whole ≡ true) × (empty ≡ true) × (program_read p ≡ P)
+-- what is read to its end has the line `end`, and nothing after it
+ended : (whole empty : Bool) (p : Partial) (n : ℕ) (rest : List ℕ) (P : Program) → is_whole p.expected ≡ whole
+    → nat_eq (length rest) 0 ≡ empty
+    → (if not whole then Err faults.Truncated else if empty then Ok (program_read p) else Err (faults.Trailing n)) ≡ Ok P
+    → (whole ≡ true) × (empty ≡ true) × (program_read p ≡ P)
 ended false empty p n rest P w e h = absurd cc
 ended true false p n rest P w e h = absurd cc
 ended true true p n rest P w e h = (refl, refl, cc)
 
+-- a text of no length is empty
 no_bytes : (rest : List ℕ) → nat_eq (length rest) 0 ≡ true → rest ≡ []
 no_bytes [] h = refl
 no_bytes (b ∷ rest) h = absurd (grind (arith, nat_tests))
 
-read_on : (p : Partial) (n : ℕ) (line : List ℕ) (lines : List (List ℕ)) (rest : List ℕ) (P : Program) (o : Option Partial) → next p line ≡ o
+-- where the outcome is a program, the line could stand
+read_on : (p : Partial) (n : ℕ) (line : List ℕ) (lines : List (List ℕ)) (rest : List ℕ) (P : Program) (o : Option Partial)
+    → next p line ≡ o
     → or_refuse o (refusal p.expected n line) (λ q. outcome_from q (n + 1) lines rest) ≡ Ok P
-    → ((q : Partial) → outcome_from q (n + 1) lines rest ≡ Ok P → ReadFrom q lines rest P) → ReadFrom p (line ∷ lines) rest P
+    → ((q : Partial) → outcome_from q (n + 1) lines rest ≡ Ok P → ReadFrom q lines rest P)
+    → ReadFrom p (line ∷ lines) rest P
 read_on p n line lines rest P None e h on = absurd cc
 read_on p n line lines rest P (Some q) e h on =
     let r = on q h in
@@ -70,7 +80,8 @@ read_on p n line lines rest P (Some q) e h on =
     }
 
 -- a program is read by steps to its end
-pub read_from : (p : Partial) (n : ℕ) (lines : List (List ℕ)) (rest : List ℕ) (P : Program) → outcome_from p n lines rest ≡ Ok P → ReadFrom p lines rest P
+pub read_from : (p : Partial) (n : ℕ) (lines : List (List ℕ)) (rest : List ℕ) (P : Program)
+    → outcome_from p n lines rest ≡ Ok P → ReadFrom p lines rest P
 read_from p n [] rest P h =
     let at = ended (is_whole p.expected) (nat_eq (length rest) 0) p n rest P refl refl h in
     record { last = p; steps_are = refl; whole = at.0; nothing_behind = no_bytes rest at.1; program = at.2 }
@@ -85,10 +96,12 @@ pub record FrontItem {X : Type 0} (more : List X → Partial) (lines_of : X → 
   pub fits : Fits item
   pub goes : steps (more (xs ++ item ∷ [])) others ≡ Some q
 
--- a part of a text: so many items, each with lines of its own
+-- a part of a text: n items to come, each with lines of its own
 pub record IsPart {X : Type 0} (with : ℕ → List X → Partial) (lines_of : X → List (List ℕ)) (Fits : X → Type 0) : Type 0 where
-  pub one_read : (n : ℕ) (xs : List X) (x : X) → Fits x → steps (with (suc n) xs) (lines_of x) ≡ Some (with n (xs ++ x ∷ []))
-  pub one_spelled : (n : ℕ) (xs : List X) (lines : List (List ℕ)) (q : Partial) → steps (with (suc n) xs) lines ≡ Some q → IsWhole q → FrontItem (with n) lines_of Fits xs lines q
+  pub one_read : (n : ℕ) (xs : List X) (x : X) → Fits x
+      → steps (with (suc n) xs) (lines_of x) ≡ Some (with n (xs ++ x ∷ []))
+  pub one_spelled : (n : ℕ) (xs : List X) (lines : List (List ℕ)) (q : Partial) → steps (with (suc n) xs) lines ≡ Some q
+      → IsWhole q → FrontItem (with n) lines_of Fits xs lines q
 
 -- the lines of all items, and those after them
 pub record FrontItems {X : Type 0} (with : ℕ → List X → Partial) (lines_of : X → List (List ℕ)) (Fits : X → Type 0) (n : ℕ) (xs : List X) (lines : List (List ℕ)) (q : Partial) : Type 0 where
@@ -100,16 +113,20 @@ pub record FrontItems {X : Type 0} (with : ℕ → List X → Partial) (lines_of
   pub goes : steps (with 0 (xs ++ items)) others ≡ Some q
 
 -- the lines of items are read as them
-pub part_read : {X : Type 0} (with : ℕ → List X → Partial) (lines_of : X → List (List ℕ)) (Fits : X → Type 0) → IsPart with lines_of Fits
-    → (ys xs : List X) → AllByRecursion Fits ys → steps (with (length ys) xs) (flat_map lines_of ys) ≡ Some (with 0 (xs ++ ys))
+pub part_read : {X : Type 0} (with : ℕ → List X → Partial) (lines_of : X → List (List ℕ)) (Fits : X → Type 0)
+    → IsPart with lines_of Fits
+    → (ys xs : List X) → AllByRecursion Fits ys
+    → steps (with (length ys) xs) (flat_map lines_of ys) ≡ Some (with 0 (xs ++ ys))
 part_read with lines_of Fits part [] xs h = ap (λ zs. Some (with 0 zs)) (sym (append-nil xs))
 part_read with lines_of Fits part (y ∷ ys) xs h =
     steps-append (with (suc (length ys)) xs) (with (length ys) (xs ++ y ∷ [])) (lines_of y) (flat_map lines_of ys) (part.one_read (length ys) xs y h.0)
     ∙ (part_read with lines_of Fits part ys (xs ++ y ∷ []) h.1 ∙ ap (λ zs. Some (with 0 zs)) (append_assoc xs (y ∷ []) ys))
 
 -- what is read is the lines of items
-pub part_spelled : {X : Type 0} (with : ℕ → List X → Partial) (lines_of : X → List (List ℕ)) (Fits : X → Type 0) → IsPart with lines_of Fits
-    → (n : ℕ) (xs : List X) (lines : List (List ℕ)) (q : Partial) → steps (with n xs) lines ≡ Some q → IsWhole q → FrontItems with lines_of Fits n xs lines q
+pub part_spelled : {X : Type 0} (with : ℕ → List X → Partial) (lines_of : X → List (List ℕ)) (Fits : X → Type 0)
+    → IsPart with lines_of Fits
+    → (n : ℕ) (xs : List X) (lines : List (List ℕ)) (q : Partial) → steps (with n xs) lines ≡ Some q → IsWhole q
+    → FrontItems with lines_of Fits n xs lines q
 part_spelled with lines_of Fits part zero xs lines q h w =
     record { items = []; others = lines; is = refl; count = refl; fits = tt; goes = ap (λ zs. steps (with 0 zs) lines) (append-nil xs) ∙ h }
 part_spelled with lines_of Fits part (suc n) xs lines q h w =
@@ -118,7 +135,8 @@ part_spelled with lines_of Fits part (suc n) xs lines q h w =
     record {
       items = one.item ∷ all.items;
       others = all.others;
-      is = one.is ∙ (ap (λ ls. lines_of one.item ++ ls) all.is ∙ sym (append_assoc (lines_of one.item) (flat_map lines_of all.items) all.others));
+      is = one.is
+          ∙ (ap (λ ls. lines_of one.item ++ ls) all.is ∙ sym (append_assoc (lines_of one.item) (flat_map lines_of all.items) all.others));
       count = ap (λ m. suc m) all.count;
       fits = (one.fits, all.fits);
       goes = ap (λ zs. steps (with 0 zs) all.others) (sym (append_assoc xs (one.item ∷ []) all.items)) ∙ all.goes;

@@ -40,31 +40,31 @@ nothing_read =
       expected = expects.Version;
     }
 
--- with so many states to come, the root first
+-- with n states to come, the root first
 abbrev pub root_next : ℕ → Expected
 root_next zero = expects.DataCount
 root_next (suc n) = expects.Root n
 
--- with so many states to come after the root
+-- with n states to come after the root
 abbrev pub leaf_next : ℕ → Expected
 leaf_next zero = expects.DataCount
 leaf_next (suc n) = expects.Leaf n
 
--- with so many events to come
+-- with n events to come
 abbrev pub event_next : ℕ → Expected
 event_next zero = expects.ProcCount
 event_next (suc n) = expects.Event n
 
--- with so many procedures to come
+-- with n procedures to come
 abbrev pub head_next : ℕ → Expected
 head_next zero = expects.End
 head_next (suc n) = expects.Head n
 
--- with one more state, and so many to come after it
+-- with one more state, and more states to come after it
 abbrev pub with_state : Partial → ℕ → List ℕ → Partial
 with_state p more name = record p { states = p.states ++ name ∷ []; expected = leaf_next more }
 
--- with one more event, and so many to come after it
+-- with one more event, and more events to come after it
 abbrev pub with_event : Partial → ℕ → List ℕ → Partial
 with_event p more name = record p { events = p.events ++ name ∷ []; expected = event_next more }
 
@@ -73,13 +73,13 @@ abbrev pub with_procs : Partial → Procs → Partial
 with_procs p three =
     record p { start = three.start; react = three.react; expected = head_next three.count }
 
--- with so many instructions to come in the procedure, and so many procedures after it
+-- with n instructions to come in the procedure, and procs procedures after it
 abbrev pub instr_next : Partial → ℕ → ℕ → Partial
 instr_next p zero procs =
     record p { procs = p.procs ++ p.instrs ∷ []; instrs = []; expected = head_next procs }
 instr_next p (suc n) procs = record p { expected = expects.Instr n procs }
 
--- with one more instruction, so many to come after it, and so many procedures after its own
+-- with one more instruction, more instructions to come after it, and procs procedures after its own
 abbrev pub with_instr : Partial → ℕ → ℕ → Instr → Partial
 with_instr p more procs i = instr_next (record p { instrs = p.instrs ++ i ∷ [] }) more procs
 

@@ -9,21 +9,21 @@ pub enum Expected {
     Version,
     /// The count of states.
     StateCount,
-    /// The first state; so many others follow.
+    /// The first state, and how many others follow.
     Root(u32),
-    /// Another state; so many others follow.
+    /// Another state, and how many others follow.
     Leaf(u32),
     /// The count of data.
     DataCount,
     /// The count of events.
     EventCount,
-    /// An event; so many others follow.
+    /// An event, and how many others follow.
     Event(u32),
     /// The count of procedures.
     ProcCount,
-    /// The head of a procedure; so many others follow.
+    /// The head of a procedure, and how many others follow.
     Head(u32),
-    /// An instruction; so many others of its procedure follow, and so many procedures.
+    /// An instruction, how many others of its procedure follow, and how many procedures.
     Instr(u32, u32),
     /// The line `end`.
     End,
@@ -31,7 +31,7 @@ pub enum Expected {
     Nothing,
 }
 
-/// With so many states to come, the root first.
+/// With `count` states to come, the root first.
 pub fn root_next(count: u32) -> Expected
     ensures { result ≡ spec.root_next count }
 {
@@ -41,7 +41,7 @@ pub fn root_next(count: u32) -> Expected
     }
 }
 
-/// With so many states to come after the root.
+/// With `count` states to come after the root.
 pub fn leaf_next(count: u32) -> Expected
     ensures { result ≡ spec.leaf_next count }
 {
@@ -51,7 +51,7 @@ pub fn leaf_next(count: u32) -> Expected
     }
 }
 
-/// With so many events to come.
+/// With `count` events to come.
 pub fn event_next(count: u32) -> Expected
     ensures { result ≡ spec.event_next count }
 {
@@ -61,7 +61,7 @@ pub fn event_next(count: u32) -> Expected
     }
 }
 
-/// With so many procedures to come.
+/// With `count` procedures to come.
 pub fn head_next(count: u32) -> Expected
     ensures { result ≡ spec.head_next count }
 {

@@ -2,7 +2,7 @@
 //!
 //! Read `specs/Spelling.antt` first, the one spelling of each program, then `specs/Fields.antt`,
 //! what a line says, and `specs/Reading.antt`, which line can stand where and which fault is the
-//! first.
+//! first. The crate serves flat charts, and goes when the whole language is built.
 #![tactic(auto)]
 
 mod expected;

@@ -200,7 +200,7 @@ impl Partial {
         Ok(true)
     }
 
-    /// With so many instructions to come in the procedure, and so many procedures after it.
+    /// With `more` instructions to come in the procedure, and `procs` procedures after it.
     fn expect_instrs(&mut self, alloc: Global, more: u32, procs: u32) -> Result<(), AllocError>
         ensures { OnOk result
             (partial_of self.new ≡ spec.instr_next (partial_of self.old) more procs) }

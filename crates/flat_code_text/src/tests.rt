@@ -143,19 +143,21 @@ fn refuses_a_long_text(rt: HostRuntime) -> Result<(), Fail> {
 }
 
 #[test]
-fn shows_faults(rt: HostRuntime) {
+fn shows_faults(rt: HostRuntime) -> Result<(), Fail> {
     let cases = [
-        (CodeTextFault::BadLine(9), 1, "BadLine", Some(9)),
-        (CodeTextFault::Truncated, 2, "Truncated", None),
-        (CodeTextFault::Trailing(25), 3, "Trailing", Some(25)),
-        (CodeTextFault::Version, 4, "Version", None),
-        (CodeTextFault::TextTooLong, 5, "TextTooLong", None),
-        (form(CodeKind::NoRet, 1, 8), 6, "Form", None),
-        (CodeTextFault::NotBuilt(17), 7, "NotBuilt", Some(17)),
+        (CodeTextFault::BadLine(9), "code 9: 1 BadLine"),
+        (CodeTextFault::Truncated, "code: 2 Truncated"),
+        (CodeTextFault::Trailing(25), "code 25: 3 Trailing"),
+        (CodeTextFault::Version, "code: 4 Version"),
+        (CodeTextFault::TextTooLong, "code: 5 TextTooLong"),
+        (form(CodeKind::NoRet, 1, 8), "code: 6 Form 8 NoRet 1.8"),
+        (CodeTextFault::NotBuilt(17), "code 17: 7 NotBuilt"),
+        (CodeTextFault::Memory, "out of memory"),
     ];
-    for (fault, number, name, line) in cases {
-        assert_eq!(rt; fault.number(), number);
-        assert_eq!(rt; fault.name(), name);
-        assert_eq!(rt; fault.line(), line);
+    for (fault, text) in cases {
+        assert_eq!(rt; fault.text().as_str(), text);
+        let shown = format!(in rt.alloc(); "{fault}")?;
+        assert_eq!(rt; shown.as_str(), text);
     }
+    Ok(())
 }

@@ -10,10 +10,13 @@ use Rattle.flat_syntax.specs.declared.tree.FlatChart.{FlatChart}
 use Rattle.flow_base.specs.Lists.{items_of}
 use Rattle.flat_compile.specs.Emitted.{FitsIn}
 
-dests_fit : (events n : ℕ) → n ≤ 64 → (ts : List FlatTrans) → AllByRecursion (TransInRange events n) ts → AllByRecursion (λ (t : FlatTrans). t.dest + 1 < 2 ^ 32) ts
+-- the destinations of a state
+dests_fit : (events n : ℕ) → n ≤ 64 → (ts : List FlatTrans) → AllByRecursion (TransInRange events n) ts
+    → AllByRecursion (λ (t : FlatTrans). t.dest + 1 < 2 ^ 32) ts
 dests_fit events n few [] r = tt
 dests_fit events n few (t ∷ ts) r = (omega (arith, r.0.dest), dests_fit events n few ts r.1)
 
+-- what all states name
 states_fit : (events n : ℕ) → n ≤ 64 → (xs : List FlatState)
     → AllByRecursion (λ (s : State). AllByRecursion (TransInRange events n) s.outer) (map state_of xs)
     → AllByRecursion (λ (s : State). length s.outer ≤ 1024) (map state_of xs)

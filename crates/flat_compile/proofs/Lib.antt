@@ -1,4 +1,4 @@
-pub mod Reach
+pub mod Places
 pub mod Worlds
 pub mod Runs
 pub mod Reaction

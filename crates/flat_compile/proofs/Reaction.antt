@@ -1,5 +1,6 @@
 -- A reaction of the code of a flat chart is that of the rules.
-use Rattle.std.proofs.Common.{◌≡◌, ◌≢◌, ℕ, zero, suc, ◌+◌, ◌*◌, ◌<◌, true, false, List, [], ◌∷◌, length, drop, replicate, Option, Some, None, refl, sym, ap, subst, ◌∙◌, arith, inl, inr}
+use Rattle.std.proofs.Common.{◌≡◌, ◌≢◌, ℕ, zero, suc, ◌+◌, ◌*◌, ◌<◌, true, false, List, [], ◌∷◌, length, drop}
+use Rattle.std.proofs.Common.{replicate, Option, Some, None, refl, sym, ap, subst, ◌∙◌, arith, inl, inr}
 use Rattle.std.specs.Prelude.{unwrap_or, nat_eq}
 use Rattle.std.specs.List.{AllByRecursion}
 use Rattle.std.proofs.lemmas.Bool.{cases_Bool}
@@ -11,12 +12,14 @@ use Rattle.flat_code.specs.declared.instr.Cond.TheVariants as conds
 use Rattle.flat_code.specs.declared.instr.Instr.{Instr}
 use Rattle.flat_code.specs.Program.{Program}
 use Rattle.flat_code.specs.World.{World, is_on}
-use Rattle.flat_code.specs.Machine.{is_current, Gives}
+use Rattle.flat_code.specs.Machine.{is_current, Gives, Reaches}
 use Rattle.flat_compile.specs.Emitted.{trans_code, transes_code, states_code}
 use Rattle.flat_compile.specs.Same.{only}
-use Rattle.flat_compile.proofs.Reach.{Reaches, stays, goes, gives, behind, past_is}
+use Rattle.flat_code.proofs.RunLemmas.{stays, goes, gives}
+use Rattle.flat_compile.proofs.Places.{behind, past_is}
 use Rattle.flat_compile.proofs.Worlds.{on_self, on_other, clear_self, mark_leaf}
-use Rattle.flat_compile.proofs.Runs.{at, HasCode, go_mark, go_clear, same_marks, go_unless_true, go_unless_false, ret_ends, holds_on, holds_current}
+use Rattle.flat_compile.proofs.Runs.{at, HasCode, go_mark, go_clear, same_marks, go_unless_true, go_unless_false}
+use Rattle.flat_compile.proofs.Runs.{ret_ends, holds_on, holds_current}
 
 -- the world of n leaves in which leaf s is active
 abbrev pub active : ℕ → ℕ → World
@@ -28,11 +31,14 @@ fires None ts = None
 fires (Some e) ts = destination ts e
 
 -- one transition decides, or the others do
-fires_first : (cur : Option ℕ) (t : FlatTrans) (ts : List FlatTrans) → is_current cur t.event ≡ true → fires cur (t ∷ ts) ≡ Some t.dest
+fires_first : (cur : Option ℕ) (t : FlatTrans) (ts : List FlatTrans) → is_current cur t.event ≡ true
+    → fires cur (t ∷ ts) ≡ Some t.dest
 fires_first None t ts h = absurd cc
 fires_first (Some e) t ts h = let k : nat_eq t.event e ≡ true = grind (arith, nat_tests) in rw k refl
 
-fires_later : (cur : Option ℕ) (t : FlatTrans) (ts : List FlatTrans) → is_current cur t.event ≡ false → fires cur (t ∷ ts) ≡ fires cur ts
+-- a transition with another event leaves it to the later ones
+fires_later : (cur : Option ℕ) (t : FlatTrans) (ts : List FlatTrans) → is_current cur t.event ≡ false
+    → fires cur (t ∷ ts) ≡ fires cur ts
 fires_later None t ts h = refl
 fires_later (Some e) t ts h = let k : nat_eq t.event e ≡ false = grind (arith, nat_tests) in rw k refl
 
@@ -44,7 +50,8 @@ pub record Left (P : Program) (p : ℕ) (code : List Instr) (w : World) (cur : O
 
 module _ (P : Program) (p : ℕ) (code : List Instr) (h : HasCode P p code) (cur : Option ℕ) (n s : ℕ) (within : s < n) where
   -- a transition whose event isn't the current one is passed over
-  missed : (i : ℕ) (t : FlatTrans) (rest : List Instr) → drop i code ≡ trans_code s t rest → is_current cur t.event ≡ false
+  missed : (i : ℕ) (t : FlatTrans) (rest : List Instr) → drop i code ≡ trans_code s t rest
+      → is_current cur t.event ≡ false
       → Reaches P (at (active n s) cur p i) (at (active n s) cur p (i + 1 + 3)) × (drop (i + 1 + 3) code ≡ rest)
   missed i t rest e other =
       (go_unless_false P p code h (active n s) cur i 3 (conds.Current t.event) _ e (holds_current (active n s) cur p i t.event ∙ other), past_is code i 3 _ _ e)
@@ -65,7 +72,8 @@ module _ (P : Program) (p : ℕ) (code : List Instr) (h : HasCode P p code) (cur
       gives P _ _ (active n t.dest) (goes P _ _ _ first (goes P _ _ _ second third)) (ret_ends P p code h (active n t.dest) cur (i + 1 + 1 + 1) 0 _ e3)
 
   -- no transition fires
-  none_fires : (ts : List FlatTrans) (rest : List Instr) (i : ℕ) → drop i code ≡ transes_code s ts rest → fires cur ts ≡ None → Left P p code (active n s) cur i rest
+  none_fires : (ts : List FlatTrans) (rest : List Instr) (i : ℕ) → drop i code ≡ transes_code s ts rest
+      → fires cur ts ≡ None → Left P p code (active n s) cur i rest
   none_fires [] rest i e none = record { place = i; reached = stays P _; there = e }
   none_fires (t ∷ ts) rest i e none =
       elim (cases_Bool (is_current cur t.event)) [
@@ -111,7 +119,8 @@ module _ (P : Program) (p : ℕ) (code : List Instr) (h : HasCode P p code) (cur
   )
 
   -- after the active state nothing happens
-  rest_passed : (xs : List State) (k i : ℕ) → s < k → drop i code ≡ states_code k xs → Gives P (at (active n s) cur p i) (active n s)
+  rest_passed : (xs : List State) (k i : ℕ) → s < k → drop i code ≡ states_code k xs
+      → Gives P (at (active n s) cur p i) (active n s)
   rest_passed [] k i lt e = ret_ends P p code h (active n s) cur i 0 [] e
   rest_passed (x ∷ xs) k i lt e =
       let ne : k ≢ s = omega arith in
@@ -119,12 +128,15 @@ module _ (P : Program) (p : ℕ) (code : List Instr) (h : HasCode P p code) (cur
       gives P _ _ (active n s) m.0 (rest_passed xs (k + 1) (i + 1 + 4 * length x.outer) (omega arith) m.1)
 
   -- the block of the active state
-  in_state : (events k i : ℕ) (x : State) (xs : List State) → k ≡ s → AllByRecursion (TransInRange events n) x.outer → drop i code ≡ states_code k (x ∷ xs)
+  in_state : (events k i : ℕ) (x : State) (xs : List State) → k ≡ s → AllByRecursion (TransInRange events n) x.outer
+      → drop i code ≡ states_code k (x ∷ xs)
       → Gives P (at (active n s) cur p i) (active n (unwrap_or (fires cur x.outer) s))
   in_state events k i x xs same r e =
-      let on = holds_on (active n s) cur p i (k + 1) ∙ ap (λ (z : ℕ). is_on (active n s).marks (z + 1)) same ∙ on_self n s within in
+      let on = holds_on (active n s) cur p i (k + 1) ∙ ap (λ (z : ℕ). is_on (active n s).marks (z + 1)) same
+      ∙ on_self n s within in
       let entered = go_unless_true P p code h (active n s) cur i (4 * length x.outer) (conds.On (k + 1)) _ e on in
-      let there : drop (i + 1) code ≡ transes_code s x.outer (states_code (k + 1) xs) = behind code i _ _ e ∙ ap (λ (z : ℕ). transes_code z x.outer (states_code (k + 1) xs)) same in
+      let there : drop (i + 1) code ≡ transes_code s x.outer (states_code (k + 1) xs) = behind code i _ _ e
+      ∙ ap (λ (z : ℕ). transes_code z x.outer (states_code (k + 1) xs)) same in
       gives P _ _ _ entered (by_fire (fires cur x.outer) refl there)
     where
       by_fire : (o : Option ℕ) → fires cur x.outer ≡ o
@@ -137,7 +149,8 @@ module _ (P : Program) (p : ℕ) (code : List Instr) (h : HasCode P p code) (cur
 
   -- from the state of number k on, the active state being the d-th of them
   pub states_run : (events : ℕ) (xs : List State) (d k i : ℕ) → k + d ≡ s → d < length xs
-      → AllByRecursion (λ (x : State). AllByRecursion (TransInRange events n) x.outer) xs → drop i code ≡ states_code k xs
+      → AllByRecursion (λ (x : State). AllByRecursion (TransInRange events n) x.outer) xs
+      → drop i code ≡ states_code k xs
       → Gives P (at (active n s) cur p i) (active n (unwrap_or (fires cur (outer_of xs d)) s))
   states_run events [] d k i is lt r e = absurd (omega arith)
   states_run events (x ∷ xs) zero k i is lt r e = in_state events k i x xs (omega arith) r.0 e

@@ -1,5 +1,6 @@
 -- Procedures of one frame, instruction by instruction.
-use Rattle.std.proofs.Common.{◌≡◌, ℕ, zero, suc, ◌+◌, Bool, true, false, List, [], ◌∷◌, drop, Option, Some, refl, ap, subst, ◌∙◌}
+use Rattle.std.proofs.Common.{◌≡◌, ℕ, zero, suc, ◌+◌, Bool, true, false, List, [], ◌∷◌, drop, Option, Some, refl, ap}
+use Rattle.std.proofs.Common.{subst, ◌∙◌}
 use Rattle.std.specs.Prelude.{slice_get, if◌then◌else◌}
 use Rattle.flat_code.specs.declared.instr.Cond.{Cond}
 use Rattle.flat_code.specs.declared.instr.Cond.TheVariants as conds
@@ -8,8 +9,10 @@ use Rattle.flat_code.specs.declared.instr.Instr.TheVariants as instrs
 use Rattle.flat_code.specs.declared.frame.Frame.{Frame}
 use Rattle.flat_code.specs.Program.{Program}
 use Rattle.flat_code.specs.World.{World, is_on, mark, clear}
-use Rattle.flat_code.specs.Machine.{State, Next, Goes, run, step, act, and_then, fetch, holds, is_current, next, past, Gives}
-use Rattle.flat_compile.proofs.Reach.{Reaches, one_step, at_place}
+use Rattle.flat_code.specs.Machine.{State, Next, Goes, run, step, act, and_then, fetch, holds, is_current, next, past}
+use Rattle.flat_code.specs.Machine.{Gives, Reaches}
+use Rattle.flat_code.proofs.RunLemmas.{one_step}
+use Rattle.flat_compile.proofs.Places.{at_place}
 
 -- the frame at a place of procedure p
 abbrev pub frame : ℕ → ℕ → Frame
@@ -23,15 +26,21 @@ at w cur p i = record { world = w; current = cur; result = 0; frames = frame p i
 pub record HasCode (P : Program) (p : ℕ) (code : List Instr) : Type 0 where
   pub fetched : (i : ℕ) → fetch P p i ≡ slice_get code i
 
-step_at : (P : Program) (p : ℕ) (code : List Instr) → HasCode P p code → (w : World) (cur : Option ℕ) (i : ℕ) (x : Instr) (rest : List Instr) → drop i code ≡ x ∷ rest
+-- a step at a place does what the instruction there does
+step_at : (P : Program) (p : ℕ) (code : List Instr) → HasCode P p code
+    → (w : World) (cur : Option ℕ) (i : ℕ) (x : Instr) (rest : List Instr) → drop i code ≡ x ∷ rest
     → step P (at w cur p i) ≡ act (Some x) (at w cur p i) (frame p i) []
 step_at P p code h w cur i x rest e = ap (λ (o : Option Instr). act o (at w cur p i) (frame p i) []) (h.fetched i ∙ at_place code i x rest e)
 
-pub go_mark : (P : Program) (p : ℕ) (code : List Instr) → HasCode P p code → (w : World) (cur : Option ℕ) (i s : ℕ) (rest : List Instr) → drop i code ≡ instrs.Mark s ∷ rest
+-- past a mark
+pub go_mark : (P : Program) (p : ℕ) (code : List Instr) → HasCode P p code
+    → (w : World) (cur : Option ℕ) (i s : ℕ) (rest : List Instr) → drop i code ≡ instrs.Mark s ∷ rest
     → Reaches P (at w cur p i) (at (record { marks = mark w.marks s }) cur p (i + 1))
 go_mark P p code h w cur i s rest e = one_step P _ _ (step_at P p code h w cur i (instrs.Mark s) rest e)
 
-pub go_clear : (P : Program) (p : ℕ) (code : List Instr) → HasCode P p code → (w : World) (cur : Option ℕ) (i s : ℕ) (rest : List Instr) → drop i code ≡ instrs.Clear s ∷ rest
+-- past a clear
+pub go_clear : (P : Program) (p : ℕ) (code : List Instr) → HasCode P p code
+    → (w : World) (cur : Option ℕ) (i s : ℕ) (rest : List Instr) → drop i code ≡ instrs.Clear s ∷ rest
     → Reaches P (at w cur p i) (at (record { marks = clear w.marks s }) cur p (i + 1))
 go_clear P p code h w cur i s rest e = one_step P _ _ (step_at P p code h w cur i (instrs.Clear s) rest e)
 
@@ -44,11 +53,13 @@ same_marks P from cur p i ms ms' e run = subst (λ (marks : List Bool). Reaches 
 abbrev unless_next : World → Option ℕ → ℕ → ℕ → ℕ → Bool → Next
 unless_next w cur p i k good = Goes (record (at w cur p i) { frames = (if good then next (frame p i) else past (frame p i) k) ∷ [] })
 
+-- past an `unless` whose condition holds, to the next
 pub go_unless_true : (P : Program) (p : ℕ) (code : List Instr) → HasCode P p code
     → (w : World) (cur : Option ℕ) (i k : ℕ) (c : Cond) (rest : List Instr) → drop i code ≡ instrs.Unless k c ∷ rest
     → holds c (at w cur p i) ≡ true → Reaches P (at w cur p i) (at w cur p (i + 1))
 go_unless_true P p code h w cur i k c rest e good = one_step P _ _ (step_at P p code h w cur i (instrs.Unless k c) rest e ∙ ap (unless_next w cur p i k) good)
 
+-- past one whose condition does not hold, over what it passes over
 pub go_unless_false : (P : Program) (p : ℕ) (code : List Instr) → HasCode P p code
     → (w : World) (cur : Option ℕ) (i k : ℕ) (c : Cond) (rest : List Instr) → drop i code ≡ instrs.Unless k c ∷ rest
     → holds c (at w cur p i) ≡ false → Reaches P (at w cur p i) (at w cur p (i + 1 + k))
@@ -56,7 +67,8 @@ go_unless_false P p code h w cur i k c rest e bad = one_step P _ _ (step_at P p 
 
 -- the last frame returns, and the run is over
 pub ret_ends : (P : Program) (p : ℕ) (code : List Instr) → HasCode P p code
-    → (w : World) (cur : Option ℕ) (i r : ℕ) (rest : List Instr) → drop i code ≡ instrs.Ret r ∷ rest → Gives P (at w cur p i) w
+    → (w : World) (cur : Option ℕ) (i r : ℕ) (rest : List Instr) → drop i code ≡ instrs.Ret r ∷ rest
+    → Gives P (at w cur p i) w
 ret_ends P p code h w cur i r rest e = record {
   steps = suc (suc zero);
   ends = ap (λ (n : Next). and_then n (run P (suc zero))) (step_at P p code h w cur i (instrs.Ret r) rest e);

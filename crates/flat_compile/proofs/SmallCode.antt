@@ -10,7 +10,8 @@ use Rattle.flat_compile.specs.Emitted.{compiled, transes_code, states_code}
 use Rattle.flat_compile.proofs.WellFormed.{length-states}
 
 -- the numbers of the transitions of a state, where the numbers after them fit
-transes_fit : (s events n : ℕ) → s < 64 → events ≤ 64 → n ≤ 64 → (ts : List FlatTrans) → AllByRecursion (TransInRange events n) ts
+transes_fit : (s events n : ℕ) → s < 64 → events ≤ 64 → n ≤ 64 → (ts : List FlatTrans)
+    → AllByRecursion (TransInRange events n) ts
     → (rest : List Instr) → AllByRecursion HasNumbers rest → AllByRecursion HasNumbers (transes_code s ts rest)
 transes_fit s events n within few_events few [] r rest fit = fit
 transes_fit s events n within few_events few (t ∷ ts) r rest fit = (

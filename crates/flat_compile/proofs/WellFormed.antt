@@ -1,5 +1,6 @@
 -- The code of a valid chart is well formed.
-use Rattle.std.proofs.Common.{◌≡◌, ℕ, suc, ◌+◌, ◌*◌, ◌<◌, ◌≤◌, Bool, true, false, List, [], ◌∷◌, length, None, refl, sym, ap, subst, arith}
+use Rattle.std.proofs.Common.{◌≡◌, ℕ, suc, ◌+◌, ◌*◌, ◌<◌, ◌≤◌, Bool, true, false, List, [], ◌∷◌, length, None, refl}
+use Rattle.std.proofs.Common.{sym, ap, subst, arith}
 use Rattle.std.specs.Prelude.{nat_lt}
 use Rattle.std.specs.List.{AllByRecursion}
 use Rattle.std.proofs.lemmas.List.{length-map}
@@ -14,22 +15,29 @@ use Rattle.flat_code.specs.declared.limits.TheConstants.{INSTR_LIMIT, STATE_LIMI
 use Rattle.flat_code.specs.WellFormed.{unless, too_many, is_table, instrs_fault, proc_fault, last_returns, IsCode}
 use Rattle.flat_compile.specs.Emitted.{compiled, start_code, transes_code, states_code}
 
+-- a smaller number passes the test
 below : (a b : ℕ) → a < b → nat_lt a b ≡ true
 below a b h = grind (arith, nat_tests)
 
+-- a number that is no smaller fails it
 not_above : (a b : ℕ) → b ≤ a → nat_lt a b ≡ false
 not_above a b h = grind (arith, nat_tests)
 
 -- ---- lengths
 
-length-transes : (s : ℕ) (ts : List FlatTrans) (rest : List Instr) → length (transes_code s ts rest) ≡ 4 * length ts + length rest
+-- four instructions a transition
+length-transes : (s : ℕ) (ts : List FlatTrans) (rest : List Instr)
+    → length (transes_code s ts rest) ≡ 4 * length ts + length rest
 length-transes s [] rest = omega arith
 length-transes s (t ∷ ts) rest = omega (arith, length-transes s ts rest)
 
-pub length-states : (k : ℕ) (xs : List State) → AllByRecursion (λ (x : State). length x.outer ≤ 1024) xs → length (states_code k xs) ≤ 4097 * length xs + 1
+-- at most 4,097 instructions a state, and the return
+pub length-states : (k : ℕ) (xs : List State) → AllByRecursion (λ (x : State). length x.outer ≤ 1024) xs
+    → length (states_code k xs) ≤ 4097 * length xs + 1
 length-states k [] few = omega arith
 length-states k (x ∷ xs) few = omega (arith, length-transes k x.outer (states_code (k + 1) xs), length-states (k + 1) xs few.1, few.0)
 
+-- there is the return at least
 some-states : (k : ℕ) (xs : List State) → 0 < length (states_code k xs)
 some-states k [] = omega arith
 some-states k (x ∷ xs) = omega arith
@@ -42,8 +50,10 @@ module _ (c : Chart) (len : ℕ) where
   ret_last [] = refl
   ret_last (y ∷ rest) = refl
 
+  -- transitions have no fault where what follows them has none
   transes_safe : (s i : ℕ) (ts : List FlatTrans) (rest : List Instr) → s < length c.states
-      → AllByRecursion (TransInRange (length c.events) (length c.states)) ts → 0 < length rest → i + length (transes_code s ts rest) ≡ len
+      → AllByRecursion (TransInRange (length c.events) (length c.states)) ts → 0 < length rest
+      → i + length (transes_code s ts rest) ≡ len
       → ((j : ℕ) → j + length rest ≡ len → instrs_fault (compiled c) 1 len j rest ≡ None)
       → instrs_fault (compiled c) 1 len i (transes_code s ts rest) ≡ None
   transes_safe s i [] rest within r some is behind = behind i is
@@ -57,6 +67,7 @@ module _ (c : Chart) (len : ℕ) where
       let k4 : nat_lt (t.dest + 1) (length (compiled c).states) ≡ true = below (t.dest + 1) _ (omega (arith, states, r.0.dest)) in
       rw (k1, k2, k3, k4, ret_last later) (transes_safe s (i + 1 + 1 + 1 + 1) ts rest within r.1 some (omega arith) behind)
 
+  -- states have none
   states_safe : (k i : ℕ) (xs : List State) → k + length xs ≡ length c.states
       → AllByRecursion (λ (x : State). AllByRecursion (TransInRange (length c.events) (length c.states)) x.outer) xs
       → i + length (states_code k xs) ≡ len → instrs_fault (compiled c) 1 len i (states_code k xs) ≡ None
@@ -70,12 +81,14 @@ module _ (c : Chart) (len : ℕ) where
       let block = transes_safe k (i + 1) x.outer (states_code (k + 1) xs) (omega arith) r.0 some (omega arith) (λ j e. states_safe (k + 1) j xs (omega arith) r.1 e) in
       rw (k1, k2, not_last (transes_code k x.outer (states_code (k + 1) xs)) (omega arith)) block
     where
-      not_last : (rest : List Instr) → 0 < length rest → last_returns (instrs.Unless (4 * length x.outer) (conds.On (k + 1))) rest ≡ true
+      not_last : (rest : List Instr) → 0 < length rest
+          → last_returns (instrs.Unless (4 * length x.outer) (conds.On (k + 1))) rest ≡ true
       not_last [] h = absurd (omega arith)
       not_last (y ∷ rest) h = refl
 
 -- ---- the whole
 
+-- a test that holds has no fault
 none_wrong : (b : Bool) (kind : CodeKind) (p i : ℕ) → b ≡ true → unless b kind p i ≡ None
 none_wrong b kind p i h = rw h refl
 
@@ -88,7 +101,8 @@ start_safe c v =
     rw (root, leaf) refl
 
 -- the procedure of a reaction
-react_safe : (c : Chart) → IsValid c → (is : List Instr) → is ≡ states_code 0 c.states → proc_fault (compiled c) 1 is ≡ None
+react_safe : (c : Chart) → IsValid c → (is : List Instr) → is ≡ states_code 0 c.states
+    → proc_fault (compiled c) 1 is ≡ None
 react_safe c v [] e = absurd (let some = some-states 0 c.states in omega (arith, ap length e))
 react_safe c v (x ∷ rest) e =
     let len = length (x ∷ rest) in

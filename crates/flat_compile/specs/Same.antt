@@ -8,7 +8,7 @@ use Rattle.flat_code.specs.Program.{Program}
 use Rattle.flat_code.specs.World.{World}
 use Rattle.flat_code.specs.Machine.{CodeRuns}
 
--- of so many states the one of that number is active
+-- of n states the one of number s is active, and no other
 abbrev pub only : ℕ → ℕ → List Bool
 only zero s = []
 only (suc n) zero = true ∷ replicate n false
@@ -18,7 +18,8 @@ only (suc n) (suc s) = false ∷ only n s
 abbrev pub world_of : Chart → ℕ → World
 world_of c s = record { marks = true ∷ only (length c.states) s }
 
--- state s + 1 of the code is state s of the chart, with its name, and events are equal; for every list of events the code's run has after the start and after each event the active state that the rules give
+-- state s + 1 of the code is state s of the chart, with its name, and events are equal;
+-- for every list of events the code's run has after the start and after each event the active state that the rules give
 pub record Same (c : Chart) (P : Program) : Type 0 where
   pub states : P.states ≡ c.name ∷ state_names c
   pub events : P.events ≡ c.events

@@ -1,5 +1,6 @@
 -- The first line of a text, and the rest.
-use Rattle.std.proofs.Common.{◌≡◌, ℕ, suc, ◌+◌, ◌<◌, ◌≤◌, Bool, true, false, cond, nat_eq, nat_lt, List, [], ◌∷◌, length, take, drop, Some, None, refl, ap, ◌∙◌, arith}
+use Rattle.std.proofs.Common.{◌≡◌, ℕ, suc, ◌+◌, ◌<◌, ◌≤◌, Bool, true, false, cond, nat_eq, nat_lt, List, [], ◌∷◌}
+use Rattle.std.proofs.Common.{length, take, drop, Some, None, refl, ap, ◌∙◌, arith}
 use Rattle.std.proofs.Math.ListN.{drop_of_length-le}
 use Rattle.std.proofs.lemmas.List.{take_all}
 use Rattle.std.proofs.lemmas.Bool.Decides.{nat_tests}
@@ -21,12 +22,14 @@ front b n text false e =
     rw (e, m, k) refl
 
 -- a byte that is a text
-only : (b : ℕ) (newline : Bool) → (if newline then [] ∷ [] else begun_with b []) ≡ take (cond (not newline) 1 0) (b ∷ []) ∷ lines_of (drop (cond (not newline) 1 0 + 1) (b ∷ []))
+only : (b : ℕ) (newline : Bool)
+    → (if newline then [] ∷ [] else begun_with b []) ≡ take (cond (not newline) 1 0) (b ∷ []) ∷ lines_of (drop (cond (not newline) 1 0 + 1) (b ∷ []))
 only b true = refl
 only b false = refl
 
 -- the first line goes up to the first newline, and the others come after it
-lines_of-first : (text : List ℕ) → 0 < length text → lines_of text ≡ take (line_length text) text ∷ lines_of (drop (line_length text + 1) text)
+lines_of-first : (text : List ℕ) → 0 < length text
+    → lines_of text ≡ take (line_length text) text ∷ lines_of (drop (line_length text + 1) text)
 lines_of-first [] h = absurd (omega arith)
 lines_of-first (b ∷ []) h = only b (nat_eq b 10)
 lines_of-first (b ∷ (d ∷ text)) h = front b (line_length (d ∷ text)) (d ∷ text) (nat_eq b 10) (lines_of-first (d ∷ text) (omega arith))
@@ -41,12 +44,14 @@ left_out : (m n : ℕ) → None ≡ cond (nat_lt m n) (Some m) None → n ≤ m
 left_out m n is = grind (arith, nat_tests)
 
 -- a text with a newline
-pub lines_of-newline : (text : List ℕ) (n : ℕ) → Some n ≡ position (λ b. nat_eq b 10) text → n < length text → lines_of text ≡ take n text ∷ lines_of (drop (n + 1) text)
+pub lines_of-newline : (text : List ℕ) (n : ℕ) → Some n ≡ position (λ b. nat_eq b 10) text → n < length text
+    → lines_of text ≡ take n text ∷ lines_of (drop (n + 1) text)
 lines_of-newline text n is within =
     rw (chosen (nat_lt (line_length text) (length text)) (line_length text) n is) (lines_of-first text (omega arith))
 
 -- a text that is one line, without a newline
-pub lines_of-none : (text : List ℕ) → 0 < length text → None ≡ position (λ b. nat_eq b 10) text → lines_of text ≡ text ∷ []
+pub lines_of-none : (text : List ℕ) → 0 < length text → None ≡ position (λ b. nat_eq b 10) text
+    → lines_of text ≡ text ∷ []
 lines_of-none text h is =
     let past : length text ≤ line_length text = left_out (line_length text) (length text) is in
     lines_of-first text h

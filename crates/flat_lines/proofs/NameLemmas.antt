@@ -1,5 +1,6 @@
 -- Names in lists, by place.
-use Rattle.std.proofs.Common.{◌≡◌, ℕ, zero, suc, ◌+◌, ◌<◌, ◌≤◌, ◌&&◌, leb, eqb, Bool, true, false, cond, nat_lt, List, [], ◌∷◌, length, get_or, Option, Some, None, refl, arith}
+use Rattle.std.proofs.Common.{◌≡◌, ℕ, zero, suc, ◌+◌, ◌<◌, ◌≤◌, ◌&&◌, leb, eqb, Bool, true, false, cond, nat_lt, List}
+use Rattle.std.proofs.Common.{[], ◌∷◌, length, get_or, Option, Some, None, refl, arith}
 use Rattle.std.proofs.lemmas.Bool.Decides.{nat_tests}
 use Rattle.std.specs.Prelude.{if◌then◌else◌, not}
 use Rattle.std.specs.List.{position_or_len, position, list_all}
@@ -14,7 +15,8 @@ use Rattle.chart_lexer.specs.declared.words.TheConstants.{NAME_LIMIT}
 use Rattle.flat_lines.specs.Trace.{event_word}
 
 -- the name at a place within the list
-pub name_at-within : (names : List (List ℕ)) (n : ℕ) (name : List ℕ) → n < length names → name ≡ get_or names n name → name ≡ name_at names n
+pub name_at-within : (names : List (List ℕ)) (n : ℕ) (name : List ℕ) → n < length names → name ≡ get_or names n name
+    → name ≡ name_at names n
 name_at-within [] n name within is = absurd (omega arith)
 name_at-within (first ∷ rest) zero name within is = is
 name_at-within (first ∷ rest) (suc n) name within is = name_at-within rest n name (omega arith) is
@@ -30,7 +32,8 @@ step m n true rest is = grind (arith, nat_tests)
 step m n false rest is = rw is (later m n)
 
 -- the first name that is this one, as a search finds it
-pub index_of-position : (name : List ℕ) (names : List (List ℕ)) → index_of name names ≡ position (λ (other : List ℕ). bytes_eq other name) names
+pub index_of-position : (name : List ℕ) (names : List (List ℕ))
+    → index_of name names ≡ position (λ (other : List ℕ). bytes_eq other name) names
 index_of-position name [] = refl
 index_of-position name (first ∷ rest) =
     step (position_or_len (λ (other : List ℕ). bytes_eq other name) rest) (length rest) (bytes_eq first name) (index_of name rest) (index_of-position name rest)
@@ -49,12 +52,14 @@ get_or-short (name ∷ names) zero d lt h = is_name-short name (and_parts (is_na
 get_or-short (name ∷ names) (suc k) d lt h = get_or-short names k d (omega arith) (and_parts (is_name name) _ h).1
 
 -- or no name, where there is none
-pub name_at-short : (names : List (List ℕ)) (n : ℕ) → list_all is_name names ≡ true → length (name_at names n) ≤ NAME_LIMIT
+pub name_at-short : (names : List (List ℕ)) (n : ℕ) → list_all is_name names ≡ true
+    → length (name_at names n) ≤ NAME_LIMIT
 name_at-short [] n h = omega arith
 name_at-short (name ∷ names) zero h = is_name-short name (and_parts (is_name name) _ h).0
 name_at-short (name ∷ names) (suc n) h = name_at-short names n (and_parts (is_name name) _ h).1
 
 -- and the word of an event
-pub event_word-short : (names : List (List ℕ)) (e : FlatEvent) → list_all is_name names ≡ true → length (event_word names e) ≤ NAME_LIMIT
+pub event_word-short : (names : List (List ℕ)) (e : FlatEvent) → list_all is_name names ≡ true
+    → length (event_word names e) ≤ NAME_LIMIT
 event_word-short names events.Tick h = omega arith
 event_word-short names (events.Named n) h = name_at-short names n h

@@ -13,7 +13,8 @@ written-more index event events active actives written whole so_far =
     append_assoc written (trace_line index event active) (trace_from (index + 1) events actives) ∙ so_far
 
 -- no event is left
-pub written-none : (index : ℕ) (actives : List (List (List ℕ))) (written whole : List ℕ) → written ++ trace_from index [] actives ≡ whole → written ≡ whole
+pub written-none : (index : ℕ) (actives : List (List (List ℕ))) (written whole : List ℕ)
+    → written ++ trace_from index [] actives ≡ whole → written ≡ whole
 written-none index actives written whole so_far = sym (append-nil written) ∙ so_far
 
 -- one line more goes to a sink

@@ -1,5 +1,6 @@
 -- The events of a file, up to the first line that is refused.
-use Rattle.std.specs.Prelude.{ℕ, ◌+◌, ◌<◌, List, [], ◌∷◌, ◌++◌, Option, Some, None, Result, Ok, Err, if◌then◌else◌, codes, decimal, length}
+use Rattle.std.specs.Prelude.{ℕ, ◌+◌, ◌<◌, List, [], ◌∷◌, ◌++◌, Option, Some, None, Result, Ok, Err, if◌then◌else◌}
+use Rattle.std.specs.Prelude.{codes, decimal, length}
 use Rattle.std.specs.Str.{bytes_eq}
 use Rattle.flow_base.specs.Names.{index_of}
 use Rattle.flow_base.specs.declared.event.FlatEvent.{FlatEvent}

@@ -1,6 +1,7 @@
 //! The text of a run: event lines, and the lines of the trace.
 //!
-//! Read `specs/Lines.antt`, `specs/Events.antt` and `specs/Trace.antt` first.
+//! Read `specs/Lines.antt`, `specs/Events.antt` and `specs/Trace.antt` first. The crate serves flat
+//! charts, and goes when the whole language is built.
 #![tactic(auto)]
 
 mod events;

@@ -65,15 +65,17 @@ fn reads_event_lines(rt: HostRuntime) -> Result<(), Fail> {
 }
 
 #[test]
-fn prints_faults(rt: HostRuntime) {
+fn shows_faults(rt: HostRuntime) -> Result<(), Fail> {
     let cases = [
-        (LineFault::UnknownEvent, 2, "UnknownEvent"),
-        (LineFault::NotBuilt, 7, "NotBuilt"),
+        (LineFault::UnknownEvent, "2 UnknownEvent"),
+        (LineFault::NotBuilt, "7 NotBuilt"),
     ];
-    for (fault, number, name) in cases {
-        assert_eq!(rt; fault.number(), number);
-        assert_eq!(rt; fault.name(), name);
+    for (fault, text) in cases {
+        assert_eq!(rt; fault.text().as_str(), text);
+        let shown = format!(in rt.alloc(); "{fault}")?;
+        assert_eq!(rt; shown.as_str(), text);
     }
+    Ok(())
 }
 
 #[test]

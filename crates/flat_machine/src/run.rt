@@ -4,7 +4,7 @@ ghost use Rattle.flat_code.specs.declared.frame.Frame.{Frame};
 ghost use Rattle.flat_code.specs.Program.{program_of};
 ghost use Rattle.flat_code.specs.WellFormed.{IsCode};
 ghost use Rattle.flat_code.specs.Machine as spec;
-ghost use Rattle.flat_machine.specs.Reach.{state, Reaches, IsPlace};
+ghost use Rattle.flat_machine.specs.Reach.{state, IsPlace};
 
 use crate::marks::{clear, is_on, mark};
 use flat_code::{Cond, Frame, Instr, RawCode};
@@ -24,7 +24,7 @@ pub fn run(
     requires room { 1 ≤ vec_capacity frames.old }
     ensures world { spec.Gives (program_of code.now)
         (spec.called (record { marks = marks.old }) current proc) (record { marks = marks.new }) }
-    ensures reached { Reaches (program_of code.now)
+    ensures reached { spec.Reaches (program_of code.now)
         (spec.called (record { marks = marks.old }) current proc)
         (state marks.new current result []) }
     ensures frames { frames.new.items ≡ [] }
@@ -46,7 +46,7 @@ fn run_frame(code: &RawCode, marks: &mut [bool], current: Option<u32>, frame: Fr
     requires code { IsCode (program_of code.now) }
     requires marks { length marks.old ≡ length (program_of code.now).states }
     requires place { IsPlace (program_of code.now) frame }
-    ensures { (before : ℕ) (below : List Frame) → Reaches (program_of code.now)
+    ensures { (before : ℕ) (below : List Frame) → spec.Reaches (program_of code.now)
         (state marks.old current before (frame ∷ below)) (state marks.new current result below) }
 {
     let instrs = instructions(code, frame.proc);

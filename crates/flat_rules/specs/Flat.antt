@@ -1,5 +1,6 @@
 -- The run of a flat chart: the world is the one active state.
-use Rattle.std.specs.Prelude.{ℕ, zero, suc, ◌<◌, nat_eq, List, [], ◌∷◌, length, Option, Some, None, unwrap_or, if◌then◌else◌}
+use Rattle.std.specs.Prelude.{ℕ, zero, suc, ◌<◌, nat_eq, List, [], ◌∷◌, length, Option, Some, None, unwrap_or}
+use Rattle.std.specs.Prelude.{if◌then◌else◌}
 use Rattle.flow_base.specs.declared.event.FlatEvent.{FlatEvent}
 use Rattle.flow_base.specs.declared.event.FlatEvent.TheVariants as events
 use Rattle.flat_syntax.specs.declared.tree.FlatTrans.{FlatTrans}

@@ -1,7 +1,8 @@
 //! The rules of a run, as definitions, and their laws.
 //!
 //! Read `specs/Flat.antt`: the run of a flat chart. Source: the rules for OR states and outer
-//! transitions in Hamon and Rushby, FASE 2004, at charts of flat states.
+//! transitions in Hamon and Rushby, FASE 2004, at charts of flat states. The crate goes when the
+//! whole language is built.
 #![tactic(auto)]
 
 ghost use Rattle.std.specs.Prelude.{◌≡◌, ℕ, ◌+◌, ◌<◌, List, [], ◌∷◌, ◌++◌, length};

@@ -21,7 +21,8 @@ returns-in_default-parse c =
 pub returns-then-eq : goal.returns-then-eq
 returns-then-eq c =
     let same : decimal c.in-Ok-parse.number ≡ c.args.token.now =
-    sym c.format.ensures.text ∙ (sym c.as_bytes.ensures.value ∙ (bytes_eq-Decides c.as_bytes.result.now c.args.token.now).0 (sym c.if-eq.ensures)) in
+    sym c.format.ensures.text
+    ∙ (sym c.as_bytes.ensures.value ∙ (bytes_eq-Decides c.as_bytes.result.now c.args.token.now).0 (sym c.if-eq.ensures)) in
     rw (← same) (sym (number_of-decimal c.in-Ok-parse.number (omega arith)))
 
 pub returns-else-eq : goal.returns-else-eq
@@ -29,5 +30,6 @@ returns-else-eq c =
     number_of-none c.args.token.now (λ v lt e.
     let got = parse-decimal 32 v c.in-Ok.digits.now c.parse.result lt (omega arith) (c.in-Ok.ensures.cases.0 ∙ e) c.parse.ensures.value.0 in
     let same : c.in-Ok-parse.number ≡ v = cc in
-    let text : c.as_bytes.result.now ≡ c.args.token.now = c.as_bytes.ensures.value ∙ (c.format.ensures.text ∙ (ap decimal same ∙ sym e)) in
+    let text : c.as_bytes.result.now ≡ c.args.token.now = c.as_bytes.ensures.value
+    ∙ (c.format.ensures.text ∙ (ap decimal same ∙ sym e)) in
     false≢true (c.if-eq.ensures ∙ (bytes_eq-Decides c.as_bytes.result.now c.args.token.now).1 text))

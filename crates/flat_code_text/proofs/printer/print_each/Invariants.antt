@@ -10,5 +10,6 @@ abbrev pub invariant-loop-proc : goal.invariant-loop-proc
 invariant-loop-proc l = record {
   text : string_bytes l.out ++ text_of (flat_map proc_lines (map items_of (drop l.proc-index l.procs)))
       ≡ string_bytes l.fn.out ++ text_of (flat_map proc_lines (map items_of l.procs));
-  numbers : AllByRecursion (AllByRecursion HasNumbers) (map items_of (drop l.proc-index l.procs)) → AllByRecursion (AllByRecursion HasNumbers) (map items_of l.procs);
+  numbers : AllByRecursion (AllByRecursion HasNumbers) (map items_of (drop l.proc-index l.procs))
+      → AllByRecursion (AllByRecursion HasNumbers) (map items_of l.procs);
 }

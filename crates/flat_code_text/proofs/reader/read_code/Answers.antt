@@ -10,12 +10,14 @@ use Rattle.flat_code_text.proofs.OutcomeLemmas.{outcome-ok, outcome-text}
 use Rattle.flat_code_text.proofs.reader.read_code.Goals as goal
 
 -- what is read is spelled so
-spelled : (text : List ℕ) (r : Result Program CodeTextFault) → Answers (λ (P : Program). P) r (outcome text) → IfOk r (λ P. text ≡ code_text P)
+spelled : (text : List ℕ) (r : Result Program CodeTextFault) → Answers (λ (P : Program). P) r (outcome text)
+    → IfOk r (λ P. text ≡ code_text P)
 spelled text (Ok P) h = outcome-ok text P h
 spelled text (Err fault) h = tt
 
 -- where a program is the outcome, a fault is want of memory
-only_memory : (fault : CodeTextFault) (P : Program) (o : Result Program CodeTextFault) → Answers (λ (Q : Program). Q) (Err fault) o → o ≡ Ok P → fault ≡ faults.Memory
+only_memory : (fault : CodeTextFault) (P : Program) (o : Result Program CodeTextFault)
+    → Answers (λ (Q : Program). Q) (Err fault) o → o ≡ Ok P → fault ≡ faults.Memory
 only_memory (faults.BadLine n) P o h e = let is = h (λ same. absurd cc) in absurd cc
 only_memory faults.Truncated P o h e = let is = h (λ same. absurd cc) in absurd cc
 only_memory (faults.Trailing n) P o h e = let is = h (λ same. absurd cc) in absurd cc
@@ -26,7 +28,8 @@ only_memory (faults.NotBuilt n) P o h e = let is = h (λ same. absurd cc) in abs
 only_memory faults.Memory P o h e = refl
 
 -- that program is read, unless memory runs out
-is_read : (P : Program) (o r : Result Program CodeTextFault) → Answers (λ (Q : Program). Q) r o → o ≡ Ok P → MatchResult r (λ Q. Q ≡ P) (λ fault. fault ≡ faults.Memory)
+is_read : (P : Program) (o r : Result Program CodeTextFault) → Answers (λ (Q : Program). Q) r o → o ≡ Ok P
+    → MatchResult r (λ Q. Q ≡ P) (λ fault. fault ≡ faults.Memory)
 is_read P o (Ok Q) h e = let same : Ok Q ≡ Ok P = sym h ∙ e in cc
 is_read P o (Err fault) h e = only_memory fault P o h e
 

@@ -2,8 +2,8 @@ use Rattle.std.proofs.Common.{◌≤◌, vec_len, reverse}
 use Rattle.std.specs.Prelude.{vec_capacity}
 use Rattle.std.specs.List.{AllByRecursion}
 use Rattle.flat_code.specs.Program.{program_of}
-use Rattle.flat_code.specs.Machine.{called}
-use Rattle.flat_machine.specs.Reach.{state, Reaches, IsPlace}
+use Rattle.flat_code.specs.Machine.{called, Reaches}
+use Rattle.flat_machine.specs.Reach.{state, IsPlace}
 use Rattle.flat_machine.proofs.run.run.Given as goal
 
 -- the run came to these frames, each at an instruction

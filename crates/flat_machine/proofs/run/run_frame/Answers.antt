@@ -6,7 +6,8 @@ use Rattle.flat_code.specs.Program.{program_of}
 use Rattle.flat_code.specs.WellFormed.{cond_known}
 use Rattle.flat_code.proofs.WellFormedLemmas.{is_there, found}
 use Rattle.flat_machine.specs.Reach.{state}
-use Rattle.flat_machine.proofs.Reached.{here, has_mark, has_place, goes_on, passes}
+use Rattle.flat_code.proofs.RunLemmas.{stays}
+use Rattle.flat_machine.proofs.Reached.{has_mark, has_place, goes_on, passes}
 use Rattle.flat_machine.proofs.run.run_frame.Goals as goal
 
 pub instructions-instrs-requires : goal.instructions-instrs-requires
@@ -16,7 +17,7 @@ instructions-instrs-requires c =
 pub loop-place-init : goal.loop-place-init
 loop-place-init c = record {
   within = rw c.instructions-instrs.ensures c.requires.place;
-  reached = λ before below. here (program_of c.args.code.now) (state c.args.marks.now c.args.current before (c.args.frame ∷ below));
+  reached = λ before below. stays (program_of c.args.code.now) (state c.args.marks.now c.args.current before (c.args.frame ∷ below));
 }
 
 pub mark-requires : goal.mark-requires

@@ -1,7 +1,8 @@
 use Rattle.std.proofs.Common.{ℕ, ◌-◌, ◌<◌, List, ◌∷◌, length}
 use Rattle.flat_code.specs.declared.frame.Frame.{Frame}
 use Rattle.flat_code.specs.Program.{program_of}
-use Rattle.flat_machine.specs.Reach.{state, Reaches}
+use Rattle.flat_code.specs.Machine.{Reaches}
+use Rattle.flat_machine.specs.Reach.{state}
 use Rattle.flat_machine.proofs.run.run_frame.Given as goal
 
 -- the run came to this place of the procedure

@@ -1,28 +1,37 @@
--- Code that is read from a file.
-use Rattle.std.proofs.Common.{◌≡◌, ℕ, true, ◌<◌, List, ◌++◌, length, Option, None, Some, Result, Ok, Err, refl, sym, ap, ◌∙◌, append-nil, rules}
-use Rattle.std.specs.Prelude.{nat_lt, IfOk}
-use Rattle.std.specs.Io.KnownBytes.{prepend_known, IsAtEnd}
-use Rattle.flat_machine.specs.Engine.{Engine}
+-- Code that is read from a text, and the text of code.
+use Rattle.std.proofs.Common.{◌≡◌, ℕ, true, ◌<◌, List, length, Ok, Err, refl, ap, ◌∙◌, rules}
+use Rattle.std.specs.Prelude.{nat_lt, IfOk, Result, String, string_bytes}
+use Rattle.std.specs.declared.alloc.Global.{Global}
+use Rattle.flow_base.specs.declared.memory.Memory.{Memory}
+use Rattle.flat_code.specs.Program.{Program}
+use Rattle.flat_code.specs.Small.{IsSmall}
+use Rattle.flat_code.specs.WellFormed.{IsCode}
 use Rattle.flat_code_text.specs.declared.fault.CodeTextFault.TheVariants as faults
+use Rattle.flat_code_text.specs.declared.limits.TheConstants.{TEXT_LIMIT}
+use Rattle.flat_code_text.specs.Spelling.{code_text}
 use Rattle.flat_code_text.specs.Reading.{outcome}
-use Rattle.chart_command.specs.declared.ending.Ending.{Ending}
-use Rattle.chart_command.specs.Runner.{IsCodeText}
-use Rattle.chart_command.specs.Answer.{IsTold, HasCode}
+use Rattle.flat_code_text.proofs.LengthLemmas.{code_text-read}
+use Rattle.flat_syntax.specs.FlatChart.{Chart}
+use Rattle.flat_compile.specs.Same.{Same}
+use Rattle.chart_command.specs.Compile.{IsCompiled}
 
 -- a text that passes the limit is refused as such
-pub too_long : (text : List ℕ) → 268435456 < length text → outcome text ≡ Err faults.TextTooLong
+pub code_too_long : (text : List ℕ) → TEXT_LIMIT < length text → outcome text ≡ Err faults.TextTooLong
 unfolding outcome
-too_long text h = let long : nat_lt 268435456 (length text) ≡ true = search rules in rw long refl
+code_too_long text h = let long : nat_lt TEXT_LIMIT (length text) ≡ true = search rules in rw long refl
 
--- the code of a file's text is the file's
-pub has_code : (told : Option (List ℕ)) (text : List ℕ) (r : Result Engine Ending) → IsTold told text
-    → IfOk r (λ (m : Engine). IsCodeText text m.program) → IfOk r (λ (m : Engine). HasCode told m.program)
-has_code told text (Ok m) is_told code = record { text = text; is_told = is_told; spelled = code }
-has_code told text (Err ending) is_told code = tt
+-- the text of small code that behaves as a chart is what the chart is compiled to
+pub is_compiled : (c : Chart) (P : Program) (text : List ℕ) → IsSmall P → IsCode P → Same c P → text ≡ code_text P
+    → IsCompiled c text
+is_compiled c P text small code same e = record {
+  program = P;
+  spelled = record { is_read = ap outcome e ∙ code_text-read P small code; text_is = e; well_formed = code };
+  same = same;
+}
 
--- a text that was read to the end of the file is the one that is told
-pub told_whole : (told after : Option (List ℕ)) (text : List ℕ) → told ≡ prepend_known text after → IsAtEnd after → IsTold told text
-told_whole None after text whole end = tt
-told_whole (Some t) None text whole end = absurd (let k = whole in cc)
-told_whole (Some t) (Some rest) text whole end =
-    let same : t ≡ text ++ rest = let k = whole in cc in sym (same ∙ ap (λ (r : List ℕ). text ++ r) end ∙ append-nil text)
+-- so is what is printed of such code, where memory doesn't run out
+pub compiled_if : (c : Chart) (P : Program) (r : Result (String Global) Memory) → IsSmall P → IsCode P → Same c P
+    → IfOk r (λ (text : String Global). string_bytes text ≡ code_text P)
+    → IfOk r (λ (text : String Global). IsCompiled c (string_bytes text))
+compiled_if c P (Ok text) small code same e = is_compiled c P (string_bytes text) small code same e
+compiled_if c P (Err memory) small code same e = tt

@@ -1,8 +1,10 @@
-pub mod ToldLemmas
 pub mod Appended
 pub mod NameLemmas
-pub mod Underway
-pub mod FilesLemmas
-pub mod Runs
+pub mod ReadingLemmas
+pub mod ChartTextLemmas
 pub mod CodeTextLemmas
 pub mod CodeTraceLemmas
+pub mod Underway
+pub mod Runs
+pub mod TraceLemmas
+pub mod UsageLemmas

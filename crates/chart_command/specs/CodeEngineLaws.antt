@@ -1,5 +1,5 @@
 -- The laws of the run of code as an engine.
-use Rattle.std.proofs.Common.{◌≡◌, ℕ, ◌^◌, ◌<◌, ◌≤◌, length, arith}
+use Rattle.std.proofs.Common.{◌^◌, ◌<◌, ◌≤◌, length, arith}
 use Rattle.flow_base.specs.declared.event.FlatEvent.{FlatEvent}
 use Rattle.flat_code.proofs.CodeParts.{code_parts}
 use Rattle.flat_code.proofs.ReactionLemmas.{react_single}

@@ -1,22 +1,24 @@
--- What the rules write for a flat chart and an event file.
-use Rattle.std.specs.Prelude.{ℕ, Bool, nat_lt, List, [], ◌∷◌, map, length, Option, Some, if◌then◌else◌}
+-- What the rules write for a flat chart, and which texts are refused as one.
+use Rattle.std.specs.Prelude.{◌≡◌, ℕ, List, [], ◌∷◌, map}
+use Rattle.token_grammar.specs.declared.token.Span.{Span}
+use Rattle.chart_tree.specs.declared.fault.FormKind.{FormKind}
+use Rattle.chart_tree.specs.declared.fault.FormFault.TheVariants as form_faults
 use Rattle.flow_base.specs.Names.{name_at}
 use Rattle.flow_base.specs.declared.event.FlatEvent.{FlatEvent}
 use Rattle.flat_syntax.specs.FlatChart.{Chart, state_names}
+use Rattle.flat_syntax.specs.FlatText.{IsRefusal}
 use Rattle.flat_rules.specs.Flat.{flat_run}
-use Rattle.flat_lines.specs.declared.events.LineFault.TheVariants as line_faults
-use Rattle.flat_lines.specs.Events.{RefusedLine, refused_line}
 use Rattle.flat_lines.specs.Trace.{trace}
+use Rattle.chart_command.specs.declared.ending.Ending.{Ending}
+use Rattle.chart_command.specs.declared.ending.Ending.TheVariants as endings
 
 -- the trace of a run: after each event the one active state
 abbrev pub flat_trace : Chart → List FlatEvent → List ℕ
 flat_trace c events = trace c.events events (map (λ s. name_at (state_names c) s ∷ []) (flat_run c events))
 
--- an event file that is longer than 1,048,576 bytes is refused whole
-abbrev pub is_long : List ℕ → Bool
-is_long text = nat_lt 1048576 (length text)
-
--- the refusal of an event file: of the whole, as its line 0, or of its first bad line
-abbrev pub file_refusal : List (List ℕ) → List ℕ → Option RefusedLine
-file_refusal names text =
-    if is_long text then Some (record { number = 0; fault = line_faults.NotBuilt }) else refused_line names text
+-- the text is none of a flat chart, for the reason that ends the call
+pub record RefusesFlat (text : List ℕ) (ending : Ending) : Type 0 where
+  pub kind : FormKind
+  pub at : Span
+  pub refused : IsRefusal text (form_faults.At kind at)
+  pub ending_is : ending ≡ endings.Chart kind at

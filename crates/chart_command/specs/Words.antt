@@ -48,3 +48,15 @@ command_of_texts (name ∷ files) = command_named name files
 -- what the words ask for, if they are the program's
 abbrev pub command_of : List (String Global) → Option Command
 command_of words = command_of_texts (map string_bytes words)
+
+-- the files that a command names
+abbrev pub files_named : Command → List (List ℕ)
+files_named (Fmt first) = first ∷ []
+files_named (Rules first second) = first ∷ second ∷ []
+files_named (Compile first) = first ∷ []
+files_named (Exec first second) = first ∷ second ∷ []
+
+-- the files that the words name, none where they are none of the program's
+abbrev pub files_of : Option Command → List (List ℕ)
+files_of None = []
+files_of (Some command) = files_named command

@@ -1,33 +1,47 @@
 //! A run over the lines of an event file.
-ghost use Rattle.std.specs.Prelude.{◌≤◌, IfOk, length};
+ghost use Rattle.std.specs.Prelude.{◌≤◌, ◌≡◌, IfOk, IfErr, length};
 ghost use Rattle.flat_lines.specs.Events.{event_of_line, events_of, IsEventIn};
 ghost use Rattle.flat_lines.specs.Lines.{lines_of};
 ghost use Rattle.flat_lines.specs.Trace.{trace_line, event_word};
-ghost use Rattle.chart_command.specs.Steps.{Written, LineEnds, StepEnds, RunEnds, trace_by};
+ghost use Rattle.chart_command.specs.Call.{sources_of, output_of};
+ghost use Rattle.chart_command.specs.Reading.{FileGives, IsTextOf};
+ghost use Rattle.chart_command.specs.Writing.{TextEnds};
+ghost use Rattle.chart_command.specs.Steps.{StepEnds, RunEnds, trace_by};
+ghost use Rattle.chart_command.specs.Trace.{RefusesEvents};
 
 use crate::ending::Ending;
 use crate::engine::Engine;
-use flat_lines::{event_of_line, event_word, split_line, trace_line};
-use flow_base::{FlatEvent, Sink, write_all};
+use crate::texts::read_text;
+use flat_lines::{EVENTS_LIMIT, LineFault, event_of_line, event_word, split_line, trace_line};
+use flow_base::{Failed, FlatEvent, Inputs, Sink, write_all};
+use std::alloc::Global;
+
+/// Reads the file of that name as the text of an event file.
+pub fn read_events<I: Inputs>(alloc: Global, inputs: &mut I, name: &str) -> Result<Vec<u8>, Ending>
+    ensures { FileGives EVENTS_LIMIT (IsTextOf EVENTS_LIMIT) RefusesEvents
+        (sources_of I.Inputs inputs.old) (sources_of I.Inputs inputs.new) name.now result }
+{
+    read_text(
+        alloc,
+        inputs,
+        name,
+        EVENTS_LIMIT,
+        Ending::Line(0, LineFault::NotBuilt),
+    )
+}
 
 /// Runs over the lines of a text, and writes a line of the trace for the start and for each event.
 pub fn run<G: Engine, O: Sink>(engine: &mut G, text: &[u8], out: &mut O) -> Ending
     requires { G.running engine.old }
-    ensures { RunEnds
-        (record {
-          before = O.wrote out.old;
-          after = O.wrote out.new;
-          writes_before = O.faults out.old;
-          writes_after = O.faults out.new;
-        })
+    ensures { RunEnds (output_of O.Sink out.old) (output_of O.Sink out.new)
         (G.names engine.old)
         text.now
         (trace_by G.after G.shown (G.names engine.old) engine.old
         (events_of (G.names engine.old) (lines_of text.now)))
         result }
 {
-    if let Err(ending) = write_step(engine, 0, "start", out) {
-        return ending;
+    if let Err(Failed) = write_step(engine, 0, "start", out) {
+        return Ending::Write;
     }
     let mut index = 0;
     let mut rest = text;
@@ -50,13 +64,7 @@ fn run_line<G: Engine, O: Sink>(
     out: &mut O,
 ) -> Result<(), Ending>
     requires { G.running engine.old }
-    ensures ends { StepEnds
-        (record {
-          before = O.wrote out.old;
-          after = O.wrote out.new;
-          writes_before = O.faults out.old;
-          writes_after = O.faults out.new;
-        })
+    ensures ends { StepEnds (output_of O.Sink out.old) (output_of O.Sink out.new)
         G.after
         G.shown
         (G.names engine.old)
@@ -72,7 +80,10 @@ fn run_line<G: Engine, O: Sink>(
         Err(fault) => return Err(Ending::Line(index, fault)),
     };
     engine.react(event);
-    write_event(engine, index, event, out)
+    match write_event(engine, index, event, out) {
+        Ok(()) => Ok(()),
+        Err(_) => Err(Ending::Write),
+    }
 }
 
 /// Writes the line of the trace for an event that has been processed.
@@ -81,18 +92,11 @@ fn write_event<G: Engine, O: Sink>(
     index: u64,
     event: FlatEvent,
     out: &mut O,
-) -> Result<(), Ending>
+) -> Result<(), Failed>
     requires running { G.running engine.now }
     requires known { IsEventIn (G.names engine.now) event }
-    ensures { LineEnds
-        (record {
-          before = O.wrote out.old;
-          after = O.wrote out.new;
-          writes_before = O.faults out.old;
-          writes_after = O.faults out.new;
-        })
-        (trace_line index (event_word (G.names engine.now) event) (G.shown engine.now))
-        result }
+    ensures { TextEnds (output_of O.Sink out.old) (output_of O.Sink out.new)
+        (trace_line index (event_word (G.names engine.now) event) (G.shown engine.now)) result }
 {
     let word = event_word(engine.event_names(), event);
     write_step(engine, index, word, out)
@@ -104,22 +108,12 @@ fn write_step<G: Engine, O: Sink>(
     index: u64,
     event: &str,
     out: &mut O,
-) -> Result<(), Ending>
+) -> Result<(), Failed>
     requires running { G.running engine.now }
     requires short { length event.now ≤ 63 }
-    ensures { LineEnds
-        (record {
-          before = O.wrote out.old;
-          after = O.wrote out.new;
-          writes_before = O.faults out.old;
-          writes_after = O.faults out.new;
-        })
-        (trace_line index event.now (G.shown engine.now))
-        result }
+    ensures { TextEnds (output_of O.Sink out.old) (output_of O.Sink out.new)
+        (trace_line index event.now (G.shown engine.now)) result }
 {
     let line = trace_line(index, event, engine.active_name());
-    match write_all(out, line.as_slice()) {
-        Ok(()) => Ok(()),
-        Err(_) => Err(Ending::Write),
-    }
+    write_all(out, line.as_slice())
 }

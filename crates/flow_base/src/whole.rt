@@ -1,6 +1,6 @@
 //! Files read whole.
-ghost use Rattle.std.specs.Prelude.{◌≡◌, ◌<◌, ◌≤◌, ◌+◌, ℕ, List, length};
-ghost use Rattle.std.specs.Prelude.{IfOk, OnOk, IsErrOf, IfSome};
+ghost use Rattle.std.specs.Prelude.{◌≡◌, ◌≢◌, ◌<◌, ◌≤◌, ◌+◌, ℕ, List, length};
+ghost use Rattle.std.specs.Prelude.{IfOk, IfErr, OnOk, IsErrOf, IfSome};
 ghost use Rattle.std.specs.Io.KnownBytes.{prepend_known, IsAtEnd};
 ghost use Rattle.flow_base.specs.Bytes.{TakesAtMost};
 ghost use Rattle.flow_base.specs.Causes.{Rose, OthersKept, NoneFalls, AllStay};
@@ -68,13 +68,13 @@ pub fn read_whole<I: Inputs>(
         (I.left inputs.old name.now) (I.left inputs.new name.now) }
     ensures others { OthersKept name.now (I.left inputs.old) (I.left inputs.new) }
 
-    // A failure comes only where the count of that name rose.
+    // A failure comes only where the count of that name rose; any other answer leaves every count.
     ensures failed { IsErrOf result ReadEnd.Failed
         → Rose (I.faults inputs.old name.now) (I.faults inputs.new name.now) }
     ensures counts { NoneFalls (I.faults inputs.old) (I.faults inputs.new) }
     ensures ok { OnOk result (AllStay (I.faults inputs.old) (I.faults inputs.new)) }
-    ensures long { IsErrOf result ReadEnd.TooLong
-        → AllStay (I.faults inputs.old) (I.faults inputs.new) }
+    ensures quiet { IfErr result (λ end. end ≢ ReadEnd.Failed
+        → AllStay (I.faults inputs.old) (I.faults inputs.new)) }
 {
     let mut text = Vec::new(alloc);
     let mut buffer = [0u8; PIECE_SIZE];

@@ -1,6 +1,7 @@
 use Rattle.std.proofs.Common.{◌≡◌, length}
 use Rattle.flat_lines.specs.Events.{events_of}
 use Rattle.flat_lines.specs.Lines.{lines_of}
+use Rattle.chart_command.specs.Call.{output_of}
 use Rattle.chart_command.specs.Steps.{trace_by}
 use Rattle.chart_command.proofs.Underway.{Underway}
 use Rattle.chart_command.proofs.run.run.Given as goal
@@ -11,14 +12,9 @@ invariant-lines g l =
     let engine = g.G.Engine in
     let names = engine.names l.fn.engine in
     record {
-      underway : Underway engine.after engine.shown names l.text (trace_by engine.after engine.shown names l.fn.engine (events_of names (lines_of l.text)))
-          (record {
-            before = g.O.Sink.wrote l.fn.out;
-            after = g.O.Sink.wrote l.out;
-            writes_before = g.O.Sink.faults l.fn.out;
-            writes_after = g.O.Sink.faults l.out;
-          })
-          l.engine l.index l.rest;
+      underway : Underway engine.after engine.shown names l.text
+          (trace_by engine.after engine.shown names l.fn.engine (events_of names (lines_of l.text)))
+          (output_of g.O.Sink l.fn.out) (output_of g.O.Sink l.out) l.engine l.index l.rest;
       running : engine.running l.engine;
       same_names : engine.names l.engine ≡ names;
     }

@@ -1,0 +1,22 @@
+-- Which texts are those of well-formed code, and which are refused as one.
+use Rattle.std.specs.Prelude.{◌≡◌, ℕ, List, Ok, Err}
+use Rattle.flat_code.specs.Program.{Program}
+use Rattle.flat_code.specs.WellFormed.{IsCode}
+use Rattle.flat_code_text.specs.declared.fault.CodeTextFault.{CodeTextFault}
+use Rattle.flat_code_text.specs.Spelling.{code_text}
+use Rattle.flat_code_text.specs.Reading.{outcome}
+use Rattle.chart_command.specs.declared.ending.Ending.{Ending}
+use Rattle.chart_command.specs.declared.ending.Ending.TheVariants as endings
+
+-- reading the text gives that code, within the limits of its length and of its numbers; so the text is the
+-- one of the code, and the code is well formed
+pub record IsCodeText (text : List ℕ) (P : Program) : Type 0 where
+  pub is_read : outcome text ≡ Ok P
+  pub text_is : text ≡ code_text P
+  pub well_formed : IsCode P
+
+-- the text is none of well-formed code, for the reason that ends the call
+pub record RefusesCode (text : List ℕ) (ending : Ending) : Type 0 where
+  pub fault : CodeTextFault
+  pub refused : outcome text ≡ Err fault
+  pub ending_is : ending ≡ endings.Code fault

@@ -33,7 +33,17 @@ ghost use Rattle.active_config.specs.Tree.{
   is_at_or_below,
 };
 ghost use Rattle.active_config.specs.declared.comp.Comp.TheVariants.{Or};
-ghost use Rattle.active_config.specs.Marks.{Configuration, mark_count, is_on, can_mark, is_bare, with_mark, last_of, with_last, IsConsistent};
+ghost use Rattle.active_config.specs.Marks.{
+  Configuration,
+  mark_count,
+  is_on,
+  can_mark,
+  is_bare,
+  with_mark,
+  last_of,
+  with_last,
+  IsConsistent,
+};
 
 /// The children of a state are its first child and those that follow, or its last child and those
 /// that come before it.

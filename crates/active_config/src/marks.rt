@@ -125,15 +125,15 @@ impl Marks {
     }
 
     /// The child that an OR remembers, if any.
-    pub fn last(&self, shape: &Shape, parent: u32) -> Option<u32>
-        requires parent { parent < state_count shape.now }
-        requires or { comp_of shape.now parent ≡ Or }
+    pub fn last(&self, shape: &Shape, state: u32) -> Option<u32>
+        requires state { state < state_count shape.now }
+        requires or { comp_of shape.now state ≡ Or }
         requires consistent { spec.IsConsistent shape.now self.now }
-        ensures child { result ≡ spec.last_of parent self.now }
-        ensures within { IfSome result (λ child. (parent_of shape.now child ≡ Some parent)
+        ensures child { result ≡ spec.last_of state self.now }
+        ensures within { IfSome result (λ child. (parent_of shape.now child ≡ Some state)
             × (child < state_count shape.now)) }
     {
         let _ = shape;
-        self.last[parent as usize]
+        self.last[state as usize]
     }
 }

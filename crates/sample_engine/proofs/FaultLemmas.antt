@@ -1,5 +1,5 @@
 -- The faults of a reaction name a datum of the chart.
-use Rattle.std.proofs.Common.{◌≡◌, ℕ, zero, suc, Bool, true, false, cond, nat_le, ℤ, ◌+◌, Option, Some, None, Result, Ok, Err, subst, lit<}
+use Rattle.std.proofs.Common.{ℕ, zero, suc, Bool, true, false, cond, nat_le, ℤ, ◌+◌, Option, Some, None, Result, Ok, Err, subst, lit<}
 use Rattle.flow_base.specs.declared.fault.Fault.{Fault}
 use Rattle.flow_base.specs.declared.fault.Fault.TheVariants.{Steps}
 use Rattle.fixed_point.specs.declared.fitting.Overflow.{Overflow}
@@ -26,16 +26,19 @@ ticked_faults p w = at (kept (total w.vals) (datum w.vals 1))
 round_faults : (p : Program) (w : World) → IsFaultOf (chart_names p.scale) (round_of p.bounds w).fault
 round_faults p w = at (nat_le p.bounds.steps w.used)
   where
-    at : (full : Bool) → IsFaultOf (chart_names p.scale) (put_out_where_paid w (cond full (Err Steps) (Ok (record w { used = w.used + 1 })))).fault
+    at : (full : Bool) → IsFaultOf (chart_names p.scale)
+        (put_out_where_paid w (cond full (Err Steps) (Ok (record w { used = w.used + 1 })))).fault
     at true = tt
     at false = tt
 
-goes_on_faults : (p : Program) (w : World) (fault : Option Fault) (next : World → Outcome) → IsFaultOf (chart_names p.scale) fault
-    → ((x : World) → IsFaultOf (chart_names p.scale) (next x).fault) → IsFaultOf (chart_names p.scale) (goes_on w fault next).fault
+goes_on_faults : (p : Program) (w : World) (fault : Option Fault) (next : World → Outcome)
+    → IsFaultOf (chart_names p.scale) fault → ((x : World) → IsFaultOf (chart_names p.scale) (next x).fault)
+    → IsFaultOf (chart_names p.scale) (goes_on w fault next).fault
 goes_on_faults p w None next here after = after w
 goes_on_faults p w (Some fault) next here after = here
 
-worked_faults : (p : Program) (rounds : ℕ) (w : World) → IsFaultOf (chart_names p.scale) (worked p.bounds rounds w).fault
+worked_faults : (p : Program) (rounds : ℕ) (w : World)
+    → IsFaultOf (chart_names p.scale) (worked p.bounds rounds w).fault
 unfolding worked
 worked_faults p zero w = tt
 worked_faults p (suc rounds) w =
@@ -44,7 +47,8 @@ worked_faults p (suc rounds) w =
 reaction_faults : (p : Program) (w : World) (e : Event) (w' : World) (f : Option Fault)
     → Reacted p.bounds p.rounds w e (record { world = w'; fault = f }) → IsFaultOf (chart_names p.scale) f
 reaction_faults p w events.Start w' f is = absurd is
-reaction_faults p w events.Tick w' f is = subst (λ (o : Outcome). IsFaultOf (chart_names p.scale) o.fault) is (ticked_faults p (begun w))
+reaction_faults p w events.Tick w' f is =
+    subst (λ (o : Outcome). IsFaultOf (chart_names p.scale) o.fault) is (ticked_faults p (begun w))
 reaction_faults p w (events.Named e) w' f is =
     subst (λ (o : Outcome). IsFaultOf (chart_names p.scale) o.fault) is (worked_faults p p.rounds (begun w))
 

@@ -14,11 +14,13 @@ use Rattle.actions.proofs.DataLemmas.{with_mantissa_sorts}
 use Rattle.actions.proofs.StoredLemmas.{stored, stored_in_range, mantissa_there}
 
 -- what stands in a list at a number
-found_at : {A : Type 0} (xs : List A) (i : ℕ) (x d : A) → slice_get xs i ≡ Some x → (i < length xs) × (get_or xs i d ≡ x)
+found_at : {A : Type 0} (xs : List A) (i : ℕ) (x d : A) → slice_get xs i ≡ Some x
+    → (i < length xs) × (get_or xs i d ≡ x)
 found_at [] i x d e = absurd cc
 found_at (y ∷ ys) zero x d e = (omega arith, cc)
 found_at (y ∷ ys) (suc i) x d e = let rest = found_at ys i x d e in (omega (arith, rest.0), rest.1)
 
+-- what a declaration fixes
 declared_of : Var → Declaration
 declared_of v = record { sort = v.sort; mode = v.mode }
 
@@ -27,8 +29,8 @@ pub record IsThere (w : World) (v : ℕ) (sort : Sort) : Type 0 where
   pub within : v < length w.vals
   pub sort_is : (datum w.vals v).sort ≡ sort
 
-pub declared_there : (t : Tree) (n : Names) (w : World) (v : ℕ) (decl : Var) → Fits t n w → slice_get n.vars v ≡ Some decl
-    → IsThere w v decl.sort
+pub declared_there : (t : Tree) (n : Names) (w : World) (v : ℕ) (decl : Var) → Fits t n w
+    → slice_get n.vars v ≡ Some decl → IsThere w v decl.sort
 unfolding datum declared_of
 declared_there t n w v decl fits e =
     let none : Declaration = record { sort = no_datum.sort; mode = no_datum.mode } in
@@ -39,7 +41,8 @@ declared_there t n w v decl fits e =
     record {
       within = within;
       sort_is = ap (λ (d : Declaration). d.sort) (sym (get_or-map _ w.vals v no_datum none within)
-          ∙ ap (λ (l : List Declaration). get_or l v none) fits.declared ∙ get_or-map declared_of n.vars v decl none at.0)
+          ∙ ap (λ (l : List Declaration). get_or l v none) fits.declared
+          ∙ get_or-map declared_of n.vars v decl none at.0)
           ∙ ap (λ (x : Var). x.sort) at.1;
     }
 
@@ -51,8 +54,8 @@ input_value t n w v value fits is =
     (there.within, subst (λ (s : Sort). IsValueOf s value) (sym there.sort_is) is.3)
 
 -- a world fits after an input was set
-pub IsInputSet-fits : (t : Tree) (n : Names) (w w' : World) (v : ℕ) (value : Value) → Fits t n w → IsInputValue n v value
-    → IsInputSet w v value w' → Fits t n w'
+pub IsInputSet-fits : (t : Tree) (n : Names) (w w' : World) (v : ℕ) (value : Value) → Fits t n w
+    → IsInputValue n v value → IsInputSet w v value w' → Fits t n w'
 IsInputSet-fits t n w w' v value fits is set =
     let m = mantissa_there (datum w.vals v).sort value (input_value t n w v value fits is).1 in
     let same : with_mantissa w.vals v m.0 ≡ set.0 = let e = sym (stored w.vals v value m.0 m.1) ∙ set.1 in cc in

@@ -35,7 +35,8 @@ exact_gives n scale m e = at (is_whole n scale.frac) (is_in_range scale (floored
     at false within w r e = absurd cc
 
 -- brought to the scale it stays, in every mode
-fitted_exact : (n : Num) (scale : Scale) (mode : Mode) (m : ℤ) → exact_mantissa n scale ≡ Some m → fitted n scale mode ≡ Ok m
+fitted_exact : (n : Num) (scale : Scale) (mode : Mode) (m : ℤ) → exact_mantissa n scale ≡ Some m
+    → fitted n scale mode ≡ Ok m
 unfolding fitted
 fitted_exact n scale mode m e =
     let is = exact_gives n scale m e in
@@ -60,7 +61,8 @@ flag_in : (b : Bool) (m : ℤ) → cond b (pos 1) (pos 0) ≡ m → is_mantissa_
 flag_in true m e = ap (is_mantissa_of sorts.Flag) (sym e)
 flag_in false m e = ap (is_mantissa_of sorts.Flag) (sym e)
 
-pub stored_in_range : (sort : Sort) (value : Value) (m : ℤ) → mantissa_in sort value ≡ Some m → IsTrue (is_mantissa_of sort m)
+pub stored_in_range : (sort : Sort) (value : Value) (m : ℤ) → mantissa_in sort value ≡ Some m
+    → IsTrue (is_mantissa_of sort m)
 stored_in_range sorts.Flag (values.Flag b) m e = flag_in b m cc
 stored_in_range sorts.Flag (values.Number n) m e = absurd cc
 stored_in_range (sorts.Number scale) (values.Flag b) m e = absurd cc
@@ -82,7 +84,8 @@ number_shown scale m is =
     ∙ ap (λ (b : Bool). cond (b && is_in_range scale m) (Some m) None) (is_whole-raised n scale.frac (omega arith))
     ∙ ap (λ (b : Bool). cond (true && b) (Some m) None) is
 
-pub mantissa_in-value_at : (sort : Sort) (m : ℤ) → IsTrue (is_mantissa_of sort m) → mantissa_in sort (value_at sort m) ≡ Some m
+pub mantissa_in-value_at : (sort : Sort) (m : ℤ) → IsTrue (is_mantissa_of sort m)
+    → mantissa_in sort (value_at sort m) ≡ Some m
 mantissa_in-value_at sorts.Flag m is = ap Some (flag_shown m is)
 mantissa_in-value_at (sorts.Number scale) m is = number_shown scale m is
 

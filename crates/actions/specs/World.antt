@@ -19,13 +19,13 @@ pub record World : Type 0 where
   pub outputs : List ℕ
   pub used : ℕ
 
--- what a start begins with: no state is active and none remembers a child, the data have their first values, nothing is
--- put out, and no step is used
+-- what a start begins with: no state is active and none remembers a child, the data have their first values, nothing
+-- is put out, and no step is used
 abbrev pub world_before : Tree → Names → World
 world_before t n = record { marks = no_marks t; vals = initial n; outputs = []; used = 0 }
 
--- what a reaction begins with, once the inputs are set: nothing is put out yet and no step is used; what is active and what
--- is remembered stay, and so do the data
+-- what a reaction begins with, once the inputs are set: nothing is put out yet and no step is used; what is active and
+-- what is remembered stay, and so do the data
 abbrev pub begun : World → World
 begun w = record w { outputs = []; used = 0 }
 

@@ -1,7 +1,8 @@
 -- What the values of an expression's parts are, where the expression has a sort.
-use Rattle.std.proofs.Common.{◌≡◌, ℕ, ◌^◌, ◌≤◌, Bool, List, Ok, Err, IsOk, is_ok, IfOk, unsigned_abs, refl, ap, subst}
+use Rattle.std.proofs.Common.{◌≡◌, ℕ, ◌^◌, ◌≤◌, List, Ok, Err, IsOk, is_ok, IfOk, unsigned_abs, refl, ap, subst}
 use Rattle.std.proofs.lemmas.Result.{IfOk-at_ok}
 use Rattle.fixed_point.specs.declared.num.Num.{Num}
+use Rattle.active_config.specs.Marks.{Configuration}
 use Rattle.actions.specs.declared.expr.Expr as declared
 use Rattle.actions.specs.declared.expr.Op.{Op}
 use Rattle.actions.specs.declared.expr.Value.{Value}
@@ -11,7 +12,7 @@ use Rattle.actions.specs.declared.sort.ExprSort.TheVariants as kinds
 use Rattle.actions.specs.Exprs.{Expr, Lit, Read, Neg, Bin}
 use Rattle.actions.specs.Sorts.{Scope, Sorted, IsNarrow, with_sort, negative_sort, binary_sort, sort_of}
 use Rattle.actions.specs.Values.{HasSort, applied, number_of, scope_at}
-use Rattle.actions.specs.Data.{Datum, datum, IsValueOf}
+use Rattle.actions.specs.Data.{Datum, datum, IsValueAt}
 use Rattle.actions.specs.Trees.{expr_of}
 use Rattle.actions.specs.Operands.{AreOperands}
 use Rattle.actions.proofs.MagnitudeLemmas.{size-weaker}
@@ -29,8 +30,8 @@ unfolding sort_of
 literal c e n is sort has = literal-has_sort n sort (subst (λ (y : Expr). sort_of c y ≡ Ok sort) is has)
 
 -- a datum
-pub datum_read : (vals : List Datum) (marks : List Bool) (e : Expr) (v : ℕ) (x : Value) → e ≡ Read v → IsValueOf (datum vals v).sort x
-    → HasSortOf (scope_at vals marks) e x
+pub datum_read : (vals : List Datum) (marks : Configuration) (e : Expr) (v : ℕ) (x : Value) → e ≡ Read v
+    → IsValueAt (datum vals v).sort x → HasSortOf (scope_at vals marks) e x
 unfolding sort_of
 datum_read vals marks e v x is value sort has =
     let there = datum-there vals v sort (subst (λ (y : Expr). sort_of (scope_at vals marks) y ≡ Ok sort) is has) in
@@ -55,8 +56,8 @@ negatable (kinds.Number frac size) sort (values.Number n) e narrow has =
     record { number = refl; small = size-weaker _ size 100 has.1 narrow.1 }
 
 -- the operand of `-`, a part b that is read as a
-pub negated : (c : Scope) (e : Expr) (a b : declared.Expr) (x : Value) → e ≡ Neg (expr_of b) → a ≡ b → IsOk (sort_of c e)
-    → HasSortOf c (expr_of a) x → IsNegatable x
+pub negated : (c : Scope) (e : Expr) (a b : declared.Expr) (x : Value) → e ≡ Neg (expr_of b) → a ≡ b
+    → IsOk (sort_of c e) → HasSortOf c (expr_of a) x → IsNegatable x
 unfolding sort_of
 negated c e a b x is read ok has =
     let whole : e ≡ Neg (expr_of a) = rw read is in
@@ -73,7 +74,8 @@ record AreSorts (c : Scope) (op : Op) (a b : Expr) (sort : ExprSort) : Type 0 wh
   given : binary_sort op left right ≡ Ok sort
 
 -- an operator that has a sort has them
-operator_sorts : (c : Scope) (op : Op) (a b : Expr) (sort : ExprSort) → sort_of c (Bin op a b) ≡ Ok sort → AreSorts c op a b sort
+operator_sorts : (c : Scope) (op : Op) (a b : Expr) (sort : ExprSort) → sort_of c (Bin op a b) ≡ Ok sort
+    → AreSorts c op a b sort
 unfolding sort_of
 operator_sorts c op a b sort e =
     let left = with_sort_there (sort_of c a) (λ l. with_sort (sort_of c b) (binary_sort op l)) sort e in
@@ -81,8 +83,9 @@ operator_sorts c op a b sort e =
     record { left = left.0; right = right.0; left_is = left.1; right_is = right.1; given = right.2 }
 
 -- the values of both sides, which are read as these, are operands
-pub operands : (c : Scope) (op : Op) (e : Expr) (a b a' b' : declared.Expr) (x y : Value) → e ≡ Bin op (expr_of a') (expr_of b')
-    → a ≡ a' → b ≡ b' → IsOk (sort_of c e) → HasSortOf c (expr_of a) x → HasSortOf c (expr_of b) y → AreOperands op x y
+pub operands : (c : Scope) (op : Op) (e : Expr) (a b a' b' : declared.Expr) (x y : Value)
+    → e ≡ Bin op (expr_of a') (expr_of b') → a ≡ a' → b ≡ b' → IsOk (sort_of c e) → HasSortOf c (expr_of a) x
+    → HasSortOf c (expr_of b) y → AreOperands op x y
 operands c op e a b a' b' x y is left_read right_read ok left right =
     let whole : e ≡ Bin op (expr_of a) (expr_of b) = rw (left_read, right_read) is in
     let sort = sort_there (sort_of c (Bin op (expr_of a) (expr_of b))) (subst (λ (z : Expr). IsOk (sort_of c z)) whole ok) in
@@ -98,8 +101,8 @@ operands c op e a b a' b' x y is left_read right_read ok left right =
     }
 
 -- and the operator gives a value of the sort of the whole
-pub operator-has_sort : (c : Scope) (op : Op) (e : Expr) (a b a' b' : declared.Expr) (x y : Value) → e ≡ Bin op (expr_of a') (expr_of b')
-    → a ≡ a' → b ≡ b' → HasSortOf c (expr_of a) x → HasSortOf c (expr_of b) y
+pub operator-has_sort : (c : Scope) (op : Op) (e : Expr) (a b a' b' : declared.Expr) (x y : Value)
+    → e ≡ Bin op (expr_of a') (expr_of b') → a ≡ a' → b ≡ b' → HasSortOf c (expr_of a) x → HasSortOf c (expr_of b) y
     → (sort : ExprSort) → sort_of c e ≡ Ok sort → IfOk (applied op x y) (HasSort sort)
 operator-has_sort c op e a b a' b' x y is left_read right_read left right sort has =
     let whole : e ≡ Bin op (expr_of a) (expr_of b) = rw (left_read, right_read) is in

@@ -5,23 +5,29 @@ use Rattle.flow_base.specs.declared.bounds.Bounds.{Bounds}
 use Rattle.flow_base.specs.declared.fault.Fault.{Fault}
 use Rattle.flow_base.specs.declared.fault.Fault.TheVariants.{Steps}
 use Rattle.active_config.specs.Tree.{Tree, state_count}
-use Rattle.active_config.specs.Marks.{no_marks, is_on, is_bare, IsConsistent}
+use Rattle.active_config.specs.Marks.{Configuration, no_marks, is_on, is_bare, IsConsistent}
 use Rattle.actions.specs.Data.{Datum, initial, HaveTheirSorts}
 use Rattle.actions.specs.Names.{Names}
 use Rattle.actions.specs.declared.names.Var.{Var}
 use Rattle.actions.specs.declared.names.Sort.{Sort}
 use Rattle.fixed_point.specs.declared.fitting.Mode.{Mode}
 
--- one flag for each state, the data, the events put out in this event, and the steps used in it
+-- what is active and what is remembered, the data, the events put out in this event, and the steps used in it
 pub record World : Type 0 where
-  pub marks : List Bool
+  pub marks : Configuration
   pub vals : List Datum
   pub outputs : List ℕ
   pub used : ℕ
 
--- before the start: no state is active, the data have their first values, nothing is put out
+-- what a start begins with: no state is active and none remembers a child, the data have their first values, nothing
+-- is put out, and no step is used
 abbrev pub world_before : Tree → Names → World
 world_before t n = record { marks = no_marks t; vals = initial n; outputs = []; used = 0 }
+
+-- what a reaction begins with, once the inputs are set: nothing is put out yet and no step is used; what is active and
+-- what is remembered stay, and so do the data
+abbrev pub begun : World → World
+begun w = record w { outputs = []; used = 0 }
 
 -- a cost of one step: a fault where all steps of the event are used
 abbrev pub paid : Bounds → World → Result World Fault
@@ -37,7 +43,7 @@ pub data Life : Type 0 where
   Bare : ℕ → Life
 
 -- the work still goes on
-abbrev pub lives : Tree → Life → List Bool → Bool
+abbrev pub lives : Tree → Life → Configuration → Bool
 lives t (On s) marks = is_on s marks
 lives t (Bare s) marks = is_bare t s marks
 

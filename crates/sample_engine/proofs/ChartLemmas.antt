@@ -1,18 +1,15 @@
 -- The chart: its tree, and the data of a world that fits it.
-use Rattle.std.proofs.Common.{◌≡◌, ℕ, zero, suc, ◌<◌, Bool, true, List, [], length, get_or, Some, slice_get, refl, sym, ap, ◌∙◌, subst, arith}
+use Rattle.std.proofs.Common.{◌≡◌, ℕ, zero, suc, ◌<◌, true, List, [], length, get_or, refl, sym, ap, ◌∙◌, arith}
 use Rattle.std.proofs.lemmas.List.{get_or-map, length-map}
 use Rattle.fixed_point.specs.declared.scale.Scale.{Scale}
 use Rattle.active_config.specs.declared.comp.Comp.TheVariants.{Leaf}
 use Rattle.active_config.specs.Tree.{Tree, IsTree, tree_of, state_count, parent_of, comp_of, is_child, children_below, children_of}
-use Rattle.active_config.specs.Marks.{no_marks, is_on, can_mark}
+use Rattle.active_config.specs.Marks.{Configuration, no_marks, is_on, can_mark}
 use Rattle.actions.specs.declared.names.Sort.{Sort}
 use Rattle.actions.specs.declared.names.Sort.TheVariants as sorts
-use Rattle.actions.specs.Data.{datum, no_datum, IsValueOf}
+use Rattle.actions.specs.Data.{datum, no_datum}
 use Rattle.actions.specs.World.{World, Declaration, of_names}
-use Rattle.actions.specs.declared.expr.Value.{Value}
-use Rattle.actions.specs.declared.names.Var.{Var}
-use Rattle.actions.specs.Engines.{IsInputValue}
-use Rattle.sample_engine.specs.Chart.{chart_tree, input_decl, count_decl, chart_names, FitsChart}
+use Rattle.sample_engine.specs.Chart.{chart_tree, chart_names, FitsChart}
 
 -- ---- the tree
 
@@ -44,7 +41,8 @@ declared_sort default d = d.sort
 pub two_data : (scale : Scale) (w : World) → FitsChart scale w → length w.vals ≡ 2
 two_data scale w fits = sym (length-map w.vals _) ∙ ap length fits.declared
 
-pub number_sort : (scale : Scale) (w : World) (v : ℕ) → v < 2 → FitsChart scale w → (datum w.vals v).sort ≡ sorts.Number scale
+pub number_sort : (scale : Scale) (w : World) (v : ℕ) → v < 2 → FitsChart scale w
+    → (datum w.vals v).sort ≡ sorts.Number scale
 unfolding datum
 number_sort scale w v lt fits =
     let none : Declaration = record { sort = no_datum.sort; mode = no_datum.mode } in
@@ -52,22 +50,15 @@ number_sort scale w v lt fits =
     ap (λ (d : Declaration). d.sort) (sym (get_or-map _ w.vals v no_datum none within) ∙ ap (λ (l : List Declaration). get_or l v none) fits.declared)
     ∙ declared v lt none
   where
-    declared : (v : ℕ) → v < 2 → (none : Declaration) → (get_or (of_names (chart_names scale)) v none).sort ≡ sorts.Number scale
+    declared : (v : ℕ) → v < 2 → (none : Declaration)
+        → (get_or (of_names (chart_names scale)) v none).sort ≡ sorts.Number scale
     declared zero lt none = refl
     declared (suc zero) lt none = refl
     declared (suc (suc v)) lt none = absurd (omega arith)
 
--- an input's value is one of its datum
-pub input_value : (scale : Scale) (w : World) (v : ℕ) (value : Value) → FitsChart scale w → IsInputValue (chart_names scale) v value
-    → IsValueOf (datum w.vals v).sort value
-input_value scale w v value fits is = subst (λ (s : Sort). IsValueOf s value) (sym (same v fits is.1)) is.3
-  where
-    same : (v : ℕ) → FitsChart scale w → slice_get (chart_names scale).vars v ≡ Some is.0 → (datum w.vals v).sort ≡ is.0.sort
-    same zero fits e = let d : input_decl scale ≡ is.0 = cc in number_sort scale w 0 (omega arith) fits ∙ ap (λ (x : Var). x.sort) d
-    same (suc zero) fits e = let d : count_decl scale ≡ is.0 = cc in number_sort scale w 1 (omega arith) fits ∙ ap (λ (x : Var). x.sort) d
-    same (suc (suc v)) fits e = absurd cc
-
 -- the root can be marked in the world before the start
-pub root_can_be_marked_in : (t : Tree) (marks : List Bool) → t ≡ chart_tree → marks ≡ no_marks chart_tree → can_mark t 0 marks ≡ true
+pub root_can_be_marked_in : (t : Tree) (marks : Configuration) → t ≡ chart_tree → marks ≡ no_marks chart_tree
+    → can_mark t 0 marks ≡ true
 root_can_be_marked_in t marks tree none =
-    ap (λ (x : Tree). can_mark x 0 marks) tree ∙ ap (λ (m : List Bool). can_mark chart_tree 0 m) none ∙ root_can_be_marked
+    ap (λ (x : Tree). can_mark x 0 marks) tree ∙ ap (λ (m : Configuration). can_mark chart_tree 0 m) none
+    ∙ root_can_be_marked

@@ -1,0 +1,9 @@
+//! Tests of actions: what no clause says, worked by hand.
+#![tactic(auto)]
+
+#[cfg(test)]
+mod data;
+#[cfg(test)]
+mod evaluation;
+#[cfg(test)]
+mod expressions;

@@ -1,0 +1,9 @@
+use Rattle.active_config.proofs.FieldLemmas.{entry_within, entry_read}
+use Rattle.active_config.proofs.MarksLemmas.{last_within}
+use Rattle.active_config.proofs.marks.Marks.last.Goals as goal
+
+pub returns : goal.returns
+returns c =
+    let there = entry_within c.args.shape.now _ _ _ c.args.state c.self.view_is c.requires.consistent c.requires.state in
+    let child = entry_read _ _ _ c.args.state _ c.self.view_is there c.index.ensures in
+    record { child = child; within = last_within c.args.shape.now c.args.state _ _ c.requires.consistent child }

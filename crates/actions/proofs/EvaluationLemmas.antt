@@ -1,7 +1,8 @@
 -- What the values of an expression's parts are, where the expression has a sort.
-use Rattle.std.proofs.Common.{◌≡◌, ℕ, ◌^◌, ◌≤◌, Bool, List, Ok, Err, IsOk, is_ok, IfOk, unsigned_abs, refl, ap, subst}
+use Rattle.std.proofs.Common.{◌≡◌, ℕ, ◌^◌, ◌≤◌, List, Ok, Err, IsOk, is_ok, IfOk, unsigned_abs, refl, ap, subst}
 use Rattle.std.proofs.lemmas.Result.{IfOk-at_ok}
 use Rattle.fixed_point.specs.declared.num.Num.{Num}
+use Rattle.active_config.specs.Marks.{Configuration}
 use Rattle.actions.specs.declared.expr.Expr as declared
 use Rattle.actions.specs.declared.expr.Op.{Op}
 use Rattle.actions.specs.declared.expr.Value.{Value}
@@ -29,7 +30,7 @@ unfolding sort_of
 literal c e n is sort has = literal-has_sort n sort (subst (λ (y : Expr). sort_of c y ≡ Ok sort) is has)
 
 -- a datum
-pub datum_read : (vals : List Datum) (marks : List Bool) (e : Expr) (v : ℕ) (x : Value) → e ≡ Read v → IsValueOf (datum vals v).sort x
+pub datum_read : (vals : List Datum) (marks : Configuration) (e : Expr) (v : ℕ) (x : Value) → e ≡ Read v → IsValueOf (datum vals v).sort x
     → HasSortOf (scope_at vals marks) e x
 unfolding sort_of
 datum_read vals marks e v x is value sort has =

@@ -7,7 +7,7 @@ use Rattle.flow_base.specs.declared.fault.Fault.TheVariants.{Zero as ZeroDivisor
 use Rattle.fixed_point.specs.declared.num.Num.{Num}
 use Rattle.fixed_point.specs.declared.quotient.Zero.{Zero}
 use Rattle.fixed_point.specs.Numbers.{sum_of, difference_of, negation_of, product_of, quotient_of, order_of}
-use Rattle.active_config.specs.Marks.{is_on, mark_count}
+use Rattle.active_config.specs.Marks.{Configuration, is_on, mark_count}
 use Rattle.actions.specs.declared.expr.Op.{Op}
 use Rattle.actions.specs.declared.expr.Op.TheVariants as ops
 use Rattle.actions.specs.declared.expr.Value.{Value}
@@ -86,7 +86,7 @@ decides ops.Mul a = false
 decides ops.Div a = false
 
 -- The value of an expression: the left side first, and the right side where the left doesn't decide.
-unfoldable pub value_of : List Datum → List Bool → Expr → Valued
+unfoldable pub value_of : List Datum → Configuration → Expr → Valued
 value_of vals marks (Lit n) = Ok (Number n)
 value_of vals marks (Flag b) = Ok (FlagValue b)
 value_of vals marks (Read v) = Ok (value_of_datum (datum vals v))
@@ -97,7 +97,7 @@ value_of vals marks (Bin op a b) = with_value (value_of vals marks a) (λ left.
     if decides op left then Ok left else with_value (value_of vals marks b) (applied op left))
 
 -- what an expression may name where the data and the marks are these
-abbrev pub scope_at : List Datum → List Bool → Scope
+abbrev pub scope_at : List Datum → Configuration → Scope
 scope_at vals marks = record { sorts = map (λ (d : Datum). d.sort) vals; states = mark_count marks }
 
 -- a value of the sort: a flag, or a number of that fraction and size

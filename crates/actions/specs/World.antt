@@ -5,16 +5,16 @@ use Rattle.flow_base.specs.declared.bounds.Bounds.{Bounds}
 use Rattle.flow_base.specs.declared.fault.Fault.{Fault}
 use Rattle.flow_base.specs.declared.fault.Fault.TheVariants.{Steps}
 use Rattle.active_config.specs.Tree.{Tree, state_count}
-use Rattle.active_config.specs.Marks.{no_marks, is_on, is_bare, IsConsistent}
+use Rattle.active_config.specs.Marks.{Configuration, no_marks, is_on, is_bare, IsConsistent}
 use Rattle.actions.specs.Data.{Datum, initial, HaveTheirSorts}
 use Rattle.actions.specs.Names.{Names}
 use Rattle.actions.specs.declared.names.Var.{Var}
 use Rattle.actions.specs.declared.names.Sort.{Sort}
 use Rattle.fixed_point.specs.declared.fitting.Mode.{Mode}
 
--- one flag for each state, the data, the events put out in this event, and the steps used in it
+-- what is active and remembered, the data, the events put out in this event, and the steps used in it
 pub record World : Type 0 where
-  pub marks : List Bool
+  pub marks : Configuration
   pub vals : List Datum
   pub outputs : List ℕ
   pub used : ℕ
@@ -37,7 +37,7 @@ pub data Life : Type 0 where
   Bare : ℕ → Life
 
 -- the work still goes on
-abbrev pub lives : Tree → Life → List Bool → Bool
+abbrev pub lives : Tree → Life → Configuration → Bool
 lives t (On s) marks = is_on s marks
 lives t (Bare s) marks = is_bare t s marks
 

@@ -18,6 +18,8 @@ ghost use Rattle.std.specs.Prelude.{
 ghost use Rattle.active_config.specs.Tree.{
   Tree,
   IsTree,
+  state_count,
+  comp_of,
   parent_of,
   ancestors,
   children_of,
@@ -30,7 +32,8 @@ ghost use Rattle.active_config.specs.Tree.{
   is_below,
   is_at_or_below,
 };
-ghost use Rattle.active_config.specs.Marks.{mark_count, is_on, can_mark, is_bare, with_mark, IsConsistent};
+ghost use Rattle.active_config.specs.declared.comp.Comp.TheVariants.{Or};
+ghost use Rattle.active_config.specs.Marks.{Configuration, mark_count, is_on, can_mark, is_bare, with_mark, last_of, with_last, IsConsistent};
 
 /// The children of a state are its first child and those that follow, or its last child and those
 /// that come before it.
@@ -44,17 +47,32 @@ pub fn children_stand_in_order()
         children_back_from t s (Some x) ≡ x ∷ children_back_from t s (prev_sibling t x) }
 {}
 
-/// Marking a state that can be marked keeps marks consistent, and so does clearing a bare one.
-/// Either changes that state alone.
+/// Marking a state that can be marked keeps marks consistent, and so do clearing a bare one and
+/// keeping a child of an OR. Marking and clearing change whether that state is active, and no other.
 pub fn marks_stay_consistent()
-    ensures mark { (t : Tree) (marks : List Bool) (s : ℕ) → IsConsistent t marks →
+    ensures mark { (t : Tree) (marks : Configuration) (s : ℕ) → IsConsistent t marks →
         IsTrue (can_mark t s marks) → IsConsistent t (with_mark s true marks) }
-    ensures clear { (t : Tree) (marks : List Bool) (s : ℕ) → IsConsistent t marks →
+    ensures clear { (t : Tree) (marks : Configuration) (s : ℕ) → IsConsistent t marks →
         IsTrue (is_bare t s marks) → IsConsistent t (with_mark s false marks) }
-    ensures here { (marks : List Bool) (s : ℕ) (on : Bool) → s < mark_count marks →
+    ensures here { (marks : Configuration) (s : ℕ) (on : Bool) → s < mark_count marks →
         is_on s (with_mark s on marks) ≡ on }
-    ensures others { (marks : List Bool) (s x : ℕ) (on : Bool) → x ≢ s →
+    ensures others { (marks : Configuration) (s x : ℕ) (on : Bool) → x ≢ s →
         is_on x (with_mark s on marks) ≡ is_on x marks }
+    ensures keep { (t : Tree) (marks : Configuration) (s p : ℕ) → IsConsistent t marks →
+        parent_of t s ≡ Some p → comp_of t p ≡ Or → IsConsistent t (with_last t s marks) }
+{}
+
+/// A state that is kept is from then on what its parent remembers. What any other state remembers
+/// stays, and no state becomes active or inactive. Marking and clearing leave what is remembered.
+pub fn keeping_changes_one_entry()
+    ensures here { (t : Tree) (marks : Configuration) (s p : ℕ) → IsConsistent t marks →
+        p < state_count t → parent_of t s ≡ Some p → last_of p (with_last t s marks) ≡ Some s }
+    ensures others { (t : Tree) (marks : Configuration) (s p x : ℕ) → parent_of t s ≡ Some p →
+        x ≢ p → last_of x (with_last t s marks) ≡ last_of x marks }
+    ensures active { (t : Tree) (marks : Configuration) (s x : ℕ) →
+        is_on x (with_last t s marks) ≡ is_on x marks }
+    ensures marking { (marks : Configuration) (s x : ℕ) (on : Bool) →
+        last_of x (with_mark s on marks) ≡ last_of x marks }
 {}
 
 /// In a tree the number of a parent is lower than that of its child, and a state is strictly below

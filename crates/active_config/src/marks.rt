@@ -1,36 +1,43 @@
 //! The active configuration.
 use crate::memory::Memory;
 use crate::shape::Shape;
+use crate::tables::no_states;
 use std::alloc::Global;
 use std::marker::Model;
 
-/// The set of active states of a shape.
+/// The active configuration of a shape: the set of its active states, and the child that each OR
+/// remembers, if any. Contracts see it as a `Configuration`.
 #[derive(Debug, Drop)]
 pub struct Marks {
     flags: Vec<bool>,
+    last: Vec<Option<u32>>,
 }
 
 impl Model for Marks {
-    ghost use Rattle.std.specs.Prelude.{Bool, List};
+    ghost use Rattle.active_config.specs.Marks.{Configuration};
 
-    ghost Value = { List Bool };
+    ghost Value = { Configuration };
 
-    ghost view = { λ m. m.flags.items };
+    ghost view = { λ m. record { flags = m.flags.items; last = m.last.items } };
 }
 
 impl Marks {
-    ghost use Rattle.std.specs.Prelude.{◌≡◌, ◌<◌, true, false, IsTrue, IfOk, IfSome};
+    ghost use Rattle.std.specs.Prelude.{◌≡◌, ◌<◌, true, false, IsTrue, IfOk, IfSome, IsSomeAnd, Some};
     ghost use Rattle.active_config.specs.declared.comp.Comp.TheVariants.{Or};
-    ghost use Rattle.active_config.specs.Tree.{state_count, comp_of};
+    ghost use Rattle.active_config.specs.Tree.{state_count, comp_of, parent_of};
     ghost use Rattle.active_config.specs.Marks as spec;
 
-    /// No state of the shape is active.
+    /// No state of the shape is active, and none remembers a child.
     pub fn make(alloc: Global, shape: &Shape) -> Result<Marks, Memory>
         ensures none { IfOk result (λ marks. marks ≡ spec.no_marks shape.now) }
         ensures consistent { IfOk result (λ marks. spec.IsConsistent shape.now marks) }
     {
-        match vec![in alloc; false; shape.len() as usize] {
-            Ok(flags) => Ok(Marks { flags }),
+        let states = shape.len() as usize;
+        match vec![in alloc; false; states] {
+            Ok(flags) => match no_states(alloc, states) {
+                Ok(last) => Ok(Marks { flags, last }),
+                Err(_) => Err(Memory),
+            },
             Err(_) => Err(Memory),
         }
     }
@@ -102,5 +109,31 @@ impl Marks {
     {
         let _ = shape;
         self.flags[state as usize] = false;
+    }
+
+    /// Makes a state the child that its parent remembers. That parent is an OR.
+    pub fn keep(&mut self, shape: &Shape, state: u32)
+        requires state { state < state_count shape.now }
+        requires consistent { spec.IsConsistent shape.now self.old }
+        requires or { IsSomeAnd (parent_of shape.now state) (λ parent. comp_of shape.now parent ≡ Or) }
+        ensures kept { self.new ≡ spec.with_last shape.now state self.old }
+        ensures consistent { spec.IsConsistent shape.now self.new }
+    {
+        if let Some(parent) = shape.parent(state) {
+            self.last[parent as usize] = Some(state);
+        }
+    }
+
+    /// The child that an OR remembers, if any.
+    pub fn last(&self, shape: &Shape, parent: u32) -> Option<u32>
+        requires parent { parent < state_count shape.now }
+        requires or { comp_of shape.now parent ≡ Or }
+        requires consistent { spec.IsConsistent shape.now self.now }
+        ensures child { result ≡ spec.last_of parent self.now }
+        ensures within { IfSome result (λ child. (parent_of shape.now child ≡ Some parent)
+            × (child < state_count shape.now)) }
+    {
+        let _ = shape;
+        self.last[parent as usize]
     }
 }

@@ -1,10 +1,10 @@
 -- The chart: its tree, and the data of a world that fits it.
-use Rattle.std.proofs.Common.{◌≡◌, ℕ, zero, suc, ◌<◌, Bool, true, List, [], length, get_or, Some, slice_get, refl, sym, ap, ◌∙◌, subst, arith}
+use Rattle.std.proofs.Common.{◌≡◌, ℕ, zero, suc, ◌<◌, true, List, [], length, get_or, Some, slice_get, refl, sym, ap, ◌∙◌, subst, arith}
 use Rattle.std.proofs.lemmas.List.{get_or-map, length-map}
 use Rattle.fixed_point.specs.declared.scale.Scale.{Scale}
 use Rattle.active_config.specs.declared.comp.Comp.TheVariants.{Leaf}
 use Rattle.active_config.specs.Tree.{Tree, IsTree, tree_of, state_count, parent_of, comp_of, is_child, children_below, children_of}
-use Rattle.active_config.specs.Marks.{no_marks, is_on, can_mark}
+use Rattle.active_config.specs.Marks.{Configuration, no_marks, is_on, can_mark}
 use Rattle.actions.specs.declared.names.Sort.{Sort}
 use Rattle.actions.specs.declared.names.Sort.TheVariants as sorts
 use Rattle.actions.specs.Data.{datum, no_datum, IsValueOf}
@@ -68,6 +68,6 @@ input_value scale w v value fits is = subst (λ (s : Sort). IsValueOf s value) (
     same (suc (suc v)) fits e = absurd cc
 
 -- the root can be marked in the world before the start
-pub root_can_be_marked_in : (t : Tree) (marks : List Bool) → t ≡ chart_tree → marks ≡ no_marks chart_tree → can_mark t 0 marks ≡ true
+pub root_can_be_marked_in : (t : Tree) (marks : Configuration) → t ≡ chart_tree → marks ≡ no_marks chart_tree → can_mark t 0 marks ≡ true
 root_can_be_marked_in t marks tree none =
-    ap (λ (x : Tree). can_mark x 0 marks) tree ∙ ap (λ (m : List Bool). can_mark chart_tree 0 m) none ∙ root_can_be_marked
+    ap (λ (x : Tree). can_mark x 0 marks) tree ∙ ap (λ (m : Configuration). can_mark chart_tree 0 m) none ∙ root_can_be_marked

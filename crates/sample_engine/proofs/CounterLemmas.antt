@@ -11,6 +11,9 @@ use Rattle.sample_engine.specs.Chart.{Program, chart_tree, chart_names, FitsChar
 use Rattle.sample_engine.specs.Counters.{CounterState, IsCounter}
 use Rattle.sample_engine.proofs.ChartLemmas.{input_value}
 use Rattle.sample_engine.proofs.WorldLemmas.{input_set_fits}
+use Rattle.std.specs.Prelude.{Result, Ok, Err}
+use Rattle.actions.specs.declared.engine.Halt.{Halt}
+use Rattle.actions.specs.Engines.{stage_after}
 
 one_state : (p : Program) → length (chart_names p.scale).states ≡ state_count chart_tree
 unfolding state_count tree_of
@@ -47,3 +50,8 @@ counter_set t n c same v value w is whole going given set =
       fits = input_set_fits c.program.scale c.world w v value whole.fits (counter_input c same v value is whole.fits given) set;
       fresh = λ fresh. absurd cc;
     }
+
+-- behind an answer an engine isn't new
+pub never_fresh : (answer : Result (Unit {0}) Halt) → stage_after answer ≡ Fresh → ⊥
+never_fresh (Ok done) e = absurd cc
+never_fresh (Err halt) e = absurd cc

@@ -7,7 +7,7 @@ ghost use Rattle.state_tree.specs.Valid.{IsValid};
 use crate::homes;
 use crate::parts::{BlockKind, ListKind, StateParts, Trans};
 use actions::{Names, Stmt};
-use active_config::Shape;
+use active_config::{Comp, Shape};
 use std::marker::Model;
 
 /// A valid chart. No look-up takes memory.
@@ -47,7 +47,8 @@ impl Model for Chart {
 
 impl Chart {
     ghost use Rattle.std.specs.Prelude.{◌≡◌, ◌<◌, length, IfSome};
-    ghost use Rattle.active_config.specs.Tree.{IsTree, state_count};
+    ghost use Rattle.active_config.specs.Tree as trees;
+    ghost use Rattle.active_config.specs.Tree.{state_count, comp_of, parent_of};
     ghost use Rattle.state_tree.specs.Chart as spec;
     ghost use Rattle.state_tree.specs.Homes as spec_homes;
     ghost use Rattle.state_tree.specs.Kept.{chart_of};
@@ -92,6 +93,79 @@ impl Chart {
         ensures valid { IsValid (chart_of self.now) }
     {
         &self.names
+    }
+
+    /// The root, which is state 0.
+    pub fn root(&self) -> u32
+        ensures root { result ≡ 0 }
+        ensures within { result < state_count (chart_of self.now).tree }
+    {
+        let _ = self.shape();
+        0
+    }
+
+    /// How a state is composed.
+    pub fn comp(&self, state: u32) -> Comp
+        requires { state < state_count (chart_of self.now).tree }
+        ensures { result ≡ comp_of (chart_of self.now).tree state }
+    {
+        self.shape().comp(state)
+    }
+
+    /// The parent of a state. The root alone has none.
+    pub fn parent(&self, state: u32) -> Option<u32>
+        requires { state < state_count (chart_of self.now).tree }
+        ensures parent { result ≡ parent_of (chart_of self.now).tree state }
+        ensures before { IfSome result (λ x. x < state) }
+    {
+        self.shape().parent(state)
+    }
+
+    /// The first child of a state. A leaf alone has none.
+    pub fn first_child(&self, state: u32) -> Option<u32>
+        requires { state < state_count (chart_of self.now).tree }
+        ensures child { result ≡ trees.first_child (chart_of self.now).tree state }
+        ensures after { IfSome result (λ x. (state < x) × (x < state_count (chart_of self.now).tree)) }
+    {
+        self.shape().first_child(state)
+    }
+
+    /// The last child of a state. A leaf alone has none.
+    pub fn last_child(&self, state: u32) -> Option<u32>
+        requires { state < state_count (chart_of self.now).tree }
+        ensures child { result ≡ trees.last_child (chart_of self.now).tree state }
+        ensures after { IfSome result (λ x. (state < x) × (x < state_count (chart_of self.now).tree)) }
+    {
+        self.shape().last_child(state)
+    }
+
+    /// The child of the same parent that comes next, if there is one.
+    pub fn next_sibling(&self, state: u32) -> Option<u32>
+        requires { state < state_count (chart_of self.now).tree }
+        ensures sibling { result ≡ trees.next_sibling (chart_of self.now).tree state }
+        ensures after { IfSome result (λ x. (state < x) × (x < state_count (chart_of self.now).tree)) }
+    {
+        self.shape().next_sibling(state)
+    }
+
+    /// The child of the same parent that comes just before, if there is one.
+    pub fn prev_sibling(&self, state: u32) -> Option<u32>
+        requires { state < state_count (chart_of self.now).tree }
+        ensures sibling { result ≡ trees.prev_sibling (chart_of self.now).tree state }
+        ensures before { IfSome result (λ x. x < state) }
+    {
+        self.shape().prev_sibling(state)
+    }
+
+    /// Where a path to a state goes on in a child of an AND: to that state where the child lies on
+    /// the path, else to the child itself.
+    pub fn path_in(&self, child: u32, dest: u32) -> u32
+        requires child { child < state_count (chart_of self.now).tree }
+        requires dest { dest < state_count (chart_of self.now).tree }
+        ensures path { result ≡ spec_homes.path_in (chart_of self.now).tree child dest }
+        ensures within { result < state_count (chart_of self.now).tree }
+    {
+        homes::path_in(self.shape(), child, dest)
     }
 
     /// What a state does.

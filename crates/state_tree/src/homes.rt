@@ -57,3 +57,27 @@ pub fn outer_home(shape: &Shape, state: u32, dest: u32) -> u32
         Some(above) => above,
     }
 }
+
+/// Whether a state is another one, or below it.
+#[tactic(auto, unfolding(active_config::specs::Tree::is_at_or_below))]
+fn is_at_or_below(shape: &Shape, state: u32, above: u32) -> bool
+    requires state { state < state_count shape.now }
+    requires above { above < state_count shape.now }
+    ensures { result ≡ trees.is_at_or_below shape.now state above }
+{
+    state == above || shape.is_below(state, above)
+}
+
+/// Where a path to a state goes on in a child of an AND.
+pub fn path_in(shape: &Shape, child: u32, dest: u32) -> u32
+    requires child { child < state_count shape.now }
+    requires dest { dest < state_count shape.now }
+    ensures path { result ≡ spec.path_in shape.now child dest }
+    ensures within { result < state_count shape.now }
+{
+    if is_at_or_below(shape, dest, child) {
+        dest
+    } else {
+        child
+    }
+}

@@ -1,0 +1,9 @@
+pub mod Parts
+pub mod Searches
+pub mod Moves
+pub mod Processing
+pub mod Rules
+pub mod Reactions
+pub mod Settled
+pub mod Finds
+pub mod Memory

@@ -4,6 +4,5 @@ pub mod Moves
 pub mod Processing
 pub mod Rules
 pub mod Reactions
-pub mod Settled
 pub mod Finds
 pub mod Memory

@@ -86,9 +86,13 @@ IsStmt c (Send e) = IsEventOf c.names e events.Local
 IsStmt c (SendTo e s) = IsEventOf c.names e events.Local × (s < state_count c.tree)
 IsStmt c (Emit e) = IsEventOf c.names e events.Output
 
+-- statements
+abbrev pub AreStmts : Chart → List Stmt → Type 0
+AreStmts c block = AllByRecursion (IsStmt c) block
+
 -- an action: its statements, not too many
 pub record IsBlock (c : Chart) (block : List Stmt) : Type 0 where
-  pub stmts : AllByRecursion (IsStmt c) block
+  pub stmts : AreStmts c block
   pub few : length block ≤ MOST_STATEMENTS
 
 -- a trigger, if there is one

@@ -46,13 +46,14 @@ impl Model for Chart {
 }
 
 impl Chart {
-    ghost use Rattle.std.specs.Prelude.{◌≡◌, ◌<◌, length, IfSome};
+    ghost use Rattle.std.specs.Prelude.{◌≡◌, ◌<◌, ◌≤◌, length, IfSome};
     ghost use Rattle.active_config.specs.Tree as trees;
     ghost use Rattle.active_config.specs.Tree.{state_count, comp_of, parent_of};
     ghost use Rattle.state_tree.specs.Chart as spec;
     ghost use Rattle.state_tree.specs.Homes as spec_homes;
     ghost use Rattle.state_tree.specs.Kept.{chart_of};
-    ghost use Rattle.state_tree.specs.Valid.{IsBlock, IsNode, AreTrans};
+    ghost use Rattle.state_tree.specs.Valid.{IsNode, AreStmts, AreTrans};
+    ghost use Rattle.state_tree.specs.declared.limits.TheConstants.{MOST_STATEMENTS};
     ghost use Rattle.state_tree.specs.Views.{block_seen, list_seen, node_seen};
 
     /// The chart of a tree, what it declares, a part for each state in pre-order, and the lists of
@@ -182,7 +183,8 @@ impl Chart {
     pub fn block(&self, state: u32, kind: BlockKind) -> &[Stmt]
         requires { state < state_count (chart_of self.now).tree }
         ensures block { block_seen result.now ≡ spec.block_of (chart_of self.now) state kind }
-        ensures valid { IsBlock (chart_of self.now) (block_seen result.now) }
+        ensures stmts { AreStmts (chart_of self.now) (block_seen result.now) }
+        ensures few { length result.now ≤ MOST_STATEMENTS }
     {
         let parts = self.parts(state);
         match kind {

@@ -12,7 +12,7 @@ use Rattle.actions.specs.declared.sort.ExprSort.TheVariants as kinds
 use Rattle.actions.specs.Exprs.{Expr, Lit, Read, Neg, Bin}
 use Rattle.actions.specs.Sorts.{Scope, Sorted, IsNarrow, with_sort, negative_sort, binary_sort, sort_of}
 use Rattle.actions.specs.Values.{HasSort, applied, number_of, scope_at}
-use Rattle.actions.specs.Data.{Datum, datum, IsValueOf}
+use Rattle.actions.specs.Data.{Datum, datum, IsValueAt}
 use Rattle.actions.specs.Trees.{expr_of}
 use Rattle.actions.specs.Operands.{AreOperands}
 use Rattle.actions.proofs.MagnitudeLemmas.{size-weaker}
@@ -30,7 +30,7 @@ unfolding sort_of
 literal c e n is sort has = literal-has_sort n sort (subst (λ (y : Expr). sort_of c y ≡ Ok sort) is has)
 
 -- a datum
-pub datum_read : (vals : List Datum) (marks : Configuration) (e : Expr) (v : ℕ) (x : Value) → e ≡ Read v → IsValueOf (datum vals v).sort x
+pub datum_read : (vals : List Datum) (marks : Configuration) (e : Expr) (v : ℕ) (x : Value) → e ≡ Read v → IsValueAt (datum vals v).sort x
     → HasSortOf (scope_at vals marks) e x
 unfolding sort_of
 datum_read vals marks e v x is value sort has =

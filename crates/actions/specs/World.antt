@@ -12,16 +12,22 @@ use Rattle.actions.specs.declared.names.Var.{Var}
 use Rattle.actions.specs.declared.names.Sort.{Sort}
 use Rattle.fixed_point.specs.declared.fitting.Mode.{Mode}
 
--- what is active and remembered, the data, the events put out in this event, and the steps used in it
+-- what is active and what is remembered, the data, the events put out in this event, and the steps used in it
 pub record World : Type 0 where
   pub marks : Configuration
   pub vals : List Datum
   pub outputs : List ℕ
   pub used : ℕ
 
--- before the start: no state is active, the data have their first values, nothing is put out
+-- what a start begins with: no state is active and none remembers a child, the data have their first values, nothing is
+-- put out, and no step is used
 abbrev pub world_before : Tree → Names → World
 world_before t n = record { marks = no_marks t; vals = initial n; outputs = []; used = 0 }
+
+-- what a reaction begins with, once the inputs are set: nothing is put out yet and no step is used; what is active and what
+-- is remembered stay, and so do the data
+abbrev pub begun : World → World
+begun w = record w { outputs = []; used = 0 }
 
 -- a cost of one step: a fault where all steps of the event are used
 abbrev pub paid : Bounds → World → Result World Fault

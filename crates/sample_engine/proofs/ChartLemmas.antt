@@ -57,16 +57,6 @@ number_sort scale w v lt fits =
     declared (suc zero) lt none = refl
     declared (suc (suc v)) lt none = absurd (omega arith)
 
--- an input's value is one of its datum
-pub input_value : (scale : Scale) (w : World) (v : ℕ) (value : Value) → FitsChart scale w → IsInputValue (chart_names scale) v value
-    → IsValueOf (datum w.vals v).sort value
-input_value scale w v value fits is = subst (λ (s : Sort). IsValueOf s value) (sym (same v fits is.1)) is.3
-  where
-    same : (v : ℕ) → FitsChart scale w → slice_get (chart_names scale).vars v ≡ Some is.0 → (datum w.vals v).sort ≡ is.0.sort
-    same zero fits e = let d : input_decl scale ≡ is.0 = cc in number_sort scale w 0 (omega arith) fits ∙ ap (λ (x : Var). x.sort) d
-    same (suc zero) fits e = let d : count_decl scale ≡ is.0 = cc in number_sort scale w 1 (omega arith) fits ∙ ap (λ (x : Var). x.sort) d
-    same (suc (suc v)) fits e = absurd cc
-
 -- the root can be marked in the world before the start
 pub root_can_be_marked_in : (t : Tree) (marks : Configuration) → t ≡ chart_tree → marks ≡ no_marks chart_tree → can_mark t 0 marks ≡ true
 root_can_be_marked_in t marks tree none =

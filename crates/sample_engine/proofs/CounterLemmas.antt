@@ -1,5 +1,5 @@
 -- What is true of every engine of this crate.
-use Rattle.std.proofs.Common.{◌≡◌, ℕ, length, refl, sym, ap, ◌∙◌, subst}
+use Rattle.std.proofs.Common.{◌≡◌, ℕ, ◌<◌, length, refl, sym, ap, ◌∙◌, subst}
 use Rattle.active_config.specs.Tree.{Tree, tree_of, state_count}
 use Rattle.actions.specs.declared.expr.Value.{Value}
 use Rattle.actions.specs.Data.{HasInits, IsValueOf, datum}
@@ -9,8 +9,7 @@ use Rattle.actions.specs.World.{World, world_before}
 use Rattle.actions.proofs.WorldLemmas.{world_before_fits}
 use Rattle.sample_engine.specs.Chart.{Program, chart_tree, chart_names, FitsChart}
 use Rattle.sample_engine.specs.Counters.{CounterState, IsCounter}
-use Rattle.sample_engine.proofs.ChartLemmas.{input_value}
-use Rattle.sample_engine.proofs.WorldLemmas.{input_set_fits}
+use Rattle.actions.proofs.InputLemmas.{input_value, IsInputSet-fits}
 use Rattle.std.specs.Prelude.{Result, Ok, Err}
 use Rattle.actions.specs.declared.engine.Halt.{Halt}
 use Rattle.actions.specs.Engines.{stage_after}
@@ -32,11 +31,17 @@ new_counter p t n w tree names inits is =
       fresh = λ _. ap (λ (x : World). record { program = p; world = x; stage = Fresh }) first;
     }
 
--- the value that an input is given is one of its datum
+-- a value of an input of an engine is one of the input of its program
+input_of : (c same : CounterState) (v : ℕ) (value : Value) → c ≡ same → IsInputValue (chart_names same.program.scale) v value
+    → IsInputValue (chart_names c.program.scale) v value
+input_of c same v value is given = subst (λ (x : CounterState). IsInputValue (chart_names x.program.scale) v value) (sym is) given
+
+-- the value that an input is given is one of its datum, which is there
 pub counter_input : (c same : CounterState) (v : ℕ) (value : Value) → c ≡ same → FitsChart c.program.scale c.world
-    → IsInputValue (chart_names same.program.scale) v value → IsValueOf (datum c.world.vals v).sort value
+    → IsInputValue (chart_names same.program.scale) v value
+    → (v < length c.world.vals) × IsValueOf (datum c.world.vals v).sort value
 counter_input c same v value is fits given =
-    input_value c.program.scale c.world v value fits (subst (λ (x : CounterState). IsInputValue (chart_names x.program.scale) v value) (sym is) given)
+    input_value chart_tree (chart_names c.program.scale) c.world v value fits (input_of c same v value is given)
 
 -- after it the engine goes on
 pub counter_set : (t : Tree) (n : Names) (c same : CounterState) (v : ℕ) (value : Value) (w : World) → c ≡ same → IsCounter t n c
@@ -47,11 +52,11 @@ counter_set t n c same v value w is whole going given set =
     record {
       tree = whole.tree;
       names = whole.names;
-      fits = input_set_fits c.program.scale c.world w v value whole.fits (counter_input c same v value is whole.fits given) set;
+      fits = IsInputSet-fits chart_tree (chart_names c.program.scale) c.world w v value whole.fits (input_of c same v value is given) set;
       fresh = λ fresh. absurd cc;
     }
 
--- behind an answer an engine isn't new
+-- after an answer an engine isn't new
 pub never_fresh : (answer : Result (Unit {0}) Halt) → stage_after answer ≡ Fresh → ⊥
 never_fresh (Ok done) e = absurd cc
 never_fresh (Err halt) e = absurd cc

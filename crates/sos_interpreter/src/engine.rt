@@ -21,8 +21,7 @@ enum Phase {
 impl Phase {
     ghost use Rattle.std.specs.Prelude.{◌≡◌};
     ghost use Rattle.actions.specs.Engines.{stage_after};
-    ghost use Rattle.sos_interpreter.specs.Engine.{stage_of, EngineState, IsEngine, fresh_engine, Program, program_of};
-    ghost use Rattle.sos_rules.specs.Reactions.{Starts, Reacts};
+    ghost use Rattle.sos_interpreter.specs.Engine.{stage_of, EngineState, IsEngine, fresh_engine, Program, program_of, Starts, Reacts};
 
     /// The phase behind an answer.
     fn after(answer: &Result<(), Halt>) -> Phase

@@ -11,7 +11,6 @@ ghost use Rattle.sos_interpreter.specs.Charts.{IsState, IsLife, AreActions, IsFo
 ghost use Rattle.sos_interpreter.specs.Engine.{first_world};
 ghost use Rattle.sos_interpreter.specs.Gives.{Does};
 ghost use Rattle.sos_interpreter.specs.Views.{now_of, end_of, went_of, went_from, found_of};
-ghost use Rattle.sos_rules.specs.Reactions.{Starts, Reacts, Gives};
 ghost use Rattle.sos_rules.specs.Rules.{upto};
 ghost use Rattle.state_tree.specs.Chart.{life_of};
 ghost use Rattle.state_tree.specs.Kept.{chart_of};

@@ -7,7 +7,7 @@ use Rattle.actions.specs.World.{World}
 use Rattle.run_work.specs.Work.{Run, Ended, Faulted}
 use Rattle.sos_interpreter.specs.Gives.{Does}
 use Rattle.sos_interpreter.specs.Settled.{Settled, Continues}
-use Rattle.sos_rules.specs.Reactions.{Gives}
+use Rattle.sos_interpreter.specs.Gives.{Gives}
 
 pub err_through : {A A' B B' : Type 0} (v : A → B) (v' : A' → B') (m : ℕ → Run B) (m' : ℕ → Run B') (e : Halt) (w : World) → ((x : Fault) → Settled m (Faulted x w) → Settled m' (Faulted x w)) → Gives v m (Err e) w → Gives v' m' (Err e) w
 err_through v v' m m' (halts.Fault x) w h g = h x g

@@ -14,7 +14,7 @@ use Rattle.run_work.specs.Changes.{set_mark}
 use Rattle.run_work.specs.Work.{Run, Ended, Faulted, then_do, give, choose, nothing, if_some, End, Done, Cut, Now, deeper}
 use Rattle.sos_interpreter.proofs.Settling.{settled_on, settling, settled_next, settled_now, settled_is, settled_then, settled_fault, settled_true, settled_false, settled_some, settled_none}
 use Rattle.sos_interpreter.specs.Settled.{Settled}
-use Rattle.sos_rules.specs.Moves.{exit_children, enter_toward, enter_inside, after_default}
+use Rattle.sos_rules.specs.Moves.{exit_children, enter_toward, enter_inside, after_default, entered_in, default_search, remembered}
 use Rattle.sos_rules.specs.Parts.{Found, Fire, DeadEnd, No, Stop, Went, Stay, Out}
 use Rattle.sos_rules.specs.Processing.{from_child, after_outer, after_inner, go_on_inside, process_children}
 use Rattle.sos_rules.specs.Rules.{upto}
@@ -170,8 +170,8 @@ module _ (c : Chart) (b : Bounds) (now : Now) where
   pub enter_no : (s d : ℕ) (w : World) → can_mark c.tree s w.marks ≡ false → Settled (λ n. (upto c b n).enter s d now w) (Ended tt w)
   enter_no s d w e = settled_next (λ n. (upto c b n).enter s d now w) _ (settled_false _ _ _ w _ e (settled_now _))
 
-  module _ (s d : ℕ) (l : List Stmt) (w u : World) (e : l ≡ (node c s).entry) (can : can_mark c.tree s w.marks ≡ true) (m : u ≡ set_mark s true w) where
-    entry_of : (r : Run End) → Settled (λ n. (upto c b n).block (Bare s) l now u) r → Settled (λ n. (upto c b n).block (Bare s) (node c s).entry now (set_mark s true w)) r
+  module _ (s d : ℕ) (l : List Stmt) (w u : World) (e : l ≡ (node c s).entry) (can : can_mark c.tree s w.marks ≡ true) (m : u ≡ entered_in c s w) where
+    entry_of : (r : Run End) → Settled (λ n. (upto c b n).block (Bare s) l now u) r → Settled (λ n. (upto c b n).block (Bare s) (node c s).entry now (entered_in c s w)) r
     entry_of r h = subst (λ v. Settled (λ n. (upto c b n).block (Bare s) (node c s).entry now v) r) m (subst (λ l. Settled (λ n. (upto c b n).block (Bare s) l now u) r) e h)
 
     pub enter_fault : (v : World) (x : Fault) → Settled (λ n. (upto c b n).block (Bare s) l now u) (Faulted x v) → Settled (λ n. (upto c b n).enter s d now w) (Faulted x v)
@@ -211,11 +211,23 @@ module _ (c : Chart) (b : Bounds) (now : Now) where
     default_of : (r : Run Found) → Settled (λ n. (upto c b n).search (Bare s) l now w) r → Settled (λ n. (upto c b n).search (Bare s) (node c s).default now w) r
     default_of r h = subst (λ l. Settled (λ n. (upto c b n).search (Bare s) l now w) r) e h
 
-    pub defaults_fault : (u : World) (x : Fault) → Settled (λ n. (upto c b n).search (Bare s) l now w) (Faulted x u) → Settled (λ n. (upto c b n).defaults s now w) (Faulted x u)
-    defaults_fault u x h = settled_next (λ n. (upto c b n).defaults s now w) _ (settled_fault _ _ x u (default_of _ h))
+    pub default_fault : (u : World) (x : Fault) → Settled (λ n. (upto c b n).search (Bare s) l now w) (Faulted x u)
+        → Settled (λ n. default_search c (upto c b n) s now w) (Faulted x u)
+    default_fault u x h = settled_fault _ _ x u (default_of _ h)
 
-    pub defaults_after : (f : Found) (u : World) (r : Run (Unit {0})) → Settled (λ n. (upto c b n).search (Bare s) l now w) (Ended f u) → Settled (λ n. after_default c (upto c b n) s now f u) r → Settled (λ n. (upto c b n).defaults s now w) r
-    defaults_after f u r h k = settled_next (λ n. (upto c b n).defaults s now w) r (settled_then _ _ f u r (default_of _ h) k)
+    pub default_after : (f : Found) (u : World) (r : Run (Unit {0})) → Settled (λ n. (upto c b n).search (Bare s) l now w) (Ended f u)
+        → Settled (λ n. after_default c (upto c b n) s now f u) r → Settled (λ n. default_search c (upto c b n) s now w) r
+    default_after f u r h k = settled_then _ _ f u r (default_of _ h) k
+
+  pub defaults_search : (s : ℕ) (w : World) (r : Run (Unit {0})) → None ≡ remembered c s w
+      → Settled (λ n. default_search c (upto c b n) s now w) r → Settled (λ n. (upto c b n).defaults s now w) r
+  defaults_search s w r e h = settled_next (λ n. (upto c b n).defaults s now w) r
+      (settled_none (remembered c s w) (λ n. default_search c (upto c b n) s now) (λ n x. (upto c b n).enter x x now) w r (sym e) h)
+
+  pub defaults_return : (s x : ℕ) (w : World) (r : Run (Unit {0})) → Some x ≡ remembered c s w
+      → Settled (λ n. (upto c b n).enter x x now w) r → Settled (λ n. (upto c b n).defaults s now w) r
+  defaults_return s x w r e h = settled_next (λ n. (upto c b n).defaults s now w) r
+      (settled_some (remembered c s w) x (λ n. default_search c (upto c b n) s now) (λ n x. (upto c b n).enter x x now) w r (sym e) h)
 
   pub fired_fault : (s d : ℕ) (acts : List (List Stmt)) (w u : World) (x : Fault) → Settled (λ n. (upto c b n).play s acts now w) (Faulted x u) → Settled (λ n. after_default c (upto c b n) s now (Fire d acts) w) (Faulted x u)
   fired_fault s d acts w u x h = settled_fault _ _ x u h

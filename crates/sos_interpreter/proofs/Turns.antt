@@ -10,7 +10,8 @@ use Rattle.actions.specs.declared.expr.Stmt.{Stmt}
 use Rattle.actions.specs.Exprs as exprs
 use Rattle.actions.specs.Trees.{stmt_of}
 use Rattle.actions.specs.World.{World, Life, Bare}
-use Rattle.chart_runs.specs.Chart as rules
+use Rattle.state_tree.specs.Chart as rules
+use Rattle.state_tree.specs.Homes.{path_in}
 use Rattle.run_work.specs.Work.{Run, Ended, Faulted, End, Done, Cut, Now}
 use Rattle.sos_interpreter.proofs.Paths.{enter_each_end, enter_each_more, enter_each_fault, each_end, each_off, each_stay, each_fault, each_out, play_end, play_skip, play_pay_fault, play_fault, play_cut, play_more, block_end, block_more, block_cut, block_fault, exit_each_end, exit_each_more, exit_each_fault}
 use Rattle.sos_interpreter.specs.Settled.{Settled, Continues}
@@ -103,7 +104,7 @@ module _ (c : rules.Chart) (b : Bounds) (now : Now) (s : ℕ) where
     exit_turns_end e = leads.by _ (subst (λ l. Settled (λ n. (upto c b n).exit_each l now w) (Ended tt w)) (sym (back_none c.tree s o e)) (exit_each_end c b now w))
 
   module _ (d : ℕ) (o : Option ℕ) (w : World) (m : ℕ → Run (Unit {0})) (leads : Continues (λ n. (upto c b n).enter_each (children_from c.tree s o) d now w) m) where
-    module _ (x to : ℕ) (is : o ≡ Some x) (stands : Stands c.tree s o) (path : to ≡ rules.path_in c.tree x d) (u : World) where
+    module _ (x to : ℕ) (is : o ≡ Some x) (stands : Stands c.tree s o) (path : to ≡ path_in c.tree x d) (u : World) where
       pub enter_turn : (o' : Option ℕ) → o' ≡ next_sibling c.tree x → Settled (λ n. (upto c b n).enter x to now w) (Ended tt u) → Continues (λ n. (upto c b n).enter_each (children_from c.tree s o') d now u) m
       enter_turn o' e h = record { by = λ r q. leads.by r (subst (λ l. Settled (λ n. (upto c b n).enter_each l d now w) r) (sym (from_some c.tree s x o o' is stands e)) (enter_each_more c b now x to d _ w u r path h q)) }
 

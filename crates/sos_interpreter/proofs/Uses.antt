@@ -1,25 +1,36 @@
 -- The steps used never fall.
-use Rattle.std.proofs.Common.{◌≡◌, ℕ, ◌+◌, ◌<◌, ◌≤◌, List, Result, Ok, Err, refl, ap, ◌∙◌, subst, arith}
+use Rattle.std.proofs.Common.{◌≡◌, ℕ, ◌+◌, ◌<◌, ◌≤◌, List, Bool, true, false, Result, Ok, Err, refl, ap, ◌∙◌, subst, arith}
 use Rattle.flow_base.specs.declared.bounds.Bounds.{Bounds}
 use Rattle.flow_base.specs.declared.fault.Fault.{Fault}
 use Rattle.active_config.specs.Tree.{IsTree}
 use Rattle.actions.specs.Exprs.{Stmt}
 use Rattle.actions.specs.World.{World, Life}
-use Rattle.run_work.specs.Changes.{paid_in}
+use Rattle.run_work.specs.Changes.{paid_in, set_mark, keep_in}
 use Rattle.run_work.specs.Work.{Run, Ended, End, Now, change_or_fault}
-use Rattle.sos_interpreter.proofs.Keeps.{Finishes, ended, faulted, unfinished, Closed, upto_keep}
-use Rattle.sos_interpreter.proofs.Settles.{paid_ok, assigned_used}
+use Rattle.sos_rules.proofs.Keeps.{Finishes, ended, faulted, unfinished, Closed, upto_keep}
+use Rattle.sos_rules.proofs.Settles.{paid_ok, assigned_used}
 use Rattle.sos_interpreter.specs.Settled.{Settled, settled}
 use Rattle.sos_rules.specs.Rules.{upto}
 use Rattle.sos_rules.specs.Searches.{pay}
-use Rattle.state_tree.specs.Chart.{Chart}
+use Rattle.state_tree.specs.Chart.{Chart, is_remembered}
+use Rattle.sos_rules.specs.Moves.{keep_if, entered_in}
+
+kept_used : (c : Chart) (s : ℕ) (w : World) (h : Bool) → (keep_if h c.tree s (set_mark s true w)).used ≡ w.used
+unfolding keep_in
+kept_used c s w true = refl
+kept_used c s w false = refl
+
+-- entering a state costs nothing by itself
+entered_used : (c : Chart) (s : ℕ) (w : World) → (entered_in c s w).used ≡ w.used
+unfolding entered_in
+entered_used c s w = kept_used c s w (is_remembered c s)
 
 used_closed : (c : Chart) (b : Bounds) (k : ℕ) → Closed c b (λ v. k ≤ v.used)
 used_closed c b k = record {
   pays = λ w v e h. let f = (paid_ok b w v e).1 in omega arith;
   assigns = λ x e w v q h. let f = assigned_used x e w v q in omega arith;
   emits = λ e w h. h;
-  marks = λ s w can h. h;
+  marks = λ s w can h. let e = entered_used c s w in omega arith;
   clears = λ s w pos bare h. h;
 }
 

@@ -6,8 +6,21 @@ use Rattle.flow_base.specs.declared.fault.Fault.{Fault}
 use Rattle.flow_base.specs.declared.fault.Fault.TheVariants.{Steps}
 use Rattle.active_config.specs.declared.comp.Comp.{Comp}
 use Rattle.active_config.specs.Tree.{Tree, parent_of, comp_of}
-use Rattle.active_config.specs.Marks.{IsConsistent, is_on, can_mark, takes_child, parent_takes_child}
+use Rattle.active_config.specs.Marks.{Configuration, IsConsistent, is_on, can_mark, takes_child, parent_takes_child}
 use Rattle.std.specs.Prelude.{not, ◌&&◌}
+use Rattle.active_config.specs.declared.comp.Comp.TheVariants.{Or}
+use Rattle.active_config.specs.Marks.{is_last, last_of}
+use Rattle.std.specs.Prelude.{Option, IfSome}
+use Rattle.active_config.specs.Tree.{IsTree, state_count}
+use Rattle.state_tree.proofs.Trees.{child_is}
+use Rattle.std.specs.List.{find}
+use Rattle.std.specs.Option.{option_map_or}
+use Rattle.std.specs.Prelude.{IsSomeAnd, if◌then◌else◌}
+use Rattle.active_config.specs.Tree.{children_of}
+use Rattle.state_tree.specs.Chart.{Chart, node, is_or, has_history, is_remembered, may_return}
+use Rattle.run_work.specs.Changes.{set_mark, keep_in}
+use Rattle.sos_rules.specs.Moves.{entered_in, remembered}
+use Rattle.sos_rules.proofs.MarkedStates.{remembering_parent, history_or, entered_done}
 use Rattle.actions.specs.declared.expr.Value.{Value}
 use Rattle.actions.specs.Data.{Datum, HaveTheirSorts, datum, assigned, CanTake}
 use Rattle.actions.specs.Engines.{IsInputSet}
@@ -148,3 +161,50 @@ pub assign_did : (v : ℕ) (e : Expr) (w w' : World) (value : Value) (vals : Lis
 assign_did v e w w' value vals answer r same is q taken refused kept =
     subst (λ (x : World). Does {A = Unit {0}} (λ _. tt) (assign v e x) r (record w { vals = vals })) same
     (subst (λ r. Does {A = Unit {0}} (λ _. tt) (assign v e w) r (record w { vals = vals })) (sym is) (assign_does v e w value vals answer (sym q) taken refused kept))
+
+-- ---- history
+
+-- an OR has history where its node says so
+pub or_history : (c : Chart) (s : ℕ) → comp_of c.tree s ≡ Or → has_history c s ≡ (node c s).history
+unfolding has_history
+or_history c s e = ap (λ o. is_or o && (node c s).history) e
+
+-- a state that is no OR has none
+pub no_history : (c : Chart) (s : ℕ) (o : Comp) → is_or o ≡ false → comp_of c.tree s ≡ o → has_history c s ≡ false
+unfolding has_history
+no_history c s o none e = ap (λ o. is_or o && (node c s).history) e ∙ ap (λ b. b && (node c s).history) none
+
+-- a state is remembered where its parent has history
+pub remembered_by : (c : Chart) (s p : ℕ) → parent_of c.tree s ≡ Some p → is_remembered c s ≡ has_history c p
+unfolding is_remembered
+remembered_by c s p e = ap (λ o. option_map_or (has_history c) o false) e
+
+-- the root is not
+pub remembered_none : (c : Chart) (s : ℕ) → parent_of c.tree s ≡ None → is_remembered c s ≡ false
+unfolding is_remembered
+remembered_none c s e = ap (λ o. option_map_or (has_history c) o false) e
+
+-- a state without history remembers no child
+pub remembers_none : (c : Chart) (s : ℕ) (w : World) → has_history c s ≡ false → None ≡ remembered c s w
+unfolding may_return
+remembers_none c s w e = ap (λ b. find (λ x. is_last c.tree x w.marks) (if b then children_of c.tree s else [])) (sym e)
+
+-- a state whose parent has history has an OR as its parent
+pub remembering_or : (c : Chart) (s : ℕ) → is_remembered c s ≡ true → IsSomeAnd (parent_of c.tree s) (λ p. comp_of c.tree p ≡ Or)
+remembering_or c s h =
+    let i = remembering_parent c s h in
+    subst (λ o. IsSomeAnd o (λ p. comp_of c.tree p ≡ Or)) (sym i.1) (history_or c i.0 i.2)
+
+-- a state that is entered, and whether its parent remembers it
+pub entered_kept : (c : Chart) (s : ℕ) (w : World) → is_remembered c s ≡ true → entered_in c s w ≡ keep_in c.tree s (set_mark s true w)
+entered_kept c s w e = entered_done c s w true e
+
+pub entered_plain : (c : Chart) (s : ℕ) (w : World) → is_remembered c s ≡ false → entered_in c s w ≡ set_mark s true w
+entered_plain c s w e = entered_done c s w false e
+
+-- a child that is remembered is below, and a state
+pub last_is_below : (t : Tree) → IsTree t → (s : ℕ) (m : Configuration) → IsConsistent t m → (o : Option ℕ) → o ≡ last_of s m
+    → IfSome o (λ x. (s < x) × (x < state_count t))
+last_is_below t tree s m k None e = tt
+last_is_below t tree s m k (Some x) e =
+    let child = child_is t tree s x (k.lasts s x (sym e)).1 in (child.above, child.within)

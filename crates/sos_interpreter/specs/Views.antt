@@ -15,9 +15,9 @@ use Rattle.sos_interpreter.specs.declared.world.Life.{Life}
 use Rattle.sos_interpreter.specs.declared.world.Life.TheVariants as lives
 
 -- how long a piece of work goes on
-abbrev pub life_of : Life → worlds.Life
-life_of (lives.On s) = worlds.On s
-life_of (lives.Bare s) = worlds.Bare s
+abbrev pub life_seen : Life → worlds.Life
+life_seen (lives.On s) = worlds.On s
+life_seen (lives.Bare s) = worlds.Bare s
 
 -- the current event, and how deep it was sent
 abbrev pub now_of : Now → work.Now

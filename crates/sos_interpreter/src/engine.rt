@@ -21,7 +21,7 @@ enum Phase {
 impl Phase {
     ghost use Rattle.std.specs.Prelude.{◌≡◌};
     ghost use Rattle.actions.specs.Engines.{stage_after};
-    ghost use Rattle.sos_interpreter.specs.Engine.{stage_of, EngineState, IsEngine, fresh_engine, Program, program_of, Starts, Reacts};
+    ghost use Rattle.sos_interpreter.specs.Engine.{stage_of};
 
     /// The phase behind an answer.
     fn after(answer: &Result<(), Halt>) -> Phase
@@ -48,6 +48,7 @@ pub struct Rules {
 impl Model for Rules {
     ghost use Rattle.std.specs.Coded.{codes};
     ghost use Rattle.actions.specs.contracts.expr.Expr as e;
+    ghost use Rattle.sos_interpreter.specs.Engine.{stage_of, EngineState, IsEngine};
 
     ghost Value = { EngineState };
 
@@ -60,6 +61,7 @@ impl Model for Rules {
 
 impl Rules {
     ghost use Rattle.std.specs.Prelude.{◌≡◌, IfOk};
+    ghost use Rattle.sos_interpreter.specs.Engine.{fresh_engine};
 
     /// An engine before its start.
     pub fn make(alloc: Global, chart: Chart, bounds: Bounds) -> Result<Rules, Memory>
@@ -78,6 +80,7 @@ impl Rules {
 
 impl Engine for Rules {
     ghost use Rattle.std.specs.Prelude.{◌≡◌, false};
+    ghost use Rattle.sos_interpreter.specs.Engine.{Program, program_of, Starts, Reacts};
     ghost use Rattle.sos_interpreter.specs.EngineLaws as laws;
 
     ghost Program = { Program };

@@ -7,17 +7,17 @@ ghost use Rattle.state_tree.specs.Homes as homes;
 ghost use Rattle.sos_rules.specs.Searches as searches;
 ghost use Rattle.sos_rules.specs.Moves as moves;
 ghost use Rattle.sos_rules.specs.Processing as processing;
-ghost use Rattle.sos_interpreter.specs.Charts.{IsState, IsLife, AreActions, IsFound, FitsChart};
-ghost use Rattle.sos_interpreter.specs.Engine.{first_world};
-ghost use Rattle.sos_interpreter.specs.Gives.{Does};
-ghost use Rattle.sos_interpreter.specs.Views.{now_of, end_of, went_of, went_from, found_of};
+ghost use Rattle.sos_interpreter.specs.Charts.{IsState, IsLife, FitsChart};
+ghost use Rattle.sos_rules.specs.Finds.{AreActions, IsFound};
+ghost use Rattle.sos_interpreter.specs.Engine.{first_world, Starts, Reacts};
+ghost use Rattle.sos_interpreter.specs.Gives.{Does, Gives};
+ghost use Rattle.sos_interpreter.specs.Views.{life_seen, now_of, end_of, went_of, went_from, found_of};
 ghost use Rattle.sos_rules.specs.Rules.{upto};
-ghost use Rattle.state_tree.specs.Chart.{life_of};
 ghost use Rattle.state_tree.specs.Kept.{chart_of};
 ghost use Rattle.state_tree.specs.Valid.{IsStmt, IsTrans, AreStmts, AreTrans};
 ghost use Rattle.state_tree.specs.Views.{block_seen, list_seen, trans_seen};
 ghost use Rattle.run_work.specs.Work as work;
-ghost use Rattle.actions.specs.Engines.{AnswersBy};
+ghost use Rattle.actions.specs.Engines.{AnswersBy, fault_of, IsFaultOf};
 
 use crate::world::{Life, LiveWorld};
 use actions::{Event, Halt, Stmt};
@@ -115,7 +115,7 @@ fn event_fits(trigger: Option<u32>, event: Event) -> bool
 
 /// Statements in order, until one is cut.
 #[cycle(rules)]
-fn block(
+fn run_block(
     alloc: Global,
     chart: &Chart,
     bounds: Bounds,
@@ -125,9 +125,9 @@ fn block(
     now: Now,
 ) -> Result<End, Halt>
     requires fits { FitsChart (chart_of chart.now) world.old }
-    requires life { IsLife (chart_of chart.now) (life_of life) }
+    requires life { IsLife (chart_of chart.now) (life_seen life) }
     requires stmts { AreStmts (chart_of chart.now) (block_seen stmts.now) }
-    ensures gives { Gives (λ e. end_of e) (λ n. (upto (chart_of chart.now) bounds n).block (life_of life) (block_seen stmts.now) (now_of now) world.old) result world.new }
+    ensures gives { Gives (λ e. end_of e) (λ n. (upto (chart_of chart.now) bounds n).block (life_seen life) (block_seen stmts.now) (now_of now) world.old) result world.new }
     ensures fits { FitsChart (chart_of chart.now) world.new }
 {
     for stmt in stmts {
@@ -151,9 +151,9 @@ fn statement(
     now: Now,
 ) -> Result<End, Halt>
     requires fits { FitsChart (chart_of chart.now) world.old }
-    requires life { IsLife (chart_of chart.now) (life_of life) }
+    requires life { IsLife (chart_of chart.now) (life_seen life) }
     requires stmt { IsStmt (chart_of chart.now) (stmt_of stmt.now) }
-    ensures gives { Gives (λ e. end_of e) (λ n. searches.statement (chart_of chart.now) bounds (upto (chart_of chart.now) bounds n) (life_of life) (stmt_of stmt.now) (now_of now) world.old) result world.new }
+    ensures gives { Gives (λ e. end_of e) (λ n. searches.statement (chart_of chart.now) bounds (upto (chart_of chart.now) bounds n) (life_seen life) (stmt_of stmt.now) (now_of now) world.old) result world.new }
     ensures fits { FitsChart (chart_of chart.now) world.new }
 {
     match stmt {
@@ -180,8 +180,8 @@ fn statement(
 /// Whether a block goes on.
 fn alive(chart: &Chart, world: &LiveWorld, life: Life) -> End
     requires fits { FitsChart (chart_of chart.now) world.now }
-    requires life { IsLife (chart_of chart.now) (life_of life) }
-    ensures { searches.while_alive (chart_of chart.now).tree (life_of life) world.now ≡ work.Ended (end_of result) world.now }
+    requires life { IsLife (chart_of chart.now) (life_seen life) }
+    ensures { searches.while_alive (chart_of chart.now).tree (life_seen life) world.now ≡ work.Ended (end_of result) world.now }
 {
     if world.lives(chart, life) {
         End::Done
@@ -251,7 +251,7 @@ fn exit(
     if !world.bare(chart, s) {
         return Ok(());
     }
-    match block(
+    match run_block(
         alloc,
         chart,
         bounds,
@@ -356,8 +356,8 @@ fn enter(
     if !world.can_mark(chart, s) {
         return Ok(());
     }
-    world.mark(chart, s);
-    match block(
+    world.enter(chart, s);
+    match run_block(
         alloc,
         chart,
         bounds,
@@ -466,7 +466,7 @@ fn enter_child(
     }
 }
 
-/// The default search of a state, and what it finds.
+/// A remembered child is entered by default; where there is none, the default list decides.
 #[cycle(rules)]
 fn defaults(
     alloc: Global,
@@ -479,6 +479,27 @@ fn defaults(
     requires fits { FitsChart (chart_of chart.now) world.old }
     requires state { IsState (chart_of chart.now) s }
     ensures gives { Gives (λ _. tt) (λ n. (upto (chart_of chart.now) bounds n).defaults s (now_of now) world.old) result world.new }
+    ensures fits { FitsChart (chart_of chart.now) world.new }
+{
+    match world.remembered(chart, s) {
+        Some(x) => enter(alloc, chart, bounds, world, x, x, now),
+        None => default_search(alloc, chart, bounds, world, s, now),
+    }
+}
+
+/// The default search of a state, and what it finds.
+#[cycle(rules)]
+fn default_search(
+    alloc: Global,
+    chart: &Chart,
+    bounds: Bounds,
+    world: &mut LiveWorld,
+    s: u32,
+    now: Now,
+) -> Result<(), Halt>
+    requires fits { FitsChart (chart_of chart.now) world.old }
+    requires state { IsState (chart_of chart.now) s }
+    ensures gives { Gives (λ _. tt) (λ n. moves.default_search (chart_of chart.now) (upto (chart_of chart.now) bounds n) s (now_of now) world.old) result world.new }
     ensures fits { FitsChart (chart_of chart.now) world.new }
 {
     match search(
@@ -522,7 +543,7 @@ fn play(
             continue;
         }
         world.pay(chart, bounds)?;
-        match block(alloc, chart, bounds, world, Life::Bare(s), action, now)? {
+        match run_block(alloc, chart, bounds, world, Life::Bare(s), action, now)? {
             End::Cut => return Ok(End::Cut),
             End::Done => {}
         }
@@ -614,7 +635,7 @@ fn go_on_inside(
     ensures gives { Gives (λ r. went_of r) (λ n. processing.go_on_inside (chart_of chart.now) (upto (chart_of chart.now) bounds n) s (now_of now) world.old) result world.new }
     ensures fits { FitsChart (chart_of chart.now) world.new }
 {
-    match block(
+    match run_block(
         alloc,
         chart,
         bounds,
@@ -724,9 +745,9 @@ fn search<'a>(
     now: Now,
 ) -> Result<Found<'a>, Halt>
     requires fits { FitsChart (chart_of chart.now) world.old }
-    requires life { IsLife (chart_of chart.now) (life_of life) }
+    requires life { IsLife (chart_of chart.now) (life_seen life) }
     requires list { AreTrans (chart_of chart.now) (list_seen list.now) }
-    ensures gives { Gives (λ f. found_of f) (λ n. (upto (chart_of chart.now) bounds n).search (life_of life) (list_seen list.now) (now_of now) world.old) result world.new }
+    ensures gives { Gives (λ f. found_of f) (λ n. (upto (chart_of chart.now) bounds n).search (life_seen life) (list_seen list.now) (now_of now) world.old) result world.new }
     ensures fits { FitsChart (chart_of chart.now) world.new }
     ensures found { IfOk result (λ f. IsFound (chart_of chart.now) (found_of f)) }
 {
@@ -740,7 +761,7 @@ fn search<'a>(
             },
             Some((t, others)) => {
                 if enabled(chart, world, t, now)? {
-                    match block(alloc, chart, bounds, world, life, t.cond.items(), now)? {
+                    match run_block(alloc, chart, bounds, world, life, t.cond.items(), now)? {
                         End::Cut => return Ok(Found::Stop),
                         End::Done => {}
                     }
@@ -812,6 +833,7 @@ pub(crate) fn start(
     requires fits { FitsChart (chart_of chart.now) world.old }
     ensures defined { AnswersBy (Starts (record { chart = chart_of chart.now; bounds = bounds }) world.new) result }
     ensures fits { FitsChart (chart_of chart.now) world.new }
+    ensures fault { IsFaultOf (chart_of chart.now).names (fault_of result) }
 {
     let root = chart.root();
     let now = Now {
@@ -832,6 +854,7 @@ pub(crate) fn react(
     requires fits { FitsChart (chart_of chart.now) world.old }
     ensures defined { AnswersBy (Reacts (record { chart = chart_of chart.now; bounds = bounds }) world.old event world.new) result }
     ensures fits { FitsChart (chart_of chart.now) world.new }
+    ensures fault { IsFaultOf (chart_of chart.now).names (fault_of result) }
 {
     world.begin(chart);
     let root = chart.root();

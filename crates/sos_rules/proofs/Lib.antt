@@ -5,3 +5,4 @@ pub mod Settles
 pub mod Defaults
 pub mod Memory
 pub mod Reactions
+pub mod Faults

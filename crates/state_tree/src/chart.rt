@@ -46,9 +46,9 @@ impl Model for Chart {
 }
 
 impl Chart {
-    ghost use Rattle.std.specs.Prelude.{◌≡◌, ◌<◌, ◌≤◌, length, IfSome};
+    ghost use Rattle.std.specs.Prelude.{◌≡◌, ◌<◌, ◌≤◌, ◌^◌, length, IfSome};
     ghost use Rattle.active_config.specs.Tree as trees;
-    ghost use Rattle.active_config.specs.Tree.{state_count, comp_of, parent_of};
+    ghost use Rattle.active_config.specs.Tree.{IsTree, state_count, comp_of, parent_of};
     ghost use Rattle.state_tree.specs.Chart as spec;
     ghost use Rattle.state_tree.specs.Homes as spec_homes;
     ghost use Rattle.state_tree.specs.Kept.{chart_of};
@@ -100,6 +100,7 @@ impl Chart {
     pub fn root(&self) -> u32
         ensures root { result ≡ 0 }
         ensures within { result < state_count (chart_of self.now).tree }
+        ensures valid { IsValid (chart_of self.now) }
     {
         let _ = self.shape();
         0
@@ -127,6 +128,7 @@ impl Chart {
         requires { state < state_count (chart_of self.now).tree }
         ensures child { result ≡ trees.first_child (chart_of self.now).tree state }
         ensures after { IfSome result (λ x. (state < x) × (x < state_count (chart_of self.now).tree)) }
+        ensures tree { IsTree (chart_of self.now).tree }
     {
         self.shape().first_child(state)
     }
@@ -136,6 +138,7 @@ impl Chart {
         requires { state < state_count (chart_of self.now).tree }
         ensures child { result ≡ trees.last_child (chart_of self.now).tree state }
         ensures after { IfSome result (λ x. (state < x) × (x < state_count (chart_of self.now).tree)) }
+        ensures tree { IsTree (chart_of self.now).tree }
     {
         self.shape().last_child(state)
     }
@@ -145,6 +148,7 @@ impl Chart {
         requires { state < state_count (chart_of self.now).tree }
         ensures sibling { result ≡ trees.next_sibling (chart_of self.now).tree state }
         ensures after { IfSome result (λ x. (state < x) × (x < state_count (chart_of self.now).tree)) }
+        ensures tree { IsTree (chart_of self.now).tree }
     {
         self.shape().next_sibling(state)
     }
@@ -154,6 +158,7 @@ impl Chart {
         requires { state < state_count (chart_of self.now).tree }
         ensures sibling { result ≡ trees.prev_sibling (chart_of self.now).tree state }
         ensures before { IfSome result (λ x. x < state) }
+        ensures tree { IsTree (chart_of self.now).tree }
     {
         self.shape().prev_sibling(state)
     }
@@ -230,6 +235,8 @@ impl Chart {
         requires { junction < spec.junction_count (chart_of self.now) }
         ensures list { list_seen result.now ≡ spec.junction (chart_of self.now) junction }
         ensures valid { AreTrans (chart_of self.now) (list_seen result.now) }
+        ensures short { length result.now < 2 ^ 64 }
+        ensures tree { IsTree (chart_of self.now).tree }
     {
         &self.junctions[junction as usize]
     }

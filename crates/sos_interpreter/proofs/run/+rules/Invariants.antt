@@ -5,10 +5,9 @@ use Rattle.sos_interpreter.proofs.Measure.{rank_of}
 use Rattle.sos_interpreter.proofs.Places.{Leads}
 use Rattle.sos_interpreter.specs.Charts.{FitsChart}
 use Rattle.sos_interpreter.specs.Settled.{Continues}
-use Rattle.sos_interpreter.specs.Views.{now_of}
+use Rattle.sos_interpreter.specs.Views.{life_seen, now_of}
 use Rattle.sos_rules.specs.Rules.{upto}
 use Rattle.state_tree.proofs.Walks.{Stands, ahead, behind}
-use Rattle.state_tree.specs.Chart.{life_of}
 use Rattle.state_tree.specs.Kept.{chart_of}
 use Rattle.state_tree.specs.Valid.{AreTrans, AreStmts}
 use Rattle.state_tree.specs.Views.{block_seen, list_seen}
@@ -20,8 +19,8 @@ decreases-send l = let n = state_count (chart_of l.chart.now).tree in rank_of (l
 abbrev pub decreases-statement : goal.decreases-statement
 decreases-statement l = let n = state_count (chart_of l.chart.now).tree in rank_of (l.bounds.depth - l.now.depth) n (1)
 
-abbrev pub decreases-block : goal.decreases-block
-decreases-block l = let n = state_count (chart_of l.chart.now).tree in rank_of (l.bounds.depth - l.now.depth) n (2)
+abbrev pub decreases-run_block : goal.decreases-run_block
+decreases-run_block l = let n = state_count (chart_of l.chart.now).tree in rank_of (l.bounds.depth - l.now.depth) n (2)
 
 abbrev pub decreases-search : goal.decreases-search
 decreases-search l = let n = state_count (chart_of l.chart.now).tree in rank_of (l.bounds.depth - l.now.depth) n (3)
@@ -42,43 +41,46 @@ abbrev pub decreases-exit_all : goal.decreases-exit_all
 decreases-exit_all l = let n = state_count (chart_of l.chart.now).tree in rank_of (l.bounds.depth - l.now.depth) n (3 * (n - l.s) + 4)
 
 abbrev pub decreases-enter : goal.decreases-enter
-decreases-enter l = let n = state_count (chart_of l.chart.now).tree in rank_of (l.bounds.depth - l.now.depth) n (5 * (n - l.s) + 8)
+decreases-enter l = let n = state_count (chart_of l.chart.now).tree in rank_of (l.bounds.depth - l.now.depth) n (6 * (n - l.s) + 9)
 
 abbrev pub decreases-enter_inside : goal.decreases-enter_inside
-decreases-enter_inside l = let n = state_count (chart_of l.chart.now).tree in rank_of (l.bounds.depth - l.now.depth) n (5 * (n - l.s) + 7)
+decreases-enter_inside l = let n = state_count (chart_of l.chart.now).tree in rank_of (l.bounds.depth - l.now.depth) n (6 * (n - l.s) + 8)
 
 abbrev pub decreases-enter_toward : goal.decreases-enter_toward
-decreases-enter_toward l = let n = state_count (chart_of l.chart.now).tree in rank_of (l.bounds.depth - l.now.depth) n (5 * (n - l.s) + 6)
+decreases-enter_toward l = let n = state_count (chart_of l.chart.now).tree in rank_of (l.bounds.depth - l.now.depth) n (6 * (n - l.s) + 7)
 
 abbrev pub decreases-enter_all : goal.decreases-enter_all
-decreases-enter_all l = let n = state_count (chart_of l.chart.now).tree in rank_of (l.bounds.depth - l.now.depth) n (5 * (n - l.s) + 6)
+decreases-enter_all l = let n = state_count (chart_of l.chart.now).tree in rank_of (l.bounds.depth - l.now.depth) n (6 * (n - l.s) + 7)
 
 abbrev pub decreases-defaults : goal.decreases-defaults
-decreases-defaults l = let n = state_count (chart_of l.chart.now).tree in rank_of (l.bounds.depth - l.now.depth) n (5 * (n - l.s) + 5)
+decreases-defaults l = let n = state_count (chart_of l.chart.now).tree in rank_of (l.bounds.depth - l.now.depth) n (6 * (n - l.s) + 6)
+
+abbrev pub decreases-default_search : goal.decreases-default_search
+decreases-default_search l = let n = state_count (chart_of l.chart.now).tree in rank_of (l.bounds.depth - l.now.depth) n (6 * (n - l.s) + 5)
 
 abbrev pub decreases-enter_child : goal.decreases-enter_child
-decreases-enter_child l = let n = state_count (chart_of l.chart.now).tree in rank_of (l.bounds.depth - l.now.depth) n (5 * (n - l.s) + 4)
+decreases-enter_child l = let n = state_count (chart_of l.chart.now).tree in rank_of (l.bounds.depth - l.now.depth) n (6 * (n - l.s) + 4)
 
 abbrev pub decreases-take : goal.decreases-take
-decreases-take l = let n = state_count (chart_of l.chart.now).tree in rank_of (l.bounds.depth - l.now.depth) n (5 * n + 9)
+decreases-take l = let n = state_count (chart_of l.chart.now).tree in rank_of (l.bounds.depth - l.now.depth) n (6 * n + 10)
 
 abbrev pub decreases-process : goal.decreases-process
-decreases-process l = let n = state_count (chart_of l.chart.now).tree in rank_of (l.bounds.depth - l.now.depth) n (5 * n + 4 * (n - l.s) + 13)
+decreases-process l = let n = state_count (chart_of l.chart.now).tree in rank_of (l.bounds.depth - l.now.depth) n (6 * n + 4 * (n - l.s) + 14)
 
 abbrev pub decreases-go_on_inside : goal.decreases-go_on_inside
-decreases-go_on_inside l = let n = state_count (chart_of l.chart.now).tree in rank_of (l.bounds.depth - l.now.depth) n (5 * n + 4 * (n - l.s) + 12)
+decreases-go_on_inside l = let n = state_count (chart_of l.chart.now).tree in rank_of (l.bounds.depth - l.now.depth) n (6 * n + 4 * (n - l.s) + 13)
 
 abbrev pub decreases-process_children : goal.decreases-process_children
-decreases-process_children l = let n = state_count (chart_of l.chart.now).tree in rank_of (l.bounds.depth - l.now.depth) n (5 * n + 4 * (n - l.s) + 11)
+decreases-process_children l = let n = state_count (chart_of l.chart.now).tree in rank_of (l.bounds.depth - l.now.depth) n (6 * n + 4 * (n - l.s) + 12)
 
 abbrev pub decreases-process_all : goal.decreases-process_all
-decreases-process_all l = let n = state_count (chart_of l.chart.now).tree in rank_of (l.bounds.depth - l.now.depth) n (5 * n + 4 * (n - l.s) + 10)
+decreases-process_all l = let n = state_count (chart_of l.chart.now).tree in rank_of (l.bounds.depth - l.now.depth) n (6 * n + 4 * (n - l.s) + 11)
 
-abbrev pub invariant-block-loop-stmt : goal.invariant-block-loop-stmt
-invariant-block-loop-stmt l = record {
+abbrev pub invariant-run_block-loop-stmt : goal.invariant-run_block-loop-stmt
+invariant-run_block-loop-stmt l = record {
   goes : Continues
-      (λ n. (upto (chart_of l.chart) l.bounds n).block (life_of l.life) (block_seen (drop l.stmt-index l.stmts)) (now_of l.now) l.world)
-      (λ n. (upto (chart_of l.chart) l.bounds n).block (life_of l.life) (block_seen l.stmts) (now_of l.now) l.fn.world);
+      (λ n. (upto (chart_of l.chart) l.bounds n).block (life_seen l.life) (block_seen (drop l.stmt-index l.stmts)) (now_of l.now) l.world)
+      (λ n. (upto (chart_of l.chart) l.bounds n).block (life_seen l.life) (block_seen l.stmts) (now_of l.now) l.fn.world);
   fits : FitsChart (chart_of l.chart) l.world;
 }
 
@@ -128,7 +130,7 @@ decreases-process_all-loop-next l = ahead (chart_of l.chart).tree l.next
 
 abbrev pub invariant-search-loop-places : goal.invariant-search-loop-places
 invariant-search-loop-places l = record {
-  leads : Leads (chart_of l.chart) l.bounds (life_of l.life) (now_of l.now) l.places.items (list_seen l.rest) l.world (list_seen l.list) l.fn.world;
+  leads : Leads (chart_of l.chart) l.bounds (life_seen l.life) (now_of l.now) l.places.items (list_seen l.rest) l.world (list_seen l.list) l.fn.world;
   fits : FitsChart (chart_of l.chart) l.world;
   rest : AreTrans (chart_of l.chart) (list_seen l.rest);
   rests : AllByRecursion (λ p. AreTrans (chart_of l.chart) (list_seen p.rest.now)) l.places.items;

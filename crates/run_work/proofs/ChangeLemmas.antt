@@ -10,7 +10,7 @@ use Rattle.actions.specs.Data.{Datum, assigned}
 use Rattle.actions.specs.Exprs.{Expr}
 use Rattle.actions.specs.Values.{Valued, value_of}
 use Rattle.actions.specs.World.{World}
-use Rattle.run_work.specs.Changes.{paid_in, with_data, assigned_value, assigned_in, set_mark, mark_in, clear_in, keep_in}
+use Rattle.run_work.specs.Changes.{paid_in, with_data, assigned_value, assigned_in, set_mark, mark_in, clear_in}
 
 -- where it is a world, that world has the marks of w
 abbrev pub KeepsMarks : World → Result World Fault → Type 0

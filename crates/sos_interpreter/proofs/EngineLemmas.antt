@@ -73,7 +73,7 @@ engine_set e same v value w is whole going given' set =
     let running : e.stage ≡ Running = ap (λ (x : EngineState). x.stage) is ∙ going in
     record {
       fits = IsInputSet-fits (chart_of e.chart).tree (chart_of e.chart).names e.world w v value whole.fits
-      (input_of e same v value is given') set;
+          (input_of e same v value is given') set;
       fresh = λ fresh. absurd cc;
     }
 

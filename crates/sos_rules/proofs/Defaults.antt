@@ -88,12 +88,14 @@ closes_goes good (t ∷ []) h leads = (h.0, h.1, into t.dest refl)
     into : (d : Dest) → t.dest ≡ d → LeadsInto good d
     into (State s) e = tt
     into (Junction j) e = leads j (record { trans = t; within = (0, omega arith, refl); leads = e })
-closes_goes good (t ∷ u ∷ ts) h leads =
-    (into t.dest refl, closes_goes good (u ∷ ts) h (λ j l. leads j (record {
-      trans = l.trans;
-      within = (suc l.within.0, omega (arith, l.within.1), l.within.2);
-      leads = l.leads;
-    })))
+closes_goes good (t ∷ u ∷ ts) h leads = (
+  into t.dest refl,
+  closes_goes good (u ∷ ts) h (λ j l. leads j (record {
+    trans = l.trans;
+    within = (suc l.within.0, omega (arith, l.within.1), l.within.2);
+    leads = l.leads;
+  })),
+)
   where
     into : (d : Dest) → t.dest ≡ d → LeadsInto good d
     into (State s) e = tt

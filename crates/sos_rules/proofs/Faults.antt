@@ -10,7 +10,7 @@ use Rattle.fixed_point.specs.declared.quotient.Zero.{Zero}
 use Rattle.fixed_point.specs.Numbers.{quotient_of}
 use Rattle.active_config.specs.declared.comp.Comp.{Comp}
 use Rattle.active_config.specs.declared.comp.Comp.TheVariants.{Leaf, Or, And}
-use Rattle.active_config.specs.Tree.{state_count, comp_of}
+use Rattle.active_config.specs.Tree.{comp_of}
 use Rattle.active_config.specs.Marks.{is_on, is_bare, can_mark, active_child}
 use Rattle.actions.specs.declared.event.Event.{Event}
 use Rattle.actions.specs.declared.event.Event.TheVariants.{Start}

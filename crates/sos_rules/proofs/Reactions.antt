@@ -1,9 +1,8 @@
 -- The rules give exactly one start and one reaction, and what these keep.
-use Rattle.std.proofs.Common.{◌≡◌, ◌≢◌, ℕ, zero, suc, ◌≤◌, max, Option, Some, None, true, false, refl, sym, ap, ◌∙◌, subst, arith}
-use Rattle.std.proofs.lemmas.List.{get_or-replicate}
+use Rattle.std.proofs.Common.{◌≡◌, ◌≢◌, ℕ, zero, suc, ◌≤◌, max, Some, None, true, false, sym, ap, ◌∙◌, subst, arith}
 use Rattle.flow_base.specs.declared.bounds.Bounds.{Bounds}
 use Rattle.active_config.specs.Marks.{is_on, can_mark, no_marks, IsConsistent}
-use Rattle.active_config.specs.Tree.{IsTree, state_count, comp_of}
+use Rattle.active_config.specs.Tree.{IsTree, comp_of}
 use Rattle.active_config.proofs.MarksLemmas.{is_on-with_mark_same, is_on-with_mark_other, can_mark_off, no_marks_consistent, none_on, none_last}
 use Rattle.actions.specs.declared.event.Event.{Event}
 use Rattle.actions.specs.declared.event.Event.TheVariants.{Start}
@@ -15,7 +14,7 @@ use Rattle.state_tree.specs.Chart.{Chart, node}
 use Rattle.sos_rules.specs.Memory.{Remembers}
 use Rattle.sos_rules.specs.Moves.{entered_in, enter_rule, enter_inside}
 use Rattle.sos_rules.specs.Parts.{Parts}
-use Rattle.sos_rules.specs.Reactions.{moment_of, Gives, from_outside, start_upto, react_upto, Starts, Reacts, HasOne, IsRunning}
+use Rattle.sos_rules.specs.Reactions.{moment_of, Gives, from_outside, start_upto, react_upto, HasOne, IsRunning}
 use Rattle.sos_rules.specs.Rules.{upto}
 use Rattle.sos_rules.proofs.Extends.{Extends, later, same, upto_below}
 use Rattle.sos_rules.proofs.Keeps.{Finishes, ended, faulted, unfinished, Closed, Keeps, Consistent, consistent_closed, upto_keep, then_finishes, choose_finishes, if_done_finishes, enter_inside_finishes}
@@ -93,7 +92,7 @@ running_closed c b =
       marks = λ s w can h. record {
         consistent = k.marks s w can h.consistent;
         root = let ne : 0 ≢ s = λ e. absurd (let off = can_mark_off c.tree s w.marks can in let on = ap (λ x. is_on x w.marks) e in let root = h.root in cc) in
-        entered_on c s 0 w ∙ is_on-with_mark_other s 0 true w.marks ne ∙ h.root;
+            entered_on c s 0 w ∙ is_on-with_mark_other s 0 true w.marks ne ∙ h.root;
       };
       clears = λ s w pos bare h. record {
         consistent = k.clears s w pos bare h.consistent;

@@ -24,8 +24,7 @@ pub fn one_result()
         → HasOne (λ (m : Moment). Starts c b m.world m.fault) }
     ensures reaction { (c : Chart) (b : Bounds) (w : World) (e : Event) → IsValid c
         → HasOne (λ (m : Moment). Reacts c b w e m.world m.fault) }
-{
-}
+{}
 
 /// After the start the active states are consistent and the root is active, and after an event they
 /// are where they were so before it; also where the outcome is a fault.
@@ -34,8 +33,7 @@ pub fn stays_consistent()
         → Starts c b w f → IsRunning c w }
     ensures reaction { (c : Chart) (b : Bounds) (w v : World) (e : Event) (f : Option Fault) → IsValid c
         → IsRunning c w → Reacts c b w e v f → IsRunning c v }
-{
-}
+{}
 
 /// After the start an OR with history remembers its active child, and no other state remembers one;
 /// and so it is after an event where it was so before it.
@@ -44,8 +42,7 @@ pub fn remembers_the_active_child()
         → Starts c b w f → Remembers c w.marks }
     ensures reaction { (c : Chart) (b : Bounds) (w v : World) (e : Event) (f : Option Fault) → IsValid c
         → Remembers c w.marks → Reacts c b w e v f → Remembers c v.marks }
-{
-}
+{}
 
 /// The default list of an OR always finds a state, or is stopped: a search of it never ends at an
 /// empty junction and never finds nothing, whatever the current event is.
@@ -53,5 +50,4 @@ pub fn default_finds()
     ensures { (c : Chart) (b : Bounds) (height s : ℕ) (now : Now) (w : World) → IsValid c
         → s < state_count c.tree → comp_of c.tree s ≡ Or
         → Finds ((upto c b height).search (Bare s) (list_of c s Default) now w) }
-{
-}
+{}

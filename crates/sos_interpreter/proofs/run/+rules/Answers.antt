@@ -3,7 +3,7 @@ use Rattle.std.specs.Prelude.{nat_le, ◌==◌}
 use Rattle.std.specs.List.{AllByRecursion}
 use Rattle.std.proofs.lemmas.Bool.Decides.{nat_tests}
 use Rattle.std.proofs.lemmas.Result.{err_from_is_err_and}
-use Rattle.active_config.specs.Tree.{comp_of, children_of, children_from, children_back_from, state_count}
+use Rattle.active_config.specs.Tree.{comp_of, children_of, children_from, children_back_from}
 use Rattle.active_config.specs.Marks.{is_on, is_bare, can_mark}
 use Rattle.active_config.proofs.SiblingLemmas.{children_of-from, children_of-back}
 use Rattle.actions.specs.declared.event.Event.TheVariants.{Named}

@@ -1,7 +1,7 @@
-use Rattle.std.proofs.Common.{◌≡◌, Some, true, ap, ◌∙◌, sym, subst}
+use Rattle.std.proofs.Common.{◌≡◌, true, ap, ◌∙◌, sym, subst}
 use Rattle.std.specs.Prelude.{IsSomeAnd}
 use Rattle.active_config.specs.declared.comp.Comp.TheVariants.{Or}
-use Rattle.active_config.specs.Marks.{Configuration, with_mark, with_last}
+use Rattle.active_config.specs.Marks.{Configuration, with_last}
 use Rattle.active_config.specs.Tree.{Tree, parent_of, comp_of}
 use Rattle.actions.specs.World.{World}
 use Rattle.run_work.specs.Changes.{set_mark, keep_in}

@@ -1,5 +1,4 @@
-use Rattle.std.proofs.Common.{◌≡◌, ℕ, ap, ◌∙◌, sym, subst}
-use Rattle.active_config.specs.declared.comp.Comp.TheVariants.{Or}
+use Rattle.std.proofs.Common.{ap, ◌∙◌, sym}
 use Rattle.active_config.specs.Marks.{last_of}
 use Rattle.active_config.specs.Tree.{Tree, comp_of}
 use Rattle.actions.specs.World.{World}

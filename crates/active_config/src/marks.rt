@@ -59,10 +59,9 @@ impl Marks {
         self.on(state) && self.first_active(shape, state).is_none()
     }
 
-    /// The active child of an OR, if there is one.
+    /// The first active child of a state, if there is one. An OR has at most one.
     pub fn active_child(&self, shape: &Shape, state: u32) -> Option<u32>
         requires state { state < state_count shape.now }
-        requires or { comp_of shape.now state ≡ Or }
         requires consistent { spec.IsConsistent shape.now self.now }
         ensures child { result ≡ spec.active_child shape.now state self.now }
         ensures after { IfSome result (λ child. (state < child) × (child < state_count shape.now)) }

@@ -1,0 +1,9 @@
+pub mod Settling
+pub mod Uses
+pub mod Paths
+pub mod Halts
+pub mod Measure
+pub mod Worlds
+pub mod Turns
+pub mod Places
+pub mod EngineLemmas

@@ -1,0 +1,56 @@
+-- What an engine of this crate runs, and what it is.
+use Rattle.std.specs.Prelude.{◌≡◌, Option}
+use Rattle.flow_base.specs.declared.bounds.Bounds.{Bounds}
+use Rattle.flow_base.specs.declared.fault.Fault.{Fault}
+use Rattle.actions.specs.declared.event.Event.{Event}
+use Rattle.actions.specs.Engines.{Stage, Fresh, Running, Over}
+use Rattle.actions.specs.World.{World, world_before}
+use Rattle.state_tree.specs.Chart.{Chart}
+use Rattle.state_tree.specs.Kept.{Kept, chart_of}
+use Rattle.sos_rules.specs.Reactions as rules
+use Rattle.sos_interpreter.specs.Charts.{FitsChart}
+use Rattle.sos_interpreter.specs.declared.engine.Phase.{Phase}
+use Rattle.sos_interpreter.specs.declared.engine.Phase.TheVariants as phases
+
+-- a chart, and the bounds of each event
+pub record Program : Type 0 where
+  pub chart : Chart
+  pub bounds : Bounds
+
+-- a start of a program is one by the rules
+abbrev pub Starts : Program → World → Option Fault → Type 0
+Starts p w f = rules.Starts p.chart p.bounds w f
+
+-- and so is a reaction
+abbrev pub Reacts : Program → World → Event → World → Option Fault → Type 0
+Reacts p w e w' f = rules.Reacts p.chart p.bounds w e w' f
+
+-- what an engine runs, its world, and where it is in its life
+pub record EngineState : Type 0 where
+  pub chart : Kept
+  pub bounds : Bounds
+  pub world : World
+  pub stage : Stage
+
+-- the program of an engine
+abbrev pub program_of : EngineState → Program
+program_of e = record { chart = chart_of e.chart; bounds = e.bounds }
+
+-- the stage that a phase of the code is
+abbrev pub stage_of : Phase → Stage
+stage_of phases.Fresh = Fresh
+stage_of phases.Running = Running
+stage_of phases.Over = Over
+
+-- the world before the start of a chart
+abbrev pub first_world : Chart → World
+first_world c = world_before c.tree c.names
+
+-- an engine before its start
+abbrev pub fresh_engine : Kept → Bounds → EngineState
+fresh_engine c b = record { chart = c; bounds = b; world = first_world (chart_of c); stage = Fresh }
+
+-- its world is one of its chart, and before the start the one before it
+pub record IsEngine (e : EngineState) : Type 0 where
+  pub fits : FitsChart (chart_of e.chart) e.world
+  pub fresh : e.stage ≡ Fresh → e.world ≡ first_world (chart_of e.chart)

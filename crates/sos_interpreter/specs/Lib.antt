@@ -1,0 +1,6 @@
+pub mod Settled
+pub mod Views
+pub mod Charts
+pub mod Gives
+pub mod Engine
+pub mod EngineLaws

@@ -1,0 +1,45 @@
+-- The values of the code as the rules see them.
+use Rattle.std.specs.Prelude.{ℕ, ◌==◌, map, if◌then◌else◌}
+use Rattle.actions.specs.World as worlds
+use Rattle.run_work.specs.Work as work
+use Rattle.state_tree.specs.Views.{block_seen}
+use Rattle.sos_rules.specs.Parts as rules
+use Rattle.sos_interpreter.specs.declared.run.End.{End}
+use Rattle.sos_interpreter.specs.declared.run.End.TheVariants as ends
+use Rattle.sos_interpreter.specs.declared.run.Found.{Found}
+use Rattle.sos_interpreter.specs.declared.run.Found.TheVariants as founds
+use Rattle.sos_interpreter.specs.declared.run.Now.{Now}
+use Rattle.sos_interpreter.specs.declared.run.Went.{Went}
+use Rattle.sos_interpreter.specs.declared.run.Went.TheVariants as wents
+use Rattle.sos_interpreter.specs.declared.world.Life.{Life}
+use Rattle.sos_interpreter.specs.declared.world.Life.TheVariants as lives
+
+-- how long a piece of work goes on
+abbrev pub life_seen : Life → worlds.Life
+life_seen (lives.On s) = worlds.On s
+life_seen (lives.Bare s) = worlds.Bare s
+
+-- the current event, and how deep it was sent
+abbrev pub now_of : Now → work.Now
+now_of n = record { event = n.event; depth = n.depth }
+
+-- how a block ends
+abbrev pub end_of : End → work.End
+end_of ends.Done = work.Done
+end_of ends.Cut = work.Cut
+
+-- how processing ends
+abbrev pub went_of : Went → rules.Went
+went_of wents.Stay = rules.Stay
+went_of (wents.Out h) = rules.Out h
+
+-- what a search finds
+abbrev pub found_of : Found → rules.Found
+found_of (founds.Fire d actions) = rules.Fire d (map (λ a. block_seen a.now) actions.items)
+found_of founds.DeadEnd = rules.DeadEnd
+found_of founds.No = rules.No
+found_of founds.Stop = rules.Stop
+
+-- what becomes of a way out of a child of an OR
+abbrev pub went_from : ℕ → ℕ → rules.Went
+went_from s h = if h == s then rules.Stay else rules.Out h

@@ -1,0 +1,133 @@
+//! The engine that runs a chart by the rules.
+use crate::run;
+use crate::world::LiveWorld;
+use actions::{Engine, Event, Halt, Value, View};
+use flow_base::{Bounds, Memory};
+use state_tree::Chart;
+use std::alloc::Global;
+use std::marker::Model;
+
+/// Where an engine is in its life.
+#[derive(Clone, Copy)]
+enum Phase {
+    /// Before the start.
+    Fresh,
+    /// Between two events.
+    Running,
+    /// Its run has ended.
+    Over,
+}
+
+impl Phase {
+    ghost use Rattle.std.specs.Prelude.{◌≡◌};
+    ghost use Rattle.actions.specs.Engines.{stage_after};
+    ghost use Rattle.sos_interpreter.specs.Engine.{stage_of};
+
+    /// The phase behind an answer.
+    fn after(answer: &Result<(), Halt>) -> Phase
+        ensures { stage_of result ≡ stage_after answer.now }
+    {
+        match answer {
+            Ok(()) => Phase::Running,
+            Err(_) => Phase::Over,
+        }
+    }
+}
+
+/// Runs a chart by the rules. Want of memory comes where a search that goes through junctions, the
+/// actions of a firing or an event that is put out finds none.
+#[derive(Drop)]
+pub struct Rules {
+    alloc: Global,
+    chart: Chart,
+    bounds: Bounds,
+    world: LiveWorld,
+    phase: Phase,
+}
+
+impl Model for Rules {
+    ghost use Rattle.std.specs.Coded.{codes};
+    ghost use Rattle.actions.specs.contracts.expr.Expr as e;
+    ghost use Rattle.sos_interpreter.specs.Engine.{stage_of, EngineState, IsEngine};
+
+    ghost Value = { EngineState };
+
+    ghost coded = { Prim.hlevel (codes, e.the_row.coded) };
+
+    ghost view = { λ r. record { chart = r.chart; bounds = r.bounds; world = r.world; stage = stage_of r.phase } };
+
+    ghost invariant = { λ r. IsEngine (record { chart = r.chart; bounds = r.bounds; world = r.world; stage = stage_of r.phase }) };
+}
+
+impl Rules {
+    ghost use Rattle.std.specs.Prelude.{◌≡◌, IfOk};
+    ghost use Rattle.sos_interpreter.specs.Engine.{fresh_engine};
+
+    /// An engine before its start.
+    pub fn make(alloc: Global, chart: Chart, bounds: Bounds) -> Result<Rules, Memory>
+        ensures { IfOk result (λ engine. engine ≡ fresh_engine chart bounds) }
+    {
+        let world = LiveWorld::make(alloc, chart.shape(), chart.names())?;
+        Ok(Rules {
+            alloc,
+            chart,
+            bounds,
+            world,
+            phase: Phase::Fresh,
+        })
+    }
+}
+
+impl Engine for Rules {
+    ghost use Rattle.std.specs.Prelude.{◌≡◌, false};
+    ghost use Rattle.sos_interpreter.specs.Engine.{Program, program_of, Starts, Reacts};
+    ghost use Rattle.sos_interpreter.specs.EngineLaws as laws;
+
+    ghost Program = { Program };
+
+    ghost tree = { λ p. p.chart.tree };
+
+    ghost declared = { λ p. p.chart.names };
+
+    ghost Starts = { Starts };
+
+    ghost Reacts = { Reacts };
+
+    ghost never_wants_memory = { false };
+
+    ghost program = { program_of };
+
+    ghost world = { λ r. r.world };
+
+    ghost stage = { λ r. r.stage };
+
+    fn start(&mut self) -> Result<(), Halt> {
+        let end = run::start(self.alloc, &self.chart, self.bounds, &mut self.world);
+        self.phase = Phase::after(&end);
+        end
+    }
+
+    fn set_input(&mut self, datum: u32, value: Value) {
+        self.world.set_input(datum, value);
+    }
+
+    fn react(&mut self, event: Event) -> Result<(), Halt> {
+        let end = run::react(self.alloc, &self.chart, self.bounds, &mut self.world, event);
+        self.phase = Phase::after(&end);
+        end
+    }
+
+    fn view(&self) -> View<'_> {
+        View {
+            shape: self.chart.shape(),
+            marks: self.world.marks(),
+            vals: self.world.vals(),
+            names: self.chart.names(),
+            outputs: self.world.outputs(),
+        }
+    }
+
+    ghost one_start = { laws.rules_one_start };
+
+    ghost one_reaction = { laws.rules_one_reaction };
+}

@@ -1,0 +1,18 @@
+//! The operational rules of a run: what a chart does at its start and at each event.
+//!
+//! The rules are definitions over the chart of `state_tree` and the world of `actions`. Read them
+//! in this order: `specs/Parts.antt`, the pieces of work that there are; `specs/Searches.antt`,
+//! actions, sends and the search of a list; `specs/Moves.antt`, leaving and entering states and
+//! taking a firing; `specs/Processing.antt`, what an active state does; `specs/Rules.antt`, how a
+//! recursion on heights closes them; `specs/Reactions.antt`, starts, reactions and runs. The public
+//! calls are their laws.
+//!
+//! Source: Hamon and Rushby, An Operational Semantics for Stateflow, FASE 2004, for the tree, the
+//! actions, the ordered lists and the outcomes of a search; Hamon, A Denotational Semantics for
+//! Stateflow, EMSOFT 2005, for what goes on after a search; the Stateflow manual for the order of
+//! work in an active state and for early return. Lives, costs and history are this project's choice.
+#![tactic(auto)]
+
+mod laws;
+
+pub use laws::{default_finds, one_result, remembers_the_active_child, stays_consistent};

@@ -16,9 +16,19 @@ chart_too_long = endings.Chart forms.TextTooLong begin
 -- a text that is too long is no flat chart
 pub flat_too_long : (text : List ℕ) (ending : Ending) → RefusesLong CHART_TEXT_LIMIT chart_too_long text ending
     → RefusesFlat text ending
-flat_too_long text ending r = record { kind = forms.TextTooLong; at = begin; refused = (r.long, refl); ending_is = r.ending_is }
+flat_too_long text ending r = record {
+  kind = forms.TextTooLong;
+  at = begin;
+  refused = inl (record { kind_is = refl; long = r.long; place = refl });
+  ending_is = r.ending_is;
+}
 
 -- a text that is too long is no chart text
 pub text_too_long : (text : List ℕ) (ending : Ending) → RefusesLong CHART_TEXT_LIMIT chart_too_long text ending
     → RefusesChart text ending
-text_too_long text ending r = record { kind = forms.TextTooLong; at = begin; refused = inl (record { kind_is = refl; long = r.long; place = refl }); ending_is = r.ending_is }
+text_too_long text ending r = record {
+  kind = forms.TextTooLong;
+  at = begin;
+  refused = inl (record { kind_is = refl; long = r.long; place = refl });
+  ending_is = r.ending_is;
+}

@@ -1,0 +1,12 @@
+pub mod LineLemmas
+pub mod Windows
+pub mod Taking
+pub mod NextLemmas
+pub mod TokenLemmas
+pub mod ValueLemmas
+pub mod PieceLemmas
+pub mod JoinLemmas
+pub mod PutLemmas
+pub mod PathLemmas
+pub mod StateLemmas
+pub mod DataLemmas

@@ -1,0 +1,127 @@
+-- The next line, where the bytes to come are told: what the bytes at hand tell is what the whole text tells.
+use Rattle.std.proofs.Common.{◌≡◌, ℕ, ◌+◌, ◌<◌, ◌≤◌, Bool, true, false, List, [], ◌∷◌, ◌++◌, length, take, drop, Option, Some, None, Result, Ok, Err, refl, sym, ap, ◌∙◌, subst, arith, append_assoc, append-nil, length-append}
+use Rattle.std.specs.Prelude.{IfSome}
+use Rattle.std.specs.Io.KnownBytes.{prepend_known, IsAtEnd}
+use Rattle.std.proofs.lemmas.Bool.Decides.{nat_tests}
+use Rattle.std.proofs.lemmas.List.{take_at, take_all}
+use Rattle.std.proofs.Math.ListN.{drop_of_length-le}
+use Rattle.step_text.specs.Lines.{line_length, without_return, IsPlain, spelled}
+use Rattle.step_text.specs.NextLine.{Fills, Takes, Then, Nexts, NextOf, NextTold}
+use Rattle.step_text.specs.Reading.{Reading, cut_at, is_ready}
+use Rattle.step_text.specs.declared.cuts.Cut.TheVariants as cuts
+use Rattle.step_text.specs.declared.limits.TheConstants.{LINE_LIMIT, FILE_LIMIT}
+use Rattle.step_text.specs.declared.line_reader.LineEnd.{LineEnd}
+use Rattle.step_text.specs.declared.line_reader.LineEnd.TheVariants as ends
+use Rattle.step_text.proofs.LineLemmas.{line_length-plain, line_length-append}
+
+-- ---- cuts of a whole text
+
+cut_closed : (at n len : ℕ) → n ≤ LINE_LIMIT → at + (n + 1) ≤ FILE_LIMIT → n < len → cut_at at n len ≡ cuts.Line (n + 1)
+cut_closed at n len short within more = grind (arith, nat_tests)
+
+cut_open : (at n : ℕ) → n ≤ LINE_LIMIT → at + n ≤ FILE_LIMIT → 0 < n → cut_at at n n ≡ cuts.Line n
+cut_open at n short within some = grind (arith, nat_tests)
+
+cut_long : (at n len : ℕ) → LINE_LIMIT < n → at + LINE_LIMIT < FILE_LIMIT → cut_at at n len ≡ cuts.TooLong
+cut_long at n len over early = grind (arith, nat_tests)
+
+cut_past : (at n len : ℕ) → FILE_LIMIT ≤ at + n → FILE_LIMIT < at + len → FILE_LIMIT ≤ at + LINE_LIMIT → cut_at at n len ≡ cuts.PastFile
+cut_past at n len past held first = grind (arith, nat_tests)
+
+drop_at : (front back : List ℕ) (n : ℕ) → n ≡ length front → drop n (front ++ back) ≡ back
+drop_at [] back n is = rw is refl
+drop_at (b ∷ front) back n is = rw is (drop_at front back (length front) refl)
+
+-- ---- the line
+
+line_closed : (at : ℕ) (raw later : List ℕ) → IsPlain raw → length raw ≤ LINE_LIMIT → at + length (raw ++ 10 ∷ []) ≤ FILE_LIMIT
+    → NextOf at ((raw ++ 10 ∷ []) ++ later) (without_return raw) (Some later) (Ok true)
+line_closed at raw later plain short within =
+    let text : List ℕ = (raw ++ 10 ∷ []) ++ later in
+    let same : text ≡ raw ++ (10 ∷ later) = append_assoc raw (10 ∷ []) later in
+    let one : length (raw ++ 10 ∷ []) ≡ length raw + 1 = length-append raw (10 ∷ []) in
+    let n : line_length text ≡ length raw = ap line_length same ∙ line_length-plain raw (10 ∷ later) plain ∙ zero_behind (length raw) in
+    let len : length text ≡ length raw + 1 + length later = length-append (raw ++ 10 ∷ []) later ∙ ap (λ m. m + length later) one in
+    let taken : take (line_length text) text ≡ raw = ap (λ m. take m text) n ∙ ap (take (length raw)) same ∙ take_at raw (10 ∷ later) (length raw) refl in (
+      length raw + 1,
+      ap (λ m. cut_at at m (length text)) n ∙ cut_closed at (length raw) (length text) short (omega arith) (omega arith),
+      ap without_return (sym taken),
+      ap Some (sym (drop_at (raw ++ 10 ∷ []) later (length raw + 1) (sym one))),
+    )
+  where
+    zero_behind : (m : ℕ) → m + 0 ≡ m
+    zero_behind m = omega arith
+
+line_open : (at : ℕ) (raw : List ℕ) → IsPlain raw → length raw ≤ LINE_LIMIT → at + length raw ≤ FILE_LIMIT → 0 < length raw
+    → NextOf at raw (without_return raw) (Some []) (Ok true)
+line_open at raw plain short within some =
+    let n : line_length raw ≡ length raw = ap line_length (sym (append-nil raw)) ∙ line_length-plain raw [] plain ∙ zero_behind (length raw) in
+    let taken : take (line_length raw) raw ≡ raw = ap (λ m. take m raw) n ∙ take_all (length raw) raw (omega arith) in
+    let none : drop (length raw) raw ≡ [] = drop_of_length-le raw (omega arith) in (
+      length raw,
+      ap (λ m. cut_at at m (length raw)) n ∙ cut_open at (length raw) short within some,
+      ap without_return (sym taken),
+      ap Some (sym none),
+    )
+  where
+    zero_behind : (m : ℕ) → m + 0 ≡ m
+    zero_behind m = omega arith
+
+line_at : (at : ℕ) (raw later : List ℕ) (closed : Bool) → IsPlain raw → length raw ≤ LINE_LIMIT → at + length (spelled raw closed) ≤ FILE_LIMIT
+    → 0 < length (spelled raw closed) → (closed ≡ false → later ≡ []) → NextOf at (spelled raw closed ++ later) (without_return raw) (Some later) (Ok true)
+line_at at raw later true plain short within some last = line_closed at raw later plain short within
+line_at at raw later false plain short within some last =
+    let none : later ≡ [] = last refl in
+    rw none (subst (λ (z : List ℕ). NextOf at z (without_return raw) (Some []) (Ok true)) (sym (append-nil raw)) (line_open at raw plain short within some))
+
+-- ---- by the answer
+
+abbrev TextNext : ℕ → Reading → List ℕ → Result Bool LineEnd → Type 0
+TextNext at new rest result = (mid : Reading) → mid.at ≡ at → (mid.ended ≡ true → rest ≡ []) → Then mid new result
+    → NextOf at (mid.pending ++ rest) new.line (Some (new.pending ++ rest)) result
+
+by_answer : (at : ℕ) (new : Reading) (rest : List ℕ) (result : Result Bool LineEnd) → TextNext at new rest result
+by_answer at new rest (Ok true) mid is last (ready, l) =
+    let later : List ℕ = new.pending ++ rest in
+    let none : l.closed ≡ false → later ≡ [] = λ e. ap (λ (z : List ℕ). z ++ rest) (l.last e).0 ∙ last (l.last e).1 in
+    let within : at + length (spelled l.raw l.closed) ≤ FILE_LIMIT = omega (arith, l.within) in
+    let next = line_at at l.raw later l.closed l.plain l.short within l.some none in
+    let text : spelled l.raw l.closed ++ later ≡ mid.pending ++ rest =
+    sym (ap (λ (z : List ℕ). z ++ rest) l.pending ∙ append_assoc (spelled l.raw l.closed) new.pending rest) in
+    subst (λ (z : List ℕ). NextOf at z new.line (Some later) (Ok true)) text
+    (subst (λ (z : List ℕ). NextOf at (spelled l.raw l.closed ++ later) z (Some later) (Ok true)) (sym l.line) next)
+by_answer at new rest (Ok false) mid is last (ready, (none, ended, same)) =
+    ap (λ (z : List ℕ). z ++ rest) none ∙ last ended
+by_answer at new rest (Err ends.TooLong) mid is last (ready, l) =
+    let more = line_length-append mid.pending rest in
+    cut_long at (line_length (mid.pending ++ rest)) (length (mid.pending ++ rest)) (omega (arith, l.long, more)) (omega (arith, l.early))
+by_answer at new rest (Err ends.FileTooLong) mid is last (ready, l) =
+    let more = line_length-append mid.pending rest in
+    let len = length-append mid.pending rest in
+    cut_past at (line_length (mid.pending ++ rest)) (length (mid.pending ++ rest)) (omega (arith, l.past, more)) (omega (arith, l.held, len)) (omega (arith, l.first))
+by_answer at new rest (Err ends.Read) mid is last h = tt
+
+ended_before : (old mid : Reading) (before after : Option (List ℕ)) (b : Bool) → old.ended ≡ b → (old.ended ≡ true → IsAtEnd before) → Fills old mid before after
+    → mid.ended ≡ true → IsAtEnd after
+ended_before old mid before after true e at_end f ended = subst IsAtEnd (sym (f.kept e).1) (at_end e)
+ended_before old mid before after false e at_end f ended = f.ended ended e
+
+told_at : (old mid new : Reading) (before after : Option (List ℕ)) (result : Result Bool LineEnd) → mid.at ≡ old.at → (mid.ended ≡ true → IsAtEnd after)
+    → Then mid new result → IfSome (prepend_known mid.pending after) (λ text. NextOf old.at text new.line (prepend_known new.pending after) result)
+told_at old mid new before None result at last h = tt
+told_at old mid new before (Some rest) result at last h = by_answer old.at new rest result mid at last h
+
+-- what was taken is what the whole text tells
+pub next_told : (old new : Reading) (before after : Option (List ℕ)) (result : Result Bool LineEnd) → Nexts old new before after result
+    → NextTold old new before after result
+next_told old new before after result next = λ at_end.
+    let f = next.fills in
+    subst (λ (o : Option (List ℕ)). IfSome o (λ text. NextOf old.at text new.line (prepend_known new.pending after) result)) (sym f.bytes)
+    (told_at old next.mid new before after result f.at (ended_before old next.mid before after old.ended refl at_end f) next.answer)
+
+-- what was taken where no more bytes were wanted
+pub then_takes : (mid new : Reading) (result : Result Bool LineEnd) → is_ready mid ≡ true → Takes mid new result → Then mid new result
+then_takes mid new (Ok found) ready t = (ready, t)
+then_takes mid new (Err ends.TooLong) ready t = (ready, t)
+then_takes mid new (Err ends.FileTooLong) ready t = (ready, t)
+then_takes mid new (Err ends.Read) ready t = absurd t

@@ -1,0 +1,100 @@
+-- A text that goes out in pieces.
+use Rattle.std.proofs.Common.{◌≡◌, ℕ, ◌+◌, ◌≤◌, Bool, true, false, List, [], ◌∷◌, ◌++◌, length, take, Option, Some, None, Result, Ok, Err, refl, sym, ap, ◌∙◌, arith, append_assoc, append-nil, length-append}
+use Rattle.std.specs.Io.KnownBytes.{append_known}
+use Rattle.std.proofs.lemmas.List.{take-append-le}
+use Rattle.std.proofs.Math.Seq.{take-append-add}
+use Rattle.flow_base.specs.Bytes.{AppendsProperFront}
+use Rattle.flow_base.specs.Causes.{Rose}
+use Rattle.flow_base.proofs.Pieces.{append_known-append}
+use Rattle.flow_base.specs.Causes.{HasCause}
+use Rattle.std.specs.Prelude.{OnOk, OnErr}
+use Rattle.flow_base.specs.declared.inputs.Failed.{Failed}
+use Rattle.step_text.specs.Pieces.{Held, Passed, CutOff, Written, Ends, kept, nothing_held}
+
+-- what was kept is written
+pub flushed : (w w1 w2 : Option (List ℕ)) (f f1 f2 : ℕ) (text held : List ℕ) → Passed w w1 f f1 text held
+    → w2 ≡ append_known w1 held → f2 ≡ f1 → Passed w w2 f f2 text []
+flushed w w1 w2 f f1 f2 text held p out same = record {
+  sent = p.sent ++ held;
+  parts = p.parts ∙ sym (append-nil (p.sent ++ held));
+  written = out ∙ ap (λ (z : Option (List ℕ)). append_known z held) p.written ∙ append_known-append w p.sent held;
+  count = same ∙ p.count;
+}
+
+-- what was kept can't be written
+pub flush_failed : (w w1 w2 : Option (List ℕ)) (f f1 f2 : ℕ) (text held : List ℕ) → Passed w w1 f f1 text held
+    → AppendsProperFront w1 w2 held → Rose f1 f2 → f1 ≤ f2 → CutOff w w2 f f2 text
+flush_failed w w1 w2 f f1 f2 text held p front rose later = record {
+  front = record {
+    count = length p.sent + front.count;
+    proper = omega (arith, front.proper, ap length p.parts, length-append p.sent held);
+    bytes = front.bytes ∙ ap (λ (z : Option (List ℕ)). append_known z (take front.count held)) p.written
+        ∙ append_known-append w p.sent (take front.count held)
+        ∙ ap (append_known w) (sym (ap (take (length p.sent + front.count)) p.parts ∙ take-append-add p.sent held front.count));
+  };
+  count = let same = p.count in rw (← same) rose;
+  later = omega (arith, p.count);
+}
+
+-- one byte more is kept
+pub pushed : (w w1 : Option (List ℕ)) (f f1 b : ℕ) (text held : List ℕ) → Passed w w1 f f1 text held
+    → Passed w w1 f f1 (text ++ b ∷ []) (held ++ b ∷ [])
+pushed w w1 f f1 b text held p = record {
+  sent = p.sent;
+  parts = ap (λ (z : List ℕ). z ++ b ∷ []) p.parts ∙ append_assoc p.sent held (b ∷ []);
+  written = p.written;
+  count = p.count;
+}
+
+-- a text that was cut off is cut off whatever comes after it
+pub cut_more : (w w1 : Option (List ℕ)) (f f1 : ℕ) (text more : List ℕ) → CutOff w w1 f f1 text → CutOff w w1 f f1 (text ++ more)
+cut_more w w1 f f1 text more c = record {
+  front = record {
+    count = c.front.count;
+    proper = omega (arith, c.front.proper, length-append text more);
+    bytes = c.front.bytes ∙ ap (append_known w) (sym (take-append-le c.front.count text more (omega (arith, c.front.proper))));
+  };
+  count = c.count;
+  later = c.later;
+}
+
+kept_at : (w w1 : Option (List ℕ)) (f f1 b : ℕ) (text : List ℕ) (held : Held) (failed : Bool) → held.failed ≡ failed → Written w w1 f f1 text held
+    → Written w w1 f f1 (text ++ b ∷ []) (kept held b)
+kept_at w w1 f f1 b text held true e h = let p = rw e at h in rw e (cut_more w w1 f f1 text (b ∷ []) p)
+kept_at w w1 f f1 b text held false e h = let p = rw e at h in rw e (pushed w w1 f f1 b text held.bytes p)
+
+-- one byte more is kept, unless a write failed
+pub written_kept : (w w1 : Option (List ℕ)) (f f1 b : ℕ) (text : List ℕ) (held new : Held) → new ≡ kept held b → Written w w1 f f1 text held
+    → Written w w1 f f1 (text ++ b ∷ []) new
+written_kept w w1 f f1 b text held new is h = rw is (kept_at w w1 f f1 b text held held.failed refl h)
+
+-- no write failed so far
+pub passed : (w w1 : Option (List ℕ)) (f f1 : ℕ) (text : List ℕ) (held : Held) → held.failed ≡ false → Written w w1 f f1 text held
+    → Passed w w1 f f1 text held.bytes
+passed w w1 f f1 text held e h = rw e at h
+
+append_nothing : (w : Option (List ℕ)) → w ≡ append_known w []
+append_nothing None = refl
+append_nothing (Some bytes) = ap (λ (z : List ℕ). Some z) (sym (append-nil bytes))
+
+-- at first nothing is written and nothing is kept
+pub starts : (w : Option (List ℕ)) (f : ℕ) (held : Held) → held ≡ nothing_held → Written w w f f [] held
+starts w f held is = rw is (record { sent = []; parts = refl; written = append_nothing w; count = refl })
+
+-- a text that was written whole
+pub ends_ok : (w w1 : Option (List ℕ)) (f f1 : ℕ) (text : List ℕ) (result : Result (Unit {0}) Failed) → Ends w w1 f f1 text result
+    → OnOk result (w1 ≡ append_known w text)
+ends_ok w w1 f f1 text (Ok done) p = p.written ∙ ap (append_known w) (sym (p.parts ∙ append-nil p.sent))
+ends_ok w w1 f f1 text (Err failed) p = tt
+
+-- a text that a failed write cut off
+pub ends_failed : (w w1 : Option (List ℕ)) (f f1 : ℕ) (text : List ℕ) (result : Result (Unit {0}) Failed) → Ends w w1 f f1 text result
+    → OnErr result (AppendsProperFront w w1 text)
+ends_failed w w1 f f1 text (Ok done) p = tt
+ends_failed w w1 f f1 text (Err failed) p = p.front
+
+-- the count rose only there
+pub ends_cause : (w w1 : Option (List ℕ)) (f f1 : ℕ) (text : List ℕ) (result : Result (Unit {0}) Failed) → Ends w w1 f f1 text result
+    → HasCause f f1 result
+ends_cause w w1 f f1 text (Ok done) p = record { later = omega (arith, p.count); failed = tt; ok = p.count }
+ends_cause w w1 f f1 text (Err failed) p = record { later = p.later; failed = p.count; ok = tt }

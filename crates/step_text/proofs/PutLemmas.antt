@@ -1,0 +1,21 @@
+-- Texts that are put one after the other.
+use Rattle.std.proofs.Common.{◌≡◌, ℕ, List, [], ◌++◌, sym, ap, ◌∙◌, subst, append_assoc, append-nil}
+use Rattle.std.specs.Prelude.{Option}
+use Rattle.step_text.specs.Pieces.{Held, Written, Puts}
+
+-- nothing is put
+pub puts_nothing : (before : Option (List ℕ)) (f : ℕ) (old : Held) → Puts before before f f old old []
+puts_nothing before f old = λ w f0 all h. subst (λ (z : List ℕ). Written w before f0 f z old) (sym (append-nil all)) h
+
+-- one text is put after another
+pub puts_both : (b0 b1 b2 : Option (List ℕ)) (f0 f1 f2 : ℕ) (h0 h1 h2 : Held) (first second text : List ℕ) → Puts b0 b1 f0 f1 h0 h1 first
+    → Puts b1 b2 f1 f2 h1 h2 second → text ≡ first ++ second → Puts b0 b2 f0 f2 h0 h2 text
+puts_both b0 b1 b2 f0 f1 f2 h0 h1 h2 first second text p q is = λ w f all h.
+    subst (λ (z : List ℕ). Written w b2 f f2 z h2) (append_assoc all first second ∙ ap (λ (z : List ℕ). all ++ z) (sym is))
+    (q w f (all ++ first) (p w f all h))
+
+-- the same text under another name
+pub puts_same : (b0 b1 : Option (List ℕ)) (f0 f1 : ℕ) (h0 h1 : Held) (text other : List ℕ) → Puts b0 b1 f0 f1 h0 h1 text → other ≡ text
+    → Puts b0 b1 f0 f1 h0 h1 other
+puts_same b0 b1 f0 f1 h0 h1 text other p is = λ w f all h.
+    subst (λ (z : List ℕ). Written w b1 f f1 (all ++ z) h1) (sym is) (p w f all h)

@@ -1,0 +1,13 @@
+pub mod Lines
+pub mod Limits
+pub mod Faults
+pub mod Runs
+pub mod InputValues
+pub mod EventLines
+pub mod EventFile
+pub mod Reading
+pub mod NextLine
+pub mod LineParts
+pub mod Trace
+pub mod TraceParts
+pub mod Pieces

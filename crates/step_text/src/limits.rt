@@ -1,0 +1,16 @@
+//! The limits of event files, and the sizes of what is read and written at once.
+
+/// The most bytes that a line of an event file has before its newline.
+pub const LINE_LIMIT: usize = 4096;
+
+/// The most bytes that an event file has.
+pub const FILE_LIMIT: u64 = 67_108_864;
+
+/// The most events that an event file has.
+pub const EVENT_LIMIT: u64 = 1_000_000;
+
+/// How many bytes of an event file are kept at once.
+pub const BUFFER_SIZE: usize = 8192;
+
+/// The most bytes of a trace line that are written at once.
+pub const PIECE_SIZE: usize = 512;

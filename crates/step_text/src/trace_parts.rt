@@ -1,0 +1,275 @@
+//! The parts of a trace line.
+ghost use Rattle.std.specs.Prelude.{
+  ◌≡◌,
+  ◌<◌,
+  ◌≤◌,
+  ◌^◌,
+  ◌++◌,
+  ◌&&◌,
+  not,
+  Some,
+  true,
+  codes,
+  length,
+  map,
+};
+ghost use Rattle.std.specs.List.{AllByRecursion, join_with_byte};
+ghost use Rattle.active_config.specs.Marks.{mark_count, is_on};
+ghost use Rattle.active_config.specs.Tree.{
+  IsTree,
+  state_count,
+  parent_of,
+  is_below,
+  is_at_or_below,
+};
+ghost use Rattle.actions.specs.Engines.{IsFaultOf};
+ghost use Rattle.actions.specs.Names.{names_of};
+ghost use Rattle.actions.specs.World.{of_data, of_names};
+ghost use Rattle.step_text.specs.Pieces.{Puts};
+ghost use Rattle.step_text.specs.Trace as spec;
+ghost use Rattle.step_text.specs.TraceParts.{
+  separator_before,
+  item,
+  state_item,
+  CanBeWritten,
+};
+
+use crate::pieces::Pieces;
+use actions::{Event, Names, Vals, Value};
+use active_config::{Marks, Shape};
+use fixed_point::write_decimal;
+use flow_base::{Fault, Sink};
+
+/// The word of an event.
+pub(crate) fn event_word<'a>(names: &'a Names, event: Event) -> &'a str
+    requires { spec.IsEventOf (names_of names.now) event }
+    ensures { result.now ≡ spec.event_word (names_of names.now) event }
+{
+    match event {
+        Event::Start => "start",
+        Event::Tick => "tick",
+        Event::Named(number) => event_name(names, number),
+    }
+}
+
+/// The name of an event.
+fn event_name(names: &Names, number: u32) -> &str
+    requires { number < length (names_of names.now).events }
+    ensures { result.now ≡ spec.event_name (names_of names.now) number }
+{
+    names.events.items()[number as usize].name.text()
+}
+
+/// The name of a datum.
+fn datum_name(names: &Names, number: u32) -> &str
+    requires { number < length (names_of names.now).vars }
+    ensures { result.now ≡ spec.datum_name (names_of names.now) number }
+{
+    names.vars.items()[number as usize].name.text()
+}
+
+/// The name of a state.
+fn state_name(names: &Names, number: u32) -> &str
+    requires { number < length (names_of names.now).states }
+    ensures { result.now ≡ spec.state_name (names_of names.now) number }
+{
+    names.states.items()[number as usize].text()
+}
+
+/// Puts a separator, unless the first text comes next.
+fn put_separator<O: Sink>(separator: u8, is_first: bool, pieces: &mut Pieces, out: &mut O)
+    ensures { Puts (O.wrote out.old) (O.wrote out.new) (O.faults out.old) (O.faults out.new)
+        pieces.old pieces.new (separator_before separator is_first) }
+{
+    if !is_first {
+        pieces.put(&[separator], out);
+    }
+}
+
+/// Puts the next text of those between which a separator stands.
+fn put_item<O: Sink>(separator: u8, is_first: bool, text: &[u8], pieces: &mut Pieces, out: &mut O)
+    ensures { Puts (O.wrote out.old) (O.wrote out.new) (O.faults out.old) (O.faults out.new)
+        pieces.old pieces.new (item separator is_first text.now) }
+{
+    put_separator(separator, is_first, pieces, out);
+    pieces.put(text, out);
+}
+
+/// Puts the active states but the root, each by its path.
+pub(crate) fn put_states<O: Sink>(
+    shape: &Shape,
+    names: &Names,
+    marks: &Marks,
+    pieces: &mut Pieces,
+    out: &mut O,
+)
+    requires names { length (names_of names.now).states ≡ state_count shape.now }
+    requires marks { mark_count marks.now ≡ state_count shape.now }
+    ensures { Puts (O.wrote out.old) (O.wrote out.new) (O.faults out.old) (O.faults out.new)
+        pieces.old pieces.new
+        (join_with_byte 44 (map (spec.path_of shape.now (names_of names.now)) (spec.active_states shape.now marks.now))) }
+{
+    let mut is_first = true;
+    for state in 1..shape.len() {
+        is_first = put_state(shape, names, marks, state, is_first, pieces, out);
+    }
+}
+
+/// Puts the path of a state where it is active. It answers whether no path has been put yet.
+fn put_state<O: Sink>(
+    shape: &Shape,
+    names: &Names,
+    marks: &Marks,
+    state: u32,
+    is_first: bool,
+    pieces: &mut Pieces,
+    out: &mut O,
+) -> bool
+    requires tree { IsTree shape.now }
+    requires state { state < state_count shape.now }
+    requires names { length (names_of names.now).states ≡ state_count shape.now }
+    requires marks { mark_count marks.now ≡ state_count shape.now }
+    ensures puts { Puts (O.wrote out.old) (O.wrote out.new) (O.faults out.old) (O.faults out.new)
+        pieces.old pieces.new
+        (state_item shape.now (names_of names.now) marks.now is_first state) }
+    ensures first { result ≡ (is_first && not (is_on state marks.now)) }
+{
+    if !marks.on(state) {
+        return is_first;
+    }
+    put_separator(b',', is_first, pieces, out);
+    put_path(shape, names, state, pieces, out);
+    false
+}
+
+/// Puts the path of a state, from the child of the root that it is or is below down to its own name.
+fn put_path<O: Sink>(shape: &Shape, names: &Names, state: u32, pieces: &mut Pieces, out: &mut O)
+    requires tree { IsTree shape.now }
+    requires state { state < state_count shape.now }
+    requires names { length (names_of names.now).states ≡ state_count shape.now }
+    ensures { Puts (O.wrote out.old) (O.wrote out.new) (O.faults out.old) (O.faults out.new)
+        pieces.old pieces.new (spec.path_of shape.now (names_of names.now) state) }
+{
+    let mut last = 0;
+    'names: while last != state {
+        let next = child_toward(shape, last, state);
+        put_item(
+            b'/',
+            last == 0,
+            state_name(names, next).as_bytes(),
+            pieces,
+            out,
+        );
+        last = next;
+    }
+}
+
+/// The child of a state that is another state or above it.
+fn child_toward(shape: &Shape, above: u32, state: u32) -> u32
+    requires tree { IsTree shape.now }
+    requires state { state < state_count shape.now }
+    requires above { is_below shape.now state above ≡ true }
+    ensures child { parent_of shape.now result ≡ Some above }
+    ensures above { is_at_or_below shape.now state result ≡ true }
+    ensures after { above < result }
+    ensures within { result ≤ state }
+{
+    let mut child = state;
+    'parents: while let Some(parent) = shape.parent(child) {
+        if parent == above {
+            return child;
+        }
+        child = parent;
+    }
+    child
+}
+
+/// Puts each datum with its value.
+pub(crate) fn put_data<O: Sink>(names: &Names, vals: &Vals, pieces: &mut Pieces, out: &mut O)
+    requires declared { of_data vals.now ≡ of_names (names_of names.now) }
+    requires few { length (names_of names.now).vars < 2 ^ 32 }
+    ensures { Puts (O.wrote out.old) (O.wrote out.new) (O.faults out.old) (O.faults out.new)
+        pieces.old pieces.new (spec.listed (spec.value_texts (names_of names.now).vars vals.now)) }
+{
+    let vars = names.vars.items();
+    if vars.is_empty() {
+        pieces.put(b"-", out);
+        return;
+    }
+    for (index, var) in vars.iter().enumerate() {
+        put_datum(
+            index == 0,
+            var.name.text(),
+            vals.get(index as u32),
+            pieces,
+            out,
+        );
+    }
+}
+
+/// Puts a datum with its value, after a comma unless it is the first.
+fn put_datum<O: Sink>(is_first: bool, name: &str, value: Value, pieces: &mut Pieces, out: &mut O)
+    requires { CanBeWritten value }
+    ensures { Puts (O.wrote out.old) (O.wrote out.new) (O.faults out.old) (O.faults out.new)
+        pieces.old pieces.new (item 44 is_first (name.now ++ codes "=" ++ spec.value_text value)) }
+{
+    put_item(b',', is_first, name.as_bytes(), pieces, out);
+    pieces.put(b"=", out);
+    put_value(value, pieces, out);
+}
+
+/// Puts a value.
+fn put_value<O: Sink>(value: Value, pieces: &mut Pieces, out: &mut O)
+    requires { CanBeWritten value }
+    ensures { Puts (O.wrote out.old) (O.wrote out.new) (O.faults out.old) (O.faults out.new)
+        pieces.old pieces.new (spec.value_text value) }
+{
+    match value {
+        Value::Flag(true) => pieces.put(b"true", out),
+        Value::Flag(false) => pieces.put(b"false", out),
+        Value::Number(number) => {
+            let mut buf = [0; 128];
+            let len = write_decimal(number.mantissa, number.frac, &mut buf);
+            pieces.put(&buf[..len], out);
+        }
+    }
+}
+
+/// Puts the names of the events that were put out.
+pub(crate) fn put_outputs<O: Sink>(names: &Names, outputs: &[u32], pieces: &mut Pieces, out: &mut O)
+    requires { AllByRecursion (λ e. e < length (names_of names.now).events) outputs.now }
+    ensures { Puts (O.wrote out.old) (O.wrote out.new) (O.faults out.old) (O.faults out.new)
+        pieces.old pieces.new (spec.listed (map (spec.event_name (names_of names.now)) outputs.now)) }
+{
+    if outputs.is_empty() {
+        pieces.put(b"-", out);
+        return;
+    }
+    for (index, number) in outputs.iter().enumerate() {
+        let name = event_name(names, *number);
+        put_item(b',', index == 0, name.as_bytes(), pieces, out);
+    }
+}
+
+/// Puts how an event ended.
+pub(crate) fn put_result<O: Sink>(
+    names: &Names,
+    fault: Option<Fault>,
+    pieces: &mut Pieces,
+    out: &mut O,
+)
+    requires { IsFaultOf (names_of names.now) fault }
+    ensures { Puts (O.wrote out.old) (O.wrote out.new) (O.faults out.old) (O.faults out.new)
+        pieces.old pieces.new (spec.result_word (names_of names.now) fault) }
+{
+    match fault {
+        None => pieces.put(b"ok", out),
+        Some(Fault::Depth) => pieces.put(b"depth", out),
+        Some(Fault::Steps) => pieces.put(b"steps", out),
+        Some(Fault::Zero) => pieces.put(b"zero", out),
+        Some(Fault::Overflow(datum)) => {
+            pieces.put(b"overflow ", out);
+            pieces.put(datum_name(names, datum).as_bytes(), out);
+        }
+    }
+}

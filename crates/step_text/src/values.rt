@@ -1,0 +1,133 @@
+//! What a token gives to an input.
+ghost use Rattle.std.specs.Prelude.{◌≡◌, ◌<◌, length, IfSome, OnOk, OnErr};
+ghost use Rattle.std.specs.List.{position, list_any};
+ghost use Rattle.std.specs.Str.{bytes_eq};
+ghost use Rattle.std.specs.Prelude.{nat_eq};
+ghost use Rattle.actions.specs.Data.{IsValueOf, value_at};
+ghost use Rattle.actions.specs.Names.{names_of};
+ghost use Rattle.actions.specs.declared.names.Var.{Var as VarShown};
+ghost use Rattle.step_text.specs.InputValues as spec;
+ghost use Rattle.step_text.specs.LineParts.{Gave};
+ghost use Rattle.step_text.specs.Runs.{AreInputValues};
+
+use crate::fault::LineFault;
+use crate::input_vals::InputVals;
+use actions::{Names, Sort, Value, Var, VarKind};
+use fixed_point::{Num, Scale, exact, read_decimal};
+
+/// Keeps the value that a token `NAME=VALUE` gives an input.
+pub(crate) fn give(names: &Names, token: &[u8], vals: &mut InputVals) -> Result<(), LineFault>
+    requires made { length vals.old ≡ length (names_of names.now).vars }
+    ensures gave { Gave (names_of names.now) vals.old token.now vals.new result }
+    ensures length { length vals.new ≡ length vals.old }
+    ensures values { AreInputValues (names_of names.now) 0 vals.old
+        → AreInputValues (names_of names.now) 0 vals.new }
+{
+    let Some(sign) = first_sign(token) else {
+        return Err(LineFault::UnknownInput);
+    };
+    let vars = names.vars.items();
+    let Some(place) = place_of_var(vars, &token[..sign]) else {
+        return Err(LineFault::UnknownInput);
+    };
+    let var = &vars[place];
+    if !is_input(var.kind) {
+        return Err(LineFault::UnknownInput);
+    }
+    if vals.is_named(place) {
+        return Err(LineFault::InputTwice);
+    }
+    match value_of_text(var.sort, &token[sign + 1..]) {
+        Some(value) => {
+            vals.keep(place, value);
+            Ok(())
+        }
+        None => Err(LineFault::BadValue),
+    }
+}
+
+/// Whether a datum is an input.
+fn is_input(kind: VarKind) -> bool
+    ensures { result ≡ spec.is_input kind }
+{
+    match kind {
+        VarKind::Input => true,
+        VarKind::Output | VarKind::Local => false,
+    }
+}
+
+/// The place of the first `=`.
+fn first_sign(token: &[u8]) -> Option<usize>
+    ensures place { result ≡ position (λ b. nat_eq b 61) token.now }
+    ensures within { IfSome result (λ n. n < length token.now) }
+{
+    token.iter().position(|byte| *byte == b'=')
+}
+
+/// The place of the first datum of that name.
+fn place_of_var(vars: &[Var], name: &[u8]) -> Option<usize>
+    ensures place { result ≡ position (λ (v : VarShown). bytes_eq v.name name.now) vars.now }
+    ensures within { IfSome result (λ n. n < length vars.now) }
+{
+    vars.iter()
+        .position(|var| var.name.text().as_bytes() == name)
+}
+
+/// The value of a sort that a text spells.
+fn value_of_text(sort: Sort, text: &[u8]) -> Option<Value>
+    ensures value { result ≡ spec.value_of_text sort text.now }
+    ensures sort { IfSome result (IsValueOf sort) }
+{
+    match sort {
+        Sort::Flag => flag_value(text),
+        Sort::Number(scale) => number_value(scale, text),
+    }
+}
+
+/// The flag that a text spells.
+fn flag_value(text: &[u8]) -> Option<Value>
+    ensures value { result ≡ spec.flag_value text.now }
+    ensures sort { IfSome result (IsValueOf Sort.Flag) }
+{
+    if text == b"true".as_slice() {
+        return Some(Value::Flag(true));
+    }
+    if text == b"false".as_slice() {
+        return Some(Value::Flag(false));
+    }
+    None
+}
+
+/// Whether a text has a `q`.
+fn has_q(text: &[u8]) -> bool
+    ensures { result ≡ list_any (λ b. nat_eq b 113) text.now }
+{
+    text.iter().any(|byte| *byte == b'q')
+}
+
+/// The value of a scale that equals the number of a decimal text.
+fn number_value(scale: Scale, text: &[u8]) -> Option<Value>
+    ensures value { result ≡ spec.number_value scale text.now }
+    ensures sort { IfSome result (IsValueOf (Sort.Number scale)) }
+{
+    if has_q(text) {
+        return None;
+    }
+    match read_decimal(text) {
+        Err(_) => None,
+        Ok(number) => match exact(number, scale) {
+            None => None,
+            Some(mantissa) => Some(number_at(scale, mantissa)),
+        },
+    }
+}
+
+/// The value that a mantissa of a scale stands for.
+fn number_at(scale: Scale, mantissa: i128) -> Value
+    ensures { result ≡ value_at (Sort.Number scale) mantissa }
+{
+    Value::Number(Num {
+        mantissa,
+        frac: u32::from(scale.frac),
+    })
+}

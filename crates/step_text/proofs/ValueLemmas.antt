@@ -20,7 +20,7 @@ use Rattle.actions.specs.declared.expr.Value.{Value}
 use Rattle.step_text.specs.declared.fault.LineFault.{LineFault}
 use Rattle.step_text.specs.EventLines.{tokens_of, event_of_line, event_of_tokens, event_of, with_tokens}
 use Rattle.step_text.specs.InputValues.{and_then, all_given, given, no_inputs, given_at, given_by_name, given_to, with_input, value_of_text, is_input}
-use Rattle.step_text.specs.Runs.{AreInputValues}
+use Rattle.actions.specs.Runs.{AreInputValues}
 
 in_range_at : (whole within : Bool) (floor m : ℤ) (scale : Scale) → is_in_range scale floor ≡ within
     → Some m ≡ cond (whole && within) (Some floor) None → IsTrue (is_in_range scale m)

@@ -7,7 +7,7 @@ use Rattle.step_text.specs.declared.limits.TheConstants.{FILE_LIMIT, EVENT_LIMIT
 use Rattle.step_text.specs.EventLines.{event_of_line}
 use Rattle.step_text.specs.Limits.{Limit, TooLong, PastFile, line_limit}
 use Rattle.step_text.specs.Lines.{lines_of, without_return}
-use Rattle.step_text.specs.Runs.{EventWithInputs}
+use Rattle.actions.specs.Runs.{EventWithInputs}
 
 -- where the events of a file stop: at its end, before the line of a number with its fault, before an event that is one
 -- too many, or before a line that holds the first byte that a file has no room for

@@ -12,7 +12,7 @@ use Rattle.actions.specs.declared.names.EventKind.TheVariants as event_kinds
 use Rattle.step_text.specs.declared.fault.LineFault.{LineFault}
 use Rattle.step_text.specs.declared.fault.LineFault.TheVariants as faults
 use Rattle.step_text.specs.InputValues.{no_inputs, and_then, all_given}
-use Rattle.step_text.specs.Runs.{EventWithInputs, CanBeGiven}
+use Rattle.actions.specs.Runs.{EventWithInputs, CanBeGiven}
 
 -- a space or a tab
 abbrev pub is_blank : ℕ → Bool

@@ -1,7 +1,6 @@
 pub mod Lines
 pub mod Limits
 pub mod Faults
-pub mod Runs
 pub mod InputValues
 pub mod EventLines
 pub mod EventFile

@@ -5,7 +5,7 @@ use Rattle.actions.specs.declared.event.Event.{Event}
 use Rattle.actions.specs.declared.expr.Value.{Value}
 use Rattle.step_text.specs.declared.fault.LineFault.{LineFault}
 use Rattle.step_text.specs.InputValues.{given, all_given}
-use Rattle.step_text.specs.Runs.{EventWithInputs, CanBeGiven}
+use Rattle.actions.specs.Runs.{EventWithInputs, CanBeGiven}
 
 -- what the inputs are given after one token, or its fault
 abbrev pub Gave : Names → List (Option Value) → List ℕ → List (Option Value) → Result (Unit {0}) LineFault → Type 0

@@ -5,7 +5,7 @@ use Rattle.std.specs.Option.{option_map_or}
 use Rattle.flow_base.specs.declared.fault.Fault.{Fault}
 use Rattle.flow_base.specs.declared.fault.Fault.TheVariants as run_faults
 use Rattle.fixed_point.specs.Text.{decimal_text}
-use Rattle.active_config.specs.Marks.{is_on}
+use Rattle.active_config.specs.Marks.{Configuration, is_on}
 use Rattle.active_config.specs.Tree.{Tree, state_count, ancestors}
 use Rattle.actions.specs.Data.{Datum, value_of_datum}
 use Rattle.actions.specs.Names.{Names}
@@ -47,7 +47,7 @@ unfoldable pub path_of : Tree → Names → ℕ → List ℕ
 path_of t n s = join_with_byte 47 (map (state_name n) (drop 1 (reverse (s ∷ ancestors t s))))
 
 -- the active states but the root, in order
-abbrev pub active_states : Tree → List Bool → List ℕ
+abbrev pub active_states : Tree → Configuration → List ℕ
 active_states t marks = filter (λ s. is_on s marks) (range_with_len 1 (state_count t - 1))
 
 -- a value: a flag's word, or a number in the shortest exact decimal text
@@ -75,7 +75,7 @@ result_word n (Some (run_faults.Overflow v)) = codes "overflow " ++ datum_name n
 result_word n (Some run_faults.Zero) = codes "zero"
 
 -- a line: index, event, active states, values, outputs and result
-unfoldable pub line_of : Tree → Names → List Bool → List Datum → List ℕ → ℕ → Event → Option Fault → List ℕ
+unfoldable pub line_of : Tree → Names → Configuration → List Datum → List ℕ → ℕ → Event → Option Fault → List ℕ
 line_of t n marks vals outputs index event fault =
     decimal index ++ codes " " ++ event_word n event
     ++ codes " [" ++ join_with_byte 44 (map (path_of t n) (active_states t marks))

@@ -1,6 +1,6 @@
 -- The parts of a trace line, as they are put one after the other.
 use Rattle.std.specs.Prelude.{ℕ, ◌^◌, ◌≤◌, unsigned_abs, Bool, List, [], ◌∷◌, ◌++◌, if◌then◌else◌}
-use Rattle.active_config.specs.Marks.{is_on}
+use Rattle.active_config.specs.Marks.{Configuration, is_on}
 use Rattle.active_config.specs.Tree.{Tree}
 use Rattle.actions.specs.Names.{Names}
 use Rattle.actions.specs.declared.expr.Value.{Value}
@@ -16,7 +16,7 @@ abbrev pub item : ℕ → Bool → List ℕ → List ℕ
 item separator is_first text = separator_before separator is_first ++ text
 
 -- what is put for a state: its path where it is active, and else nothing
-abbrev pub state_item : Tree → Names → List Bool → Bool → ℕ → List ℕ
+abbrev pub state_item : Tree → Names → Configuration → Bool → ℕ → List ℕ
 state_item t n marks is_first s = if is_on s marks then item 44 is_first (path_of t n s) else []
 
 -- the number has a decimal text within the room that there is for one

@@ -8,7 +8,7 @@ ghost use Rattle.actions.specs.declared.names.EventDecl.{EventDecl as DeclShown}
 ghost use Rattle.step_text.specs.EventLines as spec;
 ghost use Rattle.step_text.specs.InputValues.{no_inputs};
 ghost use Rattle.step_text.specs.LineParts as parts;
-ghost use Rattle.step_text.specs.Runs.{AreInputValues};
+ghost use Rattle.actions.specs.Runs.{AreInputValues};
 
 use crate::fault::LineFault;
 use crate::input_vals::InputVals;

@@ -8,7 +8,7 @@ ghost use Rattle.actions.specs.Names.{names_of};
 ghost use Rattle.actions.specs.declared.names.Var.{Var as VarShown};
 ghost use Rattle.step_text.specs.InputValues as spec;
 ghost use Rattle.step_text.specs.LineParts.{Gave};
-ghost use Rattle.step_text.specs.Runs.{AreInputValues};
+ghost use Rattle.actions.specs.Runs.{AreInputValues};
 
 use crate::fault::LineFault;
 use crate::input_vals::InputVals;

@@ -2,7 +2,7 @@ use Rattle.std.proofs.Common.{◌≡◌, length}
 use Rattle.actions.specs.Names.{names_of}
 use Rattle.step_text.specs.EventLines.{tokens_of}
 use Rattle.step_text.specs.InputValues.{all_given}
-use Rattle.step_text.specs.Runs.{AreInputValues}
+use Rattle.actions.specs.Runs.{AreInputValues}
 use Rattle.step_text.proofs.event_lines.give_all.Given as goal
 
 -- the tokens that are left give what all give

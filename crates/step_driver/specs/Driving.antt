@@ -1,0 +1,106 @@
+-- What the driver writes, by its answer.
+use Rattle.std.specs.Prelude.{◌≡◌, nat_eq, ◌⊎◌, Bool, true, ℕ, List, [], ◌∷◌, ◌++◌, Option, Some, None, is_some, Result, Ok, Err}
+use Rattle.std.specs.Io.KnownBytes.{append_known, prepend_known, IsAtEnd}
+use Rattle.flow_base.specs.Bytes.{AppendsProperFront}
+use Rattle.flow_base.specs.declared.fault.Fault.{Fault}
+use Rattle.active_config.specs.Tree.{Tree}
+use Rattle.actions.specs.Names.{Names}
+use Rattle.actions.specs.Runs.{EventWithInputs, StartRelation, ReactionRelation}
+use Rattle.actions.specs.World.{World}
+use Rattle.actions.specs.declared.event.Event.TheVariants.{Start}
+use Rattle.step_text.specs.EventFile.{Stop, AtEnd, AtLine, AtEvent, AtLimit, event_file}
+use Rattle.step_text.specs.Lines.{IsPlain}
+use Rattle.step_text.specs.Trace.{trace_line}
+use Rattle.step_driver.specs.Traces.{RunFault, Ran}
+use Rattle.step_driver.specs.declared.driver.DriveEnd.{DriveEnd}
+use Rattle.step_driver.specs.declared.driver.DriveEnd.TheVariants as ends
+
+-- what the sink has been given and what is left of the event file, before the call and after it, where each is told
+pub record Seen : Type 0 where
+  pub wrote_before : Option (List ℕ)
+  pub wrote_after : Option (List ℕ)
+  pub left_before : Option (List ℕ)
+  pub left_after : Option (List ℕ)
+
+-- the text is that of the file; where the source doesn't tell its bytes, any text may be
+abbrev pub IsText : Option (List ℕ) → List ℕ → Type 0
+IsText None text = Unit {0}
+IsText (Some told) text = told ≡ text
+
+-- the bytes are lines, each with its newline
+abbrev pub is_closed : List ℕ → Bool
+is_closed [] = true
+is_closed (b ∷ []) = nat_eq b 10
+is_closed (b ∷ (d ∷ bytes)) = is_closed (d ∷ bytes)
+
+-- the whole lines of bytes that were given: what comes after them has no newline
+pub record HasWhole (given whole : List ℕ) : Type 0 where
+  pub rest : List ℕ
+  pub split : given ≡ whole ++ rest
+  pub closed : is_closed whole ≡ true
+  pub plain : IsPlain rest
+
+-- the answer for the whole file: the fault of the run, or else where the events stop
+abbrev pub answer_of : Option RunFault → Stop → Result (Unit {0}) DriveEnd
+answer_of (Some f) stop = Err (ends.Fault f.index f.fault)
+answer_of None AtEnd = Ok tt
+answer_of None (AtLine number fault) = Err (ends.Line number fault)
+answer_of None AtEvent = Err ends.TooManyLines
+answer_of None AtLimit = Err ends.FileTooLong
+
+-- the trace of the run over all events of the file was written, and the answer says how run and events ended
+pub record WroteAll (start : StartRelation) (react : ReactionRelation) (t : Tree) (n : Names) (seen : Seen) (result : Result (Unit {0}) DriveEnd) : Type 0 where
+  pub text : List ℕ
+  pub is_text : IsText seen.left_before text
+  pub trace : List ℕ
+  pub fault : Option RunFault
+  pub ran : Ran start react t n (event_file n text).events trace fault
+  pub wrote : seen.wrote_after ≡ append_known seen.wrote_before trace
+  pub answer : result ≡ answer_of fault (event_file n text).stop
+
+-- a read failed: the trace of the run over the whole lines of the bytes that were given was written
+pub record WroteGiven (start : StartRelation) (react : ReactionRelation) (t : Tree) (n : Names) (seen : Seen) : Type 0 where
+  pub given : List ℕ
+  pub taken : seen.left_before ≡ prepend_known given seen.left_after
+  pub whole : List ℕ
+  pub has_whole : HasWhole given whole
+  pub trace : List ℕ
+  pub ran : Ran start react t n (event_file n whole).events trace None
+  pub wrote : seen.wrote_after ≡ append_known seen.wrote_before trace
+
+-- A write failed: a front of the trace of the run over the first events of the file was written, which isn't all of it. Where
+-- not even the line with index 0 was written whole, no byte of the file was taken.
+pub record WrotePart (start : StartRelation) (react : ReactionRelation) (t : Tree) (n : Names) (seen : Seen) : Type 0 where
+  pub text : List ℕ
+  pub is_text : IsText seen.left_before text
+  pub events : List EventWithInputs
+  pub rest : List EventWithInputs
+  pub first_events : (event_file n text).events ≡ events ++ rest
+  pub trace : List ℕ
+  pub fault : Option RunFault
+  pub ran : Ran start react t n events trace fault
+  pub front : AppendsProperFront seen.wrote_before seen.wrote_after trace
+  pub untouched : (w : World) (f : Option Fault) → start w f → is_some seen.wrote_before ≡ true
+      → AppendsProperFront seen.wrote_before seen.wrote_after (trace_line t n w 0 Start f) → seen.left_after ≡ seen.left_before
+
+-- memory ran out: nothing was written, or the trace of the run over the first events of the file
+pub record WroteSome (start : StartRelation) (react : ReactionRelation) (t : Tree) (n : Names) (seen : Seen) : Type 0 where
+  pub text : List ℕ
+  pub is_text : IsText seen.left_before text
+  pub events : List EventWithInputs
+  pub rest : List EventWithInputs
+  pub first_events : (event_file n text).events ≡ events ++ rest
+  pub trace : List ℕ
+  pub ran : (trace ≡ []) ⊎ Ran start react t n events trace None
+  pub wrote : seen.wrote_after ≡ append_known seen.wrote_before trace
+
+-- What the driver did, by its answer.
+abbrev pub Drives : StartRelation → ReactionRelation → Tree → Names → Seen → Result (Unit {0}) DriveEnd → Type 0
+Drives start react t n seen (Ok done) = WroteAll start react t n seen (Ok done) × IsAtEnd seen.left_after
+Drives start react t n seen (Err (ends.Line number fault)) = WroteAll start react t n seen (Err (ends.Line number fault))
+Drives start react t n seen (Err (ends.Fault index fault)) = WroteAll start react t n seen (Err (ends.Fault index fault))
+Drives start react t n seen (Err ends.Read) = WroteGiven start react t n seen
+Drives start react t n seen (Err ends.Write) = WrotePart start react t n seen
+Drives start react t n seen (Err ends.TooManyLines) = WroteAll start react t n seen (Err ends.TooManyLines)
+Drives start react t n seen (Err ends.FileTooLong) = WroteAll start react t n seen (Err ends.FileTooLong)
+Drives start react t n seen (Err ends.Memory) = WroteSome start react t n seen

@@ -1,0 +1,4 @@
+pub mod Traces
+pub mod Driving
+pub mod Causes
+pub mod Parts

@@ -1,0 +1,108 @@
+//! A run over an event file that comes in pieces.
+ghost use Rattle.std.specs.Prelude.{◌≡◌, ◌≢◌, ◌<◌, ◌≤◌, ◌^◌, length, true, false, IsTrue, Err};
+ghost use Rattle.flow_base.specs.Causes.{OthersKept, NoneFalls};
+ghost use Rattle.actions.specs.Engines.{Fresh, Running};
+ghost use Rattle.step_text.specs.Reading.{unused};
+ghost use Rattle.step_driver.specs.Causes as causes;
+ghost use Rattle.step_driver.specs.Driving as spec;
+ghost use Rattle.step_driver.specs.Parts.{Follows};
+
+use crate::events::{run_line, run_start};
+use actions::Engine;
+use flow_base::{Fault, Inputs, Sink};
+use step_text::{InputVals, LineEnd, LineFault, LineReader};
+use thiserror::Error;
+
+/// Why a run over an event file ended before the end of the file.
+#[derive(Clone, Copy, Debug, PartialEq, Eq, Error)]
+pub enum DriveEnd {
+    /// The line of that number has that fault. The trace of the events before it was written.
+    #[error("line {0}: {1}")]
+    Line(u64, LineFault),
+    /// The run has that fault at that index. The line of the trace that tells it was written.
+    #[error("the run has a fault at index {0}")]
+    Fault(u64, Fault),
+    /// A read failed.
+    #[error("read fault")]
+    Read,
+    /// A write failed.
+    #[error("write fault")]
+    Write,
+    /// The file has over `EVENT_LIMIT` events. The trace of the first ones was written.
+    #[error("too many events")]
+    TooManyLines,
+    /// The file has over `FILE_LIMIT` bytes. The trace of the events before the line that holds the
+    /// first byte too many was written.
+    #[error("the file is too long")]
+    FileTooLong,
+    /// The engine wants memory.
+    #[error("out of memory")]
+    Memory,
+}
+
+/// Runs an engine over the events of a file: it starts the engine, and then takes line by line. The
+/// line of the trace for the start, and for each event, is written before the next line of the file is
+/// asked for.
+///
+/// After `Read`, the trace of the events in the whole lines that were given has been written; after
+/// `Write` a front of the trace, and after `Memory` whole lines of it. After every other answer the
+/// whole trace has been written. The engine has ended, or could go on at `Ok`. `Memory` comes only
+/// where the engine answered it.
+pub fn drive<G: Engine, I: Inputs, O: Sink>(
+    engine: &mut G,
+    inputs: &mut I,
+    name: &str,
+    lines: &mut LineReader,
+    vals: &mut InputVals,
+    out: &mut O,
+) -> Result<(), DriveEnd>
+    requires fresh { G.stage engine.old ≡ Fresh }
+    requires few { length (G.declared (G.program engine.old)).events < 2 ^ 32 }
+    requires few_data { length (G.declared (G.program engine.old)).vars < 2 ^ 32 }
+    requires unused { lines.old ≡ unused }
+    requires vals { length vals.old ≡ length (G.declared (G.program engine.old)).vars }
+    ensures drives { spec.Drives (G.Starts (G.program engine.old)) (G.Reacts (G.program engine.old))
+        (G.tree (G.program engine.old)) (G.declared (G.program engine.old))
+        (record {
+          wrote_before = O.wrote out.old;
+          wrote_after = O.wrote out.new;
+          left_before = I.left inputs.old name.now;
+          left_after = I.left inputs.new name.now;
+        })
+        result }
+    ensures program { G.program engine.new ≡ G.program engine.old }
+
+    // No other file is read, and no count changes without its fault.
+    ensures others { OthersKept name.now (I.left inputs.old) (I.left inputs.new) }
+    ensures counts { NoneFalls (I.faults inputs.old) (I.faults inputs.new) }
+    ensures reads { causes.HasReadCause name.now (I.faults inputs.old) (I.faults inputs.new) result }
+    ensures writes { causes.HasWriteCause (O.faults out.old) (O.faults out.new) result }
+    ensures memory { IsTrue G.never_wants_memory → result ≢ Err DriveEnd.Memory }
+{
+    run_start::<G, O>(engine, out)?;
+    let mut index = 0;
+    'lines: while next_line(inputs, name, lines)? {
+        index = run_line::<G, O>(engine, lines.line(), lines.number(), index, vals, out)?;
+    }
+    Ok(())
+}
+
+/// Takes the next line of the file.
+fn next_line<I: Inputs>(
+    inputs: &mut I,
+    name: &str,
+    lines: &mut LineReader,
+) -> Result<bool, DriveEnd>
+    requires { lines.old.failed ≡ false }
+    ensures next { Follows lines.old lines.new (I.left inputs.old name.now) (I.left inputs.new name.now) result }
+    ensures others { OthersKept name.now (I.left inputs.old) (I.left inputs.new) }
+    ensures counts { NoneFalls (I.faults inputs.old) (I.faults inputs.new) }
+    ensures reads { causes.HasReadCause name.now (I.faults inputs.old) (I.faults inputs.new) result }
+{
+    match lines.next_line(inputs, name) {
+        Ok(found) => Ok(found),
+        Err(LineEnd::Read) => Err(DriveEnd::Read),
+        Err(LineEnd::TooLong) => Err(DriveEnd::Line(lines.number(), LineFault::LineTooLong)),
+        Err(LineEnd::FileTooLong) => Err(DriveEnd::FileTooLong),
+    }
+}

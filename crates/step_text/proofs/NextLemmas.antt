@@ -40,7 +40,7 @@ line_closed at raw later plain short within =
     let text : List ℕ = (raw ++ 10 ∷ []) ++ later in
     let same : text ≡ raw ++ (10 ∷ later) = append_assoc raw (10 ∷ []) later in
     let one : length (raw ++ 10 ∷ []) ≡ length raw + 1 = length-append raw (10 ∷ []) in
-    let n : line_length text ≡ length raw = ap line_length same ∙ line_length-plain raw (10 ∷ later) plain ∙ zero_behind (length raw) in
+    let n : line_length text ≡ length raw = ap line_length same ∙ line_length-plain raw (10 ∷ later) plain ∙ zero_after (length raw) in
     let len : length text ≡ length raw + 1 + length later = length-append (raw ++ 10 ∷ []) later ∙ ap (λ m. m + length later) one in
     let taken : take (line_length text) text ≡ raw = ap (λ m. take m text) n ∙ ap (take (length raw)) same ∙ take_at raw (10 ∷ later) (length raw) refl in (
       length raw + 1,
@@ -49,13 +49,13 @@ line_closed at raw later plain short within =
       ap Some (sym (drop_at (raw ++ 10 ∷ []) later (length raw + 1) (sym one))),
     )
   where
-    zero_behind : (m : ℕ) → m + 0 ≡ m
-    zero_behind m = omega arith
+    zero_after : (m : ℕ) → m + 0 ≡ m
+    zero_after m = omega arith
 
 line_open : (at : ℕ) (raw : List ℕ) → IsPlain raw → length raw ≤ LINE_LIMIT → at + length raw ≤ FILE_LIMIT → 0 < length raw
     → NextOf at raw (without_return raw) (Some []) (Ok true)
 line_open at raw plain short within some =
-    let n : line_length raw ≡ length raw = ap line_length (sym (append-nil raw)) ∙ line_length-plain raw [] plain ∙ zero_behind (length raw) in
+    let n : line_length raw ≡ length raw = ap line_length (sym (append-nil raw)) ∙ line_length-plain raw [] plain ∙ zero_after (length raw) in
     let taken : take (line_length raw) raw ≡ raw = ap (λ m. take m raw) n ∙ take_all (length raw) raw (omega arith) in
     let none : drop (length raw) raw ≡ [] = drop_of_length-le raw (omega arith) in (
       length raw,
@@ -64,8 +64,8 @@ line_open at raw plain short within some =
       ap Some (sym none),
     )
   where
-    zero_behind : (m : ℕ) → m + 0 ≡ m
-    zero_behind m = omega arith
+    zero_after : (m : ℕ) → m + 0 ≡ m
+    zero_after m = omega arith
 
 line_at : (at : ℕ) (raw later : List ℕ) (closed : Bool) → IsPlain raw → length raw ≤ LINE_LIMIT → at + length (spelled raw closed) ≤ FILE_LIMIT
     → 0 < length (spelled raw closed) → (closed ≡ false → later ≡ []) → NextOf at (spelled raw closed ++ later) (without_return raw) (Some later) (Ok true)
@@ -101,9 +101,17 @@ by_answer at new rest (Err ends.FileTooLong) mid is last (ready, l) =
     cut_past at (line_length (mid.pending ++ rest)) (length (mid.pending ++ rest)) (omega (arith, l.past, more)) (omega (arith, l.held, len)) (omega (arith, l.first))
 by_answer at new rest (Err ends.Read) mid is last h = tt
 
+-- the end is met, so no more bytes are wanted
+ended_ready : (r : Reading) → r.ended ≡ true → is_ready r ≡ true
+ended_ready r e = rw e refl
+
+-- after the end was met nothing is read
+pub kept_at_end : (old mid : Reading) (before after : Option (List ℕ)) → Fills old mid before after → old.ended ≡ true → (mid ≡ old) × (after ≡ before)
+kept_at_end old mid before after f e = f.kept (ended_ready old e)
+
 ended_before : (old mid : Reading) (before after : Option (List ℕ)) (b : Bool) → old.ended ≡ b → (old.ended ≡ true → IsAtEnd before) → Fills old mid before after
     → mid.ended ≡ true → IsAtEnd after
-ended_before old mid before after true e at_end f ended = subst IsAtEnd (sym (f.kept e).1) (at_end e)
+ended_before old mid before after true e at_end f ended = subst IsAtEnd (sym (kept_at_end old mid before after f e).1) (at_end e)
 ended_before old mid before after false e at_end f ended = f.ended ended e
 
 told_at : (old mid new : Reading) (before after : Option (List ℕ)) (result : Result Bool LineEnd) → mid.at ≡ old.at → (mid.ended ≡ true → IsAtEnd after)

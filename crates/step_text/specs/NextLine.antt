@@ -76,10 +76,10 @@ Takes old new (Err ends.TooLong) = IsTooLong old new
 Takes old new (Err ends.FileTooLong) = IsPastFile old new
 Takes old new (Err ends.Read) = ⊥
 
--- bytes were read, none after the end was met
+-- bytes were read, none where those at hand tell what comes next
 pub record Fills (old new : Reading) (before after : Option (List ℕ)) : Type 0 where
   pub bytes : prepend_known old.pending before ≡ prepend_known new.pending after
-  pub kept : old.ended ≡ true → (new ≡ old) × (after ≡ before)
+  pub kept : is_ready old ≡ true → (new ≡ old) × (after ≡ before)
   pub ended : new.ended ≡ true → old.ended ≡ false → IsAtEnd after
   pub number : new.number ≡ old.number
   pub at : new.at ≡ old.at

@@ -14,6 +14,7 @@ mod pieces;
 mod tokens;
 mod trace;
 mod trace_parts;
+mod trace_states;
 mod values;
 
 pub use event_lines::event_line;

@@ -10,7 +10,8 @@ ghost use Rattle.step_text.specs.Pieces.{Puts};
 ghost use Rattle.step_text.specs.Trace as spec;
 
 use crate::pieces::Pieces;
-use crate::trace_parts::{event_word, put_data, put_outputs, put_result, put_states};
+use crate::trace_parts::{event_word, put_data, put_outputs, put_result};
+use crate::trace_states::put_states;
 use actions::{Event, Names, View};
 use flow_base::{Failed, Fault, Sink};
 use itoa::Buffer;

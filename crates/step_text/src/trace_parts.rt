@@ -5,23 +5,11 @@ ghost use Rattle.std.specs.Prelude.{
   ◌≤◌,
   ◌^◌,
   ◌++◌,
-  ◌&&◌,
-  not,
-  Some,
-  true,
   codes,
   length,
   map,
 };
-ghost use Rattle.std.specs.List.{AllByRecursion, join_with_byte};
-ghost use Rattle.active_config.specs.Marks.{mark_count, is_on};
-ghost use Rattle.active_config.specs.Tree.{
-  IsTree,
-  state_count,
-  parent_of,
-  is_below,
-  is_at_or_below,
-};
+ghost use Rattle.std.specs.List.{AllByRecursion};
 ghost use Rattle.actions.specs.Engines.{IsFaultOf};
 ghost use Rattle.actions.specs.Names.{names_of};
 ghost use Rattle.actions.specs.World.{of_data, of_names};
@@ -30,13 +18,11 @@ ghost use Rattle.step_text.specs.Trace as spec;
 ghost use Rattle.step_text.specs.TraceParts.{
   separator_before,
   item,
-  state_item,
   CanBeWritten,
 };
 
 use crate::pieces::Pieces;
 use actions::{Event, Names, Vals, Value};
-use active_config::{Marks, Shape};
 use fixed_point::write_decimal;
 use flow_base::{Fault, Sink};
 
@@ -68,16 +54,13 @@ fn datum_name(names: &Names, number: u32) -> &str
     names.vars.items()[number as usize].name.text()
 }
 
-/// The name of a state.
-fn state_name(names: &Names, number: u32) -> &str
-    requires { number < length (names_of names.now).states }
-    ensures { result.now ≡ spec.state_name (names_of names.now) number }
-{
-    names.states.items()[number as usize].text()
-}
-
 /// Puts a separator, unless the first text comes next.
-fn put_separator<O: Sink>(separator: u8, is_first: bool, pieces: &mut Pieces, out: &mut O)
+pub(crate) fn put_separator<O: Sink>(
+    separator: u8,
+    is_first: bool,
+    pieces: &mut Pieces,
+    out: &mut O,
+)
     ensures { Puts (O.wrote out.old) (O.wrote out.new) (O.faults out.old) (O.faults out.new)
         pieces.old pieces.new (separator_before separator is_first) }
 {
@@ -87,101 +70,18 @@ fn put_separator<O: Sink>(separator: u8, is_first: bool, pieces: &mut Pieces, ou
 }
 
 /// Puts the next text of those between which a separator stands.
-fn put_item<O: Sink>(separator: u8, is_first: bool, text: &[u8], pieces: &mut Pieces, out: &mut O)
+pub(crate) fn put_item<O: Sink>(
+    separator: u8,
+    is_first: bool,
+    text: &[u8],
+    pieces: &mut Pieces,
+    out: &mut O,
+)
     ensures { Puts (O.wrote out.old) (O.wrote out.new) (O.faults out.old) (O.faults out.new)
         pieces.old pieces.new (item separator is_first text.now) }
 {
     put_separator(separator, is_first, pieces, out);
     pieces.put(text, out);
-}
-
-/// Puts the active states but the root, each by its path.
-pub(crate) fn put_states<O: Sink>(
-    shape: &Shape,
-    names: &Names,
-    marks: &Marks,
-    pieces: &mut Pieces,
-    out: &mut O,
-)
-    requires names { length (names_of names.now).states ≡ state_count shape.now }
-    requires marks { mark_count marks.now ≡ state_count shape.now }
-    ensures { Puts (O.wrote out.old) (O.wrote out.new) (O.faults out.old) (O.faults out.new)
-        pieces.old pieces.new
-        (join_with_byte 44 (map (spec.path_of shape.now (names_of names.now)) (spec.active_states shape.now marks.now))) }
-{
-    let mut is_first = true;
-    for state in 1..shape.len() {
-        is_first = put_state(shape, names, marks, state, is_first, pieces, out);
-    }
-}
-
-/// Puts the path of a state where it is active. It answers whether no path has been put yet.
-fn put_state<O: Sink>(
-    shape: &Shape,
-    names: &Names,
-    marks: &Marks,
-    state: u32,
-    is_first: bool,
-    pieces: &mut Pieces,
-    out: &mut O,
-) -> bool
-    requires tree { IsTree shape.now }
-    requires state { state < state_count shape.now }
-    requires names { length (names_of names.now).states ≡ state_count shape.now }
-    requires marks { mark_count marks.now ≡ state_count shape.now }
-    ensures puts { Puts (O.wrote out.old) (O.wrote out.new) (O.faults out.old) (O.faults out.new)
-        pieces.old pieces.new
-        (state_item shape.now (names_of names.now) marks.now is_first state) }
-    ensures first { result ≡ (is_first && not (is_on state marks.now)) }
-{
-    if !marks.on(state) {
-        return is_first;
-    }
-    put_separator(b',', is_first, pieces, out);
-    put_path(shape, names, state, pieces, out);
-    false
-}
-
-/// Puts the path of a state, from the child of the root that it is or is below down to its own name.
-fn put_path<O: Sink>(shape: &Shape, names: &Names, state: u32, pieces: &mut Pieces, out: &mut O)
-    requires tree { IsTree shape.now }
-    requires state { state < state_count shape.now }
-    requires names { length (names_of names.now).states ≡ state_count shape.now }
-    ensures { Puts (O.wrote out.old) (O.wrote out.new) (O.faults out.old) (O.faults out.new)
-        pieces.old pieces.new (spec.path_of shape.now (names_of names.now) state) }
-{
-    let mut last = 0;
-    'names: while last != state {
-        let next = child_toward(shape, last, state);
-        put_item(
-            b'/',
-            last == 0,
-            state_name(names, next).as_bytes(),
-            pieces,
-            out,
-        );
-        last = next;
-    }
-}
-
-/// The child of a state that is another state or above it.
-fn child_toward(shape: &Shape, above: u32, state: u32) -> u32
-    requires tree { IsTree shape.now }
-    requires state { state < state_count shape.now }
-    requires above { is_below shape.now state above ≡ true }
-    ensures child { parent_of shape.now result ≡ Some above }
-    ensures above { is_at_or_below shape.now state result ≡ true }
-    ensures after { above < result }
-    ensures within { result ≤ state }
-{
-    let mut child = state;
-    'parents: while let Some(parent) = shape.parent(child) {
-        if parent == above {
-            return child;
-        }
-        child = parent;
-    }
-    child
 }
 
 /// Puts each datum with its value.

@@ -39,4 +39,5 @@ returns-in-Err-give_all-clause-says c =
     let hash : nat_eq (get_or t 0 0) 35 ≡ false = let h = c.if-first-eq35.false in grind (arith, nat_tests) in
     let a = c.in-Err-give_all.ensures.gave in
     let all = rw c.requires.made at a in
-    says_no_values (names_of c.args.names.now) c.args.line.now t (tokens_of c.in-Some.first.rest.now) c.in-Ok.event c.in-Err-give_all.fault c.in-Some.ensures.tokens hash (sym c.in-Ok.ensures.event) all
+    says_no_values (names_of c.args.names.now) c.args.line.now t (tokens_of c.in-Some.first.rest.now) c.in-Ok.event c.in-Err-give_all.fault c.in-Some.ensures.tokens hash
+    (sym c.in-Ok.ensures.event) all

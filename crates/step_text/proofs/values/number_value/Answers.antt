@@ -10,4 +10,4 @@ pub returns-in-Some-clause-sort : goal.returns-in-Some-clause-sort
 returns-in-Some-clause-sort c =
     let value : c.number_at.result ≡ value_at (sorts.Number c.args.scale) c.in-Some.mantissa = search rules in
     subst (IsValueOf (sorts.Number c.args.scale)) (sym value)
-      (IsValueOf-value_at (sorts.Number c.args.scale) c.in-Some.mantissa (exact-in_range _ c.args.scale c.in-Some.mantissa c.in-Some.ensures))
+    (IsValueOf-value_at (sorts.Number c.args.scale) c.in-Some.mantissa (exact-in_range _ c.args.scale c.in-Some.mantissa c.in-Some.ensures))

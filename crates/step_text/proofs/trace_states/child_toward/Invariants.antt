@@ -1,6 +1,6 @@
 use Rattle.std.proofs.Common.{◌≡◌, ◌≤◌, true}
 use Rattle.active_config.specs.Tree.{is_below, is_at_or_below}
-use Rattle.step_text.proofs.trace_parts.child_toward.Given as goal
+use Rattle.step_text.proofs.trace_states.child_toward.Given as goal
 
 -- the state is at or below this one, which is below the one above
 abbrev pub invariant-parents : goal.invariant-parents

@@ -3,7 +3,7 @@ use Rattle.active_config.specs.Tree.{is_at_or_below}
 use Rattle.actions.specs.Names.{names_of}
 use Rattle.step_text.specs.Pieces.{Puts}
 use Rattle.step_text.specs.Trace.{path_of}
-use Rattle.step_text.proofs.trace_parts.put_path.Given as goal
+use Rattle.step_text.proofs.trace_states.put_path.Given as goal
 
 -- the path of a state that is above, or that one, is put
 abbrev pub invariant-names : goal.invariant-names

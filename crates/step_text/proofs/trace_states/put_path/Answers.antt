@@ -2,7 +2,7 @@ use Rattle.std.proofs.Common.{sym, ◌∙◌, arith, rules}
 use Rattle.actions.specs.Names.{names_of}
 use Rattle.step_text.proofs.PathLemmas.{root_above, strictly_below, path_of-root, path_of-child}
 use Rattle.step_text.proofs.PutLemmas.{puts_nothing, puts_both, puts_same}
-use Rattle.step_text.proofs.trace_parts.put_path.Goals as goal
+use Rattle.step_text.proofs.trace_states.put_path.Goals as goal
 
 pub names-init : goal.names-init
 names-init g c = record {

@@ -1,7 +1,7 @@
 use Rattle.std.proofs.Common.{refl, sym, arith, rules}
 use Rattle.active_config.proofs.PathLemmas.{is_at_or_below-same}
 use Rattle.step_text.proofs.PathLemmas.{parent_above, parent_below, below_has_parent}
-use Rattle.step_text.proofs.trace_parts.child_toward.Goals as goal
+use Rattle.step_text.proofs.trace_states.child_toward.Goals as goal
 
 pub parents-init : goal.parents-init
 parents-init c = record {

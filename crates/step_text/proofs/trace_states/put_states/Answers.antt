@@ -2,7 +2,7 @@ use Rattle.std.proofs.Common.{◌∙◌, arith}
 use Rattle.actions.specs.Names.{names_of}
 use Rattle.step_text.proofs.StateLemmas.{states_more, first_more}
 use Rattle.step_text.proofs.PutLemmas.{puts_both}
-use Rattle.step_text.proofs.trace_parts.put_states.Goals as goal
+use Rattle.step_text.proofs.trace_states.put_states.Goals as goal
 
 pub loop-state-preserved : goal.loop-state-preserved
 loop-state-preserved g c = record {

@@ -4,7 +4,7 @@ use Rattle.actions.specs.Names.{names_of}
 use Rattle.step_text.specs.Pieces.{Puts}
 use Rattle.step_text.specs.Trace.{path_of}
 use Rattle.step_text.proofs.StateLemmas.{active_before}
-use Rattle.step_text.proofs.trace_parts.put_states.Given as goal
+use Rattle.step_text.proofs.trace_states.put_states.Given as goal
 
 -- the active states with a lower number are put
 abbrev pub invariant-loop-state : goal.invariant-loop-state

@@ -258,7 +258,8 @@ line_driven start react t n wrote now now' before left left' r r' w w' index nex
     by_said (Err fault) is (bad, _) = absurd (cc)
 
 -- the line was taken, and the run ends
-pub line_fails : (start : StartRelation) (react : ReactionRelation) (t : Tree) (n : Names) (wrote now now' before left left' : Option (List ℕ)) (r r' : Reading) (w w' : World) (index : ℕ) (end : DriveEnd)
+pub line_fails : (start : StartRelation) (react : ReactionRelation) (t : Tree) (n : Names) (wrote now now' before left left' : Option (List ℕ)) (r r' : Reading)
+    (w w' : World) (index : ℕ) (end : DriveEnd)
     → OneStart start → Driven start react t n wrote now before left r w index → Nexts r r' left left' (Ok true)
     → LineTaken react t n r'.number index (event_of_line n r'.line) w w' now now' (Err end)
     → Drives start react t n (record { wrote_before = wrote; wrote_after = now'; left_before = before; left_after = left' }) (Err end)
@@ -354,7 +355,8 @@ line_fails start react t n wrote now now' before left left' r r' w w' index end 
         by_end end event (ap (nat_le EVENT_LIMIT) d.counted ∙ few) is done
 
     by_said : (said : Result (Option EventWithInputs) LineFault) → event_of_line n r'.line ≡ said
-        → LineTaken react t n r'.number index said w w' now now' (Err end) → Drives start react t n (record { wrote_before = wrote; wrote_after = now'; left_before = before; left_after = left' }) (Err end)
+        → LineTaken react t n r'.number index said w w' now now' (Err end)
+        → Drives start react t n (record { wrote_before = wrote; wrote_after = now'; left_before = before; left_after = left' }) (Err end)
     by_said (Ok None) is (bad, _, _) = absurd (cc)
     by_said (Ok (Some event)) is h = by_count event (nat_le EVENT_LIMIT index) refl is h
     by_said (Err fault) is (bad, out) =

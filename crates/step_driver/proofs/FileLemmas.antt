@@ -15,6 +15,7 @@ use Rattle.step_text.specs.Limits.{Limit, TooLong, PastFile, line_limit}
 use Rattle.step_text.specs.Lines.{lines_of, line_length, without_return, IsPlain, spelled}
 use Rattle.step_text.specs.NextLine.{TakesLine, IsTooLong, IsPastFile, Fills}
 use Rattle.step_text.specs.Reading.{Reading, unused, is_enough, is_ready}
+use Rattle.step_text.proofs.NextLemmas.{kept_at_end}
 use Rattle.step_text.proofs.LineLemmas.{line_length-le, take_line-plain, lines_of-closed, lines_of-open, lines_of-first, line_length-append, plain_all}
 use Rattle.step_driver.specs.Driving.{IsText, is_closed, HasWhole}
 
@@ -39,7 +40,8 @@ at_closed : (n : Names) (long : Bool) (at number count : ℕ) (raw text : List �
     ≡ with_line number count (event_of_line n (without_return raw)) (λ next. events_of n long (at + (length raw + 1)) (number + 1) next (lines_of text))
 unfolding events_of
 at_closed n long at number count raw text none =
-    ap (λ (l : Option Limit). with_limit l number (with_line number count (event_of_line n (without_return raw)) (λ next. events_of n long (at + (length raw + 1)) (number + 1) next (lines_of text)))) none
+    ap (λ (l : Option Limit). with_limit l number (with_line number count (event_of_line n (without_return raw))
+    (λ next. events_of n long (at + (length raw + 1)) (number + 1) next (lines_of text)))) none
 
 at_open : (n : Names) (long long' : Bool) (at at' number count : ℕ) (raw : List ℕ) → line_limit long at (length raw) ≡ None
     → events_of n long at number count (raw ∷ [])
@@ -84,10 +86,12 @@ at_limit n at number count text limit some is =
     let long = nat_lt FILE_LIMIT (at + length text) in
     let is' : line_limit long at (length raw) ≡ Some limit = ap (line_limit long at) len ∙ is in
     ap (events_of n long at number count) (lines_of-first text some)
-    ∙ ap (λ (l : Option Limit). with_limit l number (with_line number count (event_of_line n (without_return raw)) (λ next. events_of n long (at + (length raw + 1)) (number + 1) next (lines_of (drop (line_length text + 1) text))))) is'
+    ∙ ap (λ (l : Option Limit). with_limit l number (with_line number count (event_of_line n (without_return raw))
+    (λ next. events_of n long (at + (length raw + 1)) (number + 1) next (lines_of (drop (line_length text + 1) text))))) is'
     ∙ either limit
   where
-    either : (l : Limit) → with_limit (Some l) number (with_line number count (event_of_line n (without_return (take (line_length text) text))) (λ next. events_of n (nat_lt FILE_LIMIT (at + length text)) (at + (length (take (line_length text) text) + 1)) (number + 1) next (lines_of (drop (line_length text + 1) text))))
+    either : (l : Limit) → with_limit (Some l) number (with_line number count (event_of_line n (without_return (take (line_length text) text)))
+        (λ next. events_of n (nat_lt FILE_LIMIT (at + length text)) (at + (length (take (line_length text) text) + 1)) (number + 1) next (lines_of (drop (line_length text + 1) text))))
         ≡ with_limit (Some l) number (stopped AtEnd)
     either TooLong = refl
     either PastFile = refl
@@ -169,13 +173,13 @@ reads_nothing n left r is = subst (λ (r : Reading). Reads n left [] r left) (sy
 
 kept_end : (before : Option (List ℕ)) (old mid : Reading) (left left' : Option (List ℕ)) (b : Bool) → old.ended ≡ b
     → Place before old left → Fills old mid left left' → mid.ended ≡ true → IsAtEnd left'
-kept_end before old mid left left' true e p f ended = subst IsAtEnd (sym (f.kept e).1) (p.ended e)
+kept_end before old mid left left' true e p f ended = subst IsAtEnd (sym (kept_at_end old mid left left' f e).1) (p.ended e)
 kept_end before old mid left left' false e p f ended = f.ended ended e
 
 open_before : (old mid : Reading) (left left' : Option (List ℕ)) (b : Bool) → old.ended ≡ b → Fills old mid left left' → mid.ended ≡ false → old.ended ≡ false
 open_before old mid left left' false e f open' = e
 open_before old mid left left' true e f open' =
-    let same : mid.ended ≡ old.ended = ap (λ (r : Reading). r.ended) (f.kept e).0 in absurd (cc)
+    let same : mid.ended ≡ old.ended = ap (λ (r : Reading). r.ended) (kept_at_end old mid left left' f e).0 in absurd (cc)
 
 -- more bytes were read
 pub reads_fills : (n : Names) (before : Option (List ℕ)) (events : List EventWithInputs) (old mid : Reading) (left left' : Option (List ℕ))
@@ -191,7 +195,7 @@ reads_fills n before events old mid left left' r f = record {
   };
   file = λ to_come may.
       let e = r.file to_come (λ ended.
-      let same = (f.kept ended).0 in
+      let same = (kept_at_end old mid left left' f ended).0 in
       may (ap (λ (x : Reading). x.ended) same ∙ ended) ∙ ap (λ (x : Reading). x.pending) same) in
       e ∙ ap (λ m. after_events events (events_at n m (old.number + 1) (length events) to_come)) (sym f.at)
       ∙ ap (λ m. after_events events (events_at n mid.at (m + 1) (length events) to_come)) (sym f.number);
@@ -408,7 +412,8 @@ whole_too_many n before events r left event c is many =
       text = w.text;
       is_text = w.is_text;
       are_events = w.are_events
-          ∙ ap (λ (said : Result (Option EventWithInputs) LineFault). after_events events (with_line r.number (length events) said (λ next. events_at n r.at (r.number + 1) next (r.pending ++ told left)))) is
+          ∙ ap (λ (said : Result (Option EventWithInputs) LineFault). after_events events
+          (with_line r.number (length events) said (λ next. events_at n r.at (r.number + 1) next (r.pending ++ told left)))) is
           ∙ rw many (after_none events AtEvent);
     }
 
@@ -421,6 +426,7 @@ whole_refused n before events r left fault c is =
       text = w.text;
       is_text = w.is_text;
       are_events = w.are_events
-          ∙ ap (λ (said : Result (Option EventWithInputs) LineFault). after_events events (with_line r.number (length events) said (λ next. events_at n r.at (r.number + 1) next (r.pending ++ told left)))) is
+          ∙ ap (λ (said : Result (Option EventWithInputs) LineFault). after_events events
+          (with_line r.number (length events) said (λ next. events_at n r.at (r.number + 1) next (r.pending ++ told left)))) is
           ∙ after_none events (AtLine r.number fault);
     }

@@ -1,0 +1,15 @@
+//! Tests of the driver, over the engine of `sample_engine` and files in memory: what no clause says,
+//! with answers and traces worked by hand.
+#![tactic(auto)]
+
+#[cfg(test)]
+mod devices;
+#[cfg(test)]
+mod files;
+#[cfg(test)]
+mod limits;
+#[cfg(test)]
+mod setup;
+mod worked;
+
+pub use worked::a_trace_line;

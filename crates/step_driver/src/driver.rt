@@ -46,8 +46,7 @@ pub enum DriveEnd {
 ///
 /// After `Read`, the trace of the events in the whole lines that were given has been written; after
 /// `Write` a front of the trace, and after `Memory` whole lines of it. After every other answer the
-/// whole trace has been written. The engine has ended, or could go on at `Ok`. `Memory` comes only
-/// where the engine answered it.
+/// whole trace has been written. `Memory` comes only where the engine answered it.
 pub fn drive<G: Engine, I: Inputs, O: Sink>(
     engine: &mut G,
     inputs: &mut I,

@@ -16,9 +16,9 @@ assign-requires-clause-there c =
 
 pub assign-requires-clause-value : goal.assign-requires-clause-value
 assign-requires-clause-value c =
-    let m = chart_of c.args.chart.now in
-    let fits = subst (FitsChart m) (sym c.self.view_is) c.requires.fits in
-    let scope = c.declared_scope.ensures m.tree m.names _ fits in
+    let chart = chart_of c.args.chart.now in
+    let fits = subst (FitsChart chart) (sym c.self.view_is) c.requires.fits in
+    let scope = c.declared_scope.ensures chart.tree chart.names _ fits in
     let has : HasSort c.requires.can.sort c.in-Ok.value =
     c.in-Ok.ensures.sort c.requires.can.sort
     (ap (λ s. sort_of s (expr_of c.args.e.now)) scope ∙ c.requires.can.sorted) in
@@ -35,9 +35,9 @@ returns-in-Ok-clause-does c =
 
 pub returns-in-Ok-clause-fits : goal.returns-in-Ok-clause-fits
 returns-in-Ok-clause-fits c =
-    let m = chart_of c.args.chart.now in
-    let fits = subst (FitsChart m) (sym c.self.view_is) c.requires.fits in
-    let scope = c.declared_scope.ensures m.tree m.names _ fits in
+    let chart = chart_of c.args.chart.now in
+    let fits = subst (FitsChart chart) (sym c.self.view_is) c.requires.fits in
+    let scope = c.declared_scope.ensures chart.tree chart.names _ fits in
     let has : HasSort c.requires.can.sort c.in-Ok.value =
     c.in-Ok.ensures.sort c.requires.can.sort
     (ap (λ s. sort_of s (expr_of c.args.e.now)) scope ∙ c.requires.can.sorted) in
@@ -46,7 +46,7 @@ returns-in-Ok-clause-fits c =
     (sym (declared_sort _ _ _ c.args.v c.requires.can.decl fits c.requires.can.declared).0)
     (c.values_can_be_assigned.ensures c.requires.can.decl.sort c.requires.can.sort c.in-Ok.value c.requires.can.takes
     has) in
-    assign_fits m.tree m.names _ c.args.v c.in-Ok.value _ c.assign.result fits can c.assign.ensures.assigned
+    assign_fits chart.tree chart.names _ c.args.v c.in-Ok.value _ c.assign.result fits can c.assign.ensures.assigned
     c.assign.ensures.kept
 
 pub returns-in-Err-clause-does : goal.returns-in-Err-clause-does

@@ -1,5 +1,6 @@
 -- The steps used never fall.
-use Rattle.std.proofs.Common.{◌≡◌, ℕ, ◌+◌, ◌<◌, ◌≤◌, List, Bool, true, false, Result, Ok, Err, refl, ap, ◌∙◌, subst, arith}
+use Rattle.std.proofs.Common.{◌≡◌, ℕ, ◌+◌, ◌<◌, ◌≤◌, List, Bool, true, false, Result, Ok, Err, refl, ap, ◌∙◌, subst}
+use Rattle.std.proofs.Common.{arith}
 use Rattle.flow_base.specs.declared.bounds.Bounds.{Bounds}
 use Rattle.flow_base.specs.declared.fault.Fault.{Fault}
 use Rattle.active_config.specs.Tree.{IsTree}
@@ -39,12 +40,18 @@ at_end P (ended x v p) a w e = let f : v ≡ w = cc in subst P f p
 at_end P (faulted x v p) a w e = absurd cc
 at_end P unfinished a w e = absurd cc
 
-pub block_uses : (c : Chart) → IsTree c.tree → (b : Bounds) (life : Life) (stmts : List Stmt) (now : Now) (w v : World) (e : End) → Settled (λ n. (upto c b n).block life stmts now w) (Ended e v) → w.used ≤ v.used
-block_uses c tree b life stmts now w v e (settled from h) = at_end (λ v. w.used ≤ v.used) ((upto_keep c tree b (λ v. w.used ≤ v.used) (used_closed c b w.used) from).block life stmts now w (omega arith)) e v (h from (omega arith))
+pub block_uses : (c : Chart) → IsTree c.tree
+    → (b : Bounds) (life : Life) (stmts : List Stmt) (now : Now) (w v : World) (e : End)
+    → Settled (λ n. (upto c b n).block life stmts now w) (Ended e v) → w.used ≤ v.used
+block_uses c tree b life stmts now w v e (settled from h) =
+    at_end (λ v. w.used ≤ v.used)
+    ((upto_keep c tree b (λ v. w.used ≤ v.used) (used_closed c b w.used) from).block life stmts now w (omega arith)) e v
+    (h from (omega arith))
 
 pub pay_done : (b : Bounds) (w v : World) → pay b w ≡ Ended tt v → (w.used < b.steps) × (v.used ≡ w.used + 1)
 pay_done b w v e = at (paid_in b w) refl e
   where
-    at : (r : Result World Fault) → paid_in b w ≡ r → change_or_fault r w ≡ Ended tt v → (w.used < b.steps) × (v.used ≡ w.used + 1)
+    at : (r : Result World Fault) → paid_in b w ≡ r → change_or_fault r w ≡ Ended tt v
+        → (w.used < b.steps) × (v.used ≡ w.used + 1)
     at (Ok u) q e = let g : u ≡ v = cc in paid_ok b w v (q ∙ ap (λ x. Ok x) g)
     at (Err x) q e = absurd cc

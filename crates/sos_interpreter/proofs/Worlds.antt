@@ -1,5 +1,6 @@
 -- Worlds that fit a chart, and what changes them.
-use Rattle.std.proofs.Common.{◌≡◌, ℕ, zero, suc, ◌+◌, ◌<◌, List, [], ◌∷◌, length, Some, None, Result, Ok, Err, Bool, true, false, cond, nat_le, OnOk, OnErr, IfErr, map, sym, ap, ◌∙◌, subst, arith}
+use Rattle.std.proofs.Common.{◌≡◌, ℕ, zero, suc, ◌+◌, ◌<◌, List, [], ◌∷◌, length, Some, None, Result, Ok, Err, Bool}
+use Rattle.std.proofs.Common.{true, false, cond, nat_le, OnOk, OnErr, IfErr, map, sym, ap, ◌∙◌, subst, arith}
 use Rattle.std.specs.List.{AllByRecursion}
 use Rattle.flow_base.specs.declared.bounds.Bounds.{Bounds}
 use Rattle.flow_base.specs.declared.fault.Fault.{Fault}
@@ -45,7 +46,8 @@ input_set w w' v value vals same e =
     (vals, ap (λ (x : World). assigned x.vals v value) (sym same) ∙ e, ap (λ (x : World). record x { vals = vals }) same)
 
 -- another world with the same data and outputs, and consistent marks
-pub fits_as : (t : Tree) (n : Names) (w v : World) → Fits t n w → IsConsistent t v.marks → v.vals ≡ w.vals → v.outputs ≡ w.outputs → Fits t n v
+pub fits_as : (t : Tree) (n : Names) (w v : World) → Fits t n w → IsConsistent t v.marks → v.vals ≡ w.vals
+    → v.outputs ≡ w.outputs → Fits t n v
 fits_as t n w v fits k a b = record {
   states = fits.states;
   consistent = k;
@@ -63,8 +65,8 @@ out_fits t n e w fits lt = record {
   outputs = all_push (λ (event : ℕ). event < length n.events) w.outputs e fits.outputs lt;
 }
 
-pub assigned_fits : (t : Tree) (n : Names) (w : World) (v : ℕ) (value : Value) (vals : List Datum) → Fits t n w → CanTake (datum w.vals v).sort value
-    → assigned w.vals v value ≡ Ok vals → Fits t n (record w { vals = vals })
+pub assigned_fits : (t : Tree) (n : Names) (w : World) (v : ℕ) (value : Value) (vals : List Datum) → Fits t n w
+    → CanTake (datum w.vals v).sort value → assigned w.vals v value ≡ Ok vals → Fits t n (record w { vals = vals })
 assigned_fits t n w v value vals fits can e = record {
   states = fits.states;
   consistent = fits.consistent;
@@ -83,50 +85,67 @@ pub can_root : (t : Tree) (s : ℕ) (m : Configuration) → is_on s m ≡ false 
 unfolding can_mark
 can_root t s m e f = ap (λ b. not b && parent_takes_child t (parent_of t s) m) e ∙ ap (λ o. parent_takes_child t o m) f
 
-pub can_below : (t : Tree) (s p : ℕ) (o : Comp) (m : Configuration) → is_on s m ≡ false → parent_of t s ≡ Some p → comp_of t p ≡ o → can_mark t s m ≡ takes_child t p o m
+pub can_below : (t : Tree) (s p : ℕ) (o : Comp) (m : Configuration) → is_on s m ≡ false → parent_of t s ≡ Some p
+    → comp_of t p ≡ o → can_mark t s m ≡ takes_child t p o m
 unfolding can_mark
-can_below t s p o m e f g = ap (λ b. not b && parent_takes_child t (parent_of t s) m) e ∙ ap (λ o. parent_takes_child t o m) f ∙ ap (λ o. takes_child t p o m) g
+can_below t s p o m e f g =
+    ap (λ b. not b && parent_takes_child t (parent_of t s) m) e ∙ ap (λ o. parent_takes_child t o m) f
+    ∙ ap (λ o. takes_child t p o m) g
 
 -- ---- paying, assigning and testing
 
 pub pay_spent : (b : Bounds) (w : World) → nat_le b.steps w.used ≡ true → pay b w ≡ Faulted Steps w
 unfolding paid_in
-pay_spent b w e = ap (λ (full : Bool). change_or_fault (cond full (Err Steps) (Ok (record w { used = w.used + 1 }))) w) e
+pay_spent b w e =
+    ap (λ (full : Bool). change_or_fault (cond full (Err Steps) (Ok (record w { used = w.used + 1 }))) w) e
 
-pub pay_left : (b : Bounds) (w : World) → nat_le b.steps w.used ≡ false → pay b w ≡ Ended tt (record w { used = w.used + 1 })
+pub pay_left : (b : Bounds) (w : World) → nat_le b.steps w.used ≡ false
+    → pay b w ≡ Ended tt (record w { used = w.used + 1 })
 unfolding paid_in
 pay_left b w e = ap (λ (full : Bool). change_or_fault (cond full (Err Steps) (Ok (record w { used = w.used + 1 }))) w) e
 
-pub assign_no_value : (v : ℕ) (e : Expr) (w : World) (x : Fault) → value_of w.vals w.marks e ≡ Err x → assign v e w ≡ Faulted x w
+pub assign_no_value : (v : ℕ) (e : Expr) (w : World) (x : Fault) → value_of w.vals w.marks e ≡ Err x
+    → assign v e w ≡ Faulted x w
 unfolding assigned_in
 assign_no_value v e w x q = ap (λ (r : Valued). change_or_fault (assigned_value v r w) w) q
 
-pub assign_no_room : (v : ℕ) (e : Expr) (w : World) (value : Value) (x : Fault) → value_of w.vals w.marks e ≡ Ok value → assigned w.vals v value ≡ Err x → assign v e w ≡ Faulted x w
+pub assign_no_room : (v : ℕ) (e : Expr) (w : World) (value : Value) (x : Fault) → value_of w.vals w.marks e ≡ Ok value
+    → assigned w.vals v value ≡ Err x → assign v e w ≡ Faulted x w
 unfolding assigned_in
-assign_no_room v e w value x q r = ap (λ (r : Valued). change_or_fault (assigned_value v r w) w) q ∙ ap (λ (r : Result (List Datum) Fault). change_or_fault (with_data r w) w) r
+assign_no_room v e w value x q r =
+    ap (λ (r : Valued). change_or_fault (assigned_value v r w) w) q
+    ∙ ap (λ (r : Result (List Datum) Fault). change_or_fault (with_data r w) w) r
 
-pub assign_kept : (v : ℕ) (e : Expr) (w : World) (value : Value) (vals : List Datum) → value_of w.vals w.marks e ≡ Ok value → assigned w.vals v value ≡ Ok vals → assign v e w ≡ Ended tt (record w { vals = vals })
+pub assign_kept : (v : ℕ) (e : Expr) (w : World) (value : Value) (vals : List Datum)
+    → value_of w.vals w.marks e ≡ Ok value → assigned w.vals v value ≡ Ok vals
+    → assign v e w ≡ Ended tt (record w { vals = vals })
 unfolding assigned_in
-assign_kept v e w value vals q r = ap (λ (r : Valued). change_or_fault (assigned_value v r w) w) q ∙ ap (λ (r : Result (List Datum) Fault). change_or_fault (with_data r w) w) r
+assign_kept v e w value vals q r =
+    ap (λ (r : Valued). change_or_fault (assigned_value v r w) w) q
+    ∙ ap (λ (r : Result (List Datum) Fault). change_or_fault (with_data r w) w) r
 
-pub truth_fault : (e : Expr) (w : World) (x : Fault) → value_of w.vals w.marks e ≡ Err x → flag_or_fault (truth_of e w) w ≡ Faulted x w
+pub truth_fault : (e : Expr) (w : World) (x : Fault) → value_of w.vals w.marks e ≡ Err x
+    → flag_or_fault (truth_of e w) w ≡ Faulted x w
 unfolding truth_of
 truth_fault e w x q = ap (λ (r : Valued). flag_or_fault (truth r) w) q
 
-pub truth_is : (e : Expr) (w : World) (value : Value) → value_of w.vals w.marks e ≡ Ok value → flag_or_fault (truth_of e w) w ≡ Ended (flag_of value) w
+pub truth_is : (e : Expr) (w : World) (value : Value) → value_of w.vals w.marks e ≡ Ok value
+    → flag_or_fault (truth_of e w) w ≡ Ended (flag_of value) w
 unfolding truth_of
 truth_is e w value q = ap (λ (r : Valued). flag_or_fault (truth r) w) q
 
 pub assign_does : (v : ℕ) (e : Expr) (w : World) (value : Value) (vals : List Datum) (answer : Result (Unit {0}) Fault)
-    → value_of w.vals w.marks e ≡ Ok value → OnOk answer (assigned w.vals v value ≡ Ok vals) → IfErr answer (λ x. assigned w.vals v value ≡ Err x)
-    → OnErr answer (vals ≡ w.vals) → Does {A = Unit {0}} (λ _. tt) (assign v e w) (halted answer) (record w { vals = vals })
+    → value_of w.vals w.marks e ≡ Ok value → OnOk answer (assigned w.vals v value ≡ Ok vals)
+    → IfErr answer (λ x. assigned w.vals v value ≡ Err x) → OnErr answer (vals ≡ w.vals)
+    → Does {A = Unit {0}} (λ _. tt) (assign v e w) (halted answer) (record w { vals = vals })
 assign_does v e w value vals (Ok a) q taken refused same = assign_kept v e w value vals q taken
 assign_does v e w value vals (Err x) q taken refused same =
     assign_no_room v e w value x q refused ∙ ap (λ (l : List Datum). Faulted x (record w { vals = l })) (sym same)
 
-pub assign_fits : (t : Tree) (n : Names) (w : World) (v : ℕ) (value : Value) (vals : List Datum) (answer : Result (Unit {0}) Fault) → Fits t n w
-    → CanTake (datum w.vals v).sort value → OnOk answer (assigned w.vals v value ≡ Ok vals) → OnErr answer (vals ≡ w.vals)
-    → Fits t n (record w { vals = vals })
+pub assign_fits : (t : Tree) (n : Names) (w : World) (v : ℕ) (value : Value) (vals : List Datum)
+    (answer : Result (Unit {0}) Fault)
+    → Fits t n w → CanTake (datum w.vals v).sort value → OnOk answer (assigned w.vals v value ≡ Ok vals)
+    → OnErr answer (vals ≡ w.vals) → Fits t n (record w { vals = vals })
 assign_fits t n w v value vals (Ok done) fits can taken refused = assigned_fits t n w v value vals fits can taken
 assign_fits t n w v value vals (Err fault) fits can taken refused =
     subst (λ (x : List Datum). Fits t n (record w { vals = x })) (sym refused) fits
@@ -152,15 +171,19 @@ sort_there (d ∷ vals) (x ∷ vars) (suc v) decl e f =
     (h.0, let k = h.1 in omega arith)
 
 -- the sort of a datum that is declared
-pub declared_sort : (t : Tree) (n : Names) (w : World) (v : ℕ) (decl : Var) → Fits t n w → slice_get n.vars v ≡ Some decl → ((datum w.vals v).sort ≡ decl.sort) × (v < length w.vals)
+pub declared_sort : (t : Tree) (n : Names) (w : World) (v : ℕ) (decl : Var) → Fits t n w
+    → slice_get n.vars v ≡ Some decl → ((datum w.vals v).sort ≡ decl.sort) × (v < length w.vals)
 declared_sort t n w v decl fits e = sort_there w.vals n.vars v decl fits.declared e
 
-pub assign_did : (v : ℕ) (e : Expr) (w w' : World) (value : Value) (vals : List Datum) (answer : Result (Unit {0}) Fault) (r : Result (Unit {0}) Halt) → w ≡ w' → r ≡ halted answer
-    → Ok value ≡ value_of w.vals w.marks e → OnOk answer (assigned w.vals v value ≡ Ok vals) → IfErr answer (λ x. assigned w.vals v value ≡ Err x)
+pub assign_did : (v : ℕ) (e : Expr) (w w' : World) (value : Value) (vals : List Datum)
+    (answer : Result (Unit {0}) Fault) (r : Result (Unit {0}) Halt)
+    → w ≡ w' → r ≡ halted answer → Ok value ≡ value_of w.vals w.marks e
+    → OnOk answer (assigned w.vals v value ≡ Ok vals) → IfErr answer (λ x. assigned w.vals v value ≡ Err x)
     → OnErr answer (vals ≡ w.vals) → Does {A = Unit {0}} (λ _. tt) (assign v e w') r (record w { vals = vals })
 assign_did v e w w' value vals answer r same is q taken refused kept =
     subst (λ (x : World). Does {A = Unit {0}} (λ _. tt) (assign v e x) r (record w { vals = vals })) same
-    (subst (λ r. Does {A = Unit {0}} (λ _. tt) (assign v e w) r (record w { vals = vals })) (sym is) (assign_does v e w value vals answer (sym q) taken refused kept))
+    (subst (λ r. Does {A = Unit {0}} (λ _. tt) (assign v e w) r (record w { vals = vals })) (sym is)
+    (assign_does v e w value vals answer (sym q) taken refused kept))
 
 -- ---- history
 
@@ -190,21 +213,23 @@ unfolding may_return
 remembers_none c s w e = ap (λ b. find (λ x. is_last c.tree x w.marks) (if b then children_of c.tree s else [])) (sym e)
 
 -- a state whose parent has history has an OR as its parent
-pub remembering_or : (c : Chart) (s : ℕ) → is_remembered c s ≡ true → IsSomeAnd (parent_of c.tree s) (λ p. comp_of c.tree p ≡ Or)
+pub remembering_or : (c : Chart) (s : ℕ) → is_remembered c s ≡ true
+    → IsSomeAnd (parent_of c.tree s) (λ p. comp_of c.tree p ≡ Or)
 remembering_or c s h =
     let i = remembering_parent c s h in
     subst (λ o. IsSomeAnd o (λ p. comp_of c.tree p ≡ Or)) (sym i.1) (history_or c i.0 i.2)
 
 -- a state that is entered, and whether its parent remembers it
-pub entered_kept : (c : Chart) (s : ℕ) (w : World) → is_remembered c s ≡ true → entered_in c s w ≡ keep_in c.tree s (set_mark s true w)
+pub entered_kept : (c : Chart) (s : ℕ) (w : World) → is_remembered c s ≡ true
+    → entered_in c s w ≡ keep_in c.tree s (set_mark s true w)
 entered_kept c s w e = entered_done c s w true e
 
 pub entered_plain : (c : Chart) (s : ℕ) (w : World) → is_remembered c s ≡ false → entered_in c s w ≡ set_mark s true w
 entered_plain c s w e = entered_done c s w false e
 
 -- a child that is remembered is below, and a state
-pub last_is_below : (t : Tree) → IsTree t → (s : ℕ) (m : Configuration) → IsConsistent t m → (o : Option ℕ) → o ≡ last_of s m
-    → IfSome o (λ x. (s < x) × (x < state_count t))
+pub last_is_below : (t : Tree) → IsTree t → (s : ℕ) (m : Configuration) → IsConsistent t m → (o : Option ℕ)
+    → o ≡ last_of s m → IfSome o (λ x. (s < x) × (x < state_count t))
 last_is_below t tree s m k None e = tt
 last_is_below t tree s m k (Some x) e =
     let child = child_is t tree s x (k.lasts s x (sym e)).1 in (child.above, child.within)

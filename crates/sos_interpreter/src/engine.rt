@@ -23,7 +23,7 @@ impl Phase {
     ghost use Rattle.actions.specs.Engines.{stage_after};
     ghost use Rattle.sos_interpreter.specs.Engine.{stage_of};
 
-    /// The phase behind an answer.
+    /// The phase after an answer.
     fn after(answer: &Result<(), Halt>) -> Phase
         ensures { stage_of result ≡ stage_after answer.now }
     {
@@ -56,7 +56,8 @@ impl Model for Rules {
 
     ghost view = { λ r. record { chart = r.chart; bounds = r.bounds; world = r.world; stage = stage_of r.phase } };
 
-    ghost invariant = { λ r. IsEngine (record { chart = r.chart; bounds = r.bounds; world = r.world; stage = stage_of r.phase }) };
+    ghost invariant = { λ r.
+        IsEngine (record { chart = r.chart; bounds = r.bounds; world = r.world; stage = stage_of r.phase }) };
 }
 
 impl Rules {

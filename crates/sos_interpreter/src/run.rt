@@ -127,7 +127,9 @@ fn run_block(
     requires fits { FitsChart (chart_of chart.now) world.old }
     requires life { IsLife (chart_of chart.now) (life_seen life) }
     requires stmts { AreStmts (chart_of chart.now) (block_seen stmts.now) }
-    ensures gives { Gives (λ e. end_of e) (λ n. (upto (chart_of chart.now) bounds n).block (life_seen life) (block_seen stmts.now) (now_of now) world.old) result world.new }
+    ensures gives { Gives (λ e. end_of e)
+        (λ n. (upto (chart_of chart.now) bounds n).block (life_seen life) (block_seen stmts.now) (now_of now) world.old)
+        result world.new }
     ensures fits { FitsChart (chart_of chart.now) world.new }
 {
     for stmt in stmts {
@@ -153,7 +155,10 @@ fn statement(
     requires fits { FitsChart (chart_of chart.now) world.old }
     requires life { IsLife (chart_of chart.now) (life_seen life) }
     requires stmt { IsStmt (chart_of chart.now) (stmt_of stmt.now) }
-    ensures gives { Gives (λ e. end_of e) (λ n. searches.statement (chart_of chart.now) bounds (upto (chart_of chart.now) bounds n) (life_seen life) (stmt_of stmt.now) (now_of now) world.old) result world.new }
+    ensures gives { Gives (λ e. end_of e)
+        (λ n. searches.statement (chart_of chart.now) bounds (upto (chart_of chart.now) bounds n) (life_seen life)
+        (stmt_of stmt.now) (now_of now) world.old)
+        result world.new }
     ensures fits { FitsChart (chart_of chart.now) world.new }
 {
     match stmt {
@@ -181,7 +186,8 @@ fn statement(
 fn alive(chart: &Chart, world: &LiveWorld, life: Life) -> End
     requires fits { FitsChart (chart_of chart.now) world.now }
     requires life { IsLife (chart_of chart.now) (life_seen life) }
-    ensures { searches.while_alive (chart_of chart.now).tree (life_seen life) world.now ≡ work.Ended (end_of result) world.now }
+    ensures { searches.while_alive (chart_of chart.now).tree (life_seen life) world.now
+        ≡ work.Ended (end_of result) world.now }
 {
     if world.lives(chart, life) {
         End::Done
@@ -203,7 +209,9 @@ fn send(
 ) -> Result<(), Halt>
     requires fits { FitsChart (chart_of chart.now) world.old }
     requires to { IfSome to (λ s. IsState (chart_of chart.now) s) }
-    ensures gives { Gives (λ _. tt) (λ n. (upto (chart_of chart.now) bounds n).send e to (now_of now) world.old) result world.new }
+    ensures gives { Gives (λ _. tt)
+        (λ n. (upto (chart_of chart.now) bounds n).send e to (now_of now) world.old)
+        result world.new }
     ensures fits { FitsChart (chart_of chart.now) world.new }
 {
     if now.depth >= bounds.depth {
@@ -241,7 +249,9 @@ fn exit(
 ) -> Result<(), Halt>
     requires fits { FitsChart (chart_of chart.now) world.old }
     requires state { IsState (chart_of chart.now) s }
-    ensures gives { Gives (λ _. tt) (λ n. (upto (chart_of chart.now) bounds n).exit s (now_of now) world.old) result world.new }
+    ensures gives { Gives (λ _. tt)
+        (λ n. (upto (chart_of chart.now) bounds n).exit s (now_of now) world.old)
+        result world.new }
     ensures fits { FitsChart (chart_of chart.now) world.new }
 {
     if !world.on(chart, s) {
@@ -282,7 +292,10 @@ fn exit_children(
 ) -> Result<(), Halt>
     requires fits { FitsChart (chart_of chart.now) world.old }
     requires state { IsState (chart_of chart.now) s }
-    ensures gives { Gives (λ _. tt) (λ n. moves.exit_children (chart_of chart.now) (upto (chart_of chart.now) bounds n) s (now_of now) (comp_of (chart_of chart.now).tree s) world.old) result world.new }
+    ensures gives { Gives (λ _. tt)
+        (λ n. moves.exit_children (chart_of chart.now) (upto (chart_of chart.now) bounds n) s (now_of now)
+        (comp_of (chart_of chart.now).tree s) world.old)
+        result world.new }
     ensures fits { FitsChart (chart_of chart.now) world.new }
 {
     match chart.comp(s) {
@@ -304,7 +317,10 @@ fn exit_all(
 ) -> Result<(), Halt>
     requires fits { FitsChart (chart_of chart.now) world.old }
     requires state { IsState (chart_of chart.now) s }
-    ensures gives { Gives (λ _. tt) (λ n. (upto (chart_of chart.now) bounds n).exit_each (reverse (children_of (chart_of chart.now).tree s)) (now_of now) world.old) result world.new }
+    ensures gives { Gives (λ _. tt)
+        (λ n. (upto (chart_of chart.now) bounds n).exit_each (reverse (children_of (chart_of chart.now).tree s))
+        (now_of now) world.old)
+        result world.new }
     ensures fits { FitsChart (chart_of chart.now) world.new }
 {
     let mut next = chart.last_child(s);
@@ -327,7 +343,9 @@ fn exit_active(
 ) -> Result<(), Halt>
     requires fits { FitsChart (chart_of chart.now) world.old }
     requires state { IsState (chart_of chart.now) s }
-    ensures gives { Gives (λ _. tt) (λ n. moves.exit_active (chart_of chart.now) (upto (chart_of chart.now) bounds n) s (now_of now) world.old) result world.new }
+    ensures gives { Gives (λ _. tt)
+        (λ n. moves.exit_active (chart_of chart.now) (upto (chart_of chart.now) bounds n) s (now_of now) world.old)
+        result world.new }
     ensures fits { FitsChart (chart_of chart.now) world.new }
 {
     match world.active_child(chart, s) {
@@ -350,7 +368,9 @@ fn enter(
     requires fits { FitsChart (chart_of chart.now) world.old }
     requires state { IsState (chart_of chart.now) s }
     requires to { IsState (chart_of chart.now) d }
-    ensures gives { Gives (λ _. tt) (λ n. (upto (chart_of chart.now) bounds n).enter s d (now_of now) world.old) result world.new }
+    ensures gives { Gives (λ _. tt)
+        (λ n. (upto (chart_of chart.now) bounds n).enter s d (now_of now) world.old)
+        result world.new }
     ensures fits { FitsChart (chart_of chart.now) world.new }
 {
     if !world.can_mark(chart, s) {
@@ -385,7 +405,10 @@ fn enter_inside(
     requires fits { FitsChart (chart_of chart.now) world.old }
     requires state { IsState (chart_of chart.now) s }
     requires to { IsState (chart_of chart.now) d }
-    ensures gives { Gives (λ _. tt) (λ n. moves.enter_inside (chart_of chart.now) (upto (chart_of chart.now) bounds n) s d (now_of now) (comp_of (chart_of chart.now).tree s) world.old) result world.new }
+    ensures gives { Gives (λ _. tt)
+        (λ n. moves.enter_inside (chart_of chart.now) (upto (chart_of chart.now) bounds n) s d (now_of now)
+        (comp_of (chart_of chart.now).tree s) world.old)
+        result world.new }
     ensures fits { FitsChart (chart_of chart.now) world.new }
 {
     match chart.comp(s) {
@@ -409,7 +432,10 @@ fn enter_all(
     requires fits { FitsChart (chart_of chart.now) world.old }
     requires state { IsState (chart_of chart.now) s }
     requires to { IsState (chart_of chart.now) d }
-    ensures gives { Gives (λ _. tt) (λ n. (upto (chart_of chart.now) bounds n).enter_each (children_of (chart_of chart.now).tree s) d (now_of now) world.old) result world.new }
+    ensures gives { Gives (λ _. tt)
+        (λ n. (upto (chart_of chart.now) bounds n).enter_each (children_of (chart_of chart.now).tree s) d (now_of now)
+        world.old)
+        result world.new }
     ensures fits { FitsChart (chart_of chart.now) world.new }
 {
     let mut next = chart.first_child(s);
@@ -434,7 +460,9 @@ fn enter_toward(
     requires fits { FitsChart (chart_of chart.now) world.old }
     requires state { IsState (chart_of chart.now) s }
     requires to { IsState (chart_of chart.now) d }
-    ensures gives { Gives (λ _. tt) (λ n. moves.enter_toward (chart_of chart.now) (upto (chart_of chart.now) bounds n) s d (now_of now) world.old) result world.new }
+    ensures gives { Gives (λ _. tt)
+        (λ n. moves.enter_toward (chart_of chart.now) (upto (chart_of chart.now) bounds n) s d (now_of now) world.old)
+        result world.new }
     ensures fits { FitsChart (chart_of chart.now) world.new }
 {
     if s == d {
@@ -457,7 +485,10 @@ fn enter_child(
     requires fits { FitsChart (chart_of chart.now) world.old }
     requires state { IsState (chart_of chart.now) s }
     requires to { IsState (chart_of chart.now) d }
-    ensures gives { Gives (λ _. tt) (λ n. work.if_some (homes.child_toward (chart_of chart.now).tree s d) work.nothing (λ x. (upto (chart_of chart.now) bounds n).enter x d (now_of now)) world.old) result world.new }
+    ensures gives { Gives (λ _. tt)
+        (λ n. work.if_some (homes.child_toward (chart_of chart.now).tree s d) work.nothing
+        (λ x. (upto (chart_of chart.now) bounds n).enter x d (now_of now)) world.old)
+        result world.new }
     ensures fits { FitsChart (chart_of chart.now) world.new }
 {
     match chart.child_toward(s, d) {
@@ -478,7 +509,9 @@ fn defaults(
 ) -> Result<(), Halt>
     requires fits { FitsChart (chart_of chart.now) world.old }
     requires state { IsState (chart_of chart.now) s }
-    ensures gives { Gives (λ _. tt) (λ n. (upto (chart_of chart.now) bounds n).defaults s (now_of now) world.old) result world.new }
+    ensures gives { Gives (λ _. tt)
+        (λ n. (upto (chart_of chart.now) bounds n).defaults s (now_of now) world.old)
+        result world.new }
     ensures fits { FitsChart (chart_of chart.now) world.new }
 {
     match world.remembered(chart, s) {
@@ -499,7 +532,9 @@ fn default_search(
 ) -> Result<(), Halt>
     requires fits { FitsChart (chart_of chart.now) world.old }
     requires state { IsState (chart_of chart.now) s }
-    ensures gives { Gives (λ _. tt) (λ n. moves.default_search (chart_of chart.now) (upto (chart_of chart.now) bounds n) s (now_of now) world.old) result world.new }
+    ensures gives { Gives (λ _. tt)
+        (λ n. moves.default_search (chart_of chart.now) (upto (chart_of chart.now) bounds n) s (now_of now) world.old)
+        result world.new }
     ensures fits { FitsChart (chart_of chart.now) world.new }
 {
     match search(
@@ -535,7 +570,10 @@ fn play(
     requires fits { FitsChart (chart_of chart.now) world.old }
     requires state { IsState (chart_of chart.now) s }
     requires actions { AreActions (chart_of chart.now) (map (λ a. block_seen a.now) actions.now) }
-    ensures gives { Gives (λ e. end_of e) (λ n. (upto (chart_of chart.now) bounds n).play s (map (λ a. block_seen a.now) actions.now) (now_of now) world.old) result world.new }
+    ensures gives { Gives (λ e. end_of e)
+        (λ n. (upto (chart_of chart.now) bounds n).play s (map (λ a. block_seen a.now) actions.now) (now_of now)
+        world.old)
+        result world.new }
     ensures fits { FitsChart (chart_of chart.now) world.new }
 {
     for action in actions {
@@ -567,7 +605,10 @@ fn take(
     requires state { IsState (chart_of chart.now) s }
     requires to { IsState (chart_of chart.now) d }
     requires actions { AreActions (chart_of chart.now) (map (λ a. block_seen a.now) actions.now) }
-    ensures gives { Gives (λ _. tt) (λ n. (upto (chart_of chart.now) bounds n).take s d (map (λ a. block_seen a.now) actions.now) (now_of now) world.old) result world.new }
+    ensures gives { Gives (λ _. tt)
+        (λ n. (upto (chart_of chart.now) bounds n).take s d (map (λ a. block_seen a.now) actions.now) (now_of now)
+        world.old)
+        result world.new }
     ensures fits { FitsChart (chart_of chart.now) world.new }
 {
     exit_active(alloc, chart, bounds, world, s, now)?;
@@ -597,7 +638,9 @@ fn process(
 ) -> Result<Went, Halt>
     requires fits { FitsChart (chart_of chart.now) world.old }
     requires state { IsState (chart_of chart.now) s }
-    ensures gives { Gives (λ r. went_of r) (λ n. (upto (chart_of chart.now) bounds n).process s (now_of now) world.old) result world.new }
+    ensures gives { Gives (λ r. went_of r)
+        (λ n. (upto (chart_of chart.now) bounds n).process s (now_of now) world.old)
+        result world.new }
     ensures fits { FitsChart (chart_of chart.now) world.new }
 {
     match search(
@@ -632,7 +675,10 @@ fn go_on_inside(
 ) -> Result<Went, Halt>
     requires fits { FitsChart (chart_of chart.now) world.old }
     requires state { IsState (chart_of chart.now) s }
-    ensures gives { Gives (λ r. went_of r) (λ n. processing.go_on_inside (chart_of chart.now) (upto (chart_of chart.now) bounds n) s (now_of now) world.old) result world.new }
+    ensures gives { Gives (λ r. went_of r)
+        (λ n. processing.go_on_inside (chart_of chart.now) (upto (chart_of chart.now) bounds n) s (now_of now)
+        world.old)
+        result world.new }
     ensures fits { FitsChart (chart_of chart.now) world.new }
 {
     match run_block(
@@ -677,7 +723,10 @@ fn process_children(
 ) -> Result<Went, Halt>
     requires fits { FitsChart (chart_of chart.now) world.old }
     requires state { IsState (chart_of chart.now) s }
-    ensures gives { Gives (λ r. went_of r) (λ n. processing.process_children (chart_of chart.now) (upto (chart_of chart.now) bounds n) s (now_of now) (comp_of (chart_of chart.now).tree s) world.old) result world.new }
+    ensures gives { Gives (λ r. went_of r)
+        (λ n. processing.process_children (chart_of chart.now) (upto (chart_of chart.now) bounds n) s (now_of now)
+        (comp_of (chart_of chart.now).tree s) world.old)
+        result world.new }
     ensures fits { FitsChart (chart_of chart.now) world.new }
 {
     match chart.comp(s) {
@@ -716,7 +765,10 @@ fn process_all(
 ) -> Result<Went, Halt>
     requires fits { FitsChart (chart_of chart.now) world.old }
     requires state { IsState (chart_of chart.now) s }
-    ensures gives { Gives (λ r. went_of r) (λ n. (upto (chart_of chart.now) bounds n).process_each (children_of (chart_of chart.now).tree s) (now_of now) world.old) result world.new }
+    ensures gives { Gives (λ r. went_of r)
+        (λ n. (upto (chart_of chart.now) bounds n).process_each (children_of (chart_of chart.now).tree s) (now_of now)
+        world.old)
+        result world.new }
     ensures fits { FitsChart (chart_of chart.now) world.new }
 {
     let mut next = chart.first_child(s);
@@ -747,7 +799,9 @@ fn search<'a>(
     requires fits { FitsChart (chart_of chart.now) world.old }
     requires life { IsLife (chart_of chart.now) (life_seen life) }
     requires list { AreTrans (chart_of chart.now) (list_seen list.now) }
-    ensures gives { Gives (λ f. found_of f) (λ n. (upto (chart_of chart.now) bounds n).search (life_seen life) (list_seen list.now) (now_of now) world.old) result world.new }
+    ensures gives { Gives (λ f. found_of f)
+        (λ n. (upto (chart_of chart.now) bounds n).search (life_seen life) (list_seen list.now) (now_of now) world.old)
+        result world.new }
     ensures fits { FitsChart (chart_of chart.now) world.new }
     ensures found { IfOk result (λ f. IsFound (chart_of chart.now) (found_of f)) }
 {
@@ -800,7 +854,8 @@ fn actions_on<'a>(
     places: &[Place<'a>],
     last: &'a [Stmt],
 ) -> Result<Vec<&'a [Stmt]>, Halt>
-    ensures ok { IfOk result (λ v. map (λ a. block_seen a.now) v.items ≡ map (λ p. block_seen p.action.now) places.entry.now ++ block_seen last.now ∷ []) }
+    ensures ok { IfOk result (λ v. map (λ a. block_seen a.now) v.items
+        ≡ map (λ p. block_seen p.action.now) places.entry.now ++ block_seen last.now ∷ []) }
     ensures err { IfErr result (λ h. h ≡ halts.Memory) }
 {
     let mut actions: Vec<&'a [Stmt]> = Vec::new(alloc);
@@ -852,7 +907,8 @@ pub(crate) fn react(
     event: Event,
 ) -> Result<(), Halt>
     requires fits { FitsChart (chart_of chart.now) world.old }
-    ensures defined { AnswersBy (Reacts (record { chart = chart_of chart.now; bounds = bounds }) world.old event world.new) result }
+    ensures defined { AnswersBy (Reacts (record { chart = chart_of chart.now; bounds = bounds }) world.old event
+        world.new) result }
     ensures fits { FitsChart (chart_of chart.now) world.new }
     ensures fault { IsFaultOf (chart_of chart.now).names (fault_of result) }
 {

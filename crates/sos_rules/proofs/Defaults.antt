@@ -1,12 +1,14 @@
 -- A search of a list that always leads somewhere finds a state, or is stopped; and default lists of valid charts do.
-use Rattle.std.proofs.Common.{◌≡◌, ℕ, zero, suc, ◌<◌, List, [], ◌∷◌, None, Bool, true, false, refl, sym, ap, ◌∙◌, subst, arith}
+use Rattle.std.proofs.Common.{◌≡◌, ℕ, zero, suc, ◌<◌, List, [], ◌∷◌, None, Bool, true, false, refl, sym, ap, ◌∙◌, subst}
+use Rattle.std.proofs.Common.{arith}
 use Rattle.flow_base.specs.declared.bounds.Bounds.{Bounds}
 use Rattle.actions.specs.Exprs.{Stmt}
 use Rattle.actions.specs.World.{World, Life}
 use Rattle.run_work.specs.Work.{Run, Ended, Faulted, Unfinished, Work, then_do, choose, give, End, Done, Cut, Now}
 use Rattle.sos_rules.specs.Finds.{IsFind, Finds}
 use Rattle.sos_rules.specs.Parts.{Found, Fire, DeadEnd, No, Stop, Parts}
-use Rattle.sos_rules.specs.Searches.{event_fits, guard_holds, is_enabled, after_junction, visit, at_dest, after_condition}
+use Rattle.sos_rules.specs.Searches.{event_fits, guard_holds, is_enabled, after_junction, visit, at_dest}
+use Rattle.sos_rules.specs.Searches.{after_condition}
 use Rattle.sos_rules.specs.Rules.{upto}
 use Rattle.state_tree.specs.Chart.{Chart, Trans, junction, list_of}
 use Rattle.state_tree.specs.Reached.{LeadsTo, Reached, Directly, Through}
@@ -35,47 +37,66 @@ then_finds (Faulted x w) f h = tt
 then_finds Unfinished f h = tt
 
 -- after a search that finds comes one that does where it found something
-from_find : (r : Run Found) (f : Found → Work Found) → Finds r → ((a : Found) (w : World) → IsFind a → Finds (f a w)) → Finds (then_do r f)
+from_find : (r : Run Found) (f : Found → Work Found) → Finds r → ((a : Found) (w : World) → IsFind a → Finds (f a w))
+    → Finds (then_do r f)
 from_find (Ended a w) f h k = k a w h
 from_find (Faulted x w) f h k = tt
 from_find Unfinished f h k = tt
 
 module _ (c : Chart) (b : Bounds) (good : ℕ → Type 0) (closed : (j : ℕ) → good j → AlwaysGoes good (junction c j)) where
-  module _ (p : Parts) (ih : (life : Life) (list : List Trans) (now : Now) (w : World) → AlwaysGoes good list → Finds (p.search life list now w)) (life : Life) (now : Now) where
-    after_junction_finds : (action : List Stmt) (rest : List Trans) (f : Found) (w : World) → IsFind f → Finds (after_junction c b p life action rest now f w)
+  module _ (p : Parts) (ih : (life : Life) (list : List Trans) (now : Now) (w : World) → AlwaysGoes good list
+      → Finds (p.search life list now w)) (life : Life) (now : Now) where
+    after_junction_finds : (action : List Stmt) (rest : List Trans) (f : Found) (w : World) → IsFind f
+        → Finds (after_junction c b p life action rest now f w)
     after_junction_finds action rest (Fire d actions) w h = tt
     after_junction_finds action rest DeadEnd w h = h
     after_junction_finds action rest No w h = absurd h
     after_junction_finds action rest Stop w h = tt
 
-    visit_finds : (action : List Stmt) (rest list : List Trans) (w : World) → AlwaysGoes good list → Finds (visit c b p life action rest now list w)
+    visit_finds : (action : List Stmt) (rest list : List Trans) (w : World) → AlwaysGoes good list
+        → Finds (visit c b p life action rest now list w)
     visit_finds action rest [] w h = absurd h
-    visit_finds action rest (t ∷ ts) w h = from_find (p.search life (t ∷ ts) now w) (after_junction c b p life action rest now) (ih life (t ∷ ts) now w h) (after_junction_finds action rest)
+    visit_finds action rest (t ∷ ts) w h =
+        from_find (p.search life (t ∷ ts) now w) (after_junction c b p life action rest now) (ih life (t ∷ ts) now w h)
+        (after_junction_finds action rest)
 
-    dest_finds : (action : List Stmt) (rest : List Trans) (d : Dest) (w : World) → LeadsInto good d → Finds (at_dest c b p life action rest now d w)
+    dest_finds : (action : List Stmt) (rest : List Trans) (d : Dest) (w : World) → LeadsInto good d
+        → Finds (at_dest c b p life action rest now d w)
     dest_finds action rest (State d) w h = tt
-    dest_finds action rest (Junction j) w h = then_finds _ _ (λ _ w. visit_finds action rest (junction c j) w (closed j h))
+    dest_finds action rest (Junction j) w h =
+        then_finds _ _ (λ _ w. visit_finds action rest (junction c j) w (closed j h))
 
-    after_condition_finds : (t : Trans) (rest : List Trans) (e : End) (w : World) → LeadsInto good t.dest → Finds (after_condition c b p life t rest now e w)
+    after_condition_finds : (t : Trans) (rest : List Trans) (e : End) (w : World) → LeadsInto good t.dest
+        → Finds (after_condition c b p life t rest now e w)
     after_condition_finds t rest Done w h = dest_finds t.action rest t.dest w h
     after_condition_finds t rest Cut w h = tt
 
-    taken : (t : Trans) (rest : List Trans) (w : World) → LeadsInto good t.dest → Finds (then_do (p.block life t.condition now w) (after_condition c b p life t rest now))
+    taken : (t : Trans) (rest : List Trans) (w : World) → LeadsInto good t.dest
+        → Finds (then_do (p.block life t.condition now w) (after_condition c b p life t rest now))
     taken t rest w h = then_finds _ _ (λ e w. after_condition_finds t rest e w h)
 
-    chosen : (t u : Trans) (ts : List Trans) (e : Bool) (w : World) → LeadsInto good t.dest → AlwaysGoes good (u ∷ ts) → Finds (choose e (λ w. then_do (p.block life t.condition now w) (after_condition c b p life t (u ∷ ts) now)) (p.search life (u ∷ ts) now) w)
+    chosen : (t u : Trans) (ts : List Trans) (e : Bool) (w : World) → LeadsInto good t.dest → AlwaysGoes good (u ∷ ts)
+        → Finds (choose e (λ w. then_do (p.block life t.condition now w) (after_condition c b p life t (u ∷ ts) now))
+        (p.search life (u ∷ ts) now) w)
     chosen t u ts true w h g = taken t (u ∷ ts) w h
     chosen t u ts false w h g = ih life (u ∷ ts) now w g
 
     always : (t : Trans) (w : World) → t.event ≡ None → t.guard ≡ None → is_enabled t now w ≡ Ended true w
-    always t w e g = ap (λ o. choose (event_fits o now.event) (guard_holds t.guard) (give false) w) e ∙ ap (λ o. guard_holds o w) g
+    always t w e g =
+        ap (λ o. choose (event_fits o now.event) (guard_holds t.guard) (give false) w) e ∙ ap (λ o. guard_holds o w) g
 
-  pub search_finds : (n : ℕ) (life : Life) (list : List Trans) (now : Now) (w : World) → AlwaysGoes good list → Finds ((upto c b n).search life list now w)
+  pub search_finds : (n : ℕ) (life : Life) (list : List Trans) (now : Now) (w : World) → AlwaysGoes good list
+      → Finds ((upto c b n).search life list now w)
   search_finds zero life list now w h = tt
   search_finds (suc n) life [] now w h = absurd h
   search_finds (suc n) life (t ∷ []) now w h =
-      subst (λ r. Finds (then_do r (λ e. choose e (λ w. then_do ((upto c b n).block life t.condition now w) (after_condition c b (upto c b n) life t [] now)) ((upto c b n).search life [] now)))) (sym (always (upto c b n) (search_finds n) life now t w h.0 h.1)) (taken (upto c b n) (search_finds n) life now t [] w h.2)
-  search_finds (suc n) life (t ∷ u ∷ ts) now w h = then_finds (is_enabled t now w) _ (λ e w. chosen (upto c b n) (search_finds n) life now t u ts e w h.0 h.1)
+      subst (λ r. Finds (then_do r (λ e. choose e
+      (λ w. then_do ((upto c b n).block life t.condition now w) (after_condition c b (upto c b n) life t [] now))
+      ((upto c b n).search life [] now))))
+      (sym (always (upto c b n) (search_finds n) life now t w h.0 h.1))
+      (taken (upto c b n) (search_finds n) life now t [] w h.2)
+  search_finds (suc n) life (t ∷ u ∷ ts) now w h =
+      then_finds (is_enabled t now w) _ (λ e w. chosen (upto c b n) (search_finds n) life now t u ts e w h.0 h.1)
 
 -- ---- default lists of valid charts
 

@@ -3,7 +3,8 @@ use Rattle.std.proofs.Common.{◌≡◌, ◌≢◌, ℕ, zero, suc, ◌≤◌, m
 use Rattle.flow_base.specs.declared.bounds.Bounds.{Bounds}
 use Rattle.active_config.specs.Marks.{is_on, can_mark, no_marks, IsConsistent}
 use Rattle.active_config.specs.Tree.{IsTree, comp_of}
-use Rattle.active_config.proofs.MarksLemmas.{is_on-with_mark_same, is_on-with_mark_other, can_mark_off, no_marks_consistent, none_on, none_last}
+use Rattle.active_config.proofs.MarksLemmas.{is_on-with_mark_same, is_on-with_mark_other, can_mark_off}
+use Rattle.active_config.proofs.MarksLemmas.{no_marks_consistent, none_on, none_last}
 use Rattle.actions.specs.declared.event.Event.{Event}
 use Rattle.actions.specs.declared.event.Event.TheVariants.{Start}
 use Rattle.actions.specs.Runs.{Moment}
@@ -17,7 +18,8 @@ use Rattle.sos_rules.specs.Parts.{Parts}
 use Rattle.sos_rules.specs.Reactions.{moment_of, Gives, from_outside, start_upto, react_upto, HasOne, IsRunning}
 use Rattle.sos_rules.specs.Rules.{upto}
 use Rattle.sos_rules.proofs.Extends.{Extends, later, same, upto_below}
-use Rattle.sos_rules.proofs.Keeps.{Finishes, ended, faulted, unfinished, Closed, Keeps, Consistent, consistent_closed, upto_keep, then_finishes, choose_finishes, if_done_finishes, enter_inside_finishes}
+use Rattle.sos_rules.proofs.Keeps.{Finishes, ended, faulted, unfinished, Closed, Keeps, Consistent, consistent_closed}
+use Rattle.sos_rules.proofs.Keeps.{upto_keep, then_finishes, choose_finishes, if_done_finishes, enter_inside_finishes}
 use Rattle.sos_rules.proofs.MarkedStates.{entered_consistent, entered_on, can_mark_root}
 use Rattle.sos_rules.proofs.Memory.{remembers_closed}
 use Rattle.sos_rules.proofs.Settles.{Left, Settles, ends, faults, process_ends, enter_ends}
@@ -64,15 +66,17 @@ module _ (c : Chart) (b : Bounds) where
     -- a start has exactly one outcome
     pub one_start : HasOne (Gives (start_upto c b))
     one_start =
-        let some = leads (Left b b.steps) (start_upto c b)
-        (enter_ends c b tree b.depth b.steps 0 0 (from_outside Start) (world_before c.tree c.names) (omega arith) (record { left = omega arith })) in
+        let some =
+        leads (Left b b.steps) (start_upto c b) (enter_ends c b tree b.depth b.steps 0 0 (from_outside Start)
+        (world_before c.tree c.names) (omega arith) (record { left = omega arith })) in
         record { moment = some.0; holds = some.1; only = λ other x. only_start other some.0 x some.1 }
 
     -- a reaction has exactly one outcome
     pub one_reaction : (w : World) (e : Event) → HasOne (Gives (react_upto c b w e))
     one_reaction w e =
-        let some = leads (Left b b.steps) (react_upto c b w e)
-        (process_ends c b tree b.depth b.steps 0 (from_outside e) (begun w) (omega arith) (record { left = omega arith })) in
+        let some =
+        leads (Left b b.steps) (react_upto c b w e) (process_ends c b tree b.depth b.steps 0 (from_outside e) (begun w)
+        (omega arith) (record { left = omega arith })) in
         record { moment = some.0; holds = some.1; only = λ other x. only_reaction w e other some.0 x some.1 }
 
 -- ---- what starts and reactions keep
@@ -89,15 +93,21 @@ running_closed c b =
       pays = λ w v e h. same_marks c w v (kept w (paid_keeps b w) e) h;
       assigns = λ x e w v q h. same_marks c w v (kept w (assigned_keeps x e w) q) h;
       emits = λ e w h. record { consistent = h.consistent; root = h.root };
-      marks = λ s w can h. record {
-        consistent = k.marks s w can h.consistent;
-        root = let ne : 0 ≢ s = λ e. absurd (let off = can_mark_off c.tree s w.marks can in let on = ap (λ x. is_on x w.marks) e in let root = h.root in cc) in
-            entered_on c s 0 w ∙ is_on-with_mark_other s 0 true w.marks ne ∙ h.root;
-      };
-      clears = λ s w pos bare h. record {
-        consistent = k.clears s w pos bare h.consistent;
-        root = let ne : 0 ≢ s = omega arith in is_on-with_mark_other s 0 false w.marks ne ∙ h.root;
-      };
+      marks = λ s w can h.
+          record {
+            consistent = k.marks s w can h.consistent;
+            root =
+                let ne : 0 ≢ s = λ e.
+                absurd (
+                let off = can_mark_off c.tree s w.marks can in
+                let on = ap (λ x. is_on x w.marks) e in let root = h.root in cc) in
+                entered_on c s 0 w ∙ is_on-with_mark_other s 0 true w.marks ne ∙ h.root;
+          };
+      clears = λ s w pos bare h.
+          record {
+            consistent = k.clears s w pos bare h.consistent;
+            root = let ne : 0 ≢ s = omega arith in is_on-with_mark_other s 0 false w.marks ne ∙ h.root;
+          };
     }
 
 -- what holds at the end of work holds of the moment
@@ -108,7 +118,8 @@ reached P unfinished r e = absurd cc
 
 module _ (c : Chart) (tree : IsTree c.tree) (b : Bounds) where
   -- after a reaction states are consistent and the root is active, where they were before
-  pub reaction_keeps : (w : World) (e : Event) (r : Moment) → IsRunning c w → Gives (react_upto c b w e) r → IsRunning c r.world
+  pub reaction_keeps : (w : World) (e : Event) (r : Moment) → IsRunning c w → Gives (react_upto c b w e) r
+      → IsRunning c r.world
   reaction_keeps w e r h x =
       let k = upto_keep c tree b (IsRunning c) (running_closed c b) x.height in
       let h' : IsRunning c (begun w) = record { consistent = h.consistent; root = h.root } in
@@ -119,7 +130,11 @@ module _ (c : Chart) (tree : IsTree c.tree) (b : Bounds) where
       → Consistent c w → can_mark c.tree 0 w.marks ≡ true → Finishes (IsRunning c) (enter_rule c p 0 0 now w)
   root_enters p keep now w ok can =
       choose_finishes (IsRunning c) (can_mark c.tree 0 w.marks) _ nothing w
-      (λ _. let root : IsRunning c (entered_in c 0 w) = record { consistent = entered_consistent c 0 w can ok; root = entered_on c 0 0 w ∙ is_on-with_mark_same 0 true w.marks (omega (arith, tree.some, ok.sized)) } in
+      (λ _.
+      let root : IsRunning c (entered_in c 0 w) = record {
+        consistent = entered_consistent c 0 w can ok;
+        root = entered_on c 0 0 w ∙ is_on-with_mark_same 0 true w.marks (omega (arith, tree.some, ok.sized));
+      } in
       then_finishes (IsRunning c) (keep.block (Bare 0) (node c 0).entry now (entered_in c 0 w) root)
       (λ a v h. if_done_finishes (IsRunning c) a tt (enter_inside c p 0 0 now (comp_of c.tree 0)) v h
       (enter_inside_finishes c tree b (IsRunning c) (running_closed c b) p keep 0 0 now (comp_of c.tree 0) v h)))

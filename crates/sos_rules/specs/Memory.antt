@@ -7,5 +7,6 @@ use Rattle.state_tree.specs.Chart.{Chart, has_history}
 -- an OR with history remembers its active child, and no other state remembers anything
 pub record Remembers (c : Chart) (marks : Configuration) : Type 0 where
   pub consistent : IsConsistent c.tree marks
-  pub active : (s x : ℕ) → has_history c s ≡ true → parent_of c.tree x ≡ Some s → is_on x marks ≡ true → last_of s marks ≡ Some x
+  pub active : (s x : ℕ) → has_history c s ≡ true → parent_of c.tree x ≡ Some s → is_on x marks ≡ true
+      → last_of s marks ≡ Some x
   pub only : (s x : ℕ) → last_of s marks ≡ Some x → has_history c s ≡ true

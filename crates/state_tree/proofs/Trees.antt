@@ -1,7 +1,9 @@
 -- The children of a state of a tree, and the child towards a state.
-use Rattle.std.proofs.Common.{◌≡◌, ℕ, zero, suc, ◌+◌, ◌≤◌, ◌<◌, List, [], ◌∷◌, Option, Some, Bool, true, false, cond, refl, ap, ◌∙◌, sym, subst, arith}
+use Rattle.std.proofs.Common.{◌≡◌, ℕ, zero, suc, ◌+◌, ◌≤◌, ◌<◌, List, [], ◌∷◌, Option, Some, Bool, true, false, cond}
+use Rattle.std.proofs.Common.{refl, ap, ◌∙◌, sym, subst, arith}
 use Rattle.std.specs.List.{AllByRecursion, filter, find, range_with_len}
-use Rattle.active_config.specs.Tree.{Tree, IsTree, state_count, parent_of, is_child, children_below, children_of, is_at_or_below}
+use Rattle.active_config.specs.Tree.{Tree, IsTree, state_count, parent_of, is_child, children_below, children_of}
+use Rattle.active_config.specs.Tree.{is_at_or_below}
 use Rattle.active_config.proofs.ParentLemmas.{child_within}
 use Rattle.active_config.proofs.PathLemmas.{parent_lt}
 use Rattle.active_config.proofs.ChildLemmas.{parent_of_child}

@@ -1,7 +1,8 @@
 -- How many things of each kind a chart has, and how many it may have.
 use Rattle.std.specs.Prelude.{◌+◌, ◌<◌, ◌≤◌, ℕ, List, length, sum_by}
 use Rattle.active_config.specs.Tree.{state_count, ancestors}
-use Rattle.state_tree.specs.declared.limits.TheConstants.{MOST_STATES, GREATEST_DEPTH, MOST_JUNCTIONS, MOST_TRANSITIONS, MOST_PAIRS, MOST_DATA, MOST_EVENTS, MOST_ITEMS}
+use Rattle.state_tree.specs.declared.limits.TheConstants.{MOST_STATES, GREATEST_DEPTH, MOST_JUNCTIONS, MOST_TRANSITIONS}
+use Rattle.state_tree.specs.declared.limits.TheConstants.{MOST_PAIRS, MOST_DATA, MOST_EVENTS, MOST_ITEMS}
 use Rattle.state_tree.specs.Chart.{Chart, Node, Trans, junction_count}
 use Rattle.state_tree.specs.Reached.{ChartPairs}
 

@@ -1,5 +1,6 @@
 -- What a valid chart is: all that the rules, the engines and the compiler ask of a chart.
-use Rattle.std.specs.Prelude.{◌≡◌, ◌≢◌, ◌<◌, ◌≤◌, ◌++◌, ℕ, List, [], length, map, Option, Some, None, Ok, IsSomeAnd, slice_get, slice_index_or, true}
+use Rattle.std.specs.Prelude.{◌≡◌, ◌≢◌, ◌<◌, ◌≤◌, ◌++◌, ℕ, List, [], length, map, Option, Some, None, Ok, IsSomeAnd}
+use Rattle.std.specs.Prelude.{slice_get, slice_index_or, true}
 use Rattle.std.specs.List.{AllByRecursion, last_or, list_all}
 use Rattle.flow_base.specs.Names.{are_distinct}
 use Rattle.fixed_point.specs.declared.fitting.Mode.TheVariants.{Saturate}

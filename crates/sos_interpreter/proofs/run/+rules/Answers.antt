@@ -1,4 +1,5 @@
-use Rattle.std.proofs.Common.{◌≡◌, map, ◌+◌, length, Some, None, true, false, [], ◌∷◌, ◌++◌, reverse, refl, sym, ap, ◌∙◌, subst, arith}
+use Rattle.std.proofs.Common.{◌≡◌, map, ◌+◌, length, Some, None, true, false, [], ◌∷◌, ◌++◌, reverse, refl, sym, ap}
+use Rattle.std.proofs.Common.{◌∙◌, subst, arith}
 use Rattle.std.specs.Prelude.{nat_le, ◌==◌}
 use Rattle.std.specs.List.{AllByRecursion}
 use Rattle.std.proofs.lemmas.Bool.Decides.{nat_tests}
@@ -11,10 +12,28 @@ use Rattle.actions.specs.Trees.{expr_of, stmt_of}
 use Rattle.run_work.specs.Work.{Ended, Faulted, Done, Cut, deeper, nothing, if_some}
 use Rattle.sos_interpreter.proofs.Halts.{err_through, err_does, passed, ended_as, settled_at, at_depth, continues_same}
 use Rattle.sos_interpreter.proofs.Measure.{visit_falls}
-use Rattle.sos_interpreter.proofs.Paths.{enter_no, enter_fault, enter_cut, enter_done, inside_leaf, inside_or, inside_each, toward_one, toward_none, default_fault, default_after, defaults_search, defaults_return, fired_fault, fired_cut, fired_done, take_exit_fault, take_not_bare, take_play_fault, take_cut, take_left, take_enters, process_fault, process_after, outer_fault, outer_taken, during_fault, during_cut, inner_fault, inner_after, inner_take_fault, inner_taken, kids_leaf, kids_none, kids_fault, kids_one, kids_out, kids_each, assign_done, assign_fault, emit_done, emit_fault, sent_ends, sent_fault, exit_off, exit_children_fault, exit_not_bare, exit_block_fault, exit_cut, exit_kept, exit_left, exit_active_one, exit_active_none, exit_children_leaf, exit_children_or, exit_children_and, send_too_deep, send_fault, send_off, send_on, send_on_fault, search_guard_fault, search_block_fault, search_stop, search_goes, dest_fault, dest_dead_end, dest_state}
-use Rattle.sos_interpreter.proofs.Places.{Leads, leads_init, leads_skip, leads_fault, leads_stop, leads_dead_end, leads_fire, leads_push, leads_pop, leads_none}
+use Rattle.sos_interpreter.proofs.Paths.{enter_no, enter_fault, enter_cut, enter_done, inside_leaf, inside_or}
+use Rattle.sos_interpreter.proofs.Paths.{inside_each, toward_one, toward_none, default_fault, default_after}
+use Rattle.sos_interpreter.proofs.Paths.{defaults_search, defaults_return, fired_fault, fired_cut, fired_done}
+use Rattle.sos_interpreter.proofs.Paths.{take_exit_fault, take_not_bare, take_play_fault, take_cut, take_left}
+use Rattle.sos_interpreter.proofs.Paths.{take_enters, process_fault, process_after, outer_fault, outer_taken}
+use Rattle.sos_interpreter.proofs.Paths.{during_fault, during_cut, inner_fault, inner_after, inner_take_fault}
+use Rattle.sos_interpreter.proofs.Paths.{inner_taken, kids_leaf, kids_none, kids_fault, kids_one, kids_out, kids_each}
+use Rattle.sos_interpreter.proofs.Paths.{assign_done, assign_fault, emit_done, emit_fault, sent_ends, sent_fault}
+use Rattle.sos_interpreter.proofs.Paths.{exit_off, exit_children_fault, exit_not_bare, exit_block_fault, exit_cut}
+use Rattle.sos_interpreter.proofs.Paths.{exit_kept, exit_left, exit_active_one, exit_active_none, exit_children_leaf}
+use Rattle.sos_interpreter.proofs.Paths.{exit_children_or, exit_children_and, send_too_deep, send_fault, send_off}
+use Rattle.sos_interpreter.proofs.Paths.{send_on, send_on_fault, search_guard_fault, search_block_fault, search_stop}
+use Rattle.sos_interpreter.proofs.Paths.{search_goes, dest_fault, dest_dead_end, dest_state}
+use Rattle.sos_interpreter.proofs.Places.{Leads, leads_init, leads_skip, leads_fault, leads_stop, leads_dead_end}
+use Rattle.sos_interpreter.proofs.Places.{leads_fire, leads_push, leads_pop, leads_none}
 use Rattle.sos_interpreter.proofs.Settling.{settled_now, settled_true, settled_false}
-use Rattle.sos_interpreter.proofs.Turns.{block_turn, block_turn_cut, block_turn_fault, block_turns_end, play_turn, play_turn_skip, play_turn_pay_fault, play_turn_fault, play_turn_cut, play_turns_end, exit_turn, exit_turn_fault, exit_turns_end, enter_turn, enter_turn_fault, enter_turns_end, each_turn, each_turn_off, each_turn_fault, each_turn_out, each_turns_end, empty_is, not_empty, sum_pushed, all_item, all_more, all_front, all_seen}
+use Rattle.sos_interpreter.proofs.Turns.{block_turn, block_turn_cut, block_turn_fault, block_turns_end, play_turn}
+use Rattle.sos_interpreter.proofs.Turns.{play_turn_skip, play_turn_pay_fault, play_turn_fault, play_turn_cut}
+use Rattle.sos_interpreter.proofs.Turns.{play_turns_end, exit_turn, exit_turn_fault, exit_turns_end, enter_turn}
+use Rattle.sos_interpreter.proofs.Turns.{enter_turn_fault, enter_turns_end, each_turn, each_turn_off, each_turn_fault}
+use Rattle.sos_interpreter.proofs.Turns.{each_turn_out, each_turns_end, empty_is, not_empty, sum_pushed, all_item}
+use Rattle.sos_interpreter.proofs.Turns.{all_more, all_front, all_seen}
 use Rattle.sos_interpreter.proofs.Uses.{block_uses, pay_done}
 use Rattle.sos_rules.specs.Finds.{AreActions}
 use Rattle.sos_interpreter.specs.Settled.{Settled, Continues}
@@ -35,438 +54,1488 @@ use Rattle.sos_interpreter.proofs.run.+rules.Goals as goal
 
 pub run_block-returns-in_err-statement-clause-gives : goal.run_block-returns-in_err-statement-clause-gives
 run_block-returns-in_err-statement-clause-gives t c =
+    let chart = chart_of c.args.chart.now in
+    let now = now_of c.args.now in
+    let life = life_seen c.args.life in
     let p = err_from_is_err_and c.from_residual.result c.from_residual.ensures.1 in
-    rw (p.1, p.2) (err_through end_of end_of _ (λ n. (upto (chart_of c.args.chart.now) c.args.bounds n).block (life_seen c.args.life) (block_seen c.args.stmts.now) (now_of c.args.now) c.args.world.now) _ _ (λ x h. block_turn_fault (chart_of c.args.chart.now) c.args.bounds (now_of c.args.now) (life_seen c.args.life) c.args.stmts.now c.loop-stmt.stmt-index c.loop-stmt.world (λ n. (upto (chart_of c.args.chart.now) c.args.bounds n).block (life_seen c.args.life) (block_seen c.args.stmts.now) (now_of c.args.now) c.args.world.now) c.loop-stmt.invariant.goes c.stmt-item.result _ x (omega arith) c.stmt-item.is h) c.in_err-statement.ensures.gives)
+    rw (p.1, p.2) (err_through end_of end_of _
+    (λ n. (upto chart c.args.bounds n).block life (block_seen c.args.stmts.now) now c.args.world.now) _ _
+    (λ x h. block_turn_fault chart c.args.bounds now life c.args.stmts.now c.loop-stmt.stmt-index c.loop-stmt.world
+    (λ n. (upto chart c.args.bounds n).block life (block_seen c.args.stmts.now) now c.args.world.now)
+    c.loop-stmt.invariant.goes c.stmt-item.result _ x (omega arith) c.stmt-item.is h) c.in_err-statement.ensures.gives)
 
 pub run_block-returns-in-Cut-clause-gives : goal.run_block-returns-in-Cut-clause-gives
-run_block-returns-in-Cut-clause-gives t c = block_turn_cut (chart_of c.args.chart.now) c.args.bounds (now_of c.args.now) (life_seen c.args.life) c.args.stmts.now c.loop-stmt.stmt-index c.loop-stmt.world (λ n. (upto (chart_of c.args.chart.now) c.args.bounds n).block (life_seen c.args.life) (block_seen c.args.stmts.now) (now_of c.args.now) c.args.world.now) c.loop-stmt.invariant.goes c.stmt-item.result _ (omega arith) c.stmt-item.is (ended_as end_of _ _ c.in-Cut.is c.in_ok-statement.ensures.gives)
+run_block-returns-in-Cut-clause-gives t c =
+    let chart = chart_of c.args.chart.now in
+    let now = now_of c.args.now in
+    let life = life_seen c.args.life in
+    block_turn_cut chart c.args.bounds now life c.args.stmts.now c.loop-stmt.stmt-index c.loop-stmt.world
+    (λ n. (upto chart c.args.bounds n).block life (block_seen c.args.stmts.now) now c.args.world.now)
+    c.loop-stmt.invariant.goes c.stmt-item.result _ (omega arith) c.stmt-item.is
+    (ended_as end_of _ _ c.in-Cut.is c.in_ok-statement.ensures.gives)
 
 pub run_block-loop-stmt-preserved : goal.run_block-loop-stmt-preserved
-run_block-loop-stmt-preserved t c = record { goes = block_turn (chart_of c.args.chart.now) c.args.bounds (now_of c.args.now) (life_seen c.args.life) c.args.stmts.now c.loop-stmt.stmt-index c.loop-stmt.world (λ n. (upto (chart_of c.args.chart.now) c.args.bounds n).block (life_seen c.args.life) (block_seen c.args.stmts.now) (now_of c.args.now) c.args.world.now) c.loop-stmt.invariant.goes c.stmt-item.result _ (omega arith) c.stmt-item.is (ended_as end_of _ _ c.in-Done.is c.in_ok-statement.ensures.gives); fits = c.statement.ensures.fits }
+run_block-loop-stmt-preserved t c =
+    let chart = chart_of c.args.chart.now in
+    let now = now_of c.args.now in
+    let life = life_seen c.args.life in
+    record {
+      goes =
+          block_turn chart c.args.bounds now life c.args.stmts.now c.loop-stmt.stmt-index c.loop-stmt.world
+          (λ n. (upto chart c.args.bounds n).block life (block_seen c.args.stmts.now) now c.args.world.now)
+          c.loop-stmt.invariant.goes c.stmt-item.result _ (omega arith) c.stmt-item.is
+          (ended_as end_of _ _ c.in-Done.is c.in_ok-statement.ensures.gives);
+      fits = c.statement.ensures.fits;
+    }
 
 pub run_block-returns-clause-gives : goal.run_block-returns-clause-gives
-run_block-returns-clause-gives t c = block_turns_end (chart_of c.args.chart.now) c.args.bounds (now_of c.args.now) (life_seen c.args.life) c.args.stmts.now c.loop-stmt.stmt-index c.loop-stmt.world (λ n. (upto (chart_of c.args.chart.now) c.args.bounds n).block (life_seen c.args.life) (block_seen c.args.stmts.now) (now_of c.args.now) c.args.world.now) c.loop-stmt.invariant.goes (omega arith)
+run_block-returns-clause-gives t c =
+    let chart = chart_of c.args.chart.now in
+    let now = now_of c.args.now in
+    let life = life_seen c.args.life in
+    block_turns_end chart c.args.bounds now life c.args.stmts.now c.loop-stmt.stmt-index c.loop-stmt.world
+    (λ n. (upto chart c.args.bounds n).block life (block_seen c.args.stmts.now) now c.args.world.now)
+    c.loop-stmt.invariant.goes (omega arith)
 
 pub run_block-statement-requires : goal.run_block-statement-requires
-run_block-statement-requires t c = (omega (arith, c.decreases), (c.loop-stmt.invariant.fits, (c.requires.life, all_item stmt_of (IsStmt (chart_of c.args.chart.now)) c.args.stmts.now c.loop-stmt.stmt-index c.stmt-item.result c.requires.stmts (omega arith) c.stmt-item.is)))
+run_block-statement-requires t c = (
+  omega (arith, c.decreases),
+  (
+    c.loop-stmt.invariant.fits,
+    (
+      c.requires.life,
+      all_item stmt_of (IsStmt (chart_of c.args.chart.now)) c.args.stmts.now c.loop-stmt.stmt-index c.stmt-item.result
+          c.requires.stmts (omega arith) c.stmt-item.is,
+    ),
+  ),
+)
 
 pub statement-returns-in_err-assign-in-Assign-clause-gives : goal.statement-returns-in_err-assign-in-Assign-clause-gives
 statement-returns-in_err-assign-in-Assign-clause-gives t c =
+    let chart = chart_of c.args.chart.now in
+    let now = now_of c.args.now in
+    let life = life_seen c.args.life in
     let p = err_from_is_err_and c.from_residual.result c.from_residual.ensures.1 in
-    rw (p.1, p.2) (err_does {A = Unit {0}} (λ _. tt) end_of _ (λ n. statement (chart_of c.args.chart.now) c.args.bounds (upto (chart_of c.args.chart.now) c.args.bounds n) (life_seen c.args.life) (stmt_of c.args.stmt.now) (now_of c.args.now) c.args.world.now) _ _ (λ x h. subst (λ s. Settled (λ n. statement (chart_of c.args.chart.now) c.args.bounds (upto (chart_of c.args.chart.now) c.args.bounds n) (life_seen c.args.life) (stmt_of s) (now_of c.args.now) c.args.world.now) (Faulted x c.assign.new.self)) (sym c.in-Assign.is) (assign_fault (chart_of c.args.chart.now) c.args.bounds (now_of c.args.now) (life_seen c.args.life) c.in-Assign.v (expr_of c.in-Assign.e) c.args.world.now c.assign.new.self x h)) c.in_err-assign-in-Assign.ensures.does)
+    rw (p.1, p.2) (err_does {A = Unit {0}} (λ _. tt) end_of _
+    (λ n. statement chart c.args.bounds (upto chart c.args.bounds n) life (stmt_of c.args.stmt.now) now
+    c.args.world.now) _ _
+    (λ x h. subst (λ s. Settled
+    (λ n. statement chart c.args.bounds (upto chart c.args.bounds n) life (stmt_of s) now c.args.world.now)
+    (Faulted x c.assign.new.self)) (sym c.in-Assign.is)
+    (assign_fault chart c.args.bounds now life c.in-Assign.v (expr_of c.in-Assign.e) c.args.world.now c.assign.new.self
+    x h)) c.in_err-assign-in-Assign.ensures.does)
 
 pub statement-returns-in_ok-assign-in-Assign-clause-gives : goal.statement-returns-in_ok-assign-in-Assign-clause-gives
-statement-returns-in_ok-assign-in-Assign-clause-gives t c = subst (λ s. Settled (λ n. statement (chart_of c.args.chart.now) c.args.bounds (upto (chart_of c.args.chart.now) c.args.bounds n) (life_seen c.args.life) (stmt_of s) (now_of c.args.now) c.args.world.now) (Ended Done c.assign.new.self)) (sym c.in-Assign.is) (assign_done (chart_of c.args.chart.now) c.args.bounds (now_of c.args.now) (life_seen c.args.life) c.in-Assign.v (expr_of c.in-Assign.e) c.args.world.now c.assign.new.self c.in_ok-assign-in-Assign.ensures.does)
+statement-returns-in_ok-assign-in-Assign-clause-gives t c =
+    let chart = chart_of c.args.chart.now in
+    let now = now_of c.args.now in
+    let life = life_seen c.args.life in
+    subst (λ s. Settled
+    (λ n. statement chart c.args.bounds (upto chart c.args.bounds n) life (stmt_of s) now c.args.world.now)
+    (Ended Done c.assign.new.self)) (sym c.in-Assign.is)
+    (assign_done chart c.args.bounds now life c.in-Assign.v (expr_of c.in-Assign.e) c.args.world.now c.assign.new.self
+    c.in_ok-assign-in-Assign.ensures.does)
 
 pub statement-returns-in_err-pay-in-Emit-clause-gives : goal.statement-returns-in_err-pay-in-Emit-clause-gives
 statement-returns-in_err-pay-in-Emit-clause-gives t c =
-    let p = err_from_is_err_and c.from_residual-in_err-pay-in-Emit.result c.from_residual-in_err-pay-in-Emit.ensures.1 in
-    rw (p.1, p.2) (err_does {A = Unit {0}} (λ _. tt) end_of _ (λ n. statement (chart_of c.args.chart.now) c.args.bounds (upto (chart_of c.args.chart.now) c.args.bounds n) (life_seen c.args.life) (stmt_of c.args.stmt.now) (now_of c.args.now) c.args.world.now) _ _ (λ x h. subst (λ s. Settled (λ n. statement (chart_of c.args.chart.now) c.args.bounds (upto (chart_of c.args.chart.now) c.args.bounds n) (life_seen c.args.life) (stmt_of s) (now_of c.args.now) c.args.world.now) (Faulted x c.pay.new.self)) (sym c.in-Emit.is) (emit_fault (chart_of c.args.chart.now) c.args.bounds (now_of c.args.now) (life_seen c.args.life) c.in-Emit.e c.args.world.now c.pay.new.self x h)) c.in_err-pay-in-Emit.ensures.does)
+    let chart = chart_of c.args.chart.now in
+    let now = now_of c.args.now in
+    let life = life_seen c.args.life in
+    let p =
+    err_from_is_err_and c.from_residual-in_err-pay-in-Emit.result c.from_residual-in_err-pay-in-Emit.ensures.1 in
+    rw (p.1, p.2) (err_does {A = Unit {0}} (λ _. tt) end_of _
+    (λ n. statement chart c.args.bounds (upto chart c.args.bounds n) life (stmt_of c.args.stmt.now) now
+    c.args.world.now) _ _
+    (λ x h. subst (λ s. Settled
+    (λ n. statement chart c.args.bounds (upto chart c.args.bounds n) life (stmt_of s) now c.args.world.now)
+    (Faulted x c.pay.new.self)) (sym c.in-Emit.is)
+    (emit_fault chart c.args.bounds now life c.in-Emit.e c.args.world.now c.pay.new.self x h))
+    c.in_err-pay-in-Emit.ensures.does)
 
 pub statement-returns-in_err-put_out-in-Emit-clause-gives : goal.statement-returns-in_err-put_out-in-Emit-clause-gives
 statement-returns-in_err-put_out-in-Emit-clause-gives t c =
-    let p = err_from_is_err_and c.from_residual-in_err-put_out-in-Emit.result c.from_residual-in_err-put_out-in-Emit.ensures.1 in
-    rw (p.1, p.2) (err_does {A = Unit {0}} (λ _. tt) end_of _ (λ n. statement (chart_of c.args.chart.now) c.args.bounds (upto (chart_of c.args.chart.now) c.args.bounds n) (life_seen c.args.life) (stmt_of c.args.stmt.now) (now_of c.args.now) c.args.world.now) _ _ (λ x h. absurd cc) c.in_err-put_out-in-Emit.ensures.does)
+    let chart = chart_of c.args.chart.now in
+    let p =
+    err_from_is_err_and c.from_residual-in_err-put_out-in-Emit.result
+    c.from_residual-in_err-put_out-in-Emit.ensures.1 in
+    rw (p.1, p.2) (err_does {A = Unit {0}} (λ _. tt) end_of _
+    (λ n. statement chart c.args.bounds (upto chart c.args.bounds n) (life_seen c.args.life) (stmt_of c.args.stmt.now)
+    (now_of c.args.now) c.args.world.now) _ _ (λ x h. absurd cc) c.in_err-put_out-in-Emit.ensures.does)
 
 pub statement-returns-in_ok-put_out-in-Emit-clause-gives : goal.statement-returns-in_ok-put_out-in-Emit-clause-gives
-statement-returns-in_ok-put_out-in-Emit-clause-gives t c = subst (λ s. Settled (λ n. statement (chart_of c.args.chart.now) c.args.bounds (upto (chart_of c.args.chart.now) c.args.bounds n) (life_seen c.args.life) (stmt_of s) (now_of c.args.now) c.args.world.now) (Ended Done c.put_out.new.self)) (sym c.in-Emit.is) (settled_at _ _ _ c.in_ok-put_out-in-Emit.ensures.does (emit_done (chart_of c.args.chart.now) c.args.bounds (now_of c.args.now) (life_seen c.args.life) c.in-Emit.e c.args.world.now c.pay.new.self c.in_ok-pay-in-Emit.ensures.does))
+statement-returns-in_ok-put_out-in-Emit-clause-gives t c =
+    let chart = chart_of c.args.chart.now in
+    let now = now_of c.args.now in
+    let life = life_seen c.args.life in
+    subst (λ s. Settled
+    (λ n. statement chart c.args.bounds (upto chart c.args.bounds n) life (stmt_of s) now c.args.world.now)
+    (Ended Done c.put_out.new.self)) (sym c.in-Emit.is)
+    (settled_at _ _ _ c.in_ok-put_out-in-Emit.ensures.does (emit_done chart c.args.bounds now life c.in-Emit.e
+    c.args.world.now c.pay.new.self c.in_ok-pay-in-Emit.ensures.does))
 
 pub statement-returns-in_err-send-in-Send-clause-gives : goal.statement-returns-in_err-send-in-Send-clause-gives
 statement-returns-in_err-send-in-Send-clause-gives t c =
-    let p = err_from_is_err_and c.from_residual-in_err-send-in-Send.result c.from_residual-in_err-send-in-Send.ensures.1 in
-    rw (p.1, p.2) (err_through {A = Unit {0}} (λ _. tt) end_of _ (λ n. statement (chart_of c.args.chart.now) c.args.bounds (upto (chart_of c.args.chart.now) c.args.bounds n) (life_seen c.args.life) (stmt_of c.args.stmt.now) (now_of c.args.now) c.args.world.now) _ _ (λ x h. subst (λ s. Settled (λ n. statement (chart_of c.args.chart.now) c.args.bounds (upto (chart_of c.args.chart.now) c.args.bounds n) (life_seen c.args.life) (stmt_of s) (now_of c.args.now) c.args.world.now) (Faulted x c.send.new.world)) (sym c.in-Send.is) (sent_fault (chart_of c.args.chart.now) c.args.bounds (now_of c.args.now) (life_seen c.args.life) c.in-Send.e None c.args.world.now c.send.new.world x h)) c.in_err-send-in-Send.ensures.gives)
+    let chart = chart_of c.args.chart.now in
+    let now = now_of c.args.now in
+    let life = life_seen c.args.life in
+    let p =
+    err_from_is_err_and c.from_residual-in_err-send-in-Send.result c.from_residual-in_err-send-in-Send.ensures.1 in
+    rw (p.1, p.2) (err_through {A = Unit {0}} (λ _. tt) end_of _
+    (λ n. statement chart c.args.bounds (upto chart c.args.bounds n) life (stmt_of c.args.stmt.now) now
+    c.args.world.now) _ _
+    (λ x h. subst (λ s. Settled
+    (λ n. statement chart c.args.bounds (upto chart c.args.bounds n) life (stmt_of s) now c.args.world.now)
+    (Faulted x c.send.new.world)) (sym c.in-Send.is)
+    (sent_fault chart c.args.bounds now life c.in-Send.e None c.args.world.now c.send.new.world x h))
+    c.in_err-send-in-Send.ensures.gives)
 
 pub statement-returns-in_ok-send-in-Send-clause-gives : goal.statement-returns-in_ok-send-in-Send-clause-gives
-statement-returns-in_ok-send-in-Send-clause-gives t c = subst (λ s. Settled (λ n. statement (chart_of c.args.chart.now) c.args.bounds (upto (chart_of c.args.chart.now) c.args.bounds n) (life_seen c.args.life) (stmt_of s) (now_of c.args.now) c.args.world.now) (Ended (end_of c.alive.result) c.send.new.world)) (sym c.in-Send.is) (sent_ends (chart_of c.args.chart.now) c.args.bounds (now_of c.args.now) (life_seen c.args.life) c.in-Send.e None c.args.world.now c.send.new.world _ c.in_ok-send-in-Send.ensures.gives c.alive.ensures)
+statement-returns-in_ok-send-in-Send-clause-gives t c =
+    let chart = chart_of c.args.chart.now in
+    let now = now_of c.args.now in
+    let life = life_seen c.args.life in
+    subst (λ s. Settled
+    (λ n. statement chart c.args.bounds (upto chart c.args.bounds n) life (stmt_of s) now c.args.world.now)
+    (Ended (end_of c.alive.result) c.send.new.world)) (sym c.in-Send.is)
+    (sent_ends chart c.args.bounds now life c.in-Send.e None c.args.world.now c.send.new.world _
+    c.in_ok-send-in-Send.ensures.gives c.alive.ensures)
 
 pub statement-returns-in_err-send-in-SendTo-clause-gives : goal.statement-returns-in_err-send-in-SendTo-clause-gives
 statement-returns-in_err-send-in-SendTo-clause-gives t c =
-    let p = err_from_is_err_and c.from_residual-in_err-send-in-SendTo.result c.from_residual-in_err-send-in-SendTo.ensures.1 in
-    rw (p.1, p.2) (err_through {A = Unit {0}} (λ _. tt) end_of _ (λ n. statement (chart_of c.args.chart.now) c.args.bounds (upto (chart_of c.args.chart.now) c.args.bounds n) (life_seen c.args.life) (stmt_of c.args.stmt.now) (now_of c.args.now) c.args.world.now) _ _ (λ x h. subst (λ s. Settled (λ n. statement (chart_of c.args.chart.now) c.args.bounds (upto (chart_of c.args.chart.now) c.args.bounds n) (life_seen c.args.life) (stmt_of s) (now_of c.args.now) c.args.world.now) (Faulted x c.send-in-SendTo.new.world)) (sym c.in-SendTo.is) (sent_fault (chart_of c.args.chart.now) c.args.bounds (now_of c.args.now) (life_seen c.args.life) c.in-SendTo.e (Some c.in-SendTo.s) c.args.world.now c.send-in-SendTo.new.world x h)) c.in_err-send-in-SendTo.ensures.gives)
+    let chart = chart_of c.args.chart.now in
+    let now = now_of c.args.now in
+    let life = life_seen c.args.life in
+    let p =
+    err_from_is_err_and c.from_residual-in_err-send-in-SendTo.result c.from_residual-in_err-send-in-SendTo.ensures.1 in
+    rw (p.1, p.2) (err_through {A = Unit {0}} (λ _. tt) end_of _
+    (λ n. statement chart c.args.bounds (upto chart c.args.bounds n) life (stmt_of c.args.stmt.now) now
+    c.args.world.now) _ _
+    (λ x h. subst (λ s. Settled
+    (λ n. statement chart c.args.bounds (upto chart c.args.bounds n) life (stmt_of s) now c.args.world.now)
+    (Faulted x c.send-in-SendTo.new.world)) (sym c.in-SendTo.is)
+    (sent_fault chart c.args.bounds now life c.in-SendTo.e (Some c.in-SendTo.s) c.args.world.now
+    c.send-in-SendTo.new.world x h)) c.in_err-send-in-SendTo.ensures.gives)
 
 pub statement-returns-in_ok-send-in-SendTo-clause-gives : goal.statement-returns-in_ok-send-in-SendTo-clause-gives
-statement-returns-in_ok-send-in-SendTo-clause-gives t c = subst (λ s. Settled (λ n. statement (chart_of c.args.chart.now) c.args.bounds (upto (chart_of c.args.chart.now) c.args.bounds n) (life_seen c.args.life) (stmt_of s) (now_of c.args.now) c.args.world.now) (Ended (end_of c.alive-in-SendTo.result) c.send-in-SendTo.new.world)) (sym c.in-SendTo.is) (sent_ends (chart_of c.args.chart.now) c.args.bounds (now_of c.args.now) (life_seen c.args.life) c.in-SendTo.e (Some c.in-SendTo.s) c.args.world.now c.send-in-SendTo.new.world _ c.in_ok-send-in-SendTo.ensures.gives c.alive-in-SendTo.ensures)
+statement-returns-in_ok-send-in-SendTo-clause-gives t c =
+    let chart = chart_of c.args.chart.now in
+    let now = now_of c.args.now in
+    let life = life_seen c.args.life in
+    subst (λ s. Settled
+    (λ n. statement chart c.args.bounds (upto chart c.args.bounds n) life (stmt_of s) now c.args.world.now)
+    (Ended (end_of c.alive-in-SendTo.result) c.send-in-SendTo.new.world)) (sym c.in-SendTo.is)
+    (sent_ends chart c.args.bounds now life c.in-SendTo.e (Some c.in-SendTo.s) c.args.world.now
+    c.send-in-SendTo.new.world _ c.in_ok-send-in-SendTo.ensures.gives c.alive-in-SendTo.ensures)
 
 pub send-returns-then-now-bounds-clause-gives : goal.send-returns-then-now-bounds-clause-gives
-send-returns-then-now-bounds-clause-gives t c = let deep : nat_le c.args.bounds.depth c.args.now.depth ≡ true = grind (arith, nat_tests) in send_too_deep (chart_of c.args.chart.now) c.args.bounds (now_of c.args.now) c.args.e c.args.to c.args.world.now deep
+send-returns-then-now-bounds-clause-gives t c =
+    let deep : nat_le c.args.bounds.depth c.args.now.depth ≡ true = grind (arith, nat_tests) in
+    send_too_deep (chart_of c.args.chart.now) c.args.bounds (now_of c.args.now) c.args.e c.args.to c.args.world.now deep
 
 pub send-returns-in_err-pay-clause-gives : goal.send-returns-in_err-pay-clause-gives
 send-returns-in_err-pay-clause-gives t c =
+    let chart = chart_of c.args.chart.now in
+    let now = now_of c.args.now in
     let p = err_from_is_err_and c.from_residual.result c.from_residual.ensures.1 in
-    rw (p.1, p.2) (err_does {A = Unit {0}} {A' = Unit {0}} (λ _. tt) (λ _. tt) _ (λ n. (upto (chart_of c.args.chart.now) c.args.bounds n).send c.args.e c.args.to (now_of c.args.now) c.args.world.now) _ _ (λ x h. let deep : nat_le c.args.bounds.depth c.args.now.depth ≡ false = grind (arith, nat_tests) in send_fault (chart_of c.args.chart.now) c.args.bounds (now_of c.args.now) c.args.e c.args.to c.args.world.now _ x deep h) c.in_err-pay.ensures.does)
+    rw (p.1, p.2) (err_does {A = Unit {0}} {A' = Unit {0}} (λ _. tt) (λ _. tt) _
+    (λ n. (upto chart c.args.bounds n).send c.args.e c.args.to now c.args.world.now) _ _
+    (λ x h.
+    let deep : nat_le c.args.bounds.depth c.args.now.depth ≡ false = grind (arith, nat_tests) in
+    send_fault chart c.args.bounds now c.args.e c.args.to c.args.world.now _ x deep h) c.in_err-pay.ensures.does)
 
 pub send-returns-in_err-process-in-None-clause-gives : goal.send-returns-in_err-process-in-None-clause-gives
 send-returns-in_err-process-in-None-clause-gives t c =
-    let p = err_from_is_err_and c.from_residual-in_err-process-in-None.result c.from_residual-in_err-process-in-None.ensures.1 in
-    rw (p.1, p.2) (err_through {A' = Unit {0}} went_of (λ _. tt) _ (λ n. (upto (chart_of c.args.chart.now) c.args.bounds n).send c.args.e c.args.to (now_of c.args.now) c.args.world.now) _ _ (λ x h. let deep : nat_le c.args.bounds.depth c.args.now.depth ≡ false = grind (arith, nat_tests) in subst (λ o. Settled (λ n. (upto (chart_of c.args.chart.now) c.args.bounds n).send c.args.e o (now_of c.args.now) c.args.world.now) (Faulted x c.process.new.world)) (sym c.in-None.is) (send_on_fault (chart_of c.args.chart.now) c.args.bounds (now_of c.args.now) c.args.e None c.args.world.now c.pay.new.self c.process.new.world x deep c.in_ok-pay.ensures.does refl (subst (λ s. Settled (λ n. (upto (chart_of c.args.chart.now) c.args.bounds n).process s (deeper c.args.e (now_of c.args.now)) c.pay.new.self) (Faulted x c.process.new.world)) c.root.ensures.root (at_depth (λ d n. (upto (chart_of c.args.chart.now) c.args.bounds n).process c.root.result (record { event = Named c.args.e; depth = d }) c.pay.new.self) c.args.now.depth _ h)))) c.in_err-process-in-None.ensures.gives)
+    let chart = chart_of c.args.chart.now in
+    let now = now_of c.args.now in
+    let p =
+    err_from_is_err_and c.from_residual-in_err-process-in-None.result
+    c.from_residual-in_err-process-in-None.ensures.1 in
+    rw (p.1, p.2) (err_through {A' = Unit {0}} went_of (λ _. tt) _
+    (λ n. (upto chart c.args.bounds n).send c.args.e c.args.to now c.args.world.now) _ _
+    (λ x h.
+    let deep : nat_le c.args.bounds.depth c.args.now.depth ≡ false = grind (arith, nat_tests) in
+    subst (λ o. Settled (λ n. (upto chart c.args.bounds n).send c.args.e o now c.args.world.now)
+    (Faulted x c.process.new.world)) (sym c.in-None.is)
+    (send_on_fault chart c.args.bounds now c.args.e None c.args.world.now c.pay.new.self c.process.new.world x deep
+    c.in_ok-pay.ensures.does refl (subst (λ s. Settled
+    (λ n. (upto chart c.args.bounds n).process s (deeper c.args.e now) c.pay.new.self) (Faulted x c.process.new.world))
+    c.root.ensures.root (at_depth (λ d n. (upto chart c.args.bounds n).process c.root.result
+    (record { event = Named c.args.e; depth = d }) c.pay.new.self) c.args.now.depth _ h))))
+    c.in_err-process-in-None.ensures.gives)
 
 pub send-returns-in_ok-process-in-None-clause-gives : goal.send-returns-in_ok-process-in-None-clause-gives
-send-returns-in_ok-process-in-None-clause-gives t c = let deep : nat_le c.args.bounds.depth c.args.now.depth ≡ false = grind (arith, nat_tests) in subst (λ o. Settled (λ n. (upto (chart_of c.args.chart.now) c.args.bounds n).send c.args.e o (now_of c.args.now) c.args.world.now) (Ended tt c.process.new.world)) (sym c.in-None.is) (send_on (chart_of c.args.chart.now) c.args.bounds (now_of c.args.now) c.args.e None c.args.world.now c.pay.new.self c.process.new.world _ deep c.in_ok-pay.ensures.does refl (subst (λ s. Settled (λ n. (upto (chart_of c.args.chart.now) c.args.bounds n).process s (deeper c.args.e (now_of c.args.now)) c.pay.new.self) (Ended (went_of c.in_ok-process-in-None.field-0) c.process.new.world)) c.root.ensures.root (at_depth (λ d n. (upto (chart_of c.args.chart.now) c.args.bounds n).process c.root.result (record { event = Named c.args.e; depth = d }) c.pay.new.self) c.args.now.depth _ c.in_ok-process-in-None.ensures.gives)))
+send-returns-in_ok-process-in-None-clause-gives t c =
+    let chart = chart_of c.args.chart.now in
+    let now = now_of c.args.now in
+    let deep : nat_le c.args.bounds.depth c.args.now.depth ≡ false = grind (arith, nat_tests) in
+    subst (λ o. Settled (λ n. (upto chart c.args.bounds n).send c.args.e o now c.args.world.now)
+    (Ended tt c.process.new.world)) (sym c.in-None.is)
+    (send_on chart c.args.bounds now c.args.e None c.args.world.now c.pay.new.self c.process.new.world _ deep
+    c.in_ok-pay.ensures.does refl (subst (λ s. Settled
+    (λ n. (upto chart c.args.bounds n).process s (deeper c.args.e now) c.pay.new.self)
+    (Ended (went_of c.in_ok-process-in-None.field-0) c.process.new.world)) c.root.ensures.root
+    (at_depth (λ d n. (upto chart c.args.bounds n).process c.root.result (record { event = Named c.args.e; depth = d })
+    c.pay.new.self) c.args.now.depth _ c.in_ok-process-in-None.ensures.gives)))
 
 pub send-returns-then-not-on-clause-gives : goal.send-returns-then-not-on-clause-gives
-send-returns-then-not-on-clause-gives t c = let deep : nat_le c.args.bounds.depth c.args.now.depth ≡ false = grind (arith, nat_tests) in let off : is_on c.in-Some.s c.pay.new.self.marks ≡ false = cc in subst (λ o. Settled (λ n. (upto (chart_of c.args.chart.now) c.args.bounds n).send c.args.e o (now_of c.args.now) c.args.world.now) (Ended tt c.pay.new.self)) (sym c.in-Some.is) (send_off (chart_of c.args.chart.now) c.args.bounds (now_of c.args.now) c.args.e (Some c.in-Some.s) c.args.world.now c.pay.new.self deep c.in_ok-pay.ensures.does off)
+send-returns-then-not-on-clause-gives t c =
+    let chart = chart_of c.args.chart.now in
+    let now = now_of c.args.now in
+    let deep : nat_le c.args.bounds.depth c.args.now.depth ≡ false = grind (arith, nat_tests) in
+    let off : is_on c.in-Some.s c.pay.new.self.marks ≡ false = cc in
+    subst
+    (λ o. Settled (λ n. (upto chart c.args.bounds n).send c.args.e o now c.args.world.now) (Ended tt c.pay.new.self))
+    (sym c.in-Some.is) (send_off chart c.args.bounds now c.args.e (Some c.in-Some.s) c.args.world.now c.pay.new.self
+    deep c.in_ok-pay.ensures.does off)
 
 pub send-returns-in_err-process-in-Some-clause-gives : goal.send-returns-in_err-process-in-Some-clause-gives
 send-returns-in_err-process-in-Some-clause-gives t c =
-    let p = err_from_is_err_and c.from_residual-in_err-process-in-Some.result c.from_residual-in_err-process-in-Some.ensures.1 in
-    rw (p.1, p.2) (err_through {A' = Unit {0}} went_of (λ _. tt) _ (λ n. (upto (chart_of c.args.chart.now) c.args.bounds n).send c.args.e c.args.to (now_of c.args.now) c.args.world.now) _ _ (λ x h. let deep : nat_le c.args.bounds.depth c.args.now.depth ≡ false = grind (arith, nat_tests) in let on : is_on c.in-Some.s c.pay.new.self.marks ≡ true = cc in subst (λ o. Settled (λ n. (upto (chart_of c.args.chart.now) c.args.bounds n).send c.args.e o (now_of c.args.now) c.args.world.now) (Faulted x c.process-in-Some.new.world)) (sym c.in-Some.is) (send_on_fault (chart_of c.args.chart.now) c.args.bounds (now_of c.args.now) c.args.e (Some c.in-Some.s) c.args.world.now c.pay.new.self c.process-in-Some.new.world x deep c.in_ok-pay.ensures.does on (at_depth (λ d n. (upto (chart_of c.args.chart.now) c.args.bounds n).process c.in-Some.s (record { event = Named c.args.e; depth = d }) c.pay.new.self) c.args.now.depth _ h))) c.in_err-process-in-Some.ensures.gives)
+    let chart = chart_of c.args.chart.now in
+    let now = now_of c.args.now in
+    let p =
+    err_from_is_err_and c.from_residual-in_err-process-in-Some.result
+    c.from_residual-in_err-process-in-Some.ensures.1 in
+    rw (p.1, p.2) (err_through {A' = Unit {0}} went_of (λ _. tt) _
+    (λ n. (upto chart c.args.bounds n).send c.args.e c.args.to now c.args.world.now) _ _
+    (λ x h.
+    let deep : nat_le c.args.bounds.depth c.args.now.depth ≡ false = grind (arith, nat_tests) in
+    let on : is_on c.in-Some.s c.pay.new.self.marks ≡ true = cc in
+    subst (λ o. Settled (λ n. (upto chart c.args.bounds n).send c.args.e o now c.args.world.now)
+    (Faulted x c.process-in-Some.new.world)) (sym c.in-Some.is)
+    (send_on_fault chart c.args.bounds now c.args.e (Some c.in-Some.s) c.args.world.now c.pay.new.self
+    c.process-in-Some.new.world x deep c.in_ok-pay.ensures.does on
+    (at_depth (λ d n. (upto chart c.args.bounds n).process c.in-Some.s (record { event = Named c.args.e; depth = d })
+    c.pay.new.self) c.args.now.depth _ h))) c.in_err-process-in-Some.ensures.gives)
 
 pub send-returns-in_ok-process-in-Some-clause-gives : goal.send-returns-in_ok-process-in-Some-clause-gives
-send-returns-in_ok-process-in-Some-clause-gives t c = let deep : nat_le c.args.bounds.depth c.args.now.depth ≡ false = grind (arith, nat_tests) in let on : is_on c.in-Some.s c.pay.new.self.marks ≡ true = cc in subst (λ o. Settled (λ n. (upto (chart_of c.args.chart.now) c.args.bounds n).send c.args.e o (now_of c.args.now) c.args.world.now) (Ended tt c.process-in-Some.new.world)) (sym c.in-Some.is) (send_on (chart_of c.args.chart.now) c.args.bounds (now_of c.args.now) c.args.e (Some c.in-Some.s) c.args.world.now c.pay.new.self c.process-in-Some.new.world _ deep c.in_ok-pay.ensures.does on (at_depth (λ d n. (upto (chart_of c.args.chart.now) c.args.bounds n).process c.in-Some.s (record { event = Named c.args.e; depth = d }) c.pay.new.self) c.args.now.depth _ c.in_ok-process-in-Some.ensures.gives))
+send-returns-in_ok-process-in-Some-clause-gives t c =
+    let chart = chart_of c.args.chart.now in
+    let now = now_of c.args.now in
+    let deep : nat_le c.args.bounds.depth c.args.now.depth ≡ false = grind (arith, nat_tests) in
+    let on : is_on c.in-Some.s c.pay.new.self.marks ≡ true = cc in
+    subst (λ o. Settled (λ n. (upto chart c.args.bounds n).send c.args.e o now c.args.world.now)
+    (Ended tt c.process-in-Some.new.world)) (sym c.in-Some.is)
+    (send_on chart c.args.bounds now c.args.e (Some c.in-Some.s) c.args.world.now c.pay.new.self
+    c.process-in-Some.new.world _ deep c.in_ok-pay.ensures.does on
+    (at_depth (λ d n. (upto chart c.args.bounds n).process c.in-Some.s (record { event = Named c.args.e; depth = d })
+    c.pay.new.self) c.args.now.depth _ c.in_ok-process-in-Some.ensures.gives))
 
 pub exit-returns-then-not-on-clause-gives : goal.exit-returns-then-not-on-clause-gives
-exit-returns-then-not-on-clause-gives t c = let off : is_on c.args.s c.args.world.now.marks ≡ false = cc in exit_off (chart_of c.args.chart.now) c.args.bounds (now_of c.args.now) c.args.s c.args.world.now off
+exit-returns-then-not-on-clause-gives t c =
+    let off : is_on c.args.s c.args.world.now.marks ≡ false = cc in
+    exit_off (chart_of c.args.chart.now) c.args.bounds (now_of c.args.now) c.args.s c.args.world.now off
 
 pub exit-returns-in_err-exit_children-clause-gives : goal.exit-returns-in_err-exit_children-clause-gives
 exit-returns-in_err-exit_children-clause-gives t c =
+    let chart = chart_of c.args.chart.now in
+    let now = now_of c.args.now in
     let p = err_from_is_err_and c.from_residual.result c.from_residual.ensures.1 in
-    rw (p.1, p.2) (err_through {A = Unit {0}} {A' = Unit {0}} (λ _. tt) (λ _. tt) _ (λ n. (upto (chart_of c.args.chart.now) c.args.bounds n).exit c.args.s (now_of c.args.now) c.args.world.now) _ _ (λ x h. let on : is_on c.args.s c.args.world.now.marks ≡ true = cc in exit_children_fault (chart_of c.args.chart.now) c.args.bounds (now_of c.args.now) c.args.s c.args.world.now _ x on h) c.in_err-exit_children.ensures.gives)
+    rw (p.1, p.2) (err_through {A = Unit {0}} {A' = Unit {0}} (λ _. tt) (λ _. tt) _
+    (λ n. (upto chart c.args.bounds n).exit c.args.s now c.args.world.now) _ _
+    (λ x h.
+    let on : is_on c.args.s c.args.world.now.marks ≡ true = cc in
+    exit_children_fault chart c.args.bounds now c.args.s c.args.world.now _ x on h)
+    c.in_err-exit_children.ensures.gives)
 
 pub exit-returns-then-not-bare-clause-gives : goal.exit-returns-then-not-bare-clause-gives
-exit-returns-then-not-bare-clause-gives t c = let on : is_on c.args.s c.args.world.now.marks ≡ true = cc in let bare : is_bare (chart_of c.args.chart.now).tree c.args.s c.exit_children.new.world.marks ≡ false = cc in exit_not_bare (chart_of c.args.chart.now) c.args.bounds (now_of c.args.now) c.args.s c.args.world.now _ on c.in_ok-exit_children.ensures.gives bare
+exit-returns-then-not-bare-clause-gives t c =
+    let chart = chart_of c.args.chart.now in
+    let on : is_on c.args.s c.args.world.now.marks ≡ true = cc in
+    let bare : is_bare chart.tree c.args.s c.exit_children.new.world.marks ≡ false = cc in
+    exit_not_bare chart c.args.bounds (now_of c.args.now) c.args.s c.args.world.now _ on
+    c.in_ok-exit_children.ensures.gives bare
 
 pub exit-returns-in_err-run_block-clause-gives : goal.exit-returns-in_err-run_block-clause-gives
 exit-returns-in_err-run_block-clause-gives t c =
+    let chart = chart_of c.args.chart.now in
+    let now = now_of c.args.now in
     let p = err_from_is_err_and c.from_residual-in_err-run_block.result c.from_residual-in_err-run_block.ensures.1 in
-    rw (p.1, p.2) (err_through {A' = Unit {0}} end_of (λ _. tt) _ (λ n. (upto (chart_of c.args.chart.now) c.args.bounds n).exit c.args.s (now_of c.args.now) c.args.world.now) _ _ (λ x h. let on : is_on c.args.s c.args.world.now.marks ≡ true = cc in let bare : is_bare (chart_of c.args.chart.now).tree c.args.s c.exit_children.new.world.marks ≡ true = cc in exit_block_fault (chart_of c.args.chart.now) c.args.bounds (now_of c.args.now) c.args.s _ c.args.world.now c.exit_children.new.world _ x c.block.ensures.block on c.in_ok-exit_children.ensures.gives bare h) c.in_err-run_block.ensures.gives)
+    rw (p.1, p.2) (err_through {A' = Unit {0}} end_of (λ _. tt) _
+    (λ n. (upto chart c.args.bounds n).exit c.args.s now c.args.world.now) _ _
+    (λ x h.
+    let on : is_on c.args.s c.args.world.now.marks ≡ true = cc in
+    let bare : is_bare chart.tree c.args.s c.exit_children.new.world.marks ≡ true = cc in
+    exit_block_fault chart c.args.bounds now c.args.s _ c.args.world.now c.exit_children.new.world _ x
+    c.block.ensures.block on c.in_ok-exit_children.ensures.gives bare h) c.in_err-run_block.ensures.gives)
 
 pub exit-returns-in-Cut-clause-gives : goal.exit-returns-in-Cut-clause-gives
-exit-returns-in-Cut-clause-gives t c = let on : is_on c.args.s c.args.world.now.marks ≡ true = cc in let bare : is_bare (chart_of c.args.chart.now).tree c.args.s c.exit_children.new.world.marks ≡ true = cc in exit_cut (chart_of c.args.chart.now) c.args.bounds (now_of c.args.now) c.args.s _ c.args.world.now c.exit_children.new.world _ c.block.ensures.block on c.in_ok-exit_children.ensures.gives bare (ended_as end_of _ _ c.in-Cut.is c.in_ok-run_block.ensures.gives)
+exit-returns-in-Cut-clause-gives t c =
+    let chart = chart_of c.args.chart.now in
+    let on : is_on c.args.s c.args.world.now.marks ≡ true = cc in
+    let bare : is_bare chart.tree c.args.s c.exit_children.new.world.marks ≡ true = cc in
+    exit_cut chart c.args.bounds (now_of c.args.now) c.args.s _ c.args.world.now c.exit_children.new.world _
+    c.block.ensures.block on c.in_ok-exit_children.ensures.gives bare
+    (ended_as end_of _ _ c.in-Cut.is c.in_ok-run_block.ensures.gives)
 
 pub exit-returns-else-bare-clause-gives : goal.exit-returns-else-bare-clause-gives
-exit-returns-else-bare-clause-gives t c = let on : is_on c.args.s c.args.world.now.marks ≡ true = cc in let bare : is_bare (chart_of c.args.chart.now).tree c.args.s c.exit_children.new.world.marks ≡ true = cc in let off : is_bare (chart_of c.args.chart.now).tree c.args.s c.run_block.new.world.marks ≡ false = cc in exit_kept (chart_of c.args.chart.now) c.args.bounds (now_of c.args.now) c.args.s _ c.args.world.now c.exit_children.new.world _ c.block.ensures.block on c.in_ok-exit_children.ensures.gives bare (ended_as end_of _ _ c.in-Done.is c.in_ok-run_block.ensures.gives) off
+exit-returns-else-bare-clause-gives t c =
+    let chart = chart_of c.args.chart.now in
+    let on : is_on c.args.s c.args.world.now.marks ≡ true = cc in
+    let bare : is_bare chart.tree c.args.s c.exit_children.new.world.marks ≡ true = cc in
+    let off : is_bare chart.tree c.args.s c.run_block.new.world.marks ≡ false = cc in
+    exit_kept chart c.args.bounds (now_of c.args.now) c.args.s _ c.args.world.now c.exit_children.new.world _
+    c.block.ensures.block on c.in_ok-exit_children.ensures.gives bare
+    (ended_as end_of _ _ c.in-Done.is c.in_ok-run_block.ensures.gives) off
 
 pub exit-returns-then-bare-clause-gives : goal.exit-returns-then-bare-clause-gives
-exit-returns-then-bare-clause-gives t c = let on : is_on c.args.s c.args.world.now.marks ≡ true = cc in let bare : is_bare (chart_of c.args.chart.now).tree c.args.s c.exit_children.new.world.marks ≡ true = cc in let off : is_bare (chart_of c.args.chart.now).tree c.args.s c.run_block.new.world.marks ≡ true = cc in subst (λ v. Settled (λ n. (upto (chart_of c.args.chart.now) c.args.bounds n).exit c.args.s (now_of c.args.now) c.args.world.now) (Ended tt v)) (sym c.clear.ensures.cleared) (exit_left (chart_of c.args.chart.now) c.args.bounds (now_of c.args.now) c.args.s _ c.args.world.now c.exit_children.new.world _ c.block.ensures.block on c.in_ok-exit_children.ensures.gives bare (ended_as end_of _ _ c.in-Done.is c.in_ok-run_block.ensures.gives) off)
+exit-returns-then-bare-clause-gives t c =
+    let chart = chart_of c.args.chart.now in
+    let now = now_of c.args.now in
+    let on : is_on c.args.s c.args.world.now.marks ≡ true = cc in
+    let bare : is_bare chart.tree c.args.s c.exit_children.new.world.marks ≡ true = cc in
+    let off : is_bare chart.tree c.args.s c.run_block.new.world.marks ≡ true = cc in
+    subst (λ v. Settled (λ n. (upto chart c.args.bounds n).exit c.args.s now c.args.world.now) (Ended tt v))
+    (sym c.clear.ensures.cleared) (exit_left chart c.args.bounds now c.args.s _ c.args.world.now
+    c.exit_children.new.world _ c.block.ensures.block on c.in_ok-exit_children.ensures.gives bare
+    (ended_as end_of _ _ c.in-Done.is c.in_ok-run_block.ensures.gives) off)
 
 pub exit_children-returns-in-Leaf-clause-gives : goal.exit_children-returns-in-Leaf-clause-gives
-exit_children-returns-in-Leaf-clause-gives t c = exit_children_leaf (chart_of c.args.chart.now) c.args.bounds (now_of c.args.now) c.args.s _ c.args.world.now c.in-Leaf.ensures
+exit_children-returns-in-Leaf-clause-gives t c =
+    exit_children_leaf (chart_of c.args.chart.now) c.args.bounds (now_of c.args.now) c.args.s _ c.args.world.now
+    c.in-Leaf.ensures
 
 pub exit_children-returns-in-Or-clause-gives : goal.exit_children-returns-in-Or-clause-gives
-exit_children-returns-in-Or-clause-gives t c = passed {A = Unit {0}} (λ _. tt) _ (λ n. exit_children (chart_of c.args.chart.now) (upto (chart_of c.args.chart.now) c.args.bounds n) c.args.s (now_of c.args.now) (comp_of (chart_of c.args.chart.now).tree c.args.s) c.args.world.now) _ _ (λ q h. exit_children_or (chart_of c.args.chart.now) c.args.bounds (now_of c.args.now) c.args.s _ c.args.world.now q c.in-Or.ensures h) c.exit_active.ensures.gives
+exit_children-returns-in-Or-clause-gives t c =
+    let chart = chart_of c.args.chart.now in
+    let now = now_of c.args.now in
+    passed {A = Unit {0}} (λ _. tt) _
+    (λ n. exit_children chart (upto chart c.args.bounds n) c.args.s now (comp_of chart.tree c.args.s) c.args.world.now)
+    _ _ (λ q h. exit_children_or chart c.args.bounds now c.args.s _ c.args.world.now q c.in-Or.ensures h)
+    c.exit_active.ensures.gives
 
 pub exit_children-returns-in-And-clause-gives : goal.exit_children-returns-in-And-clause-gives
-exit_children-returns-in-And-clause-gives t c = passed {A = Unit {0}} (λ _. tt) _ (λ n. exit_children (chart_of c.args.chart.now) (upto (chart_of c.args.chart.now) c.args.bounds n) c.args.s (now_of c.args.now) (comp_of (chart_of c.args.chart.now).tree c.args.s) c.args.world.now) _ _ (λ q h. exit_children_and (chart_of c.args.chart.now) c.args.bounds (now_of c.args.now) c.args.s _ c.args.world.now q _ c.in-And.ensures refl h) c.exit_all.ensures.gives
+exit_children-returns-in-And-clause-gives t c =
+    let chart = chart_of c.args.chart.now in
+    let now = now_of c.args.now in
+    passed {A = Unit {0}} (λ _. tt) _
+    (λ n. exit_children chart (upto chart c.args.bounds n) c.args.s now (comp_of chart.tree c.args.s) c.args.world.now)
+    _ _ (λ q h. exit_children_and chart c.args.bounds now c.args.s _ c.args.world.now q _ c.in-And.ensures refl h)
+    c.exit_all.ensures.gives
 
 pub exit_active-returns-in-None-clause-gives : goal.exit_active-returns-in-None-clause-gives
-exit_active-returns-in-None-clause-gives t c = exit_active_none (chart_of c.args.chart.now) c.args.bounds (now_of c.args.now) c.args.s c.args.world.now c.in-None.ensures.child
+exit_active-returns-in-None-clause-gives t c =
+    exit_active_none (chart_of c.args.chart.now) c.args.bounds (now_of c.args.now) c.args.s c.args.world.now
+    c.in-None.ensures.child
 
 pub exit_active-returns-in-Some-clause-gives : goal.exit_active-returns-in-Some-clause-gives
-exit_active-returns-in-Some-clause-gives t c = passed {A = Unit {0}} (λ _. tt) _ (λ n. exit_active (chart_of c.args.chart.now) (upto (chart_of c.args.chart.now) c.args.bounds n) c.args.s (now_of c.args.now) c.args.world.now) _ _ (λ q h. exit_active_one (chart_of c.args.chart.now) c.args.bounds (now_of c.args.now) c.args.s c.in-Some.x c.args.world.now q c.in-Some.ensures.child h) c.exit.ensures.gives
+exit_active-returns-in-Some-clause-gives t c =
+    let chart = chart_of c.args.chart.now in
+    let now = now_of c.args.now in
+    passed {A = Unit {0}} (λ _. tt) _
+    (λ n. exit_active chart (upto chart c.args.bounds n) c.args.s now c.args.world.now) _ _
+    (λ q h. exit_active_one chart c.args.bounds now c.args.s c.in-Some.x c.args.world.now q c.in-Some.ensures.child h)
+    c.exit.ensures.gives
 
 pub exit_all-loop-next-init : goal.exit_all-loop-next-init
-exit_all-loop-next-init t c = record { goes = subst (λ l. Continues (λ n. (upto (chart_of c.args.chart.now) c.args.bounds n).exit_each l (now_of c.args.now) c.args.world.now) (λ n. (upto (chart_of c.args.chart.now) c.args.bounds n).exit_each (reverse (children_of (chart_of c.args.chart.now).tree c.args.s)) (now_of c.args.now) c.args.world.now)) (children_of-back (chart_of c.args.chart.now).tree c.args.s ∙ ap (children_back_from (chart_of c.args.chart.now).tree c.args.s) (sym c.last_child-next.ensures.child)) continues_same; stands = stands_last (chart_of c.args.chart.now).tree c.last_child-next.ensures.tree c.args.s _ c.last_child-next.ensures.child; fits = c.requires.fits }
+exit_all-loop-next-init t c =
+    let chart = chart_of c.args.chart.now in
+    let now = now_of c.args.now in
+    record {
+      goes =
+          subst (λ l. Continues (λ n. (upto chart c.args.bounds n).exit_each l now c.args.world.now)
+          (λ n. (upto chart c.args.bounds n).exit_each (reverse (children_of chart.tree c.args.s)) now
+          c.args.world.now))
+          (children_of-back chart.tree c.args.s
+          ∙ ap (children_back_from chart.tree c.args.s) (sym c.last_child-next.ensures.child)) continues_same;
+      stands = stands_last chart.tree c.last_child-next.ensures.tree c.args.s _ c.last_child-next.ensures.child;
+      fits = c.requires.fits;
+    }
 
 pub exit_all-returns-in_err-exit-clause-gives : goal.exit_all-returns-in_err-exit-clause-gives
 exit_all-returns-in_err-exit-clause-gives t c =
+    let chart = chart_of c.args.chart.now in
+    let now = now_of c.args.now in
     let p = err_from_is_err_and c.from_residual.result c.from_residual.ensures.1 in
-    rw (p.1, p.2) (err_through {A = Unit {0}} {A' = Unit {0}} (λ _. tt) (λ _. tt) _ (λ n. (upto (chart_of c.args.chart.now) c.args.bounds n).exit_each (reverse (children_of (chart_of c.args.chart.now).tree c.args.s)) (now_of c.args.now) c.args.world.now) _ _ (λ x h. exit_turn_fault (chart_of c.args.chart.now) c.args.bounds (now_of c.args.now) c.args.s c.loop-next.next c.loop-next.world (λ n. (upto (chart_of c.args.chart.now) c.args.bounds n).exit_each (reverse (children_of (chart_of c.args.chart.now).tree c.args.s)) (now_of c.args.now) c.args.world.now) c.loop-next.invariant.goes c.in-Some.x c.in-Some.is c.loop-next.invariant.stands _ x h) c.in_err-exit.ensures.gives)
+    rw (p.1, p.2) (err_through {A = Unit {0}} {A' = Unit {0}} (λ _. tt) (λ _. tt) _
+    (λ n. (upto chart c.args.bounds n).exit_each (reverse (children_of chart.tree c.args.s)) now c.args.world.now) _ _
+    (λ x h. exit_turn_fault chart c.args.bounds now c.args.s c.loop-next.next c.loop-next.world
+    (λ n. (upto chart c.args.bounds n).exit_each (reverse (children_of chart.tree c.args.s)) now c.args.world.now)
+    c.loop-next.invariant.goes c.in-Some.x c.in-Some.is c.loop-next.invariant.stands _ x h) c.in_err-exit.ensures.gives)
 
 pub exit_all-prev_sibling-next-requires : goal.exit_all-prev_sibling-next-requires
 exit_all-prev_sibling-next-requires t c = (c.loop-next.invariant.stands.child c.in-Some.x c.in-Some.is).within
 
 pub exit_all-loop-next-preserved : goal.exit_all-loop-next-preserved
-exit_all-loop-next-preserved t c = record { goes = exit_turn (chart_of c.args.chart.now) c.args.bounds (now_of c.args.now) c.args.s c.loop-next.next c.loop-next.world (λ n. (upto (chart_of c.args.chart.now) c.args.bounds n).exit_each (reverse (children_of (chart_of c.args.chart.now).tree c.args.s)) (now_of c.args.now) c.args.world.now) c.loop-next.invariant.goes c.in-Some.x c.in-Some.is c.loop-next.invariant.stands _ _ c.prev_sibling-next.ensures.sibling c.in_ok-exit.ensures.gives; stands = stands_prev (chart_of c.args.chart.now).tree c.prev_sibling-next.ensures.tree c.args.s c.in-Some.x _ _ c.in-Some.is c.loop-next.invariant.stands c.prev_sibling-next.ensures.sibling; fits = c.exit.ensures.fits }
+exit_all-loop-next-preserved t c =
+    let chart = chart_of c.args.chart.now in
+    let now = now_of c.args.now in
+    record {
+      goes =
+          exit_turn chart c.args.bounds now c.args.s c.loop-next.next c.loop-next.world
+          (λ n. (upto chart c.args.bounds n).exit_each (reverse (children_of chart.tree c.args.s)) now c.args.world.now)
+          c.loop-next.invariant.goes c.in-Some.x c.in-Some.is c.loop-next.invariant.stands _ _
+          c.prev_sibling-next.ensures.sibling c.in_ok-exit.ensures.gives;
+      stands =
+          stands_prev chart.tree c.prev_sibling-next.ensures.tree c.args.s c.in-Some.x _ _ c.in-Some.is
+          c.loop-next.invariant.stands c.prev_sibling-next.ensures.sibling;
+      fits = c.exit.ensures.fits;
+    }
 
 pub exit_all-returns-clause-gives : goal.exit_all-returns-clause-gives
-exit_all-returns-clause-gives t c = exit_turns_end (chart_of c.args.chart.now) c.args.bounds (now_of c.args.now) c.args.s c.loop-next.next c.loop-next.world (λ n. (upto (chart_of c.args.chart.now) c.args.bounds n).exit_each (reverse (children_of (chart_of c.args.chart.now).tree c.args.s)) (now_of c.args.now) c.args.world.now) c.loop-next.invariant.goes c.in_default.is
+exit_all-returns-clause-gives t c =
+    let chart = chart_of c.args.chart.now in
+    let now = now_of c.args.now in
+    exit_turns_end chart c.args.bounds now c.args.s c.loop-next.next c.loop-next.world
+    (λ n. (upto chart c.args.bounds n).exit_each (reverse (children_of chart.tree c.args.s)) now c.args.world.now)
+    c.loop-next.invariant.goes c.in_default.is
 
 pub exit_all-exit-requires : goal.exit_all-exit-requires
-exit_all-exit-requires t c = let i = (c.loop-next.invariant.stands.child c.in-Some.x c.in-Some.is) in (omega (arith, i.above, i.within, c.decreases), (c.loop-next.invariant.fits, i.within))
+exit_all-exit-requires t c =
+    let i = (c.loop-next.invariant.stands.child c.in-Some.x c.in-Some.is) in
+    (omega (arith, i.above, i.within, c.decreases), (c.loop-next.invariant.fits, i.within))
 
 pub enter-returns-then-not-can_mark-clause-gives : goal.enter-returns-then-not-can_mark-clause-gives
-enter-returns-then-not-can_mark-clause-gives t c = let can : can_mark (chart_of c.args.chart.now).tree c.args.s c.args.world.now.marks ≡ false = cc in enter_no (chart_of c.args.chart.now) c.args.bounds (now_of c.args.now) c.args.s c.args.d c.args.world.now can
+enter-returns-then-not-can_mark-clause-gives t c =
+    let chart = chart_of c.args.chart.now in
+    let can : can_mark chart.tree c.args.s c.args.world.now.marks ≡ false = cc in
+    enter_no chart c.args.bounds (now_of c.args.now) c.args.s c.args.d c.args.world.now can
 
 pub enter-returns-in_err-run_block-clause-gives : goal.enter-returns-in_err-run_block-clause-gives
 enter-returns-in_err-run_block-clause-gives t c =
+    let chart = chart_of c.args.chart.now in
+    let now = now_of c.args.now in
     let p = err_from_is_err_and c.from_residual.result c.from_residual.ensures.1 in
-    rw (p.1, p.2) (err_through {A' = Unit {0}} end_of (λ _. tt) _ (λ n. (upto (chart_of c.args.chart.now) c.args.bounds n).enter c.args.s c.args.d (now_of c.args.now) c.args.world.now) _ _ (λ x h. let can : can_mark (chart_of c.args.chart.now).tree c.args.s c.args.world.now.marks ≡ true = cc in enter_fault (chart_of c.args.chart.now) c.args.bounds (now_of c.args.now) c.args.s c.args.d _ c.args.world.now c.enter.new.self c.block.ensures.block can c.enter.ensures.entered _ x h) c.in_err-run_block.ensures.gives)
+    rw (p.1, p.2) (err_through {A' = Unit {0}} end_of (λ _. tt) _
+    (λ n. (upto chart c.args.bounds n).enter c.args.s c.args.d now c.args.world.now) _ _
+    (λ x h.
+    let can : can_mark chart.tree c.args.s c.args.world.now.marks ≡ true = cc in
+    enter_fault chart c.args.bounds now c.args.s c.args.d _ c.args.world.now c.enter.new.self c.block.ensures.block can
+    c.enter.ensures.entered _ x h) c.in_err-run_block.ensures.gives)
 
 pub enter-returns-in-Cut-clause-gives : goal.enter-returns-in-Cut-clause-gives
-enter-returns-in-Cut-clause-gives t c = let can : can_mark (chart_of c.args.chart.now).tree c.args.s c.args.world.now.marks ≡ true = cc in enter_cut (chart_of c.args.chart.now) c.args.bounds (now_of c.args.now) c.args.s c.args.d _ c.args.world.now c.enter.new.self c.block.ensures.block can c.enter.ensures.entered c.run_block.new.world (ended_as end_of _ _ c.in-Cut.is c.in_ok-run_block.ensures.gives)
+enter-returns-in-Cut-clause-gives t c =
+    let chart = chart_of c.args.chart.now in
+    let can : can_mark chart.tree c.args.s c.args.world.now.marks ≡ true = cc in
+    enter_cut chart c.args.bounds (now_of c.args.now) c.args.s c.args.d _ c.args.world.now c.enter.new.self
+    c.block.ensures.block can c.enter.ensures.entered c.run_block.new.world
+    (ended_as end_of _ _ c.in-Cut.is c.in_ok-run_block.ensures.gives)
 
 pub enter-returns-in-Done-clause-gives : goal.enter-returns-in-Done-clause-gives
-enter-returns-in-Done-clause-gives t c = passed {A = Unit {0}} (λ _. tt) _ (λ n. (upto (chart_of c.args.chart.now) c.args.bounds n).enter c.args.s c.args.d (now_of c.args.now) c.args.world.now) _ _ (λ q h. let can : can_mark (chart_of c.args.chart.now).tree c.args.s c.args.world.now.marks ≡ true = cc in enter_done (chart_of c.args.chart.now) c.args.bounds (now_of c.args.now) c.args.s c.args.d _ c.args.world.now c.enter.new.self c.block.ensures.block can c.enter.ensures.entered c.run_block.new.world q (ended_as end_of _ _ c.in-Done.is c.in_ok-run_block.ensures.gives) h) c.enter_inside.ensures.gives
+enter-returns-in-Done-clause-gives t c =
+    let chart = chart_of c.args.chart.now in
+    let now = now_of c.args.now in
+    passed {A = Unit {0}} (λ _. tt) _ (λ n. (upto chart c.args.bounds n).enter c.args.s c.args.d now c.args.world.now) _
+    _ (λ q h.
+    let can : can_mark chart.tree c.args.s c.args.world.now.marks ≡ true = cc in
+    enter_done chart c.args.bounds now c.args.s c.args.d _ c.args.world.now c.enter.new.self c.block.ensures.block can
+    c.enter.ensures.entered c.run_block.new.world q (ended_as end_of _ _ c.in-Done.is c.in_ok-run_block.ensures.gives)
+    h) c.enter_inside.ensures.gives
 
 pub enter_inside-returns-in-Leaf-clause-gives : goal.enter_inside-returns-in-Leaf-clause-gives
-enter_inside-returns-in-Leaf-clause-gives t c = inside_leaf (chart_of c.args.chart.now) c.args.bounds (now_of c.args.now) c.args.s c.args.d _ c.args.world.now c.in-Leaf.ensures
+enter_inside-returns-in-Leaf-clause-gives t c =
+    inside_leaf (chart_of c.args.chart.now) c.args.bounds (now_of c.args.now) c.args.s c.args.d _ c.args.world.now
+    c.in-Leaf.ensures
 
 pub enter_inside-returns-in-Or-clause-gives : goal.enter_inside-returns-in-Or-clause-gives
-enter_inside-returns-in-Or-clause-gives t c = passed {A = Unit {0}} (λ _. tt) _ (λ n. enter_inside (chart_of c.args.chart.now) (upto (chart_of c.args.chart.now) c.args.bounds n) c.args.s c.args.d (now_of c.args.now) (comp_of (chart_of c.args.chart.now).tree c.args.s) c.args.world.now) _ _ (λ q h. inside_or (chart_of c.args.chart.now) c.args.bounds (now_of c.args.now) c.args.s c.args.d _ c.args.world.now q c.in-Or.ensures h) c.enter_toward.ensures.gives
+enter_inside-returns-in-Or-clause-gives t c =
+    let chart = chart_of c.args.chart.now in
+    let now = now_of c.args.now in
+    passed {A = Unit {0}} (λ _. tt) _ (λ n. enter_inside chart (upto chart c.args.bounds n) c.args.s c.args.d now
+    (comp_of chart.tree c.args.s) c.args.world.now) _ _
+    (λ q h. inside_or chart c.args.bounds now c.args.s c.args.d _ c.args.world.now q c.in-Or.ensures h)
+    c.enter_toward.ensures.gives
 
 pub enter_inside-returns-in-And-clause-gives : goal.enter_inside-returns-in-And-clause-gives
-enter_inside-returns-in-And-clause-gives t c = passed {A = Unit {0}} (λ _. tt) _ (λ n. enter_inside (chart_of c.args.chart.now) (upto (chart_of c.args.chart.now) c.args.bounds n) c.args.s c.args.d (now_of c.args.now) (comp_of (chart_of c.args.chart.now).tree c.args.s) c.args.world.now) _ _ (λ q h. inside_each (chart_of c.args.chart.now) c.args.bounds (now_of c.args.now) c.args.s c.args.d _ c.args.world.now q _ c.in-And.ensures refl h) c.enter_all.ensures.gives
+enter_inside-returns-in-And-clause-gives t c =
+    let chart = chart_of c.args.chart.now in
+    let now = now_of c.args.now in
+    passed {A = Unit {0}} (λ _. tt) _ (λ n. enter_inside chart (upto chart c.args.bounds n) c.args.s c.args.d now
+    (comp_of chart.tree c.args.s) c.args.world.now) _ _
+    (λ q h. inside_each chart c.args.bounds now c.args.s c.args.d _ c.args.world.now q _ c.in-And.ensures refl h)
+    c.enter_all.ensures.gives
 
 pub enter_toward-returns-then-s-d-clause-gives : goal.enter_toward-returns-then-s-d-clause-gives
-enter_toward-returns-then-s-d-clause-gives t c = passed {A = Unit {0}} (λ _. tt) _ (λ n. enter_toward (chart_of c.args.chart.now) (upto (chart_of c.args.chart.now) c.args.bounds n) c.args.s c.args.d (now_of c.args.now) c.args.world.now) _ _ (λ q h. let sd : (c.args.s == c.args.d) ≡ true = grind (arith, nat_tests) in settled_true (c.args.s == c.args.d) (λ n. (upto (chart_of c.args.chart.now) c.args.bounds n).defaults c.args.s (now_of c.args.now)) _ c.args.world.now q sd h) c.defaults.ensures.gives
+enter_toward-returns-then-s-d-clause-gives t c =
+    let chart = chart_of c.args.chart.now in
+    let now = now_of c.args.now in
+    passed {A = Unit {0}} (λ _. tt) _
+    (λ n. enter_toward chart (upto chart c.args.bounds n) c.args.s c.args.d now c.args.world.now) _ _
+    (λ q h.
+    let sd : (c.args.s == c.args.d) ≡ true = grind (arith, nat_tests) in
+    settled_true (c.args.s == c.args.d) (λ n. (upto chart c.args.bounds n).defaults c.args.s now) _ c.args.world.now q
+    sd h) c.defaults.ensures.gives
 
 pub enter_toward-returns-clause-gives : goal.enter_toward-returns-clause-gives
-enter_toward-returns-clause-gives t c = passed {A = Unit {0}} (λ _. tt) _ (λ n. enter_toward (chart_of c.args.chart.now) (upto (chart_of c.args.chart.now) c.args.bounds n) c.args.s c.args.d (now_of c.args.now) c.args.world.now) _ _ (λ q h. let sd : (c.args.s == c.args.d) ≡ false = grind (arith, nat_tests) in settled_false (c.args.s == c.args.d) _ (λ n. if_some (child_toward (chart_of c.args.chart.now).tree c.args.s c.args.d) nothing (λ x. (upto (chart_of c.args.chart.now) c.args.bounds n).enter x c.args.d (now_of c.args.now))) c.args.world.now q sd h) c.enter_child.ensures.gives
+enter_toward-returns-clause-gives t c =
+    let chart = chart_of c.args.chart.now in
+    let now = now_of c.args.now in
+    passed {A = Unit {0}} (λ _. tt) _
+    (λ n. enter_toward chart (upto chart c.args.bounds n) c.args.s c.args.d now c.args.world.now) _ _
+    (λ q h.
+    let sd : (c.args.s == c.args.d) ≡ false = grind (arith, nat_tests) in
+    settled_false (c.args.s == c.args.d) _ (λ n. if_some (child_toward chart.tree c.args.s c.args.d) nothing
+    (λ x. (upto chart c.args.bounds n).enter x c.args.d now)) c.args.world.now q sd h) c.enter_child.ensures.gives
 
 pub enter_child-returns-in-None-clause-gives : goal.enter_child-returns-in-None-clause-gives
-enter_child-returns-in-None-clause-gives t c = toward_none (chart_of c.args.chart.now) c.args.bounds (now_of c.args.now) c.args.s c.args.d c.args.world.now c.in-None.ensures.child
+enter_child-returns-in-None-clause-gives t c =
+    toward_none (chart_of c.args.chart.now) c.args.bounds (now_of c.args.now) c.args.s c.args.d c.args.world.now
+    c.in-None.ensures.child
 
 pub enter_child-returns-in-Some-clause-gives : goal.enter_child-returns-in-Some-clause-gives
-enter_child-returns-in-Some-clause-gives t c = passed {A = Unit {0}} (λ _. tt) _ (λ n. if_some (child_toward (chart_of c.args.chart.now).tree c.args.s c.args.d) nothing (λ x. (upto (chart_of c.args.chart.now) c.args.bounds n).enter x c.args.d (now_of c.args.now)) c.args.world.now) _ _ (λ q h. toward_one (chart_of c.args.chart.now) c.args.bounds (now_of c.args.now) c.args.s c.args.d c.in-Some.x c.args.world.now q c.in-Some.ensures.child h) c.enter.ensures.gives
+enter_child-returns-in-Some-clause-gives t c =
+    let chart = chart_of c.args.chart.now in
+    let now = now_of c.args.now in
+    passed {A = Unit {0}} (λ _. tt) _ (λ n. if_some (child_toward chart.tree c.args.s c.args.d) nothing
+    (λ x. (upto chart c.args.bounds n).enter x c.args.d now) c.args.world.now) _ _
+    (λ q h. toward_one chart c.args.bounds now c.args.s c.args.d c.in-Some.x c.args.world.now q c.in-Some.ensures.child
+    h) c.enter.ensures.gives
 
 pub enter_all-loop-next-init : goal.enter_all-loop-next-init
-enter_all-loop-next-init t c = record { goes = subst (λ l. Continues (λ n. (upto (chart_of c.args.chart.now) c.args.bounds n).enter_each l c.args.d (now_of c.args.now) c.args.world.now) (λ n. (upto (chart_of c.args.chart.now) c.args.bounds n).enter_each (children_of (chart_of c.args.chart.now).tree c.args.s) c.args.d (now_of c.args.now) c.args.world.now)) (children_of-from (chart_of c.args.chart.now).tree c.args.s ∙ ap (children_from (chart_of c.args.chart.now).tree c.args.s) (sym c.first_child-next.ensures.child)) continues_same; stands = stands_first (chart_of c.args.chart.now).tree c.first_child-next.ensures.tree c.args.s _ c.first_child-next.ensures.child; fits = c.requires.fits }
+enter_all-loop-next-init t c =
+    let chart = chart_of c.args.chart.now in
+    let now = now_of c.args.now in
+    record {
+      goes =
+          subst (λ l. Continues (λ n. (upto chart c.args.bounds n).enter_each l c.args.d now c.args.world.now)
+          (λ n. (upto chart c.args.bounds n).enter_each (children_of chart.tree c.args.s) c.args.d now
+          c.args.world.now))
+          (children_of-from chart.tree c.args.s
+          ∙ ap (children_from chart.tree c.args.s) (sym c.first_child-next.ensures.child)) continues_same;
+      stands = stands_first chart.tree c.first_child-next.ensures.tree c.args.s _ c.first_child-next.ensures.child;
+      fits = c.requires.fits;
+    }
 
 pub enter_all-path_in-requires-clause-child : goal.enter_all-path_in-requires-clause-child
 enter_all-path_in-requires-clause-child t c = (c.loop-next.invariant.stands.child c.in-Some.x c.in-Some.is).within
 
 pub enter_all-enter-requires : goal.enter_all-enter-requires
-enter_all-enter-requires t c = let i = (c.loop-next.invariant.stands.child c.in-Some.x c.in-Some.is) in (omega (arith, i.above, i.within, c.decreases), (c.loop-next.invariant.fits, (i.within, c.path_in.ensures.within)))
+enter_all-enter-requires t c =
+    let i = (c.loop-next.invariant.stands.child c.in-Some.x c.in-Some.is) in
+    (omega (arith, i.above, i.within, c.decreases), (c.loop-next.invariant.fits, (i.within, c.path_in.ensures.within)))
 
 pub enter_all-returns-in_err-enter-clause-gives : goal.enter_all-returns-in_err-enter-clause-gives
 enter_all-returns-in_err-enter-clause-gives t c =
+    let chart = chart_of c.args.chart.now in
+    let now = now_of c.args.now in
     let p = err_from_is_err_and c.from_residual.result c.from_residual.ensures.1 in
-    rw (p.1, p.2) (err_through {A = Unit {0}} {A' = Unit {0}} (λ _. tt) (λ _. tt) _ (λ n. (upto (chart_of c.args.chart.now) c.args.bounds n).enter_each (children_of (chart_of c.args.chart.now).tree c.args.s) c.args.d (now_of c.args.now) c.args.world.now) _ _ (λ x h. enter_turn_fault (chart_of c.args.chart.now) c.args.bounds (now_of c.args.now) c.args.s c.args.d c.loop-next.next c.loop-next.world (λ n. (upto (chart_of c.args.chart.now) c.args.bounds n).enter_each (children_of (chart_of c.args.chart.now).tree c.args.s) c.args.d (now_of c.args.now) c.args.world.now) c.loop-next.invariant.goes c.in-Some.x _ c.in-Some.is c.loop-next.invariant.stands c.path_in.ensures.path _ x h) c.in_err-enter.ensures.gives)
+    rw (p.1, p.2) (err_through {A = Unit {0}} {A' = Unit {0}} (λ _. tt) (λ _. tt) _
+    (λ n. (upto chart c.args.bounds n).enter_each (children_of chart.tree c.args.s) c.args.d now c.args.world.now) _ _
+    (λ x h. enter_turn_fault chart c.args.bounds now c.args.s c.args.d c.loop-next.next c.loop-next.world
+    (λ n. (upto chart c.args.bounds n).enter_each (children_of chart.tree c.args.s) c.args.d now c.args.world.now)
+    c.loop-next.invariant.goes c.in-Some.x _ c.in-Some.is c.loop-next.invariant.stands c.path_in.ensures.path _ x h)
+    c.in_err-enter.ensures.gives)
 
 pub enter_all-next_sibling-next-requires : goal.enter_all-next_sibling-next-requires
 enter_all-next_sibling-next-requires t c = (c.loop-next.invariant.stands.child c.in-Some.x c.in-Some.is).within
 
 pub enter_all-loop-next-smaller : goal.enter_all-loop-next-smaller
-enter_all-loop-next-smaller t c = ahead_falls (chart_of c.args.chart.now).tree c.in-Some.x _ _ c.in-Some.is (c.loop-next.invariant.stands.child c.in-Some.x c.in-Some.is).within c.next_sibling-next.ensures.after
+enter_all-loop-next-smaller t c =
+    ahead_falls (chart_of c.args.chart.now).tree c.in-Some.x _ _ c.in-Some.is
+    (c.loop-next.invariant.stands.child c.in-Some.x c.in-Some.is).within c.next_sibling-next.ensures.after
 
 pub enter_all-loop-next-preserved : goal.enter_all-loop-next-preserved
-enter_all-loop-next-preserved t c = record { goes = enter_turn (chart_of c.args.chart.now) c.args.bounds (now_of c.args.now) c.args.s c.args.d c.loop-next.next c.loop-next.world (λ n. (upto (chart_of c.args.chart.now) c.args.bounds n).enter_each (children_of (chart_of c.args.chart.now).tree c.args.s) c.args.d (now_of c.args.now) c.args.world.now) c.loop-next.invariant.goes c.in-Some.x _ c.in-Some.is c.loop-next.invariant.stands c.path_in.ensures.path _ _ c.next_sibling-next.ensures.sibling c.in_ok-enter.ensures.gives; stands = stands_next (chart_of c.args.chart.now).tree c.next_sibling-next.ensures.tree c.args.s c.in-Some.x _ _ c.in-Some.is c.loop-next.invariant.stands c.next_sibling-next.ensures.sibling; fits = c.enter.ensures.fits }
+enter_all-loop-next-preserved t c =
+    let chart = chart_of c.args.chart.now in
+    let now = now_of c.args.now in
+    record {
+      goes =
+          enter_turn chart c.args.bounds now c.args.s c.args.d c.loop-next.next c.loop-next.world
+          (λ n. (upto chart c.args.bounds n).enter_each (children_of chart.tree c.args.s) c.args.d now c.args.world.now)
+          c.loop-next.invariant.goes c.in-Some.x _ c.in-Some.is c.loop-next.invariant.stands c.path_in.ensures.path _ _
+          c.next_sibling-next.ensures.sibling c.in_ok-enter.ensures.gives;
+      stands =
+          stands_next chart.tree c.next_sibling-next.ensures.tree c.args.s c.in-Some.x _ _ c.in-Some.is
+          c.loop-next.invariant.stands c.next_sibling-next.ensures.sibling;
+      fits = c.enter.ensures.fits;
+    }
 
 pub enter_all-returns-clause-gives : goal.enter_all-returns-clause-gives
-enter_all-returns-clause-gives t c = enter_turns_end (chart_of c.args.chart.now) c.args.bounds (now_of c.args.now) c.args.s c.args.d c.loop-next.next c.loop-next.world (λ n. (upto (chart_of c.args.chart.now) c.args.bounds n).enter_each (children_of (chart_of c.args.chart.now).tree c.args.s) c.args.d (now_of c.args.now) c.args.world.now) c.loop-next.invariant.goes c.in_default.is
+enter_all-returns-clause-gives t c =
+    let chart = chart_of c.args.chart.now in
+    let now = now_of c.args.now in
+    enter_turns_end chart c.args.bounds now c.args.s c.args.d c.loop-next.next c.loop-next.world
+    (λ n. (upto chart c.args.bounds n).enter_each (children_of chart.tree c.args.s) c.args.d now c.args.world.now)
+    c.loop-next.invariant.goes c.in_default.is
 
 pub default_search-returns-in_err-d-clause-gives : goal.default_search-returns-in_err-d-clause-gives
 default_search-returns-in_err-d-clause-gives t c =
+    let chart = chart_of c.args.chart.now in
+    let now = now_of c.args.now in
     let p = err_from_is_err_and c.from_residual.result c.from_residual.ensures.1 in
-    rw (p.1, p.2) (err_through {A' = Unit {0}} found_of (λ _. tt) _ (λ n. default_search (chart_of c.args.chart.now) (upto (chart_of c.args.chart.now) c.args.bounds n) c.args.s (now_of c.args.now) c.args.world.now) _ _ (λ x h. default_fault (chart_of c.args.chart.now) c.args.bounds (now_of c.args.now) c.args.s _ c.args.world.now c.list.ensures.list _ x h) c.in_err-d.ensures.gives)
+    rw (p.1, p.2) (err_through {A' = Unit {0}} found_of (λ _. tt) _
+    (λ n. default_search chart (upto chart c.args.bounds n) c.args.s now c.args.world.now) _ _
+    (λ x h. default_fault chart c.args.bounds now c.args.s _ c.args.world.now c.list.ensures.list _ x h)
+    c.in_err-d.ensures.gives)
 
 pub default_search-returns-in-DeadEnd-clause-gives : goal.default_search-returns-in-DeadEnd-clause-gives
-default_search-returns-in-DeadEnd-clause-gives t c = default_after (chart_of c.args.chart.now) c.args.bounds (now_of c.args.now) c.args.s _ c.args.world.now c.list.ensures.list _ c.search.new.world _ (ended_as found_of _ _ c.in-DeadEnd.is c.in_ok-d.ensures.gives) (settled_now _)
+default_search-returns-in-DeadEnd-clause-gives t c =
+    default_after (chart_of c.args.chart.now) c.args.bounds (now_of c.args.now) c.args.s _ c.args.world.now
+    c.list.ensures.list _ c.search.new.world _ (ended_as found_of _ _ c.in-DeadEnd.is c.in_ok-d.ensures.gives)
+    (settled_now _)
 
 pub default_search-returns-in-No-clause-gives : goal.default_search-returns-in-No-clause-gives
-default_search-returns-in-No-clause-gives t c = default_after (chart_of c.args.chart.now) c.args.bounds (now_of c.args.now) c.args.s _ c.args.world.now c.list.ensures.list _ c.search.new.world _ (ended_as found_of _ _ c.in-No.is c.in_ok-d.ensures.gives) (settled_now _)
+default_search-returns-in-No-clause-gives t c =
+    default_after (chart_of c.args.chart.now) c.args.bounds (now_of c.args.now) c.args.s _ c.args.world.now
+    c.list.ensures.list _ c.search.new.world _ (ended_as found_of _ _ c.in-No.is c.in_ok-d.ensures.gives)
+    (settled_now _)
 
 pub default_search-returns-clause-gives : goal.default_search-returns-clause-gives
-default_search-returns-clause-gives t c = default_after (chart_of c.args.chart.now) c.args.bounds (now_of c.args.now) c.args.s _ c.args.world.now c.list.ensures.list _ c.search.new.world _ (ended_as found_of _ _ c.in-Stop.is c.in_ok-d.ensures.gives) (settled_now _)
+default_search-returns-clause-gives t c =
+    default_after (chart_of c.args.chart.now) c.args.bounds (now_of c.args.now) c.args.s _ c.args.world.now
+    c.list.ensures.list _ c.search.new.world _ (ended_as found_of _ _ c.in-Stop.is c.in_ok-d.ensures.gives)
+    (settled_now _)
 
 pub default_search-returns-in_err-play-in-Fire-clause-gives : goal.default_search-returns-in_err-play-in-Fire-clause-gives
 default_search-returns-in_err-play-in-Fire-clause-gives t c =
-    let p = err_from_is_err_and c.from_residual-in_err-play-in-Fire.result c.from_residual-in_err-play-in-Fire.ensures.1 in
-    rw (p.1, p.2) (err_through {A' = Unit {0}} end_of (λ _. tt) _ (λ n. default_search (chart_of c.args.chart.now) (upto (chart_of c.args.chart.now) c.args.bounds n) c.args.s (now_of c.args.now) c.args.world.now) _ _ (λ x h. default_after (chart_of c.args.chart.now) c.args.bounds (now_of c.args.now) c.args.s _ c.args.world.now c.list.ensures.list _ c.search.new.world _ (ended_as found_of _ _ c.in-Fire.is c.in_ok-d.ensures.gives) (fired_fault (chart_of c.args.chart.now) c.args.bounds (now_of c.args.now) c.args.s c.in-Fire.d (map (λ a. block_seen a.now) c.in-Fire.actions.items) c.search.new.world c.play.new.world x (subst (λ l. Settled (λ n. (upto (chart_of c.args.chart.now) c.args.bounds n).play c.args.s (map (λ a. block_seen a.now) l) (now_of c.args.now) c.search.new.world) (Faulted x c.play.new.world)) c.deref.ensures.value h))) c.in_err-play-in-Fire.ensures.gives)
+    let chart = chart_of c.args.chart.now in
+    let now = now_of c.args.now in
+    let p =
+    err_from_is_err_and c.from_residual-in_err-play-in-Fire.result c.from_residual-in_err-play-in-Fire.ensures.1 in
+    rw (p.1, p.2) (err_through {A' = Unit {0}} end_of (λ _. tt) _
+    (λ n. default_search chart (upto chart c.args.bounds n) c.args.s now c.args.world.now) _ _
+    (λ x h. default_after chart c.args.bounds now c.args.s _ c.args.world.now c.list.ensures.list _ c.search.new.world _
+    (ended_as found_of _ _ c.in-Fire.is c.in_ok-d.ensures.gives)
+    (fired_fault chart c.args.bounds now c.args.s c.in-Fire.d (map (λ a. block_seen a.now) c.in-Fire.actions.items)
+    c.search.new.world c.play.new.world x (subst (λ l. Settled
+    (λ n. (upto chart c.args.bounds n).play c.args.s (map (λ a. block_seen a.now) l) now c.search.new.world)
+    (Faulted x c.play.new.world)) c.deref.ensures.value h))) c.in_err-play-in-Fire.ensures.gives)
 
 pub default_search-returns-in-Cut-clause-gives : goal.default_search-returns-in-Cut-clause-gives
-default_search-returns-in-Cut-clause-gives t c = default_after (chart_of c.args.chart.now) c.args.bounds (now_of c.args.now) c.args.s _ c.args.world.now c.list.ensures.list _ c.search.new.world _ (ended_as found_of _ _ c.in-Fire.is c.in_ok-d.ensures.gives) (fired_cut (chart_of c.args.chart.now) c.args.bounds (now_of c.args.now) c.args.s c.in-Fire.d (map (λ a. block_seen a.now) c.in-Fire.actions.items) c.search.new.world c.play.new.world (subst (λ l. Settled (λ n. (upto (chart_of c.args.chart.now) c.args.bounds n).play c.args.s (map (λ a. block_seen a.now) l) (now_of c.args.now) c.search.new.world) (Ended Cut c.play.new.world)) c.deref.ensures.value (ended_as end_of _ _ c.in-Cut.is c.in_ok-play-in-Fire.ensures.gives)))
+default_search-returns-in-Cut-clause-gives t c =
+    let chart = chart_of c.args.chart.now in
+    let now = now_of c.args.now in
+    default_after chart c.args.bounds now c.args.s _ c.args.world.now c.list.ensures.list _ c.search.new.world _
+    (ended_as found_of _ _ c.in-Fire.is c.in_ok-d.ensures.gives)
+    (fired_cut chart c.args.bounds now c.args.s c.in-Fire.d (map (λ a. block_seen a.now) c.in-Fire.actions.items)
+    c.search.new.world c.play.new.world (subst (λ l. Settled
+    (λ n. (upto chart c.args.bounds n).play c.args.s (map (λ a. block_seen a.now) l) now c.search.new.world)
+    (Ended Cut c.play.new.world)) c.deref.ensures.value
+    (ended_as end_of _ _ c.in-Cut.is c.in_ok-play-in-Fire.ensures.gives)))
 
 pub default_search-returns-in-Fire-clause-gives : goal.default_search-returns-in-Fire-clause-gives
-default_search-returns-in-Fire-clause-gives t c = passed {A = Unit {0}} (λ _. tt) _ (λ n. default_search (chart_of c.args.chart.now) (upto (chart_of c.args.chart.now) c.args.bounds n) c.args.s (now_of c.args.now) c.args.world.now) _ _ (λ q h. default_after (chart_of c.args.chart.now) c.args.bounds (now_of c.args.now) c.args.s _ c.args.world.now c.list.ensures.list _ c.search.new.world q (ended_as found_of _ _ c.in-Fire.is c.in_ok-d.ensures.gives) (fired_done (chart_of c.args.chart.now) c.args.bounds (now_of c.args.now) c.args.s c.in-Fire.d (map (λ a. block_seen a.now) c.in-Fire.actions.items) c.search.new.world c.play.new.world q (subst (λ l. Settled (λ n. (upto (chart_of c.args.chart.now) c.args.bounds n).play c.args.s (map (λ a. block_seen a.now) l) (now_of c.args.now) c.search.new.world) (Ended Done c.play.new.world)) c.deref.ensures.value (ended_as end_of _ _ c.in-Done.is c.in_ok-play-in-Fire.ensures.gives)) h)) c.enter_child.ensures.gives
+default_search-returns-in-Fire-clause-gives t c =
+    let chart = chart_of c.args.chart.now in
+    let now = now_of c.args.now in
+    passed {A = Unit {0}} (λ _. tt) _
+    (λ n. default_search chart (upto chart c.args.bounds n) c.args.s now c.args.world.now) _ _
+    (λ q h. default_after chart c.args.bounds now c.args.s _ c.args.world.now c.list.ensures.list _ c.search.new.world q
+    (ended_as found_of _ _ c.in-Fire.is c.in_ok-d.ensures.gives)
+    (fired_done chart c.args.bounds now c.args.s c.in-Fire.d (map (λ a. block_seen a.now) c.in-Fire.actions.items)
+    c.search.new.world c.play.new.world q (subst (λ l. Settled
+    (λ n. (upto chart c.args.bounds n).play c.args.s (map (λ a. block_seen a.now) l) now c.search.new.world)
+    (Ended Done c.play.new.world)) c.deref.ensures.value
+    (ended_as end_of _ _ c.in-Done.is c.in_ok-play-in-Fire.ensures.gives)) h)) c.enter_child.ensures.gives
 
 pub play-loop-action-preserved-then-is_empty : goal.play-loop-action-preserved-then-is_empty
-play-loop-action-preserved-then-is_empty t c = record { goes = play_turn_skip (chart_of c.args.chart.now) c.args.bounds (now_of c.args.now) (λ a. block_seen a.now) c.args.s c.args.actions.now c.loop-action.action-index c.loop-action.world (λ n. (upto (chart_of c.args.chart.now) c.args.bounds n).play c.args.s (map (λ a. block_seen a.now) c.args.actions.now) (now_of c.args.now) c.args.world.now) c.loop-action.invariant.goes c.action-item.result (omega arith) c.action-item.is (ap block_seen (empty_is c.action-item.result.now (grind (arith, nat_tests)))); fits = c.loop-action.invariant.fits }
+play-loop-action-preserved-then-is_empty t c =
+    let chart = chart_of c.args.chart.now in
+    let now = now_of c.args.now in
+    record {
+      goes =
+          play_turn_skip chart c.args.bounds now (λ a. block_seen a.now) c.args.s c.args.actions.now
+          c.loop-action.action-index c.loop-action.world (λ n. (upto chart c.args.bounds n).play c.args.s
+          (map (λ a. block_seen a.now) c.args.actions.now) now c.args.world.now) c.loop-action.invariant.goes
+          c.action-item.result (omega arith) c.action-item.is
+          (ap block_seen (empty_is c.action-item.result.now (grind (arith, nat_tests))));
+      fits = c.loop-action.invariant.fits;
+    }
 
 pub play-returns-in_err-pay-clause-gives : goal.play-returns-in_err-pay-clause-gives
 play-returns-in_err-pay-clause-gives t c =
+    let chart = chart_of c.args.chart.now in
+    let now = now_of c.args.now in
     let p = err_from_is_err_and c.from_residual.result c.from_residual.ensures.1 in
-    rw (p.1, p.2) (err_does {A = Unit {0}} (λ _. tt) end_of _ (λ n. (upto (chart_of c.args.chart.now) c.args.bounds n).play c.args.s (map (λ a. block_seen a.now) c.args.actions.now) (now_of c.args.now) c.args.world.now) _ _ (λ x h. let some : block_seen c.action-item.result.now ≡ [] → ⊥ = λ z. not_empty stmt_of c.action-item.result.now (grind (arith, nat_tests)) z in play_turn_pay_fault (chart_of c.args.chart.now) c.args.bounds (now_of c.args.now) (λ a. block_seen a.now) c.args.s c.args.actions.now c.loop-action.action-index c.loop-action.world (λ n. (upto (chart_of c.args.chart.now) c.args.bounds n).play c.args.s (map (λ a. block_seen a.now) c.args.actions.now) (now_of c.args.now) c.args.world.now) c.loop-action.invariant.goes c.action-item.result (omega arith) c.action-item.is some _ x h) c.in_err-pay.ensures.does)
+    rw (p.1, p.2) (err_does {A = Unit {0}} (λ _. tt) end_of _
+    (λ n. (upto chart c.args.bounds n).play c.args.s (map (λ a. block_seen a.now) c.args.actions.now) now
+    c.args.world.now) _ _
+    (λ x h.
+    let some : block_seen c.action-item.result.now ≡ [] → ⊥ = λ z.
+    not_empty stmt_of c.action-item.result.now (grind (arith, nat_tests)) z in
+    play_turn_pay_fault chart c.args.bounds now (λ a. block_seen a.now) c.args.s c.args.actions.now
+    c.loop-action.action-index c.loop-action.world (λ n. (upto chart c.args.bounds n).play c.args.s
+    (map (λ a. block_seen a.now) c.args.actions.now) now c.args.world.now) c.loop-action.invariant.goes
+    c.action-item.result (omega arith) c.action-item.is some _ x h) c.in_err-pay.ensures.does)
 
 pub play-run_block-requires : goal.play-run_block-requires
-play-run_block-requires t c = (omega (arith, c.decreases), (c.pay.ensures.fits, (c.requires.state, all_item (λ a. block_seen a.now) (AreStmts (chart_of c.args.chart.now)) c.args.actions.now c.loop-action.action-index c.action-item.result c.requires.actions (omega arith) c.action-item.is)))
+play-run_block-requires t c = (
+  omega (arith, c.decreases),
+  (
+    c.pay.ensures.fits,
+    (
+      c.requires.state,
+      all_item (λ a. block_seen a.now) (AreStmts (chart_of c.args.chart.now)) c.args.actions.now
+          c.loop-action.action-index c.action-item.result c.requires.actions (omega arith) c.action-item.is,
+    ),
+  ),
+)
 
 pub play-returns-in_err-run_block-clause-gives : goal.play-returns-in_err-run_block-clause-gives
 play-returns-in_err-run_block-clause-gives t c =
+    let chart = chart_of c.args.chart.now in
+    let now = now_of c.args.now in
     let p = err_from_is_err_and c.from_residual-in_err-run_block.result c.from_residual-in_err-run_block.ensures.1 in
-    rw (p.1, p.2) (err_through end_of end_of _ (λ n. (upto (chart_of c.args.chart.now) c.args.bounds n).play c.args.s (map (λ a. block_seen a.now) c.args.actions.now) (now_of c.args.now) c.args.world.now) _ _ (λ x h. let some : block_seen c.action-item.result.now ≡ [] → ⊥ = λ z. not_empty stmt_of c.action-item.result.now (grind (arith, nat_tests)) z in play_turn_fault (chart_of c.args.chart.now) c.args.bounds (now_of c.args.now) (λ a. block_seen a.now) c.args.s c.args.actions.now c.loop-action.action-index c.loop-action.world (λ n. (upto (chart_of c.args.chart.now) c.args.bounds n).play c.args.s (map (λ a. block_seen a.now) c.args.actions.now) (now_of c.args.now) c.args.world.now) c.loop-action.invariant.goes c.action-item.result (omega arith) c.action-item.is some _ _ x c.in_ok-pay.ensures.does h) c.in_err-run_block.ensures.gives)
+    rw (p.1, p.2) (err_through end_of end_of _ (λ n. (upto chart c.args.bounds n).play c.args.s
+    (map (λ a. block_seen a.now) c.args.actions.now) now c.args.world.now) _ _
+    (λ x h.
+    let some : block_seen c.action-item.result.now ≡ [] → ⊥ = λ z.
+    not_empty stmt_of c.action-item.result.now (grind (arith, nat_tests)) z in
+    play_turn_fault chart c.args.bounds now (λ a. block_seen a.now) c.args.s c.args.actions.now
+    c.loop-action.action-index c.loop-action.world (λ n. (upto chart c.args.bounds n).play c.args.s
+    (map (λ a. block_seen a.now) c.args.actions.now) now c.args.world.now) c.loop-action.invariant.goes
+    c.action-item.result (omega arith) c.action-item.is some _ _ x c.in_ok-pay.ensures.does h)
+    c.in_err-run_block.ensures.gives)
 
 pub play-returns-in-Cut-clause-gives : goal.play-returns-in-Cut-clause-gives
-play-returns-in-Cut-clause-gives t c = let some : block_seen c.action-item.result.now ≡ [] → ⊥ = λ z. not_empty stmt_of c.action-item.result.now (grind (arith, nat_tests)) z in play_turn_cut (chart_of c.args.chart.now) c.args.bounds (now_of c.args.now) (λ a. block_seen a.now) c.args.s c.args.actions.now c.loop-action.action-index c.loop-action.world (λ n. (upto (chart_of c.args.chart.now) c.args.bounds n).play c.args.s (map (λ a. block_seen a.now) c.args.actions.now) (now_of c.args.now) c.args.world.now) c.loop-action.invariant.goes c.action-item.result (omega arith) c.action-item.is some _ c.run_block.new.world c.in_ok-pay.ensures.does (ended_as end_of _ _ c.in-Cut.is c.in_ok-run_block.ensures.gives)
+play-returns-in-Cut-clause-gives t c =
+    let chart = chart_of c.args.chart.now in
+    let now = now_of c.args.now in
+    let some : block_seen c.action-item.result.now ≡ [] → ⊥ = λ z.
+    not_empty stmt_of c.action-item.result.now (grind (arith, nat_tests)) z in
+    play_turn_cut chart c.args.bounds now (λ a. block_seen a.now) c.args.s c.args.actions.now c.loop-action.action-index
+    c.loop-action.world (λ n. (upto chart c.args.bounds n).play c.args.s
+    (map (λ a. block_seen a.now) c.args.actions.now) now c.args.world.now) c.loop-action.invariant.goes
+    c.action-item.result (omega arith) c.action-item.is some _ c.run_block.new.world c.in_ok-pay.ensures.does
+    (ended_as end_of _ _ c.in-Cut.is c.in_ok-run_block.ensures.gives)
 
 pub play-loop-action-preserved : goal.play-loop-action-preserved
-play-loop-action-preserved t c = let some : block_seen c.action-item.result.now ≡ [] → ⊥ = λ z. not_empty stmt_of c.action-item.result.now (grind (arith, nat_tests)) z in record { goes = play_turn (chart_of c.args.chart.now) c.args.bounds (now_of c.args.now) (λ a. block_seen a.now) c.args.s c.args.actions.now c.loop-action.action-index c.loop-action.world (λ n. (upto (chart_of c.args.chart.now) c.args.bounds n).play c.args.s (map (λ a. block_seen a.now) c.args.actions.now) (now_of c.args.now) c.args.world.now) c.loop-action.invariant.goes c.action-item.result (omega arith) c.action-item.is some _ c.run_block.new.world c.in_ok-pay.ensures.does (ended_as end_of _ _ c.in-Done.is c.in_ok-run_block.ensures.gives); fits = c.run_block.ensures.fits }
+play-loop-action-preserved t c =
+    let chart = chart_of c.args.chart.now in
+    let now = now_of c.args.now in
+    let some : block_seen c.action-item.result.now ≡ [] → ⊥ = λ z.
+    not_empty stmt_of c.action-item.result.now (grind (arith, nat_tests)) z in
+    record {
+      goes =
+          play_turn chart c.args.bounds now (λ a. block_seen a.now) c.args.s c.args.actions.now
+          c.loop-action.action-index c.loop-action.world (λ n. (upto chart c.args.bounds n).play c.args.s
+          (map (λ a. block_seen a.now) c.args.actions.now) now c.args.world.now) c.loop-action.invariant.goes
+          c.action-item.result (omega arith) c.action-item.is some _ c.run_block.new.world c.in_ok-pay.ensures.does
+          (ended_as end_of _ _ c.in-Done.is c.in_ok-run_block.ensures.gives);
+      fits = c.run_block.ensures.fits;
+    }
 
 pub play-returns-clause-gives : goal.play-returns-clause-gives
-play-returns-clause-gives t c = play_turns_end (chart_of c.args.chart.now) c.args.bounds (now_of c.args.now) (λ a. block_seen a.now) c.args.s c.args.actions.now c.loop-action.action-index c.loop-action.world (λ n. (upto (chart_of c.args.chart.now) c.args.bounds n).play c.args.s (map (λ a. block_seen a.now) c.args.actions.now) (now_of c.args.now) c.args.world.now) c.loop-action.invariant.goes (omega arith)
+play-returns-clause-gives t c =
+    let chart = chart_of c.args.chart.now in
+    let now = now_of c.args.now in
+    play_turns_end chart c.args.bounds now (λ a. block_seen a.now) c.args.s c.args.actions.now
+    c.loop-action.action-index c.loop-action.world (λ n. (upto chart c.args.bounds n).play c.args.s
+    (map (λ a. block_seen a.now) c.args.actions.now) now c.args.world.now) c.loop-action.invariant.goes (omega arith)
 
 pub take-returns-in_err-exit_active-clause-gives : goal.take-returns-in_err-exit_active-clause-gives
 take-returns-in_err-exit_active-clause-gives t c =
+    let chart = chart_of c.args.chart.now in
+    let now = now_of c.args.now in
     let p = err_from_is_err_and c.from_residual.result c.from_residual.ensures.1 in
-    rw (p.1, p.2) (err_through {A = Unit {0}} {A' = Unit {0}} (λ _. tt) (λ _. tt) _ (λ n. (upto (chart_of c.args.chart.now) c.args.bounds n).take c.args.s c.args.d (map (λ a. block_seen a.now) c.args.actions.now) (now_of c.args.now) c.args.world.now) _ _ (λ x h. take_exit_fault (chart_of c.args.chart.now) c.args.bounds (now_of c.args.now) c.args.s c.args.d (map (λ a. block_seen a.now) c.args.actions.now) c.args.world.now _ x h) c.in_err-exit_active.ensures.gives)
+    rw (p.1, p.2) (err_through {A = Unit {0}} {A' = Unit {0}} (λ _. tt) (λ _. tt) _
+    (λ n. (upto chart c.args.bounds n).take c.args.s c.args.d (map (λ a. block_seen a.now) c.args.actions.now) now
+    c.args.world.now) _ _
+    (λ x h. take_exit_fault chart c.args.bounds now c.args.s c.args.d (map (λ a. block_seen a.now) c.args.actions.now)
+    c.args.world.now _ x h) c.in_err-exit_active.ensures.gives)
 
 pub take-returns-then-not-bare-clause-gives : goal.take-returns-then-not-bare-clause-gives
-take-returns-then-not-bare-clause-gives t c = let bare : is_bare (chart_of c.args.chart.now).tree c.args.s c.exit_active.new.world.marks ≡ false = cc in take_not_bare (chart_of c.args.chart.now) c.args.bounds (now_of c.args.now) c.args.s c.args.d (map (λ a. block_seen a.now) c.args.actions.now) c.args.world.now c.exit_active.new.world c.in_ok-exit_active.ensures.gives bare
+take-returns-then-not-bare-clause-gives t c =
+    let chart = chart_of c.args.chart.now in
+    let bare : is_bare chart.tree c.args.s c.exit_active.new.world.marks ≡ false = cc in
+    take_not_bare chart c.args.bounds (now_of c.args.now) c.args.s c.args.d
+    (map (λ a. block_seen a.now) c.args.actions.now) c.args.world.now c.exit_active.new.world
+    c.in_ok-exit_active.ensures.gives bare
 
 pub take-returns-in_err-play-clause-gives : goal.take-returns-in_err-play-clause-gives
 take-returns-in_err-play-clause-gives t c =
+    let chart = chart_of c.args.chart.now in
+    let now = now_of c.args.now in
     let p = err_from_is_err_and c.from_residual-in_err-play.result c.from_residual-in_err-play.ensures.1 in
-    rw (p.1, p.2) (err_through {A' = Unit {0}} end_of (λ _. tt) _ (λ n. (upto (chart_of c.args.chart.now) c.args.bounds n).take c.args.s c.args.d (map (λ a. block_seen a.now) c.args.actions.now) (now_of c.args.now) c.args.world.now) _ _ (λ x h. let bare : is_bare (chart_of c.args.chart.now).tree c.args.s c.exit_active.new.world.marks ≡ true = cc in take_play_fault (chart_of c.args.chart.now) c.args.bounds (now_of c.args.now) c.args.s c.args.d (map (λ a. block_seen a.now) c.args.actions.now) c.args.world.now c.exit_active.new.world c.in_ok-exit_active.ensures.gives _ x bare h) c.in_err-play.ensures.gives)
+    rw (p.1, p.2) (err_through {A' = Unit {0}} end_of (λ _. tt) _
+    (λ n. (upto chart c.args.bounds n).take c.args.s c.args.d (map (λ a. block_seen a.now) c.args.actions.now) now
+    c.args.world.now) _ _
+    (λ x h.
+    let bare : is_bare chart.tree c.args.s c.exit_active.new.world.marks ≡ true = cc in
+    take_play_fault chart c.args.bounds now c.args.s c.args.d (map (λ a. block_seen a.now) c.args.actions.now)
+    c.args.world.now c.exit_active.new.world c.in_ok-exit_active.ensures.gives _ x bare h) c.in_err-play.ensures.gives)
 
 pub take-returns-in-Cut-clause-gives : goal.take-returns-in-Cut-clause-gives
-take-returns-in-Cut-clause-gives t c = let bare : is_bare (chart_of c.args.chart.now).tree c.args.s c.exit_active.new.world.marks ≡ true = cc in take_cut (chart_of c.args.chart.now) c.args.bounds (now_of c.args.now) c.args.s c.args.d (map (λ a. block_seen a.now) c.args.actions.now) c.args.world.now c.exit_active.new.world c.in_ok-exit_active.ensures.gives c.play.new.world bare (ended_as end_of _ _ c.in-Cut.is c.in_ok-play.ensures.gives)
+take-returns-in-Cut-clause-gives t c =
+    let chart = chart_of c.args.chart.now in
+    let bare : is_bare chart.tree c.args.s c.exit_active.new.world.marks ≡ true = cc in
+    take_cut chart c.args.bounds (now_of c.args.now) c.args.s c.args.d (map (λ a. block_seen a.now) c.args.actions.now)
+    c.args.world.now c.exit_active.new.world c.in_ok-exit_active.ensures.gives c.play.new.world bare
+    (ended_as end_of _ _ c.in-Cut.is c.in_ok-play.ensures.gives)
 
 pub take-returns-then-not-bare-2-clause-gives : goal.take-returns-then-not-bare-2-clause-gives
-take-returns-then-not-bare-2-clause-gives t c = let bare : is_bare (chart_of c.args.chart.now).tree c.args.s c.exit_active.new.world.marks ≡ true = cc in let off : is_bare (chart_of c.args.chart.now).tree c.args.s c.play.new.world.marks ≡ false = cc in take_left (chart_of c.args.chart.now) c.args.bounds (now_of c.args.now) c.args.s c.args.d (map (λ a. block_seen a.now) c.args.actions.now) c.args.world.now c.exit_active.new.world c.in_ok-exit_active.ensures.gives c.play.new.world bare (ended_as end_of _ _ c.in-Done.is c.in_ok-play.ensures.gives) off
+take-returns-then-not-bare-2-clause-gives t c =
+    let chart = chart_of c.args.chart.now in
+    let bare : is_bare chart.tree c.args.s c.exit_active.new.world.marks ≡ true = cc in
+    let off : is_bare chart.tree c.args.s c.play.new.world.marks ≡ false = cc in
+    take_left chart c.args.bounds (now_of c.args.now) c.args.s c.args.d (map (λ a. block_seen a.now) c.args.actions.now)
+    c.args.world.now c.exit_active.new.world c.in_ok-exit_active.ensures.gives c.play.new.world bare
+    (ended_as end_of _ _ c.in-Done.is c.in_ok-play.ensures.gives) off
 
 pub take-returns-else-not-bare-2-clause-gives : goal.take-returns-else-not-bare-2-clause-gives
-take-returns-else-not-bare-2-clause-gives t c = passed {A = Unit {0}} (λ _. tt) _ (λ n. (upto (chart_of c.args.chart.now) c.args.bounds n).take c.args.s c.args.d (map (λ a. block_seen a.now) c.args.actions.now) (now_of c.args.now) c.args.world.now) _ _ (λ q h. let bare : is_bare (chart_of c.args.chart.now).tree c.args.s c.exit_active.new.world.marks ≡ true = cc in let off : is_bare (chart_of c.args.chart.now).tree c.args.s c.play.new.world.marks ≡ true = cc in take_enters (chart_of c.args.chart.now) c.args.bounds (now_of c.args.now) c.args.s c.args.d (map (λ a. block_seen a.now) c.args.actions.now) c.args.world.now c.exit_active.new.world c.in_ok-exit_active.ensures.gives c.play.new.world q bare (ended_as end_of _ _ c.in-Done.is c.in_ok-play.ensures.gives) off h) c.enter_toward.ensures.gives
+take-returns-else-not-bare-2-clause-gives t c =
+    let chart = chart_of c.args.chart.now in
+    let now = now_of c.args.now in
+    passed {A = Unit {0}} (λ _. tt) _ (λ n. (upto chart c.args.bounds n).take c.args.s c.args.d
+    (map (λ a. block_seen a.now) c.args.actions.now) now c.args.world.now) _ _
+    (λ q h.
+    let bare : is_bare chart.tree c.args.s c.exit_active.new.world.marks ≡ true = cc in
+    let off : is_bare chart.tree c.args.s c.play.new.world.marks ≡ true = cc in
+    take_enters chart c.args.bounds now c.args.s c.args.d (map (λ a. block_seen a.now) c.args.actions.now)
+    c.args.world.now c.exit_active.new.world c.in_ok-exit_active.ensures.gives c.play.new.world q bare
+    (ended_as end_of _ _ c.in-Done.is c.in_ok-play.ensures.gives) off h) c.enter_toward.ensures.gives
 
 pub process-returns-in_err-d-clause-gives : goal.process-returns-in_err-d-clause-gives
 process-returns-in_err-d-clause-gives t c =
+    let chart = chart_of c.args.chart.now in
+    let now = now_of c.args.now in
     let p = err_from_is_err_and c.from_residual.result c.from_residual.ensures.1 in
-    rw (p.1, p.2) (err_through found_of went_of _ (λ n. (upto (chart_of c.args.chart.now) c.args.bounds n).process c.args.s (now_of c.args.now) c.args.world.now) _ _ (λ x h. process_fault (chart_of c.args.chart.now) c.args.bounds (now_of c.args.now) c.args.s _ c.args.world.now c.list.ensures.list _ x h) c.in_err-d.ensures.gives)
+    rw (p.1, p.2) (err_through found_of went_of _
+    (λ n. (upto chart c.args.bounds n).process c.args.s now c.args.world.now) _ _
+    (λ x h. process_fault chart c.args.bounds now c.args.s _ c.args.world.now c.list.ensures.list _ x h)
+    c.in_err-d.ensures.gives)
 
 pub process-returns-in-Stop-clause-gives : goal.process-returns-in-Stop-clause-gives
-process-returns-in-Stop-clause-gives t c = process_after (chart_of c.args.chart.now) c.args.bounds (now_of c.args.now) c.args.s _ c.args.world.now c.list.ensures.list _ c.search.new.world _ (ended_as found_of _ _ c.in-Stop.is c.in_ok-d.ensures.gives) (settled_now _)
+process-returns-in-Stop-clause-gives t c =
+    process_after (chart_of c.args.chart.now) c.args.bounds (now_of c.args.now) c.args.s _ c.args.world.now
+    c.list.ensures.list _ c.search.new.world _ (ended_as found_of _ _ c.in-Stop.is c.in_ok-d.ensures.gives)
+    (settled_now _)
 
 pub process-returns-in-DeadEnd-clause-gives : goal.process-returns-in-DeadEnd-clause-gives
-process-returns-in-DeadEnd-clause-gives t c = passed went_of _ (λ n. (upto (chart_of c.args.chart.now) c.args.bounds n).process c.args.s (now_of c.args.now) c.args.world.now) _ _ (λ q h. process_after (chart_of c.args.chart.now) c.args.bounds (now_of c.args.now) c.args.s _ c.args.world.now c.list.ensures.list _ c.search.new.world q (ended_as found_of _ _ c.in-DeadEnd.is c.in_ok-d.ensures.gives) h) c.go_on_inside.ensures.gives
+process-returns-in-DeadEnd-clause-gives t c =
+    let chart = chart_of c.args.chart.now in
+    let now = now_of c.args.now in
+    passed went_of _ (λ n. (upto chart c.args.bounds n).process c.args.s now c.args.world.now) _ _
+    (λ q h. process_after chart c.args.bounds now c.args.s _ c.args.world.now c.list.ensures.list _ c.search.new.world q
+    (ended_as found_of _ _ c.in-DeadEnd.is c.in_ok-d.ensures.gives) h) c.go_on_inside.ensures.gives
 
 pub process-returns-in-No-clause-gives : goal.process-returns-in-No-clause-gives
-process-returns-in-No-clause-gives t c = passed went_of _ (λ n. (upto (chart_of c.args.chart.now) c.args.bounds n).process c.args.s (now_of c.args.now) c.args.world.now) _ _ (λ q h. process_after (chart_of c.args.chart.now) c.args.bounds (now_of c.args.now) c.args.s _ c.args.world.now c.list.ensures.list _ c.search.new.world q (ended_as found_of _ _ c.in-No.is c.in_ok-d.ensures.gives) h) c.go_on_inside-in-No.ensures.gives
+process-returns-in-No-clause-gives t c =
+    let chart = chart_of c.args.chart.now in
+    let now = now_of c.args.now in
+    passed went_of _ (λ n. (upto chart c.args.bounds n).process c.args.s now c.args.world.now) _ _
+    (λ q h. process_after chart c.args.bounds now c.args.s _ c.args.world.now c.list.ensures.list _ c.search.new.world q
+    (ended_as found_of _ _ c.in-No.is c.in_ok-d.ensures.gives) h) c.go_on_inside-in-No.ensures.gives
 
 pub process-returns-in_err-take-in-Fire-clause-gives : goal.process-returns-in_err-take-in-Fire-clause-gives
 process-returns-in_err-take-in-Fire-clause-gives t c =
-    let p = err_from_is_err_and c.from_residual-in_err-take-in-Fire.result c.from_residual-in_err-take-in-Fire.ensures.1 in
-    rw (p.1, p.2) (err_through {A = Unit {0}} (λ _. tt) went_of _ (λ n. (upto (chart_of c.args.chart.now) c.args.bounds n).process c.args.s (now_of c.args.now) c.args.world.now) _ _ (λ x h. process_after (chart_of c.args.chart.now) c.args.bounds (now_of c.args.now) c.args.s _ c.args.world.now c.list.ensures.list _ c.search.new.world _ (ended_as found_of _ _ c.in-Fire.is c.in_ok-d.ensures.gives) (outer_fault (chart_of c.args.chart.now) c.args.bounds (now_of c.args.now) c.args.s c.in-Fire.d c.home-home.result (map (λ a. block_seen a.now) c.in-Fire.actions.items) c.search.new.world c.take.new.world x c.home-home.ensures.home (subst (λ l. Settled (λ n. (upto (chart_of c.args.chart.now) c.args.bounds n).take c.home-home.result c.in-Fire.d (map (λ a. block_seen a.now) l) (now_of c.args.now) c.search.new.world) (Faulted x c.take.new.world)) c.deref.ensures.value h))) c.in_err-take-in-Fire.ensures.gives)
+    let chart = chart_of c.args.chart.now in
+    let now = now_of c.args.now in
+    let p =
+    err_from_is_err_and c.from_residual-in_err-take-in-Fire.result c.from_residual-in_err-take-in-Fire.ensures.1 in
+    rw (p.1, p.2) (err_through {A = Unit {0}} (λ _. tt) went_of _
+    (λ n. (upto chart c.args.bounds n).process c.args.s now c.args.world.now) _ _
+    (λ x h. process_after chart c.args.bounds now c.args.s _ c.args.world.now c.list.ensures.list _ c.search.new.world _
+    (ended_as found_of _ _ c.in-Fire.is c.in_ok-d.ensures.gives)
+    (outer_fault chart c.args.bounds now c.args.s c.in-Fire.d c.home-home.result
+    (map (λ a. block_seen a.now) c.in-Fire.actions.items) c.search.new.world c.take.new.world x c.home-home.ensures.home
+    (subst (λ l. Settled (λ n. (upto chart c.args.bounds n).take c.home-home.result c.in-Fire.d
+    (map (λ a. block_seen a.now) l) now c.search.new.world) (Faulted x c.take.new.world)) c.deref.ensures.value h)))
+    c.in_err-take-in-Fire.ensures.gives)
 
 pub process-returns-in_ok-take-in-Fire-clause-gives : goal.process-returns-in_ok-take-in-Fire-clause-gives
-process-returns-in_ok-take-in-Fire-clause-gives t c = process_after (chart_of c.args.chart.now) c.args.bounds (now_of c.args.now) c.args.s _ c.args.world.now c.list.ensures.list _ c.search.new.world _ (ended_as found_of _ _ c.in-Fire.is c.in_ok-d.ensures.gives) (outer_taken (chart_of c.args.chart.now) c.args.bounds (now_of c.args.now) c.args.s c.in-Fire.d c.home-home.result (map (λ a. block_seen a.now) c.in-Fire.actions.items) c.search.new.world c.take.new.world c.home-home.ensures.home (subst (λ l. Settled (λ n. (upto (chart_of c.args.chart.now) c.args.bounds n).take c.home-home.result c.in-Fire.d (map (λ a. block_seen a.now) l) (now_of c.args.now) c.search.new.world) (Ended tt c.take.new.world)) c.deref.ensures.value c.in_ok-take-in-Fire.ensures.gives))
+process-returns-in_ok-take-in-Fire-clause-gives t c =
+    let chart = chart_of c.args.chart.now in
+    let now = now_of c.args.now in
+    process_after chart c.args.bounds now c.args.s _ c.args.world.now c.list.ensures.list _ c.search.new.world _
+    (ended_as found_of _ _ c.in-Fire.is c.in_ok-d.ensures.gives)
+    (outer_taken chart c.args.bounds now c.args.s c.in-Fire.d c.home-home.result
+    (map (λ a. block_seen a.now) c.in-Fire.actions.items) c.search.new.world c.take.new.world c.home-home.ensures.home
+    (subst (λ l. Settled (λ n. (upto chart c.args.bounds n).take c.home-home.result c.in-Fire.d
+    (map (λ a. block_seen a.now) l) now c.search.new.world) (Ended tt c.take.new.world)) c.deref.ensures.value
+    c.in_ok-take-in-Fire.ensures.gives))
 
 pub go_on_inside-returns-in_err-run_block-clause-gives : goal.go_on_inside-returns-in_err-run_block-clause-gives
 go_on_inside-returns-in_err-run_block-clause-gives t c =
+    let chart = chart_of c.args.chart.now in
+    let now = now_of c.args.now in
     let p = err_from_is_err_and c.from_residual.result c.from_residual.ensures.1 in
-    rw (p.1, p.2) (err_through end_of went_of _ (λ n. go_on_inside (chart_of c.args.chart.now) (upto (chart_of c.args.chart.now) c.args.bounds n) c.args.s (now_of c.args.now) c.args.world.now) _ _ (λ x h. during_fault (chart_of c.args.chart.now) c.args.bounds (now_of c.args.now) c.args.s _ c.args.world.now c.block.ensures.block _ x h) c.in_err-run_block.ensures.gives)
+    rw (p.1, p.2) (err_through end_of went_of _
+    (λ n. go_on_inside chart (upto chart c.args.bounds n) c.args.s now c.args.world.now) _ _
+    (λ x h. during_fault chart c.args.bounds now c.args.s _ c.args.world.now c.block.ensures.block _ x h)
+    c.in_err-run_block.ensures.gives)
 
 pub go_on_inside-returns-in-Cut-clause-gives : goal.go_on_inside-returns-in-Cut-clause-gives
-go_on_inside-returns-in-Cut-clause-gives t c = during_cut (chart_of c.args.chart.now) c.args.bounds (now_of c.args.now) c.args.s _ c.args.world.now c.block.ensures.block c.run_block.new.world (ended_as end_of _ _ c.in-Cut.is c.in_ok-run_block.ensures.gives)
+go_on_inside-returns-in-Cut-clause-gives t c =
+    during_cut (chart_of c.args.chart.now) c.args.bounds (now_of c.args.now) c.args.s _ c.args.world.now
+    c.block.ensures.block c.run_block.new.world (ended_as end_of _ _ c.in-Cut.is c.in_ok-run_block.ensures.gives)
 
 pub go_on_inside-returns-in_err-d-in-Done-clause-gives : goal.go_on_inside-returns-in_err-d-in-Done-clause-gives
 go_on_inside-returns-in_err-d-in-Done-clause-gives t c =
+    let chart = chart_of c.args.chart.now in
+    let now = now_of c.args.now in
     let p = err_from_is_err_and c.from_residual-in_err-d-in-Done.result c.from_residual-in_err-d-in-Done.ensures.1 in
-    rw (p.1, p.2) (err_through found_of went_of _ (λ n. go_on_inside (chart_of c.args.chart.now) (upto (chart_of c.args.chart.now) c.args.bounds n) c.args.s (now_of c.args.now) c.args.world.now) _ _ (λ x h. inner_fault (chart_of c.args.chart.now) c.args.bounds (now_of c.args.now) c.args.s _ c.args.world.now c.block.ensures.block c.run_block.new.world (ended_as end_of _ _ c.in-Done.is c.in_ok-run_block.ensures.gives) _ c.list.ensures.list _ x h) c.in_err-d-in-Done.ensures.gives)
+    rw (p.1, p.2) (err_through found_of went_of _
+    (λ n. go_on_inside chart (upto chart c.args.bounds n) c.args.s now c.args.world.now) _ _
+    (λ x h. inner_fault chart c.args.bounds now c.args.s _ c.args.world.now c.block.ensures.block c.run_block.new.world
+    (ended_as end_of _ _ c.in-Done.is c.in_ok-run_block.ensures.gives) _ c.list.ensures.list _ x h)
+    c.in_err-d-in-Done.ensures.gives)
 
 pub go_on_inside-returns-in-Stop-clause-gives : goal.go_on_inside-returns-in-Stop-clause-gives
-go_on_inside-returns-in-Stop-clause-gives t c = inner_after (chart_of c.args.chart.now) c.args.bounds (now_of c.args.now) c.args.s _ c.args.world.now c.block.ensures.block c.run_block.new.world (ended_as end_of _ _ c.in-Done.is c.in_ok-run_block.ensures.gives) _ c.list.ensures.list _ c.search.new.world _ (ended_as found_of _ _ c.in-Stop.is c.in_ok-d-in-Done.ensures.gives) (settled_now _)
+go_on_inside-returns-in-Stop-clause-gives t c =
+    inner_after (chart_of c.args.chart.now) c.args.bounds (now_of c.args.now) c.args.s _ c.args.world.now
+    c.block.ensures.block c.run_block.new.world (ended_as end_of _ _ c.in-Done.is c.in_ok-run_block.ensures.gives) _
+    c.list.ensures.list _ c.search.new.world _ (ended_as found_of _ _ c.in-Stop.is c.in_ok-d-in-Done.ensures.gives)
+    (settled_now _)
 
 pub go_on_inside-returns-in-DeadEnd-clause-gives : goal.go_on_inside-returns-in-DeadEnd-clause-gives
-go_on_inside-returns-in-DeadEnd-clause-gives t c = passed went_of _ (λ n. go_on_inside (chart_of c.args.chart.now) (upto (chart_of c.args.chart.now) c.args.bounds n) c.args.s (now_of c.args.now) c.args.world.now) _ _ (λ q h. inner_after (chart_of c.args.chart.now) c.args.bounds (now_of c.args.now) c.args.s _ c.args.world.now c.block.ensures.block c.run_block.new.world (ended_as end_of _ _ c.in-Done.is c.in_ok-run_block.ensures.gives) _ c.list.ensures.list _ c.search.new.world q (ended_as found_of _ _ c.in-DeadEnd.is c.in_ok-d-in-Done.ensures.gives) h) c.process_children.ensures.gives
+go_on_inside-returns-in-DeadEnd-clause-gives t c =
+    let chart = chart_of c.args.chart.now in
+    let now = now_of c.args.now in
+    passed went_of _ (λ n. go_on_inside chart (upto chart c.args.bounds n) c.args.s now c.args.world.now) _ _
+    (λ q h. inner_after chart c.args.bounds now c.args.s _ c.args.world.now c.block.ensures.block c.run_block.new.world
+    (ended_as end_of _ _ c.in-Done.is c.in_ok-run_block.ensures.gives) _ c.list.ensures.list _ c.search.new.world q
+    (ended_as found_of _ _ c.in-DeadEnd.is c.in_ok-d-in-Done.ensures.gives) h) c.process_children.ensures.gives
 
 pub go_on_inside-returns-in-No-clause-gives : goal.go_on_inside-returns-in-No-clause-gives
-go_on_inside-returns-in-No-clause-gives t c = passed went_of _ (λ n. go_on_inside (chart_of c.args.chart.now) (upto (chart_of c.args.chart.now) c.args.bounds n) c.args.s (now_of c.args.now) c.args.world.now) _ _ (λ q h. inner_after (chart_of c.args.chart.now) c.args.bounds (now_of c.args.now) c.args.s _ c.args.world.now c.block.ensures.block c.run_block.new.world (ended_as end_of _ _ c.in-Done.is c.in_ok-run_block.ensures.gives) _ c.list.ensures.list _ c.search.new.world q (ended_as found_of _ _ c.in-No.is c.in_ok-d-in-Done.ensures.gives) h) c.process_children-in-No.ensures.gives
+go_on_inside-returns-in-No-clause-gives t c =
+    let chart = chart_of c.args.chart.now in
+    let now = now_of c.args.now in
+    passed went_of _ (λ n. go_on_inside chart (upto chart c.args.bounds n) c.args.s now c.args.world.now) _ _
+    (λ q h. inner_after chart c.args.bounds now c.args.s _ c.args.world.now c.block.ensures.block c.run_block.new.world
+    (ended_as end_of _ _ c.in-Done.is c.in_ok-run_block.ensures.gives) _ c.list.ensures.list _ c.search.new.world q
+    (ended_as found_of _ _ c.in-No.is c.in_ok-d-in-Done.ensures.gives) h) c.process_children-in-No.ensures.gives
 
 pub go_on_inside-returns-in_err-take-in-Fire-clause-gives : goal.go_on_inside-returns-in_err-take-in-Fire-clause-gives
 go_on_inside-returns-in_err-take-in-Fire-clause-gives t c =
-    let p = err_from_is_err_and c.from_residual-in_err-take-in-Fire.result c.from_residual-in_err-take-in-Fire.ensures.1 in
-    rw (p.1, p.2) (err_through {A = Unit {0}} (λ _. tt) went_of _ (λ n. go_on_inside (chart_of c.args.chart.now) (upto (chart_of c.args.chart.now) c.args.bounds n) c.args.s (now_of c.args.now) c.args.world.now) _ _ (λ x h. inner_after (chart_of c.args.chart.now) c.args.bounds (now_of c.args.now) c.args.s _ c.args.world.now c.block.ensures.block c.run_block.new.world (ended_as end_of _ _ c.in-Done.is c.in_ok-run_block.ensures.gives) _ c.list.ensures.list _ c.search.new.world _ (ended_as found_of _ _ c.in-Fire.is c.in_ok-d-in-Done.ensures.gives) (inner_take_fault (chart_of c.args.chart.now) c.args.bounds (now_of c.args.now) c.args.s c.in-Fire.d (map (λ a. block_seen a.now) c.in-Fire.actions.items) c.search.new.world c.take.new.world x (subst (λ l. Settled (λ n. (upto (chart_of c.args.chart.now) c.args.bounds n).take c.args.s c.in-Fire.d (map (λ a. block_seen a.now) l) (now_of c.args.now) c.search.new.world) (Faulted x c.take.new.world)) c.deref.ensures.value h))) c.in_err-take-in-Fire.ensures.gives)
+    let chart = chart_of c.args.chart.now in
+    let now = now_of c.args.now in
+    let p =
+    err_from_is_err_and c.from_residual-in_err-take-in-Fire.result c.from_residual-in_err-take-in-Fire.ensures.1 in
+    rw (p.1, p.2) (err_through {A = Unit {0}} (λ _. tt) went_of _
+    (λ n. go_on_inside chart (upto chart c.args.bounds n) c.args.s now c.args.world.now) _ _
+    (λ x h. inner_after chart c.args.bounds now c.args.s _ c.args.world.now c.block.ensures.block c.run_block.new.world
+    (ended_as end_of _ _ c.in-Done.is c.in_ok-run_block.ensures.gives) _ c.list.ensures.list _ c.search.new.world _
+    (ended_as found_of _ _ c.in-Fire.is c.in_ok-d-in-Done.ensures.gives)
+    (inner_take_fault chart c.args.bounds now c.args.s c.in-Fire.d (map (λ a. block_seen a.now) c.in-Fire.actions.items)
+    c.search.new.world c.take.new.world x (subst (λ l. Settled
+    (λ n. (upto chart c.args.bounds n).take c.args.s c.in-Fire.d (map (λ a. block_seen a.now) l) now c.search.new.world)
+    (Faulted x c.take.new.world)) c.deref.ensures.value h))) c.in_err-take-in-Fire.ensures.gives)
 
 pub go_on_inside-returns-in_ok-take-in-Fire-clause-gives : goal.go_on_inside-returns-in_ok-take-in-Fire-clause-gives
-go_on_inside-returns-in_ok-take-in-Fire-clause-gives t c = inner_after (chart_of c.args.chart.now) c.args.bounds (now_of c.args.now) c.args.s _ c.args.world.now c.block.ensures.block c.run_block.new.world (ended_as end_of _ _ c.in-Done.is c.in_ok-run_block.ensures.gives) _ c.list.ensures.list _ c.search.new.world _ (ended_as found_of _ _ c.in-Fire.is c.in_ok-d-in-Done.ensures.gives) (inner_taken (chart_of c.args.chart.now) c.args.bounds (now_of c.args.now) c.args.s c.in-Fire.d (map (λ a. block_seen a.now) c.in-Fire.actions.items) c.search.new.world c.take.new.world (subst (λ l. Settled (λ n. (upto (chart_of c.args.chart.now) c.args.bounds n).take c.args.s c.in-Fire.d (map (λ a. block_seen a.now) l) (now_of c.args.now) c.search.new.world) (Ended tt c.take.new.world)) c.deref.ensures.value c.in_ok-take-in-Fire.ensures.gives))
+go_on_inside-returns-in_ok-take-in-Fire-clause-gives t c =
+    let chart = chart_of c.args.chart.now in
+    let now = now_of c.args.now in
+    inner_after chart c.args.bounds now c.args.s _ c.args.world.now c.block.ensures.block c.run_block.new.world
+    (ended_as end_of _ _ c.in-Done.is c.in_ok-run_block.ensures.gives) _ c.list.ensures.list _ c.search.new.world _
+    (ended_as found_of _ _ c.in-Fire.is c.in_ok-d-in-Done.ensures.gives)
+    (inner_taken chart c.args.bounds now c.args.s c.in-Fire.d (map (λ a. block_seen a.now) c.in-Fire.actions.items)
+    c.search.new.world c.take.new.world (subst (λ l. Settled
+    (λ n. (upto chart c.args.bounds n).take c.args.s c.in-Fire.d (map (λ a. block_seen a.now) l) now c.search.new.world)
+    (Ended tt c.take.new.world)) c.deref.ensures.value c.in_ok-take-in-Fire.ensures.gives))
 
 pub process_children-returns-in-Leaf-clause-gives : goal.process_children-returns-in-Leaf-clause-gives
-process_children-returns-in-Leaf-clause-gives t c = kids_leaf (chart_of c.args.chart.now) c.args.bounds (now_of c.args.now) c.args.s _ c.args.world.now c.in-Leaf.ensures
+process_children-returns-in-Leaf-clause-gives t c =
+    kids_leaf (chart_of c.args.chart.now) c.args.bounds (now_of c.args.now) c.args.s _ c.args.world.now
+    c.in-Leaf.ensures
 
 pub process_children-returns-in-None-clause-gives : goal.process_children-returns-in-None-clause-gives
-process_children-returns-in-None-clause-gives t c = kids_none (chart_of c.args.chart.now) c.args.bounds (now_of c.args.now) c.args.s _ c.args.world.now c.in-Or.ensures c.in-None.ensures.child
+process_children-returns-in-None-clause-gives t c =
+    kids_none (chart_of c.args.chart.now) c.args.bounds (now_of c.args.now) c.args.s _ c.args.world.now c.in-Or.ensures
+    c.in-None.ensures.child
 
 pub process_children-returns-in_err-process-in-Some-clause-gives : goal.process_children-returns-in_err-process-in-Some-clause-gives
 process_children-returns-in_err-process-in-Some-clause-gives t c =
+    let chart = chart_of c.args.chart.now in
+    let now = now_of c.args.now in
     let p = err_from_is_err_and c.from_residual.result c.from_residual.ensures.1 in
-    rw (p.1, p.2) (err_through went_of went_of _ (λ n. process_children (chart_of c.args.chart.now) (upto (chart_of c.args.chart.now) c.args.bounds n) c.args.s (now_of c.args.now) (comp_of (chart_of c.args.chart.now).tree c.args.s) c.args.world.now) _ _ (λ x h. kids_fault (chart_of c.args.chart.now) c.args.bounds (now_of c.args.now) c.args.s c.in-Some.x _ c.args.world.now _ x c.in-Or.ensures c.in-Some.ensures.child h) c.in_err-process-in-Some.ensures.gives)
+    rw (p.1, p.2) (err_through went_of went_of _ (λ n. process_children chart (upto chart c.args.bounds n) c.args.s now
+    (comp_of chart.tree c.args.s) c.args.world.now) _ _
+    (λ x h. kids_fault chart c.args.bounds now c.args.s c.in-Some.x _ c.args.world.now _ x c.in-Or.ensures
+    c.in-Some.ensures.child h) c.in_err-process-in-Some.ensures.gives)
 
 pub process_children-returns-in-Stay-clause-gives : goal.process_children-returns-in-Stay-clause-gives
-process_children-returns-in-Stay-clause-gives t c = kids_one (chart_of c.args.chart.now) c.args.bounds (now_of c.args.now) c.args.s c.in-Some.x _ c.args.world.now c.process.new.world _ _ c.in-Or.ensures c.in-Some.ensures.child (ended_as went_of _ _ c.in-Stay.is c.in_ok-process-in-Some.ensures.gives) refl
+process_children-returns-in-Stay-clause-gives t c =
+    kids_one (chart_of c.args.chart.now) c.args.bounds (now_of c.args.now) c.args.s c.in-Some.x _ c.args.world.now
+    c.process.new.world _ _ c.in-Or.ensures c.in-Some.ensures.child
+    (ended_as went_of _ _ c.in-Stay.is c.in_ok-process-in-Some.ensures.gives) refl
 
 pub process_children-returns-in-Out-clause-gives : goal.process_children-returns-in-Out-clause-gives
-process_children-returns-in-Out-clause-gives t c = subst (λ z. Settled (λ n. process_children (chart_of c.args.chart.now) (upto (chart_of c.args.chart.now) c.args.bounds n) c.args.s (now_of c.args.now) (comp_of (chart_of c.args.chart.now).tree c.args.s) c.args.world.now) (Ended z c.process.new.world)) (sym c.out_of.ensures) (kids_out (chart_of c.args.chart.now) c.args.bounds (now_of c.args.now) c.args.s c.in-Some.x c.in-Out.home _ c.args.world.now c.process.new.world c.in-Or.ensures c.in-Some.ensures.child (ended_as went_of _ _ c.in-Out.is c.in_ok-process-in-Some.ensures.gives))
+process_children-returns-in-Out-clause-gives t c =
+    let chart = chart_of c.args.chart.now in
+    let now = now_of c.args.now in
+    subst (λ z. Settled (λ n. process_children chart (upto chart c.args.bounds n) c.args.s now
+    (comp_of chart.tree c.args.s) c.args.world.now) (Ended z c.process.new.world)) (sym c.out_of.ensures)
+    (kids_out chart c.args.bounds now c.args.s c.in-Some.x c.in-Out.home _ c.args.world.now c.process.new.world
+    c.in-Or.ensures c.in-Some.ensures.child (ended_as went_of _ _ c.in-Out.is c.in_ok-process-in-Some.ensures.gives))
 
 pub process_children-returns-in-And-clause-gives : goal.process_children-returns-in-And-clause-gives
-process_children-returns-in-And-clause-gives t c = passed went_of _ (λ n. process_children (chart_of c.args.chart.now) (upto (chart_of c.args.chart.now) c.args.bounds n) c.args.s (now_of c.args.now) (comp_of (chart_of c.args.chart.now).tree c.args.s) c.args.world.now) _ _ (λ q h. kids_each (chart_of c.args.chart.now) c.args.bounds (now_of c.args.now) c.args.s _ c.args.world.now q _ c.in-And.ensures refl h) c.process_all.ensures.gives
+process_children-returns-in-And-clause-gives t c =
+    let chart = chart_of c.args.chart.now in
+    let now = now_of c.args.now in
+    passed went_of _ (λ n. process_children chart (upto chart c.args.bounds n) c.args.s now
+    (comp_of chart.tree c.args.s) c.args.world.now) _ _
+    (λ q h. kids_each chart c.args.bounds now c.args.s _ c.args.world.now q _ c.in-And.ensures refl h)
+    c.process_all.ensures.gives
 
 pub process_all-loop-next-init : goal.process_all-loop-next-init
-process_all-loop-next-init t c = record { goes = subst (λ l. Continues (λ n. (upto (chart_of c.args.chart.now) c.args.bounds n).process_each l (now_of c.args.now) c.args.world.now) (λ n. (upto (chart_of c.args.chart.now) c.args.bounds n).process_each (children_of (chart_of c.args.chart.now).tree c.args.s) (now_of c.args.now) c.args.world.now)) (children_of-from (chart_of c.args.chart.now).tree c.args.s ∙ ap (children_from (chart_of c.args.chart.now).tree c.args.s) (sym c.first_child-next.ensures.child)) continues_same; stands = stands_first (chart_of c.args.chart.now).tree c.first_child-next.ensures.tree c.args.s _ c.first_child-next.ensures.child; fits = c.requires.fits }
+process_all-loop-next-init t c =
+    let chart = chart_of c.args.chart.now in
+    let now = now_of c.args.now in
+    record {
+      goes =
+          subst (λ l. Continues (λ n. (upto chart c.args.bounds n).process_each l now c.args.world.now)
+          (λ n. (upto chart c.args.bounds n).process_each (children_of chart.tree c.args.s) now c.args.world.now))
+          (children_of-from chart.tree c.args.s
+          ∙ ap (children_from chart.tree c.args.s) (sym c.first_child-next.ensures.child)) continues_same;
+      stands = stands_first chart.tree c.first_child-next.ensures.tree c.args.s _ c.first_child-next.ensures.child;
+      fits = c.requires.fits;
+    }
 
 pub process_all-on-requires-clause-state : goal.process_all-on-requires-clause-state
 process_all-on-requires-clause-state t c = (c.loop-next.invariant.stands.child c.in-Some.x c.in-Some.is).within
 
 pub process_all-process-requires : goal.process_all-process-requires
-process_all-process-requires t c = let i = (c.loop-next.invariant.stands.child c.in-Some.x c.in-Some.is) in (omega (arith, i.above, i.within, c.decreases), (c.loop-next.invariant.fits, i.within))
+process_all-process-requires t c =
+    let i = (c.loop-next.invariant.stands.child c.in-Some.x c.in-Some.is) in
+    (omega (arith, i.above, i.within, c.decreases), (c.loop-next.invariant.fits, i.within))
 
 pub process_all-returns-in_err-process-clause-gives : goal.process_all-returns-in_err-process-clause-gives
 process_all-returns-in_err-process-clause-gives t c =
+    let chart = chart_of c.args.chart.now in
+    let now = now_of c.args.now in
     let p = err_from_is_err_and c.from_residual.result c.from_residual.ensures.1 in
-    rw (p.1, p.2) (err_through went_of went_of _ (λ n. (upto (chart_of c.args.chart.now) c.args.bounds n).process_each (children_of (chart_of c.args.chart.now).tree c.args.s) (now_of c.args.now) c.args.world.now) _ _ (λ x h. let on : is_on c.in-Some.x c.loop-next.world.marks ≡ true = cc in each_turn_fault (chart_of c.args.chart.now) c.args.bounds (now_of c.args.now) c.args.s c.loop-next.next c.loop-next.world (λ n. (upto (chart_of c.args.chart.now) c.args.bounds n).process_each (children_of (chart_of c.args.chart.now).tree c.args.s) (now_of c.args.now) c.args.world.now) c.loop-next.invariant.goes c.in-Some.x c.in-Some.is c.loop-next.invariant.stands on _ x h) c.in_err-process.ensures.gives)
+    rw (p.1, p.2) (err_through went_of went_of _
+    (λ n. (upto chart c.args.bounds n).process_each (children_of chart.tree c.args.s) now c.args.world.now) _ _
+    (λ x h.
+    let on : is_on c.in-Some.x c.loop-next.world.marks ≡ true = cc in
+    each_turn_fault chart c.args.bounds now c.args.s c.loop-next.next c.loop-next.world
+    (λ n. (upto chart c.args.bounds n).process_each (children_of chart.tree c.args.s) now c.args.world.now)
+    c.loop-next.invariant.goes c.in-Some.x c.in-Some.is c.loop-next.invariant.stands on _ x h)
+    c.in_err-process.ensures.gives)
 
 pub process_all-returns-in-Out-clause-gives : goal.process_all-returns-in-Out-clause-gives
-process_all-returns-in-Out-clause-gives t c = let on : is_on c.in-Some.x c.loop-next.world.marks ≡ true = cc in each_turn_out (chart_of c.args.chart.now) c.args.bounds (now_of c.args.now) c.args.s c.loop-next.next c.loop-next.world (λ n. (upto (chart_of c.args.chart.now) c.args.bounds n).process_each (children_of (chart_of c.args.chart.now).tree c.args.s) (now_of c.args.now) c.args.world.now) c.loop-next.invariant.goes c.in-Some.x c.in-Some.is c.loop-next.invariant.stands on c.process.new.world c.in-Out.home (ended_as went_of _ _ c.in-Out.is c.in_ok-process.ensures.gives)
+process_all-returns-in-Out-clause-gives t c =
+    let chart = chart_of c.args.chart.now in
+    let now = now_of c.args.now in
+    let on : is_on c.in-Some.x c.loop-next.world.marks ≡ true = cc in
+    each_turn_out chart c.args.bounds now c.args.s c.loop-next.next c.loop-next.world
+    (λ n. (upto chart c.args.bounds n).process_each (children_of chart.tree c.args.s) now c.args.world.now)
+    c.loop-next.invariant.goes c.in-Some.x c.in-Some.is c.loop-next.invariant.stands on c.process.new.world
+    c.in-Out.home (ended_as went_of _ _ c.in-Out.is c.in_ok-process.ensures.gives)
 
 pub process_all-next_sibling-next-requires : goal.process_all-next_sibling-next-requires
 process_all-next_sibling-next-requires t c = (c.loop-next.invariant.stands.child c.in-Some.x c.in-Some.is).within
 
 pub process_all-loop-next-smaller : goal.process_all-loop-next-smaller
-process_all-loop-next-smaller t c = ahead_falls (chart_of c.args.chart.now).tree c.in-Some.x _ _ c.in-Some.is (c.loop-next.invariant.stands.child c.in-Some.x c.in-Some.is).within c.next_sibling-next.ensures.after
+process_all-loop-next-smaller t c =
+    ahead_falls (chart_of c.args.chart.now).tree c.in-Some.x _ _ c.in-Some.is
+    (c.loop-next.invariant.stands.child c.in-Some.x c.in-Some.is).within c.next_sibling-next.ensures.after
 
 pub process_all-returns-clause-gives : goal.process_all-returns-clause-gives
-process_all-returns-clause-gives t c = each_turns_end (chart_of c.args.chart.now) c.args.bounds (now_of c.args.now) c.args.s c.loop-next.next c.loop-next.world (λ n. (upto (chart_of c.args.chart.now) c.args.bounds n).process_each (children_of (chart_of c.args.chart.now).tree c.args.s) (now_of c.args.now) c.args.world.now) c.loop-next.invariant.goes c.in_default.is
+process_all-returns-clause-gives t c =
+    let chart = chart_of c.args.chart.now in
+    let now = now_of c.args.now in
+    each_turns_end chart c.args.bounds now c.args.s c.loop-next.next c.loop-next.world
+    (λ n. (upto chart c.args.bounds n).process_each (children_of chart.tree c.args.s) now c.args.world.now)
+    c.loop-next.invariant.goes c.in_default.is
 
 pub search-loop-places-init : goal.search-loop-places-init
-search-loop-places-init t c = record { leads = subst (λ ps. Leads (chart_of c.args.chart.now) c.args.bounds (life_seen c.args.life) (now_of c.args.now) ps (list_seen c.args.list.now) c.args.world.now (list_seen c.args.list.now) c.args.world.now) (sym c.new-places.ensures.items) (leads_init (chart_of c.args.chart.now) c.args.bounds (life_seen c.args.life) (now_of c.args.now) (list_seen c.args.list.now) c.args.world.now); fits = c.requires.fits; rest = c.requires.list; rests = subst (λ ps. AllByRecursion (λ p. AreTrans (chart_of c.args.chart.now) (list_seen p.rest.now)) ps) (sym c.new-places.ensures.items) tt; actions = subst (λ ps. AllByRecursion (λ p. AreStmts (chart_of c.args.chart.now) (block_seen p.action.now)) ps) (sym c.new-places.ensures.items) tt }
+search-loop-places-init t c =
+    let chart = chart_of c.args.chart.now in
+    let now = now_of c.args.now in
+    let life = life_seen c.args.life in
+    record {
+      leads =
+          subst (λ ps. Leads chart c.args.bounds life now ps (list_seen c.args.list.now) c.args.world.now
+          (list_seen c.args.list.now) c.args.world.now) (sym c.new-places.ensures.items)
+          (leads_init chart c.args.bounds life now (list_seen c.args.list.now) c.args.world.now);
+      fits = c.requires.fits;
+      rest = c.requires.list;
+      rests =
+          subst (λ ps. AllByRecursion (λ p. AreTrans chart (list_seen p.rest.now)) ps) (sym c.new-places.ensures.items)
+          tt;
+      actions =
+          subst (λ ps. AllByRecursion (λ p. AreStmts chart (block_seen p.action.now)) ps)
+          (sym c.new-places.ensures.items) tt;
+    }
 
 pub search-returns-in-None-pop-clause-gives : goal.search-returns-in-None-pop-clause-gives
-search-returns-in-None-pop-clause-gives t c = let re : list_seen c.loop-places.rest.now ≡ [] = ap list_seen (empty_is c.loop-places.rest.now c.in-None.ensures.cases) in let l1 : Leads (chart_of c.args.chart.now) c.args.bounds (life_seen c.args.life) (now_of c.args.now) c.loop-places.places.items [] c.loop-places.world (list_seen c.args.list.now) c.args.world.now = subst (λ xs. Leads (chart_of c.args.chart.now) c.args.bounds (life_seen c.args.life) (now_of c.args.now) c.loop-places.places.items xs c.loop-places.world (list_seen c.args.list.now) c.args.world.now) re c.loop-places.invariant.leads in let pe : c.loop-places.places.items ≡ [] = empty_is c.loop-places.places.items (omega (arith, c.in-None-pop.ensures.cases.0, c.loop-places.places.ok.0)) in leads_none (chart_of c.args.chart.now) c.args.bounds (life_seen c.args.life) (now_of c.args.now) c.loop-places.world (list_seen c.args.list.now) c.args.world.now (subst (λ ps. Leads (chart_of c.args.chart.now) c.args.bounds (life_seen c.args.life) (now_of c.args.now) ps [] c.loop-places.world (list_seen c.args.list.now) c.args.world.now) pe l1)
+search-returns-in-None-pop-clause-gives t c =
+    let chart = chart_of c.args.chart.now in
+    let now = now_of c.args.now in
+    let life = life_seen c.args.life in
+    let re : list_seen c.loop-places.rest.now ≡ [] =
+    ap list_seen (empty_is c.loop-places.rest.now c.in-None.ensures.cases) in
+    let l1 : Leads chart c.args.bounds life now c.loop-places.places.items [] c.loop-places.world
+    (list_seen c.args.list.now) c.args.world.now =
+    subst (λ xs. Leads chart c.args.bounds life now c.loop-places.places.items xs c.loop-places.world
+    (list_seen c.args.list.now) c.args.world.now) re c.loop-places.invariant.leads in
+    let pe : c.loop-places.places.items ≡ [] =
+    empty_is c.loop-places.places.items (omega (arith, c.in-None-pop.ensures.cases.0, c.loop-places.places.ok.0)) in
+    leads_none chart c.args.bounds life now c.loop-places.world (list_seen c.args.list.now) c.args.world.now
+    (subst
+    (λ ps. Leads chart c.args.bounds life now ps [] c.loop-places.world (list_seen c.args.list.now) c.args.world.now) pe
+    l1)
 
 pub search-loop-places-preserved-in-Some-pop : goal.search-loop-places-preserved-in-Some-pop
-search-loop-places-preserved-in-Some-pop t c = let re : list_seen c.loop-places.rest.now ≡ [] = ap list_seen (empty_is c.loop-places.rest.now c.in-None.ensures.cases) in let l1 : Leads (chart_of c.args.chart.now) c.args.bounds (life_seen c.args.life) (now_of c.args.now) c.loop-places.places.items [] c.loop-places.world (list_seen c.args.list.now) c.args.world.now = subst (λ xs. Leads (chart_of c.args.chart.now) c.args.bounds (life_seen c.args.life) (now_of c.args.now) c.loop-places.places.items xs c.loop-places.world (list_seen c.args.list.now) c.args.world.now) re c.loop-places.invariant.leads in let rs = all_front (λ p. AreTrans (chart_of c.args.chart.now) (list_seen p.rest.now)) c.pop.new.self.items c.in-Some-pop.place (subst (λ ps. AllByRecursion (λ p. AreTrans (chart_of c.args.chart.now) (list_seen p.rest.now)) ps) c.in-Some-pop.ensures.items c.loop-places.invariant.rests) in let acts = all_front (λ p. AreStmts (chart_of c.args.chart.now) (block_seen p.action.now)) c.pop.new.self.items c.in-Some-pop.place (subst (λ ps. AllByRecursion (λ p. AreStmts (chart_of c.args.chart.now) (block_seen p.action.now)) ps) c.in-Some-pop.ensures.items c.loop-places.invariant.actions) in record { leads = leads_pop (chart_of c.args.chart.now) c.args.bounds (life_seen c.args.life) (now_of c.args.now) c.pop.new.self.items c.loop-places.world (list_seen c.args.list.now) c.args.world.now c.in-Some-pop.place (subst (λ ps. Leads (chart_of c.args.chart.now) c.args.bounds (life_seen c.args.life) (now_of c.args.now) ps [] c.loop-places.world (list_seen c.args.list.now) c.args.world.now) c.in-Some-pop.ensures.items l1); fits = c.loop-places.invariant.fits; rest = rs.1; rests = rs.0; actions = acts.0 }
+search-loop-places-preserved-in-Some-pop t c =
+    let chart = chart_of c.args.chart.now in
+    let now = now_of c.args.now in
+    let life = life_seen c.args.life in
+    let re : list_seen c.loop-places.rest.now ≡ [] =
+    ap list_seen (empty_is c.loop-places.rest.now c.in-None.ensures.cases) in
+    let l1 : Leads chart c.args.bounds life now c.loop-places.places.items [] c.loop-places.world
+    (list_seen c.args.list.now) c.args.world.now =
+    subst (λ xs. Leads chart c.args.bounds life now c.loop-places.places.items xs c.loop-places.world
+    (list_seen c.args.list.now) c.args.world.now) re c.loop-places.invariant.leads in
+    let rs =
+    all_front (λ p. AreTrans chart (list_seen p.rest.now)) c.pop.new.self.items c.in-Some-pop.place
+    (subst (λ ps. AllByRecursion (λ p. AreTrans chart (list_seen p.rest.now)) ps) c.in-Some-pop.ensures.items
+    c.loop-places.invariant.rests) in
+    let acts =
+    all_front (λ p. AreStmts chart (block_seen p.action.now)) c.pop.new.self.items c.in-Some-pop.place
+    (subst (λ ps. AllByRecursion (λ p. AreStmts chart (block_seen p.action.now)) ps) c.in-Some-pop.ensures.items
+    c.loop-places.invariant.actions) in
+    record {
+      leads =
+          leads_pop chart c.args.bounds life now c.pop.new.self.items c.loop-places.world (list_seen c.args.list.now)
+          c.args.world.now c.in-Some-pop.place (subst (λ ps. Leads chart c.args.bounds life now ps []
+          c.loop-places.world (list_seen c.args.list.now) c.args.world.now) c.in-Some-pop.ensures.items l1);
+      fits = c.loop-places.invariant.fits;
+      rest = rs.1;
+      rests = rs.0;
+      actions = acts.0;
+    }
 
 pub search-returns-in_err-enabled-in-Some-clause-gives : goal.search-returns-in_err-enabled-in-Some-clause-gives
 search-returns-in_err-enabled-in-Some-clause-gives t c =
+    let chart = chart_of c.args.chart.now in
+    let now = now_of c.args.now in
+    let life = life_seen c.args.life in
     let p = err_from_is_err_and c.from_residual.result c.from_residual.ensures.1 in
-    rw (p.1, p.2) (err_does (λ b. b) found_of _ (λ n. (upto (chart_of c.args.chart.now) c.args.bounds n).search (life_seen c.args.life) (list_seen c.args.list.now) (now_of c.args.now) c.args.world.now) _ _ (λ x h. let fr : c.loop-places.rest.now ≡ c.in-Some.t.now ∷ c.in-Some.others.now = c.in-Some.ensures.cases.0 in let l : Leads (chart_of c.args.chart.now) c.args.bounds (life_seen c.args.life) (now_of c.args.now) c.loop-places.places.items (trans_seen c.in-Some.t.now ∷ list_seen c.in-Some.others.now) c.loop-places.world (list_seen c.args.list.now) c.args.world.now = subst (λ xs. Leads (chart_of c.args.chart.now) c.args.bounds (life_seen c.args.life) (now_of c.args.now) c.loop-places.places.items (list_seen xs) c.loop-places.world (list_seen c.args.list.now) c.args.world.now) fr c.loop-places.invariant.leads in leads_fault (chart_of c.args.chart.now) c.args.bounds (life_seen c.args.life) (now_of c.args.now) c.loop-places.places.items c.loop-places.world (list_seen c.args.list.now) c.args.world.now (trans_seen c.in-Some.t.now) (list_seen c.in-Some.others.now) l x _ (search_guard_fault (chart_of c.args.chart.now) c.args.bounds (now_of c.args.now) (life_seen c.args.life) (trans_seen c.in-Some.t.now) (list_seen c.in-Some.others.now) c.loop-places.world _ x h)) c.in_err-enabled-in-Some.ensures)
+    rw (p.1, p.2) (err_does (λ b. b) found_of _
+    (λ n. (upto chart c.args.bounds n).search life (list_seen c.args.list.now) now c.args.world.now) _ _
+    (λ x h.
+    let fr : c.loop-places.rest.now ≡ c.in-Some.t.now ∷ c.in-Some.others.now = c.in-Some.ensures.cases.0 in
+    let l : Leads chart c.args.bounds life now c.loop-places.places.items
+    (trans_seen c.in-Some.t.now ∷ list_seen c.in-Some.others.now) c.loop-places.world (list_seen c.args.list.now)
+    c.args.world.now =
+    subst (λ xs. Leads chart c.args.bounds life now c.loop-places.places.items (list_seen xs) c.loop-places.world
+    (list_seen c.args.list.now) c.args.world.now) fr c.loop-places.invariant.leads in
+    leads_fault chart c.args.bounds life now c.loop-places.places.items c.loop-places.world (list_seen c.args.list.now)
+    c.args.world.now (trans_seen c.in-Some.t.now) (list_seen c.in-Some.others.now) l x _
+    (search_guard_fault chart c.args.bounds now life (trans_seen c.in-Some.t.now) (list_seen c.in-Some.others.now)
+    c.loop-places.world _ x h)) c.in_err-enabled-in-Some.ensures)
 
 pub search-returns-in_err-run_block-in-Some-clause-gives : goal.search-returns-in_err-run_block-in-Some-clause-gives
 search-returns-in_err-run_block-in-Some-clause-gives t c =
-    let p = err_from_is_err_and c.from_residual-in_err-run_block-in-Some.result c.from_residual-in_err-run_block-in-Some.ensures.1 in
-    rw (p.1, p.2) (err_through end_of found_of _ (λ n. (upto (chart_of c.args.chart.now) c.args.bounds n).search (life_seen c.args.life) (list_seen c.args.list.now) (now_of c.args.now) c.args.world.now) _ _ (λ x h. let fr : c.loop-places.rest.now ≡ c.in-Some.t.now ∷ c.in-Some.others.now = c.in-Some.ensures.cases.0 in let l : Leads (chart_of c.args.chart.now) c.args.bounds (life_seen c.args.life) (now_of c.args.now) c.loop-places.places.items (trans_seen c.in-Some.t.now ∷ list_seen c.in-Some.others.now) c.loop-places.world (list_seen c.args.list.now) c.args.world.now = subst (λ xs. Leads (chart_of c.args.chart.now) c.args.bounds (life_seen c.args.life) (now_of c.args.now) c.loop-places.places.items (list_seen xs) c.loop-places.world (list_seen c.args.list.now) c.args.world.now) fr c.loop-places.invariant.leads in let e : is_enabled (trans_seen c.in-Some.t.now) (now_of c.args.now) c.loop-places.world ≡ Ended true c.loop-places.world = c.in_ok-enabled-in-Some.ensures ∙ ap (λ z. Ended z c.loop-places.world) c.if-branch.true in let d : block_seen c.items.result.now ≡ (trans_seen c.in-Some.t.now).condition = ap block_seen c.items.ensures in leads_fault (chart_of c.args.chart.now) c.args.bounds (life_seen c.args.life) (now_of c.args.now) c.loop-places.places.items c.loop-places.world (list_seen c.args.list.now) c.args.world.now (trans_seen c.in-Some.t.now) (list_seen c.in-Some.others.now) l x _ (search_block_fault (chart_of c.args.chart.now) c.args.bounds (now_of c.args.now) (life_seen c.args.life) (trans_seen c.in-Some.t.now) (list_seen c.in-Some.others.now) c.loop-places.world _ x e (subst (λ s. Settled (λ n. (upto (chart_of c.args.chart.now) c.args.bounds n).block (life_seen c.args.life) s (now_of c.args.now) c.loop-places.world) (Faulted x c.run_block.new.world)) d h))) c.in_err-run_block-in-Some.ensures.gives)
+    let chart = chart_of c.args.chart.now in
+    let now = now_of c.args.now in
+    let life = life_seen c.args.life in
+    let p =
+    err_from_is_err_and c.from_residual-in_err-run_block-in-Some.result
+    c.from_residual-in_err-run_block-in-Some.ensures.1 in
+    rw (p.1, p.2) (err_through end_of found_of _
+    (λ n. (upto chart c.args.bounds n).search life (list_seen c.args.list.now) now c.args.world.now) _ _
+    (λ x h.
+    let fr : c.loop-places.rest.now ≡ c.in-Some.t.now ∷ c.in-Some.others.now = c.in-Some.ensures.cases.0 in
+    let l : Leads chart c.args.bounds life now c.loop-places.places.items
+    (trans_seen c.in-Some.t.now ∷ list_seen c.in-Some.others.now) c.loop-places.world (list_seen c.args.list.now)
+    c.args.world.now =
+    subst (λ xs. Leads chart c.args.bounds life now c.loop-places.places.items (list_seen xs) c.loop-places.world
+    (list_seen c.args.list.now) c.args.world.now) fr c.loop-places.invariant.leads in
+    let e : is_enabled (trans_seen c.in-Some.t.now) now c.loop-places.world ≡ Ended true c.loop-places.world =
+    c.in_ok-enabled-in-Some.ensures ∙ ap (λ z. Ended z c.loop-places.world) c.if-branch.true in
+    let d : block_seen c.items.result.now ≡ (trans_seen c.in-Some.t.now).condition = ap block_seen c.items.ensures in
+    leads_fault chart c.args.bounds life now c.loop-places.places.items c.loop-places.world (list_seen c.args.list.now)
+    c.args.world.now (trans_seen c.in-Some.t.now) (list_seen c.in-Some.others.now) l x _
+    (search_block_fault chart c.args.bounds now life (trans_seen c.in-Some.t.now) (list_seen c.in-Some.others.now)
+    c.loop-places.world _ x e (subst (λ s. Settled
+    (λ n. (upto chart c.args.bounds n).block life s now c.loop-places.world) (Faulted x c.run_block.new.world)) d h)))
+    c.in_err-run_block-in-Some.ensures.gives)
 
 pub search-returns-in-Cut-clause-gives : goal.search-returns-in-Cut-clause-gives
-search-returns-in-Cut-clause-gives t c = let fr : c.loop-places.rest.now ≡ c.in-Some.t.now ∷ c.in-Some.others.now = c.in-Some.ensures.cases.0 in let l : Leads (chart_of c.args.chart.now) c.args.bounds (life_seen c.args.life) (now_of c.args.now) c.loop-places.places.items (trans_seen c.in-Some.t.now ∷ list_seen c.in-Some.others.now) c.loop-places.world (list_seen c.args.list.now) c.args.world.now = subst (λ xs. Leads (chart_of c.args.chart.now) c.args.bounds (life_seen c.args.life) (now_of c.args.now) c.loop-places.places.items (list_seen xs) c.loop-places.world (list_seen c.args.list.now) c.args.world.now) fr c.loop-places.invariant.leads in let e : is_enabled (trans_seen c.in-Some.t.now) (now_of c.args.now) c.loop-places.world ≡ Ended true c.loop-places.world = c.in_ok-enabled-in-Some.ensures ∙ ap (λ z. Ended z c.loop-places.world) c.if-branch.true in let d : block_seen c.items.result.now ≡ (trans_seen c.in-Some.t.now).condition = ap block_seen c.items.ensures in let g : Settled (λ n. (upto (chart_of c.args.chart.now) c.args.bounds n).block (life_seen c.args.life) (trans_seen c.in-Some.t.now).condition (now_of c.args.now) c.loop-places.world) (Ended Cut c.run_block.new.world) = ended_as end_of _ _ c.in-Cut.is (subst (λ s. Settled (λ n. (upto (chart_of c.args.chart.now) c.args.bounds n).block (life_seen c.args.life) s (now_of c.args.now) c.loop-places.world) (Ended (end_of c.in_ok-run_block-in-Some.field-0) c.run_block.new.world)) d c.in_ok-run_block-in-Some.ensures.gives) in leads_stop (chart_of c.args.chart.now) c.args.bounds (life_seen c.args.life) (now_of c.args.now) c.loop-places.places.items c.loop-places.world (list_seen c.args.list.now) c.args.world.now (trans_seen c.in-Some.t.now) (list_seen c.in-Some.others.now) l _ (search_stop (chart_of c.args.chart.now) c.args.bounds (now_of c.args.now) (life_seen c.args.life) (trans_seen c.in-Some.t.now) (list_seen c.in-Some.others.now) c.loop-places.world _ e g)
+search-returns-in-Cut-clause-gives t c =
+    let chart = chart_of c.args.chart.now in
+    let now = now_of c.args.now in
+    let life = life_seen c.args.life in
+    let fr : c.loop-places.rest.now ≡ c.in-Some.t.now ∷ c.in-Some.others.now = c.in-Some.ensures.cases.0 in
+    let l : Leads chart c.args.bounds life now c.loop-places.places.items
+    (trans_seen c.in-Some.t.now ∷ list_seen c.in-Some.others.now) c.loop-places.world (list_seen c.args.list.now)
+    c.args.world.now =
+    subst (λ xs. Leads chart c.args.bounds life now c.loop-places.places.items (list_seen xs) c.loop-places.world
+    (list_seen c.args.list.now) c.args.world.now) fr c.loop-places.invariant.leads in
+    let e : is_enabled (trans_seen c.in-Some.t.now) now c.loop-places.world ≡ Ended true c.loop-places.world =
+    c.in_ok-enabled-in-Some.ensures ∙ ap (λ z. Ended z c.loop-places.world) c.if-branch.true in
+    let d : block_seen c.items.result.now ≡ (trans_seen c.in-Some.t.now).condition = ap block_seen c.items.ensures in
+    let g : Settled
+    (λ n. (upto chart c.args.bounds n).block life (trans_seen c.in-Some.t.now).condition now c.loop-places.world)
+    (Ended Cut c.run_block.new.world) =
+    ended_as end_of _ _ c.in-Cut.is (subst (λ s. Settled
+    (λ n. (upto chart c.args.bounds n).block life s now c.loop-places.world)
+    (Ended (end_of c.in_ok-run_block-in-Some.field-0) c.run_block.new.world)) d
+    c.in_ok-run_block-in-Some.ensures.gives) in
+    leads_stop chart c.args.bounds life now c.loop-places.places.items c.loop-places.world (list_seen c.args.list.now)
+    c.args.world.now (trans_seen c.in-Some.t.now) (list_seen c.in-Some.others.now) l _
+    (search_stop chart c.args.bounds now life (trans_seen c.in-Some.t.now) (list_seen c.in-Some.others.now)
+    c.loop-places.world _ e g)
 
 pub search-returns-in-State-clause-found : goal.search-returns-in-State-clause-found
-search-returns-in-State-clause-found t c = let fr : c.loop-places.rest.now ≡ c.in-Some.t.now ∷ c.in-Some.others.now = c.in-Some.ensures.cases.0 in let tr : IsTrans (chart_of c.args.chart.now) (trans_seen c.in-Some.t.now) = (subst (λ xs. AreTrans (chart_of c.args.chart.now) (list_seen xs)) fr c.loop-places.invariant.rest).0 in ((subst (IsDest (chart_of c.args.chart.now)) c.in-State.is tr.dest).1, subst (AreActions (chart_of c.args.chart.now)) (sym (c.in_ok-actions-in-State.ensures.ok ∙ ap (λ ps. map (λ p. block_seen p.action.now) ps ++ block_seen c.items-in-State.result.now ∷ []) c.deref.ensures.value ∙ ap (λ z. map (λ p. block_seen p.action.now) c.loop-places.places.items ++ z ∷ []) (ap block_seen c.items-in-State.ensures))) (all_more (AreStmts (chart_of c.args.chart.now)) (map (λ p. block_seen p.action.now) c.loop-places.places.items) (trans_seen c.in-Some.t.now).action (all_seen (λ p. block_seen p.action.now) (AreStmts (chart_of c.args.chart.now)) (λ p. AreStmts (chart_of c.args.chart.now) (block_seen p.action.now)) c.loop-places.places.items (λ p h. h) c.loop-places.invariant.actions) tr.action.stmts))
+search-returns-in-State-clause-found t c =
+    let chart = chart_of c.args.chart.now in
+    let fr : c.loop-places.rest.now ≡ c.in-Some.t.now ∷ c.in-Some.others.now = c.in-Some.ensures.cases.0 in
+    let tr : IsTrans chart (trans_seen c.in-Some.t.now) =
+    (subst (λ xs. AreTrans chart (list_seen xs)) fr c.loop-places.invariant.rest).0 in (
+      (subst (IsDest chart) c.in-State.is tr.dest).1,
+      subst (AreActions chart) (sym (c.in_ok-actions-in-State.ensures.ok
+          ∙ ap (λ ps. map (λ p. block_seen p.action.now) ps ++ block_seen c.items-in-State.result.now ∷ [])
+          c.deref.ensures.value
+          ∙ ap (λ z. map (λ p. block_seen p.action.now) c.loop-places.places.items ++ z ∷ [])
+          (ap block_seen c.items-in-State.ensures)))
+          (all_more (AreStmts chart) (map (λ p. block_seen p.action.now) c.loop-places.places.items)
+          (trans_seen c.in-Some.t.now).action (all_seen (λ p. block_seen p.action.now) (AreStmts chart)
+          (λ p. AreStmts chart (block_seen p.action.now)) c.loop-places.places.items (λ p h. h)
+          c.loop-places.invariant.actions) tr.action.stmts),
+    )
 
 pub search-returns-in_err-pay-in-Junction-clause-gives : goal.search-returns-in_err-pay-in-Junction-clause-gives
 search-returns-in_err-pay-in-Junction-clause-gives t c =
-    let p = err_from_is_err_and c.from_residual-in_err-pay-in-Junction.result c.from_residual-in_err-pay-in-Junction.ensures.1 in
-    rw (p.1, p.2) (err_does {A = Unit {0}} (λ _. tt) found_of _ (λ n. (upto (chart_of c.args.chart.now) c.args.bounds n).search (life_seen c.args.life) (list_seen c.args.list.now) (now_of c.args.now) c.args.world.now) _ _ (λ x h. let fr : c.loop-places.rest.now ≡ c.in-Some.t.now ∷ c.in-Some.others.now = c.in-Some.ensures.cases.0 in let l : Leads (chart_of c.args.chart.now) c.args.bounds (life_seen c.args.life) (now_of c.args.now) c.loop-places.places.items (trans_seen c.in-Some.t.now ∷ list_seen c.in-Some.others.now) c.loop-places.world (list_seen c.args.list.now) c.args.world.now = subst (λ xs. Leads (chart_of c.args.chart.now) c.args.bounds (life_seen c.args.life) (now_of c.args.now) c.loop-places.places.items (list_seen xs) c.loop-places.world (list_seen c.args.list.now) c.args.world.now) fr c.loop-places.invariant.leads in let e : is_enabled (trans_seen c.in-Some.t.now) (now_of c.args.now) c.loop-places.world ≡ Ended true c.loop-places.world = c.in_ok-enabled-in-Some.ensures ∙ ap (λ z. Ended z c.loop-places.world) c.if-branch.true in let d : block_seen c.items.result.now ≡ (trans_seen c.in-Some.t.now).condition = ap block_seen c.items.ensures in let g : Settled (λ n. (upto (chart_of c.args.chart.now) c.args.bounds n).block (life_seen c.args.life) (trans_seen c.in-Some.t.now).condition (now_of c.args.now) c.loop-places.world) (Ended Done c.run_block.new.world) = ended_as end_of _ _ c.in-Done.is (subst (λ s. Settled (λ n. (upto (chart_of c.args.chart.now) c.args.bounds n).block (life_seen c.args.life) s (now_of c.args.now) c.loop-places.world) (Ended (end_of c.in_ok-run_block-in-Some.field-0) c.run_block.new.world)) d c.in_ok-run_block-in-Some.ensures.gives) in let j : Junction c.in-Junction.j ≡ (trans_seen c.in-Some.t.now).dest = sym c.in-Junction.is in leads_fault (chart_of c.args.chart.now) c.args.bounds (life_seen c.args.life) (now_of c.args.now) c.loop-places.places.items c.loop-places.world (list_seen c.args.list.now) c.args.world.now (trans_seen c.in-Some.t.now) (list_seen c.in-Some.others.now) l x _ (search_goes (chart_of c.args.chart.now) c.args.bounds (now_of c.args.now) (life_seen c.args.life) (trans_seen c.in-Some.t.now) (list_seen c.in-Some.others.now) c.loop-places.world c.run_block.new.world (Junction c.in-Junction.j) _ e g j (dest_fault (chart_of c.args.chart.now) c.args.bounds (now_of c.args.now) (life_seen c.args.life) (trans_seen c.in-Some.t.now).action (list_seen c.in-Some.others.now) c.in-Junction.j c.run_block.new.world _ x h))) c.in_err-pay-in-Junction.ensures.does)
+    let chart = chart_of c.args.chart.now in
+    let now = now_of c.args.now in
+    let life = life_seen c.args.life in
+    let p =
+    err_from_is_err_and c.from_residual-in_err-pay-in-Junction.result
+    c.from_residual-in_err-pay-in-Junction.ensures.1 in
+    rw (p.1, p.2) (err_does {A = Unit {0}} (λ _. tt) found_of _
+    (λ n. (upto chart c.args.bounds n).search life (list_seen c.args.list.now) now c.args.world.now) _ _
+    (λ x h.
+    let fr : c.loop-places.rest.now ≡ c.in-Some.t.now ∷ c.in-Some.others.now = c.in-Some.ensures.cases.0 in
+    let l : Leads chart c.args.bounds life now c.loop-places.places.items
+    (trans_seen c.in-Some.t.now ∷ list_seen c.in-Some.others.now) c.loop-places.world (list_seen c.args.list.now)
+    c.args.world.now =
+    subst (λ xs. Leads chart c.args.bounds life now c.loop-places.places.items (list_seen xs) c.loop-places.world
+    (list_seen c.args.list.now) c.args.world.now) fr c.loop-places.invariant.leads in
+    let e : is_enabled (trans_seen c.in-Some.t.now) now c.loop-places.world ≡ Ended true c.loop-places.world =
+    c.in_ok-enabled-in-Some.ensures ∙ ap (λ z. Ended z c.loop-places.world) c.if-branch.true in
+    let d : block_seen c.items.result.now ≡ (trans_seen c.in-Some.t.now).condition = ap block_seen c.items.ensures in
+    let g : Settled
+    (λ n. (upto chart c.args.bounds n).block life (trans_seen c.in-Some.t.now).condition now c.loop-places.world)
+    (Ended Done c.run_block.new.world) =
+    ended_as end_of _ _ c.in-Done.is (subst (λ s. Settled
+    (λ n. (upto chart c.args.bounds n).block life s now c.loop-places.world)
+    (Ended (end_of c.in_ok-run_block-in-Some.field-0) c.run_block.new.world)) d
+    c.in_ok-run_block-in-Some.ensures.gives) in
+    let j : Junction c.in-Junction.j ≡ (trans_seen c.in-Some.t.now).dest = sym c.in-Junction.is in
+    leads_fault chart c.args.bounds life now c.loop-places.places.items c.loop-places.world (list_seen c.args.list.now)
+    c.args.world.now (trans_seen c.in-Some.t.now) (list_seen c.in-Some.others.now) l x _
+    (search_goes chart c.args.bounds now life (trans_seen c.in-Some.t.now) (list_seen c.in-Some.others.now)
+    c.loop-places.world c.run_block.new.world (Junction c.in-Junction.j) _ e g j
+    (dest_fault chart c.args.bounds now life (trans_seen c.in-Some.t.now).action (list_seen c.in-Some.others.now)
+    c.in-Junction.j c.run_block.new.world _ x h))) c.in_err-pay-in-Junction.ensures.does)
 
 pub search-returns-then-is_empty-clause-gives : goal.search-returns-then-is_empty-clause-gives
-search-returns-then-is_empty-clause-gives t c = let fr : c.loop-places.rest.now ≡ c.in-Some.t.now ∷ c.in-Some.others.now = c.in-Some.ensures.cases.0 in let l : Leads (chart_of c.args.chart.now) c.args.bounds (life_seen c.args.life) (now_of c.args.now) c.loop-places.places.items (trans_seen c.in-Some.t.now ∷ list_seen c.in-Some.others.now) c.loop-places.world (list_seen c.args.list.now) c.args.world.now = subst (λ xs. Leads (chart_of c.args.chart.now) c.args.bounds (life_seen c.args.life) (now_of c.args.now) c.loop-places.places.items (list_seen xs) c.loop-places.world (list_seen c.args.list.now) c.args.world.now) fr c.loop-places.invariant.leads in let e : is_enabled (trans_seen c.in-Some.t.now) (now_of c.args.now) c.loop-places.world ≡ Ended true c.loop-places.world = c.in_ok-enabled-in-Some.ensures ∙ ap (λ z. Ended z c.loop-places.world) c.if-branch.true in let d : block_seen c.items.result.now ≡ (trans_seen c.in-Some.t.now).condition = ap block_seen c.items.ensures in let g : Settled (λ n. (upto (chart_of c.args.chart.now) c.args.bounds n).block (life_seen c.args.life) (trans_seen c.in-Some.t.now).condition (now_of c.args.now) c.loop-places.world) (Ended Done c.run_block.new.world) = ended_as end_of _ _ c.in-Done.is (subst (λ s. Settled (λ n. (upto (chart_of c.args.chart.now) c.args.bounds n).block (life_seen c.args.life) s (now_of c.args.now) c.loop-places.world) (Ended (end_of c.in_ok-run_block-in-Some.field-0) c.run_block.new.world)) d c.in_ok-run_block-in-Some.ensures.gives) in let j : Junction c.in-Junction.j ≡ (trans_seen c.in-Some.t.now).dest = sym c.in-Junction.is in let z : [] ≡ junction (chart_of c.args.chart.now) c.in-Junction.j = sym (ap list_seen (empty_is c.junction-next.result.now (grind (arith, nat_tests)))) ∙ c.junction-next.ensures.list in leads_dead_end (chart_of c.args.chart.now) c.args.bounds (life_seen c.args.life) (now_of c.args.now) c.loop-places.places.items c.loop-places.world (list_seen c.args.list.now) c.args.world.now (trans_seen c.in-Some.t.now) (list_seen c.in-Some.others.now) l _ (search_goes (chart_of c.args.chart.now) c.args.bounds (now_of c.args.now) (life_seen c.args.life) (trans_seen c.in-Some.t.now) (list_seen c.in-Some.others.now) c.loop-places.world c.run_block.new.world (Junction c.in-Junction.j) _ e g j (dest_dead_end (chart_of c.args.chart.now) c.args.bounds (now_of c.args.now) (life_seen c.args.life) (trans_seen c.in-Some.t.now).action (list_seen c.in-Some.others.now) c.in-Junction.j c.run_block.new.world _ c.in_ok-pay-in-Junction.ensures.does z))
+search-returns-then-is_empty-clause-gives t c =
+    let chart = chart_of c.args.chart.now in
+    let now = now_of c.args.now in
+    let life = life_seen c.args.life in
+    let fr : c.loop-places.rest.now ≡ c.in-Some.t.now ∷ c.in-Some.others.now = c.in-Some.ensures.cases.0 in
+    let l : Leads chart c.args.bounds life now c.loop-places.places.items
+    (trans_seen c.in-Some.t.now ∷ list_seen c.in-Some.others.now) c.loop-places.world (list_seen c.args.list.now)
+    c.args.world.now =
+    subst (λ xs. Leads chart c.args.bounds life now c.loop-places.places.items (list_seen xs) c.loop-places.world
+    (list_seen c.args.list.now) c.args.world.now) fr c.loop-places.invariant.leads in
+    let e : is_enabled (trans_seen c.in-Some.t.now) now c.loop-places.world ≡ Ended true c.loop-places.world =
+    c.in_ok-enabled-in-Some.ensures ∙ ap (λ z. Ended z c.loop-places.world) c.if-branch.true in
+    let d : block_seen c.items.result.now ≡ (trans_seen c.in-Some.t.now).condition = ap block_seen c.items.ensures in
+    let g : Settled
+    (λ n. (upto chart c.args.bounds n).block life (trans_seen c.in-Some.t.now).condition now c.loop-places.world)
+    (Ended Done c.run_block.new.world) =
+    ended_as end_of _ _ c.in-Done.is (subst (λ s. Settled
+    (λ n. (upto chart c.args.bounds n).block life s now c.loop-places.world)
+    (Ended (end_of c.in_ok-run_block-in-Some.field-0) c.run_block.new.world)) d
+    c.in_ok-run_block-in-Some.ensures.gives) in
+    let j : Junction c.in-Junction.j ≡ (trans_seen c.in-Some.t.now).dest = sym c.in-Junction.is in
+    let z : [] ≡ junction chart c.in-Junction.j =
+    sym (ap list_seen (empty_is c.junction-next.result.now (grind (arith, nat_tests))))
+    ∙ c.junction-next.ensures.list in
+    leads_dead_end chart c.args.bounds life now c.loop-places.places.items c.loop-places.world
+    (list_seen c.args.list.now) c.args.world.now (trans_seen c.in-Some.t.now) (list_seen c.in-Some.others.now) l _
+    (search_goes chart c.args.bounds now life (trans_seen c.in-Some.t.now) (list_seen c.in-Some.others.now)
+    c.loop-places.world c.run_block.new.world (Junction c.in-Junction.j) _ e g j
+    (dest_dead_end chart c.args.bounds now life (trans_seen c.in-Some.t.now).action (list_seen c.in-Some.others.now)
+    c.in-Junction.j c.run_block.new.world _ c.in_ok-pay-in-Junction.ensures.does z))
 
 pub search-loop-places-smaller-in-Junction : goal.search-loop-places-smaller-in-Junction
-search-loop-places-smaller-in-Junction t c = let fr : c.loop-places.rest.now ≡ c.in-Some.t.now ∷ c.in-Some.others.now = c.in-Some.ensures.cases.0 in let l : Leads (chart_of c.args.chart.now) c.args.bounds (life_seen c.args.life) (now_of c.args.now) c.loop-places.places.items (trans_seen c.in-Some.t.now ∷ list_seen c.in-Some.others.now) c.loop-places.world (list_seen c.args.list.now) c.args.world.now = subst (λ xs. Leads (chart_of c.args.chart.now) c.args.bounds (life_seen c.args.life) (now_of c.args.now) c.loop-places.places.items (list_seen xs) c.loop-places.world (list_seen c.args.list.now) c.args.world.now) fr c.loop-places.invariant.leads in let e : is_enabled (trans_seen c.in-Some.t.now) (now_of c.args.now) c.loop-places.world ≡ Ended true c.loop-places.world = c.in_ok-enabled-in-Some.ensures ∙ ap (λ z. Ended z c.loop-places.world) c.if-branch.true in let d : block_seen c.items.result.now ≡ (trans_seen c.in-Some.t.now).condition = ap block_seen c.items.ensures in let g : Settled (λ n. (upto (chart_of c.args.chart.now) c.args.bounds n).block (life_seen c.args.life) (trans_seen c.in-Some.t.now).condition (now_of c.args.now) c.loop-places.world) (Ended Done c.run_block.new.world) = ended_as end_of _ _ c.in-Done.is (subst (λ s. Settled (λ n. (upto (chart_of c.args.chart.now) c.args.bounds n).block (life_seen c.args.life) s (now_of c.args.now) c.loop-places.world) (Ended (end_of c.in_ok-run_block-in-Some.field-0) c.run_block.new.world)) d c.in_ok-run_block-in-Some.ensures.gives) in let p = pay_done c.args.bounds c.run_block.new.world _ c.in_ok-pay-in-Junction.ensures.does in visit_falls c.args.bounds.steps c.loop-places.world.used c.run_block.new.world.used _ _ (length c.in-Some.others.now) _ _ _ (block_uses (chart_of c.args.chart.now) c.junction-next.ensures.tree c.args.bounds (life_seen c.args.life) (trans_seen c.in-Some.t.now).condition (now_of c.args.now) c.loop-places.world c.run_block.new.world Done g) p.0 p.1 (omega (arith, c.in-Some.ensures.cases.1)) c.junction-next.ensures.short (sum_pushed (λ p. length p.rest.now + 1) _ c.loop-places.places.items (record { rest = c.in-Some.others; action = c.items-in-Junction.result }) c.in_ok-push_place-in-Junction.ensures.ok)
+search-loop-places-smaller-in-Junction t c =
+    let chart = chart_of c.args.chart.now in
+    let now = now_of c.args.now in
+    let life = life_seen c.args.life in
+    let fr : c.loop-places.rest.now ≡ c.in-Some.t.now ∷ c.in-Some.others.now = c.in-Some.ensures.cases.0 in
+    let l : Leads chart c.args.bounds life now c.loop-places.places.items
+    (trans_seen c.in-Some.t.now ∷ list_seen c.in-Some.others.now) c.loop-places.world (list_seen c.args.list.now)
+    c.args.world.now =
+    subst (λ xs. Leads chart c.args.bounds life now c.loop-places.places.items (list_seen xs) c.loop-places.world
+    (list_seen c.args.list.now) c.args.world.now) fr c.loop-places.invariant.leads in
+    let e : is_enabled (trans_seen c.in-Some.t.now) now c.loop-places.world ≡ Ended true c.loop-places.world =
+    c.in_ok-enabled-in-Some.ensures ∙ ap (λ z. Ended z c.loop-places.world) c.if-branch.true in
+    let d : block_seen c.items.result.now ≡ (trans_seen c.in-Some.t.now).condition = ap block_seen c.items.ensures in
+    let g : Settled
+    (λ n. (upto chart c.args.bounds n).block life (trans_seen c.in-Some.t.now).condition now c.loop-places.world)
+    (Ended Done c.run_block.new.world) =
+    ended_as end_of _ _ c.in-Done.is (subst (λ s. Settled
+    (λ n. (upto chart c.args.bounds n).block life s now c.loop-places.world)
+    (Ended (end_of c.in_ok-run_block-in-Some.field-0) c.run_block.new.world)) d
+    c.in_ok-run_block-in-Some.ensures.gives) in
+    let p = pay_done c.args.bounds c.run_block.new.world _ c.in_ok-pay-in-Junction.ensures.does in
+    visit_falls c.args.bounds.steps c.loop-places.world.used c.run_block.new.world.used _ _
+    (length c.in-Some.others.now) _ _ _ (block_uses chart c.junction-next.ensures.tree c.args.bounds life
+    (trans_seen c.in-Some.t.now).condition now c.loop-places.world c.run_block.new.world Done g) p.0 p.1
+    (omega (arith, c.in-Some.ensures.cases.1)) c.junction-next.ensures.short
+    (sum_pushed (λ p. length p.rest.now + 1) _ c.loop-places.places.items
+    (record { rest = c.in-Some.others; action = c.items-in-Junction.result }) c.in_ok-push_place-in-Junction.ensures.ok)
 
 pub search-loop-places-preserved-in-Junction : goal.search-loop-places-preserved-in-Junction
-search-loop-places-preserved-in-Junction t c = let fr : c.loop-places.rest.now ≡ c.in-Some.t.now ∷ c.in-Some.others.now = c.in-Some.ensures.cases.0 in let l : Leads (chart_of c.args.chart.now) c.args.bounds (life_seen c.args.life) (now_of c.args.now) c.loop-places.places.items (trans_seen c.in-Some.t.now ∷ list_seen c.in-Some.others.now) c.loop-places.world (list_seen c.args.list.now) c.args.world.now = subst (λ xs. Leads (chart_of c.args.chart.now) c.args.bounds (life_seen c.args.life) (now_of c.args.now) c.loop-places.places.items (list_seen xs) c.loop-places.world (list_seen c.args.list.now) c.args.world.now) fr c.loop-places.invariant.leads in let e : is_enabled (trans_seen c.in-Some.t.now) (now_of c.args.now) c.loop-places.world ≡ Ended true c.loop-places.world = c.in_ok-enabled-in-Some.ensures ∙ ap (λ z. Ended z c.loop-places.world) c.if-branch.true in let d : block_seen c.items.result.now ≡ (trans_seen c.in-Some.t.now).condition = ap block_seen c.items.ensures in let g : Settled (λ n. (upto (chart_of c.args.chart.now) c.args.bounds n).block (life_seen c.args.life) (trans_seen c.in-Some.t.now).condition (now_of c.args.now) c.loop-places.world) (Ended Done c.run_block.new.world) = ended_as end_of _ _ c.in-Done.is (subst (λ s. Settled (λ n. (upto (chart_of c.args.chart.now) c.args.bounds n).block (life_seen c.args.life) s (now_of c.args.now) c.loop-places.world) (Ended (end_of c.in_ok-run_block-in-Some.field-0) c.run_block.new.world)) d c.in_ok-run_block-in-Some.ensures.gives) in let j : Junction c.in-Junction.j ≡ (trans_seen c.in-Some.t.now).dest = sym c.in-Junction.is in let tr : IsTrans (chart_of c.args.chart.now) (trans_seen c.in-Some.t.now) = (subst (λ xs. AreTrans (chart_of c.args.chart.now) (list_seen xs)) fr c.loop-places.invariant.rest).0 in let some : list_seen c.junction-next.result.now ≡ [] → ⊥ = λ z. not_empty trans_seen c.junction-next.result.now (grind (arith, nat_tests)) z in record { leads = subst (λ ps. Leads (chart_of c.args.chart.now) c.args.bounds (life_seen c.args.life) (now_of c.args.now) ps (list_seen c.junction-next.result.now) c.pay.new.self (list_seen c.args.list.now) c.args.world.now) (sym c.in_ok-push_place-in-Junction.ensures.ok) (leads_push (chart_of c.args.chart.now) c.args.bounds (life_seen c.args.life) (now_of c.args.now) c.loop-places.places.items c.loop-places.world (list_seen c.args.list.now) c.args.world.now (trans_seen c.in-Some.t.now) (list_seen c.in-Some.others.now) l (record { rest = c.in-Some.others; action = c.items-in-Junction.result }) c.in-Junction.j _ c.run_block.new.world _ refl (ap block_seen c.items-in-Junction.ensures) e g j c.in_ok-pay-in-Junction.ensures.does c.junction-next.ensures.list some); fits = c.pay.ensures.fits; rest = c.junction-next.ensures.valid; rests = subst (λ ps. AllByRecursion (λ p. AreTrans (chart_of c.args.chart.now) (list_seen p.rest.now)) ps) (sym c.in_ok-push_place-in-Junction.ensures.ok) (all_more (λ p. AreTrans (chart_of c.args.chart.now) (list_seen p.rest.now)) c.loop-places.places.items (record { rest = c.in-Some.others; action = c.items-in-Junction.result }) c.loop-places.invariant.rests (subst (λ xs. AreTrans (chart_of c.args.chart.now) (list_seen xs)) fr c.loop-places.invariant.rest).1); actions = subst (λ ps. AllByRecursion (λ p. AreStmts (chart_of c.args.chart.now) (block_seen p.action.now)) ps) (sym c.in_ok-push_place-in-Junction.ensures.ok) (all_more (λ p. AreStmts (chart_of c.args.chart.now) (block_seen p.action.now)) c.loop-places.places.items (record { rest = c.in-Some.others; action = c.items-in-Junction.result }) c.loop-places.invariant.actions (subst (AreStmts (chart_of c.args.chart.now)) (sym (ap block_seen c.items-in-Junction.ensures)) tr.action.stmts)) }
+search-loop-places-preserved-in-Junction t c =
+    let chart = chart_of c.args.chart.now in
+    let now = now_of c.args.now in
+    let life = life_seen c.args.life in
+    let fr : c.loop-places.rest.now ≡ c.in-Some.t.now ∷ c.in-Some.others.now = c.in-Some.ensures.cases.0 in
+    let l : Leads chart c.args.bounds life now c.loop-places.places.items
+    (trans_seen c.in-Some.t.now ∷ list_seen c.in-Some.others.now) c.loop-places.world (list_seen c.args.list.now)
+    c.args.world.now =
+    subst (λ xs. Leads chart c.args.bounds life now c.loop-places.places.items (list_seen xs) c.loop-places.world
+    (list_seen c.args.list.now) c.args.world.now) fr c.loop-places.invariant.leads in
+    let e : is_enabled (trans_seen c.in-Some.t.now) now c.loop-places.world ≡ Ended true c.loop-places.world =
+    c.in_ok-enabled-in-Some.ensures ∙ ap (λ z. Ended z c.loop-places.world) c.if-branch.true in
+    let d : block_seen c.items.result.now ≡ (trans_seen c.in-Some.t.now).condition = ap block_seen c.items.ensures in
+    let g : Settled
+    (λ n. (upto chart c.args.bounds n).block life (trans_seen c.in-Some.t.now).condition now c.loop-places.world)
+    (Ended Done c.run_block.new.world) =
+    ended_as end_of _ _ c.in-Done.is (subst (λ s. Settled
+    (λ n. (upto chart c.args.bounds n).block life s now c.loop-places.world)
+    (Ended (end_of c.in_ok-run_block-in-Some.field-0) c.run_block.new.world)) d
+    c.in_ok-run_block-in-Some.ensures.gives) in
+    let j : Junction c.in-Junction.j ≡ (trans_seen c.in-Some.t.now).dest = sym c.in-Junction.is in
+    let tr : IsTrans chart (trans_seen c.in-Some.t.now) =
+    (subst (λ xs. AreTrans chart (list_seen xs)) fr c.loop-places.invariant.rest).0 in
+    let some : list_seen c.junction-next.result.now ≡ [] → ⊥ = λ z.
+    not_empty trans_seen c.junction-next.result.now (grind (arith, nat_tests)) z in
+    record {
+      leads =
+          subst (λ ps. Leads chart c.args.bounds life now ps (list_seen c.junction-next.result.now) c.pay.new.self
+          (list_seen c.args.list.now) c.args.world.now)
+          (sym c.in_ok-push_place-in-Junction.ensures.ok) (leads_push chart c.args.bounds life now
+          c.loop-places.places.items c.loop-places.world (list_seen c.args.list.now) c.args.world.now
+          (trans_seen c.in-Some.t.now) (list_seen c.in-Some.others.now) l
+          (record { rest = c.in-Some.others; action = c.items-in-Junction.result }) c.in-Junction.j _
+          c.run_block.new.world _ refl (ap block_seen c.items-in-Junction.ensures) e g j
+          c.in_ok-pay-in-Junction.ensures.does c.junction-next.ensures.list some);
+      fits = c.pay.ensures.fits;
+      rest = c.junction-next.ensures.valid;
+      rests =
+          subst (λ ps. AllByRecursion (λ p. AreTrans chart (list_seen p.rest.now)) ps)
+          (sym c.in_ok-push_place-in-Junction.ensures.ok) (all_more (λ p. AreTrans chart (list_seen p.rest.now))
+          c.loop-places.places.items (record { rest = c.in-Some.others; action = c.items-in-Junction.result })
+          c.loop-places.invariant.rests
+          (subst (λ xs. AreTrans chart (list_seen xs)) fr c.loop-places.invariant.rest).1);
+      actions =
+          subst (λ ps. AllByRecursion (λ p. AreStmts chart (block_seen p.action.now)) ps)
+          (sym c.in_ok-push_place-in-Junction.ensures.ok) (all_more (λ p. AreStmts chart (block_seen p.action.now))
+          c.loop-places.places.items (record { rest = c.in-Some.others; action = c.items-in-Junction.result })
+          c.loop-places.invariant.actions
+          (subst (AreStmts chart) (sym (ap block_seen c.items-in-Junction.ensures)) tr.action.stmts));
+    }
 
 pub search-loop-places-preserved : goal.search-loop-places-preserved
-search-loop-places-preserved t c = let fr : c.loop-places.rest.now ≡ c.in-Some.t.now ∷ c.in-Some.others.now = c.in-Some.ensures.cases.0 in let l : Leads (chart_of c.args.chart.now) c.args.bounds (life_seen c.args.life) (now_of c.args.now) c.loop-places.places.items (trans_seen c.in-Some.t.now ∷ list_seen c.in-Some.others.now) c.loop-places.world (list_seen c.args.list.now) c.args.world.now = subst (λ xs. Leads (chart_of c.args.chart.now) c.args.bounds (life_seen c.args.life) (now_of c.args.now) c.loop-places.places.items (list_seen xs) c.loop-places.world (list_seen c.args.list.now) c.args.world.now) fr c.loop-places.invariant.leads in let e : is_enabled (trans_seen c.in-Some.t.now) (now_of c.args.now) c.loop-places.world ≡ Ended false c.loop-places.world = c.in_ok-enabled-in-Some.ensures ∙ ap (λ z. Ended z c.loop-places.world) c.if-branch.false in record { leads = leads_skip (chart_of c.args.chart.now) c.args.bounds (life_seen c.args.life) (now_of c.args.now) c.loop-places.places.items c.loop-places.world (list_seen c.args.list.now) c.args.world.now (trans_seen c.in-Some.t.now) (list_seen c.in-Some.others.now) l e; fits = c.loop-places.invariant.fits; rest = (subst (λ xs. AreTrans (chart_of c.args.chart.now) (list_seen xs)) fr c.loop-places.invariant.rest).1; rests = c.loop-places.invariant.rests; actions = c.loop-places.invariant.actions }
+search-loop-places-preserved t c =
+    let chart = chart_of c.args.chart.now in
+    let now = now_of c.args.now in
+    let life = life_seen c.args.life in
+    let fr : c.loop-places.rest.now ≡ c.in-Some.t.now ∷ c.in-Some.others.now = c.in-Some.ensures.cases.0 in
+    let l : Leads chart c.args.bounds life now c.loop-places.places.items
+    (trans_seen c.in-Some.t.now ∷ list_seen c.in-Some.others.now) c.loop-places.world (list_seen c.args.list.now)
+    c.args.world.now =
+    subst (λ xs. Leads chart c.args.bounds life now c.loop-places.places.items (list_seen xs) c.loop-places.world
+    (list_seen c.args.list.now) c.args.world.now) fr c.loop-places.invariant.leads in
+    let e : is_enabled (trans_seen c.in-Some.t.now) now c.loop-places.world ≡ Ended false c.loop-places.world =
+    c.in_ok-enabled-in-Some.ensures ∙ ap (λ z. Ended z c.loop-places.world) c.if-branch.false in
+    record {
+      leads =
+          leads_skip chart c.args.bounds life now c.loop-places.places.items c.loop-places.world
+          (list_seen c.args.list.now) c.args.world.now (trans_seen c.in-Some.t.now) (list_seen c.in-Some.others.now) l
+          e;
+      fits = c.loop-places.invariant.fits;
+      rest = (subst (λ xs. AreTrans chart (list_seen xs)) fr c.loop-places.invariant.rest).1;
+      rests = c.loop-places.invariant.rests;
+      actions = c.loop-places.invariant.actions;
+    }
 
 pub process_all-loop-next-preserved-then-not-on : goal.process_all-loop-next-preserved-then-not-on
-process_all-loop-next-preserved-then-not-on t c = let off : is_on c.in-Some.x c.loop-next.world.marks ≡ false = cc in record { goes = each_turn_off (chart_of c.args.chart.now) c.args.bounds (now_of c.args.now) c.args.s c.loop-next.next c.loop-next.world (λ n. (upto (chart_of c.args.chart.now) c.args.bounds n).process_each (children_of (chart_of c.args.chart.now).tree c.args.s) (now_of c.args.now) c.args.world.now) c.loop-next.invariant.goes c.in-Some.x c.in-Some.is c.loop-next.invariant.stands _ c.next_sibling-next.ensures.sibling off; stands = stands_next (chart_of c.args.chart.now).tree c.next_sibling-next.ensures.tree c.args.s c.in-Some.x _ _ c.in-Some.is c.loop-next.invariant.stands c.next_sibling-next.ensures.sibling; fits = c.loop-next.invariant.fits }
+process_all-loop-next-preserved-then-not-on t c =
+    let chart = chart_of c.args.chart.now in
+    let now = now_of c.args.now in
+    let off : is_on c.in-Some.x c.loop-next.world.marks ≡ false = cc in
+    record {
+      goes =
+          each_turn_off chart c.args.bounds now c.args.s c.loop-next.next c.loop-next.world
+          (λ n. (upto chart c.args.bounds n).process_each (children_of chart.tree c.args.s) now c.args.world.now)
+          c.loop-next.invariant.goes c.in-Some.x c.in-Some.is c.loop-next.invariant.stands _
+          c.next_sibling-next.ensures.sibling off;
+      stands =
+          stands_next chart.tree c.next_sibling-next.ensures.tree c.args.s c.in-Some.x _ _ c.in-Some.is
+          c.loop-next.invariant.stands c.next_sibling-next.ensures.sibling;
+      fits = c.loop-next.invariant.fits;
+    }
 
 pub process_all-loop-next-preserved : goal.process_all-loop-next-preserved
-process_all-loop-next-preserved t c = let on : is_on c.in-Some.x c.loop-next.world.marks ≡ true = cc in record { goes = each_turn (chart_of c.args.chart.now) c.args.bounds (now_of c.args.now) c.args.s c.loop-next.next c.loop-next.world (λ n. (upto (chart_of c.args.chart.now) c.args.bounds n).process_each (children_of (chart_of c.args.chart.now).tree c.args.s) (now_of c.args.now) c.args.world.now) c.loop-next.invariant.goes c.in-Some.x c.in-Some.is c.loop-next.invariant.stands on _ _ c.next_sibling-next.ensures.sibling (ended_as went_of _ _ c.in-Stay.is c.in_ok-process.ensures.gives); stands = stands_next (chart_of c.args.chart.now).tree c.next_sibling-next.ensures.tree c.args.s c.in-Some.x _ _ c.in-Some.is c.loop-next.invariant.stands c.next_sibling-next.ensures.sibling; fits = c.process.ensures.fits }
+process_all-loop-next-preserved t c =
+    let chart = chart_of c.args.chart.now in
+    let now = now_of c.args.now in
+    let on : is_on c.in-Some.x c.loop-next.world.marks ≡ true = cc in
+    record {
+      goes =
+          each_turn chart c.args.bounds now c.args.s c.loop-next.next c.loop-next.world
+          (λ n. (upto chart c.args.bounds n).process_each (children_of chart.tree c.args.s) now c.args.world.now)
+          c.loop-next.invariant.goes c.in-Some.x c.in-Some.is c.loop-next.invariant.stands on _ _
+          c.next_sibling-next.ensures.sibling (ended_as went_of _ _ c.in-Stay.is c.in_ok-process.ensures.gives);
+      stands =
+          stands_next chart.tree c.next_sibling-next.ensures.tree c.args.s c.in-Some.x _ _ c.in-Some.is
+          c.loop-next.invariant.stands c.next_sibling-next.ensures.sibling;
+      fits = c.process.ensures.fits;
+    }
 
 pub process_all-loop-next-smaller-then-not-on : goal.process_all-loop-next-smaller-then-not-on
-process_all-loop-next-smaller-then-not-on t c = ahead_falls (chart_of c.args.chart.now).tree c.in-Some.x _ _ c.in-Some.is (c.loop-next.invariant.stands.child c.in-Some.x c.in-Some.is).within c.next_sibling-next.ensures.after
+process_all-loop-next-smaller-then-not-on t c =
+    ahead_falls (chart_of c.args.chart.now).tree c.in-Some.x _ _ c.in-Some.is
+    (c.loop-next.invariant.stands.child c.in-Some.x c.in-Some.is).within c.next_sibling-next.ensures.after
 
 pub search-returns-in-State-clause-gives : goal.search-returns-in-State-clause-gives
-search-returns-in-State-clause-gives t c = let fr : c.loop-places.rest.now ≡ c.in-Some.t.now ∷ c.in-Some.others.now = c.in-Some.ensures.cases.0 in let l : Leads (chart_of c.args.chart.now) c.args.bounds (life_seen c.args.life) (now_of c.args.now) c.loop-places.places.items (trans_seen c.in-Some.t.now ∷ list_seen c.in-Some.others.now) c.loop-places.world (list_seen c.args.list.now) c.args.world.now = subst (λ xs. Leads (chart_of c.args.chart.now) c.args.bounds (life_seen c.args.life) (now_of c.args.now) c.loop-places.places.items (list_seen xs) c.loop-places.world (list_seen c.args.list.now) c.args.world.now) fr c.loop-places.invariant.leads in let e : is_enabled (trans_seen c.in-Some.t.now) (now_of c.args.now) c.loop-places.world ≡ Ended true c.loop-places.world = c.in_ok-enabled-in-Some.ensures ∙ ap (λ z. Ended z c.loop-places.world) c.if-branch.true in let d : block_seen c.items.result.now ≡ (trans_seen c.in-Some.t.now).condition = ap block_seen c.items.ensures in let g : Settled (λ n. (upto (chart_of c.args.chart.now) c.args.bounds n).block (life_seen c.args.life) (trans_seen c.in-Some.t.now).condition (now_of c.args.now) c.loop-places.world) (Ended Done c.run_block.new.world) = ended_as end_of _ _ c.in-Done.is (subst (λ s. Settled (λ n. (upto (chart_of c.args.chart.now) c.args.bounds n).block (life_seen c.args.life) s (now_of c.args.now) c.loop-places.world) (Ended (end_of c.in_ok-run_block-in-Some.field-0) c.run_block.new.world)) d c.in_ok-run_block-in-Some.ensures.gives) in let j : State c.in-State.d ≡ (trans_seen c.in-Some.t.now).dest = sym c.in-State.is in subst (λ a. Settled (λ n. (upto (chart_of c.args.chart.now) c.args.bounds n).search (life_seen c.args.life) (list_seen c.args.list.now) (now_of c.args.now) c.args.world.now) (Ended (Fire c.in-State.d a) c.run_block.new.world)) (sym (c.in_ok-actions-in-State.ensures.ok ∙ ap (λ ps. map (λ p. block_seen p.action.now) ps ++ block_seen c.items-in-State.result.now ∷ []) c.deref.ensures.value ∙ ap (λ z. map (λ p. block_seen p.action.now) c.loop-places.places.items ++ z ∷ []) (ap block_seen c.items-in-State.ensures))) (leads_fire (chart_of c.args.chart.now) c.args.bounds (life_seen c.args.life) (now_of c.args.now) c.loop-places.places.items c.loop-places.world (list_seen c.args.list.now) c.args.world.now (trans_seen c.in-Some.t.now) (list_seen c.in-Some.others.now) l c.in-State.d c.run_block.new.world (search_goes (chart_of c.args.chart.now) c.args.bounds (now_of c.args.now) (life_seen c.args.life) (trans_seen c.in-Some.t.now) (list_seen c.in-Some.others.now) c.loop-places.world c.run_block.new.world (State c.in-State.d) _ e g j (dest_state (chart_of c.args.chart.now) c.args.bounds (now_of c.args.now) (life_seen c.args.life) (trans_seen c.in-Some.t.now).action (list_seen c.in-Some.others.now) c.in-State.d c.run_block.new.world)))
+search-returns-in-State-clause-gives t c =
+    let chart = chart_of c.args.chart.now in
+    let now = now_of c.args.now in
+    let life = life_seen c.args.life in
+    let fr : c.loop-places.rest.now ≡ c.in-Some.t.now ∷ c.in-Some.others.now = c.in-Some.ensures.cases.0 in
+    let l : Leads chart c.args.bounds life now c.loop-places.places.items
+    (trans_seen c.in-Some.t.now ∷ list_seen c.in-Some.others.now) c.loop-places.world (list_seen c.args.list.now)
+    c.args.world.now =
+    subst (λ xs. Leads chart c.args.bounds life now c.loop-places.places.items (list_seen xs) c.loop-places.world
+    (list_seen c.args.list.now) c.args.world.now) fr c.loop-places.invariant.leads in
+    let e : is_enabled (trans_seen c.in-Some.t.now) now c.loop-places.world ≡ Ended true c.loop-places.world =
+    c.in_ok-enabled-in-Some.ensures ∙ ap (λ z. Ended z c.loop-places.world) c.if-branch.true in
+    let d : block_seen c.items.result.now ≡ (trans_seen c.in-Some.t.now).condition = ap block_seen c.items.ensures in
+    let g : Settled
+    (λ n. (upto chart c.args.bounds n).block life (trans_seen c.in-Some.t.now).condition now c.loop-places.world)
+    (Ended Done c.run_block.new.world) =
+    ended_as end_of _ _ c.in-Done.is (subst (λ s. Settled
+    (λ n. (upto chart c.args.bounds n).block life s now c.loop-places.world)
+    (Ended (end_of c.in_ok-run_block-in-Some.field-0) c.run_block.new.world)) d
+    c.in_ok-run_block-in-Some.ensures.gives) in
+    let j : State c.in-State.d ≡ (trans_seen c.in-Some.t.now).dest = sym c.in-State.is in
+    subst (λ a. Settled (λ n. (upto chart c.args.bounds n).search life (list_seen c.args.list.now) now c.args.world.now)
+    (Ended (Fire c.in-State.d a) c.run_block.new.world))
+    (sym (c.in_ok-actions-in-State.ensures.ok
+    ∙ ap (λ ps. map (λ p. block_seen p.action.now) ps ++ block_seen c.items-in-State.result.now ∷ [])
+    c.deref.ensures.value
+    ∙ ap (λ z. map (λ p. block_seen p.action.now) c.loop-places.places.items ++ z ∷ [])
+    (ap block_seen c.items-in-State.ensures)))
+    (leads_fire chart c.args.bounds life now c.loop-places.places.items c.loop-places.world (list_seen c.args.list.now)
+    c.args.world.now (trans_seen c.in-Some.t.now) (list_seen c.in-Some.others.now) l c.in-State.d c.run_block.new.world
+    (search_goes chart c.args.bounds now life (trans_seen c.in-Some.t.now) (list_seen c.in-Some.others.now)
+    c.loop-places.world c.run_block.new.world (State c.in-State.d) _ e g j
+    (dest_state chart c.args.bounds now life (trans_seen c.in-Some.t.now).action (list_seen c.in-Some.others.now)
+    c.in-State.d c.run_block.new.world)))
 
 pub defaults-returns-in-Some-clause-gives : goal.defaults-returns-in-Some-clause-gives
 defaults-returns-in-Some-clause-gives t c =
-    let m = chart_of c.args.chart.now in
-    passed {A = Unit {0}} (λ _. tt) _ (λ n. (upto m c.args.bounds n).defaults c.args.s (now_of c.args.now) c.args.world.now) _ _
-    (λ q h. defaults_return m c.args.bounds (now_of c.args.now) c.args.s c.in-Some.x c.args.world.now q c.in-Some.ensures.child h) c.enter.ensures.gives
+    let chart = chart_of c.args.chart.now in
+    let now = now_of c.args.now in
+    passed {A = Unit {0}} (λ _. tt) _ (λ n. (upto chart c.args.bounds n).defaults c.args.s now c.args.world.now) _ _
+    (λ q h. defaults_return chart c.args.bounds now c.args.s c.in-Some.x c.args.world.now q c.in-Some.ensures.child h)
+    c.enter.ensures.gives
 
 pub defaults-returns-in-None-clause-gives : goal.defaults-returns-in-None-clause-gives
 defaults-returns-in-None-clause-gives t c =
-    let m = chart_of c.args.chart.now in
-    passed {A = Unit {0}} (λ _. tt) _ (λ n. (upto m c.args.bounds n).defaults c.args.s (now_of c.args.now) c.args.world.now) _ _
-    (λ q h. defaults_search m c.args.bounds (now_of c.args.now) c.args.s c.args.world.now q c.in-None.ensures.child h) c.default_search.ensures.gives
+    let chart = chart_of c.args.chart.now in
+    let now = now_of c.args.now in
+    passed {A = Unit {0}} (λ _. tt) _ (λ n. (upto chart c.args.bounds n).defaults c.args.s now c.args.world.now) _ _
+    (λ q h. defaults_search chart c.args.bounds now c.args.s c.args.world.now q c.in-None.ensures.child h)
+    c.default_search.ensures.gives

@@ -29,92 +29,117 @@ abbrev pub decreases-play : goal.decreases-play
 decreases-play l = let n = state_count (chart_of l.chart.now).tree in rank_of (l.bounds.depth - l.now.depth) n (3)
 
 abbrev pub decreases-exit : goal.decreases-exit
-decreases-exit l = let n = state_count (chart_of l.chart.now).tree in rank_of (l.bounds.depth - l.now.depth) n (3 * (n - l.s) + 6)
+decreases-exit l =
+    let n = state_count (chart_of l.chart.now).tree in rank_of (l.bounds.depth - l.now.depth) n (3 * (n - l.s) + 6)
 
 abbrev pub decreases-exit_children : goal.decreases-exit_children
-decreases-exit_children l = let n = state_count (chart_of l.chart.now).tree in rank_of (l.bounds.depth - l.now.depth) n (3 * (n - l.s) + 5)
+decreases-exit_children l =
+    let n = state_count (chart_of l.chart.now).tree in rank_of (l.bounds.depth - l.now.depth) n (3 * (n - l.s) + 5)
 
 abbrev pub decreases-exit_active : goal.decreases-exit_active
-decreases-exit_active l = let n = state_count (chart_of l.chart.now).tree in rank_of (l.bounds.depth - l.now.depth) n (3 * (n - l.s) + 4)
+decreases-exit_active l =
+    let n = state_count (chart_of l.chart.now).tree in rank_of (l.bounds.depth - l.now.depth) n (3 * (n - l.s) + 4)
 
 abbrev pub decreases-exit_all : goal.decreases-exit_all
-decreases-exit_all l = let n = state_count (chart_of l.chart.now).tree in rank_of (l.bounds.depth - l.now.depth) n (3 * (n - l.s) + 4)
+decreases-exit_all l =
+    let n = state_count (chart_of l.chart.now).tree in rank_of (l.bounds.depth - l.now.depth) n (3 * (n - l.s) + 4)
 
 abbrev pub decreases-enter : goal.decreases-enter
-decreases-enter l = let n = state_count (chart_of l.chart.now).tree in rank_of (l.bounds.depth - l.now.depth) n (6 * (n - l.s) + 9)
+decreases-enter l =
+    let n = state_count (chart_of l.chart.now).tree in rank_of (l.bounds.depth - l.now.depth) n (6 * (n - l.s) + 9)
 
 abbrev pub decreases-enter_inside : goal.decreases-enter_inside
-decreases-enter_inside l = let n = state_count (chart_of l.chart.now).tree in rank_of (l.bounds.depth - l.now.depth) n (6 * (n - l.s) + 8)
+decreases-enter_inside l =
+    let n = state_count (chart_of l.chart.now).tree in rank_of (l.bounds.depth - l.now.depth) n (6 * (n - l.s) + 8)
 
 abbrev pub decreases-enter_toward : goal.decreases-enter_toward
-decreases-enter_toward l = let n = state_count (chart_of l.chart.now).tree in rank_of (l.bounds.depth - l.now.depth) n (6 * (n - l.s) + 7)
+decreases-enter_toward l =
+    let n = state_count (chart_of l.chart.now).tree in rank_of (l.bounds.depth - l.now.depth) n (6 * (n - l.s) + 7)
 
 abbrev pub decreases-enter_all : goal.decreases-enter_all
-decreases-enter_all l = let n = state_count (chart_of l.chart.now).tree in rank_of (l.bounds.depth - l.now.depth) n (6 * (n - l.s) + 7)
+decreases-enter_all l =
+    let n = state_count (chart_of l.chart.now).tree in rank_of (l.bounds.depth - l.now.depth) n (6 * (n - l.s) + 7)
 
 abbrev pub decreases-defaults : goal.decreases-defaults
-decreases-defaults l = let n = state_count (chart_of l.chart.now).tree in rank_of (l.bounds.depth - l.now.depth) n (6 * (n - l.s) + 6)
+decreases-defaults l =
+    let n = state_count (chart_of l.chart.now).tree in rank_of (l.bounds.depth - l.now.depth) n (6 * (n - l.s) + 6)
 
 abbrev pub decreases-default_search : goal.decreases-default_search
-decreases-default_search l = let n = state_count (chart_of l.chart.now).tree in rank_of (l.bounds.depth - l.now.depth) n (6 * (n - l.s) + 5)
+decreases-default_search l =
+    let n = state_count (chart_of l.chart.now).tree in rank_of (l.bounds.depth - l.now.depth) n (6 * (n - l.s) + 5)
 
 abbrev pub decreases-enter_child : goal.decreases-enter_child
-decreases-enter_child l = let n = state_count (chart_of l.chart.now).tree in rank_of (l.bounds.depth - l.now.depth) n (6 * (n - l.s) + 4)
+decreases-enter_child l =
+    let n = state_count (chart_of l.chart.now).tree in rank_of (l.bounds.depth - l.now.depth) n (6 * (n - l.s) + 4)
 
 abbrev pub decreases-take : goal.decreases-take
-decreases-take l = let n = state_count (chart_of l.chart.now).tree in rank_of (l.bounds.depth - l.now.depth) n (6 * n + 10)
+decreases-take l =
+    let n = state_count (chart_of l.chart.now).tree in rank_of (l.bounds.depth - l.now.depth) n (6 * n + 10)
 
 abbrev pub decreases-process : goal.decreases-process
-decreases-process l = let n = state_count (chart_of l.chart.now).tree in rank_of (l.bounds.depth - l.now.depth) n (6 * n + 4 * (n - l.s) + 14)
+decreases-process l =
+    let n = state_count (chart_of l.chart.now).tree in
+    rank_of (l.bounds.depth - l.now.depth) n (6 * n + 4 * (n - l.s) + 14)
 
 abbrev pub decreases-go_on_inside : goal.decreases-go_on_inside
-decreases-go_on_inside l = let n = state_count (chart_of l.chart.now).tree in rank_of (l.bounds.depth - l.now.depth) n (6 * n + 4 * (n - l.s) + 13)
+decreases-go_on_inside l =
+    let n = state_count (chart_of l.chart.now).tree in
+    rank_of (l.bounds.depth - l.now.depth) n (6 * n + 4 * (n - l.s) + 13)
 
 abbrev pub decreases-process_children : goal.decreases-process_children
-decreases-process_children l = let n = state_count (chart_of l.chart.now).tree in rank_of (l.bounds.depth - l.now.depth) n (6 * n + 4 * (n - l.s) + 12)
+decreases-process_children l =
+    let n = state_count (chart_of l.chart.now).tree in
+    rank_of (l.bounds.depth - l.now.depth) n (6 * n + 4 * (n - l.s) + 12)
 
 abbrev pub decreases-process_all : goal.decreases-process_all
-decreases-process_all l = let n = state_count (chart_of l.chart.now).tree in rank_of (l.bounds.depth - l.now.depth) n (6 * n + 4 * (n - l.s) + 11)
+decreases-process_all l =
+    let n = state_count (chart_of l.chart.now).tree in
+    rank_of (l.bounds.depth - l.now.depth) n (6 * n + 4 * (n - l.s) + 11)
 
 abbrev pub invariant-run_block-loop-stmt : goal.invariant-run_block-loop-stmt
 invariant-run_block-loop-stmt l = record {
-  goes : Continues
-      (λ n. (upto (chart_of l.chart) l.bounds n).block (life_seen l.life) (block_seen (drop l.stmt-index l.stmts)) (now_of l.now) l.world)
-      (λ n. (upto (chart_of l.chart) l.bounds n).block (life_seen l.life) (block_seen l.stmts) (now_of l.now) l.fn.world);
+  goes : Continues (λ n. (upto (chart_of l.chart) l.bounds n).block (life_seen l.life)
+      (block_seen (drop l.stmt-index l.stmts)) (now_of l.now) l.world)
+      (λ n.
+      (upto (chart_of l.chart) l.bounds n).block (life_seen l.life) (block_seen l.stmts) (now_of l.now) l.fn.world);
   fits : FitsChart (chart_of l.chart) l.world;
 }
 
 abbrev pub invariant-play-loop-action : goal.invariant-play-loop-action
 invariant-play-loop-action l = record {
-  goes : Continues
-      (λ n. (upto (chart_of l.chart) l.bounds n).play l.s (map (λ a. block_seen a.now) (drop l.action-index l.actions)) (now_of l.now) l.world)
-      (λ n. (upto (chart_of l.chart) l.bounds n).play l.s (map (λ a. block_seen a.now) l.actions) (now_of l.now) l.fn.world);
+  goes : Continues (λ n. (upto (chart_of l.chart) l.bounds n).play l.s
+      (map (λ a. block_seen a.now) (drop l.action-index l.actions)) (now_of l.now) l.world)
+      (λ n.
+      (upto (chart_of l.chart) l.bounds n).play l.s (map (λ a. block_seen a.now) l.actions) (now_of l.now) l.fn.world);
   fits : FitsChart (chart_of l.chart) l.world;
 }
 
 abbrev pub invariant-exit_all-loop-next : goal.invariant-exit_all-loop-next
 invariant-exit_all-loop-next l = record {
-  goes : Continues
-      (λ n. (upto (chart_of l.chart) l.bounds n).exit_each (children_back_from (chart_of l.chart).tree l.s l.next) (now_of l.now) l.world)
-      (λ n. (upto (chart_of l.chart) l.bounds n).exit_each (reverse (children_of (chart_of l.chart).tree l.s)) (now_of l.now) l.fn.world);
+  goes : Continues (λ n. (upto (chart_of l.chart) l.bounds n).exit_each
+      (children_back_from (chart_of l.chart).tree l.s l.next) (now_of l.now) l.world)
+      (λ n. (upto (chart_of l.chart) l.bounds n).exit_each (reverse (children_of (chart_of l.chart).tree l.s))
+      (now_of l.now) l.fn.world);
   stands : Stands (chart_of l.chart).tree l.s l.next;
   fits : FitsChart (chart_of l.chart) l.world;
 }
 
 abbrev pub invariant-enter_all-loop-next : goal.invariant-enter_all-loop-next
 invariant-enter_all-loop-next l = record {
-  goes : Continues
-      (λ n. (upto (chart_of l.chart) l.bounds n).enter_each (children_from (chart_of l.chart).tree l.s l.next) l.d (now_of l.now) l.world)
-      (λ n. (upto (chart_of l.chart) l.bounds n).enter_each (children_of (chart_of l.chart).tree l.s) l.d (now_of l.now) l.fn.world);
+  goes : Continues (λ n. (upto (chart_of l.chart) l.bounds n).enter_each
+      (children_from (chart_of l.chart).tree l.s l.next) l.d (now_of l.now) l.world)
+      (λ n. (upto (chart_of l.chart) l.bounds n).enter_each (children_of (chart_of l.chart).tree l.s) l.d (now_of l.now)
+      l.fn.world);
   stands : Stands (chart_of l.chart).tree l.s l.next;
   fits : FitsChart (chart_of l.chart) l.world;
 }
 
 abbrev pub invariant-process_all-loop-next : goal.invariant-process_all-loop-next
 invariant-process_all-loop-next l = record {
-  goes : Continues
-      (λ n. (upto (chart_of l.chart) l.bounds n).process_each (children_from (chart_of l.chart).tree l.s l.next) (now_of l.now) l.world)
-      (λ n. (upto (chart_of l.chart) l.bounds n).process_each (children_of (chart_of l.chart).tree l.s) (now_of l.now) l.fn.world);
+  goes : Continues (λ n. (upto (chart_of l.chart) l.bounds n).process_each
+      (children_from (chart_of l.chart).tree l.s l.next) (now_of l.now) l.world)
+      (λ n. (upto (chart_of l.chart) l.bounds n).process_each (children_of (chart_of l.chart).tree l.s) (now_of l.now)
+      l.fn.world);
   stands : Stands (chart_of l.chart).tree l.s l.next;
   fits : FitsChart (chart_of l.chart) l.world;
 }
@@ -130,7 +155,8 @@ decreases-process_all-loop-next l = ahead (chart_of l.chart).tree l.next
 
 abbrev pub invariant-search-loop-places : goal.invariant-search-loop-places
 invariant-search-loop-places l = record {
-  leads : Leads (chart_of l.chart) l.bounds (life_seen l.life) (now_of l.now) l.places.items (list_seen l.rest) l.world (list_seen l.list) l.fn.world;
+  leads : Leads (chart_of l.chart) l.bounds (life_seen l.life) (now_of l.now) l.places.items (list_seen l.rest) l.world
+      (list_seen l.list) l.fn.world;
   fits : FitsChart (chart_of l.chart) l.world;
   rest : AreTrans (chart_of l.chart) (list_seen l.rest);
   rests : AllByRecursion (λ p. AreTrans (chart_of l.chart) (list_seen p.rest.now)) l.places.items;
@@ -139,4 +165,5 @@ invariant-search-loop-places l = record {
 
 -- a visit uses a step, and brings one list
 abbrev pub decreases-search-loop-places : goal.decreases-search-loop-places
-decreases-search-loop-places l = (l.bounds.steps - l.world.used) * (2 ^ 64 + 1) + length l.rest + sum_by (λ p. length p.rest.now + 1) l.places.items
+decreases-search-loop-places l =
+    (l.bounds.steps - l.world.used) * (2 ^ 64 + 1) + length l.rest + sum_by (λ p. length p.rest.now + 1) l.places.items

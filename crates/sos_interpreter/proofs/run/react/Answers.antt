@@ -12,22 +12,32 @@ use Rattle.sos_interpreter.proofs.run.react.Goals as goal
 
 pub returns-in-Ok-clause-defined : goal.returns-in-Ok-clause-defined
 returns-in-Ok-clause-defined c =
-    let m = chart_of c.args.chart.now in
-    given (react_upto m c.args.bounds c.args.world.now c.args.event) (Ended (went_of c.in-Ok.field-0) c.process.new.world) _
-    (subst (λ (w : World). Settled (λ n. (upto m c.args.bounds n).process 0 (from_outside c.args.event) w) (Ended (went_of c.in-Ok.field-0) c.process.new.world)) c.begin.ensures.begun
-    (subst (λ (s : ℕ). Settled (λ n. (upto m c.args.bounds n).process s (from_outside c.args.event) c.begin.new.self) (Ended (went_of c.in-Ok.field-0) c.process.new.world)) c.root-root.ensures.root c.in-Ok.ensures.gives)) refl
+    let chart = chart_of c.args.chart.now in
+    given (react_upto chart c.args.bounds c.args.world.now c.args.event)
+    (Ended (went_of c.in-Ok.field-0) c.process.new.world) _ (subst
+    (λ (w : World). Settled (λ n. (upto chart c.args.bounds n).process 0 (from_outside c.args.event) w)
+    (Ended (went_of c.in-Ok.field-0) c.process.new.world)) c.begin.ensures.begun
+    (subst (λ (s : ℕ). Settled
+    (λ n. (upto chart c.args.bounds n).process s (from_outside c.args.event) c.begin.new.self)
+    (Ended (went_of c.in-Ok.field-0) c.process.new.world)) c.root-root.ensures.root c.in-Ok.ensures.gives)) refl
 
 pub returns-in-Err-clause-defined : goal.returns-in-Err-clause-defined
 returns-in-Err-clause-defined c =
-    let m = chart_of c.args.chart.now in
-    answered went_of (react_upto m c.args.bounds c.args.world.now c.args.event) c.in-Err.halt c.process.new.world
-    (subst (λ (w : World). Gives went_of (λ n. (upto m c.args.bounds n).process 0 (from_outside c.args.event) w) (Err c.in-Err.halt) c.process.new.world) c.begin.ensures.begun
-    (subst (λ (s : ℕ). Gives went_of (λ n. (upto m c.args.bounds n).process s (from_outside c.args.event) c.begin.new.self) (Err c.in-Err.halt) c.process.new.world) c.root-root.ensures.root c.in-Err.ensures.gives))
+    let chart = chart_of c.args.chart.now in
+    answered went_of (react_upto chart c.args.bounds c.args.world.now c.args.event) c.in-Err.halt c.process.new.world
+    (subst (λ (w : World). Gives went_of (λ n. (upto chart c.args.bounds n).process 0 (from_outside c.args.event) w)
+    (Err c.in-Err.halt) c.process.new.world) c.begin.ensures.begun
+    (subst (λ (s : ℕ). Gives went_of
+    (λ n. (upto chart c.args.bounds n).process s (from_outside c.args.event) c.begin.new.self) (Err c.in-Err.halt)
+    c.process.new.world) c.root-root.ensures.root c.in-Err.ensures.gives))
 
 pub returns-in-Err-clause-fault : goal.returns-in-Err-clause-fault
 returns-in-Err-clause-fault c =
-    let m = chart_of c.args.chart.now in
-    reacted_fault m c.root-root.ensures.valid c.args.bounds c.args.world.now c.args.event (Err c.in-Err.halt) c.process.new.world
-    (answered went_of (react_upto m c.args.bounds c.args.world.now c.args.event) c.in-Err.halt c.process.new.world
-    (subst (λ (w : World). Gives went_of (λ n. (upto m c.args.bounds n).process 0 (from_outside c.args.event) w) (Err c.in-Err.halt) c.process.new.world) c.begin.ensures.begun
-    (subst (λ (s : ℕ). Gives went_of (λ n. (upto m c.args.bounds n).process s (from_outside c.args.event) c.begin.new.self) (Err c.in-Err.halt) c.process.new.world) c.root-root.ensures.root c.in-Err.ensures.gives)))
+    let chart = chart_of c.args.chart.now in
+    reacted_fault chart c.root-root.ensures.valid c.args.bounds c.args.world.now c.args.event (Err c.in-Err.halt)
+    c.process.new.world (answered went_of (react_upto chart c.args.bounds c.args.world.now c.args.event) c.in-Err.halt
+    c.process.new.world (subst (λ (w : World). Gives went_of
+    (λ n. (upto chart c.args.bounds n).process 0 (from_outside c.args.event) w) (Err c.in-Err.halt) c.process.new.world)
+    c.begin.ensures.begun (subst (λ (s : ℕ). Gives went_of
+    (λ n. (upto chart c.args.bounds n).process s (from_outside c.args.event) c.begin.new.self) (Err c.in-Err.halt)
+    c.process.new.world) c.root-root.ensures.root c.in-Err.ensures.gives)))

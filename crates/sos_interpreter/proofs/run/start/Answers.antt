@@ -10,15 +10,21 @@ use Rattle.sos_interpreter.proofs.run.start.Goals as goal
 
 pub returns-clause-defined : goal.returns-clause-defined
 returns-clause-defined c =
-    let m = chart_of c.args.chart.now in
-    answered_unit (start_upto m c.args.bounds) c.enter.result c.enter.new.world
-    (subst (λ (w : World). Gives {A = Unit {0}} (λ _. tt) (λ n. (upto m c.args.bounds n).enter 0 0 (from_outside Start) w) c.enter.result c.enter.new.world) c.requires.first
-    (subst (λ (s : ℕ). Gives {A = Unit {0}} (λ _. tt) (λ n. (upto m c.args.bounds n).enter s s (from_outside Start) c.args.world.now) c.enter.result c.enter.new.world) c.root-root.ensures.root c.enter.ensures.gives))
+    let chart = chart_of c.args.chart.now in
+    answered_unit (start_upto chart c.args.bounds) c.enter.result c.enter.new.world
+    (subst (λ (w : World). Gives {A = Unit {0}} (λ _. tt)
+    (λ n. (upto chart c.args.bounds n).enter 0 0 (from_outside Start) w) c.enter.result c.enter.new.world)
+    c.requires.first (subst (λ (s : ℕ). Gives {A = Unit {0}} (λ _. tt)
+    (λ n. (upto chart c.args.bounds n).enter s s (from_outside Start) c.args.world.now) c.enter.result
+    c.enter.new.world) c.root-root.ensures.root c.enter.ensures.gives))
 
 pub returns-clause-fault : goal.returns-clause-fault
 returns-clause-fault c =
-    let m = chart_of c.args.chart.now in
-    started_fault m c.root-root.ensures.valid c.args.bounds c.enter.result c.enter.new.world
-    (answered_unit (start_upto m c.args.bounds) c.enter.result c.enter.new.world
-    (subst (λ (w : World). Gives {A = Unit {0}} (λ _. tt) (λ n. (upto m c.args.bounds n).enter 0 0 (from_outside Start) w) c.enter.result c.enter.new.world) c.requires.first
-    (subst (λ (s : ℕ). Gives {A = Unit {0}} (λ _. tt) (λ n. (upto m c.args.bounds n).enter s s (from_outside Start) c.args.world.now) c.enter.result c.enter.new.world) c.root-root.ensures.root c.enter.ensures.gives)))
+    let chart = chart_of c.args.chart.now in
+    started_fault chart c.root-root.ensures.valid c.args.bounds c.enter.result c.enter.new.world
+    (answered_unit (start_upto chart c.args.bounds) c.enter.result c.enter.new.world
+    (subst (λ (w : World). Gives {A = Unit {0}} (λ _. tt)
+    (λ n. (upto chart c.args.bounds n).enter 0 0 (from_outside Start) w) c.enter.result c.enter.new.world)
+    c.requires.first (subst (λ (s : ℕ). Gives {A = Unit {0}} (λ _. tt)
+    (λ n. (upto chart c.args.bounds n).enter s s (from_outside Start) c.args.world.now) c.enter.result
+    c.enter.new.world) c.root-root.ensures.root c.enter.ensures.gives)))

@@ -8,4 +8,5 @@ returns-in-None c = sym (remembered_none (chart_of c.args.chart.now) c.args.s (s
 
 pub returns-in-Some : goal.returns-in-Some
 returns-in-Some c =
-    c.has_history.ensures ∙ sym (remembered_by (chart_of c.args.chart.now) c.args.s c.in-Some.parent (sym c.in-Some.ensures.parent))
+    c.has_history.ensures
+    ∙ sym (remembered_by (chart_of c.args.chart.now) c.args.s c.in-Some.parent (sym c.in-Some.ensures.parent))

@@ -4,7 +4,10 @@ use Rattle.state_tree.specs.Homes.{child_toward}
 use Rattle.state_tree.proofs.homes.child_toward.Given as goal
 
 abbrev pub invariant-loop-parent : goal.invariant-loop-parent
-invariant-loop-parent l = record { within : l.child < state_count l.shape; same : child_toward l.shape l.state l.child ≡ child_toward l.shape l.state l.dest }
+invariant-loop-parent l = record {
+  within : l.child < state_count l.shape;
+  same : child_toward l.shape l.state l.child ≡ child_toward l.shape l.state l.dest;
+}
 
 abbrev pub decreases-loop-parent : goal.decreases-loop-parent
 decreases-loop-parent l = l.child

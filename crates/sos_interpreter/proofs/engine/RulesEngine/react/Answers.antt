@@ -6,4 +6,5 @@ use Rattle.sos_interpreter.proofs.engine.RulesEngine.react.Goals as goal
 
 pub returns-clause-fault : goal.returns-clause-fault
 returns-clause-fault c =
-    subst (λ (e : EngineState). IsFaultOf (chart_of e.chart).names (fault_of c.react-end.result)) c.self.view_is c.react-end.ensures.fault
+    subst (λ (e : EngineState). IsFaultOf (chart_of e.chart).names (fault_of c.react-end.result)) c.self.view_is
+    c.react-end.ensures.fault

@@ -6,4 +6,5 @@ use Rattle.sos_interpreter.proofs.engine.RulesEngine.start.Goals as goal
 
 pub returns-clause-fault : goal.returns-clause-fault
 returns-clause-fault c =
-    subst (λ (e : EngineState). IsFaultOf (chart_of e.chart).names (fault_of c.start-end.result)) c.self.view_is c.start-end.ensures.fault
+    subst (λ (e : EngineState). IsFaultOf (chart_of e.chart).names (fault_of c.start-end.result)) c.self.view_is
+    c.start-end.ensures.fault

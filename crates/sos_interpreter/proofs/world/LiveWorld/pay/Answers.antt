@@ -13,4 +13,5 @@ returns-then-self-bounds-clause-does c =
 pub returns-clause-does : goal.returns-clause-does
 returns-clause-does c =
     let e : c.self.inside.used ≡ c.args.self.now.used = ap (λ (w : World). w.used) c.self.view_is in
-    pay_left c.args.bounds c.args.self.now (grind (arith, nat_tests)) ∙ ap (λ (w : World). Ended tt (record w { used = w.used + 1 })) (sym c.self.view_is)
+    pay_left c.args.bounds c.args.self.now (grind (arith, nat_tests))
+    ∙ ap (λ (w : World). Ended tt (record w { used = w.used + 1 })) (sym c.self.view_is)

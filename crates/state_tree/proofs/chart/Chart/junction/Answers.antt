@@ -14,7 +14,8 @@ returns-clause-list c =
     within_twice list_seen (λ j. j.items) c.self.inside.junctions.items c.args.junction
     (subst (λ (k : Kept). c.args.junction < length (map list_seen k.junctions)) (sym c.self.view_is) c.requires) in
     ap list_seen c.deref.ensures.value
-    ∙ sym (found_twice list_seen (λ j. j.items) c.self.inside.junctions.items c.args.junction c.index.result.now _ [] lt c.index.ensures)
+    ∙ sym (found_twice list_seen (λ j. j.items) c.self.inside.junctions.items c.args.junction c.index.result.now _ [] lt
+    c.index.ensures)
     ∙ ap (λ (k : Kept). slice_index_or (map list_seen k.junctions) c.args.junction []) c.self.view_is
 
 -- the list of a junction of a valid chart is valid
@@ -27,6 +28,8 @@ returns-clause-valid c =
     (subst (λ (k : Kept). c.args.junction < length (map list_seen k.junctions)) (sym c.self.view_is) c.requires) in
     let seen : list_seen c.deref.result.now ≡ junction (chart_of c.args.self.now) c.args.junction =
     ap list_seen c.deref.ensures.value
-    ∙ sym (found_twice list_seen (λ j. j.items) c.self.inside.junctions.items c.args.junction c.index.result.now _ [] lt c.index.ensures)
+    ∙ sym (found_twice list_seen (λ j. j.items) c.self.inside.junctions.items c.args.junction c.index.result.now _ [] lt
+    c.index.ensures)
     ∙ ap (λ (k : Kept). slice_index_or (map list_seen k.junctions) c.args.junction []) c.self.view_is in
-    subst (AreTrans (chart_of c.args.self.now)) (sym seen) (junction_valid (chart_of c.args.self.now) valid c.args.junction)
+    subst (AreTrans (chart_of c.args.self.now)) (sym seen)
+    (junction_valid (chart_of c.args.self.now) valid c.args.junction)

@@ -13,7 +13,9 @@ unfolding chart_of node
 returns-clause-valid c =
     let valid = subst (λ k. IsValid (chart_of k)) c.self.view_is c.self.invariant in
     let lt : c.args.state < length c.self.inside.states.items =
-    within_seen node_seen c.self.inside.states.items c.args.state (subst (λ n. c.args.state < n) (sym c.self.invariant.nodes_sized) (subst (λ (k : Kept). c.args.state < state_count k.tree) (sym c.self.view_is) c.requires)) in
+    within_seen node_seen c.self.inside.states.items c.args.state
+    (subst (λ n. c.args.state < n) (sym c.self.invariant.nodes_sized)
+    (subst (λ (k : Kept). c.args.state < state_count k.tree) (sym c.self.view_is) c.requires)) in
     let seen : node_seen c.index.result.now ≡ node (chart_of c.args.self.now) c.args.state =
     sym (found_at node_seen c.self.inside.states.items c.args.state c.index.result.now _ no_node lt c.index.ensures)
     ∙ ap (λ (k : Kept). node (chart_of k) c.args.state) c.self.view_is in

@@ -9,7 +9,7 @@ use Rattle.actions.specs.Exprs.{Expr}
 use Rattle.actions.specs.Values.{Valued, value_of, flag_of}
 use Rattle.actions.specs.World.{World, paid}
 
--- a cost of one step
+-- one step is paid
 unfoldable pub paid_in : Bounds → World → Result World Fault
 paid_in b w = paid b w
 
@@ -36,15 +36,15 @@ truth (Err x) = Err x
 unfoldable pub truth_of : Expr → World → Result Bool Fault
 truth_of e w = truth (value_of w.vals w.marks e)
 
--- a state's mark is set or goes
+-- a state becomes active or inactive
 abbrev pub set_mark : ℕ → Bool → World → World
 set_mark s on w = record w { marks = with_mark s on w.marks }
 
--- where it can be, a state is marked
+-- a state becomes active where it can
 unfoldable pub mark_in : Tree → ℕ → World → World
 mark_in t s w = if can_mark t s w.marks then set_mark s true w else w
 
--- where it is bare, a state's mark goes
+-- a state becomes inactive where it is bare
 unfoldable pub clear_in : Tree → ℕ → World → World
 clear_in t s w = if is_bare t s w.marks then set_mark s false w else w
 

@@ -1,4 +1,4 @@
--- What the interpreter is handed: states, lives and worlds of a chart.
+-- What the calls of the interpreter require of their arguments: states, lives and worlds of a chart.
 use Rattle.std.specs.Prelude.{ℕ, ◌<◌}
 use Rattle.active_config.specs.Tree.{state_count}
 use Rattle.actions.specs.World.{World, Fits, Life, On, Bare}

@@ -1,4 +1,4 @@
--- What a call did is what a run says, unless memory ran out.
+-- The answer and the world after a call are what a run gives, unless memory ran out.
 use Rattle.std.specs.Prelude.{◌≡◌, ℕ, Result, Ok, Err}
 use Rattle.flow_base.specs.declared.fault.Fault.{Fault}
 use Rattle.actions.specs.declared.engine.Halt.{Halt}

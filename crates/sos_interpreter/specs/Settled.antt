@@ -2,7 +2,7 @@
 use Rattle.std.specs.Prelude.{◌≡◌, ℕ, ◌≤◌}
 use Rattle.run_work.specs.Work.{Run}
 
--- from some height on the outcome is this one
+-- from some height on, m gives this outcome
 pub data Settled {A : Type 0} (m : ℕ → Run A) (r : Run A) : Type 0 where
   settled : (from : ℕ) → ((n : ℕ) → from ≤ n → m n ≡ r) → Settled m r
 

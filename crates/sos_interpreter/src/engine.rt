@@ -34,8 +34,8 @@ impl Phase {
     }
 }
 
-/// Runs a chart by the rules. Want of memory comes where a search that goes through junctions, the
-/// actions of a firing or an event that is put out finds none.
+/// Runs a chart by the rules. `Memory` may come from a search through junctions, from collecting the
+/// actions of a firing, and from putting an event out.
 #[derive(Drop)]
 pub struct Rules {
     alloc: Global,

@@ -1,4 +1,4 @@
-//! The rules.
+//! A function for each rule.
 ghost use Rattle.std.specs.Prelude.{◌≡◌, ◌++◌, ◌∷◌, [], map, reverse, IfOk, IfErr, IfSome, OnOk};
 ghost use Rattle.active_config.specs.Tree.{comp_of, children_of, state_count};
 ghost use Rattle.actions.specs.declared.engine.Halt.TheVariants as halts;
@@ -47,9 +47,9 @@ pub struct Now {
 /// How processing ends.
 #[derive(Clone, Copy)]
 pub enum Went {
-    /// In the state.
+    /// The state stays.
     Stay,
-    /// Out of it, with the home of what was taken.
+    /// A firing with this home left the state.
     Out(u32),
 }
 
@@ -62,7 +62,7 @@ pub enum Found<'a> {
     DeadEnd,
     /// Nothing.
     No,
-    /// It was cut.
+    /// It was stopped, since its life was over.
     Stop,
 }
 
@@ -113,7 +113,7 @@ fn event_fits(trigger: Option<u32>, event: Event) -> bool
     }
 }
 
-/// Statements in order, until one is cut.
+/// Runs statements in order, until one is cut.
 #[cycle(rules)]
 fn run_block(
     alloc: Global,
@@ -141,7 +141,7 @@ fn run_block(
     Ok(End::Done)
 }
 
-/// One statement. Directly after a send the life is tested.
+/// Runs one statement. Directly after a send the life is tested.
 #[cycle(rules)]
 fn statement(
     alloc: Global,
@@ -196,7 +196,7 @@ fn alive(chart: &Chart, world: &LiveWorld, life: Life) -> End
     }
 }
 
-/// An event for the chart or for a state, one level deeper.
+/// Sends an event to the chart or to a state, one level deeper.
 #[cycle(rules)]
 fn send(
     alloc: Global,
@@ -237,7 +237,7 @@ fn send(
     }
 }
 
-/// The state is left, its children first.
+/// Leaves a state, its children first.
 #[cycle(rules)]
 fn exit(
     alloc: Global,
@@ -280,7 +280,7 @@ fn exit(
     }
 }
 
-/// An AND's children in reverse order, and of an OR the active one.
+/// Leaves an AND's children in reverse order, and of an OR the active one.
 #[cycle(rules)]
 fn exit_children(
     alloc: Global,
@@ -305,7 +305,7 @@ fn exit_children(
     }
 }
 
-/// The children, the last first.
+/// Leaves the children, the last first.
 #[cycle(rules)]
 fn exit_all(
     alloc: Global,
@@ -331,7 +331,7 @@ fn exit_all(
     Ok(())
 }
 
-/// The active child, if any.
+/// Leaves the active child, if there is one.
 #[cycle(rules)]
 fn exit_active(
     alloc: Global,
@@ -354,7 +354,7 @@ fn exit_active(
     }
 }
 
-/// The state is entered, along the path to d.
+/// Enters a state, on the path to d.
 #[cycle(rules)]
 fn enter(
     alloc: Global,
@@ -391,7 +391,7 @@ fn enter(
     }
 }
 
-/// What is inside a state that was entered.
+/// Enters what is inside a state that was entered.
 #[cycle(rules)]
 fn enter_inside(
     alloc: Global,
@@ -418,7 +418,7 @@ fn enter_inside(
     }
 }
 
-/// The children in order.
+/// Enters the children in order.
 #[cycle(rules)]
 fn enter_all(
     alloc: Global,
@@ -446,7 +446,7 @@ fn enter_all(
     Ok(())
 }
 
-/// By default where the path ends, else the child towards d.
+/// Enters by default where the path ends, else the child towards d.
 #[cycle(rules)]
 fn enter_toward(
     alloc: Global,
@@ -471,7 +471,7 @@ fn enter_toward(
     enter_child(alloc, chart, bounds, world, s, d, now)
 }
 
-/// The child towards d.
+/// Enters the child towards d.
 #[cycle(rules)]
 fn enter_child(
     alloc: Global,
@@ -497,7 +497,7 @@ fn enter_child(
     }
 }
 
-/// A remembered child is entered by default; where there is none, the default list decides.
+/// Enters a remembered child by default; where there is none, the default list decides.
 #[cycle(rules)]
 fn defaults(
     alloc: Global,
@@ -520,7 +520,7 @@ fn defaults(
     }
 }
 
-/// The default search of a state, and what it finds.
+/// Searches the default list of a state, and enters what it finds.
 #[cycle(rules)]
 fn default_search(
     alloc: Global,
@@ -556,7 +556,7 @@ fn default_search(
     }
 }
 
-/// The actions of a firing, each one step.
+/// Runs the actions of a firing; each that isn't empty costs a step.
 #[cycle(rules)]
 fn play(
     alloc: Global,
@@ -589,7 +589,7 @@ fn play(
     Ok(End::Done)
 }
 
-/// A firing with this home is taken.
+/// Takes a firing with this home.
 #[cycle(rules)]
 fn take(
     alloc: Global,
@@ -626,7 +626,7 @@ fn take(
     }
 }
 
-/// An active state is processed.
+/// Processes an active state.
 #[cycle(rules)]
 fn process(
     alloc: Global,
@@ -663,7 +663,7 @@ fn process(
     }
 }
 
-/// The during action, the inner transitions and the children.
+/// Runs the during action, then takes an inner transition or processes the children.
 #[cycle(rules)]
 fn go_on_inside(
     alloc: Global,
@@ -711,7 +711,7 @@ fn go_on_inside(
     }
 }
 
-/// What is active inside a state.
+/// Processes what is active inside a state.
 #[cycle(rules)]
 fn process_children(
     alloc: Global,
@@ -742,7 +742,7 @@ fn process_children(
     }
 }
 
-/// The way out of an OR itself ends there.
+/// How processing of an OR ends where a firing left its child: one whose home is the OR ends there.
 fn out_of(s: u32, home: u32) -> Went
     ensures { went_of result ≡ went_from s home }
 {
@@ -753,7 +753,7 @@ fn out_of(s: u32, home: u32) -> Went
     }
 }
 
-/// The regions, each that is active when its turn comes.
+/// Processes the regions, each that is active when its turn comes.
 #[cycle(rules)]
 fn process_all(
     alloc: Global,
@@ -785,7 +785,7 @@ fn process_all(
     Ok(Went::Stay)
 }
 
-/// A list of transitions in order; a junction's list comes before the rest.
+/// Searches a list of transitions in order; a junction's list comes before the rest.
 #[cycle(rules)]
 fn search<'a>(
     alloc: Global,
@@ -848,7 +848,7 @@ fn search<'a>(
     }
 }
 
-/// The actions of the places and the last one.
+/// The actions of the lists to go back to, and last this one.
 fn actions_on<'a>(
     alloc: Global,
     places: &[Place<'a>],
@@ -877,7 +877,7 @@ fn push_action<'a>(actions: &mut Vec<&'a [Stmt]>, action: &'a [Stmt]) -> Result<
     }
 }
 
-/// The root is entered.
+/// Enters the root.
 pub(crate) fn start(
     alloc: Global,
     chart: &Chart,
@@ -898,7 +898,7 @@ pub(crate) fn start(
     enter(alloc, chart, bounds, world, root, root, now)
 }
 
-/// The root is processed.
+/// Processes the root.
 pub(crate) fn react(
     alloc: Global,
     chart: &Chart,

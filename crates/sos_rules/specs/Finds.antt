@@ -15,7 +15,7 @@ IsFind DeadEnd = ⊥
 IsFind No = ⊥
 IsFind Stop = Unit {0}
 
--- a search that has ended found a state or was stopped; a fault may have come before
+-- a search that ended without a fault found a state or was stopped
 abbrev pub Finds : Run Found → Type 0
 Finds (Ended f w) = IsFind f
 Finds (Faulted x w) = Unit {0}

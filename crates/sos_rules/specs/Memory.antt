@@ -1,4 +1,4 @@
--- What is remembered.
+-- The children that ORs with history remember.
 use Rattle.std.specs.Prelude.{◌≡◌, ℕ, Some, true}
 use Rattle.active_config.specs.Tree.{parent_of}
 use Rattle.active_config.specs.Marks.{Configuration, is_on, last_of, IsConsistent}

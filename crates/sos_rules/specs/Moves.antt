@@ -63,7 +63,8 @@ module _ (c : Chart) where
 
   -- ---- entering
 
-  -- along the path to d, which is s or below it: by default where it is s, else into the child towards it
+  -- enters what is inside s on the path to d, which is s or a state below it: by default where d is s, else the child
+  -- towards d
   abbrev pub enter_toward : Parts → ℕ → ℕ → Now → Work (Unit {0})
   enter_toward p s d now =
       choose (s == d) (p.defaults s now) (if_some (child_toward c.tree s d) nothing (λ x. p.enter x d now))
@@ -84,7 +85,7 @@ module _ (c : Chart) where
       end ← p.block (Bare s) (node c s).entry now
       if_done end tt (enter_inside p s d now (comp_of c.tree s))) nothing
 
-  -- regions are entered one after another, the one on the path along the path and the others by default
+  -- regions are entered one after another, the one that contains d on the path to d, the others by default
   abbrev pub enter_each_rule : Parts → List ℕ → ℕ → Now → Work (Unit {0})
   enter_each_rule p [] d now = nothing
   enter_each_rule p (x ∷ xs) d now = do

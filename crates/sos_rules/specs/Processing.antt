@@ -11,7 +11,7 @@ use Rattle.state_tree.specs.Chart.{Chart, node}
 use Rattle.state_tree.specs.Homes.{home_of}
 use Rattle.sos_rules.specs.Parts.{Found, Fire, DeadEnd, No, Stop, Went, Stay, Out, Parts}
 
--- an answer of a child of an OR: a way out whose home is the OR ends there, and any other is passed on
+-- an answer of a child of an OR: a firing whose home is the OR ends at the OR, and any other is passed on
 abbrev pub from_child : ℕ → Went → Work Went
 from_child s Stay = give Stay
 from_child s (Out h) = choose (h == s) (give Stay) (give (Out h))

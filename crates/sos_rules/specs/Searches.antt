@@ -21,11 +21,11 @@ use Rattle.sos_rules.specs.Parts.{Found, Fire, DeadEnd, No, Stop, Parts}
 abbrev pub assign : ℕ → Expr → Work (Unit {0})
 assign v e w = change_or_fault (assigned_in v e w) w
 
--- a cost of one step
+-- one step is paid
 abbrev pub pay : Bounds → Work (Unit {0})
 pay b w = change_or_fault (paid_in b w) w
 
--- directly after a send the life is tested; where it is over, the action is cut
+-- directly after a send the life is tested: where it is over, the action is cut, that is, it returns early
 abbrev pub while_alive : Tree → Life → Work End
 while_alive t life = do
   alive ← test (λ w. lives t life w.marks)
@@ -106,7 +106,7 @@ module _ (c : Chart) (b : Bounds) where
   after_condition p life t rest now Cut = give Stop
   after_condition p life t rest now Done = at_dest p life t.action rest now t.dest
 
-  -- a list of transitions in order: one that isn't enabled hands on to the rest
+  -- a list of transitions in order: where one isn't enabled, the rest is searched
   abbrev pub search_rule : Parts → Life → List Trans → Now → Work Found
   search_rule p life [] now = give No
   search_rule p life (t ∷ rest) now = do

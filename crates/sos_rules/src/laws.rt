@@ -5,6 +5,7 @@ ghost use Rattle.flow_base.specs.declared.fault.Fault.{Fault};
 ghost use Rattle.active_config.specs.declared.comp.Comp.TheVariants.{Or};
 ghost use Rattle.active_config.specs.Tree.{state_count, comp_of};
 ghost use Rattle.actions.specs.declared.event.Event.{Event};
+ghost use Rattle.actions.specs.Engines.{IsFaultOf};
 ghost use Rattle.actions.specs.Runs.{Moment};
 ghost use Rattle.actions.specs.World.{World, Bare};
 ghost use Rattle.run_work.specs.Work.{Now};
@@ -26,13 +27,21 @@ pub fn one_result()
         → HasOne (λ (m : Moment). Reacts c b w e m.world m.fault) }
 {}
 
-/// After the start the active states are consistent and the root is active, and after an event they
-/// are where they were so before it; also where the outcome is a fault.
+/// After the start the active states are consistent and the root is active, and after an event this
+/// holds where it held before the event; also where the outcome is a fault.
 pub fn stays_consistent()
     ensures start { (c : Chart) (b : Bounds) (w : World) (f : Option Fault) → IsValid c
         → Starts c b w f → IsRunning c w }
     ensures reaction { (c : Chart) (b : Bounds) (w v : World) (e : Event) (f : Option Fault) → IsValid c
         → IsRunning c w → Reacts c b w e v f → IsRunning c v }
+{}
+
+/// The datum of an overflow, at which a start or an event ends, is one that the chart declares.
+pub fn faults_name_declared_data()
+    ensures start { (c : Chart) (b : Bounds) (w : World) (f : Option Fault) → IsValid c
+        → Starts c b w f → IsFaultOf c.names f }
+    ensures reaction { (c : Chart) (b : Bounds) (w v : World) (e : Event) (f : Option Fault) → IsValid c
+        → Reacts c b w e v f → IsFaultOf c.names f }
 {}
 
 /// After the start an OR with history remembers its active child, and no other state remembers one;
@@ -44,8 +53,8 @@ pub fn remembers_the_active_child()
         → Remembers c w.marks → Reacts c b w e v f → Remembers c v.marks }
 {}
 
-/// The default list of an OR always finds a state, or is stopped: a search of it never ends at an
-/// empty junction and never finds nothing, whatever the current event is.
+/// A search of the default list of an OR that ends without a fault finds a state or is stopped: it
+/// never ends at an empty junction and never finds nothing, whatever the current event is.
 pub fn default_finds()
     ensures { (c : Chart) (b : Bounds) (height s : ℕ) (now : Now) (w : World) → IsValid c
         → s < state_count c.tree → comp_of c.tree s ≡ Or

@@ -10,9 +10,13 @@
 //! Source: Hamon and Rushby, An Operational Semantics for Stateflow, FASE 2004, for the tree, the
 //! actions, the ordered lists and the outcomes of a search; Hamon, A Denotational Semantics for
 //! Stateflow, EMSOFT 2005, for what goes on after a search; the Stateflow manual for the order of
-//! work in an active state and for early return. Lives, costs and history are this project's choice.
+//! work in an active state and for early return. When work returns early, what
+//! costs a step, and history are this project's choice.
 #![tactic(auto)]
 
 mod laws;
 
-pub use laws::{default_finds, one_result, remembers_the_active_child, stays_consistent};
+pub use laws::{
+    default_finds, faults_name_declared_data, one_result, remembers_the_active_child,
+    stays_consistent,
+};

@@ -76,7 +76,7 @@ junction_count c = length c.junctions
 unfoldable pub junction : Chart → ℕ → List Trans
 junction c j = slice_index_or c.junctions j []
 
--- under which life a list is searched: a default list while the state has no active child
+-- under which condition a list is searched: a default list while the state has no active child
 abbrev pub life_of : ℕ → ListKind → Life
 life_of s Outer = On s
 life_of s Inner = On s
@@ -94,10 +94,10 @@ is_or And = false
 unfoldable pub has_history : Chart → ℕ → Bool
 has_history c s = is_or (comp_of c.tree s) && (node c s).history
 
--- whether the parent of s is to remember it
+-- whether the parent of s has history
 unfoldable pub is_remembered : Chart → ℕ → Bool
 is_remembered c s = option_map_or (has_history c) (parent_of c.tree s) false
 
--- the children to which s may go back: all of them where it has history, else none
+-- the children that s may enter again by history: all of them where it has history, else none
 unfoldable pub may_return : Chart → ℕ → List ℕ
 may_return c s = if has_history c s then children_of c.tree s else []

@@ -1,8 +1,8 @@
 -- How many things of each kind a chart has, and how many it may have.
 use Rattle.std.specs.Prelude.{◌+◌, ◌<◌, ◌≤◌, ℕ, List, length, sum_by}
 use Rattle.active_config.specs.Tree.{state_count, ancestors}
-use Rattle.state_tree.specs.declared.limits.TheConstants.{MOST_STATES, GREATEST_DEPTH, MOST_JUNCTIONS, MOST_TRANSITIONS}
-use Rattle.state_tree.specs.declared.limits.TheConstants.{MOST_PAIRS, MOST_DATA, MOST_EVENTS, MOST_ITEMS}
+use Rattle.state_tree.specs.declared.limits.TheConstants.{STATE_LIMIT, STATE_DEPTH_LIMIT, JUNCTION_LIMIT, TRANSITION_LIMIT}
+use Rattle.state_tree.specs.declared.limits.TheConstants.{PAIR_LIMIT, VARIABLE_LIMIT, EVENT_LIMIT, ITEM_LIMIT}
 use Rattle.state_tree.specs.Chart.{Chart, Node, Trans, junction_count}
 use Rattle.state_tree.specs.Reached.{ChartPairs}
 
@@ -34,13 +34,13 @@ item_count c =
     state_count c.tree + junction_count c + transition_count c + statement_count c
     + length c.names.vars + length c.names.events
 
--- nothing is more than it may be
+-- every count is within its limit
 pub record IsWithinLimits (c : Chart) : Type 0 where
-  pub states : state_count c.tree ≤ MOST_STATES
-  pub depth : (s : ℕ) → s < state_count c.tree → length (ancestors c.tree s) ≤ GREATEST_DEPTH
-  pub junctions : junction_count c ≤ MOST_JUNCTIONS
-  pub transitions : transition_count c ≤ MOST_TRANSITIONS
-  pub pairs : (count : ℕ) → ChartPairs c count → count ≤ MOST_PAIRS
-  pub vars : length c.names.vars ≤ MOST_DATA
-  pub events : length c.names.events ≤ MOST_EVENTS
-  pub items : item_count c ≤ MOST_ITEMS
+  pub states : state_count c.tree ≤ STATE_LIMIT
+  pub depth : (s : ℕ) → s < state_count c.tree → length (ancestors c.tree s) ≤ STATE_DEPTH_LIMIT
+  pub junctions : junction_count c ≤ JUNCTION_LIMIT
+  pub transitions : transition_count c ≤ TRANSITION_LIMIT
+  pub pairs : (count : ℕ) → ChartPairs c count → count ≤ PAIR_LIMIT
+  pub vars : length c.names.vars ≤ VARIABLE_LIMIT
+  pub events : length c.names.events ≤ EVENT_LIMIT
+  pub items : item_count c ≤ ITEM_LIMIT

@@ -1,4 +1,4 @@
--- What a valid chart is: all that the rules, the engines and the compiler ask of a chart.
+-- What a valid chart is: all that the rules and the engine that runs them require of a chart.
 use Rattle.std.specs.Prelude.{◌≡◌, ◌≢◌, ◌<◌, ◌≤◌, ◌++◌, ℕ, List, [], length, map, Option, Some, None, Ok, IsSomeAnd}
 use Rattle.std.specs.Prelude.{slice_get, slice_index_or, true}
 use Rattle.std.specs.List.{AllByRecursion, last_or, list_all}
@@ -19,7 +19,7 @@ use Rattle.actions.specs.Data.{HasInits}
 use Rattle.actions.specs.Exprs.{Expr, Stmt, Assign, Send, SendTo, Emit}
 use Rattle.actions.specs.Names.{Names}
 use Rattle.actions.specs.Sorts.{scope_of, sort_of, assignment_fault}
-use Rattle.state_tree.specs.declared.limits.TheConstants.{MOST_STATEMENTS, MOST_OPERATORS}
+use Rattle.state_tree.specs.declared.limits.TheConstants.{STATEMENT_LIMIT, OPERATOR_LIMIT}
 use Rattle.state_tree.specs.declared.parts.Dest.{Dest}
 use Rattle.state_tree.specs.declared.parts.Dest.TheVariants.{State, Junction}
 use Rattle.state_tree.specs.declared.parts.ListKind.{ListKind}
@@ -56,7 +56,7 @@ HasFlagMode v = v.sort ≡ Flag → v.mode ≡ Saturate
 -- literals in range and not too many operators
 pub record IsExpr (e : Expr) : Type 0 where
   pub literals : LiteralsFit e
-  pub operators : operator_count e ≤ MOST_OPERATORS
+  pub operators : operator_count e ≤ OPERATOR_LIMIT
 
 -- the datum is no input, and can be given every value of the expression
 pub record CanAssign (n : Names) (v : ℕ) (e : Expr) : Type 0 where
@@ -94,7 +94,7 @@ AreStmts c block = AllByRecursion (IsStmt c) block
 -- an action: its statements, not too many
 pub record IsBlock (c : Chart) (block : List Stmt) : Type 0 where
   pub stmts : AreStmts c block
-  pub few : length block ≤ MOST_STATEMENTS
+  pub few : length block ≤ STATEMENT_LIMIT
 
 -- a trigger, if there is one
 abbrev pub HasTrigger : Chart → Option ℕ → Type 0
@@ -138,8 +138,8 @@ pub record IsNode (c : Chart) (n : Node) : Type 0 where
 abbrev pub Closes : List Trans → Type 0
 Closes list = IsSomeAnd (last_or None list) (λ (t : Trans). (t.event ≡ None) × (t.guard ≡ None))
 
--- a state to which a list may lead: from an outer list one whose home is an OR, from an inner list one at
--- or below the state, which is an OR then, and from a default list one strictly below
+-- a state to which a list of s may lead: an outer list to one for which the home of the firing is an OR, an inner
+-- list of an OR to s or a state below it, and a default list to a state strictly below s
 abbrev pub MayLead : Tree → ℕ → ListKind → ℕ → Type 0
 MayLead t s Outer d = comp_of t (home_of t s Outer d) ≡ Or
 MayLead t s Inner d = (is_at_or_below t d s ≡ true) × (comp_of t s ≡ Or)
@@ -150,8 +150,8 @@ abbrev pub LeadsWell : Tree → ℕ → ListKind → Dest → Type 0
 LeadsWell t s kind (State d) = MayLead t s kind d
 LeadsWell t s kind (Junction j) = Unit {0}
 
--- the root has children; ORs, and they alone, have default lists, which close, as do the lists of all junctions
--- reached from one; history is for ORs; and what is met from a list leads well
+-- the root has children; exactly ORs have default lists; a default list, and each list of a junction reached from
+-- one, ends with a transition that is always enabled; only ORs have history; and each list leads where it may
 pub record HasStructure (c : Chart) : Type 0 where
   pub children : comp_of c.tree 0 ≢ Leaf
   pub no_default : (s : ℕ) → s < state_count c.tree → comp_of c.tree s ≢ Or → list_of c s Default ≡ []

@@ -53,7 +53,7 @@ impl Chart {
     ghost use Rattle.state_tree.specs.Homes as spec_homes;
     ghost use Rattle.state_tree.specs.Kept.{chart_of};
     ghost use Rattle.state_tree.specs.Valid.{IsNode, AreStmts, AreTrans};
-    ghost use Rattle.state_tree.specs.declared.limits.TheConstants.{MOST_STATEMENTS};
+    ghost use Rattle.state_tree.specs.declared.limits.TheConstants.{STATEMENT_LIMIT};
     ghost use Rattle.state_tree.specs.Views.{block_seen, list_seen, node_seen};
 
     /// The chart of a tree, what it declares, a part for each state in pre-order, and the lists of
@@ -163,8 +163,8 @@ impl Chart {
         self.shape().prev_sibling(state)
     }
 
-    /// Where a path to a state goes on in a child of an AND: to that state where the child lies on
-    /// the path, else to the child itself.
+    /// Where a child of an AND is entered on the way to `dest`: at `dest`, where that is the child or
+    /// below it, else at the child itself.
     pub fn path_in(&self, child: u32, dest: u32) -> u32
         requires child { child < state_count (chart_of self.now).tree }
         requires dest { dest < state_count (chart_of self.now).tree }
@@ -189,7 +189,7 @@ impl Chart {
         requires { state < state_count (chart_of self.now).tree }
         ensures block { block_seen result.now ≡ spec.block_of (chart_of self.now) state kind }
         ensures stmts { AreStmts (chart_of self.now) (block_seen result.now) }
-        ensures few { length result.now ≤ MOST_STATEMENTS }
+        ensures few { length result.now ≤ STATEMENT_LIMIT }
     {
         let parts = self.parts(state);
         match kind {
@@ -241,8 +241,9 @@ impl Chart {
         &self.junctions[junction as usize]
     }
 
-    /// The home of a firing from a list of a state to a destination: from an outer list the lowest
-    /// state that is strictly above both, of which neither is the root, and else the state itself.
+    /// The home of a firing from a list of a state to a destination: for an outer list the lowest
+    /// state that is strictly above both, or the root where there is none; for the other lists the
+    /// state itself.
     pub fn home(&self, state: u32, kind: ListKind, dest: u32) -> u32
         requires state { state < state_count (chart_of self.now).tree }
         requires dest { dest < state_count (chart_of self.now).tree }
@@ -255,8 +256,8 @@ impl Chart {
         }
     }
 
-    /// The child of a state that is another state, or above it. None exactly where that one isn't
-    /// below the state.
+    /// The child of a state that is `dest` or above it; none exactly where `dest` isn't below the
+    /// state.
     pub fn child_toward(&self, state: u32, dest: u32) -> Option<u32>
         requires state { state < state_count (chart_of self.now).tree }
         requires dest { dest < state_count (chart_of self.now).tree }

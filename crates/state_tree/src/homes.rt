@@ -7,7 +7,7 @@ ghost use Rattle.state_tree.specs.Homes as spec;
 
 use active_config::Shape;
 
-/// The child of a state that is another state, or above it.
+/// The child of a state that is `dest` or above it.
 pub fn child_toward(shape: &Shape, state: u32, dest: u32) -> Option<u32>
     requires tree { trees.IsTree shape.now }
     requires state { state < state_count shape.now }
@@ -43,7 +43,8 @@ fn common_above(shape: &Shape, state: u32, dest: u32) -> Option<u32>
     None
 }
 
-/// The home of a firing of an outer transition: the lowest state that is strictly above both.
+/// The home of a firing of an outer transition: the lowest state that is strictly above both, or the
+/// root where there is none.
 #[tactic(auto, using(crate::proofs::Walks::tree_some), unfolding(crate::specs::Homes::common_above))]
 pub fn outer_home(shape: &Shape, state: u32, dest: u32) -> u32
     requires tree { trees.IsTree shape.now }

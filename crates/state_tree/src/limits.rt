@@ -1,31 +1,32 @@
 //! How large a chart may be.
 
-/// States, the root among them.
-pub const MOST_STATES: u32 = 1024;
+/// The greatest number of states, counting the root.
+pub const STATE_LIMIT: u32 = 1024;
 
-/// The depth of a state. The children of the root have depth 1.
-pub const GREATEST_DEPTH: u32 = 16;
+/// The greatest depth of a state. The children of the root have depth 1.
+pub const STATE_DEPTH_LIMIT: u32 = 16;
 
-/// Junctions.
-pub const MOST_JUNCTIONS: u32 = 4096;
+/// The greatest number of junctions.
+pub const JUNCTION_LIMIT: u32 = 4096;
 
-/// Transitions of states and junctions.
-pub const MOST_TRANSITIONS: u32 = 8192;
+/// The greatest number of transitions of states and junctions.
+pub const TRANSITION_LIMIT: u32 = 8192;
 
-/// Pairs of a list of a state and a transition that stands in it or in a junction reached from it.
-pub const MOST_PAIRS: u32 = 32_768;
+/// The greatest number of pairs of a list of a state and a transition that stands in it or in a
+/// junction reached from it.
+pub const PAIR_LIMIT: u32 = 32_768;
 
-/// Data.
-pub const MOST_DATA: u32 = 1024;
+/// The greatest number of data.
+pub const VARIABLE_LIMIT: u32 = 1024;
 
-/// Events.
-pub const MOST_EVENTS: u32 = 1024;
+/// The greatest number of events.
+pub const EVENT_LIMIT: u32 = 1024;
 
-/// Statements of one action.
-pub const MOST_STATEMENTS: u32 = 256;
+/// The greatest number of statements of one action.
+pub const STATEMENT_LIMIT: u32 = 256;
 
-/// Operators of one expression.
-pub const MOST_OPERATORS: u32 = 64;
+/// The greatest number of operators of one expression.
+pub const OPERATOR_LIMIT: u32 = 64;
 
-/// States, junctions, transitions, statements, data and events together.
-pub const MOST_ITEMS: u32 = 20_000;
+/// The greatest number of states, junctions, transitions, statements, data and events together.
+pub const ITEM_LIMIT: u32 = 20_000;

@@ -5,18 +5,18 @@ use flow_base::List;
 /// The three lists of transitions of a state.
 #[derive(Clone, Copy, Debug, PartialEq, Eq)]
 pub enum ListKind {
-    /// They are tried first where the state is active, and lead out of it or to it again.
+    /// Outer transitions: they are tried first while the state is active, and leave it.
     Outer,
-    /// They are tried after its during action, and stay in it.
+    /// Inner transitions: they are tried after the during action, and don't leave the state.
     Inner,
-    /// They say which child is entered where no path names one.
+    /// Default transitions: they say which child is entered where the destination names none.
     Default,
 }
 
 /// The three actions of a state.
 #[derive(Clone, Copy, Debug, PartialEq, Eq)]
 pub enum BlockKind {
-    /// It runs when the state was entered.
+    /// It runs once the state has become active.
     Entry,
     /// It runs where the state stays active after its outer transitions were tried.
     During,

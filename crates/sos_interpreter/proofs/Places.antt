@@ -25,7 +25,8 @@ Unwinds c b life now (pl ∷ above) q r =
     (λ n. then_do p (after_junction c b (upto c b n) life (block_seen pl.action.now) (list_seen pl.rest.now) now)) r
 
 -- whatever the rest gives, the whole gives
-pub record Leads (c : Chart) (b : Bounds) (life : Life) (now : Now) (places : List Place) (rest : List Trans) (w : World) (list : List Trans) (w0 : World) : Type 0 where
+pub record Leads (c : Chart) (b : Bounds) (life : Life) (now : Now) (places : List Place) (rest : List Trans)
+    (w : World) (list : List Trans) (w0 : World) : Type 0 where
   pub by : (q r : Run Found) → Settled (λ n. (upto c b n).search life rest now w) q → Unwinds c b life now places q r
       → Settled (λ n. (upto c b n).search life list now w0) r
 
@@ -40,9 +41,7 @@ module _ (c : Chart) (b : Bounds) (life : Life) (now : Now) where
       → Unwinds c b life now (places ++ pl ∷ []) q r → (p : Run Found) × Back pl q p × Unwinds c b life now places p r
   unwinds_first [] pl q r (p, e, s) = (
     r,
-    subst (λ q. Settled
-        (λ n. then_do q (after_junction c b (upto c b n) life (block_seen pl.action.now) (list_seen pl.rest.now) now)) r)
-        (sym e) s,
+    subst (λ q. Back pl q r) (sym e) s,
     refl,
   )
   unwinds_first (x ∷ xs) pl q r (p, u, s) = let h = unwinds_first xs pl q p u in (h.0, h.1, (p, h.2, s))
@@ -52,9 +51,7 @@ module _ (c : Chart) (b : Bounds) (life : Life) (now : Now) where
   unwinds_more [] pl q p r s e = (
     q,
     refl,
-    subst (λ r. Settled
-        (λ n. then_do q (after_junction c b (upto c b n) life (block_seen pl.action.now) (list_seen pl.rest.now) now)) r)
-        e s,
+    subst (λ r. Back pl q r) e s,
   )
   unwinds_more (x ∷ xs) pl q p r s (t, u, v) = (t, unwinds_more xs pl q p t s u, v)
 

@@ -54,4 +54,13 @@ pub settled_on : {A B : Type 0} (m : ℕ → Run A) (f : ℕ → A → Work B) (
 settled_on m f q r (settled i h) (settled j k) =
     settled (max i j) (λ n le. ap (λ q. then_do q (f n)) (h n (omega arith)) ∙ k n (omega arith))
 
-pub ruleset settling = (settled_now, settled_is, settled_then, settled_fault, settled_true, settled_false, settled_some, settled_none)
+pub ruleset settling = (
+  settled_now,
+  settled_is,
+  settled_then,
+  settled_fault,
+  settled_true,
+  settled_false,
+  settled_some,
+  settled_none,
+)

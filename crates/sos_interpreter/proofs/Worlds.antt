@@ -42,8 +42,11 @@ use Rattle.actions.proofs.DataLemmas.{all_push}
 -- an input that is set
 pub input_set : (w w' : World) (v : ℕ) (value : Value) (vals : List Datum) → w ≡ w' → assigned w.vals v value ≡ Ok vals
     → IsInputSet w' v value (record w { vals = vals })
-input_set w w' v value vals same e =
-    (vals, ap (λ (x : World). assigned x.vals v value) (sym same) ∙ e, ap (λ (x : World). record x { vals = vals }) same)
+input_set w w' v value vals same e = (
+  vals,
+  ap (λ (x : World). assigned x.vals v value) (sym same) ∙ e,
+  ap (λ (x : World). record x { vals = vals }) same,
+)
 
 -- another world with the same data and outputs, and consistent marks
 pub fits_as : (t : Tree) (n : Names) (w v : World) → Fits t n w → IsConsistent t v.marks → v.vals ≡ w.vals

@@ -46,6 +46,7 @@ from_find Unfinished f h k = tt
 module _ (c : Chart) (b : Bounds) (good : ℕ → Type 0) (closed : (j : ℕ) → good j → AlwaysGoes good (junction c j)) where
   module _ (p : Parts) (ih : (life : Life) (list : List Trans) (now : Now) (w : World) → AlwaysGoes good list
       → Finds (p.search life list now w)) (life : Life) (now : Now) where
+    -- the parts of a search find, where the searches of the lists that they lead to do
     after_junction_finds : (action : List Stmt) (rest : List Trans) (f : Found) (w : World) → IsFind f
         → Finds (after_junction c b p life action rest now f w)
     after_junction_finds action rest (Fire d actions) w h = tt
@@ -81,10 +82,12 @@ module _ (c : Chart) (b : Bounds) (good : ℕ → Type 0) (closed : (j : ℕ) �
     chosen t u ts true w h g = taken t (u ∷ ts) w h
     chosen t u ts false w h g = ih life (u ∷ ts) now w g
 
+    -- a transition with no event and no guard is enabled
     always : (t : Trans) (w : World) → t.event ≡ None → t.guard ≡ None → is_enabled t now w ≡ Ended true w
     always t w e g =
         ap (λ o. choose (event_fits o now.event) (guard_holds t.guard) (give false) w) e ∙ ap (λ o. guard_holds o w) g
 
+  -- at each height a search of a list that always leads somewhere finds
   pub search_finds : (n : ℕ) (life : Life) (list : List Trans) (now : Now) (w : World) → AlwaysGoes good list
       → Finds ((upto c b n).search life list now w)
   search_finds zero life list now w h = tt

@@ -34,8 +34,8 @@ impl Phase {
     }
 }
 
-/// Runs a chart by the rules. Want of memory comes where a search that goes through junctions, the
-/// actions of a firing or an event that is put out finds none.
+/// Runs a chart by the rules. Memory can run out in a search that goes through junctions, in
+/// collecting the actions of a firing, and in putting an event out.
 #[derive(Drop)]
 pub struct Rules {
     alloc: Global,

@@ -106,7 +106,7 @@ module _ (c : Chart) (b : Bounds) where
   after_condition p life t rest now Cut = give Stop
   after_condition p life t rest now Done = at_dest p life t.action rest now t.dest
 
-  -- a list of transitions in order: one that isn't enabled hands on to the rest
+  -- a list of transitions in order: one that isn't enabled is passed over
   abbrev pub search_rule : Parts → Life → List Trans → Now → Work Found
   search_rule p life [] now = give No
   search_rule p life (t ∷ rest) now = do

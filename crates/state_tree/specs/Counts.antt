@@ -34,7 +34,7 @@ item_count c =
     state_count c.tree + junction_count c + transition_count c + statement_count c
     + length c.names.vars + length c.names.events
 
--- nothing is more than it may be
+-- no count is above its limit
 pub record IsWithinLimits (c : Chart) : Type 0 where
   pub states : state_count c.tree ≤ MOST_STATES
   pub depth : (s : ℕ) → s < state_count c.tree → length (ancestors c.tree s) ≤ GREATEST_DEPTH

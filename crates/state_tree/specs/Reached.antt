@@ -28,13 +28,13 @@ abbrev pub weight : (ℕ → Bool) → (ℕ → ℕ) → ℕ → ℕ
 weight within w zero = 0
 weight within w (suc n) = weight within w n + (if within n then w n else 0)
 
--- as many transitions stand in a list or in a junction reached from it
+-- the count is the number of transitions that stand in a list or in a junction reached from it
 pub record ArePairs (c : Chart) (list : List Trans) (count : ℕ) : Type 0 where
   pub within : ℕ → Bool
   pub exact : (j : ℕ) → IsTrue (within j) ↔ Reached c list j
   pub sum : count ≡ length list + weight within (λ j. length (junction c j)) (junction_count c)
 
--- as many pairs have a list of this state
+-- the count is the number of pairs with a list of this state
 pub record StatePairs (c : Chart) (s count : ℕ) : Type 0 where
   pub outer : ℕ
   pub inner : ℕ
@@ -44,12 +44,12 @@ pub record StatePairs (c : Chart) (s count : ℕ) : Type 0 where
   pub of_default : ArePairs c (list_of c s Default) default
   pub sum : count ≡ outer + inner + default
 
--- as many pairs have a list of one of the first n states
+-- the count is the number of pairs with a list of one of the first states, whose number is given
 abbrev pub PairsBelow : Chart → ℕ → ℕ → Type 0
 PairsBelow c zero count = count ≡ 0
 PairsBelow c (suc s) count =
     (own : ℕ) × (below : ℕ) × StatePairs c s own × PairsBelow c s below × (count ≡ below + own)
 
--- as many pairs has the chart
+-- the count is the number of pairs of the chart
 abbrev pub ChartPairs : Chart → ℕ → Type 0
 ChartPairs c count = PairsBelow c (state_count c.tree) count

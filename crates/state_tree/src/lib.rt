@@ -2,8 +2,8 @@
 //!
 //! `Chart` is the type that the rules, both engines and the compiler stand on: a value of it is
 //! valid, so none of them tests anything of a chart again. Read `specs/Chart.antt` first, what a
-//! chart is, then `specs/Homes.antt` and `specs/Reached.antt`, how lists and states lie to each
-//! other, and `specs/Valid.antt`, what a valid chart is.
+//! chart is, then `specs/Homes.antt`, how states are related, `specs/Reached.antt`, which junctions
+//! a list reaches, and `specs/Valid.antt`, what a valid chart is.
 #![tactic(auto)]
 
 mod chart;

@@ -1,4 +1,4 @@
-use Rattle.std.proofs.Common.{◌≡◌, map, ◌+◌, length, Some, None, true, false, [], reverse, refl, sym, ap}
+use Rattle.std.proofs.Common.{◌≡◌, map, ◌+◌, length, Some, None, true, false, reverse, refl, sym, ap}
 use Rattle.std.proofs.Common.{◌∙◌, subst, arith}
 use Rattle.std.specs.Prelude.{nat_le, ◌==◌}
 use Rattle.std.specs.List.{AllByRecursion}
@@ -425,8 +425,8 @@ exit_all-returns-clause-gives t c =
 
 pub exit_all-exit-requires : goal.exit_all-exit-requires
 exit_all-exit-requires t c =
-    let i = (c.loop-next.invariant.stands.child c.in-Some.x c.in-Some.is) in
-    (omega (arith, i.above, i.within, c.decreases), (c.loop-next.invariant.fits, i.within))
+    let child = c.loop-next.invariant.stands.child c.in-Some.x c.in-Some.is in
+    (omega (arith, child.above, child.within, c.decreases), (c.loop-next.invariant.fits, child.within))
 
 pub enter-returns-then-not-can_mark-clause-gives : goal.enter-returns-then-not-can_mark-clause-gives
 enter-returns-then-not-can_mark-clause-gives t c =
@@ -524,8 +524,10 @@ enter_all-path_in-requires-clause-child t c = (c.loop-next.invariant.stands.chil
 
 pub enter_all-enter-requires : goal.enter_all-enter-requires
 enter_all-enter-requires t c =
-    let i = (c.loop-next.invariant.stands.child c.in-Some.x c.in-Some.is) in
-    (omega (arith, i.above, i.within, c.decreases), (c.loop-next.invariant.fits, (i.within, c.path_in.ensures.within)))
+    let child = c.loop-next.invariant.stands.child c.in-Some.x c.in-Some.is in (
+      omega (arith, child.above, child.within, c.decreases),
+      (c.loop-next.invariant.fits, (child.within, c.path_in.ensures.within)),
+    )
 
 pub enter_all-returns-in_err-enter-clause-gives : goal.enter_all-returns-in_err-enter-clause-gives
 enter_all-returns-in_err-enter-clause-gives t c =
@@ -644,8 +646,7 @@ play-returns-in_err-pay-clause-gives t c =
     let error = err_from_is_err_and c.from_residual.result c.from_residual.ensures.1 in
     rw (error.1, error.2) (err_does {A = Unit {0}} (λ _. tt) end_of _ _ _ _
     (λ x h.
-    let some : block_seen c.action-item.result.now ≡ [] → ⊥ = λ z.
-    not_empty stmt_of c.action-item.result.now (grind (arith, nat_tests)) z in
+    let some = not_empty stmt_of c.action-item.result.now (grind (arith, nat_tests)) in
     play_turn_pay_fault (chart_of c.args.chart.now) c.args.bounds (now_of c.args.now) (λ a. block_seen a.now) c.args.s
     c.args.actions.now c.loop-action.action-index c.loop-action.world _ c.loop-action.invariant.goes
     c.action-item.result (omega arith) c.action-item.is some _ x h) c.in_err-pay.ensures.does)
@@ -669,8 +670,7 @@ play-returns-in_err-run_block-clause-gives t c =
     err_from_is_err_and c.from_residual-in_err-run_block.result c.from_residual-in_err-run_block.ensures.1 in
     rw (error.1, error.2) (err_through end_of end_of _ _ _ _
     (λ x h.
-    let some : block_seen c.action-item.result.now ≡ [] → ⊥ = λ z.
-    not_empty stmt_of c.action-item.result.now (grind (arith, nat_tests)) z in
+    let some = not_empty stmt_of c.action-item.result.now (grind (arith, nat_tests)) in
     play_turn_fault (chart_of c.args.chart.now) c.args.bounds (now_of c.args.now) (λ a. block_seen a.now) c.args.s
     c.args.actions.now c.loop-action.action-index c.loop-action.world _ c.loop-action.invariant.goes
     c.action-item.result (omega arith) c.action-item.is some _ _ x c.in_ok-pay.ensures.does h)
@@ -678,8 +678,7 @@ play-returns-in_err-run_block-clause-gives t c =
 
 pub play-returns-in-Cut-clause-gives : goal.play-returns-in-Cut-clause-gives
 play-returns-in-Cut-clause-gives t c =
-    let some : block_seen c.action-item.result.now ≡ [] → ⊥ = λ z.
-    not_empty stmt_of c.action-item.result.now (grind (arith, nat_tests)) z in
+    let some = not_empty stmt_of c.action-item.result.now (grind (arith, nat_tests)) in
     play_turn_cut (chart_of c.args.chart.now) c.args.bounds (now_of c.args.now) (λ a. block_seen a.now) c.args.s
     c.args.actions.now c.loop-action.action-index c.loop-action.world _ c.loop-action.invariant.goes
     c.action-item.result (omega arith) c.action-item.is some _ c.run_block.new.world c.in_ok-pay.ensures.does
@@ -687,8 +686,7 @@ play-returns-in-Cut-clause-gives t c =
 
 pub play-loop-action-preserved : goal.play-loop-action-preserved
 play-loop-action-preserved t c =
-    let some : block_seen c.action-item.result.now ≡ [] → ⊥ = λ z.
-    not_empty stmt_of c.action-item.result.now (grind (arith, nat_tests)) z in
+    let some = not_empty stmt_of c.action-item.result.now (grind (arith, nat_tests)) in
     record {
       goes =
           play_turn (chart_of c.args.chart.now) c.args.bounds (now_of c.args.now) (λ a. block_seen a.now) c.args.s
@@ -937,8 +935,8 @@ process_all-on-requires-clause-state t c = (c.loop-next.invariant.stands.child c
 
 pub process_all-process-requires : goal.process_all-process-requires
 process_all-process-requires t c =
-    let i = (c.loop-next.invariant.stands.child c.in-Some.x c.in-Some.is) in
-    (omega (arith, i.above, i.within, c.decreases), (c.loop-next.invariant.fits, i.within))
+    let child = c.loop-next.invariant.stands.child c.in-Some.x c.in-Some.is in
+    (omega (arith, child.above, child.within, c.decreases), (c.loop-next.invariant.fits, child.within))
 
 pub process_all-returns-in_err-process-clause-gives : goal.process_all-returns-in_err-process-clause-gives
 process_all-returns-in_err-process-clause-gives t c =

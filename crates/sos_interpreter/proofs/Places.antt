@@ -135,9 +135,8 @@ module _ (c : Chart) (b : Bounds) (life : Life) (now : Now) where
             let f = unwinds_first places pl q r un in
             let back : Settled (λ n. then_do q (after_junction c b (upto c b n) life t.action ts now)) f.0 =
             subst (λ a. Settled (λ n. then_do q (after_junction c b (upto c b n) life a ts now)) f.0) ea
-            (subst
-            (λ l. Settled (λ n. then_do q (after_junction c b (upto c b n) life (block_seen pl.action.now) l now)) f.0)
-            er f.1) in
+            (subst (λ l. Settled
+            (λ n. then_do q (after_junction c b (upto c b n) life (block_seen pl.action.now) l now)) f.0) er f.1) in
             l.by f.0 r (search_goes c b now life t ts w v (Junction j) f.0 e h d
             (dest_visit c b now life t.action ts j next v u q f.0 p k some s back)) f.2;
       }

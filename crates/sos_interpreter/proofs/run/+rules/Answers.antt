@@ -252,10 +252,10 @@ send-returns-then-not-on-clause-gives t c =
     let now = now_of c.args.now in
     let deep : nat_le c.args.bounds.depth c.args.now.depth ≡ false = grind (arith, nat_tests) in
     let off : is_on c.in-Some.s c.pay.new.self.marks ≡ false = cc in
-    subst
-    (λ o. Settled (λ n. (upto chart c.args.bounds n).send c.args.e o now c.args.world.now) (Ended tt c.pay.new.self))
-    (sym c.in-Some.is) (send_off chart c.args.bounds now c.args.e (Some c.in-Some.s) c.args.world.now c.pay.new.self
-    deep c.in_ok-pay.ensures.does off)
+    subst (λ o. Settled (λ n. (upto chart c.args.bounds n).send c.args.e o now c.args.world.now)
+    (Ended tt c.pay.new.self)) (sym c.in-Some.is)
+    (send_off chart c.args.bounds now c.args.e (Some c.in-Some.s) c.args.world.now c.pay.new.self deep
+    c.in_ok-pay.ensures.does off)
 
 pub send-returns-in_err-process-in-Some-clause-gives : goal.send-returns-in_err-process-in-Some-clause-gives
 send-returns-in_err-process-in-Some-clause-gives t c =
@@ -600,8 +600,8 @@ default_search-returns-in_err-play-in-Fire-clause-gives t c =
     (λ x h. default_after chart c.args.bounds now c.args.s _ c.args.world.now c.list.ensures.list _ c.search.new.world _
     (ended_as found_of _ _ c.in-Fire.is c.in_ok-d.ensures.gives)
     (fired_fault chart c.args.bounds now c.args.s c.in-Fire.d (map (λ a. block_seen a.now) c.in-Fire.actions.items)
-    c.search.new.world c.play.new.world x (subst
-    (λ l. Settled
+    c.search.new.world c.play.new.world x
+    (subst (λ l. Settled
     (λ n. (upto chart c.args.bounds n).play c.args.s (map (λ a. block_seen a.now) l) now c.search.new.world)
     (Faulted x c.play.new.world)) c.deref.ensures.value h))) c.in_err-play-in-Fire.ensures.gives)
 
@@ -612,8 +612,8 @@ default_search-returns-in-Cut-clause-gives t c =
     default_after chart c.args.bounds now c.args.s _ c.args.world.now c.list.ensures.list _ c.search.new.world _
     (ended_as found_of _ _ c.in-Fire.is c.in_ok-d.ensures.gives)
     (fired_cut chart c.args.bounds now c.args.s c.in-Fire.d (map (λ a. block_seen a.now) c.in-Fire.actions.items)
-    c.search.new.world c.play.new.world (subst
-    (λ l. Settled
+    c.search.new.world c.play.new.world
+    (subst (λ l. Settled
     (λ n. (upto chart c.args.bounds n).play c.args.s (map (λ a. block_seen a.now) l) now c.search.new.world)
     (Ended Cut c.play.new.world)) c.deref.ensures.value
     (ended_as end_of _ _ c.in-Cut.is c.in_ok-play-in-Fire.ensures.gives)))
@@ -625,8 +625,8 @@ default_search-returns-in-Fire-clause-gives t c =
     passed {A = Unit {0}} (λ _. tt) _ _ _ _ (λ q h. default_after chart c.args.bounds now c.args.s _ c.args.world.now
     c.list.ensures.list _ c.search.new.world q (ended_as found_of _ _ c.in-Fire.is c.in_ok-d.ensures.gives)
     (fired_done chart c.args.bounds now c.args.s c.in-Fire.d (map (λ a. block_seen a.now) c.in-Fire.actions.items)
-    c.search.new.world c.play.new.world q (subst
-    (λ l. Settled
+    c.search.new.world c.play.new.world q
+    (subst (λ l. Settled
     (λ n. (upto chart c.args.bounds n).play c.args.s (map (λ a. block_seen a.now) l) now c.search.new.world)
     (Ended Done c.play.new.world)) c.deref.ensures.value
     (ended_as end_of _ _ c.in-Done.is c.in_ok-play-in-Fire.ensures.gives)) h)) c.enter_child.ensures.gives
@@ -860,8 +860,8 @@ go_on_inside-returns-in_err-take-in-Fire-clause-gives t c =
     (ended_as end_of _ _ c.in-Done.is c.in_ok-run_block.ensures.gives) _ c.list.ensures.list _ c.search.new.world _
     (ended_as found_of _ _ c.in-Fire.is c.in_ok-d-in-Done.ensures.gives)
     (inner_take_fault chart c.args.bounds now c.args.s c.in-Fire.d (map (λ a. block_seen a.now) c.in-Fire.actions.items)
-    c.search.new.world c.take.new.world x (subst
-    (λ l. Settled
+    c.search.new.world c.take.new.world x
+    (subst (λ l. Settled
     (λ n. (upto chart c.args.bounds n).take c.args.s c.in-Fire.d (map (λ a. block_seen a.now) l) now c.search.new.world)
     (Faulted x c.take.new.world)) c.deref.ensures.value h))) c.in_err-take-in-Fire.ensures.gives)
 
@@ -873,8 +873,8 @@ go_on_inside-returns-in_ok-take-in-Fire-clause-gives t c =
     (ended_as end_of _ _ c.in-Done.is c.in_ok-run_block.ensures.gives) _ c.list.ensures.list _ c.search.new.world _
     (ended_as found_of _ _ c.in-Fire.is c.in_ok-d-in-Done.ensures.gives)
     (inner_taken chart c.args.bounds now c.args.s c.in-Fire.d (map (λ a. block_seen a.now) c.in-Fire.actions.items)
-    c.search.new.world c.take.new.world (subst
-    (λ l. Settled
+    c.search.new.world c.take.new.world
+    (subst (λ l. Settled
     (λ n. (upto chart c.args.bounds n).take c.args.s c.in-Fire.d (map (λ a. block_seen a.now) l) now c.search.new.world)
     (Ended tt c.take.new.world)) c.deref.ensures.value c.in_ok-take-in-Fire.ensures.gives))
 

@@ -72,10 +72,12 @@ module _ (c : Chart) (b : Bounds) (good : ℕ → Type 0) (closed : (j : ℕ) �
     after_condition_finds t rest Done w h = dest_finds t.action rest t.dest w h
     after_condition_finds t rest Cut w h = tt
 
+    -- the search finds where its transition is taken
     taken : (t : Trans) (rest : List Trans) (w : World) → LeadsInto good t.dest
         → Finds (then_do (p.block life t.condition now w) (after_condition c b p life t rest now))
     taken t rest w h = then_finds _ _ (λ e w. after_condition_finds t rest e w h)
 
+    -- the search finds whether its transition is taken or not
     chosen : (t u : Trans) (ts : List Trans) (e : Bool) (w : World) → LeadsInto good t.dest → AlwaysGoes good (u ∷ ts)
         → Finds (choose e (λ w. then_do (p.block life t.condition now w) (after_condition c b p life t (u ∷ ts) now))
         (p.search life (u ∷ ts) now) w)

@@ -95,6 +95,7 @@ module _ (P : World → Type 0) where
   flagged (Err x) w p = faulted x w p
 
 module _ (c : Chart) (tree : IsTree c.tree) (b : Bounds) (P : World → Type 0) (ok : Closed c b P) where
+  -- each change and each test of the rules keeps P
   assign_finishes : (v : ℕ) (e : Expr) (w : World) → P w → Finishes P (assign v e w)
   assign_finishes v e w p = changed P (assigned_in v e w) w p (λ u q. ok.assigns v e w u q p)
 
@@ -109,6 +110,7 @@ module _ (c : Chart) (tree : IsTree c.tree) (b : Bounds) (P : World → Type 0) 
     alive_finishes : (life : Life) (w : World) → P w → Finishes P (while_alive c.tree life w)
     alive_finishes life w k = search (choose_finishes P, ended)
 
+    -- each rule over parts that keep P keeps P
     pub statement_finishes : (life : Life) (s : Stmt) (now : Now) (w : World) → P w
         → Finishes P (statement c b p life s now w)
     statement_finishes life (Assign v e) now w k =

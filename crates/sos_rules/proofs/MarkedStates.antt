@@ -85,6 +85,7 @@ module _ (t : Tree) (tree : IsTree t) where
       off x up false e = refl
       off x up true e = absurd (let f = can_mark_off t s m can in let g = k.parents x s up e in cc)
 
+      -- no child of s is active once s is marked
       child_off : (x : ℕ) → IsChild t s x → is_on x (with_mark s true m) ≡ false
       child_off x i =
           let ne : x ≢ s = λ e. absurd (omega (arith, i.above, e)) in
@@ -166,6 +167,7 @@ unfolding keep_in
 on_if t s x w true = is_on-with_last t s x w.marks
 on_if t s x w false = refl
 
+-- remembering a state changes nothing of what is bare
 bare_if : (t : Tree) (s x : ℕ) (w : World) (h : Bool) → is_bare t x (keep_if h t s w).marks ≡ is_bare t x w.marks
 unfolding keep_in
 bare_if t s x w true = is_bare-with_last t s x w.marks

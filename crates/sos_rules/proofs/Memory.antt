@@ -126,6 +126,7 @@ unfolding is_last
 last_child t s x m up = ap (λ o. option_map_or (λ p. is_this (last_of p m) x) o false) up
 
 module _ (t : Tree) (tree : IsTree t) (m : Configuration) (k : IsConsistent t m) (s : ℕ) where
+  -- what the tests find is what the entry names
   found_by : (o l : Option ℕ) → find (λ x. is_last t x m) (children_of t s) ≡ o → last_of s m ≡ l → o ≡ l
   unfolding children_of children_below
   found_by None None e f = refl

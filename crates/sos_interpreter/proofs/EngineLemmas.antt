@@ -68,7 +68,7 @@ engine_input e same v value is fits given' =
     input_value (chart_of e.chart).tree (chart_of e.chart).names e.world v value fits
     (input_of e same v value is given')
 
--- after it the engine goes on
+-- after an input is set the engine still meets its invariant
 pub engine_set : (e same : EngineState) (v : ℕ) (value : Value) (w : World) → e ≡ same → IsEngine e
     → same.stage ≡ Running → IsInputValue (chart_of same.chart).names v value → IsInputSet e.world v value w
     → IsEngine (record e { world = w })
@@ -87,7 +87,7 @@ started_fault c v b (Ok a) w h = tt
 started_fault c v b (Err (halts.Fault x)) w h = start_faults c v b _ h
 started_fault c v b (Err halts.Memory) w h = tt
 
--- and so does that of a reaction
+-- the fault that an answer of a reaction has names a datum that is declared
 pub reacted_fault : (c : Chart) → IsValid c
     → (b : Bounds) (w : World) (e : Event) (r : Result (Unit {0}) Halt) (w' : World)
     → AnswersBy (rules.Reacts c b w e w') r → IsFaultOf c.names (fault_of r)

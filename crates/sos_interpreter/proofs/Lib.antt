@@ -7,3 +7,4 @@ pub mod Worlds
 pub mod Turns
 pub mod Places
 pub mod EngineLemmas
+pub mod SearchLemmas

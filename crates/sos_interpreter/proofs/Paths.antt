@@ -31,6 +31,7 @@ use Rattle.state_tree.specs.declared.parts.Dest.TheVariants.{State, Junction}
 use Rattle.state_tree.specs.declared.parts.ListKind.TheVariants.{Outer}
 
 module _ (c : Chart) (b : Bounds) (now : Now) where
+  -- a block: its end, one statement more, a life that is over, and a fault
   pub block_end : (life : Life) (w : World) → Settled (λ n. (upto c b n).block life [] now w) (Ended Done w)
   block_end life w = settled_next (λ n. (upto c b n).block life [] now w) _ (settled_now _)
 
@@ -52,6 +53,7 @@ module _ (c : Chart) (b : Bounds) (now : Now) where
   block_fault life s rest w u x h =
       settled_next (λ n. (upto c b n).block life (s ∷ rest) now w) _ (settled_fault _ _ x u h)
 
+  -- assignments and outputs
   pub assign_done : (life : Life) (v : ℕ) (e : Expr) (w u : World) → assign v e w ≡ Ended tt u
       → Settled (λ n. statement c b (upto c b n) life (Assign v e) now w) (Ended Done u)
   assign_done life v e w u a = settled_then _ _ tt u _ (settled_is a) (settled_now _)
@@ -73,6 +75,7 @@ module _ (c : Chart) (b : Bounds) (now : Now) where
   sent None e = Send e
   sent (Some s) e = SendTo e s
 
+  -- a send in a statement, after which the life goes on, is over, or a fault came
   pub sent_done : (life : Life) (e : ℕ) (to : Option ℕ) (w u : World)
       → Settled (λ n. (upto c b n).send e to now w) (Ended tt u) → lives c.tree life u.marks ≡ true
       → Settled (λ n. statement c b (upto c b n) life (sent to e) now w) (Ended Done u)
@@ -91,13 +94,14 @@ module _ (c : Chart) (b : Bounds) (now : Now) where
   sent_fault life e None w u x h = settled_fault _ _ x u h
   sent_fault life e (Some s) w u x h = settled_fault _ _ x u h
 
-  -- with what the test of the life says
+  -- a send in a statement ends as the test of the life says
   pub sent_ends : (life : Life) (e : ℕ) (to : Option ℕ) (w u : World) (end : End)
       → Settled (λ n. (upto c b n).send e to now w) (Ended tt u) → while_alive c.tree life u ≡ Ended end u
       → Settled (λ n. statement c b (upto c b n) life (sent to e) now w) (Ended end u)
   sent_ends life e None w u end h l = settled_then _ _ tt u _ h (settled_is l)
   sent_ends life e (Some s) w u end h l = settled_then _ _ tt u _ h (settled_is l)
 
+  -- a send: too deep, not paid, to a state that isn't active, and one that is processed
   pub send_too_deep : (e : ℕ) (to : Option ℕ) (w : World) → nat_le b.depth now.depth ≡ true
       → Settled (λ n. (upto c b n).send e to now w) (Faulted faults.Depth w)
   send_too_deep e to w d = settled_next (λ n. (upto c b n).send e to now w) _ (settled_true _ _ _ w _ d (settled_now _))
@@ -130,6 +134,7 @@ module _ (c : Chart) (b : Bounds) (now : Now) where
       settled_next (λ n. (upto c b n).send e to now w) _ (settled_false _ _ _ w _ d
       (settled_then _ _ tt u _ (settled_is p) (settled_true _ _ _ u _ o (settled_fault _ _ x v h))))
 
+  -- leaving a state: it isn't active, a child faults or stays active, and the exit action in its four outcomes
   pub exit_off : (s : ℕ) (w : World) → is_on s w.marks ≡ false → Settled (λ n. (upto c b n).exit s now w) (Ended tt w)
   exit_off s w o = settled_next (λ n. (upto c b n).exit s now w) _ (search (settling, o) depth 9)
 
@@ -184,6 +189,7 @@ module _ (c : Chart) (b : Bounds) (now : Now) where
       (subst (λ l. Settled (λ n. (upto c b n).block (Bare s) l now u) (Ended Done v)) e g)
       (settled_true _ _ _ v _ q (settled_now _))))))
 
+  -- leaving states one after another
   pub exit_each_end : (w : World) → Settled (λ n. (upto c b n).exit_each [] now w) (Ended tt w)
   exit_each_end w = settled_next (λ n. (upto c b n).exit_each [] now w) _ (settled_now _)
 
@@ -198,6 +204,7 @@ module _ (c : Chart) (b : Bounds) (now : Now) where
       → Settled (λ n. (upto c b n).exit_each (x ∷ xs) now w) (Faulted f u)
   exit_each_fault x xs w u f h = settled_next (λ n. (upto c b n).exit_each (x ∷ xs) now w) _ (search (settled_fault, h))
 
+  -- leaving the active child, and the children of a leaf, an OR and an AND
   pub exit_active_one : (s x : ℕ) (w : World) (r : Run (Unit {0})) → Some x ≡ active_child c.tree s w.marks
       → Settled (λ n. (upto c b n).exit x now w) r
       → Settled (λ n. if_some (active_child c.tree s w.marks) nothing (λ x. (upto c b n).exit x now) w) r
@@ -227,6 +234,7 @@ module _ (c : Chart) (b : Bounds) (now : Now) where
       subst (λ o. Settled (λ n. exit_children c (upto c b n) s now o w) r) e
       (subst (λ xs. Settled (λ n. (upto c b n).exit_each xs now w) r) k h)
 
+  -- a search: no transition is left, one isn't enabled, or one faults or is stopped
   pub search_end : (life : Life) (w : World) → Settled (λ n. (upto c b n).search life [] now w) (Ended No w)
   search_end life w = settled_next (λ n. (upto c b n).search life [] now w) _ (settled_now _)
 
@@ -265,6 +273,7 @@ module _ (c : Chart) (b : Bounds) (now : Now) where
       (settled_then _ _ true w _ (settled_is e) (settled_then _ _ Done u _ h
       (subst (λ d. Settled (λ n. at_dest c b (upto c b n) life t.action ts now d u) r) k g)))
 
+  -- the destination of a transition: a state, or a junction that can't be paid, is a dead end, or is searched
   pub dest_state : (life : Life) (action : List Stmt) (ts : List Trans) (d : ℕ) (w : World)
       → Settled (λ n. at_dest c b (upto c b n) life action ts now (State d) w) (Ended (Fire d (action ∷ [])) w)
   dest_state life action ts d w = settled_now _
@@ -297,6 +306,7 @@ module _ (c : Chart) (b : Bounds) (now : Now) where
       (λ l. Settled (λ n. visit c b (upto c b n) life action ts now l u) r) e
       (visit_some life action ts list u q r some h k))
 
+  -- entering a state: it can't be marked, and the entry action in its three outcomes
   pub enter_no : (s d : ℕ) (w : World) → can_mark c.tree s w.marks ≡ false
       → Settled (λ n. (upto c b n).enter s d now w) (Ended tt w)
   enter_no s d w e = settled_next (λ n. (upto c b n).enter s d now w) _ (settled_false _ _ _ w _ e (settled_now _))
@@ -329,6 +339,7 @@ module _ (c : Chart) (b : Bounds) (now : Now) where
         settled_next (λ n. (upto c b n).enter s d now w) _
         (settled_true _ _ _ w _ can (settled_then _ _ Done v _ (entry_of _ h) k))
 
+  -- entering the children of a leaf, an OR and an AND
   pub inside_leaf : (s d : ℕ) (o : Comp) (w : World) → Leaf ≡ o
       → Settled (λ n. enter_inside c (upto c b n) s d now o w) (Ended tt w)
   inside_leaf s d o w e =
@@ -346,6 +357,7 @@ module _ (c : Chart) (b : Bounds) (now : Now) where
       subst (λ o. Settled (λ n. enter_inside c (upto c b n) s d now o w) r) e
       (subst (λ xs. Settled (λ n. (upto c b n).enter_each xs d now w) r) k h)
 
+  -- entering states one after another
   pub enter_each_end : (d : ℕ) (w : World) → Settled (λ n. (upto c b n).enter_each [] d now w) (Ended tt w)
   enter_each_end d w = settled_next (λ n. (upto c b n).enter_each [] d now w) _ (settled_now _)
 
@@ -363,6 +375,7 @@ module _ (c : Chart) (b : Bounds) (now : Now) where
       settled_next (λ n. (upto c b n).enter_each (x ∷ xs) d now w) _
       (settled_fault _ _ f u (subst (λ t. Settled (λ n. (upto c b n).enter x t now w) (Faulted f u)) e h))
 
+  -- entering the child towards a state, where there is one
   pub toward_one : (s d x : ℕ) (w : World) (r : Run (Unit {0})) → Some x ≡ child_toward c.tree s d
       → Settled (λ n. (upto c b n).enter x d now w) r
       → Settled (λ n. if_some (child_toward c.tree s d) nothing (λ x. (upto c b n).enter x d now) w) r
@@ -380,6 +393,7 @@ module _ (c : Chart) (b : Bounds) (now : Now) where
         → Settled (λ n. (upto c b n).search (Bare s) (node c s).default now w) r
     default_of r h = subst (λ l. Settled (λ n. (upto c b n).search (Bare s) l now w) r) e h
 
+    -- the default list of an OR is searched
     pub default_fault : (u : World) (x : Fault) → Settled (λ n. (upto c b n).search (Bare s) l now w) (Faulted x u)
         → Settled (λ n. default_search c (upto c b n) s now w) (Faulted x u)
     default_fault u x h = settled_fault _ _ x u (default_of _ h)
@@ -390,6 +404,7 @@ module _ (c : Chart) (b : Bounds) (now : Now) where
         → Settled (λ n. default_search c (upto c b n) s now w) r
     default_after f u r h k = settled_then _ _ f u r (default_of _ h) k
 
+  -- an OR with no remembered child searches its default list, and one with such a child goes back to it
   pub defaults_search : (s : ℕ) (w : World) (r : Run (Unit {0})) → None ≡ remembered c s w
       → Settled (λ n. default_search c (upto c b n) s now w) r → Settled (λ n. (upto c b n).defaults s now w) r
   defaults_search s w r e h =
@@ -402,102 +417,106 @@ module _ (c : Chart) (b : Bounds) (now : Now) where
       settled_next (λ n. (upto c b n).defaults s now w) r (settled_some (remembered c s w) x
       (λ n. default_search c (upto c b n) s now) (λ n x. (upto c b n).enter x x now) w r (sym e) h)
 
-  pub fired_fault : (s d : ℕ) (acts : List (List Stmt)) (w u : World) (x : Fault)
-      → Settled (λ n. (upto c b n).play s acts now w) (Faulted x u)
-      → Settled (λ n. after_default c (upto c b n) s now (Fire d acts) w) (Faulted x u)
-  fired_fault s d acts w u x h = settled_fault _ _ x u h
+  -- the default transition that was found: its actions in three outcomes
+  pub fired_fault : (s d : ℕ) (actions : List (List Stmt)) (w u : World) (x : Fault)
+      → Settled (λ n. (upto c b n).play s actions now w) (Faulted x u)
+      → Settled (λ n. after_default c (upto c b n) s now (Fire d actions) w) (Faulted x u)
+  fired_fault s d actions w u x h = settled_fault _ _ x u h
 
-  pub fired_cut : (s d : ℕ) (acts : List (List Stmt)) (w u : World)
-      → Settled (λ n. (upto c b n).play s acts now w) (Ended Cut u)
-      → Settled (λ n. after_default c (upto c b n) s now (Fire d acts) w) (Ended tt u)
-  fired_cut s d acts w u h = settled_then _ _ Cut u _ h (settled_now _)
+  pub fired_cut : (s d : ℕ) (actions : List (List Stmt)) (w u : World)
+      → Settled (λ n. (upto c b n).play s actions now w) (Ended Cut u)
+      → Settled (λ n. after_default c (upto c b n) s now (Fire d actions) w) (Ended tt u)
+  fired_cut s d actions w u h = settled_then _ _ Cut u _ h (settled_now _)
 
-  pub fired_done : (s d : ℕ) (acts : List (List Stmt)) (w u : World) (r : Run (Unit {0}))
-      → Settled (λ n. (upto c b n).play s acts now w) (Ended Done u)
+  pub fired_done : (s d : ℕ) (actions : List (List Stmt)) (w u : World) (r : Run (Unit {0}))
+      → Settled (λ n. (upto c b n).play s actions now w) (Ended Done u)
       → Settled (λ n. if_some (child_toward c.tree s d) nothing (λ x. (upto c b n).enter x d now) u) r
-      → Settled (λ n. after_default c (upto c b n) s now (Fire d acts) w) r
-  fired_done s d acts w u r h k = settled_then _ _ Done u _ h k
+      → Settled (λ n. after_default c (upto c b n) s now (Fire d actions) w) r
+  fired_done s d actions w u r h k = settled_then _ _ Done u _ h k
 
-  module _ (s d : ℕ) (acts : List (List Stmt)) (w : World) where
+  module _ (s d : ℕ) (actions : List (List Stmt)) (w : World) where
+    -- taking a transition: the old states are left, the actions are played, and the new states are entered
     pub take_exit_fault : (u : World) (x : Fault)
         → Settled (λ n. if_some (active_child c.tree s w.marks) nothing (λ x. (upto c b n).exit x now) w) (Faulted x u)
-        → Settled (λ n. (upto c b n).take s d acts now w) (Faulted x u)
-    take_exit_fault u x h = settled_next (λ n. (upto c b n).take s d acts now w) _ (settled_fault _ _ x u h)
+        → Settled (λ n. (upto c b n).take s d actions now w) (Faulted x u)
+    take_exit_fault u x h = settled_next (λ n. (upto c b n).take s d actions now w) _ (settled_fault _ _ x u h)
 
     module _ (u : World) (h : Settled
         (λ n. if_some (active_child c.tree s w.marks) nothing (λ x. (upto c b n).exit x now) w) (Ended tt u)) where
       pub take_not_bare : is_bare c.tree s u.marks ≡ false
-          → Settled (λ n. (upto c b n).take s d acts now w) (Ended tt u)
+          → Settled (λ n. (upto c b n).take s d actions now w) (Ended tt u)
       take_not_bare e =
-          settled_next (λ n. (upto c b n).take s d acts now w) _
+          settled_next (λ n. (upto c b n).take s d actions now w) _
           (settled_then _ _ tt u _ h (settled_false _ _ _ u _ e (settled_now _)))
 
       pub take_play_fault : (v : World) (x : Fault) → is_bare c.tree s u.marks ≡ true
-          → Settled (λ n. (upto c b n).play s acts now u) (Faulted x v)
-          → Settled (λ n. (upto c b n).take s d acts now w) (Faulted x v)
+          → Settled (λ n. (upto c b n).play s actions now u) (Faulted x v)
+          → Settled (λ n. (upto c b n).take s d actions now w) (Faulted x v)
       take_play_fault v x e k =
-          settled_next (λ n. (upto c b n).take s d acts now w) _
+          settled_next (λ n. (upto c b n).take s d actions now w) _
           (settled_then _ _ tt u _ h (settled_true _ _ _ u _ e (settled_fault _ _ x v k)))
 
       pub take_cut : (v : World) → is_bare c.tree s u.marks ≡ true
-          → Settled (λ n. (upto c b n).play s acts now u) (Ended Cut v)
-          → Settled (λ n. (upto c b n).take s d acts now w) (Ended tt v)
+          → Settled (λ n. (upto c b n).play s actions now u) (Ended Cut v)
+          → Settled (λ n. (upto c b n).take s d actions now w) (Ended tt v)
       take_cut v e k =
-          settled_next (λ n. (upto c b n).take s d acts now w) _
+          settled_next (λ n. (upto c b n).take s d actions now w) _
           (settled_then _ _ tt u _ h (settled_true _ _ _ u _ e (settled_then _ _ Cut v _ k (settled_now _))))
 
       pub take_left : (v : World) → is_bare c.tree s u.marks ≡ true
-          → Settled (λ n. (upto c b n).play s acts now u) (Ended Done v) → is_bare c.tree s v.marks ≡ false
-          → Settled (λ n. (upto c b n).take s d acts now w) (Ended tt v)
+          → Settled (λ n. (upto c b n).play s actions now u) (Ended Done v) → is_bare c.tree s v.marks ≡ false
+          → Settled (λ n. (upto c b n).take s d actions now w) (Ended tt v)
       take_left v e k f =
-          settled_next (λ n. (upto c b n).take s d acts now w) _
+          settled_next (λ n. (upto c b n).take s d actions now w) _
           (settled_then _ _ tt u _ h
           (settled_true _ _ _ u _ e (settled_then _ _ Done v _ k (settled_false _ _ _ v _ f (settled_now _)))))
 
       pub take_enters : (v : World) (r : Run (Unit {0})) → is_bare c.tree s u.marks ≡ true
-          → Settled (λ n. (upto c b n).play s acts now u) (Ended Done v) → is_bare c.tree s v.marks ≡ true
-          → Settled (λ n. enter_toward c (upto c b n) s d now v) r → Settled (λ n. (upto c b n).take s d acts now w) r
+          → Settled (λ n. (upto c b n).play s actions now u) (Ended Done v) → is_bare c.tree s v.marks ≡ true
+          → Settled (λ n. enter_toward c (upto c b n) s d now v) r
+          → Settled (λ n. (upto c b n).take s d actions now w) r
       take_enters v r e k f q =
-          settled_next (λ n. (upto c b n).take s d acts now w) _
+          settled_next (λ n. (upto c b n).take s d actions now w) _
           (settled_then _ _ tt u _ h
           (settled_true _ _ _ u _ e (settled_then _ _ Done v _ k (settled_true _ _ _ v _ f q))))
 
+  -- playing actions: none is left, an empty one, and one in its four outcomes
   pub play_end : (s : ℕ) (w : World) → Settled (λ n. (upto c b n).play s [] now w) (Ended Done w)
   play_end s w = settled_next (λ n. (upto c b n).play s [] now w) _ (settled_now _)
 
-  pub play_skip : (s : ℕ) (a : List Stmt) (acts : List (List Stmt)) (w : World) (r : Run End) → a ≡ []
-      → Settled (λ n. (upto c b n).play s acts now w) r → Settled (λ n. (upto c b n).play s (a ∷ acts) now w) r
-  play_skip s [] acts w r e h = settled_next (λ n. (upto c b n).play s ([] ∷ acts) now w) r h
-  play_skip s (x ∷ xs) acts w r e h = absurd cc
+  pub play_skip : (s : ℕ) (a : List Stmt) (actions : List (List Stmt)) (w : World) (r : Run End) → a ≡ []
+      → Settled (λ n. (upto c b n).play s actions now w) r → Settled (λ n. (upto c b n).play s (a ∷ actions) now w) r
+  play_skip s [] actions w r e h = settled_next (λ n. (upto c b n).play s ([] ∷ actions) now w) r h
+  play_skip s (x ∷ xs) actions w r e h = absurd cc
 
-  pub play_pay_fault : (s : ℕ) (a : List Stmt) (acts : List (List Stmt)) (w u : World) (x : Fault) → (a ≡ [] → ⊥)
-      → pay b w ≡ Faulted x u → Settled (λ n. (upto c b n).play s (a ∷ acts) now w) (Faulted x u)
-  play_pay_fault s [] acts w u x e p = absurd (e refl)
-  play_pay_fault s (y ∷ ys) acts w u x e p =
-      settled_next (λ n. (upto c b n).play s ((y ∷ ys) ∷ acts) now w) _ (settled_fault _ _ x u (settled_is p))
+  pub play_pay_fault : (s : ℕ) (a : List Stmt) (actions : List (List Stmt)) (w u : World) (x : Fault) → (a ≡ [] → ⊥)
+      → pay b w ≡ Faulted x u → Settled (λ n. (upto c b n).play s (a ∷ actions) now w) (Faulted x u)
+  play_pay_fault s [] actions w u x e p = absurd (e refl)
+  play_pay_fault s (y ∷ ys) actions w u x e p =
+      settled_next (λ n. (upto c b n).play s ((y ∷ ys) ∷ actions) now w) _ (settled_fault _ _ x u (settled_is p))
 
-  pub play_fault : (s : ℕ) (a : List Stmt) (acts : List (List Stmt)) (w u v : World) (x : Fault) → (a ≡ [] → ⊥)
+  pub play_fault : (s : ℕ) (a : List Stmt) (actions : List (List Stmt)) (w u v : World) (x : Fault) → (a ≡ [] → ⊥)
       → pay b w ≡ Ended tt u → Settled (λ n. (upto c b n).block (Bare s) a now u) (Faulted x v)
-      → Settled (λ n. (upto c b n).play s (a ∷ acts) now w) (Faulted x v)
-  play_fault s [] acts w u v x e p h = absurd (e refl)
-  play_fault s (y ∷ ys) acts w u v x e p h =
-      settled_next (λ n. (upto c b n).play s ((y ∷ ys) ∷ acts) now w) _
+      → Settled (λ n. (upto c b n).play s (a ∷ actions) now w) (Faulted x v)
+  play_fault s [] actions w u v x e p h = absurd (e refl)
+  play_fault s (y ∷ ys) actions w u v x e p h =
+      settled_next (λ n. (upto c b n).play s ((y ∷ ys) ∷ actions) now w) _
       (settled_then _ _ tt u _ (settled_is p) (settled_fault _ _ x v h))
 
-  pub play_cut : (s : ℕ) (a : List Stmt) (acts : List (List Stmt)) (w u v : World) → (a ≡ [] → ⊥) → pay b w ≡ Ended tt u
-      → Settled (λ n. (upto c b n).block (Bare s) a now u) (Ended Cut v)
-      → Settled (λ n. (upto c b n).play s (a ∷ acts) now w) (Ended Cut v)
-  play_cut s [] acts w u v e p h = absurd (e refl)
-  play_cut s (y ∷ ys) acts w u v e p h =
-      settled_next (λ n. (upto c b n).play s ((y ∷ ys) ∷ acts) now w) _
+  pub play_cut : (s : ℕ) (a : List Stmt) (actions : List (List Stmt)) (w u v : World) → (a ≡ [] → ⊥)
+      → pay b w ≡ Ended tt u → Settled (λ n. (upto c b n).block (Bare s) a now u) (Ended Cut v)
+      → Settled (λ n. (upto c b n).play s (a ∷ actions) now w) (Ended Cut v)
+  play_cut s [] actions w u v e p h = absurd (e refl)
+  play_cut s (y ∷ ys) actions w u v e p h =
+      settled_next (λ n. (upto c b n).play s ((y ∷ ys) ∷ actions) now w) _
       (settled_then _ _ tt u _ (settled_is p) (settled_then _ _ Cut v _ h (settled_now _)))
 
-  pub play_more : (s : ℕ) (a : List Stmt) (acts : List (List Stmt)) (w u v : World) (r : Run End) → (a ≡ [] → ⊥)
+  pub play_more : (s : ℕ) (a : List Stmt) (actions : List (List Stmt)) (w u v : World) (r : Run End) → (a ≡ [] → ⊥)
       → pay b w ≡ Ended tt u → Settled (λ n. (upto c b n).block (Bare s) a now u) (Ended Done v)
-      → Settled (λ n. (upto c b n).play s acts now v) r → Settled (λ n. (upto c b n).play s (a ∷ acts) now w) r
-  play_more s [] acts w u v r e p h k = absurd (e refl)
-  play_more s (y ∷ ys) acts w u v r e p h k =
-      settled_next (λ n. (upto c b n).play s ((y ∷ ys) ∷ acts) now w) _
+      → Settled (λ n. (upto c b n).play s actions now v) r → Settled (λ n. (upto c b n).play s (a ∷ actions) now w) r
+  play_more s [] actions w u v r e p h k = absurd (e refl)
+  play_more s (y ∷ ys) actions w u v r e p h k =
+      settled_next (λ n. (upto c b n).play s ((y ∷ ys) ∷ actions) now w) _
       (settled_then _ _ tt u _ (settled_is p) (settled_then _ _ Done v _ h k))
 
   module _ (s : ℕ) (l : List Trans) (w : World) (e : l ≡ (node c s).outer) where
@@ -505,6 +524,7 @@ module _ (c : Chart) (b : Bounds) (now : Now) where
         → Settled (λ n. (upto c b n).search (On s) (node c s).outer now w) r
     outer_of r h = subst (λ l. Settled (λ n. (upto c b n).search (On s) l now w) r) e h
 
+    -- processing a state: its outer list is searched
     pub process_fault : (u : World) (x : Fault) → Settled (λ n. (upto c b n).search (On s) l now w) (Faulted x u)
         → Settled (λ n. (upto c b n).process s now w) (Faulted x u)
     process_fault u x h = settled_next (λ n. (upto c b n).process s now w) _ (settled_fault _ _ x u (outer_of _ h))
@@ -515,18 +535,19 @@ module _ (c : Chart) (b : Bounds) (now : Now) where
     process_after f u r h k =
         settled_next (λ n. (upto c b n).process s now w) r (settled_then _ _ f u r (outer_of _ h) k)
 
-  pub outer_fault : (s d q : ℕ) (acts : List (List Stmt)) (w u : World) (x : Fault) → q ≡ home_of c.tree s Outer d
-      → Settled (λ n. (upto c b n).take q d acts now w) (Faulted x u)
-      → Settled (λ n. after_outer c (upto c b n) s now (Fire d acts) w) (Faulted x u)
-  outer_fault s d q acts w u x e h =
-      settled_fault _ _ x u (subst (λ q. Settled (λ n. (upto c b n).take q d acts now w) (Faulted x u)) e h)
+  -- an outer transition that was found is taken
+  pub outer_fault : (s d q : ℕ) (actions : List (List Stmt)) (w u : World) (x : Fault) → q ≡ home_of c.tree s Outer d
+      → Settled (λ n. (upto c b n).take q d actions now w) (Faulted x u)
+      → Settled (λ n. after_outer c (upto c b n) s now (Fire d actions) w) (Faulted x u)
+  outer_fault s d q actions w u x e h =
+      settled_fault _ _ x u (subst (λ q. Settled (λ n. (upto c b n).take q d actions now w) (Faulted x u)) e h)
 
-  pub outer_taken : (s d q : ℕ) (acts : List (List Stmt)) (w u : World) → q ≡ home_of c.tree s Outer d
-      → Settled (λ n. (upto c b n).take q d acts now w) (Ended tt u)
-      → Settled (λ n. after_outer c (upto c b n) s now (Fire d acts) w) (Ended (Out q) u)
-  outer_taken s d q acts w u e h =
-      subst (λ p. Settled (λ n. after_outer c (upto c b n) s now (Fire d acts) w) (Ended (Out p) u)) (sym e)
-      (settled_then _ _ tt u _ (subst (λ q. Settled (λ n. (upto c b n).take q d acts now w) (Ended tt u)) e h)
+  pub outer_taken : (s d q : ℕ) (actions : List (List Stmt)) (w u : World) → q ≡ home_of c.tree s Outer d
+      → Settled (λ n. (upto c b n).take q d actions now w) (Ended tt u)
+      → Settled (λ n. after_outer c (upto c b n) s now (Fire d actions) w) (Ended (Out q) u)
+  outer_taken s d q actions w u e h =
+      subst (λ p. Settled (λ n. after_outer c (upto c b n) s now (Fire d actions) w) (Ended (Out p) u)) (sym e)
+      (settled_then _ _ tt u _ (subst (λ q. Settled (λ n. (upto c b n).take q d actions now w) (Ended tt u)) e h)
       (settled_now _))
 
   module _ (s : ℕ) (l : List Stmt) (w : World) (e : l ≡ (node c s).during) where
@@ -534,6 +555,7 @@ module _ (c : Chart) (b : Bounds) (now : Now) where
         → Settled (λ n. (upto c b n).block (On s) (node c s).during now w) r
     during_of r h = subst (λ l. Settled (λ n. (upto c b n).block (On s) l now w) r) e h
 
+    -- no outer transition was found: the during action, and then the inner list
     pub during_fault : (u : World) (x : Fault) → Settled (λ n. (upto c b n).block (On s) l now w) (Faulted x u)
         → Settled (λ n. go_on_inside c (upto c b n) s now w) (Faulted x u)
     during_fault u x h = settled_fault _ _ x u (during_of _ h)
@@ -557,16 +579,18 @@ module _ (c : Chart) (b : Bounds) (now : Now) where
           → Settled (λ n. after_inner c (upto c b n) s now f v) r → Settled (λ n. go_on_inside c (upto c b n) s now w) r
       inner_after f v r g q = settled_then _ _ Done u _ (during_of _ h) (settled_then _ _ f v _ (inner_of _ g) q)
 
-  pub inner_take_fault : (s d : ℕ) (acts : List (List Stmt)) (w u : World) (x : Fault)
-      → Settled (λ n. (upto c b n).take s d acts now w) (Faulted x u)
-      → Settled (λ n. after_inner c (upto c b n) s now (Fire d acts) w) (Faulted x u)
-  inner_take_fault s d acts w u x h = settled_fault _ _ x u h
+  -- an inner transition that was found is taken
+  pub inner_take_fault : (s d : ℕ) (actions : List (List Stmt)) (w u : World) (x : Fault)
+      → Settled (λ n. (upto c b n).take s d actions now w) (Faulted x u)
+      → Settled (λ n. after_inner c (upto c b n) s now (Fire d actions) w) (Faulted x u)
+  inner_take_fault s d actions w u x h = settled_fault _ _ x u h
 
-  pub inner_taken : (s d : ℕ) (acts : List (List Stmt)) (w u : World)
-      → Settled (λ n. (upto c b n).take s d acts now w) (Ended tt u)
-      → Settled (λ n. after_inner c (upto c b n) s now (Fire d acts) w) (Ended Stay u)
-  inner_taken s d acts w u h = settled_then _ _ tt u _ h (settled_now _)
+  pub inner_taken : (s d : ℕ) (actions : List (List Stmt)) (w u : World)
+      → Settled (λ n. (upto c b n).take s d actions now w) (Ended tt u)
+      → Settled (λ n. after_inner c (upto c b n) s now (Fire d actions) w) (Ended Stay u)
+  inner_taken s d actions w u h = settled_then _ _ tt u _ h (settled_now _)
 
+  -- processing the children of a leaf, an OR and an AND
   pub kids_leaf : (s : ℕ) (o : Comp) (w : World) → Leaf ≡ o
       → Settled (λ n. process_children c (upto c b n) s now o w) (Ended Stay w)
   kids_leaf s o w e =
@@ -610,6 +634,7 @@ module _ (c : Chart) (b : Bounds) (now : Now) where
       subst (λ o. Settled (λ n. process_children c (upto c b n) s now o w) r) e
       (subst (λ xs. Settled (λ n. (upto c b n).process_each xs now w) r) k h)
 
+  -- processing the regions one after another
   pub each_end : (w : World) → Settled (λ n. (upto c b n).process_each [] now w) (Ended Stay w)
   each_end w = settled_next (λ n. (upto c b n).process_each [] now w) _ (settled_now _)
 

@@ -16,6 +16,7 @@ use Rattle.sos_rules.specs.Searches.{pay}
 use Rattle.state_tree.specs.Chart.{Chart, is_remembered}
 use Rattle.sos_rules.specs.Moves.{keep_if, entered_in}
 
+-- keeping what is remembered costs nothing
 kept_used : (c : Chart) (s : ℕ) (w : World) (h : Bool) → (keep_if h c.tree s (set_mark s true w)).used ≡ w.used
 unfolding keep_in
 kept_used c s w true = refl
@@ -26,6 +27,7 @@ entered_used : (c : Chart) (s : ℕ) (w : World) → (entered_in c s w).used ≡
 unfolding entered_in
 entered_used c s w = kept_used c s w (is_remembered c s)
 
+-- every change keeps the steps used at or above a number
 used_closed : (c : Chart) (b : Bounds) (k : ℕ) → Closed c b (λ v. k ≤ v.used)
 used_closed c b k = record {
   pays = λ w v e h. let f = (paid_ok b w v e).1 in omega arith;
@@ -35,11 +37,13 @@ used_closed c b k = record {
   clears = λ s w pos bare h. h;
 }
 
+-- what holds when work finishes holds of the world at its end
 at_end : {A : Type 0} (P : World → Type 0) {r : Run A} → Finishes P r → (a : A) (w : World) → r ≡ Ended a w → P w
 at_end P (ended x v p) a w e = let f : v ≡ w = cc in subst P f p
 at_end P (faulted x v p) a w e = absurd cc
 at_end P unfinished a w e = absurd cc
 
+-- a block that ends has used no fewer steps than before
 pub block_uses : (c : Chart) → IsTree c.tree
     → (b : Bounds) (life : Life) (stmts : List Stmt) (now : Now) (w v : World) (e : End)
     → Settled (λ n. (upto c b n).block life stmts now w) (Ended e v) → w.used ≤ v.used
@@ -48,6 +52,7 @@ block_uses c tree b life stmts now w v e (settled from h) =
     ((upto_keep c tree b (λ v. w.used ≤ v.used) (used_closed c b w.used) from).block life stmts now w (omega arith)) e v
     (h from (omega arith))
 
+-- a step that is paid was left, and one more is used
 pub pay_done : (b : Bounds) (w v : World) → pay b w ≡ Ended tt v → (w.used < b.steps) × (v.used ≡ w.used + 1)
 pay_done b w v e = at (paid_in b w) refl e
   where

@@ -42,8 +42,11 @@ use Rattle.actions.proofs.DataLemmas.{all_push}
 -- an input that is set
 pub input_set : (w w' : World) (v : ℕ) (value : Value) (vals : List Datum) → w ≡ w' → assigned w.vals v value ≡ Ok vals
     → IsInputSet w' v value (record w { vals = vals })
-input_set w w' v value vals same e =
-    (vals, ap (λ (x : World). assigned x.vals v value) (sym same) ∙ e, ap (λ (x : World). record x { vals = vals }) same)
+input_set w w' v value vals same e = (
+  vals,
+  ap (λ (x : World). assigned x.vals v value) (sym same) ∙ e,
+  ap (λ (x : World). record x { vals = vals }) same,
+)
 
 -- another world with the same data and outputs, and consistent marks
 pub fits_as : (t : Tree) (n : Names) (w v : World) → Fits t n w → IsConsistent t v.marks → v.vals ≡ w.vals
@@ -56,6 +59,7 @@ fits_as t n w v fits k a b = record {
   outputs = subst (AllByRecursion (λ event. event < length n.events)) (sym b) fits.outputs;
 }
 
+-- a world with one more output event fits
 pub out_fits : (t : Tree) (n : Names) (e : ℕ) (w : World) → Fits t n w → e < length n.events → Fits t n (put_out e w)
 out_fits t n e w fits lt = record {
   states = fits.states;
@@ -65,6 +69,7 @@ out_fits t n e w fits lt = record {
   outputs = all_push (λ (event : ℕ). event < length n.events) w.outputs e fits.outputs lt;
 }
 
+-- a world with an assigned datum fits
 pub assigned_fits : (t : Tree) (n : Names) (w : World) (v : ℕ) (value : Value) (vals : List Datum) → Fits t n w
     → CanTake (datum w.vals v).sort value → assigned w.vals v value ≡ Ok vals → Fits t n (record w { vals = vals })
 assigned_fits t n w v value vals fits can e = record {
@@ -77,14 +82,17 @@ assigned_fits t n w v value vals fits can e = record {
 
 -- ---- whether a state can be marked
 
+-- an active state can't be marked
 pub can_on : (t : Tree) (s : ℕ) (m : Configuration) → is_on s m ≡ true → can_mark t s m ≡ false
 unfolding can_mark
 can_on t s m e = ap (λ b. not b && parent_takes_child t (parent_of t s) m) e
 
+-- a root that isn't active can be marked
 pub can_root : (t : Tree) (s : ℕ) (m : Configuration) → is_on s m ≡ false → parent_of t s ≡ None → can_mark t s m ≡ true
 unfolding can_mark
 can_root t s m e f = ap (λ b. not b && parent_takes_child t (parent_of t s) m) e ∙ ap (λ o. parent_takes_child t o m) f
 
+-- whether a state that isn't active can be marked depends on whether its parent takes a child
 pub can_below : (t : Tree) (s p : ℕ) (o : Comp) (m : Configuration) → is_on s m ≡ false → parent_of t s ≡ Some p
     → comp_of t p ≡ o → can_mark t s m ≡ takes_child t p o m
 unfolding can_mark
@@ -94,21 +102,25 @@ can_below t s p o m e f g =
 
 -- ---- paying, assigning and testing
 
+-- no step is left to pay
 pub pay_spent : (b : Bounds) (w : World) → nat_le b.steps w.used ≡ true → pay b w ≡ Faulted Steps w
 unfolding paid_in
 pay_spent b w e =
     ap (λ (full : Bool). change_or_fault (cond full (Err Steps) (Ok (record w { used = w.used + 1 }))) w) e
 
+-- a step is paid
 pub pay_left : (b : Bounds) (w : World) → nat_le b.steps w.used ≡ false
     → pay b w ≡ Ended tt (record w { used = w.used + 1 })
 unfolding paid_in
 pay_left b w e = ap (λ (full : Bool). change_or_fault (cond full (Err Steps) (Ok (record w { used = w.used + 1 }))) w) e
 
+-- an expression without a value faults
 pub assign_no_value : (v : ℕ) (e : Expr) (w : World) (x : Fault) → value_of w.vals w.marks e ≡ Err x
     → assign v e w ≡ Faulted x w
 unfolding assigned_in
 assign_no_value v e w x q = ap (λ (r : Valued). change_or_fault (assigned_value v r w) w) q
 
+-- a value that its datum can't take faults
 pub assign_no_room : (v : ℕ) (e : Expr) (w : World) (value : Value) (x : Fault) → value_of w.vals w.marks e ≡ Ok value
     → assigned w.vals v value ≡ Err x → assign v e w ≡ Faulted x w
 unfolding assigned_in
@@ -116,6 +128,7 @@ assign_no_room v e w value x q r =
     ap (λ (r : Valued). change_or_fault (assigned_value v r w) w) q
     ∙ ap (λ (r : Result (List Datum) Fault). change_or_fault (with_data r w) w) r
 
+-- a value is assigned
 pub assign_kept : (v : ℕ) (e : Expr) (w : World) (value : Value) (vals : List Datum)
     → value_of w.vals w.marks e ≡ Ok value → assigned w.vals v value ≡ Ok vals
     → assign v e w ≡ Ended tt (record w { vals = vals })
@@ -124,16 +137,19 @@ assign_kept v e w value vals q r =
     ap (λ (r : Valued). change_or_fault (assigned_value v r w) w) q
     ∙ ap (λ (r : Result (List Datum) Fault). change_or_fault (with_data r w) w) r
 
+-- a condition without a value faults
 pub truth_fault : (e : Expr) (w : World) (x : Fault) → value_of w.vals w.marks e ≡ Err x
     → flag_or_fault (truth_of e w) w ≡ Faulted x w
 unfolding truth_of
 truth_fault e w x q = ap (λ (r : Valued). flag_or_fault (truth r) w) q
 
+-- a condition is true or false as its value says
 pub truth_is : (e : Expr) (w : World) (value : Value) → value_of w.vals w.marks e ≡ Ok value
     → flag_or_fault (truth_of e w) w ≡ Ended (flag_of value) w
 unfolding truth_of
 truth_is e w value q = ap (λ (r : Valued). flag_or_fault (truth r) w) q
 
+-- what an assignment answers is what the rule for it gives
 pub assign_does : (v : ℕ) (e : Expr) (w : World) (value : Value) (vals : List Datum) (answer : Result (Unit {0}) Fault)
     → value_of w.vals w.marks e ≡ Ok value → OnOk answer (assigned w.vals v value ≡ Ok vals)
     → IfErr answer (λ x. assigned w.vals v value ≡ Err x) → OnErr answer (vals ≡ w.vals)
@@ -142,6 +158,7 @@ assign_does v e w value vals (Ok a) q taken refused same = assign_kept v e w val
 assign_does v e w value vals (Err x) q taken refused same =
     assign_no_room v e w value x q refused ∙ ap (λ (l : List Datum). Faulted x (record w { vals = l })) (sym same)
 
+-- after an assignment, also one that faulted, the world fits
 pub assign_fits : (t : Tree) (n : Names) (w : World) (v : ℕ) (value : Value) (vals : List Datum)
     (answer : Result (Unit {0}) Fault)
     → Fits t n w → CanTake (datum w.vals v).sort value → OnOk answer (assigned w.vals v value ≡ Ok vals)
@@ -150,12 +167,15 @@ assign_fits t n w v value vals (Ok done) fits can taken refused = assigned_fits 
 assign_fits t n w v value vals (Err fault) fits can taken refused =
     subst (λ (x : List Datum). Fits t n (record w { vals = x })) (sym refused) fits
 
+-- the declaration of a datum
 abbrev fixed_of : Datum → Declaration
 fixed_of d = record { sort = d.sort; mode = d.mode }
 
+-- the declaration of a variable
 abbrev fixed_by : Var → Declaration
 fixed_by v = record { sort = v.sort; mode = v.mode }
 
+-- a declared datum is there, and has the sort that its variable declares
 sort_there : (vals : List Datum) (vars : List Var) (v : ℕ) (decl : Var) → of_data vals ≡ map fixed_by vars
     → slice_get vars v ≡ Some decl → ((datum vals v).sort ≡ decl.sort) × (v < length vals)
 unfolding datum
@@ -175,6 +195,7 @@ pub declared_sort : (t : Tree) (n : Names) (w : World) (v : ℕ) (decl : Var) �
     → slice_get n.vars v ≡ Some decl → ((datum w.vals v).sort ≡ decl.sort) × (v < length w.vals)
 declared_sort t n w v decl fits e = sort_there w.vals n.vars v decl fits.declared e
 
+-- the same of a world and an answer that are equal to these
 pub assign_did : (v : ℕ) (e : Expr) (w w' : World) (value : Value) (vals : List Datum)
     (answer : Result (Unit {0}) Fault) (r : Result (Unit {0}) Halt)
     → w ≡ w' → r ≡ halted answer → Ok value ≡ value_of w.vals w.marks e
@@ -202,7 +223,7 @@ pub remembered_by : (c : Chart) (s p : ℕ) → parent_of c.tree s ≡ Some p �
 unfolding is_remembered
 remembered_by c s p e = ap (λ o. option_map_or (has_history c) o false) e
 
--- the root is not
+-- the root isn't remembered
 pub remembered_none : (c : Chart) (s : ℕ) → parent_of c.tree s ≡ None → is_remembered c s ≡ false
 unfolding is_remembered
 remembered_none c s e = ap (λ o. option_map_or (has_history c) o false) e
@@ -224,6 +245,7 @@ pub entered_kept : (c : Chart) (s : ℕ) (w : World) → is_remembered c s ≡ t
     → entered_in c s w ≡ keep_in c.tree s (set_mark s true w)
 entered_kept c s w e = entered_done c s w true e
 
+-- a state that is entered, and its parent remembers nothing
 pub entered_plain : (c : Chart) (s : ℕ) (w : World) → is_remembered c s ≡ false → entered_in c s w ≡ set_mark s true w
 entered_plain c s w e = entered_done c s w false e
 

@@ -21,7 +21,7 @@ pub record Program : Type 0 where
 abbrev pub Starts : Program → World → Option Fault → Type 0
 Starts p w f = rules.Starts p.chart p.bounds w f
 
--- and so is a reaction
+-- a reaction of a program is one by the rules
 abbrev pub Reacts : Program → World → Event → World → Option Fault → Type 0
 Reacts p w e w' f = rules.Reacts p.chart p.bounds w e w' f
 
@@ -50,7 +50,7 @@ first_world c = world_before c.tree c.names
 abbrev pub fresh_engine : Kept → Bounds → EngineState
 fresh_engine c b = record { chart = c; bounds = b; world = first_world (chart_of c); stage = Fresh }
 
--- its world is one of its chart, and before the start the one before it
+-- the world of an engine fits its chart, and before the start it is the world before the start
 pub record IsEngine (e : EngineState) : Type 0 where
   pub fits : FitsChart (chart_of e.chart) e.world
   pub fresh : e.stage ≡ Fresh → e.world ≡ first_world (chart_of e.chart)

@@ -46,6 +46,7 @@ from_find Unfinished f h k = tt
 module _ (c : Chart) (b : Bounds) (good : ℕ → Type 0) (closed : (j : ℕ) → good j → AlwaysGoes good (junction c j)) where
   module _ (p : Parts) (ih : (life : Life) (list : List Trans) (now : Now) (w : World) → AlwaysGoes good list
       → Finds (p.search life list now w)) (life : Life) (now : Now) where
+    -- the parts of a search find, where the searches of the lists that they lead to do
     after_junction_finds : (action : List Stmt) (rest : List Trans) (f : Found) (w : World) → IsFind f
         → Finds (after_junction c b p life action rest now f w)
     after_junction_finds action rest (Fire d actions) w h = tt
@@ -71,20 +72,24 @@ module _ (c : Chart) (b : Bounds) (good : ℕ → Type 0) (closed : (j : ℕ) �
     after_condition_finds t rest Done w h = dest_finds t.action rest t.dest w h
     after_condition_finds t rest Cut w h = tt
 
+    -- the search finds where its transition is taken
     taken : (t : Trans) (rest : List Trans) (w : World) → LeadsInto good t.dest
         → Finds (then_do (p.block life t.condition now w) (after_condition c b p life t rest now))
     taken t rest w h = then_finds _ _ (λ e w. after_condition_finds t rest e w h)
 
+    -- the search finds whether its transition is taken or not
     chosen : (t u : Trans) (ts : List Trans) (e : Bool) (w : World) → LeadsInto good t.dest → AlwaysGoes good (u ∷ ts)
         → Finds (choose e (λ w. then_do (p.block life t.condition now w) (after_condition c b p life t (u ∷ ts) now))
         (p.search life (u ∷ ts) now) w)
     chosen t u ts true w h g = taken t (u ∷ ts) w h
     chosen t u ts false w h g = ih life (u ∷ ts) now w g
 
+    -- a transition with no event and no guard is enabled
     always : (t : Trans) (w : World) → t.event ≡ None → t.guard ≡ None → is_enabled t now w ≡ Ended true w
     always t w e g =
         ap (λ o. choose (event_fits o now.event) (guard_holds t.guard) (give false) w) e ∙ ap (λ o. guard_holds o w) g
 
+  -- at each height a search of a list that always leads somewhere finds
   pub search_finds : (n : ℕ) (life : Life) (list : List Trans) (now : Now) (w : World) → AlwaysGoes good list
       → Finds ((upto c b n).search life list now w)
   search_finds zero life list now w h = tt

@@ -43,12 +43,14 @@ pub record Below (p q : Parts) : Type 0 where
   pub process : (s : ℕ) (now : Now) (w : World) → Extends (p.process s now w) (q.process s now w)
   pub process_each : (xs : List ℕ) (now : Now) (w : World) → Extends (p.process_each xs now w) (q.process_each xs now w)
 
+-- the same work goes on as before, if what comes after it does
 then_same : {A B : Type 0} (r : Run A) (f g : A → Work B) → ((a : A) (w : World) → Extends (f a w) (g a w))
     → Extends (then_do r f) (then_do r g)
 then_same (Ended a w) f g h = h a w
 then_same (Faulted x w) f g h = same
 then_same Unfinished f g h = same
 
+-- the forms of work extend, where their parts do
 pub then_extends : {A B : Type 0} {r s : Run A} {f g : A → Work B} → Extends r s
     → ((a : A) (w : World) → Extends (f a w) (g a w)) → Extends (then_do r f) (then_do s g)
 then_extends later h = later
@@ -70,6 +72,7 @@ if_some_extends None m n f g w h i = h
 if_some_extends (Some x) m n f g w h i = i x
 
 module _ (c : Chart) (b : Bounds) (p q : Parts) (h : Below p q) where
+  -- each rule over the parts q extends that over the parts p
   statement_extends : (life : Life) (s : Stmt) (now : Now) (w : World)
       → Extends (statement c b p life s now w) (statement c b q life s now w)
   statement_extends life (Assign v e) now w = same
@@ -125,7 +128,7 @@ module _ (c : Chart) (b : Bounds) (p q : Parts) (h : Below p q) where
 
   pub exit_extends : (s : ℕ) (now : Now) (w : World) → Extends (exit_rule c p s now w) (exit_rule c q s now w)
   exit_extends s now w =
-      search (then_extends, choose_extends, if_done_extends, same, h.block, exit_children_extends) depth 15
+      search (then_extends, choose_extends, same, h.block, exit_children_extends) depth 15
 
   pub exit_each_extends : (xs : List ℕ) (now : Now) (w : World)
       → Extends (exit_each_rule c p xs now w) (exit_each_rule c q xs now w)
@@ -195,7 +198,7 @@ module _ (c : Chart) (b : Bounds) (p q : Parts) (h : Below p q) where
 
   go_on_inside_extends : (s : ℕ) (now : Now) (w : World) → Extends (go_on_inside c p s now w) (go_on_inside c q s now w)
   go_on_inside_extends s now w =
-      search (then_extends, if_done_extends, same, h.block, h.search, after_inner_extends) depth 9
+      search (then_extends, if_done_extends, h.block, h.search, after_inner_extends) depth 9
 
   after_outer_extends : (s : ℕ) (now : Now) (f : Found) (w : World)
       → Extends (after_outer c p s now f w) (after_outer c q s now f w)
@@ -253,6 +256,7 @@ upto_below c b zero n le = record {
 upto_below c b (suc m) zero le = absurd (omega arith)
 upto_below c b (suc m) (suc n) le = rules_below c b (upto c b m) (upto c b n) (upto_below c b m n (omega arith))
 
+-- what ended at a height ends in the same way at a greater one
 pub ended_extends : {A : Type 0} {r s : Run A} → Extends r s → (a : A) (w : World) → r ≡ Ended a w → s ≡ Ended a w
 ended_extends later a w e = absurd (cc)
 ended_extends same a w e = e

@@ -49,6 +49,7 @@ use Rattle.state_tree.specs.Valid.{AreStmts, AreTrans, CanAssign, IsStmt, IsTran
 use Rattle.state_tree.specs.declared.parts.Dest.{Dest}
 use Rattle.state_tree.specs.declared.parts.Dest.TheVariants.{State, Junction}
 
+-- any answer will do
 abbrev pub Any : {A : Type 0} → A → Type 0
 Any a = Unit {0}
 
@@ -59,6 +60,7 @@ pub data Fine (n : Names) {A : Type 0} (P : A → Type 0) : Run A → Type 0 whe
   over : Fine n P Unfinished
 
 module _ (n : Names) where
+  -- the forms of work are fine, where their parts are
   then_fine : {A B : Type 0} {P : A → Type 0} {Q : B → Type 0} {r : Run A} {f : A → Work B} → Fine n P r
       → ((a : A) (w : World) → P a → Fine n Q (f a w)) → Fine n Q (then_do r f)
   then_fine (ends a w h) k = k a w h
@@ -82,10 +84,12 @@ module _ (n : Names) where
 
   -- ---- values and assignments
 
+  -- a fault is one of what is declared
   abbrev FineResult : {A : Type 0} → Result A Fault → Type 0
   FineResult (Ok a) = Unit {0}
   FineResult (Err x) = IsFaultOf n (Some x)
 
+  -- an expression is fine where its parts are
   with_value_fine : (r : Valued) (f : Value → Valued) → FineResult r → ((v : Value) → FineResult (f v))
       → FineResult (with_value r f)
   with_value_fine (Ok v) f h k = k v
@@ -130,6 +134,7 @@ module _ (n : Names) where
   keep_fine vals v (Ok m) lt = tt
   keep_fine vals v (Err o) lt = lt
 
+  -- an assignment to a declared datum is fine
   assigned_fine : (vals : List Datum) (v : ℕ) (value : Value) → v < length n.vars → FineResult (assigned vals v value)
   unfolding assigned
   assigned_fine vals v value lt = keep_fine vals v (kept value (datum vals v)) lt
@@ -465,7 +470,7 @@ start_faults c v b x g =
     fault_fine c.names (start_upto c b g.height) x
     ((upto_fine c v b g.height).enter 0 0 (from_outside Start) (world_before c.tree c.names)) g.gives
 
--- and so does that of a reaction
+-- the fault of a reaction of a valid chart names a datum that is declared
 pub reaction_faults : (c : Chart) → IsValid c → (b : Bounds) (w : World) (e : Event) (x : Moment)
     → Gives (react_upto c b w e) x → IsFaultOf c.names x.fault
 reaction_faults c v b w e x g =

@@ -44,6 +44,7 @@ pub record Closed (c : Chart) (b : Bounds) (P : World → Type 0) : Type 0 where
   pub marks : (s : ℕ) (w : World) → can_mark c.tree s w.marks ≡ true → P w → P (entered_in c s w)
   pub clears : (s : ℕ) (w : World) → 0 < s → is_bare c.tree s w.marks ≡ true → P w → P (set_mark s false w)
 
+-- each part keeps P
 pub record Keeps (P : World → Type 0) (p : Parts) : Type 0 where
   pub block : (life : Life) (stmts : List Stmt) (now : Now) (w : World) → P w → Finishes P (p.block life stmts now w)
   pub send : (e : ℕ) (to : Option ℕ) (now : Now) (w : World) → P w → Finishes P (p.send e to now w)
@@ -61,6 +62,7 @@ pub record Keeps (P : World → Type 0) (p : Parts) : Type 0 where
   pub process_each : (xs : List ℕ) (now : Now) (w : World) → P w → Finishes P (p.process_each xs now w)
 
 module _ (P : World → Type 0) where
+  -- the forms of work keep P, where their parts do
   pub then_finishes : {A B : Type 0} {r : Run A} {f : A → Work B} → Finishes P r
       → ((a : A) (w : World) → P w → Finishes P (f a w)) → Finishes P (then_do r f)
   then_finishes (ended a w h) k = k a w h
@@ -82,6 +84,7 @@ module _ (P : World → Type 0) where
   if_some_finishes None m f w h i = h
   if_some_finishes (Some x) m f w h i = i x refl
 
+  -- a change keeps P, and so does a test
   changed : (r : Result World Fault) (w : World) → P w → ((v : World) → r ≡ Ok v → P v)
       → Finishes P (change_or_fault r w)
   changed (Ok v) w p h = ended tt v (h v refl)
@@ -92,6 +95,7 @@ module _ (P : World → Type 0) where
   flagged (Err x) w p = faulted x w p
 
 module _ (c : Chart) (tree : IsTree c.tree) (b : Bounds) (P : World → Type 0) (ok : Closed c b P) where
+  -- each change and each test of the rules keeps P
   assign_finishes : (v : ℕ) (e : Expr) (w : World) → P w → Finishes P (assign v e w)
   assign_finishes v e w p = changed P (assigned_in v e w) w p (λ u q. ok.assigns v e w u q p)
 
@@ -106,6 +110,7 @@ module _ (c : Chart) (tree : IsTree c.tree) (b : Bounds) (P : World → Type 0) 
     alive_finishes : (life : Life) (w : World) → P w → Finishes P (while_alive c.tree life w)
     alive_finishes life w k = search (choose_finishes P, ended)
 
+    -- each rule over parts that keep P keeps P
     pub statement_finishes : (life : Life) (s : Stmt) (now : Now) (w : World) → P w
         → Finishes P (statement c b p life s now w)
     statement_finishes life (Assign v e) now w k =
@@ -271,6 +276,7 @@ module _ (c : Chart) (tree : IsTree c.tree) (b : Bounds) (P : World → Type 0) 
     process_each_finishes (x ∷ xs) now w k =
         search (then_finishes P, choose_finishes P, h.process, h.process_each, after_region_finishes)
 
+    -- the rules over parts that keep P keep P
     rules_keep : Keeps P (rules c b p)
     rules_keep = record {
       block = block_finishes;
@@ -287,6 +293,7 @@ module _ (c : Chart) (tree : IsTree c.tree) (b : Bounds) (P : World → Type 0) 
       process_each = process_each_finishes;
     }
 
+  -- the rules keep P at each height
   pub upto_keep : (n : ℕ) → Keeps P (upto c b n)
   upto_keep zero = record {
     block = λ _ _ _ _ _. unfinished;
@@ -308,6 +315,7 @@ module _ (c : Chart) (tree : IsTree c.tree) (b : Bounds) (P : World → Type 0) 
 abbrev pub Consistent : Chart → World → Type 0
 Consistent c w = IsConsistent c.tree w.marks
 
+-- each change of the rules keeps active states consistent
 pub consistent_closed : (c : Chart) (b : Bounds) → Closed c b (Consistent c)
 consistent_closed c b = record {
   pays = λ w v e k. same c w v (kept w (paid_keeps b w) e) k;

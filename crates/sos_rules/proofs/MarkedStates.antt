@@ -21,10 +21,12 @@ use Rattle.state_tree.specs.Chart.{Chart, has_history, is_remembered, may_return
 use Rattle.state_tree.proofs.Trees.{IsChild, parent_below, children_are, all_map, find_all}
 use Rattle.sos_rules.specs.Moves.{keep_if, entered_in}
 
+-- what all items of two lists have, all items of both together have
 all_append : (P : ℕ → Type 0) (xs ys : List ℕ) → AllByRecursion P xs → AllByRecursion P ys → AllByRecursion P (xs ++ ys)
 all_append P [] ys a b = b
 all_append P (x ∷ xs) ys a b = (a.0, all_append P xs ys a.1 b)
 
+-- what all items have, all have in the other order
 pub all_reverse : (P : ℕ → Type 0) (xs : List ℕ) → AllByRecursion P xs → AllByRecursion P (reverse xs)
 all_reverse P [] a = tt
 all_reverse P (x ∷ xs) a =
@@ -39,6 +41,7 @@ on_is_state t s m k on =
     (cases_lt s (mark_count m))
 
 module _ (t : Tree) (tree : IsTree t) where
+  -- an active child is a child, and it is active
   pub active_is_child : (s x : ℕ) (m : Configuration) → active_child t s m ≡ Some x → (is_on x m ≡ true) × IsChild t s x
   unfolding active_child
   active_is_child s x m e = find_all (λ x. is_on x m) (IsChild t s) (children_of t s) x (children_are t tree s) e
@@ -66,6 +69,7 @@ module _ (t : Tree) (tree : IsTree t) where
   none_any p [] a = refl
   none_any p (x ∷ xs) a = let e = a.0 in let f = none_any p xs a.1 in cc
 
+  -- a state that can be marked is bare once it is marked
   pub marked_bare : (s : ℕ) (m : Configuration) → s < state_count t → IsConsistent t m → can_mark t s m ≡ true
       → is_bare t s (with_mark s true m) ≡ true
   unfolding is_bare
@@ -81,6 +85,7 @@ module _ (t : Tree) (tree : IsTree t) where
       off x up false e = refl
       off x up true e = absurd (let f = can_mark_off t s m can in let g = k.parents x s up e in cc)
 
+      -- no child of s is active once s is marked
       child_off : (x : ℕ) → IsChild t s x → is_on x (with_mark s true m) ≡ false
       child_off x i =
           let ne : x ≢ s = λ e. absurd (omega (arith, i.above, e)) in
@@ -92,35 +97,42 @@ or_of Leaf b e = absurd cc
 or_of Or b e = refl
 or_of And b e = absurd cc
 
+-- a state with history is an OR
 pub history_or : (c : Chart) (p : ℕ) → has_history c p ≡ true → comp_of c.tree p ≡ Or
 unfolding has_history
 history_or c p e = or_of (comp_of c.tree p) (node c p).history e
 
+-- a remembered state has a parent, and it has history
 parent_or : (c : Chart) (o : Option ℕ) → option_map_or (has_history c) o false ≡ true
     → (p : ℕ) × (o ≡ Some p) × (has_history c p ≡ true)
 parent_or c None e = absurd cc
 parent_or c (Some p) e = (p, refl, e)
 
+-- a remembered state has a parent with history
 pub remembering_parent : (c : Chart) (s : ℕ) → is_remembered c s ≡ true
     → (p : ℕ) × (parent_of c.tree s ≡ Some p) × (has_history c p ≡ true)
 unfolding is_remembered
 remembering_parent c s h = parent_or c (parent_of c.tree s) h
 
+-- a state is remembered where its parent has history
 pub is_remembered_by : (c : Chart) (s p : ℕ) → parent_of c.tree s ≡ Some p → is_remembered c s ≡ has_history c p
 unfolding is_remembered
 is_remembered_by c s p e = ap (λ o. option_map_or (has_history c) o false) e
 
+-- remembering a child keeps active states consistent
 keeps_consistent : (c : Chart) (s : ℕ) (w : World) → is_remembered c s ≡ true → IsConsistent c.tree w.marks
     → IsConsistent c.tree (keep_in c.tree s w).marks
 unfolding keep_in
 keeps_consistent c s w h k =
     let i = remembering_parent c s h in MarksLemmas.remembered c.tree w.marks k s i.0 i.1 (history_or c i.0 i.2)
 
+-- entering a state keeps active states consistent, whether it is remembered or not
 entered_if : (c : Chart) (s : ℕ) (w : World) (h : Bool) → is_remembered c s ≡ h → can_mark c.tree s w.marks ≡ true
     → IsConsistent c.tree w.marks → IsConsistent c.tree (keep_if h c.tree s (set_mark s true w)).marks
 entered_if c s w true e can k = keeps_consistent c s (set_mark s true w) e (marked c.tree w.marks k s can)
 entered_if c s w false e can k = marked c.tree w.marks k s can
 
+-- entering a state keeps active states consistent
 pub entered_consistent : (c : Chart) (s : ℕ) (w : World) → can_mark c.tree s w.marks ≡ true
     → IsConsistent c.tree w.marks → IsConsistent c.tree (entered_in c s w).marks
 unfolding entered_in
@@ -132,6 +144,7 @@ return_if : (t : Tree) (s x : ℕ) (p : ℕ → Bool) (xs : List ℕ) (h : Bool)
 return_if t s x p xs true a e = (find_all p (IsChild t s) xs x a e).1
 return_if t s x p xs false a e = absurd cc
 
+-- a state goes back to a child of its own
 pub returns_to_child : (c : Chart) (tree : IsTree c.tree) (s x : ℕ) (p : ℕ → Bool) → find p (may_return c s) ≡ Some x
     → IsChild c.tree s x
 unfolding may_return
@@ -142,6 +155,7 @@ all_if : (P : ℕ → Type 0) (xs : List ℕ) (h : Bool) → AllByRecursion P xs
 all_if P xs true a = a
 all_if P xs false a = tt
 
+-- all children to which a state may go back are children
 pub may_return_are : (c : Chart) (tree : IsTree c.tree) (s : ℕ) → AllByRecursion (IsChild c.tree s) (may_return c s)
 unfolding may_return
 may_return_are c tree s =
@@ -153,21 +167,25 @@ unfolding keep_in
 on_if t s x w true = is_on-with_last t s x w.marks
 on_if t s x w false = refl
 
+-- remembering a state changes nothing of what is bare
 bare_if : (t : Tree) (s x : ℕ) (w : World) (h : Bool) → is_bare t x (keep_if h t s w).marks ≡ is_bare t x w.marks
 unfolding keep_in
 bare_if t s x w true = is_bare-with_last t s x w.marks
 bare_if t s x w false = refl
 
+-- after a state is entered, those states are active that are active once it is marked
 pub entered_on : (c : Chart) (s x : ℕ) (w : World)
     → is_on x (entered_in c s w).marks ≡ is_on x (set_mark s true w).marks
 unfolding entered_in
 entered_on c s x w = on_if c.tree s x (set_mark s true w) (is_remembered c s)
 
+-- after a state is entered, those states are bare that are bare once it is marked
 pub entered_bare : (c : Chart) (s x : ℕ) (w : World)
     → is_bare c.tree x (entered_in c s w).marks ≡ is_bare c.tree x (set_mark s true w).marks
 unfolding entered_in
 entered_bare c s x w = bare_if c.tree s x (set_mark s true w) (is_remembered c s)
 
+-- what entering a state does depends on whether it is remembered
 pub entered_done : (c : Chart) (s : ℕ) (w : World) (h : Bool) → is_remembered c s ≡ h
     → entered_in c s w ≡ keep_if h c.tree s (set_mark s true w)
 unfolding entered_in

@@ -60,6 +60,7 @@ module _ (c : Chart) (tree : IsTree c.tree) where
       at (inl same) = absurd (let h = is_remembered_by c s p (ap (parent_of c.tree) (sym same) ∙ up) in cc)
       at (inr was) = last_of-with_mark p s true w.marks ∙ r.active p x hist up was
 
+  -- only a state with history remembers a child after s was entered
   only_if : (s : ℕ) (w : World) (h : Bool) → is_remembered c s ≡ h → Remembers c w.marks → (p x : ℕ)
       → last_of p (keep_if h c.tree s (set_mark s true w)).marks ≡ Some x → has_history c p ≡ true
   unfolding keep_in
@@ -70,6 +71,7 @@ module _ (c : Chart) (tree : IsTree c.tree) where
       ∙ sym (last_of-with_last_other c.tree s i.0 p (with_mark s true w.marks) i.1 ne) ∙ is)) (same_or_other p i.0)
   only_if s w false e r p x is = r.only p x (sym (last_of-with_mark p s true w.marks) ∙ is)
 
+  -- entering a state keeps what is remembered right
   entered_remembers : (s : ℕ) (w : World) → can_mark c.tree s w.marks ≡ true → Remembers c w.marks
       → Remembers c (entered_in c s w).marks
   unfolding entered_in
@@ -79,6 +81,7 @@ module _ (c : Chart) (tree : IsTree c.tree) where
     only = only_if s w (is_remembered c s) refl r;
   }
 
+  -- each change of the rules keeps what is remembered right
   pub remembers_closed : (b : Bounds) → Closed c b (λ w. Remembers c w.marks)
   remembers_closed b = record {
     pays = λ w v e r. same w v (kept w (paid_keeps b w) e) r;
@@ -105,21 +108,25 @@ module _ (c : Chart) (tree : IsTree c.tree) where
 
 -- ---- a state's own entry is what the tests of its children find
 
+-- where nothing is found, neither the first item passes nor one of the rest
 find_if : (x : ℕ) (b : Bool) (o : Option ℕ) (rest : Bool) → (o ≡ None → rest ≡ false) → cond b (Some x) o ≡ None
     → (b ≡ false) × (rest ≡ false)
 find_if x true o rest h e = absurd cc
 find_if x false o rest h e = (refl, h e)
 
+-- where nothing is found, no item passes
 none_found : (p : ℕ → Bool) (xs : List ℕ) → find p xs ≡ None → list_any p xs ≡ false
 none_found p [] e = refl
 none_found p (x ∷ xs) e =
     let h = find_if x (p x) (find p xs) (list_any p xs) (none_found p xs) e in let a = h.0 in let b = h.1 in cc
 
+-- a child is remembered where its parent's entry names it
 last_child : (t : Tree) (s x : ℕ) (m : Configuration) → parent_of t x ≡ Some s → is_last t x m ≡ is_this (last_of s m) x
 unfolding is_last
 last_child t s x m up = ap (λ o. option_map_or (λ p. is_this (last_of p m) x) o false) up
 
 module _ (t : Tree) (tree : IsTree t) (m : Configuration) (k : IsConsistent t m) (s : ℕ) where
+  -- what the tests find is what the entry names
   found_by : (o l : Option ℕ) → find (λ x. is_last t x m) (children_of t s) ≡ o → last_of s m ≡ l → o ≡ l
   unfolding children_of children_below
   found_by None None e f = refl
@@ -139,6 +146,7 @@ module _ (t : Tree) (tree : IsTree t) (m : Configuration) (k : IsConsistent t m)
       let on : is_last t y m ≡ true = last_child t s y m up ∙ ap (λ o. is_this o y) f ∙ grind (arith, nat_tests) in
       absurd cc
 
+  -- the child that the tests find is that of the entry
   pub remembered_in : find (λ x. is_last t x m) (children_of t s) ≡ last_of s m
   remembered_in = found_by (find (λ x. is_last t x m) (children_of t s)) (last_of s m) refl refl
 

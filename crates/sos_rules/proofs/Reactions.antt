@@ -33,6 +33,7 @@ leads P m (ends a w p from h) =
 leads P m (faults x w p from h) =
     (record { world = w; fault = Some x }, record { height = from; gives = ap moment_of (h from (omega arith)) })
 
+-- a greater height leads to the same moment
 same_later : {A : Type 0} {r s : Run A} → Extends r s → (x : Moment) → moment_of r ≡ Some x → moment_of s ≡ Some x
 same_later later x e = absurd cc
 same_later same x e = e
@@ -47,6 +48,7 @@ one_of m up r s x y =
     cc
 
 module _ (c : Chart) (b : Bounds) where
+  -- a start at a greater height extends one at a lower height, and so does a reaction
   start_up : (i j : ℕ) → i ≤ j → Extends (start_upto c b i) (start_upto c b j)
   start_up i j le = (upto_below c b i j le).enter 0 0 (from_outside Start) (world_before c.tree c.names)
 
@@ -81,6 +83,7 @@ module _ (c : Chart) (b : Bounds) where
 
 -- ---- what starts and reactions keep
 
+-- whether a chart is running depends on the marks alone
 same_marks : (c : Chart) (w v : World) → v.marks ≡ w.marks → IsRunning c w → IsRunning c v
 same_marks c w v e h =
     record { consistent = subst (IsConsistent c.tree) (sym e) h.consistent; root = ap (is_on 0) e ∙ h.root }
@@ -164,6 +167,7 @@ module _ (c : Chart) (tree : IsTree c.tree) (b : Bounds) where
       let k = upto_keep c tree b Holds (remembers_closed c tree b) x.height in
       reached Holds (k.process 0 (from_outside e) (begun w) h) r x.gives
 
+  -- where nothing is marked, nothing is remembered
   none_remembered : Remembers c (no_marks c.tree)
   none_remembered = record {
     consistent = no_marks_consistent c.tree;

@@ -35,6 +35,7 @@ use Rattle.actions.specs.World.{World, put_out, Life}
 
 -- what holds of a state where it holds of its children holds of each state
 module _ (t : Tree) (Q : ℕ → Type 0) (step : (s : ℕ) → ((x : ℕ) → IsChild t s x → Q x) → Q s) where
+  -- the same of states that are at most m numbers from the last
   within_tree : (m s : ℕ) → state_count t ≤ s + m → Q s
   within_tree zero s le = step s (λ x i. absurd (omega (arith, i.above, i.within)))
   within_tree (suc m) s le = step s (λ x i. within_tree m x (omega (arith, i.above)))
@@ -51,6 +52,7 @@ pub data Settles (P : World → Type 0) {A : Type 0} (m : ℕ → Run A) : Type 
   ends : (a : A) (w : World) → P w → (from : ℕ) → ((n : ℕ) → from ≤ n → m n ≡ Ended a w) → Settles P m
   faults : (x : Fault) (w : World) → P w → (from : ℕ) → ((n : ℕ) → from ≤ n → m n ≡ Faulted x w) → Settles P m
 
+-- what holds of every later successor holds of every later number
 later_pred : {A : Type 0} (m : ℕ → Run A) (r : Run A) (from : ℕ) → ((n : ℕ) → from ≤ n → m (suc n) ≡ r) → (n : ℕ)
     → suc from ≤ n → m n ≡ r
 later_pred m r from h zero le = absurd (omega arith)
@@ -61,17 +63,20 @@ pub from_next : {A : Type 0} (P : World → Type 0) (m : ℕ → Run A) → Sett
 from_next P m (ends a w p from h) = ends a w p (suc from) (later_pred m (Ended a w) from h)
 from_next P m (faults x w p from h) = faults x w p (suc from) (later_pred m (Faulted x w) from h)
 
+-- a property that follows from another may take its place
 pub weaker : {A : Type 0} (P Q : World → Type 0) (m : ℕ → Run A) → ((w : World) → P w → Q w) → Settles P m → Settles Q m
 weaker P Q m f (ends a w p from h) = ends a w (f w p) from h
 weaker P Q m f (faults x w p from h) = faults x w (f w p) from h
 
 module _ (P : World → Type 0) where
+  -- work that is over at once
   pub ends_now : {A : Type 0} (a : A) (w : World) → P w → Settles P (λ n. Ended a w)
   ends_now a w p = ends a w p 0 (λ n le. refl)
 
   pub faults_now : {A : Type 0} (x : Fault) (w : World) → P w → Settles P {A = A} (λ n. Faulted x w)
   faults_now x w p = faults x w p 0 (λ n le. refl)
 
+  -- the outcome of two pieces of work, where the first ends from some height on
   then_from : {A B : Type 0} (m : ℕ → Run A) (f : ℕ → A → Work B) (a : A) (w : World) (from : ℕ)
       → ((n : ℕ) → from ≤ n → m n ≡ Ended a w) → Settles P (λ n. f n a w) → Settles P (λ n. then_do (m n) (f n))
   then_from m f a w from h (ends c v p at k) =
@@ -79,6 +84,7 @@ module _ (P : World → Type 0) where
   then_from m f a w from h (faults x v p at k) =
       faults x v p (max from at) (λ n le. ap (λ r. then_do r (f n)) (h n (omega arith)) ∙ k n (omega arith))
 
+  -- the forms of work settle, where their parts do
   pub then_settles : {A B : Type 0} (m : ℕ → Run A) (f : ℕ → A → Work B) → Settles P m
       → ((a : A) (w : World) → P w → Settles P (λ n. f n a w)) → Settles P (λ n. then_do (m n) (f n))
   then_settles m f (ends a w p from h) k = then_from m f a w from h (k a w p)
@@ -100,6 +106,7 @@ module _ (P : World → Type 0) where
   if_some_settles None m f w h i = h
   if_some_settles (Some x) m f w h i = i x refl
 
+  -- a change settles, and so does a test
   pub change_settles : (r : Result World Fault) (w : World) → ((v : World) → r ≡ Ok v → P v)
       → ((x : Fault) → r ≡ Err x → P w) → Settles P (λ n. change_or_fault r w)
   change_settles (Ok v) w h i = ends_now tt v (h v refl)
@@ -116,15 +123,18 @@ paid_if : (b : Bounds) (w v : World) (spent : Bool)
 paid_if b w v true e = absurd cc
 paid_if b w v false e = let f : record w { used = w.used + 1 } ≡ v = cc in (refl, sym (ap (λ (x : World). x.used) f))
 
+-- a step that was paid was left, and one more is used
 pub paid_ok : (b : Bounds) (w v : World) → paid_in b w ≡ Ok v → (w.used < b.steps) × (v.used ≡ w.used + 1)
 unfolding paid_in
 paid_ok b w v e = let h = paid_if b w v (nat_le b.steps w.used) e in let t = h.0 in (grind (arith, nat_tests), h.1)
 
+-- a step is refused only where none is left
 refused_if : (w : World) (x : Fault) (spent : Bool)
     → (if spent then Err faults_of.Steps else Ok (record w { used = w.used + 1 })) ≡ Err x → spent ≡ true
 refused_if w x true e = refl
 refused_if w x false e = absurd cc
 
+-- where a step is refused, none is left
 pub paid_refused : (b : Bounds) (w : World) (x : Fault) → paid_in b w ≡ Err x → b.steps ≤ w.used
 unfolding paid_in
 paid_refused b w x e = let t = refused_if w x (nat_le b.steps w.used) e in grind (arith, nat_tests)
@@ -134,6 +144,7 @@ abbrev KeepsUsed : World → Result World Fault → Type 0
 KeepsUsed w (Ok v) = v.used ≡ w.used
 KeepsUsed w (Err x) = Unit {0}
 
+-- new data, a value and an assignment cost nothing
 data_used : (w : World) (r : Result (List Datum) Fault) → KeepsUsed w (with_data r w)
 data_used w (Ok vals) = refl
 data_used w (Err x) = tt
@@ -146,12 +157,15 @@ assigned_keeps_used : (v : ℕ) (e : Expr) (w : World) → KeepsUsed w (assigned
 unfolding assigned_in
 assigned_keeps_used v e w = value_used v (value_of w.vals w.marks e) w
 
+-- a world after an assignment has used the same steps
 pub assigned_used : (v : ℕ) (e : Expr) (w u : World) → assigned_in v e w ≡ Ok u → u.used ≡ w.used
 assigned_used v e w u q = subst (KeepsUsed w) q (assigned_keeps_used v e w)
 
+-- with more steps, that bound holds too
 more_left : (b : Bounds) (k : ℕ) (w : World) → Left b k w → Left b (suc k) w
 more_left b k w l = record { left = omega (arith, l.left) }
 
+-- outputs and marks cost nothing
 emits_left : (b : Bounds) (k e : ℕ) (w : World) → Left b k w → Left b k (put_out e w)
 emits_left b k e w l = record { left = l.left }
 
@@ -169,6 +183,7 @@ unfolding entered_in
 entered_left b k c s w l = entered_if b k s c.tree (is_remembered c s) w l
 
 module _ (c : Chart) (b : Bounds) where
+  -- after a payment one step fewer is left
   pay_down : (k : ℕ) (w : World) → Left b (suc k) w → Settles (Left b k) (λ n. pay b w)
   pay_down k w l =
       change_settles (Left b k) (paid_in b w) w
@@ -254,6 +269,7 @@ module _ (c : Chart) (b : Bounds) where
       after_condition_settles t rest Done w l = dests t.action rest t.dest w l
       after_condition_settles t rest Cut w l = ends_now (Left b k) Stop w l
 
+      -- a list of transitions settles where each of its destinations does
       list_settles : (ts : List Trans) (w : World) → Left b k w
           → Settles (Left b k) (λ n. (upto c b n).search life ts now w)
       list_settles [] w l = from_next (Left b k) (λ n. (upto c b n).search life [] now w) (ends_now (Left b k) No w l)
@@ -279,6 +295,7 @@ module _ (c : Chart) (b : Bounds) where
         weaker (Left b k) (Left b (suc k)) _ (more_left b k)
         (search (then_settles (Left b k), pay_down, visit_settles k life visits))
 
+    -- with no step left a payment faults
     spent_settles : (r : Result World Fault) (f : ℕ → Unit {0} → Work Found) (w : World) → Left b 0 w → paid_in b w ≡ r
         → Settles (Left b 0) (λ n. then_do (change_or_fault r w) (f n))
     spent_settles (Ok v) f w l e = absurd (let h = paid_ok b w v e in omega (arith, h.0, l.left))
@@ -296,6 +313,7 @@ module _ (c : Chart) (b : Bounds) where
     search_settles (suc k) life ts w l = list_settles (suc k) life (dest_settles k life (search_settles k life)) ts w l
 
     module _ (k : ℕ) (tree : IsTree c.tree) where
+      -- leaving a state settles
       Exits : ℕ → Type 0
       Exits s = (w : World) → Left b k w → Settles (Left b k) (λ n. (upto c b n).exit s now w)
 
@@ -326,6 +344,7 @@ module _ (c : Chart) (b : Bounds) where
           exit_each_settles _ (all_reverse Exits (children_of c.tree s)
           (all_map (IsChild c.tree s) Exits (children_of c.tree s) ih (children_are c.tree tree s))) w l
 
+      -- leaving a state settles where leaving its children does
       exit_step : (s : ℕ) → ((x : ℕ) → IsChild c.tree s x → Exits x) → Exits s
       unfolding Exits
       exit_step s ih w l =
@@ -344,6 +363,7 @@ module _ (c : Chart) (b : Bounds) where
       unfolding Exits
       exit_settles = tree_induction c.tree Exits exit_step
 
+      -- entering a state settles
       Enters : ℕ → Type 0
       Enters s = (d : ℕ) (w : World) → Left b k w → Settles (Left b k) (λ n. (upto c b n).enter s d now w)
 
@@ -394,6 +414,7 @@ module _ (c : Chart) (b : Bounds) where
           enter_each_settles _ d
           (all_map (IsChild c.tree s) Enters (children_of c.tree s) ih (children_are c.tree tree s)) w l
 
+      -- entering a state settles where entering its children does
       enter_step : (s : ℕ) → ((x : ℕ) → IsChild c.tree s x → Enters x) → Enters s
       unfolding Enters
       enter_step s ih d w l =
@@ -442,6 +463,7 @@ module _ (c : Chart) (b : Bounds) where
             ends_now,
           ) depth 15)
 
+      -- processing a state settles
       Processes : ℕ → Type 0
       Processes s = (w : World) → Left b k w → Settles (Left b k) (λ n. (upto c b n).process s now w)
 
@@ -501,6 +523,7 @@ module _ (c : Chart) (b : Bounds) where
       after_outer_settles s ih No w l = go_on_inside_settles s ih w l
       after_outer_settles s ih Stop w l = ends_now (Left b k) Stay w l
 
+      -- processing a state settles where processing its children does
       process_step : (s : ℕ) → ((x : ℕ) → IsChild c.tree s x → Processes x) → Processes s
       unfolding Processes
       process_step s ih w l =
@@ -512,6 +535,7 @@ module _ (c : Chart) (b : Bounds) where
       process_settles = tree_induction c.tree Processes process_step
 
   module _ (tree : IsTree c.tree) where
+    -- at the greatest depth a send settles
     at_deepest : (now : Now) → now.depth ≡ b.depth → (k e : ℕ) (to : Option ℕ) (w : World) → Left b k w
         → Settles (Left b k) (λ n. (upto c b n).send e to now w)
     at_deepest now at k e to w l =
@@ -519,6 +543,7 @@ module _ (c : Chart) (b : Bounds) where
         (choose_settles (Left b k) (nat_le b.depth now.depth) (λ n. fault faults_of.Depth) _ w
         (λ _. faults_now (Left b k) faults_of.Depth w l) (λ h. absurd (grind (arith, nat_tests, h, at))))
 
+    -- a send settles at each depth
     sends_settle : (d : ℕ) (now : Now) → now.depth + d ≡ b.depth → (k e : ℕ) (to : Option ℕ) (w : World) → Left b k w
         → Settles (Left b k) (λ n. (upto c b n).send e to now w)
     sends_settle zero now at k e to w l = at_deepest now (omega arith) k e to w l

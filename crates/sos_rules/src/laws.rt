@@ -27,8 +27,8 @@ pub fn one_result()
         → HasOne (λ (m : Moment). Reacts c b w e m.world m.fault) }
 {}
 
-/// After the start the active states are consistent and the root is active, and after an event this
-/// holds where it held before the event; also where the outcome is a fault.
+/// After the start the active states are consistent and the root is active, and an event keeps this;
+/// both also where the outcome is a fault.
 pub fn stays_consistent()
     ensures start { (c : Chart) (b : Bounds) (w : World) (f : Option Fault) → IsValid c
         → Starts c b w f → IsRunning c w }
@@ -44,8 +44,8 @@ pub fn faults_name_declared_data()
         → Reacts c b w e v f → IsFaultOf c.names f }
 {}
 
-/// After the start an OR with history remembers its active child, and no other state remembers one;
-/// and so it is after an event where it was so before it.
+/// After the start an OR with history remembers its active child, and no other state remembers one.
+/// An event keeps this.
 pub fn remembers_the_active_child()
     ensures start { (c : Chart) (b : Bounds) (w : World) (f : Option Fault) → IsValid c
         → Starts c b w f → Remembers c w.marks }

@@ -33,6 +33,7 @@ pub all_map : (P Q : ℕ → Type 0) (xs : List ℕ)
 all_map P Q [] f a = tt
 all_map P Q (x ∷ xs) f a = (f x a.0, all_map P Q xs f a.1)
 
+-- the first of a list with one item more is that item or one of the rest
 find_cond : (p : ℕ → Bool) (P : ℕ → Type 0) (x y : ℕ) (o : Option ℕ) (b : Bool) → p x ≡ b → P x
     → (o ≡ Some y → (p y ≡ true) × P y) → cond b (Some x) o ≡ Some y → (p y ≡ true) × P y
 find_cond p P x y o true q h f e = let e' : x ≡ y = cc in (ap p (sym e') ∙ q, subst P e' h)
@@ -44,6 +45,7 @@ pub find_all : (p : ℕ → Bool) (P : ℕ → Type 0) (xs : List ℕ) (y : ℕ)
 find_all p P [] y a e = absurd cc
 find_all p P (x ∷ xs) y a e = find_cond p P x y (find p xs) (p x) refl a.0 (find_all p P xs y a.1) e
 
+-- the numbers of a range lie below its end
 range_all : (a n m : ℕ) → a + n ≤ m → AllByRecursion (λ x. x < m) (range_with_len a n)
 range_all a zero m k = tt
 range_all a (suc n) m k = (omega arith, range_all (a + 1) n m (omega arith))

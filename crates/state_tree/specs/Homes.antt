@@ -1,4 +1,4 @@
--- How states lie to each other: the child towards a state, and the home of a firing.
+-- How states of a tree are related: the child towards a state, and the home of a firing.
 use Rattle.std.specs.Prelude.{◌==◌, ℕ, Option, Some, None, if◌then◌else◌}
 use Rattle.std.specs.List.{find, list_any}
 use Rattle.active_config.specs.Tree.{Tree, children_of, ancestors, is_at_or_below}

@@ -1,4 +1,4 @@
-//! How states of a tree lie to each other. It takes no memory.
+//! How states of a tree are related. It takes no memory.
 ghost use Rattle.std.specs.Prelude.{◌≡◌, ◌<◌, IfSome};
 ghost use Rattle.active_config.specs.Tree as trees;
 ghost use Rattle.active_config.specs.Tree.{state_count};

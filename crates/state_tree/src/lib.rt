@@ -1,8 +1,9 @@
 //! A valid chart: its tree of states, what it declares, what each state does, and its junctions.
 //!
 //! `Chart` is the type on which the rules and the engine that runs them stand: a value of it is
-//! valid, so neither tests anything of a chart again. Read `specs/Chart.antt` first, what a chart is, then `specs/Homes.antt` and `specs/Reached.antt`, how lists and states lie to each
-//! other, and `specs/Valid.antt`, what a valid chart is.
+//! valid, so neither tests anything of a chart again. Read `specs/Chart.antt` first, what a chart
+//! is, then `specs/Homes.antt`, how states are related, `specs/Reached.antt`, which junctions a list
+//! reaches, and `specs/Valid.antt`, what a valid chart is.
 #![tactic(auto)]
 
 mod chart;

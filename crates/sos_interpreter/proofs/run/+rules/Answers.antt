@@ -1,4 +1,4 @@
-use Rattle.std.proofs.Common.{◌≡◌, map, ◌+◌, length, Some, None, true, false, [], ◌∷◌, ◌++◌, reverse, refl, sym, ap}
+use Rattle.std.proofs.Common.{◌≡◌, map, ◌+◌, length, Some, None, true, false, reverse, refl, sym, ap}
 use Rattle.std.proofs.Common.{◌∙◌, subst, arith}
 use Rattle.std.specs.Prelude.{nat_le, ◌==◌}
 use Rattle.std.specs.List.{AllByRecursion}
@@ -23,79 +23,60 @@ use Rattle.sos_interpreter.proofs.Paths.{assign_done, assign_fault, emit_done, e
 use Rattle.sos_interpreter.proofs.Paths.{exit_off, exit_children_fault, exit_not_bare, exit_block_fault, exit_cut}
 use Rattle.sos_interpreter.proofs.Paths.{exit_kept, exit_left, exit_active_one, exit_active_none, exit_children_leaf}
 use Rattle.sos_interpreter.proofs.Paths.{exit_children_or, exit_children_and, send_too_deep, send_fault, send_off}
-use Rattle.sos_interpreter.proofs.Paths.{send_on, send_on_fault, search_guard_fault, search_block_fault, search_stop}
-use Rattle.sos_interpreter.proofs.Paths.{search_goes, dest_fault, dest_dead_end, dest_state}
-use Rattle.sos_interpreter.proofs.Places.{Leads, leads_init, leads_skip, leads_fault, leads_stop, leads_dead_end}
-use Rattle.sos_interpreter.proofs.Places.{leads_fire, leads_push, leads_pop, leads_none}
+use Rattle.sos_interpreter.proofs.Paths.{send_on, send_on_fault}
+use Rattle.sos_interpreter.proofs.Places.{Leads, leads_init, leads_skip}
+use Rattle.sos_interpreter.proofs.SearchLemmas.{block_ended, block_faulted, at_first, at_end, guard_faults}
+use Rattle.sos_interpreter.proofs.SearchLemmas.{condition_faults, condition_cut, junction_faults, at_dead_end, at_state}
+use Rattle.sos_interpreter.proofs.SearchLemmas.{at_junction, goes_back, finds_nothing, of_parts, of_all, collected}
+use Rattle.sos_interpreter.proofs.SearchLemmas.{collected_are}
 use Rattle.sos_interpreter.proofs.Settling.{settled_now, settled_true, settled_false}
 use Rattle.sos_interpreter.proofs.Turns.{block_turn, block_turn_cut, block_turn_fault, block_turns_end, play_turn}
 use Rattle.sos_interpreter.proofs.Turns.{play_turn_skip, play_turn_pay_fault, play_turn_fault, play_turn_cut}
 use Rattle.sos_interpreter.proofs.Turns.{play_turns_end, exit_turn, exit_turn_fault, exit_turns_end, enter_turn}
 use Rattle.sos_interpreter.proofs.Turns.{enter_turn_fault, enter_turns_end, each_turn, each_turn_off, each_turn_fault}
 use Rattle.sos_interpreter.proofs.Turns.{each_turn_out, each_turns_end, empty_is, not_empty, sum_pushed, all_item}
-use Rattle.sos_interpreter.proofs.Turns.{all_more, all_front, all_seen}
 use Rattle.sos_interpreter.proofs.Uses.{block_uses, pay_done}
 use Rattle.sos_rules.specs.Finds.{AreActions}
 use Rattle.sos_interpreter.specs.Settled.{Settled, Continues}
 use Rattle.sos_interpreter.specs.Views.{life_seen, now_of, end_of, went_of, found_of}
-use Rattle.sos_rules.specs.Moves.{default_search, exit_active, exit_children, enter_toward, enter_inside}
 use Rattle.sos_rules.specs.Parts.{Fire}
-use Rattle.sos_rules.specs.Processing.{go_on_inside, process_children}
+use Rattle.sos_rules.specs.Processing.{process_children}
 use Rattle.sos_rules.specs.Rules.{upto}
-use Rattle.sos_rules.specs.Searches.{statement, is_enabled}
+use Rattle.sos_rules.specs.Searches.{statement}
 use Rattle.state_tree.proofs.Walks.{stands_first, stands_next, stands_last, stands_prev, ahead_falls}
-use Rattle.state_tree.specs.Chart.{junction}
 use Rattle.state_tree.specs.Homes.{child_toward}
 use Rattle.state_tree.specs.Kept.{chart_of}
-use Rattle.state_tree.specs.Valid.{AreTrans, AreStmts, IsStmt, IsTrans, IsDest}
+use Rattle.state_tree.specs.Valid.{AreTrans, AreStmts, IsStmt, IsDest}
 use Rattle.state_tree.specs.Views.{block_seen, list_seen, trans_seen}
-use Rattle.state_tree.specs.declared.parts.Dest.TheVariants.{State, Junction}
 use Rattle.sos_interpreter.proofs.run.+rules.Goals as goal
 
 pub run_block-returns-in_err-statement-clause-gives : goal.run_block-returns-in_err-statement-clause-gives
 run_block-returns-in_err-statement-clause-gives t c =
-    let chart = chart_of c.args.chart.now in
-    let now = now_of c.args.now in
-    let life = life_seen c.args.life in
-    let p = err_from_is_err_and c.from_residual.result c.from_residual.ensures.1 in
-    rw (p.1, p.2) (err_through end_of end_of _
-    (λ n. (upto chart c.args.bounds n).block life (block_seen c.args.stmts.now) now c.args.world.now) _ _
-    (λ x h. block_turn_fault chart c.args.bounds now life c.args.stmts.now c.loop-stmt.stmt-index c.loop-stmt.world
-    (λ n. (upto chart c.args.bounds n).block life (block_seen c.args.stmts.now) now c.args.world.now)
-    c.loop-stmt.invariant.goes c.stmt-item.result _ x (omega arith) c.stmt-item.is h) c.in_err-statement.ensures.gives)
+    let error = err_from_is_err_and c.from_residual.result c.from_residual.ensures.1 in
+    rw (error.1, error.2) (err_through end_of end_of _ _ _ _
+    (λ x h. block_turn_fault (chart_of c.args.chart.now) c.args.bounds (now_of c.args.now) (life_seen c.args.life)
+    c.args.stmts.now c.loop-stmt.stmt-index c.loop-stmt.world _ c.loop-stmt.invariant.goes c.stmt-item.result _ x
+    (omega arith) c.stmt-item.is h) c.in_err-statement.ensures.gives)
 
 pub run_block-returns-in-Cut-clause-gives : goal.run_block-returns-in-Cut-clause-gives
 run_block-returns-in-Cut-clause-gives t c =
-    let chart = chart_of c.args.chart.now in
-    let now = now_of c.args.now in
-    let life = life_seen c.args.life in
-    block_turn_cut chart c.args.bounds now life c.args.stmts.now c.loop-stmt.stmt-index c.loop-stmt.world
-    (λ n. (upto chart c.args.bounds n).block life (block_seen c.args.stmts.now) now c.args.world.now)
-    c.loop-stmt.invariant.goes c.stmt-item.result _ (omega arith) c.stmt-item.is
-    (ended_as end_of _ _ c.in-Cut.is c.in_ok-statement.ensures.gives)
+    block_turn_cut (chart_of c.args.chart.now) c.args.bounds (now_of c.args.now) (life_seen c.args.life)
+    c.args.stmts.now c.loop-stmt.stmt-index c.loop-stmt.world _ c.loop-stmt.invariant.goes c.stmt-item.result _
+    (omega arith) c.stmt-item.is (ended_as end_of _ _ c.in-Cut.is c.in_ok-statement.ensures.gives)
 
 pub run_block-loop-stmt-preserved : goal.run_block-loop-stmt-preserved
-run_block-loop-stmt-preserved t c =
-    let chart = chart_of c.args.chart.now in
-    let now = now_of c.args.now in
-    let life = life_seen c.args.life in
-    record {
-      goes =
-          block_turn chart c.args.bounds now life c.args.stmts.now c.loop-stmt.stmt-index c.loop-stmt.world
-          (λ n. (upto chart c.args.bounds n).block life (block_seen c.args.stmts.now) now c.args.world.now)
-          c.loop-stmt.invariant.goes c.stmt-item.result _ (omega arith) c.stmt-item.is
-          (ended_as end_of _ _ c.in-Done.is c.in_ok-statement.ensures.gives);
-      fits = c.statement.ensures.fits;
-    }
+run_block-loop-stmt-preserved t c = record {
+  goes =
+      block_turn (chart_of c.args.chart.now) c.args.bounds (now_of c.args.now) (life_seen c.args.life) c.args.stmts.now
+      c.loop-stmt.stmt-index c.loop-stmt.world _ c.loop-stmt.invariant.goes c.stmt-item.result _ (omega arith)
+      c.stmt-item.is (ended_as end_of _ _ c.in-Done.is c.in_ok-statement.ensures.gives);
+  fits = c.statement.ensures.fits;
+}
 
 pub run_block-returns-clause-gives : goal.run_block-returns-clause-gives
 run_block-returns-clause-gives t c =
-    let chart = chart_of c.args.chart.now in
-    let now = now_of c.args.now in
-    let life = life_seen c.args.life in
-    block_turns_end chart c.args.bounds now life c.args.stmts.now c.loop-stmt.stmt-index c.loop-stmt.world
-    (λ n. (upto chart c.args.bounds n).block life (block_seen c.args.stmts.now) now c.args.world.now)
-    c.loop-stmt.invariant.goes (omega arith)
+    block_turns_end (chart_of c.args.chart.now) c.args.bounds (now_of c.args.now) (life_seen c.args.life)
+    c.args.stmts.now c.loop-stmt.stmt-index c.loop-stmt.world _ c.loop-stmt.invariant.goes (omega arith)
 
 pub run_block-statement-requires : goal.run_block-statement-requires
 run_block-statement-requires t c = (
@@ -115,10 +96,8 @@ statement-returns-in_err-assign-in-Assign-clause-gives t c =
     let chart = chart_of c.args.chart.now in
     let now = now_of c.args.now in
     let life = life_seen c.args.life in
-    let p = err_from_is_err_and c.from_residual.result c.from_residual.ensures.1 in
-    rw (p.1, p.2) (err_does {A = Unit {0}} (λ _. tt) end_of _
-    (λ n. statement chart c.args.bounds (upto chart c.args.bounds n) life (stmt_of c.args.stmt.now) now
-    c.args.world.now) _ _
+    let error = err_from_is_err_and c.from_residual.result c.from_residual.ensures.1 in
+    rw (error.1, error.2) (err_does {A = Unit {0}} (λ _. tt) end_of _ _ _ _
     (λ x h. subst (λ s. Settled
     (λ n. statement chart c.args.bounds (upto chart c.args.bounds n) life (stmt_of s) now c.args.world.now)
     (Faulted x c.assign.new.self)) (sym c.in-Assign.is)
@@ -141,11 +120,9 @@ statement-returns-in_err-pay-in-Emit-clause-gives t c =
     let chart = chart_of c.args.chart.now in
     let now = now_of c.args.now in
     let life = life_seen c.args.life in
-    let p =
+    let error =
     err_from_is_err_and c.from_residual-in_err-pay-in-Emit.result c.from_residual-in_err-pay-in-Emit.ensures.1 in
-    rw (p.1, p.2) (err_does {A = Unit {0}} (λ _. tt) end_of _
-    (λ n. statement chart c.args.bounds (upto chart c.args.bounds n) life (stmt_of c.args.stmt.now) now
-    c.args.world.now) _ _
+    rw (error.1, error.2) (err_does {A = Unit {0}} (λ _. tt) end_of _ _ _ _
     (λ x h. subst (λ s. Settled
     (λ n. statement chart c.args.bounds (upto chart c.args.bounds n) life (stmt_of s) now c.args.world.now)
     (Faulted x c.pay.new.self)) (sym c.in-Emit.is)
@@ -154,13 +131,11 @@ statement-returns-in_err-pay-in-Emit-clause-gives t c =
 
 pub statement-returns-in_err-put_out-in-Emit-clause-gives : goal.statement-returns-in_err-put_out-in-Emit-clause-gives
 statement-returns-in_err-put_out-in-Emit-clause-gives t c =
-    let chart = chart_of c.args.chart.now in
-    let p =
+    let error =
     err_from_is_err_and c.from_residual-in_err-put_out-in-Emit.result
     c.from_residual-in_err-put_out-in-Emit.ensures.1 in
-    rw (p.1, p.2) (err_does {A = Unit {0}} (λ _. tt) end_of _
-    (λ n. statement chart c.args.bounds (upto chart c.args.bounds n) (life_seen c.args.life) (stmt_of c.args.stmt.now)
-    (now_of c.args.now) c.args.world.now) _ _ (λ x h. absurd cc) c.in_err-put_out-in-Emit.ensures.does)
+    rw (error.1, error.2)
+    (err_does {A = Unit {0}} (λ _. tt) end_of _ _ _ _ (λ x h. absurd cc) c.in_err-put_out-in-Emit.ensures.does)
 
 pub statement-returns-in_ok-put_out-in-Emit-clause-gives : goal.statement-returns-in_ok-put_out-in-Emit-clause-gives
 statement-returns-in_ok-put_out-in-Emit-clause-gives t c =
@@ -170,19 +145,18 @@ statement-returns-in_ok-put_out-in-Emit-clause-gives t c =
     subst (λ s. Settled
     (λ n. statement chart c.args.bounds (upto chart c.args.bounds n) life (stmt_of s) now c.args.world.now)
     (Ended Done c.put_out.new.self)) (sym c.in-Emit.is)
-    (settled_at _ _ _ c.in_ok-put_out-in-Emit.ensures.does (emit_done chart c.args.bounds now life c.in-Emit.e
-    c.args.world.now c.pay.new.self c.in_ok-pay-in-Emit.ensures.does))
+    (settled_at _ _ _ c.in_ok-put_out-in-Emit.ensures.does
+    (emit_done chart c.args.bounds now life c.in-Emit.e c.args.world.now c.pay.new.self
+    c.in_ok-pay-in-Emit.ensures.does))
 
 pub statement-returns-in_err-send-in-Send-clause-gives : goal.statement-returns-in_err-send-in-Send-clause-gives
 statement-returns-in_err-send-in-Send-clause-gives t c =
     let chart = chart_of c.args.chart.now in
     let now = now_of c.args.now in
     let life = life_seen c.args.life in
-    let p =
+    let error =
     err_from_is_err_and c.from_residual-in_err-send-in-Send.result c.from_residual-in_err-send-in-Send.ensures.1 in
-    rw (p.1, p.2) (err_through {A = Unit {0}} (λ _. tt) end_of _
-    (λ n. statement chart c.args.bounds (upto chart c.args.bounds n) life (stmt_of c.args.stmt.now) now
-    c.args.world.now) _ _
+    rw (error.1, error.2) (err_through {A = Unit {0}} (λ _. tt) end_of _ _ _ _
     (λ x h. subst (λ s. Settled
     (λ n. statement chart c.args.bounds (upto chart c.args.bounds n) life (stmt_of s) now c.args.world.now)
     (Faulted x c.send.new.world)) (sym c.in-Send.is)
@@ -205,11 +179,9 @@ statement-returns-in_err-send-in-SendTo-clause-gives t c =
     let chart = chart_of c.args.chart.now in
     let now = now_of c.args.now in
     let life = life_seen c.args.life in
-    let p =
+    let error =
     err_from_is_err_and c.from_residual-in_err-send-in-SendTo.result c.from_residual-in_err-send-in-SendTo.ensures.1 in
-    rw (p.1, p.2) (err_through {A = Unit {0}} (λ _. tt) end_of _
-    (λ n. statement chart c.args.bounds (upto chart c.args.bounds n) life (stmt_of c.args.stmt.now) now
-    c.args.world.now) _ _
+    rw (error.1, error.2) (err_through {A = Unit {0}} (λ _. tt) end_of _ _ _ _
     (λ x h. subst (λ s. Settled
     (λ n. statement chart c.args.bounds (upto chart c.args.bounds n) life (stmt_of s) now c.args.world.now)
     (Faulted x c.send-in-SendTo.new.world)) (sym c.in-SendTo.is)
@@ -234,24 +206,21 @@ send-returns-then-now-bounds-clause-gives t c =
 
 pub send-returns-in_err-pay-clause-gives : goal.send-returns-in_err-pay-clause-gives
 send-returns-in_err-pay-clause-gives t c =
-    let chart = chart_of c.args.chart.now in
-    let now = now_of c.args.now in
-    let p = err_from_is_err_and c.from_residual.result c.from_residual.ensures.1 in
-    rw (p.1, p.2) (err_does {A = Unit {0}} {A' = Unit {0}} (λ _. tt) (λ _. tt) _
-    (λ n. (upto chart c.args.bounds n).send c.args.e c.args.to now c.args.world.now) _ _
+    let error = err_from_is_err_and c.from_residual.result c.from_residual.ensures.1 in
+    rw (error.1, error.2) (err_does {A = Unit {0}} {A' = Unit {0}} (λ _. tt) (λ _. tt) _ _ _ _
     (λ x h.
     let deep : nat_le c.args.bounds.depth c.args.now.depth ≡ false = grind (arith, nat_tests) in
-    send_fault chart c.args.bounds now c.args.e c.args.to c.args.world.now _ x deep h) c.in_err-pay.ensures.does)
+    send_fault (chart_of c.args.chart.now) c.args.bounds (now_of c.args.now) c.args.e c.args.to c.args.world.now _ x
+    deep h) c.in_err-pay.ensures.does)
 
 pub send-returns-in_err-process-in-None-clause-gives : goal.send-returns-in_err-process-in-None-clause-gives
 send-returns-in_err-process-in-None-clause-gives t c =
     let chart = chart_of c.args.chart.now in
     let now = now_of c.args.now in
-    let p =
+    let error =
     err_from_is_err_and c.from_residual-in_err-process-in-None.result
     c.from_residual-in_err-process-in-None.ensures.1 in
-    rw (p.1, p.2) (err_through {A' = Unit {0}} went_of (λ _. tt) _
-    (λ n. (upto chart c.args.bounds n).send c.args.e c.args.to now c.args.world.now) _ _
+    rw (error.1, error.2) (err_through {A' = Unit {0}} went_of (λ _. tt) _ _ _ _
     (λ x h.
     let deep : nat_le c.args.bounds.depth c.args.now.depth ≡ false = grind (arith, nat_tests) in
     subst (λ o. Settled (λ n. (upto chart c.args.bounds n).send c.args.e o now c.args.world.now)
@@ -283,20 +252,19 @@ send-returns-then-not-on-clause-gives t c =
     let now = now_of c.args.now in
     let deep : nat_le c.args.bounds.depth c.args.now.depth ≡ false = grind (arith, nat_tests) in
     let off : is_on c.in-Some.s c.pay.new.self.marks ≡ false = cc in
-    subst
-    (λ o. Settled (λ n. (upto chart c.args.bounds n).send c.args.e o now c.args.world.now) (Ended tt c.pay.new.self))
-    (sym c.in-Some.is) (send_off chart c.args.bounds now c.args.e (Some c.in-Some.s) c.args.world.now c.pay.new.self
-    deep c.in_ok-pay.ensures.does off)
+    subst (λ o. Settled (λ n. (upto chart c.args.bounds n).send c.args.e o now c.args.world.now)
+    (Ended tt c.pay.new.self)) (sym c.in-Some.is)
+    (send_off chart c.args.bounds now c.args.e (Some c.in-Some.s) c.args.world.now c.pay.new.self deep
+    c.in_ok-pay.ensures.does off)
 
 pub send-returns-in_err-process-in-Some-clause-gives : goal.send-returns-in_err-process-in-Some-clause-gives
 send-returns-in_err-process-in-Some-clause-gives t c =
     let chart = chart_of c.args.chart.now in
     let now = now_of c.args.now in
-    let p =
+    let error =
     err_from_is_err_and c.from_residual-in_err-process-in-Some.result
     c.from_residual-in_err-process-in-Some.ensures.1 in
-    rw (p.1, p.2) (err_through {A' = Unit {0}} went_of (λ _. tt) _
-    (λ n. (upto chart c.args.bounds n).send c.args.e c.args.to now c.args.world.now) _ _
+    rw (error.1, error.2) (err_through {A' = Unit {0}} went_of (λ _. tt) _ _ _ _
     (λ x h.
     let deep : nat_le c.args.bounds.depth c.args.now.depth ≡ false = grind (arith, nat_tests) in
     let on : is_on c.in-Some.s c.pay.new.self.marks ≡ true = cc in
@@ -327,15 +295,12 @@ exit-returns-then-not-on-clause-gives t c =
 
 pub exit-returns-in_err-exit_children-clause-gives : goal.exit-returns-in_err-exit_children-clause-gives
 exit-returns-in_err-exit_children-clause-gives t c =
-    let chart = chart_of c.args.chart.now in
-    let now = now_of c.args.now in
-    let p = err_from_is_err_and c.from_residual.result c.from_residual.ensures.1 in
-    rw (p.1, p.2) (err_through {A = Unit {0}} {A' = Unit {0}} (λ _. tt) (λ _. tt) _
-    (λ n. (upto chart c.args.bounds n).exit c.args.s now c.args.world.now) _ _
+    let error = err_from_is_err_and c.from_residual.result c.from_residual.ensures.1 in
+    rw (error.1, error.2) (err_through {A = Unit {0}} {A' = Unit {0}} (λ _. tt) (λ _. tt) _ _ _ _
     (λ x h.
     let on : is_on c.args.s c.args.world.now.marks ≡ true = cc in
-    exit_children_fault chart c.args.bounds now c.args.s c.args.world.now _ x on h)
-    c.in_err-exit_children.ensures.gives)
+    exit_children_fault (chart_of c.args.chart.now) c.args.bounds (now_of c.args.now) c.args.s c.args.world.now _ x on
+    h) c.in_err-exit_children.ensures.gives)
 
 pub exit-returns-then-not-bare-clause-gives : goal.exit-returns-then-not-bare-clause-gives
 exit-returns-then-not-bare-clause-gives t c =
@@ -348,14 +313,13 @@ exit-returns-then-not-bare-clause-gives t c =
 pub exit-returns-in_err-run_block-clause-gives : goal.exit-returns-in_err-run_block-clause-gives
 exit-returns-in_err-run_block-clause-gives t c =
     let chart = chart_of c.args.chart.now in
-    let now = now_of c.args.now in
-    let p = err_from_is_err_and c.from_residual-in_err-run_block.result c.from_residual-in_err-run_block.ensures.1 in
-    rw (p.1, p.2) (err_through {A' = Unit {0}} end_of (λ _. tt) _
-    (λ n. (upto chart c.args.bounds n).exit c.args.s now c.args.world.now) _ _
+    let error =
+    err_from_is_err_and c.from_residual-in_err-run_block.result c.from_residual-in_err-run_block.ensures.1 in
+    rw (error.1, error.2) (err_through {A' = Unit {0}} end_of (λ _. tt) _ _ _ _
     (λ x h.
     let on : is_on c.args.s c.args.world.now.marks ≡ true = cc in
     let bare : is_bare chart.tree c.args.s c.exit_children.new.world.marks ≡ true = cc in
-    exit_block_fault chart c.args.bounds now c.args.s _ c.args.world.now c.exit_children.new.world _ x
+    exit_block_fault chart c.args.bounds (now_of c.args.now) c.args.s _ c.args.world.now c.exit_children.new.world _ x
     c.block.ensures.block on c.in_ok-exit_children.ensures.gives bare h) c.in_err-run_block.ensures.gives)
 
 pub exit-returns-in-Cut-clause-gives : goal.exit-returns-in-Cut-clause-gives
@@ -396,21 +360,13 @@ exit_children-returns-in-Leaf-clause-gives t c =
 
 pub exit_children-returns-in-Or-clause-gives : goal.exit_children-returns-in-Or-clause-gives
 exit_children-returns-in-Or-clause-gives t c =
-    let chart = chart_of c.args.chart.now in
-    let now = now_of c.args.now in
-    passed {A = Unit {0}} (λ _. tt) _
-    (λ n. exit_children chart (upto chart c.args.bounds n) c.args.s now (comp_of chart.tree c.args.s) c.args.world.now)
-    _ _ (λ q h. exit_children_or chart c.args.bounds now c.args.s _ c.args.world.now q c.in-Or.ensures h)
-    c.exit_active.ensures.gives
+    passed {A = Unit {0}} (λ _. tt) _ _ _ _ (λ q h. exit_children_or (chart_of c.args.chart.now) c.args.bounds
+    (now_of c.args.now) c.args.s _ c.args.world.now q c.in-Or.ensures h) c.exit_active.ensures.gives
 
 pub exit_children-returns-in-And-clause-gives : goal.exit_children-returns-in-And-clause-gives
 exit_children-returns-in-And-clause-gives t c =
-    let chart = chart_of c.args.chart.now in
-    let now = now_of c.args.now in
-    passed {A = Unit {0}} (λ _. tt) _
-    (λ n. exit_children chart (upto chart c.args.bounds n) c.args.s now (comp_of chart.tree c.args.s) c.args.world.now)
-    _ _ (λ q h. exit_children_and chart c.args.bounds now c.args.s _ c.args.world.now q _ c.in-And.ensures refl h)
-    c.exit_all.ensures.gives
+    passed {A = Unit {0}} (λ _. tt) _ _ _ _ (λ q h. exit_children_and (chart_of c.args.chart.now) c.args.bounds
+    (now_of c.args.now) c.args.s _ c.args.world.now q _ c.in-And.ensures refl h) c.exit_all.ensures.gives
 
 pub exit_active-returns-in-None-clause-gives : goal.exit_active-returns-in-None-clause-gives
 exit_active-returns-in-None-clause-gives t c =
@@ -419,12 +375,8 @@ exit_active-returns-in-None-clause-gives t c =
 
 pub exit_active-returns-in-Some-clause-gives : goal.exit_active-returns-in-Some-clause-gives
 exit_active-returns-in-Some-clause-gives t c =
-    let chart = chart_of c.args.chart.now in
-    let now = now_of c.args.now in
-    passed {A = Unit {0}} (λ _. tt) _
-    (λ n. exit_active chart (upto chart c.args.bounds n) c.args.s now c.args.world.now) _ _
-    (λ q h. exit_active_one chart c.args.bounds now c.args.s c.in-Some.x c.args.world.now q c.in-Some.ensures.child h)
-    c.exit.ensures.gives
+    passed {A = Unit {0}} (λ _. tt) _ _ _ _ (λ q h. exit_active_one (chart_of c.args.chart.now) c.args.bounds
+    (now_of c.args.now) c.args.s c.in-Some.x c.args.world.now q c.in-Some.ensures.child h) c.exit.ensures.gives
 
 pub exit_all-loop-next-init : goal.exit_all-loop-next-init
 exit_all-loop-next-init t c =
@@ -443,14 +395,11 @@ exit_all-loop-next-init t c =
 
 pub exit_all-returns-in_err-exit-clause-gives : goal.exit_all-returns-in_err-exit-clause-gives
 exit_all-returns-in_err-exit-clause-gives t c =
-    let chart = chart_of c.args.chart.now in
-    let now = now_of c.args.now in
-    let p = err_from_is_err_and c.from_residual.result c.from_residual.ensures.1 in
-    rw (p.1, p.2) (err_through {A = Unit {0}} {A' = Unit {0}} (λ _. tt) (λ _. tt) _
-    (λ n. (upto chart c.args.bounds n).exit_each (reverse (children_of chart.tree c.args.s)) now c.args.world.now) _ _
-    (λ x h. exit_turn_fault chart c.args.bounds now c.args.s c.loop-next.next c.loop-next.world
-    (λ n. (upto chart c.args.bounds n).exit_each (reverse (children_of chart.tree c.args.s)) now c.args.world.now)
-    c.loop-next.invariant.goes c.in-Some.x c.in-Some.is c.loop-next.invariant.stands _ x h) c.in_err-exit.ensures.gives)
+    let error = err_from_is_err_and c.from_residual.result c.from_residual.ensures.1 in
+    rw (error.1, error.2) (err_through {A = Unit {0}} {A' = Unit {0}} (λ _. tt) (λ _. tt) _ _ _ _
+    (λ x h. exit_turn_fault (chart_of c.args.chart.now) c.args.bounds (now_of c.args.now) c.args.s c.loop-next.next
+    c.loop-next.world _ c.loop-next.invariant.goes c.in-Some.x c.in-Some.is c.loop-next.invariant.stands _ x h)
+    c.in_err-exit.ensures.gives)
 
 pub exit_all-prev_sibling-next-requires : goal.exit_all-prev_sibling-next-requires
 exit_all-prev_sibling-next-requires t c = (c.loop-next.invariant.stands.child c.in-Some.x c.in-Some.is).within
@@ -458,11 +407,9 @@ exit_all-prev_sibling-next-requires t c = (c.loop-next.invariant.stands.child c.
 pub exit_all-loop-next-preserved : goal.exit_all-loop-next-preserved
 exit_all-loop-next-preserved t c =
     let chart = chart_of c.args.chart.now in
-    let now = now_of c.args.now in
     record {
       goes =
-          exit_turn chart c.args.bounds now c.args.s c.loop-next.next c.loop-next.world
-          (λ n. (upto chart c.args.bounds n).exit_each (reverse (children_of chart.tree c.args.s)) now c.args.world.now)
+          exit_turn chart c.args.bounds (now_of c.args.now) c.args.s c.loop-next.next c.loop-next.world _
           c.loop-next.invariant.goes c.in-Some.x c.in-Some.is c.loop-next.invariant.stands _ _
           c.prev_sibling-next.ensures.sibling c.in_ok-exit.ensures.gives;
       stands =
@@ -473,16 +420,13 @@ exit_all-loop-next-preserved t c =
 
 pub exit_all-returns-clause-gives : goal.exit_all-returns-clause-gives
 exit_all-returns-clause-gives t c =
-    let chart = chart_of c.args.chart.now in
-    let now = now_of c.args.now in
-    exit_turns_end chart c.args.bounds now c.args.s c.loop-next.next c.loop-next.world
-    (λ n. (upto chart c.args.bounds n).exit_each (reverse (children_of chart.tree c.args.s)) now c.args.world.now)
-    c.loop-next.invariant.goes c.in_default.is
+    exit_turns_end (chart_of c.args.chart.now) c.args.bounds (now_of c.args.now) c.args.s c.loop-next.next
+    c.loop-next.world _ c.loop-next.invariant.goes c.in_default.is
 
 pub exit_all-exit-requires : goal.exit_all-exit-requires
 exit_all-exit-requires t c =
-    let i = (c.loop-next.invariant.stands.child c.in-Some.x c.in-Some.is) in
-    (omega (arith, i.above, i.within, c.decreases), (c.loop-next.invariant.fits, i.within))
+    let child = c.loop-next.invariant.stands.child c.in-Some.x c.in-Some.is in
+    (omega (arith, child.above, child.within, c.decreases), (c.loop-next.invariant.fits, child.within))
 
 pub enter-returns-then-not-can_mark-clause-gives : goal.enter-returns-then-not-can_mark-clause-gives
 enter-returns-then-not-can_mark-clause-gives t c =
@@ -493,14 +437,12 @@ enter-returns-then-not-can_mark-clause-gives t c =
 pub enter-returns-in_err-run_block-clause-gives : goal.enter-returns-in_err-run_block-clause-gives
 enter-returns-in_err-run_block-clause-gives t c =
     let chart = chart_of c.args.chart.now in
-    let now = now_of c.args.now in
-    let p = err_from_is_err_and c.from_residual.result c.from_residual.ensures.1 in
-    rw (p.1, p.2) (err_through {A' = Unit {0}} end_of (λ _. tt) _
-    (λ n. (upto chart c.args.bounds n).enter c.args.s c.args.d now c.args.world.now) _ _
+    let error = err_from_is_err_and c.from_residual.result c.from_residual.ensures.1 in
+    rw (error.1, error.2) (err_through {A' = Unit {0}} end_of (λ _. tt) _ _ _ _
     (λ x h.
     let can : can_mark chart.tree c.args.s c.args.world.now.marks ≡ true = cc in
-    enter_fault chart c.args.bounds now c.args.s c.args.d _ c.args.world.now c.enter.new.self c.block.ensures.block can
-    c.enter.ensures.entered _ x h) c.in_err-run_block.ensures.gives)
+    enter_fault chart c.args.bounds (now_of c.args.now) c.args.s c.args.d _ c.args.world.now c.enter.new.self
+    c.block.ensures.block can c.enter.ensures.entered _ x h) c.in_err-run_block.ensures.gives)
 
 pub enter-returns-in-Cut-clause-gives : goal.enter-returns-in-Cut-clause-gives
 enter-returns-in-Cut-clause-gives t c =
@@ -513,13 +455,11 @@ enter-returns-in-Cut-clause-gives t c =
 pub enter-returns-in-Done-clause-gives : goal.enter-returns-in-Done-clause-gives
 enter-returns-in-Done-clause-gives t c =
     let chart = chart_of c.args.chart.now in
-    let now = now_of c.args.now in
-    passed {A = Unit {0}} (λ _. tt) _ (λ n. (upto chart c.args.bounds n).enter c.args.s c.args.d now c.args.world.now) _
-    _ (λ q h.
+    passed {A = Unit {0}} (λ _. tt) _ _ _ _ (λ q h.
     let can : can_mark chart.tree c.args.s c.args.world.now.marks ≡ true = cc in
-    enter_done chart c.args.bounds now c.args.s c.args.d _ c.args.world.now c.enter.new.self c.block.ensures.block can
-    c.enter.ensures.entered c.run_block.new.world q (ended_as end_of _ _ c.in-Done.is c.in_ok-run_block.ensures.gives)
-    h) c.enter_inside.ensures.gives
+    enter_done chart c.args.bounds (now_of c.args.now) c.args.s c.args.d _ c.args.world.now c.enter.new.self
+    c.block.ensures.block can c.enter.ensures.entered c.run_block.new.world q
+    (ended_as end_of _ _ c.in-Done.is c.in_ok-run_block.ensures.gives) h) c.enter_inside.ensures.gives
 
 pub enter_inside-returns-in-Leaf-clause-gives : goal.enter_inside-returns-in-Leaf-clause-gives
 enter_inside-returns-in-Leaf-clause-gives t c =
@@ -528,43 +468,30 @@ enter_inside-returns-in-Leaf-clause-gives t c =
 
 pub enter_inside-returns-in-Or-clause-gives : goal.enter_inside-returns-in-Or-clause-gives
 enter_inside-returns-in-Or-clause-gives t c =
-    let chart = chart_of c.args.chart.now in
-    let now = now_of c.args.now in
-    passed {A = Unit {0}} (λ _. tt) _ (λ n. enter_inside chart (upto chart c.args.bounds n) c.args.s c.args.d now
-    (comp_of chart.tree c.args.s) c.args.world.now) _ _
-    (λ q h. inside_or chart c.args.bounds now c.args.s c.args.d _ c.args.world.now q c.in-Or.ensures h)
-    c.enter_toward.ensures.gives
+    passed {A = Unit {0}} (λ _. tt) _ _ _ _ (λ q h. inside_or (chart_of c.args.chart.now) c.args.bounds
+    (now_of c.args.now) c.args.s c.args.d _ c.args.world.now q c.in-Or.ensures h) c.enter_toward.ensures.gives
 
 pub enter_inside-returns-in-And-clause-gives : goal.enter_inside-returns-in-And-clause-gives
 enter_inside-returns-in-And-clause-gives t c =
-    let chart = chart_of c.args.chart.now in
-    let now = now_of c.args.now in
-    passed {A = Unit {0}} (λ _. tt) _ (λ n. enter_inside chart (upto chart c.args.bounds n) c.args.s c.args.d now
-    (comp_of chart.tree c.args.s) c.args.world.now) _ _
-    (λ q h. inside_each chart c.args.bounds now c.args.s c.args.d _ c.args.world.now q _ c.in-And.ensures refl h)
-    c.enter_all.ensures.gives
+    passed {A = Unit {0}} (λ _. tt) _ _ _ _ (λ q h. inside_each (chart_of c.args.chart.now) c.args.bounds
+    (now_of c.args.now) c.args.s c.args.d _ c.args.world.now q _ c.in-And.ensures refl h) c.enter_all.ensures.gives
 
 pub enter_toward-returns-then-s-d-clause-gives : goal.enter_toward-returns-then-s-d-clause-gives
 enter_toward-returns-then-s-d-clause-gives t c =
-    let chart = chart_of c.args.chart.now in
-    let now = now_of c.args.now in
-    passed {A = Unit {0}} (λ _. tt) _
-    (λ n. enter_toward chart (upto chart c.args.bounds n) c.args.s c.args.d now c.args.world.now) _ _
-    (λ q h.
+    passed {A = Unit {0}} (λ _. tt) _ _ _ _ (λ q h.
     let sd : (c.args.s == c.args.d) ≡ true = grind (arith, nat_tests) in
-    settled_true (c.args.s == c.args.d) (λ n. (upto chart c.args.bounds n).defaults c.args.s now) _ c.args.world.now q
+    settled_true (c.args.s == c.args.d)
+    (λ n. (upto (chart_of c.args.chart.now) c.args.bounds n).defaults c.args.s (now_of c.args.now)) _ c.args.world.now q
     sd h) c.defaults.ensures.gives
 
 pub enter_toward-returns-clause-gives : goal.enter_toward-returns-clause-gives
 enter_toward-returns-clause-gives t c =
     let chart = chart_of c.args.chart.now in
-    let now = now_of c.args.now in
-    passed {A = Unit {0}} (λ _. tt) _
-    (λ n. enter_toward chart (upto chart c.args.bounds n) c.args.s c.args.d now c.args.world.now) _ _
-    (λ q h.
+    passed {A = Unit {0}} (λ _. tt) _ _ _ _ (λ q h.
     let sd : (c.args.s == c.args.d) ≡ false = grind (arith, nat_tests) in
     settled_false (c.args.s == c.args.d) _ (λ n. if_some (child_toward chart.tree c.args.s c.args.d) nothing
-    (λ x. (upto chart c.args.bounds n).enter x c.args.d now)) c.args.world.now q sd h) c.enter_child.ensures.gives
+    (λ x. (upto chart c.args.bounds n).enter x c.args.d (now_of c.args.now))) c.args.world.now q sd h)
+    c.enter_child.ensures.gives
 
 pub enter_child-returns-in-None-clause-gives : goal.enter_child-returns-in-None-clause-gives
 enter_child-returns-in-None-clause-gives t c =
@@ -573,12 +500,9 @@ enter_child-returns-in-None-clause-gives t c =
 
 pub enter_child-returns-in-Some-clause-gives : goal.enter_child-returns-in-Some-clause-gives
 enter_child-returns-in-Some-clause-gives t c =
-    let chart = chart_of c.args.chart.now in
-    let now = now_of c.args.now in
-    passed {A = Unit {0}} (λ _. tt) _ (λ n. if_some (child_toward chart.tree c.args.s c.args.d) nothing
-    (λ x. (upto chart c.args.bounds n).enter x c.args.d now) c.args.world.now) _ _
-    (λ q h. toward_one chart c.args.bounds now c.args.s c.args.d c.in-Some.x c.args.world.now q c.in-Some.ensures.child
-    h) c.enter.ensures.gives
+    passed {A = Unit {0}} (λ _. tt) _ _ _ _ (λ q h. toward_one (chart_of c.args.chart.now) c.args.bounds
+    (now_of c.args.now) c.args.s c.args.d c.in-Some.x c.args.world.now q c.in-Some.ensures.child h)
+    c.enter.ensures.gives
 
 pub enter_all-loop-next-init : goal.enter_all-loop-next-init
 enter_all-loop-next-init t c =
@@ -600,20 +524,18 @@ enter_all-path_in-requires-clause-child t c = (c.loop-next.invariant.stands.chil
 
 pub enter_all-enter-requires : goal.enter_all-enter-requires
 enter_all-enter-requires t c =
-    let i = (c.loop-next.invariant.stands.child c.in-Some.x c.in-Some.is) in
-    (omega (arith, i.above, i.within, c.decreases), (c.loop-next.invariant.fits, (i.within, c.path_in.ensures.within)))
+    let child = c.loop-next.invariant.stands.child c.in-Some.x c.in-Some.is in (
+      omega (arith, child.above, child.within, c.decreases),
+      (c.loop-next.invariant.fits, (child.within, c.path_in.ensures.within)),
+    )
 
 pub enter_all-returns-in_err-enter-clause-gives : goal.enter_all-returns-in_err-enter-clause-gives
 enter_all-returns-in_err-enter-clause-gives t c =
-    let chart = chart_of c.args.chart.now in
-    let now = now_of c.args.now in
-    let p = err_from_is_err_and c.from_residual.result c.from_residual.ensures.1 in
-    rw (p.1, p.2) (err_through {A = Unit {0}} {A' = Unit {0}} (λ _. tt) (λ _. tt) _
-    (λ n. (upto chart c.args.bounds n).enter_each (children_of chart.tree c.args.s) c.args.d now c.args.world.now) _ _
-    (λ x h. enter_turn_fault chart c.args.bounds now c.args.s c.args.d c.loop-next.next c.loop-next.world
-    (λ n. (upto chart c.args.bounds n).enter_each (children_of chart.tree c.args.s) c.args.d now c.args.world.now)
-    c.loop-next.invariant.goes c.in-Some.x _ c.in-Some.is c.loop-next.invariant.stands c.path_in.ensures.path _ x h)
-    c.in_err-enter.ensures.gives)
+    let error = err_from_is_err_and c.from_residual.result c.from_residual.ensures.1 in
+    rw (error.1, error.2) (err_through {A = Unit {0}} {A' = Unit {0}} (λ _. tt) (λ _. tt) _ _ _ _
+    (λ x h. enter_turn_fault (chart_of c.args.chart.now) c.args.bounds (now_of c.args.now) c.args.s c.args.d
+    c.loop-next.next c.loop-next.world _ c.loop-next.invariant.goes c.in-Some.x _ c.in-Some.is
+    c.loop-next.invariant.stands c.path_in.ensures.path _ x h) c.in_err-enter.ensures.gives)
 
 pub enter_all-next_sibling-next-requires : goal.enter_all-next_sibling-next-requires
 enter_all-next_sibling-next-requires t c = (c.loop-next.invariant.stands.child c.in-Some.x c.in-Some.is).within
@@ -626,11 +548,9 @@ enter_all-loop-next-smaller t c =
 pub enter_all-loop-next-preserved : goal.enter_all-loop-next-preserved
 enter_all-loop-next-preserved t c =
     let chart = chart_of c.args.chart.now in
-    let now = now_of c.args.now in
     record {
       goes =
-          enter_turn chart c.args.bounds now c.args.s c.args.d c.loop-next.next c.loop-next.world
-          (λ n. (upto chart c.args.bounds n).enter_each (children_of chart.tree c.args.s) c.args.d now c.args.world.now)
+          enter_turn chart c.args.bounds (now_of c.args.now) c.args.s c.args.d c.loop-next.next c.loop-next.world _
           c.loop-next.invariant.goes c.in-Some.x _ c.in-Some.is c.loop-next.invariant.stands c.path_in.ensures.path _ _
           c.next_sibling-next.ensures.sibling c.in_ok-enter.ensures.gives;
       stands =
@@ -641,21 +561,15 @@ enter_all-loop-next-preserved t c =
 
 pub enter_all-returns-clause-gives : goal.enter_all-returns-clause-gives
 enter_all-returns-clause-gives t c =
-    let chart = chart_of c.args.chart.now in
-    let now = now_of c.args.now in
-    enter_turns_end chart c.args.bounds now c.args.s c.args.d c.loop-next.next c.loop-next.world
-    (λ n. (upto chart c.args.bounds n).enter_each (children_of chart.tree c.args.s) c.args.d now c.args.world.now)
-    c.loop-next.invariant.goes c.in_default.is
+    enter_turns_end (chart_of c.args.chart.now) c.args.bounds (now_of c.args.now) c.args.s c.args.d c.loop-next.next
+    c.loop-next.world _ c.loop-next.invariant.goes c.in_default.is
 
 pub default_search-returns-in_err-d-clause-gives : goal.default_search-returns-in_err-d-clause-gives
 default_search-returns-in_err-d-clause-gives t c =
-    let chart = chart_of c.args.chart.now in
-    let now = now_of c.args.now in
-    let p = err_from_is_err_and c.from_residual.result c.from_residual.ensures.1 in
-    rw (p.1, p.2) (err_through {A' = Unit {0}} found_of (λ _. tt) _
-    (λ n. default_search chart (upto chart c.args.bounds n) c.args.s now c.args.world.now) _ _
-    (λ x h. default_fault chart c.args.bounds now c.args.s _ c.args.world.now c.list.ensures.list _ x h)
-    c.in_err-d.ensures.gives)
+    let error = err_from_is_err_and c.from_residual.result c.from_residual.ensures.1 in
+    rw (error.1, error.2) (err_through {A' = Unit {0}} found_of (λ _. tt) _ _ _ _
+    (λ x h. default_fault (chart_of c.args.chart.now) c.args.bounds (now_of c.args.now) c.args.s _ c.args.world.now
+    c.list.ensures.list _ x h) c.in_err-d.ensures.gives)
 
 pub default_search-returns-in-DeadEnd-clause-gives : goal.default_search-returns-in-DeadEnd-clause-gives
 default_search-returns-in-DeadEnd-clause-gives t c =
@@ -675,18 +589,19 @@ default_search-returns-clause-gives t c =
     c.list.ensures.list _ c.search.new.world _ (ended_as found_of _ _ c.in-Stop.is c.in_ok-d.ensures.gives)
     (settled_now _)
 
-pub default_search-returns-in_err-play-in-Fire-clause-gives : goal.default_search-returns-in_err-play-in-Fire-clause-gives
+pub default_search-returns-in_err-play-in-Fire-clause-gives :
+    goal.default_search-returns-in_err-play-in-Fire-clause-gives
 default_search-returns-in_err-play-in-Fire-clause-gives t c =
     let chart = chart_of c.args.chart.now in
     let now = now_of c.args.now in
-    let p =
+    let error =
     err_from_is_err_and c.from_residual-in_err-play-in-Fire.result c.from_residual-in_err-play-in-Fire.ensures.1 in
-    rw (p.1, p.2) (err_through {A' = Unit {0}} end_of (λ _. tt) _
-    (λ n. default_search chart (upto chart c.args.bounds n) c.args.s now c.args.world.now) _ _
+    rw (error.1, error.2) (err_through {A' = Unit {0}} end_of (λ _. tt) _ _ _ _
     (λ x h. default_after chart c.args.bounds now c.args.s _ c.args.world.now c.list.ensures.list _ c.search.new.world _
     (ended_as found_of _ _ c.in-Fire.is c.in_ok-d.ensures.gives)
     (fired_fault chart c.args.bounds now c.args.s c.in-Fire.d (map (λ a. block_seen a.now) c.in-Fire.actions.items)
-    c.search.new.world c.play.new.world x (subst (λ l. Settled
+    c.search.new.world c.play.new.world x
+    (subst (λ l. Settled
     (λ n. (upto chart c.args.bounds n).play c.args.s (map (λ a. block_seen a.now) l) now c.search.new.world)
     (Faulted x c.play.new.world)) c.deref.ensures.value h))) c.in_err-play-in-Fire.ensures.gives)
 
@@ -697,7 +612,8 @@ default_search-returns-in-Cut-clause-gives t c =
     default_after chart c.args.bounds now c.args.s _ c.args.world.now c.list.ensures.list _ c.search.new.world _
     (ended_as found_of _ _ c.in-Fire.is c.in_ok-d.ensures.gives)
     (fired_cut chart c.args.bounds now c.args.s c.in-Fire.d (map (λ a. block_seen a.now) c.in-Fire.actions.items)
-    c.search.new.world c.play.new.world (subst (λ l. Settled
+    c.search.new.world c.play.new.world
+    (subst (λ l. Settled
     (λ n. (upto chart c.args.bounds n).play c.args.s (map (λ a. block_seen a.now) l) now c.search.new.world)
     (Ended Cut c.play.new.world)) c.deref.ensures.value
     (ended_as end_of _ _ c.in-Cut.is c.in_ok-play-in-Fire.ensures.gives)))
@@ -706,44 +622,33 @@ pub default_search-returns-in-Fire-clause-gives : goal.default_search-returns-in
 default_search-returns-in-Fire-clause-gives t c =
     let chart = chart_of c.args.chart.now in
     let now = now_of c.args.now in
-    passed {A = Unit {0}} (λ _. tt) _
-    (λ n. default_search chart (upto chart c.args.bounds n) c.args.s now c.args.world.now) _ _
-    (λ q h. default_after chart c.args.bounds now c.args.s _ c.args.world.now c.list.ensures.list _ c.search.new.world q
-    (ended_as found_of _ _ c.in-Fire.is c.in_ok-d.ensures.gives)
+    passed {A = Unit {0}} (λ _. tt) _ _ _ _ (λ q h. default_after chart c.args.bounds now c.args.s _ c.args.world.now
+    c.list.ensures.list _ c.search.new.world q (ended_as found_of _ _ c.in-Fire.is c.in_ok-d.ensures.gives)
     (fired_done chart c.args.bounds now c.args.s c.in-Fire.d (map (λ a. block_seen a.now) c.in-Fire.actions.items)
-    c.search.new.world c.play.new.world q (subst (λ l. Settled
+    c.search.new.world c.play.new.world q
+    (subst (λ l. Settled
     (λ n. (upto chart c.args.bounds n).play c.args.s (map (λ a. block_seen a.now) l) now c.search.new.world)
     (Ended Done c.play.new.world)) c.deref.ensures.value
     (ended_as end_of _ _ c.in-Done.is c.in_ok-play-in-Fire.ensures.gives)) h)) c.enter_child.ensures.gives
 
 pub play-loop-action-preserved-then-is_empty : goal.play-loop-action-preserved-then-is_empty
-play-loop-action-preserved-then-is_empty t c =
-    let chart = chart_of c.args.chart.now in
-    let now = now_of c.args.now in
-    record {
-      goes =
-          play_turn_skip chart c.args.bounds now (λ a. block_seen a.now) c.args.s c.args.actions.now
-          c.loop-action.action-index c.loop-action.world (λ n. (upto chart c.args.bounds n).play c.args.s
-          (map (λ a. block_seen a.now) c.args.actions.now) now c.args.world.now) c.loop-action.invariant.goes
-          c.action-item.result (omega arith) c.action-item.is
-          (ap block_seen (empty_is c.action-item.result.now (grind (arith, nat_tests))));
-      fits = c.loop-action.invariant.fits;
-    }
+play-loop-action-preserved-then-is_empty t c = record {
+  goes =
+      play_turn_skip (chart_of c.args.chart.now) c.args.bounds (now_of c.args.now) (λ a. block_seen a.now) c.args.s
+      c.args.actions.now c.loop-action.action-index c.loop-action.world _ c.loop-action.invariant.goes
+      c.action-item.result (omega arith) c.action-item.is
+      (ap block_seen (empty_is c.action-item.result.now (grind (arith, nat_tests))));
+  fits = c.loop-action.invariant.fits;
+}
 
 pub play-returns-in_err-pay-clause-gives : goal.play-returns-in_err-pay-clause-gives
 play-returns-in_err-pay-clause-gives t c =
-    let chart = chart_of c.args.chart.now in
-    let now = now_of c.args.now in
-    let p = err_from_is_err_and c.from_residual.result c.from_residual.ensures.1 in
-    rw (p.1, p.2) (err_does {A = Unit {0}} (λ _. tt) end_of _
-    (λ n. (upto chart c.args.bounds n).play c.args.s (map (λ a. block_seen a.now) c.args.actions.now) now
-    c.args.world.now) _ _
+    let error = err_from_is_err_and c.from_residual.result c.from_residual.ensures.1 in
+    rw (error.1, error.2) (err_does {A = Unit {0}} (λ _. tt) end_of _ _ _ _
     (λ x h.
-    let some : block_seen c.action-item.result.now ≡ [] → ⊥ = λ z.
-    not_empty stmt_of c.action-item.result.now (grind (arith, nat_tests)) z in
-    play_turn_pay_fault chart c.args.bounds now (λ a. block_seen a.now) c.args.s c.args.actions.now
-    c.loop-action.action-index c.loop-action.world (λ n. (upto chart c.args.bounds n).play c.args.s
-    (map (λ a. block_seen a.now) c.args.actions.now) now c.args.world.now) c.loop-action.invariant.goes
+    let some = not_empty stmt_of c.action-item.result.now (grind (arith, nat_tests)) in
+    play_turn_pay_fault (chart_of c.args.chart.now) c.args.bounds (now_of c.args.now) (λ a. block_seen a.now) c.args.s
+    c.args.actions.now c.loop-action.action-index c.loop-action.world _ c.loop-action.invariant.goes
     c.action-item.result (omega arith) c.action-item.is some _ x h) c.in_err-pay.ensures.does)
 
 pub play-run_block-requires : goal.play-run_block-requires
@@ -761,43 +666,31 @@ play-run_block-requires t c = (
 
 pub play-returns-in_err-run_block-clause-gives : goal.play-returns-in_err-run_block-clause-gives
 play-returns-in_err-run_block-clause-gives t c =
-    let chart = chart_of c.args.chart.now in
-    let now = now_of c.args.now in
-    let p = err_from_is_err_and c.from_residual-in_err-run_block.result c.from_residual-in_err-run_block.ensures.1 in
-    rw (p.1, p.2) (err_through end_of end_of _ (λ n. (upto chart c.args.bounds n).play c.args.s
-    (map (λ a. block_seen a.now) c.args.actions.now) now c.args.world.now) _ _
+    let error =
+    err_from_is_err_and c.from_residual-in_err-run_block.result c.from_residual-in_err-run_block.ensures.1 in
+    rw (error.1, error.2) (err_through end_of end_of _ _ _ _
     (λ x h.
-    let some : block_seen c.action-item.result.now ≡ [] → ⊥ = λ z.
-    not_empty stmt_of c.action-item.result.now (grind (arith, nat_tests)) z in
-    play_turn_fault chart c.args.bounds now (λ a. block_seen a.now) c.args.s c.args.actions.now
-    c.loop-action.action-index c.loop-action.world (λ n. (upto chart c.args.bounds n).play c.args.s
-    (map (λ a. block_seen a.now) c.args.actions.now) now c.args.world.now) c.loop-action.invariant.goes
+    let some = not_empty stmt_of c.action-item.result.now (grind (arith, nat_tests)) in
+    play_turn_fault (chart_of c.args.chart.now) c.args.bounds (now_of c.args.now) (λ a. block_seen a.now) c.args.s
+    c.args.actions.now c.loop-action.action-index c.loop-action.world _ c.loop-action.invariant.goes
     c.action-item.result (omega arith) c.action-item.is some _ _ x c.in_ok-pay.ensures.does h)
     c.in_err-run_block.ensures.gives)
 
 pub play-returns-in-Cut-clause-gives : goal.play-returns-in-Cut-clause-gives
 play-returns-in-Cut-clause-gives t c =
-    let chart = chart_of c.args.chart.now in
-    let now = now_of c.args.now in
-    let some : block_seen c.action-item.result.now ≡ [] → ⊥ = λ z.
-    not_empty stmt_of c.action-item.result.now (grind (arith, nat_tests)) z in
-    play_turn_cut chart c.args.bounds now (λ a. block_seen a.now) c.args.s c.args.actions.now c.loop-action.action-index
-    c.loop-action.world (λ n. (upto chart c.args.bounds n).play c.args.s
-    (map (λ a. block_seen a.now) c.args.actions.now) now c.args.world.now) c.loop-action.invariant.goes
+    let some = not_empty stmt_of c.action-item.result.now (grind (arith, nat_tests)) in
+    play_turn_cut (chart_of c.args.chart.now) c.args.bounds (now_of c.args.now) (λ a. block_seen a.now) c.args.s
+    c.args.actions.now c.loop-action.action-index c.loop-action.world _ c.loop-action.invariant.goes
     c.action-item.result (omega arith) c.action-item.is some _ c.run_block.new.world c.in_ok-pay.ensures.does
     (ended_as end_of _ _ c.in-Cut.is c.in_ok-run_block.ensures.gives)
 
 pub play-loop-action-preserved : goal.play-loop-action-preserved
 play-loop-action-preserved t c =
-    let chart = chart_of c.args.chart.now in
-    let now = now_of c.args.now in
-    let some : block_seen c.action-item.result.now ≡ [] → ⊥ = λ z.
-    not_empty stmt_of c.action-item.result.now (grind (arith, nat_tests)) z in
+    let some = not_empty stmt_of c.action-item.result.now (grind (arith, nat_tests)) in
     record {
       goes =
-          play_turn chart c.args.bounds now (λ a. block_seen a.now) c.args.s c.args.actions.now
-          c.loop-action.action-index c.loop-action.world (λ n. (upto chart c.args.bounds n).play c.args.s
-          (map (λ a. block_seen a.now) c.args.actions.now) now c.args.world.now) c.loop-action.invariant.goes
+          play_turn (chart_of c.args.chart.now) c.args.bounds (now_of c.args.now) (λ a. block_seen a.now) c.args.s
+          c.args.actions.now c.loop-action.action-index c.loop-action.world _ c.loop-action.invariant.goes
           c.action-item.result (omega arith) c.action-item.is some _ c.run_block.new.world c.in_ok-pay.ensures.does
           (ended_as end_of _ _ c.in-Done.is c.in_ok-run_block.ensures.gives);
       fits = c.run_block.ensures.fits;
@@ -805,22 +698,15 @@ play-loop-action-preserved t c =
 
 pub play-returns-clause-gives : goal.play-returns-clause-gives
 play-returns-clause-gives t c =
-    let chart = chart_of c.args.chart.now in
-    let now = now_of c.args.now in
-    play_turns_end chart c.args.bounds now (λ a. block_seen a.now) c.args.s c.args.actions.now
-    c.loop-action.action-index c.loop-action.world (λ n. (upto chart c.args.bounds n).play c.args.s
-    (map (λ a. block_seen a.now) c.args.actions.now) now c.args.world.now) c.loop-action.invariant.goes (omega arith)
+    play_turns_end (chart_of c.args.chart.now) c.args.bounds (now_of c.args.now) (λ a. block_seen a.now) c.args.s
+    c.args.actions.now c.loop-action.action-index c.loop-action.world _ c.loop-action.invariant.goes (omega arith)
 
 pub take-returns-in_err-exit_active-clause-gives : goal.take-returns-in_err-exit_active-clause-gives
 take-returns-in_err-exit_active-clause-gives t c =
-    let chart = chart_of c.args.chart.now in
-    let now = now_of c.args.now in
-    let p = err_from_is_err_and c.from_residual.result c.from_residual.ensures.1 in
-    rw (p.1, p.2) (err_through {A = Unit {0}} {A' = Unit {0}} (λ _. tt) (λ _. tt) _
-    (λ n. (upto chart c.args.bounds n).take c.args.s c.args.d (map (λ a. block_seen a.now) c.args.actions.now) now
-    c.args.world.now) _ _
-    (λ x h. take_exit_fault chart c.args.bounds now c.args.s c.args.d (map (λ a. block_seen a.now) c.args.actions.now)
-    c.args.world.now _ x h) c.in_err-exit_active.ensures.gives)
+    let error = err_from_is_err_and c.from_residual.result c.from_residual.ensures.1 in
+    rw (error.1, error.2) (err_through {A = Unit {0}} {A' = Unit {0}} (λ _. tt) (λ _. tt) _ _ _ _
+    (λ x h. take_exit_fault (chart_of c.args.chart.now) c.args.bounds (now_of c.args.now) c.args.s c.args.d
+    (map (λ a. block_seen a.now) c.args.actions.now) c.args.world.now _ x h) c.in_err-exit_active.ensures.gives)
 
 pub take-returns-then-not-bare-clause-gives : goal.take-returns-then-not-bare-clause-gives
 take-returns-then-not-bare-clause-gives t c =
@@ -833,15 +719,13 @@ take-returns-then-not-bare-clause-gives t c =
 pub take-returns-in_err-play-clause-gives : goal.take-returns-in_err-play-clause-gives
 take-returns-in_err-play-clause-gives t c =
     let chart = chart_of c.args.chart.now in
-    let now = now_of c.args.now in
-    let p = err_from_is_err_and c.from_residual-in_err-play.result c.from_residual-in_err-play.ensures.1 in
-    rw (p.1, p.2) (err_through {A' = Unit {0}} end_of (λ _. tt) _
-    (λ n. (upto chart c.args.bounds n).take c.args.s c.args.d (map (λ a. block_seen a.now) c.args.actions.now) now
-    c.args.world.now) _ _
+    let error = err_from_is_err_and c.from_residual-in_err-play.result c.from_residual-in_err-play.ensures.1 in
+    rw (error.1, error.2) (err_through {A' = Unit {0}} end_of (λ _. tt) _ _ _ _
     (λ x h.
     let bare : is_bare chart.tree c.args.s c.exit_active.new.world.marks ≡ true = cc in
-    take_play_fault chart c.args.bounds now c.args.s c.args.d (map (λ a. block_seen a.now) c.args.actions.now)
-    c.args.world.now c.exit_active.new.world c.in_ok-exit_active.ensures.gives _ x bare h) c.in_err-play.ensures.gives)
+    take_play_fault chart c.args.bounds (now_of c.args.now) c.args.s c.args.d
+    (map (λ a. block_seen a.now) c.args.actions.now) c.args.world.now c.exit_active.new.world
+    c.in_ok-exit_active.ensures.gives _ x bare h) c.in_err-play.ensures.gives)
 
 pub take-returns-in-Cut-clause-gives : goal.take-returns-in-Cut-clause-gives
 take-returns-in-Cut-clause-gives t c =
@@ -863,25 +747,20 @@ take-returns-then-not-bare-2-clause-gives t c =
 pub take-returns-else-not-bare-2-clause-gives : goal.take-returns-else-not-bare-2-clause-gives
 take-returns-else-not-bare-2-clause-gives t c =
     let chart = chart_of c.args.chart.now in
-    let now = now_of c.args.now in
-    passed {A = Unit {0}} (λ _. tt) _ (λ n. (upto chart c.args.bounds n).take c.args.s c.args.d
-    (map (λ a. block_seen a.now) c.args.actions.now) now c.args.world.now) _ _
-    (λ q h.
+    passed {A = Unit {0}} (λ _. tt) _ _ _ _ (λ q h.
     let bare : is_bare chart.tree c.args.s c.exit_active.new.world.marks ≡ true = cc in
     let off : is_bare chart.tree c.args.s c.play.new.world.marks ≡ true = cc in
-    take_enters chart c.args.bounds now c.args.s c.args.d (map (λ a. block_seen a.now) c.args.actions.now)
-    c.args.world.now c.exit_active.new.world c.in_ok-exit_active.ensures.gives c.play.new.world q bare
+    take_enters chart c.args.bounds (now_of c.args.now) c.args.s c.args.d
+    (map (λ a. block_seen a.now) c.args.actions.now) c.args.world.now c.exit_active.new.world
+    c.in_ok-exit_active.ensures.gives c.play.new.world q bare
     (ended_as end_of _ _ c.in-Done.is c.in_ok-play.ensures.gives) off h) c.enter_toward.ensures.gives
 
 pub process-returns-in_err-d-clause-gives : goal.process-returns-in_err-d-clause-gives
 process-returns-in_err-d-clause-gives t c =
-    let chart = chart_of c.args.chart.now in
-    let now = now_of c.args.now in
-    let p = err_from_is_err_and c.from_residual.result c.from_residual.ensures.1 in
-    rw (p.1, p.2) (err_through found_of went_of _
-    (λ n. (upto chart c.args.bounds n).process c.args.s now c.args.world.now) _ _
-    (λ x h. process_fault chart c.args.bounds now c.args.s _ c.args.world.now c.list.ensures.list _ x h)
-    c.in_err-d.ensures.gives)
+    let error = err_from_is_err_and c.from_residual.result c.from_residual.ensures.1 in
+    rw (error.1, error.2) (err_through found_of went_of _ _ _ _
+    (λ x h. process_fault (chart_of c.args.chart.now) c.args.bounds (now_of c.args.now) c.args.s _ c.args.world.now
+    c.list.ensures.list _ x h) c.in_err-d.ensures.gives)
 
 pub process-returns-in-Stop-clause-gives : goal.process-returns-in-Stop-clause-gives
 process-returns-in-Stop-clause-gives t c =
@@ -891,28 +770,23 @@ process-returns-in-Stop-clause-gives t c =
 
 pub process-returns-in-DeadEnd-clause-gives : goal.process-returns-in-DeadEnd-clause-gives
 process-returns-in-DeadEnd-clause-gives t c =
-    let chart = chart_of c.args.chart.now in
-    let now = now_of c.args.now in
-    passed went_of _ (λ n. (upto chart c.args.bounds n).process c.args.s now c.args.world.now) _ _
-    (λ q h. process_after chart c.args.bounds now c.args.s _ c.args.world.now c.list.ensures.list _ c.search.new.world q
+    passed went_of _ _ _ _ (λ q h. process_after (chart_of c.args.chart.now) c.args.bounds (now_of c.args.now) c.args.s
+    _ c.args.world.now c.list.ensures.list _ c.search.new.world q
     (ended_as found_of _ _ c.in-DeadEnd.is c.in_ok-d.ensures.gives) h) c.go_on_inside.ensures.gives
 
 pub process-returns-in-No-clause-gives : goal.process-returns-in-No-clause-gives
 process-returns-in-No-clause-gives t c =
-    let chart = chart_of c.args.chart.now in
-    let now = now_of c.args.now in
-    passed went_of _ (λ n. (upto chart c.args.bounds n).process c.args.s now c.args.world.now) _ _
-    (λ q h. process_after chart c.args.bounds now c.args.s _ c.args.world.now c.list.ensures.list _ c.search.new.world q
+    passed went_of _ _ _ _ (λ q h. process_after (chart_of c.args.chart.now) c.args.bounds (now_of c.args.now) c.args.s
+    _ c.args.world.now c.list.ensures.list _ c.search.new.world q
     (ended_as found_of _ _ c.in-No.is c.in_ok-d.ensures.gives) h) c.go_on_inside-in-No.ensures.gives
 
 pub process-returns-in_err-take-in-Fire-clause-gives : goal.process-returns-in_err-take-in-Fire-clause-gives
 process-returns-in_err-take-in-Fire-clause-gives t c =
     let chart = chart_of c.args.chart.now in
     let now = now_of c.args.now in
-    let p =
+    let error =
     err_from_is_err_and c.from_residual-in_err-take-in-Fire.result c.from_residual-in_err-take-in-Fire.ensures.1 in
-    rw (p.1, p.2) (err_through {A = Unit {0}} (λ _. tt) went_of _
-    (λ n. (upto chart c.args.bounds n).process c.args.s now c.args.world.now) _ _
+    rw (error.1, error.2) (err_through {A = Unit {0}} (λ _. tt) went_of _ _ _ _
     (λ x h. process_after chart c.args.bounds now c.args.s _ c.args.world.now c.list.ensures.list _ c.search.new.world _
     (ended_as found_of _ _ c.in-Fire.is c.in_ok-d.ensures.gives)
     (outer_fault chart c.args.bounds now c.args.s c.in-Fire.d c.home-home.result
@@ -935,13 +809,10 @@ process-returns-in_ok-take-in-Fire-clause-gives t c =
 
 pub go_on_inside-returns-in_err-run_block-clause-gives : goal.go_on_inside-returns-in_err-run_block-clause-gives
 go_on_inside-returns-in_err-run_block-clause-gives t c =
-    let chart = chart_of c.args.chart.now in
-    let now = now_of c.args.now in
-    let p = err_from_is_err_and c.from_residual.result c.from_residual.ensures.1 in
-    rw (p.1, p.2) (err_through end_of went_of _
-    (λ n. go_on_inside chart (upto chart c.args.bounds n) c.args.s now c.args.world.now) _ _
-    (λ x h. during_fault chart c.args.bounds now c.args.s _ c.args.world.now c.block.ensures.block _ x h)
-    c.in_err-run_block.ensures.gives)
+    let error = err_from_is_err_and c.from_residual.result c.from_residual.ensures.1 in
+    rw (error.1, error.2) (err_through end_of went_of _ _ _ _
+    (λ x h. during_fault (chart_of c.args.chart.now) c.args.bounds (now_of c.args.now) c.args.s _ c.args.world.now
+    c.block.ensures.block _ x h) c.in_err-run_block.ensures.gives)
 
 pub go_on_inside-returns-in-Cut-clause-gives : goal.go_on_inside-returns-in-Cut-clause-gives
 go_on_inside-returns-in-Cut-clause-gives t c =
@@ -950,14 +821,12 @@ go_on_inside-returns-in-Cut-clause-gives t c =
 
 pub go_on_inside-returns-in_err-d-in-Done-clause-gives : goal.go_on_inside-returns-in_err-d-in-Done-clause-gives
 go_on_inside-returns-in_err-d-in-Done-clause-gives t c =
-    let chart = chart_of c.args.chart.now in
-    let now = now_of c.args.now in
-    let p = err_from_is_err_and c.from_residual-in_err-d-in-Done.result c.from_residual-in_err-d-in-Done.ensures.1 in
-    rw (p.1, p.2) (err_through found_of went_of _
-    (λ n. go_on_inside chart (upto chart c.args.bounds n) c.args.s now c.args.world.now) _ _
-    (λ x h. inner_fault chart c.args.bounds now c.args.s _ c.args.world.now c.block.ensures.block c.run_block.new.world
-    (ended_as end_of _ _ c.in-Done.is c.in_ok-run_block.ensures.gives) _ c.list.ensures.list _ x h)
-    c.in_err-d-in-Done.ensures.gives)
+    let error =
+    err_from_is_err_and c.from_residual-in_err-d-in-Done.result c.from_residual-in_err-d-in-Done.ensures.1 in
+    rw (error.1, error.2) (err_through found_of went_of _ _ _ _
+    (λ x h. inner_fault (chart_of c.args.chart.now) c.args.bounds (now_of c.args.now) c.args.s _ c.args.world.now
+    c.block.ensures.block c.run_block.new.world (ended_as end_of _ _ c.in-Done.is c.in_ok-run_block.ensures.gives) _
+    c.list.ensures.list _ x h) c.in_err-d-in-Done.ensures.gives)
 
 pub go_on_inside-returns-in-Stop-clause-gives : goal.go_on_inside-returns-in-Stop-clause-gives
 go_on_inside-returns-in-Stop-clause-gives t c =
@@ -968,19 +837,15 @@ go_on_inside-returns-in-Stop-clause-gives t c =
 
 pub go_on_inside-returns-in-DeadEnd-clause-gives : goal.go_on_inside-returns-in-DeadEnd-clause-gives
 go_on_inside-returns-in-DeadEnd-clause-gives t c =
-    let chart = chart_of c.args.chart.now in
-    let now = now_of c.args.now in
-    passed went_of _ (λ n. go_on_inside chart (upto chart c.args.bounds n) c.args.s now c.args.world.now) _ _
-    (λ q h. inner_after chart c.args.bounds now c.args.s _ c.args.world.now c.block.ensures.block c.run_block.new.world
+    passed went_of _ _ _ _ (λ q h. inner_after (chart_of c.args.chart.now) c.args.bounds (now_of c.args.now) c.args.s _
+    c.args.world.now c.block.ensures.block c.run_block.new.world
     (ended_as end_of _ _ c.in-Done.is c.in_ok-run_block.ensures.gives) _ c.list.ensures.list _ c.search.new.world q
     (ended_as found_of _ _ c.in-DeadEnd.is c.in_ok-d-in-Done.ensures.gives) h) c.process_children.ensures.gives
 
 pub go_on_inside-returns-in-No-clause-gives : goal.go_on_inside-returns-in-No-clause-gives
 go_on_inside-returns-in-No-clause-gives t c =
-    let chart = chart_of c.args.chart.now in
-    let now = now_of c.args.now in
-    passed went_of _ (λ n. go_on_inside chart (upto chart c.args.bounds n) c.args.s now c.args.world.now) _ _
-    (λ q h. inner_after chart c.args.bounds now c.args.s _ c.args.world.now c.block.ensures.block c.run_block.new.world
+    passed went_of _ _ _ _ (λ q h. inner_after (chart_of c.args.chart.now) c.args.bounds (now_of c.args.now) c.args.s _
+    c.args.world.now c.block.ensures.block c.run_block.new.world
     (ended_as end_of _ _ c.in-Done.is c.in_ok-run_block.ensures.gives) _ c.list.ensures.list _ c.search.new.world q
     (ended_as found_of _ _ c.in-No.is c.in_ok-d-in-Done.ensures.gives) h) c.process_children-in-No.ensures.gives
 
@@ -988,15 +853,15 @@ pub go_on_inside-returns-in_err-take-in-Fire-clause-gives : goal.go_on_inside-re
 go_on_inside-returns-in_err-take-in-Fire-clause-gives t c =
     let chart = chart_of c.args.chart.now in
     let now = now_of c.args.now in
-    let p =
+    let error =
     err_from_is_err_and c.from_residual-in_err-take-in-Fire.result c.from_residual-in_err-take-in-Fire.ensures.1 in
-    rw (p.1, p.2) (err_through {A = Unit {0}} (λ _. tt) went_of _
-    (λ n. go_on_inside chart (upto chart c.args.bounds n) c.args.s now c.args.world.now) _ _
+    rw (error.1, error.2) (err_through {A = Unit {0}} (λ _. tt) went_of _ _ _ _
     (λ x h. inner_after chart c.args.bounds now c.args.s _ c.args.world.now c.block.ensures.block c.run_block.new.world
     (ended_as end_of _ _ c.in-Done.is c.in_ok-run_block.ensures.gives) _ c.list.ensures.list _ c.search.new.world _
     (ended_as found_of _ _ c.in-Fire.is c.in_ok-d-in-Done.ensures.gives)
     (inner_take_fault chart c.args.bounds now c.args.s c.in-Fire.d (map (λ a. block_seen a.now) c.in-Fire.actions.items)
-    c.search.new.world c.take.new.world x (subst (λ l. Settled
+    c.search.new.world c.take.new.world x
+    (subst (λ l. Settled
     (λ n. (upto chart c.args.bounds n).take c.args.s c.in-Fire.d (map (λ a. block_seen a.now) l) now c.search.new.world)
     (Faulted x c.take.new.world)) c.deref.ensures.value h))) c.in_err-take-in-Fire.ensures.gives)
 
@@ -1008,7 +873,8 @@ go_on_inside-returns-in_ok-take-in-Fire-clause-gives t c =
     (ended_as end_of _ _ c.in-Done.is c.in_ok-run_block.ensures.gives) _ c.list.ensures.list _ c.search.new.world _
     (ended_as found_of _ _ c.in-Fire.is c.in_ok-d-in-Done.ensures.gives)
     (inner_taken chart c.args.bounds now c.args.s c.in-Fire.d (map (λ a. block_seen a.now) c.in-Fire.actions.items)
-    c.search.new.world c.take.new.world (subst (λ l. Settled
+    c.search.new.world c.take.new.world
+    (subst (λ l. Settled
     (λ n. (upto chart c.args.bounds n).take c.args.s c.in-Fire.d (map (λ a. block_seen a.now) l) now c.search.new.world)
     (Ended tt c.take.new.world)) c.deref.ensures.value c.in_ok-take-in-Fire.ensures.gives))
 
@@ -1022,15 +888,13 @@ process_children-returns-in-None-clause-gives t c =
     kids_none (chart_of c.args.chart.now) c.args.bounds (now_of c.args.now) c.args.s _ c.args.world.now c.in-Or.ensures
     c.in-None.ensures.child
 
-pub process_children-returns-in_err-process-in-Some-clause-gives : goal.process_children-returns-in_err-process-in-Some-clause-gives
+pub process_children-returns-in_err-process-in-Some-clause-gives :
+    goal.process_children-returns-in_err-process-in-Some-clause-gives
 process_children-returns-in_err-process-in-Some-clause-gives t c =
-    let chart = chart_of c.args.chart.now in
-    let now = now_of c.args.now in
-    let p = err_from_is_err_and c.from_residual.result c.from_residual.ensures.1 in
-    rw (p.1, p.2) (err_through went_of went_of _ (λ n. process_children chart (upto chart c.args.bounds n) c.args.s now
-    (comp_of chart.tree c.args.s) c.args.world.now) _ _
-    (λ x h. kids_fault chart c.args.bounds now c.args.s c.in-Some.x _ c.args.world.now _ x c.in-Or.ensures
-    c.in-Some.ensures.child h) c.in_err-process-in-Some.ensures.gives)
+    let error = err_from_is_err_and c.from_residual.result c.from_residual.ensures.1 in
+    rw (error.1, error.2) (err_through went_of went_of _ _ _ _
+    (λ x h. kids_fault (chart_of c.args.chart.now) c.args.bounds (now_of c.args.now) c.args.s c.in-Some.x _
+    c.args.world.now _ x c.in-Or.ensures c.in-Some.ensures.child h) c.in_err-process-in-Some.ensures.gives)
 
 pub process_children-returns-in-Stay-clause-gives : goal.process_children-returns-in-Stay-clause-gives
 process_children-returns-in-Stay-clause-gives t c =
@@ -1049,12 +913,8 @@ process_children-returns-in-Out-clause-gives t c =
 
 pub process_children-returns-in-And-clause-gives : goal.process_children-returns-in-And-clause-gives
 process_children-returns-in-And-clause-gives t c =
-    let chart = chart_of c.args.chart.now in
-    let now = now_of c.args.now in
-    passed went_of _ (λ n. process_children chart (upto chart c.args.bounds n) c.args.s now
-    (comp_of chart.tree c.args.s) c.args.world.now) _ _
-    (λ q h. kids_each chart c.args.bounds now c.args.s _ c.args.world.now q _ c.in-And.ensures refl h)
-    c.process_all.ensures.gives
+    passed went_of _ _ _ _ (λ q h. kids_each (chart_of c.args.chart.now) c.args.bounds (now_of c.args.now) c.args.s _
+    c.args.world.now q _ c.in-And.ensures refl h) c.process_all.ensures.gives
 
 pub process_all-loop-next-init : goal.process_all-loop-next-init
 process_all-loop-next-init t c =
@@ -1075,32 +935,25 @@ process_all-on-requires-clause-state t c = (c.loop-next.invariant.stands.child c
 
 pub process_all-process-requires : goal.process_all-process-requires
 process_all-process-requires t c =
-    let i = (c.loop-next.invariant.stands.child c.in-Some.x c.in-Some.is) in
-    (omega (arith, i.above, i.within, c.decreases), (c.loop-next.invariant.fits, i.within))
+    let child = c.loop-next.invariant.stands.child c.in-Some.x c.in-Some.is in
+    (omega (arith, child.above, child.within, c.decreases), (c.loop-next.invariant.fits, child.within))
 
 pub process_all-returns-in_err-process-clause-gives : goal.process_all-returns-in_err-process-clause-gives
 process_all-returns-in_err-process-clause-gives t c =
-    let chart = chart_of c.args.chart.now in
-    let now = now_of c.args.now in
-    let p = err_from_is_err_and c.from_residual.result c.from_residual.ensures.1 in
-    rw (p.1, p.2) (err_through went_of went_of _
-    (λ n. (upto chart c.args.bounds n).process_each (children_of chart.tree c.args.s) now c.args.world.now) _ _
+    let error = err_from_is_err_and c.from_residual.result c.from_residual.ensures.1 in
+    rw (error.1, error.2) (err_through went_of went_of _ _ _ _
     (λ x h.
     let on : is_on c.in-Some.x c.loop-next.world.marks ≡ true = cc in
-    each_turn_fault chart c.args.bounds now c.args.s c.loop-next.next c.loop-next.world
-    (λ n. (upto chart c.args.bounds n).process_each (children_of chart.tree c.args.s) now c.args.world.now)
-    c.loop-next.invariant.goes c.in-Some.x c.in-Some.is c.loop-next.invariant.stands on _ x h)
+    each_turn_fault (chart_of c.args.chart.now) c.args.bounds (now_of c.args.now) c.args.s c.loop-next.next
+    c.loop-next.world _ c.loop-next.invariant.goes c.in-Some.x c.in-Some.is c.loop-next.invariant.stands on _ x h)
     c.in_err-process.ensures.gives)
 
 pub process_all-returns-in-Out-clause-gives : goal.process_all-returns-in-Out-clause-gives
 process_all-returns-in-Out-clause-gives t c =
-    let chart = chart_of c.args.chart.now in
-    let now = now_of c.args.now in
     let on : is_on c.in-Some.x c.loop-next.world.marks ≡ true = cc in
-    each_turn_out chart c.args.bounds now c.args.s c.loop-next.next c.loop-next.world
-    (λ n. (upto chart c.args.bounds n).process_each (children_of chart.tree c.args.s) now c.args.world.now)
-    c.loop-next.invariant.goes c.in-Some.x c.in-Some.is c.loop-next.invariant.stands on c.process.new.world
-    c.in-Out.home (ended_as went_of _ _ c.in-Out.is c.in_ok-process.ensures.gives)
+    each_turn_out (chart_of c.args.chart.now) c.args.bounds (now_of c.args.now) c.args.s c.loop-next.next
+    c.loop-next.world _ c.loop-next.invariant.goes c.in-Some.x c.in-Some.is c.loop-next.invariant.stands on
+    c.process.new.world c.in-Out.home (ended_as went_of _ _ c.in-Out.is c.in_ok-process.ensures.gives)
 
 pub process_all-next_sibling-next-requires : goal.process_all-next_sibling-next-requires
 process_all-next_sibling-next-requires t c = (c.loop-next.invariant.stands.child c.in-Some.x c.in-Some.is).within
@@ -1112,11 +965,8 @@ process_all-loop-next-smaller t c =
 
 pub process_all-returns-clause-gives : goal.process_all-returns-clause-gives
 process_all-returns-clause-gives t c =
-    let chart = chart_of c.args.chart.now in
-    let now = now_of c.args.now in
-    each_turns_end chart c.args.bounds now c.args.s c.loop-next.next c.loop-next.world
-    (λ n. (upto chart c.args.bounds n).process_each (children_of chart.tree c.args.s) now c.args.world.now)
-    c.loop-next.invariant.goes c.in_default.is
+    each_turns_end (chart_of c.args.chart.now) c.args.bounds (now_of c.args.now) c.args.s c.loop-next.next
+    c.loop-next.world _ c.loop-next.invariant.goes c.in_default.is
 
 pub search-loop-places-init : goal.search-loop-places-init
 search-loop-places-init t c =
@@ -1140,311 +990,125 @@ search-loop-places-init t c =
 
 pub search-returns-in-None-pop-clause-gives : goal.search-returns-in-None-pop-clause-gives
 search-returns-in-None-pop-clause-gives t c =
-    let chart = chart_of c.args.chart.now in
-    let now = now_of c.args.now in
-    let life = life_seen c.args.life in
-    let re : list_seen c.loop-places.rest.now ≡ [] =
-    ap list_seen (empty_is c.loop-places.rest.now c.in-None.ensures.cases) in
-    let l1 : Leads chart c.args.bounds life now c.loop-places.places.items [] c.loop-places.world
-    (list_seen c.args.list.now) c.args.world.now =
-    subst (λ xs. Leads chart c.args.bounds life now c.loop-places.places.items xs c.loop-places.world
-    (list_seen c.args.list.now) c.args.world.now) re c.loop-places.invariant.leads in
-    let pe : c.loop-places.places.items ≡ [] =
-    empty_is c.loop-places.places.items (omega (arith, c.in-None-pop.ensures.cases.0, c.loop-places.places.ok.0)) in
-    leads_none chart c.args.bounds life now c.loop-places.world (list_seen c.args.list.now) c.args.world.now
-    (subst
-    (λ ps. Leads chart c.args.bounds life now ps [] c.loop-places.world (list_seen c.args.list.now) c.args.world.now) pe
-    l1)
+    finds_nothing (omega (arith, c.in-None-pop.ensures.cases.0, c.loop-places.places.ok.0))
+    (at_end _ c.in-None.ensures.cases c.loop-places.invariant.leads)
 
 pub search-loop-places-preserved-in-Some-pop : goal.search-loop-places-preserved-in-Some-pop
 search-loop-places-preserved-in-Some-pop t c =
     let chart = chart_of c.args.chart.now in
-    let now = now_of c.args.now in
-    let life = life_seen c.args.life in
-    let re : list_seen c.loop-places.rest.now ≡ [] =
-    ap list_seen (empty_is c.loop-places.rest.now c.in-None.ensures.cases) in
-    let l1 : Leads chart c.args.bounds life now c.loop-places.places.items [] c.loop-places.world
-    (list_seen c.args.list.now) c.args.world.now =
-    subst (λ xs. Leads chart c.args.bounds life now c.loop-places.places.items xs c.loop-places.world
-    (list_seen c.args.list.now) c.args.world.now) re c.loop-places.invariant.leads in
-    let rs =
-    all_front (λ p. AreTrans chart (list_seen p.rest.now)) c.pop.new.self.items c.in-Some-pop.place
-    (subst (λ ps. AllByRecursion (λ p. AreTrans chart (list_seen p.rest.now)) ps) c.in-Some-pop.ensures.items
-    c.loop-places.invariant.rests) in
-    let acts =
-    all_front (λ p. AreStmts chart (block_seen p.action.now)) c.pop.new.self.items c.in-Some-pop.place
-    (subst (λ ps. AllByRecursion (λ p. AreStmts chart (block_seen p.action.now)) ps) c.in-Some-pop.ensures.items
-    c.loop-places.invariant.actions) in
+    let rests =
+    of_parts (λ p. AreTrans chart (list_seen p.rest.now)) _ _ c.in-Some-pop.ensures.items
+    c.loop-places.invariant.rests in
+    let actions =
+    of_parts (λ p. AreStmts chart (block_seen p.action.now)) _ _ c.in-Some-pop.ensures.items
+    c.loop-places.invariant.actions in
     record {
       leads =
-          leads_pop chart c.args.bounds life now c.pop.new.self.items c.loop-places.world (list_seen c.args.list.now)
-          c.args.world.now c.in-Some-pop.place (subst (λ ps. Leads chart c.args.bounds life now ps []
-          c.loop-places.world (list_seen c.args.list.now) c.args.world.now) c.in-Some-pop.ensures.items l1);
+          goes_back c.in-Some-pop.place c.in-Some-pop.ensures.items
+          (at_end _ c.in-None.ensures.cases c.loop-places.invariant.leads);
       fits = c.loop-places.invariant.fits;
-      rest = rs.1;
-      rests = rs.0;
-      actions = acts.0;
+      rest = rests.1;
+      rests = rests.0;
+      actions = actions.0;
     }
 
 pub search-returns-in_err-enabled-in-Some-clause-gives : goal.search-returns-in_err-enabled-in-Some-clause-gives
 search-returns-in_err-enabled-in-Some-clause-gives t c =
-    let chart = chart_of c.args.chart.now in
-    let now = now_of c.args.now in
-    let life = life_seen c.args.life in
-    let p = err_from_is_err_and c.from_residual.result c.from_residual.ensures.1 in
-    rw (p.1, p.2) (err_does (λ b. b) found_of _
-    (λ n. (upto chart c.args.bounds n).search life (list_seen c.args.list.now) now c.args.world.now) _ _
-    (λ x h.
-    let fr : c.loop-places.rest.now ≡ c.in-Some.t.now ∷ c.in-Some.others.now = c.in-Some.ensures.cases.0 in
-    let l : Leads chart c.args.bounds life now c.loop-places.places.items
-    (trans_seen c.in-Some.t.now ∷ list_seen c.in-Some.others.now) c.loop-places.world (list_seen c.args.list.now)
-    c.args.world.now =
-    subst (λ xs. Leads chart c.args.bounds life now c.loop-places.places.items (list_seen xs) c.loop-places.world
-    (list_seen c.args.list.now) c.args.world.now) fr c.loop-places.invariant.leads in
-    leads_fault chart c.args.bounds life now c.loop-places.places.items c.loop-places.world (list_seen c.args.list.now)
-    c.args.world.now (trans_seen c.in-Some.t.now) (list_seen c.in-Some.others.now) l x _
-    (search_guard_fault chart c.args.bounds now life (trans_seen c.in-Some.t.now) (list_seen c.in-Some.others.now)
-    c.loop-places.world _ x h)) c.in_err-enabled-in-Some.ensures)
+    let error = err_from_is_err_and c.from_residual.result c.from_residual.ensures.1 in
+    rw (error.1, error.2) (err_does (λ b. b) found_of _ _ _ _
+    (λ x h. guard_faults (at_first c.in-Some.ensures.cases.0 c.loop-places.invariant.leads) h)
+    c.in_err-enabled-in-Some.ensures)
 
 pub search-returns-in_err-run_block-in-Some-clause-gives : goal.search-returns-in_err-run_block-in-Some-clause-gives
 search-returns-in_err-run_block-in-Some-clause-gives t c =
-    let chart = chart_of c.args.chart.now in
-    let now = now_of c.args.now in
-    let life = life_seen c.args.life in
-    let p =
+    let error =
     err_from_is_err_and c.from_residual-in_err-run_block-in-Some.result
     c.from_residual-in_err-run_block-in-Some.ensures.1 in
-    rw (p.1, p.2) (err_through end_of found_of _
-    (λ n. (upto chart c.args.bounds n).search life (list_seen c.args.list.now) now c.args.world.now) _ _
-    (λ x h.
-    let fr : c.loop-places.rest.now ≡ c.in-Some.t.now ∷ c.in-Some.others.now = c.in-Some.ensures.cases.0 in
-    let l : Leads chart c.args.bounds life now c.loop-places.places.items
-    (trans_seen c.in-Some.t.now ∷ list_seen c.in-Some.others.now) c.loop-places.world (list_seen c.args.list.now)
-    c.args.world.now =
-    subst (λ xs. Leads chart c.args.bounds life now c.loop-places.places.items (list_seen xs) c.loop-places.world
-    (list_seen c.args.list.now) c.args.world.now) fr c.loop-places.invariant.leads in
-    let e : is_enabled (trans_seen c.in-Some.t.now) now c.loop-places.world ≡ Ended true c.loop-places.world =
-    c.in_ok-enabled-in-Some.ensures ∙ ap (λ z. Ended z c.loop-places.world) c.if-branch.true in
-    let d : block_seen c.items.result.now ≡ (trans_seen c.in-Some.t.now).condition = ap block_seen c.items.ensures in
-    leads_fault chart c.args.bounds life now c.loop-places.places.items c.loop-places.world (list_seen c.args.list.now)
-    c.args.world.now (trans_seen c.in-Some.t.now) (list_seen c.in-Some.others.now) l x _
-    (search_block_fault chart c.args.bounds now life (trans_seen c.in-Some.t.now) (list_seen c.in-Some.others.now)
-    c.loop-places.world _ x e (subst (λ s. Settled
-    (λ n. (upto chart c.args.bounds n).block life s now c.loop-places.world) (Faulted x c.run_block.new.world)) d h)))
+    let leads = at_first c.in-Some.ensures.cases.0 c.loop-places.invariant.leads in
+    let enabled = c.in_ok-enabled-in-Some.ensures ∙ ap (λ z. Ended z c.loop-places.world) c.if-branch.true in
+    rw (error.1, error.2) (err_through end_of found_of _ _ _ _
+    (λ x h. condition_faults leads enabled (block_faulted _ _ c.items.ensures h))
     c.in_err-run_block-in-Some.ensures.gives)
 
 pub search-returns-in-Cut-clause-gives : goal.search-returns-in-Cut-clause-gives
 search-returns-in-Cut-clause-gives t c =
-    let chart = chart_of c.args.chart.now in
-    let now = now_of c.args.now in
-    let life = life_seen c.args.life in
-    let fr : c.loop-places.rest.now ≡ c.in-Some.t.now ∷ c.in-Some.others.now = c.in-Some.ensures.cases.0 in
-    let l : Leads chart c.args.bounds life now c.loop-places.places.items
-    (trans_seen c.in-Some.t.now ∷ list_seen c.in-Some.others.now) c.loop-places.world (list_seen c.args.list.now)
-    c.args.world.now =
-    subst (λ xs. Leads chart c.args.bounds life now c.loop-places.places.items (list_seen xs) c.loop-places.world
-    (list_seen c.args.list.now) c.args.world.now) fr c.loop-places.invariant.leads in
-    let e : is_enabled (trans_seen c.in-Some.t.now) now c.loop-places.world ≡ Ended true c.loop-places.world =
-    c.in_ok-enabled-in-Some.ensures ∙ ap (λ z. Ended z c.loop-places.world) c.if-branch.true in
-    let d : block_seen c.items.result.now ≡ (trans_seen c.in-Some.t.now).condition = ap block_seen c.items.ensures in
-    let g : Settled
-    (λ n. (upto chart c.args.bounds n).block life (trans_seen c.in-Some.t.now).condition now c.loop-places.world)
-    (Ended Cut c.run_block.new.world) =
-    ended_as end_of _ _ c.in-Cut.is (subst (λ s. Settled
-    (λ n. (upto chart c.args.bounds n).block life s now c.loop-places.world)
-    (Ended (end_of c.in_ok-run_block-in-Some.field-0) c.run_block.new.world)) d
-    c.in_ok-run_block-in-Some.ensures.gives) in
-    leads_stop chart c.args.bounds life now c.loop-places.places.items c.loop-places.world (list_seen c.args.list.now)
-    c.args.world.now (trans_seen c.in-Some.t.now) (list_seen c.in-Some.others.now) l _
-    (search_stop chart c.args.bounds now life (trans_seen c.in-Some.t.now) (list_seen c.in-Some.others.now)
-    c.loop-places.world _ e g)
+    let leads = at_first c.in-Some.ensures.cases.0 c.loop-places.invariant.leads in
+    let enabled = c.in_ok-enabled-in-Some.ensures ∙ ap (λ z. Ended z c.loop-places.world) c.if-branch.true in
+    condition_cut leads enabled (block_ended _ _ c.items.ensures c.in-Cut.is c.in_ok-run_block-in-Some.ensures.gives)
 
 pub search-returns-in-State-clause-found : goal.search-returns-in-State-clause-found
 search-returns-in-State-clause-found t c =
     let chart = chart_of c.args.chart.now in
-    let fr : c.loop-places.rest.now ≡ c.in-Some.t.now ∷ c.in-Some.others.now = c.in-Some.ensures.cases.0 in
-    let tr : IsTrans chart (trans_seen c.in-Some.t.now) =
-    (subst (λ xs. AreTrans chart (list_seen xs)) fr c.loop-places.invariant.rest).0 in (
-      (subst (IsDest chart) c.in-State.is tr.dest).1,
-      subst (AreActions chart) (sym (c.in_ok-actions-in-State.ensures.ok
-          ∙ ap (λ ps. map (λ p. block_seen p.action.now) ps ++ block_seen c.items-in-State.result.now ∷ [])
-          c.deref.ensures.value
-          ∙ ap (λ z. map (λ p. block_seen p.action.now) c.loop-places.places.items ++ z ∷ [])
-          (ap block_seen c.items-in-State.ensures)))
-          (all_more (AreStmts chart) (map (λ p. block_seen p.action.now) c.loop-places.places.items)
-          (trans_seen c.in-Some.t.now).action (all_seen (λ p. block_seen p.action.now) (AreStmts chart)
-          (λ p. AreStmts chart (block_seen p.action.now)) c.loop-places.places.items (λ p h. h)
-          c.loop-places.invariant.actions) tr.action.stmts),
+    let list = subst (λ xs. AreTrans chart (list_seen xs)) c.in-Some.ensures.cases.0 c.loop-places.invariant.rest in (
+      (subst (IsDest chart) c.in-State.is list.0.dest).1,
+      subst (AreActions chart)
+          (sym (collected c.in_ok-actions-in-State.ensures.ok c.deref.ensures.value c.items-in-State.ensures))
+          (collected_are chart c.loop-places.places.items _ c.loop-places.invariant.actions list.0.action.stmts),
     )
 
 pub search-returns-in_err-pay-in-Junction-clause-gives : goal.search-returns-in_err-pay-in-Junction-clause-gives
 search-returns-in_err-pay-in-Junction-clause-gives t c =
-    let chart = chart_of c.args.chart.now in
-    let now = now_of c.args.now in
-    let life = life_seen c.args.life in
-    let p =
+    let error =
     err_from_is_err_and c.from_residual-in_err-pay-in-Junction.result
     c.from_residual-in_err-pay-in-Junction.ensures.1 in
-    rw (p.1, p.2) (err_does {A = Unit {0}} (λ _. tt) found_of _
-    (λ n. (upto chart c.args.bounds n).search life (list_seen c.args.list.now) now c.args.world.now) _ _
-    (λ x h.
-    let fr : c.loop-places.rest.now ≡ c.in-Some.t.now ∷ c.in-Some.others.now = c.in-Some.ensures.cases.0 in
-    let l : Leads chart c.args.bounds life now c.loop-places.places.items
-    (trans_seen c.in-Some.t.now ∷ list_seen c.in-Some.others.now) c.loop-places.world (list_seen c.args.list.now)
-    c.args.world.now =
-    subst (λ xs. Leads chart c.args.bounds life now c.loop-places.places.items (list_seen xs) c.loop-places.world
-    (list_seen c.args.list.now) c.args.world.now) fr c.loop-places.invariant.leads in
-    let e : is_enabled (trans_seen c.in-Some.t.now) now c.loop-places.world ≡ Ended true c.loop-places.world =
-    c.in_ok-enabled-in-Some.ensures ∙ ap (λ z. Ended z c.loop-places.world) c.if-branch.true in
-    let d : block_seen c.items.result.now ≡ (trans_seen c.in-Some.t.now).condition = ap block_seen c.items.ensures in
-    let g : Settled
-    (λ n. (upto chart c.args.bounds n).block life (trans_seen c.in-Some.t.now).condition now c.loop-places.world)
-    (Ended Done c.run_block.new.world) =
-    ended_as end_of _ _ c.in-Done.is (subst (λ s. Settled
-    (λ n. (upto chart c.args.bounds n).block life s now c.loop-places.world)
-    (Ended (end_of c.in_ok-run_block-in-Some.field-0) c.run_block.new.world)) d
-    c.in_ok-run_block-in-Some.ensures.gives) in
-    let j : Junction c.in-Junction.j ≡ (trans_seen c.in-Some.t.now).dest = sym c.in-Junction.is in
-    leads_fault chart c.args.bounds life now c.loop-places.places.items c.loop-places.world (list_seen c.args.list.now)
-    c.args.world.now (trans_seen c.in-Some.t.now) (list_seen c.in-Some.others.now) l x _
-    (search_goes chart c.args.bounds now life (trans_seen c.in-Some.t.now) (list_seen c.in-Some.others.now)
-    c.loop-places.world c.run_block.new.world (Junction c.in-Junction.j) _ e g j
-    (dest_fault chart c.args.bounds now life (trans_seen c.in-Some.t.now).action (list_seen c.in-Some.others.now)
-    c.in-Junction.j c.run_block.new.world _ x h))) c.in_err-pay-in-Junction.ensures.does)
+    let leads = at_first c.in-Some.ensures.cases.0 c.loop-places.invariant.leads in
+    let enabled = c.in_ok-enabled-in-Some.ensures ∙ ap (λ z. Ended z c.loop-places.world) c.if-branch.true in
+    let done = block_ended _ _ c.items.ensures c.in-Done.is c.in_ok-run_block-in-Some.ensures.gives in
+    rw (error.1, error.2) (err_does {A = Unit {0}} (λ _. tt) found_of _ _ _ _
+    (λ x h. junction_faults leads enabled done (sym c.in-Junction.is) h) c.in_err-pay-in-Junction.ensures.does)
 
 pub search-returns-then-is_empty-clause-gives : goal.search-returns-then-is_empty-clause-gives
 search-returns-then-is_empty-clause-gives t c =
-    let chart = chart_of c.args.chart.now in
-    let now = now_of c.args.now in
-    let life = life_seen c.args.life in
-    let fr : c.loop-places.rest.now ≡ c.in-Some.t.now ∷ c.in-Some.others.now = c.in-Some.ensures.cases.0 in
-    let l : Leads chart c.args.bounds life now c.loop-places.places.items
-    (trans_seen c.in-Some.t.now ∷ list_seen c.in-Some.others.now) c.loop-places.world (list_seen c.args.list.now)
-    c.args.world.now =
-    subst (λ xs. Leads chart c.args.bounds life now c.loop-places.places.items (list_seen xs) c.loop-places.world
-    (list_seen c.args.list.now) c.args.world.now) fr c.loop-places.invariant.leads in
-    let e : is_enabled (trans_seen c.in-Some.t.now) now c.loop-places.world ≡ Ended true c.loop-places.world =
-    c.in_ok-enabled-in-Some.ensures ∙ ap (λ z. Ended z c.loop-places.world) c.if-branch.true in
-    let d : block_seen c.items.result.now ≡ (trans_seen c.in-Some.t.now).condition = ap block_seen c.items.ensures in
-    let g : Settled
-    (λ n. (upto chart c.args.bounds n).block life (trans_seen c.in-Some.t.now).condition now c.loop-places.world)
-    (Ended Done c.run_block.new.world) =
-    ended_as end_of _ _ c.in-Done.is (subst (λ s. Settled
-    (λ n. (upto chart c.args.bounds n).block life s now c.loop-places.world)
-    (Ended (end_of c.in_ok-run_block-in-Some.field-0) c.run_block.new.world)) d
-    c.in_ok-run_block-in-Some.ensures.gives) in
-    let j : Junction c.in-Junction.j ≡ (trans_seen c.in-Some.t.now).dest = sym c.in-Junction.is in
-    let z : [] ≡ junction chart c.in-Junction.j =
+    let leads = at_first c.in-Some.ensures.cases.0 c.loop-places.invariant.leads in
+    let enabled = c.in_ok-enabled-in-Some.ensures ∙ ap (λ z. Ended z c.loop-places.world) c.if-branch.true in
+    let done = block_ended _ _ c.items.ensures c.in-Done.is c.in_ok-run_block-in-Some.ensures.gives in
+    let none =
     sym (ap list_seen (empty_is c.junction-next.result.now (grind (arith, nat_tests))))
     ∙ c.junction-next.ensures.list in
-    leads_dead_end chart c.args.bounds life now c.loop-places.places.items c.loop-places.world
-    (list_seen c.args.list.now) c.args.world.now (trans_seen c.in-Some.t.now) (list_seen c.in-Some.others.now) l _
-    (search_goes chart c.args.bounds now life (trans_seen c.in-Some.t.now) (list_seen c.in-Some.others.now)
-    c.loop-places.world c.run_block.new.world (Junction c.in-Junction.j) _ e g j
-    (dest_dead_end chart c.args.bounds now life (trans_seen c.in-Some.t.now).action (list_seen c.in-Some.others.now)
-    c.in-Junction.j c.run_block.new.world _ c.in_ok-pay-in-Junction.ensures.does z))
+    at_dead_end leads enabled done (sym c.in-Junction.is) c.in_ok-pay-in-Junction.ensures.does none
 
 pub search-loop-places-smaller-in-Junction : goal.search-loop-places-smaller-in-Junction
 search-loop-places-smaller-in-Junction t c =
-    let chart = chart_of c.args.chart.now in
-    let now = now_of c.args.now in
-    let life = life_seen c.args.life in
-    let fr : c.loop-places.rest.now ≡ c.in-Some.t.now ∷ c.in-Some.others.now = c.in-Some.ensures.cases.0 in
-    let l : Leads chart c.args.bounds life now c.loop-places.places.items
-    (trans_seen c.in-Some.t.now ∷ list_seen c.in-Some.others.now) c.loop-places.world (list_seen c.args.list.now)
-    c.args.world.now =
-    subst (λ xs. Leads chart c.args.bounds life now c.loop-places.places.items (list_seen xs) c.loop-places.world
-    (list_seen c.args.list.now) c.args.world.now) fr c.loop-places.invariant.leads in
-    let e : is_enabled (trans_seen c.in-Some.t.now) now c.loop-places.world ≡ Ended true c.loop-places.world =
-    c.in_ok-enabled-in-Some.ensures ∙ ap (λ z. Ended z c.loop-places.world) c.if-branch.true in
-    let d : block_seen c.items.result.now ≡ (trans_seen c.in-Some.t.now).condition = ap block_seen c.items.ensures in
-    let g : Settled
-    (λ n. (upto chart c.args.bounds n).block life (trans_seen c.in-Some.t.now).condition now c.loop-places.world)
-    (Ended Done c.run_block.new.world) =
-    ended_as end_of _ _ c.in-Done.is (subst (λ s. Settled
-    (λ n. (upto chart c.args.bounds n).block life s now c.loop-places.world)
-    (Ended (end_of c.in_ok-run_block-in-Some.field-0) c.run_block.new.world)) d
-    c.in_ok-run_block-in-Some.ensures.gives) in
-    let p = pay_done c.args.bounds c.run_block.new.world _ c.in_ok-pay-in-Junction.ensures.does in
+    let done = block_ended _ _ c.items.ensures c.in-Done.is c.in_ok-run_block-in-Some.ensures.gives in
+    let paid = pay_done c.args.bounds c.run_block.new.world _ c.in_ok-pay-in-Junction.ensures.does in
     visit_falls c.args.bounds.steps c.loop-places.world.used c.run_block.new.world.used _ _
-    (length c.in-Some.others.now) _ _ _ (block_uses chart c.junction-next.ensures.tree c.args.bounds life
-    (trans_seen c.in-Some.t.now).condition now c.loop-places.world c.run_block.new.world Done g) p.0 p.1
-    (omega (arith, c.in-Some.ensures.cases.1)) c.junction-next.ensures.short
-    (sum_pushed (λ p. length p.rest.now + 1) _ c.loop-places.places.items
-    (record { rest = c.in-Some.others; action = c.items-in-Junction.result }) c.in_ok-push_place-in-Junction.ensures.ok)
+    (length c.in-Some.others.now) _ _ _
+    (block_uses _ c.junction-next.ensures.tree c.args.bounds _ _ _ c.loop-places.world c.run_block.new.world Done done)
+    paid.0 paid.1 (omega (arith, c.in-Some.ensures.cases.1)) c.junction-next.ensures.short
+    (sum_pushed (λ p. length p.rest.now + 1) _ c.loop-places.places.items _ c.in_ok-push_place-in-Junction.ensures.ok)
 
 pub search-loop-places-preserved-in-Junction : goal.search-loop-places-preserved-in-Junction
 search-loop-places-preserved-in-Junction t c =
     let chart = chart_of c.args.chart.now in
-    let now = now_of c.args.now in
-    let life = life_seen c.args.life in
-    let fr : c.loop-places.rest.now ≡ c.in-Some.t.now ∷ c.in-Some.others.now = c.in-Some.ensures.cases.0 in
-    let l : Leads chart c.args.bounds life now c.loop-places.places.items
-    (trans_seen c.in-Some.t.now ∷ list_seen c.in-Some.others.now) c.loop-places.world (list_seen c.args.list.now)
-    c.args.world.now =
-    subst (λ xs. Leads chart c.args.bounds life now c.loop-places.places.items (list_seen xs) c.loop-places.world
-    (list_seen c.args.list.now) c.args.world.now) fr c.loop-places.invariant.leads in
-    let e : is_enabled (trans_seen c.in-Some.t.now) now c.loop-places.world ≡ Ended true c.loop-places.world =
-    c.in_ok-enabled-in-Some.ensures ∙ ap (λ z. Ended z c.loop-places.world) c.if-branch.true in
-    let d : block_seen c.items.result.now ≡ (trans_seen c.in-Some.t.now).condition = ap block_seen c.items.ensures in
-    let g : Settled
-    (λ n. (upto chart c.args.bounds n).block life (trans_seen c.in-Some.t.now).condition now c.loop-places.world)
-    (Ended Done c.run_block.new.world) =
-    ended_as end_of _ _ c.in-Done.is (subst (λ s. Settled
-    (λ n. (upto chart c.args.bounds n).block life s now c.loop-places.world)
-    (Ended (end_of c.in_ok-run_block-in-Some.field-0) c.run_block.new.world)) d
-    c.in_ok-run_block-in-Some.ensures.gives) in
-    let j : Junction c.in-Junction.j ≡ (trans_seen c.in-Some.t.now).dest = sym c.in-Junction.is in
-    let tr : IsTrans chart (trans_seen c.in-Some.t.now) =
-    (subst (λ xs. AreTrans chart (list_seen xs)) fr c.loop-places.invariant.rest).0 in
-    let some : list_seen c.junction-next.result.now ≡ [] → ⊥ = λ z.
-    not_empty trans_seen c.junction-next.result.now (grind (arith, nat_tests)) z in
+    let leads = at_first c.in-Some.ensures.cases.0 c.loop-places.invariant.leads in
+    let enabled = c.in_ok-enabled-in-Some.ensures ∙ ap (λ z. Ended z c.loop-places.world) c.if-branch.true in
+    let done = block_ended _ _ c.items.ensures c.in-Done.is c.in_ok-run_block-in-Some.ensures.gives in
+    let list = subst (λ xs. AreTrans chart (list_seen xs)) c.in-Some.ensures.cases.0 c.loop-places.invariant.rest in
+    let some = not_empty trans_seen c.junction-next.result.now (grind (arith, nat_tests)) in
+    let pushed = c.in_ok-push_place-in-Junction.ensures.ok in
     record {
       leads =
-          subst (λ ps. Leads chart c.args.bounds life now ps (list_seen c.junction-next.result.now) c.pay.new.self
-          (list_seen c.args.list.now) c.args.world.now)
-          (sym c.in_ok-push_place-in-Junction.ensures.ok) (leads_push chart c.args.bounds life now
-          c.loop-places.places.items c.loop-places.world (list_seen c.args.list.now) c.args.world.now
-          (trans_seen c.in-Some.t.now) (list_seen c.in-Some.others.now) l
-          (record { rest = c.in-Some.others; action = c.items-in-Junction.result }) c.in-Junction.j _
-          c.run_block.new.world _ refl (ap block_seen c.items-in-Junction.ensures) e g j
-          c.in_ok-pay-in-Junction.ensures.does c.junction-next.ensures.list some);
+          at_junction leads enabled done _ pushed refl (ap block_seen c.items-in-Junction.ensures)
+          (sym c.in-Junction.is) c.in_ok-pay-in-Junction.ensures.does c.junction-next.ensures.list some;
       fits = c.pay.ensures.fits;
       rest = c.junction-next.ensures.valid;
-      rests =
-          subst (λ ps. AllByRecursion (λ p. AreTrans chart (list_seen p.rest.now)) ps)
-          (sym c.in_ok-push_place-in-Junction.ensures.ok) (all_more (λ p. AreTrans chart (list_seen p.rest.now))
-          c.loop-places.places.items (record { rest = c.in-Some.others; action = c.items-in-Junction.result })
-          c.loop-places.invariant.rests
-          (subst (λ xs. AreTrans chart (list_seen xs)) fr c.loop-places.invariant.rest).1);
+      rests = of_all (λ p. AreTrans chart (list_seen p.rest.now)) _ _ pushed c.loop-places.invariant.rests list.1;
       actions =
-          subst (λ ps. AllByRecursion (λ p. AreStmts chart (block_seen p.action.now)) ps)
-          (sym c.in_ok-push_place-in-Junction.ensures.ok) (all_more (λ p. AreStmts chart (block_seen p.action.now))
-          c.loop-places.places.items (record { rest = c.in-Some.others; action = c.items-in-Junction.result })
-          c.loop-places.invariant.actions
-          (subst (AreStmts chart) (sym (ap block_seen c.items-in-Junction.ensures)) tr.action.stmts));
+          of_all (λ p. AreStmts chart (block_seen p.action.now)) _ _ pushed c.loop-places.invariant.actions
+          (subst (AreStmts chart) (sym (ap block_seen c.items-in-Junction.ensures)) list.0.action.stmts);
     }
 
 pub search-loop-places-preserved : goal.search-loop-places-preserved
 search-loop-places-preserved t c =
-    let chart = chart_of c.args.chart.now in
-    let now = now_of c.args.now in
-    let life = life_seen c.args.life in
-    let fr : c.loop-places.rest.now ≡ c.in-Some.t.now ∷ c.in-Some.others.now = c.in-Some.ensures.cases.0 in
-    let l : Leads chart c.args.bounds life now c.loop-places.places.items
-    (trans_seen c.in-Some.t.now ∷ list_seen c.in-Some.others.now) c.loop-places.world (list_seen c.args.list.now)
-    c.args.world.now =
-    subst (λ xs. Leads chart c.args.bounds life now c.loop-places.places.items (list_seen xs) c.loop-places.world
-    (list_seen c.args.list.now) c.args.world.now) fr c.loop-places.invariant.leads in
-    let e : is_enabled (trans_seen c.in-Some.t.now) now c.loop-places.world ≡ Ended false c.loop-places.world =
-    c.in_ok-enabled-in-Some.ensures ∙ ap (λ z. Ended z c.loop-places.world) c.if-branch.false in
+    let leads = at_first c.in-Some.ensures.cases.0 c.loop-places.invariant.leads in
+    let list =
+    subst (λ xs. AreTrans (chart_of c.args.chart.now) (list_seen xs)) c.in-Some.ensures.cases.0
+    c.loop-places.invariant.rest in
+    let disabled = c.in_ok-enabled-in-Some.ensures ∙ ap (λ z. Ended z c.loop-places.world) c.if-branch.false in
     record {
-      leads =
-          leads_skip chart c.args.bounds life now c.loop-places.places.items c.loop-places.world
-          (list_seen c.args.list.now) c.args.world.now (trans_seen c.in-Some.t.now) (list_seen c.in-Some.others.now) l
-          e;
+      leads = leads_skip _ _ _ _ c.loop-places.places.items c.loop-places.world _ _ _ _ leads disabled;
       fits = c.loop-places.invariant.fits;
-      rest = (subst (λ xs. AreTrans chart (list_seen xs)) fr c.loop-places.invariant.rest).1;
+      rest = list.1;
       rests = c.loop-places.invariant.rests;
       actions = c.loop-places.invariant.actions;
     }
@@ -1452,12 +1116,10 @@ search-loop-places-preserved t c =
 pub process_all-loop-next-preserved-then-not-on : goal.process_all-loop-next-preserved-then-not-on
 process_all-loop-next-preserved-then-not-on t c =
     let chart = chart_of c.args.chart.now in
-    let now = now_of c.args.now in
     let off : is_on c.in-Some.x c.loop-next.world.marks ≡ false = cc in
     record {
       goes =
-          each_turn_off chart c.args.bounds now c.args.s c.loop-next.next c.loop-next.world
-          (λ n. (upto chart c.args.bounds n).process_each (children_of chart.tree c.args.s) now c.args.world.now)
+          each_turn_off chart c.args.bounds (now_of c.args.now) c.args.s c.loop-next.next c.loop-next.world _
           c.loop-next.invariant.goes c.in-Some.x c.in-Some.is c.loop-next.invariant.stands _
           c.next_sibling-next.ensures.sibling off;
       stands =
@@ -1469,12 +1131,10 @@ process_all-loop-next-preserved-then-not-on t c =
 pub process_all-loop-next-preserved : goal.process_all-loop-next-preserved
 process_all-loop-next-preserved t c =
     let chart = chart_of c.args.chart.now in
-    let now = now_of c.args.now in
     let on : is_on c.in-Some.x c.loop-next.world.marks ≡ true = cc in
     record {
       goes =
-          each_turn chart c.args.bounds now c.args.s c.loop-next.next c.loop-next.world
-          (λ n. (upto chart c.args.bounds n).process_each (children_of chart.tree c.args.s) now c.args.world.now)
+          each_turn chart c.args.bounds (now_of c.args.now) c.args.s c.loop-next.next c.loop-next.world _
           c.loop-next.invariant.goes c.in-Some.x c.in-Some.is c.loop-next.invariant.stands on _ _
           c.next_sibling-next.ensures.sibling (ended_as went_of _ _ c.in-Stay.is c.in_ok-process.ensures.gives);
       stands =
@@ -1490,52 +1150,21 @@ process_all-loop-next-smaller-then-not-on t c =
 
 pub search-returns-in-State-clause-gives : goal.search-returns-in-State-clause-gives
 search-returns-in-State-clause-gives t c =
-    let chart = chart_of c.args.chart.now in
-    let now = now_of c.args.now in
-    let life = life_seen c.args.life in
-    let fr : c.loop-places.rest.now ≡ c.in-Some.t.now ∷ c.in-Some.others.now = c.in-Some.ensures.cases.0 in
-    let l : Leads chart c.args.bounds life now c.loop-places.places.items
-    (trans_seen c.in-Some.t.now ∷ list_seen c.in-Some.others.now) c.loop-places.world (list_seen c.args.list.now)
-    c.args.world.now =
-    subst (λ xs. Leads chart c.args.bounds life now c.loop-places.places.items (list_seen xs) c.loop-places.world
-    (list_seen c.args.list.now) c.args.world.now) fr c.loop-places.invariant.leads in
-    let e : is_enabled (trans_seen c.in-Some.t.now) now c.loop-places.world ≡ Ended true c.loop-places.world =
-    c.in_ok-enabled-in-Some.ensures ∙ ap (λ z. Ended z c.loop-places.world) c.if-branch.true in
-    let d : block_seen c.items.result.now ≡ (trans_seen c.in-Some.t.now).condition = ap block_seen c.items.ensures in
-    let g : Settled
-    (λ n. (upto chart c.args.bounds n).block life (trans_seen c.in-Some.t.now).condition now c.loop-places.world)
-    (Ended Done c.run_block.new.world) =
-    ended_as end_of _ _ c.in-Done.is (subst (λ s. Settled
-    (λ n. (upto chart c.args.bounds n).block life s now c.loop-places.world)
-    (Ended (end_of c.in_ok-run_block-in-Some.field-0) c.run_block.new.world)) d
-    c.in_ok-run_block-in-Some.ensures.gives) in
-    let j : State c.in-State.d ≡ (trans_seen c.in-Some.t.now).dest = sym c.in-State.is in
-    subst (λ a. Settled (λ n. (upto chart c.args.bounds n).search life (list_seen c.args.list.now) now c.args.world.now)
+    let leads = at_first c.in-Some.ensures.cases.0 c.loop-places.invariant.leads in
+    let enabled = c.in_ok-enabled-in-Some.ensures ∙ ap (λ z. Ended z c.loop-places.world) c.if-branch.true in
+    let done = block_ended _ _ c.items.ensures c.in-Done.is c.in_ok-run_block-in-Some.ensures.gives in
+    subst (λ a. Settled (λ n. (upto (chart_of c.args.chart.now) c.args.bounds n).search (life_seen c.args.life)
+    (list_seen c.args.list.now) (now_of c.args.now) c.args.world.now)
     (Ended (Fire c.in-State.d a) c.run_block.new.world))
-    (sym (c.in_ok-actions-in-State.ensures.ok
-    ∙ ap (λ ps. map (λ p. block_seen p.action.now) ps ++ block_seen c.items-in-State.result.now ∷ [])
-    c.deref.ensures.value
-    ∙ ap (λ z. map (λ p. block_seen p.action.now) c.loop-places.places.items ++ z ∷ [])
-    (ap block_seen c.items-in-State.ensures)))
-    (leads_fire chart c.args.bounds life now c.loop-places.places.items c.loop-places.world (list_seen c.args.list.now)
-    c.args.world.now (trans_seen c.in-Some.t.now) (list_seen c.in-Some.others.now) l c.in-State.d c.run_block.new.world
-    (search_goes chart c.args.bounds now life (trans_seen c.in-Some.t.now) (list_seen c.in-Some.others.now)
-    c.loop-places.world c.run_block.new.world (State c.in-State.d) _ e g j
-    (dest_state chart c.args.bounds now life (trans_seen c.in-Some.t.now).action (list_seen c.in-Some.others.now)
-    c.in-State.d c.run_block.new.world)))
+    (sym (collected c.in_ok-actions-in-State.ensures.ok c.deref.ensures.value c.items-in-State.ensures))
+    (at_state leads enabled done (sym c.in-State.is))
 
 pub defaults-returns-in-Some-clause-gives : goal.defaults-returns-in-Some-clause-gives
 defaults-returns-in-Some-clause-gives t c =
-    let chart = chart_of c.args.chart.now in
-    let now = now_of c.args.now in
-    passed {A = Unit {0}} (λ _. tt) _ (λ n. (upto chart c.args.bounds n).defaults c.args.s now c.args.world.now) _ _
-    (λ q h. defaults_return chart c.args.bounds now c.args.s c.in-Some.x c.args.world.now q c.in-Some.ensures.child h)
-    c.enter.ensures.gives
+    passed {A = Unit {0}} (λ _. tt) _ _ _ _ (λ q h. defaults_return (chart_of c.args.chart.now) c.args.bounds
+    (now_of c.args.now) c.args.s c.in-Some.x c.args.world.now q c.in-Some.ensures.child h) c.enter.ensures.gives
 
 pub defaults-returns-in-None-clause-gives : goal.defaults-returns-in-None-clause-gives
 defaults-returns-in-None-clause-gives t c =
-    let chart = chart_of c.args.chart.now in
-    let now = now_of c.args.now in
-    passed {A = Unit {0}} (λ _. tt) _ (λ n. (upto chart c.args.bounds n).defaults c.args.s now c.args.world.now) _ _
-    (λ q h. defaults_search chart c.args.bounds now c.args.s c.args.world.now q c.in-None.ensures.child h)
-    c.default_search.ensures.gives
+    passed {A = Unit {0}} (λ _. tt) _ _ _ _ (λ q h. defaults_search (chart_of c.args.chart.now) c.args.bounds
+    (now_of c.args.now) c.args.s c.args.world.now q c.in-None.ensures.child h) c.default_search.ensures.gives

@@ -100,8 +100,8 @@ abbrev pub invariant-run_block-loop-stmt : goal.invariant-run_block-loop-stmt
 invariant-run_block-loop-stmt l = record {
   goes : Continues (λ n. (upto (chart_of l.chart) l.bounds n).block (life_seen l.life)
       (block_seen (drop l.stmt-index l.stmts)) (now_of l.now) l.world)
-      (λ n.
-      (upto (chart_of l.chart) l.bounds n).block (life_seen l.life) (block_seen l.stmts) (now_of l.now) l.fn.world);
+      (λ n. (upto (chart_of l.chart) l.bounds n).block (life_seen l.life) (block_seen l.stmts) (now_of l.now)
+      l.fn.world);
   fits : FitsChart (chart_of l.chart) l.world;
 }
 
@@ -109,8 +109,8 @@ abbrev pub invariant-play-loop-action : goal.invariant-play-loop-action
 invariant-play-loop-action l = record {
   goes : Continues (λ n. (upto (chart_of l.chart) l.bounds n).play l.s
       (map (λ a. block_seen a.now) (drop l.action-index l.actions)) (now_of l.now) l.world)
-      (λ n.
-      (upto (chart_of l.chart) l.bounds n).play l.s (map (λ a. block_seen a.now) l.actions) (now_of l.now) l.fn.world);
+      (λ n. (upto (chart_of l.chart) l.bounds n).play l.s (map (λ a. block_seen a.now) l.actions) (now_of l.now)
+      l.fn.world);
   fits : FitsChart (chart_of l.chart) l.world;
 }
 

@@ -1,0 +1,91 @@
+"""Tables of cases with hand-worked answers, in one text.
+
+A line of a table is empty, a comment that begins with `#`, or one of
+
+    block NAME        A case begins. Its name is one word that no earlier block has.
+    WORD REST         A part of the case. The program that answers the table says which words there are.
+    > ANSWER          A line of the answer that was worked out by hand. It stands after the parts.
+
+A TEXT in a part stands for bytes: `\\n`, `\\r`, `\\t` and `\\\\` are the bytes 10, 13, 9 and 92, and `\\xHH` is the byte
+with these two hexadecimal digits. Every other character is its own byte.
+
+A program that answers a table writes for each block the line `block NAME` and then the lines of its answer. With `--check`
+it writes only where an answer differs from the one worked out by hand, and then ends with status 1."""
+import re
+import sys
+
+
+class Block:
+    def __init__(self, name):
+        self.name, self.parts, self.expected = name, [], []
+
+    def values(self, word):
+        return [rest for w, rest in self.parts if w == word]
+
+
+def blocks(lines):
+    block, names = None, set()
+    for line in lines:
+        line = line.rstrip('\n')
+        if not line or line.startswith('#'):
+            continue
+        word, _, rest = line.partition(' ')
+        if word == 'block':
+            if block is not None:
+                yield block
+            if rest in names or not rest:
+                raise SystemExit('the name of a block is missing or stands twice: ' + rest)
+            names.add(rest)
+            block = Block(rest)
+        elif block is None:
+            raise SystemExit('no block has begun: ' + line)
+        elif word == '>':
+            block.expected.append(rest)
+        else:
+            block.parts.append((word, rest))
+    if block is not None:
+        yield block
+
+
+ESCAPES = {'n': b'\n', 'r': b'\r', 't': b'\t', '\\': b'\\'}
+
+
+def unescaped(text):
+    def piece(match):
+        if match[1] in ESCAPES:
+            return ESCAPES[match[1]].decode('latin-1')
+        return chr(int(match[2], 16))
+    return re.sub(r'\\(?:([nrt\\])|x([0-9a-fA-F]{2}))', piece, text).encode('latin-1')
+
+
+def escaped(data):
+    """A text that stands for these bytes in one line of a table."""
+    names = {10: '\\n', 13: '\\r', 9: '\\t', 92: '\\\\'}
+    text = ''.join(names.get(b) or (chr(b) if 32 <= b < 127 else '\\x%02x' % b) for b in data)
+    return text[:-1] + '\\x20' if text.endswith(' ') else text
+
+
+def times(rest):
+    """The bytes of `N TEXT`: the text N times."""
+    count, _, text = rest.partition(' ')
+    return unescaped(text) * int(count)
+
+
+def answer_table(lines, answer, check):
+    """Writes the answers of a table, or with `check` where they differ from those worked out by hand. Gives the status."""
+    blocks_seen = wrong = 0
+    for block in blocks(lines):
+        blocks_seen += 1
+        got = answer(block)
+        if not check:
+            sys.stdout.write('block %s\n' % block.name + ''.join(line + '\n' for line in got))
+        elif got != block.expected:
+            wrong += 1
+            sys.stdout.write('block %s\n' % block.name)
+            sys.stdout.write(''.join('  by hand   %s\n' % line for line in block.expected if line not in got))
+            sys.stdout.write(''.join('  answered  %s\n' % line for line in got if line not in block.expected))
+            if sorted(got) == sorted(block.expected):
+                sys.stdout.write('  the lines differ in order or number\n')
+    if check:
+        print('%d blocks, %d of them differ' % (blocks_seen, wrong))
+    return 1 if wrong else 0

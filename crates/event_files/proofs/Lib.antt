@@ -1,0 +1,2 @@
+pub mod MantissaLemmas
+pub mod MarkLemmas

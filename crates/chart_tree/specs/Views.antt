@@ -84,13 +84,14 @@ junction_of j = record { name = j.name; list = map trans_of (items_of j.list) }
 abbrev mutual
   -- a state of the code
   pub state_of : StateText → State
-  state_of (StateText' name comp entry during exit outer inner default junctions shape states) =
+  state_of (StateText' name comp entry during exit history outer inner default junctions shape states) =
       StateOf (record {
         name = name;
         comp = comp;
         entry = block_of (items_of entry);
         during = block_of (items_of during);
         exit = block_of (items_of exit);
+        history = history;
         outer = map trans_of (items_of outer);
         inner = map trans_of (items_of inner);
         default = map trans_of (items_of default);

@@ -10,7 +10,8 @@ begins none of these.
 With the word `--without-history` the older form of the language is meant."""
 import sys
 
-from chart_syntax import WITH_HISTORY, WITHOUT_HISTORY, Fault, NotAText, canonical_text, read_chart, table_lines, text_of
+from chart_syntax import WITH_HISTORY, WITHOUT_HISTORY, Fault, NotAText
+from chart_syntax import canonical_text, read_chart, table_lines, text_of
 
 
 def answer(line, language=WITH_HISTORY):

@@ -106,7 +106,8 @@ module _ (t : TransitionClaims) (level : ℕ) (nested : State → Type 0) (st : 
         (spell_right (is kinds.During)
         (spell_right (is kinds.History)
         (spell_right (is kinds.Inner)
-        (spell_left (is kinds.Default) (trans_item_spelled t kinds.Default Default (λ x. refl) z.counts x h within))))));
+        (spell_left (is kinds.Default)
+        (trans_item_spelled t kinds.Default Default (λ x. refl) z.counts x h within))))));
     junction = λ z x h within.
         spell_beginning (chart_heads z) kinds.Junction _ (junction_leads level x) refl
         (spell_right (is kinds.Entry)

@@ -12,10 +12,11 @@ use Rattle.token_grammar.proofs.Tokens.{kind_eq-true}
 use Rattle.chart_tree.specs.Trees.{Stmt, Trans, Junction, State}
 use Rattle.chart_grammar.specs.Limits.{Counts, Counted, usual, after_event, after_variable}
 use Rattle.chart_grammar.specs.Transitions.{keyword_trans}
-use Rattle.chart_grammar.specs.States.{Item, Entry, During, Exit, History, Outer, Inner, Default, JunctionItem, StateItem}
-use Rattle.chart_grammar.specs.States.{EventItem, VarItem, Seen, counted_as, StateGrammar, junction, action_item}
-use Rattle.chart_grammar.specs.States.{history_item, trans_item, junction_item, event_item, variable_item, item_heads, chart_heads}
-use Rattle.chart_grammar.specs.States.{item, chart_item, unexpected, next_item, next_chart_item}
+use Rattle.chart_grammar.specs.States.{Item, Entry, During, Exit, History, Outer, Inner, Default, JunctionItem}
+use Rattle.chart_grammar.specs.States.{StateItem, EventItem, VarItem, Seen, counted_as, StateGrammar, junction}
+use Rattle.chart_grammar.specs.States.{action_item, history_item, trans_item, junction_item, event_item}
+use Rattle.chart_grammar.specs.States.{variable_item, item_heads, chart_heads, item, chart_item, unexpected}
+use Rattle.chart_grammar.specs.States.{next_item, next_chart_item}
 use Rattle.canonical_claims.specs.Sizes.{none, ◌⊕◌, size_of_block, size_of_state, IsWithin}
 use Rattle.canonical_claims.specs.Terms.{IsBlock}
 use Rattle.canonical_claims.specs.Claims.{AreCut, TransitionClaims, Adds, behind}

@@ -8,8 +8,9 @@ use Rattle.chart_tree.specs.Trees.{Stmt, Trans, Junction, Var}
 use Rattle.chart_tree.specs.declared.chart.EventText.{EventText}
 use Rattle.chart_grammar.specs.Limits.{Counts, Counted, usual, after_event, after_variable}
 use Rattle.chart_grammar.specs.Transitions.{after_stmts}
-use Rattle.chart_grammar.specs.States.{Item, History, JunctionItem, EventItem, VarItem, counted_as, action_item, history_item}
-use Rattle.chart_grammar.specs.States.{trans_item, junction_item, event_item, variable_item, unexpected, beginning}
+use Rattle.chart_grammar.specs.States.{Item, History, JunctionItem, EventItem, VarItem, counted_as, action_item}
+use Rattle.chart_grammar.specs.States.{history_item, trans_item, junction_item, event_item, variable_item, unexpected}
+use Rattle.chart_grammar.specs.States.{beginning}
 use Rattle.chart_print.specs.Pieces.{Piece, kind_bytes}
 use Rattle.chart_print.specs.Transitions.{block_pieces, trans_pieces}
 use Rattle.chart_print.specs.Declarations.{event_pieces, var_pieces}

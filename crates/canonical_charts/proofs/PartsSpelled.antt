@@ -1,19 +1,19 @@
 -- The words of the canonical items of a state or a chart, from the actions to the child states.
 -- `x_spelled` says that the canonical words of x spell it.
-use Rattle.std.proofs.Common.{◌≡◌, ℕ, zero, suc, false, List, [], ◌∷◌, ◌++◌, map, append_assoc, append-nil, arith, Option, Some, None}
-use Rattle.std.proofs.Common.{refl, ap, sym, ◌∙◌, subst}
+use Rattle.std.proofs.Common.{◌≡◌, ℕ, zero, suc, false, List, [], ◌∷◌, ◌++◌, map, append_assoc, append-nil, arith}
+use Rattle.std.proofs.Common.{Option, Some, None, refl, ap, sym, ◌∙◌, subst}
 use Rattle.std.specs.List.{AllByRecursion, flat_map}
 use Rattle.token_grammar.specs.declared.token.Kind.{Kind}
 use Rattle.token_grammar.specs.declared.token.Kind.TheVariants as kinds
 use Rattle.token_grammar.specs.declared.token.Span.{Span}
 use Rattle.chart_tree.specs.Trees.{Stmt, Trans, Junction, Parts, State, States, NoState, MoreStates}
 use Rattle.chart_grammar.specs.Limits.{Counts}
-use Rattle.chart_grammar.specs.States.{Item, Entry, During, Exit, History, Outer, Inner, Default, JunctionItem, StateItem}
-use Rattle.chart_grammar.specs.States.{Seen, after_item, Sorted, no_items, put}
+use Rattle.chart_grammar.specs.States.{Item, Entry, During, Exit, History, Outer, Inner, Default, JunctionItem}
+use Rattle.chart_grammar.specs.States.{StateItem, Seen, after_item, Sorted, no_items, put}
 use Rattle.chart_print.specs.Pieces.{Piece, key, space, line}
 use Rattle.chart_print.specs.Transitions.{block_pieces, trans_pieces}
-use Rattle.chart_print.specs.Canonical.{action_line, history_line, trans_line, junction_pieces, actions_pieces, transitions_pieces}
-use Rattle.chart_print.specs.Canonical.{parts_pieces, state_pieces, states_pieces}
+use Rattle.chart_print.specs.Canonical.{action_line, history_line, trans_line, junction_pieces, actions_pieces}
+use Rattle.chart_print.specs.Canonical.{transitions_pieces, parts_pieces, state_pieces, states_pieces}
 use Rattle.chart_print.specs.Places.{nowhere, unplaced_block, unplaced_trans, unplaced_junction, unplaced_history}
 use Rattle.chart_print.specs.Places.{unplaced_parts}
 use Rattle.chart_print.specs.Places.{unplaced_state, unplaced_states}

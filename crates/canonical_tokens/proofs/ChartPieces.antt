@@ -15,9 +15,9 @@ use Rattle.chart_tree.specs.Trees.{Chart}
 use Rattle.chart_grammar.specs.Limits.{usual}
 use Rattle.chart_print.specs.Pieces.{Piece}
 use Rattle.chart_print.specs.Canonical.{action_line, history_line, trans_line, junction_trans_line, end_line}
-use Rattle.chart_print.specs.Canonical.{comp_pieces, head_pieces, head_line, junction_pieces, actions_pieces, transitions_pieces}
-use Rattle.chart_print.specs.Canonical.{parts_pieces, parts_in, states_in, state_pieces, states_pieces, event_line}
-use Rattle.chart_print.specs.Canonical.{var_line, chart_pieces, canonical}
+use Rattle.chart_print.specs.Canonical.{comp_pieces, head_pieces, head_line, junction_pieces, actions_pieces}
+use Rattle.chart_print.specs.Canonical.{transitions_pieces, parts_pieces, parts_in, states_in, state_pieces}
+use Rattle.chart_print.specs.Canonical.{states_pieces, event_line, var_line, chart_pieces, canonical}
 use Rattle.canonical_claims.specs.Terms.{IsNamed, IsBlock, IsTrans, IsJunction, IsVar, IsParts, IsState, IsStates}
 use Rattle.canonical_claims.specs.Terms.{IsChart}
 use Rattle.canonical_claims.specs.Claims.{NumberClaims}

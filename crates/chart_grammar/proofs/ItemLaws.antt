@@ -19,10 +19,10 @@ use Rattle.chart_grammar.specs.Limits.{after_variable}
 use Rattle.chart_grammar.specs.Transitions.{block, after_stmts, trans_heads}
 use Rattle.chart_grammar.specs.Declarations.{kind_heads}
 use Rattle.chart_grammar.specs.States.{values, counts_behind, junction_list, junction, StateGrammar, Item, Entry}
-use Rattle.chart_grammar.specs.States.{During, Exit, History, Outer, Inner, Default, JunctionItem, StateItem, EventItem}
-use Rattle.chart_grammar.specs.States.{VarItem, Seen, after_item, counted_as, action_item, history_item, trans_item, junction_item}
-use Rattle.chart_grammar.specs.States.{event_item, variable_item, item_heads, chart_heads, item, chart_item}
-use Rattle.chart_grammar.specs.States.{next_item, next_chart_item, items, chart_items}
+use Rattle.chart_grammar.specs.States.{During, Exit, History, Outer, Inner, Default, JunctionItem, StateItem}
+use Rattle.chart_grammar.specs.States.{EventItem, VarItem, Seen, after_item, counted_as, action_item, history_item}
+use Rattle.chart_grammar.specs.States.{trans_item, junction_item, event_item, variable_item, item_heads, chart_heads}
+use Rattle.chart_grammar.specs.States.{item, chart_item, next_item, next_chart_item, items, chart_items}
 use Rattle.chart_grammar.proofs.SetLaws.{good_clean, same_set, good_beginning}
 use Rattle.chart_grammar.proofs.WordLaws.{fine_name}
 use Rattle.chart_grammar.proofs.TransitionLaws.{fine_block, good_junction_trans, good_keyword_trans}
@@ -121,7 +121,8 @@ chart_kinds k =
 
 -- each set of items that may come next is within those
 seen_items : (entry during exit history : Bool) (n : Counts)
-    → subset (item_heads (record { entry = entry; during = during; exit = exit; history = history; counts = n })) item_kinds ≡ true
+    → subset
+    (item_heads (record { entry = entry; during = during; exit = exit; history = history; counts = n })) item_kinds ≡ true
 seen_items true true true true n = refl
 seen_items true true true false n = refl
 seen_items true true false true n = refl
@@ -141,7 +142,9 @@ seen_items false false false false n = refl
 
 -- what may stand in the chart after what was seen is in the FIRST set of an item of the chart
 seen_chart : (entry during exit history : Bool) (n : Counts)
-    → subset (chart_heads (record { entry = entry; during = during; exit = exit; history = history; counts = n })) chart_kinds ≡ true
+    → subset
+    (chart_heads (record { entry = entry; during = during; exit = exit; history = history; counts = n })) chart_kinds
+    ≡ true
 seen_chart true true exit true n = refl
 seen_chart true true exit false n = refl
 seen_chart true false exit true n = refl

@@ -21,11 +21,11 @@ use Rattle.chart_grammar.specs.Limits.{Limits, usual, Counts, junction_refused, 
 use Rattle.chart_grammar.specs.Limits.{after_variable, lifts_from}
 use Rattle.chart_grammar.specs.Transitions.{trans_heads}
 use Rattle.chart_grammar.specs.Declarations.{kind_heads}
-use Rattle.chart_grammar.specs.States.{junction_list, junction, StateGrammar, Item, Entry, During, Exit, History, Outer, Inner}
-use Rattle.chart_grammar.specs.States.{Default, JunctionItem, StateItem, EventItem, VarItem, Seen, after_item}
-use Rattle.chart_grammar.specs.States.{counted_as, action_item, history_item, trans_item, junction_item, event_item, variable_item}
-use Rattle.chart_grammar.specs.States.{item_heads, chart_heads, item, chart_item, unexpected, beginning, items}
-use Rattle.chart_grammar.specs.States.{chart_items}
+use Rattle.chart_grammar.specs.States.{junction_list, junction, StateGrammar, Item, Entry, During, Exit, History}
+use Rattle.chart_grammar.specs.States.{Outer, Inner, Default, JunctionItem, StateItem, EventItem, VarItem, Seen}
+use Rattle.chart_grammar.specs.States.{after_item, counted_as, action_item, history_item, trans_item, junction_item}
+use Rattle.chart_grammar.specs.States.{event_item, variable_item, item_heads, chart_heads, item, chart_item}
+use Rattle.chart_grammar.specs.States.{unexpected, beginning, items, chart_items}
 use Rattle.chart_grammar.proofs.TransitionLaws.{good_junction_trans}
 use Rattle.chart_grammar.proofs.ItemLaws.{acted, good_next_item, good_next_chart_item}
 use Rattle.chart_grammar.proofs.LimitLaws.{Comparison, expected, item_alike}

@@ -75,7 +75,10 @@ pub states-seen : (level : ℕ) (s : StateText)
     → states_pieces level (states_in (state_of s)) ≡ flat_map (state_pieces level)
     (map state_of (items_of (out-StateText s).states))
 states-seen level (StateText' name comp entry during exit history outer inner default junctions shape states) =
-    rw (outs-StateText' name comp entry during exit history outer inner default junctions shape states, items_shown-the_row-StateText-0 shape states)
+    rw (
+      outs-StateText' name comp entry during exit history outer inner default junctions shape states,
+      items_shown-the_row-StateText-0 shape states,
+    )
     (states-row level _ states)
 
 -- a state, part by part
@@ -86,8 +89,18 @@ unfolding state_pieces
 state_pieces-parts level (StateOf parts states) = refl
 
 -- the parts of a state as the code has them
-pub ruleset fields =
-    (name-seen, comp-seen, entry-seen, during-seen, exit-seen, history-seen, outer-seen, inner-seen, default-seen, junctions-seen)
+pub ruleset fields = (
+  name-seen,
+  comp-seen,
+  entry-seen,
+  during-seen,
+  exit-seen,
+  history-seen,
+  outer-seen,
+  inner-seen,
+  default-seen,
+  junctions-seen,
+)
 
 -- what is written of a state
 pub ruleset seen = (printed, fields, states-seen, state_pieces-parts)

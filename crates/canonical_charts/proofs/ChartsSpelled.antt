@@ -35,9 +35,9 @@ use Rattle.canonical_claims.proofs.Keywords.{spell_word}
 use Rattle.canonical_charts.proofs.ItemLists.{unplaced_item, Place, ItemWords, segment}
 use Rattle.canonical_charts.proofs.PartsSpelled.{listed, listed_sizes, IsNested, listed_nested, NoAction, Readers}
 use Rattle.canonical_charts.proofs.PartsSpelled.{HasItems, behind_all, behind_rest, parts_tail}
-use Rattle.canonical_charts.proofs.ItemsSpelled.{Leads, keyed_leads, spell_beginning, action_item_spelled}
-use Rattle.canonical_charts.proofs.ItemsSpelled.{trans_item_spelled, junction_item_spelled, event_item_spelled}
-use Rattle.canonical_charts.proofs.ItemsSpelled.{variable_item_spelled}
+use Rattle.canonical_charts.proofs.ItemsSpelled.{Leads, keyed_leads, spell_beginning, history_leads}
+use Rattle.canonical_charts.proofs.ItemsSpelled.{history_item_spelled, action_item_spelled, trans_item_spelled}
+use Rattle.canonical_charts.proofs.ItemsSpelled.{junction_item_spelled, event_item_spelled, variable_item_spelled}
 use Rattle.canonical_charts.proofs.StatesSpelled.{junction_leads, state_leads, comp_spelled, unplaced_sorted}
 use Rattle.canonical_charts.proofs.StatesSpelled.{sorted_left, state_with_alike, state_of_left, state_spelled}
 
@@ -88,36 +88,46 @@ module _ (t : TransitionClaims) (level : ℕ) (nested : State → Type 0) (st : 
         (spell_right (is kinds.Entry)
         (spell_left (is kinds.During) (action_item_spelled t kinds.During During (λ b. refl) z.counts b h within)));
     exit = λ z q b h within. absurd h;
+    history = λ z q.
+        spell_beginning (chart_heads z) kinds.History _ history_leads (rw q refl)
+        (spell_right (is kinds.Entry)
+        (spell_right (is kinds.During)
+        (spell_left (is kinds.History) (history_item_spelled z.counts))));
     outer = λ z x h within. absurd h;
     inner = λ z x h within.
         spell_beginning (chart_heads z) kinds.Inner _ (keyed_leads kinds.Inner (trans_pieces x)) refl
         (spell_right (is kinds.Entry)
         (spell_right (is kinds.During)
-        (spell_left (is kinds.Inner) (trans_item_spelled t kinds.Inner Inner (λ x. refl) z.counts x h within))));
+        (spell_right (is kinds.History)
+        (spell_left (is kinds.Inner) (trans_item_spelled t kinds.Inner Inner (λ x. refl) z.counts x h within)))));
     default = λ z x h within.
         spell_beginning (chart_heads z) kinds.Default _ (keyed_leads kinds.Default (trans_pieces x)) refl
         (spell_right (is kinds.Entry)
         (spell_right (is kinds.During)
+        (spell_right (is kinds.History)
         (spell_right (is kinds.Inner)
-        (spell_left (is kinds.Default) (trans_item_spelled t kinds.Default Default (λ x. refl) z.counts x h within)))));
+        (spell_left (is kinds.Default)
+        (trans_item_spelled t kinds.Default Default (λ x. refl) z.counts x h within))))));
     junction = λ z x h within.
         spell_beginning (chart_heads z) kinds.Junction _ (junction_leads level x) refl
         (spell_right (is kinds.Entry)
         (spell_right (is kinds.During)
+        (spell_right (is kinds.History)
         (spell_right (is kinds.Inner)
         (spell_right (is kinds.Default)
-        (spell_left (is kinds.Junction) (junction_item_spelled t level z.counts x h within))))));
+        (spell_left (is kinds.Junction) (junction_item_spelled t level z.counts x h within)))))));
     state = λ z x h within.
         spell_beginning (chart_heads z) kinds.State _ (state_leads level x) refl
         (spell_right (is kinds.Entry)
         (spell_right (is kinds.During)
+        (spell_right (is kinds.History)
         (spell_right (is kinds.Inner)
         (spell_right (is kinds.Default)
         (spell_right (is kinds.Junction)
         (spell_right (is kinds.Event)
         (spell_right kind_heads
         (spell_made (reads z.counts x h within)
-        (λ found e. ap (λ (y : Counted State). counted_as StateItem y) e)))))))));
+        (λ found e. ap (λ (y : Counted State). counted_as StateItem y) e))))))))));
   }
 
   -- declarations
@@ -131,10 +141,11 @@ module _ (t : TransitionClaims) (level : ℕ) (nested : State → Type 0) (st : 
       (spell_beginning (chart_heads z) kinds.Event _ (event_leads x) refl
       (spell_right (is kinds.Entry)
       (spell_right (is kinds.During)
+      (spell_right (is kinds.History)
       (spell_right (is kinds.Inner)
       (spell_right (is kinds.Default)
       (spell_right (is kinds.Junction)
-      (spell_left (is kinds.Event) (event_item_spelled t z.counts x h room))))))))
+      (spell_left (is kinds.Event) (event_item_spelled t z.counts x h room)))))))))
 
   variable_line_spelled : (z : Seen) (x : Var) → IsVar x → IsWithin (z.counts ⊕ after_variable none)
       → ItemWords (in_chart st name comp) z (words_in (var_line x)) (VarItem (unplaced_var x))
@@ -146,11 +157,12 @@ module _ (t : TransitionClaims) (level : ℕ) (nested : State → Type 0) (st : 
       (spell_beginning (chart_heads z) (var_kind x.kind) _ (var_leads x) (var_heads z x.kind)
       (spell_right (is kinds.Entry)
       (spell_right (is kinds.During)
+      (spell_right (is kinds.History)
       (spell_right (is kinds.Inner)
       (spell_right (is kinds.Default)
       (spell_right (is kinds.Junction)
       (spell_right (is kinds.Event)
-      (spell_left kind_heads (variable_item_spelled t z.counts x h room)))))))))
+      (spell_left kind_heads (variable_item_spelled t z.counts x h room))))))))))
 
 -- ---- all items of a chart
 
@@ -239,7 +251,7 @@ module _ (e : ExpressionClaims) (t : TransitionClaims) where
       (spell_then (e.name_spelled parts.name) (λ name named.
       spell_then (comp_spelled parts.comp) (λ c composed.
       spell_word kinds.OpenBrace
-      (spell_then (events_tail (nothing_seen at_begin) (refl, refl, refl) refl) (λ found sorts.
+      (spell_then (events_tail (nothing_seen at_begin) (refl, refl, refl, refl) refl) (λ found sorts.
       spell_word kinds.CloseBrace
       (spell_give _ (looks name named c composed found (ap (λ (x : Sorted × Counts). x.0) sorts)))))))))
     where

@@ -6,11 +6,11 @@ use Rattle.token_grammar.specs.Grammar.{Grammar, many_from}
 use Rattle.chart_tree.specs.declared.name.NameText.{NameText}
 use Rattle.chart_tree.specs.declared.state.CompText.{CompText}
 use Rattle.chart_grammar.specs.Limits.{Counts, Counted}
-use Rattle.chart_grammar.specs.States.{values, counts_behind, Item, Entry, During, Exit, Outer, Inner, Default}
+use Rattle.chart_grammar.specs.States.{values, counts_behind, Item, Entry, During, Exit, History, Outer, Inner, Default}
 use Rattle.chart_grammar.specs.States.{JunctionItem, StateItem, EventItem, VarItem, Seen, after_item, beginning}
 use Rattle.chart_grammar.specs.States.{Sorted, no_items, put, sorted}
 use Rattle.chart_print.specs.Pieces.{Piece}
-use Rattle.chart_print.specs.Places.{unplaced_block, unplaced_trans, unplaced_junction, unplaced_state}
+use Rattle.chart_print.specs.Places.{nowhere, unplaced_block, unplaced_trans, unplaced_junction, unplaced_state}
 use Rattle.chart_print.specs.Places.{unplaced_event, unplaced_var}
 use Rattle.canonical_claims.specs.Words.{Word, words_in, WordsSpell}
 use Rattle.canonical_claims.specs.Sizes.{◌⊕◌, sizes, IsWithin}
@@ -24,6 +24,7 @@ abbrev pub unplaced_item : Item → Item
 unplaced_item (Entry block) = Entry (unplaced_block block)
 unplaced_item (During block) = During (unplaced_block block)
 unplaced_item (Exit block) = Exit (unplaced_block block)
+unplaced_item (History at) = History nowhere
 unplaced_item (Outer t) = Outer (unplaced_trans t)
 unplaced_item (Inner t) = Inner (unplaced_trans t)
 unplaced_item (Default t) = Default (unplaced_trans t)
@@ -66,6 +67,7 @@ after_same : (z : Seen) (x : Item) (n : Counts) → after_item z (behind x n) �
 after_same z (Entry block) n = refl
 after_same z (During block) n = refl
 after_same z (Exit block) n = refl
+after_same z (History at) n = refl
 after_same z (Outer t) n = refl
 after_same z (Inner t) n = refl
 after_same z (Default t) n = refl
@@ -79,6 +81,7 @@ pub after_counts : (z : Seen) (x : Item) (n : Counts) → (after_item z (behind 
 after_counts z (Entry block) n = refl
 after_counts z (During block) n = refl
 after_counts z (Exit block) n = refl
+after_counts z (History at) n = refl
 after_counts z (Outer t) n = refl
 after_counts z (Inner t) n = refl
 after_counts z (Default t) n = refl

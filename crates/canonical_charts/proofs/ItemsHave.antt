@@ -5,20 +5,22 @@ use Rattle.std.proofs.Common.{◌∙◌, subst}
 use Rattle.std.proofs.lemmas.Bool.{cases_Bool}
 use Rattle.token_grammar.specs.declared.token.Kind.{Kind}
 use Rattle.token_grammar.specs.declared.token.Kind.TheVariants as kinds
+use Rattle.token_grammar.specs.declared.token.Span.{Span}
 use Rattle.token_grammar.specs.Token.{Lexeme, kind_eq}
 use Rattle.token_grammar.specs.Grammar.{Grammar, is, token, give, ◌>>=◌, first_refused}
 use Rattle.token_grammar.proofs.Tokens.{kind_eq-true}
 use Rattle.chart_tree.specs.Trees.{Stmt, Trans, Junction, State}
 use Rattle.chart_grammar.specs.Limits.{Counts, Counted, usual, after_event, after_variable}
 use Rattle.chart_grammar.specs.Transitions.{keyword_trans}
-use Rattle.chart_grammar.specs.States.{Item, Entry, During, Exit, Outer, Inner, Default, JunctionItem, StateItem}
-use Rattle.chart_grammar.specs.States.{EventItem, VarItem, Seen, counted_as, StateGrammar, junction, action_item}
-use Rattle.chart_grammar.specs.States.{trans_item, junction_item, event_item, variable_item, item_heads, chart_heads}
-use Rattle.chart_grammar.specs.States.{item, chart_item, unexpected, next_item, next_chart_item}
-use Rattle.canonical_claims.specs.Sizes.{◌⊕◌, size_of_block, size_of_state, IsWithin}
+use Rattle.chart_grammar.specs.States.{Item, Entry, During, Exit, History, Outer, Inner, Default, JunctionItem}
+use Rattle.chart_grammar.specs.States.{StateItem, EventItem, VarItem, Seen, counted_as, StateGrammar, junction}
+use Rattle.chart_grammar.specs.States.{action_item, history_item, trans_item, junction_item, event_item}
+use Rattle.chart_grammar.specs.States.{variable_item, item_heads, chart_heads, item, chart_item, unexpected}
+use Rattle.chart_grammar.specs.States.{next_item, next_chart_item}
+use Rattle.canonical_claims.specs.Sizes.{none, ◌⊕◌, size_of_block, size_of_state, IsWithin}
 use Rattle.canonical_claims.specs.Terms.{IsBlock}
 use Rattle.canonical_claims.specs.Claims.{AreCut, TransitionClaims, Adds, behind}
-use Rattle.canonical_claims.proofs.Counts.{one_block, one_event, one_variable}
+use Rattle.canonical_claims.proofs.Counts.{sum-none, one_block, one_event, one_variable}
 use Rattle.canonical_claims.proofs.Cut.{cut_first, cut_second}
 use Rattle.canonical_charts.proofs.PartsSpelled.{IsNested}
 use Rattle.canonical_charts.proofs.SortedItems.{Found}
@@ -57,6 +59,7 @@ abbrev pub InState : Item → Type 0
 InState (Entry block) = Unit {0}
 InState (During block) = Unit {0}
 InState (Exit block) = Unit {0}
+InState (History at) = Unit {0}
 InState (Outer x) = Unit {0}
 InState (Inner x) = Unit {0}
 InState (Default x) = Unit {0}
@@ -70,6 +73,7 @@ abbrev pub InChart : Item → Type 0
 InChart (Entry block) = Unit {0}
 InChart (During block) = Unit {0}
 InChart (Exit block) = ⊥
+InChart (History at) = Unit {0}
 InChart (Outer x) = ⊥
 InChart (Inner x) = Unit {0}
 InChart (Default x) = Unit {0}
@@ -121,6 +125,16 @@ module _ (t : TransitionClaims) (deep : ℕ) (st : StateGrammar) (states : State
   exit_has =
       action_has InState (item_heads z) kinds.Exit Exit (λ b fine within there.
       record { fine = fine; place = record {}; adds = record { count = refl; within = within }; once = is_new z.exit there })
+
+  -- the word `history`
+  history_has : (may : Item → Type 0) → ((at : Span) → may (History at)) → (history_item z.counts).spells u x
+      → Found deep may z x
+  unfolding history_item
+  history_has may place w =
+      let adds : Adds z.counts none z.counts = record { count = sym (sum-none z.counts); within = λ h. h } in
+      let found : Found deep may z (behind (History w.x.at) z.counts) =
+      record { fine = record {}; place = place w.x.at; adds = adds; once = record {} } in
+      subst (Found deep may z) (sym w.second.second.1) found
 
   -- transitions
   outer_has : (trans_item usual kinds.Outer Outer z.counts).spells u x → Found deep InState z x
@@ -190,11 +204,12 @@ module _ (t : TransitionClaims) (deep : ℕ) (st : StateGrammar) (states : State
       of (inl a) = entry_has InState (λ b. record {}) (item_heads z) (is_new z.entry) w.0 a
       of (inr (inl a)) = during_has InState (λ b. record {}) (item_heads z) (is_new z.during) w.0 a
       of (inr (inr (inl a))) = exit_has w.0 a
-      of (inr (inr (inr (inl a)))) = outer_has a
-      of (inr (inr (inr (inr (inl a))))) = inner_has InState (λ v. record {}) a
-      of (inr (inr (inr (inr (inr (inl a)))))) = default_has InState (λ v. record {}) a
-      of (inr (inr (inr (inr (inr (inr (inl a))))))) = junction_has InState (λ v. record {}) a
-      of (inr (inr (inr (inr (inr (inr (inr a))))))) = state_has InState (λ v. record {}) a
+      of (inr (inr (inr (inl a)))) = history_has InState (λ at. record {}) a
+      of (inr (inr (inr (inr (inl a))))) = outer_has a
+      of (inr (inr (inr (inr (inr (inl a)))))) = inner_has InState (λ v. record {}) a
+      of (inr (inr (inr (inr (inr (inr (inl a))))))) = default_has InState (λ v. record {}) a
+      of (inr (inr (inr (inr (inr (inr (inr (inl a)))))))) = junction_has InState (λ v. record {}) a
+      of (inr (inr (inr (inr (inr (inr (inr (inr a)))))))) = state_has InState (λ v. record {}) a
 
   -- an item of a chart
   pub chart_item_has : (next_chart_item usual st z).spells u x → Found deep InChart z x
@@ -204,9 +219,10 @@ module _ (t : TransitionClaims) (deep : ℕ) (st : StateGrammar) (states : State
       of : (chart_item usual st z).spells u x → Found deep InChart z x
       of (inl a) = entry_has InChart (λ b. record {}) (chart_heads z) (is_new z.entry) w.0 a
       of (inr (inl a)) = during_has InChart (λ b. record {}) (chart_heads z) (is_new z.during) w.0 a
-      of (inr (inr (inl a))) = inner_has InChart (λ v. record {}) a
-      of (inr (inr (inr (inl a)))) = default_has InChart (λ v. record {}) a
-      of (inr (inr (inr (inr (inl a))))) = junction_has InChart (λ v. record {}) a
-      of (inr (inr (inr (inr (inr (inl a)))))) = event_has a
-      of (inr (inr (inr (inr (inr (inr (inl a))))))) = variable_has a
-      of (inr (inr (inr (inr (inr (inr (inr a))))))) = state_has InChart (λ v. record {}) a
+      of (inr (inr (inl a))) = history_has InChart (λ at. record {}) a
+      of (inr (inr (inr (inl a)))) = inner_has InChart (λ v. record {}) a
+      of (inr (inr (inr (inr (inl a))))) = default_has InChart (λ v. record {}) a
+      of (inr (inr (inr (inr (inr (inl a)))))) = junction_has InChart (λ v. record {}) a
+      of (inr (inr (inr (inr (inr (inr (inl a))))))) = event_has a
+      of (inr (inr (inr (inr (inr (inr (inr (inl a)))))))) = variable_has a
+      of (inr (inr (inr (inr (inr (inr (inr (inr a)))))))) = state_has InChart (λ v. record {}) a

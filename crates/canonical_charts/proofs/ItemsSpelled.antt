@@ -2,28 +2,31 @@
 -- `x_spelled` says that the canonical words of x spell it.
 use Rattle.std.proofs.Common.{◌≡◌, ℕ, Bool, true, List, ◌∷◌, ◌++◌, refl, ap, sym, ◌∙◌, arith}
 use Rattle.token_grammar.specs.declared.token.Kind.{Kind}
+use Rattle.token_grammar.specs.declared.token.Kind.TheVariants as kinds
 use Rattle.token_grammar.specs.Grammar.{Grammar}
 use Rattle.chart_tree.specs.Trees.{Stmt, Trans, Junction, Var}
 use Rattle.chart_tree.specs.declared.chart.EventText.{EventText}
 use Rattle.chart_grammar.specs.Limits.{Counts, Counted, usual, after_event, after_variable}
 use Rattle.chart_grammar.specs.Transitions.{after_stmts}
-use Rattle.chart_grammar.specs.States.{Item, JunctionItem, EventItem, VarItem, counted_as, action_item, trans_item}
-use Rattle.chart_grammar.specs.States.{junction_item, event_item, variable_item, unexpected, beginning}
+use Rattle.chart_grammar.specs.States.{Item, History, JunctionItem, EventItem, VarItem, counted_as, action_item}
+use Rattle.chart_grammar.specs.States.{history_item, trans_item, junction_item, event_item, variable_item, unexpected}
+use Rattle.chart_grammar.specs.States.{beginning}
 use Rattle.chart_print.specs.Pieces.{Piece, kind_bytes}
 use Rattle.chart_print.specs.Transitions.{block_pieces, trans_pieces}
 use Rattle.chart_print.specs.Declarations.{event_pieces, var_pieces}
 use Rattle.chart_print.specs.Canonical.{junction_pieces}
-use Rattle.chart_print.specs.Places.{unplaced_block, unplaced_trans, unplaced_junction, unplaced_event, unplaced_var}
+use Rattle.chart_print.specs.Places.{nowhere, unplaced_block, unplaced_trans, unplaced_junction, unplaced_event}
+use Rattle.chart_print.specs.Places.{unplaced_var}
 use Rattle.canonical_claims.specs.Words.{Word, words_in, WordsSpell}
 use Rattle.canonical_claims.specs.Sizes.{◌⊕◌, size_of_block, size_of_trans, size_of_junction, IsWithin}
 use Rattle.canonical_claims.specs.Terms.{IsNamed, IsBlock, IsTrans, IsJunction, IsVar}
 use Rattle.canonical_claims.specs.Claims.{TransitionClaims, counted, behind}
 use Rattle.canonical_claims.proofs.Words.{words_in-append, keyword}
 use Rattle.canonical_claims.proofs.Counts.{same_length, same_counts}
-use Rattle.canonical_claims.proofs.Spelled.{spell_tested, spell_as, spell_made}
+use Rattle.canonical_claims.proofs.Spelled.{spell_give, spell_token, spell_then, spell_tested, spell_as, spell_made}
 use Rattle.canonical_claims.proofs.Keywords.{spell_word}
 use Rattle.canonical_charts.proofs.ItemLists.{unplaced_item}
-use Rattle.canonical_charts.proofs.PartsSpelled.{keyed}
+use Rattle.canonical_charts.proofs.PartsSpelled.{keyed, history_words}
 
 -- ---- in general
 
@@ -51,6 +54,18 @@ spell_beginning set k w l there p =
     (spell_as (sym l.is) p))
 
 -- ---- items
+
+-- the word `history`
+pub history_item_spelled : (n : Counts)
+    → WordsSpell (history_item n) (counted unplaced_item) history_words (behind (History nowhere) n)
+unfolding history_item
+history_item_spelled n =
+    spell_then (spell_token kinds.History (kind_bytes kinds.History)) (λ t e.
+    spell_word kinds.Semicolon (spell_give _ refl))
+
+-- it leads its words
+pub history_leads : Leads kinds.History history_words
+history_leads = record { rest = _; is = refl }
 
 module _ (t : TransitionClaims) where
   -- a keyword and a block

@@ -1,19 +1,21 @@
 -- The words of the canonical items of a state or a chart, from the actions to the child states.
 -- `x_spelled` says that the canonical words of x spell it.
 use Rattle.std.proofs.Common.{◌≡◌, ℕ, zero, suc, false, List, [], ◌∷◌, ◌++◌, map, append_assoc, append-nil, arith}
-use Rattle.std.proofs.Common.{refl, ap, sym, ◌∙◌, subst}
+use Rattle.std.proofs.Common.{Option, Some, None, refl, ap, sym, ◌∙◌, subst}
 use Rattle.std.specs.List.{AllByRecursion, flat_map}
 use Rattle.token_grammar.specs.declared.token.Kind.{Kind}
 use Rattle.token_grammar.specs.declared.token.Kind.TheVariants as kinds
+use Rattle.token_grammar.specs.declared.token.Span.{Span}
 use Rattle.chart_tree.specs.Trees.{Stmt, Trans, Junction, Parts, State, States, NoState, MoreStates}
 use Rattle.chart_grammar.specs.Limits.{Counts}
-use Rattle.chart_grammar.specs.States.{Item, Entry, During, Exit, Outer, Inner, Default, JunctionItem, StateItem}
-use Rattle.chart_grammar.specs.States.{Seen, after_item, Sorted, no_items, put}
+use Rattle.chart_grammar.specs.States.{Item, Entry, During, Exit, History, Outer, Inner, Default, JunctionItem}
+use Rattle.chart_grammar.specs.States.{StateItem, Seen, after_item, Sorted, no_items, put}
 use Rattle.chart_print.specs.Pieces.{Piece, key, space, line}
 use Rattle.chart_print.specs.Transitions.{block_pieces, trans_pieces}
-use Rattle.chart_print.specs.Canonical.{action_line, trans_line, junction_pieces, actions_pieces, transitions_pieces}
-use Rattle.chart_print.specs.Canonical.{parts_pieces, state_pieces, states_pieces}
-use Rattle.chart_print.specs.Places.{unplaced_block, unplaced_trans, unplaced_junction, unplaced_parts}
+use Rattle.chart_print.specs.Canonical.{action_line, history_line, trans_line, junction_pieces, actions_pieces}
+use Rattle.chart_print.specs.Canonical.{transitions_pieces, parts_pieces, state_pieces, states_pieces}
+use Rattle.chart_print.specs.Places.{nowhere, unplaced_block, unplaced_trans, unplaced_junction, unplaced_history}
+use Rattle.chart_print.specs.Places.{unplaced_parts}
 use Rattle.chart_print.specs.Places.{unplaced_state, unplaced_states}
 use Rattle.canonical_claims.specs.Words.{Word, words_in}
 use Rattle.canonical_claims.specs.Sizes.{◌⊕◌, sizes, size_of_block, size_of_trans, size_of_junction, size_of_parts}
@@ -78,6 +80,38 @@ module _ (p : Place) (first seen : Seen → Type 0) (has : List Stmt → Type 0)
       (tail_next p z (keyed k (block_pieces b)) w y all (fill []) m (reads z q b h room)
       (rest behind_it (keeps z (unplaced_block b) all q) counted_so))
 
+-- ---- the word `history` in front
+
+-- the words of its line
+abbrev pub history_words : List Word
+history_words = keyword kinds.History ∷ keyword kinds.Semicolon ∷ []
+
+-- `history` wasn't seen
+abbrev pub NoHistory : Seen → Type 0
+NoHistory z = z.history ≡ false
+
+-- whatever was seen
+abbrev pub Anything : Seen → Type 0
+Anything z = Unit {0}
+
+history_line_words : (level : ℕ) (at : Span) → words_in (history_line level (Some at)) ≡ history_words
+unfolding history_line key
+history_line_words level at = words_line level _
+
+module _ (p : Place) (level : ℕ) (fill : Option Span → Sorted)
+    (puts : put (History nowhere) (fill None) ≡ fill (Some nowhere))
+    (reads : (z : Seen) → NoHistory z → ItemWords p z history_words (History nowhere) z.counts) where
+  -- the line of the word, or none, and what stands after it
+  history_front : (history : Option Span) (n : Counts) (w : List Word) (m : Counts)
+      → Rest p Anything n w (fill None) m
+      → Rest p NoHistory n (words_in (history_line level history) ++ w) (fill (unplaced_history history)) m
+  unfolding history_line
+  history_front None n w m rest z q counts = rest z (tt {0}) counts
+  history_front (Some at) n w m rest z q counts =
+      rw (history_line_words level at, ← puts)
+      (tail_next p z history_words w (History nowhere) z.counts (fill None) m (reads z q)
+      (rest (after_item z (behind (History nowhere) z.counts)) (tt {0}) counts))
+
 -- ---- child states as a list
 
 -- states as a list
@@ -121,21 +155,17 @@ listed_nested (suc deeper) (MoreStates state others) h = (h.0, listed_nested (su
 
 -- ---- all items but declarations
 
--- no action has been seen; and all are before the others
+-- no action and no `history` has been seen; and all these are before the others
 abbrev pub NoAction : Seen → Type 0
-NoAction z = (z.entry ≡ false) × (z.during ≡ false) × (z.exit ≡ false)
+NoAction z = (z.entry ≡ false) × (z.during ≡ false) × (z.exit ≡ false) × NoHistory z
 
 -- at most an entry action was seen
 abbrev pub EntryAtMost : Seen → Type 0
-EntryAtMost z = (z.during ≡ false) × (z.exit ≡ false)
+EntryAtMost z = (z.during ≡ false) × (z.exit ≡ false) × NoHistory z
 
 -- no exit action was seen
 abbrev pub NoExit : Seen → Type 0
-NoExit z = z.exit ≡ false
-
--- whatever was seen
-abbrev pub Anything : Seen → Type 0
-Anything z = Unit {0}
+NoExit z = (z.exit ≡ false) × NoHistory z
 
 -- what is spelled as an item of a place: exit actions and outer transitions are not everywhere, and child states are
 -- these
@@ -147,6 +177,7 @@ pub record Readers (p : Place) (level : ℕ) (has_exit : List Stmt → Type 0) (
       → ItemWords p z (keyed kinds.During (block_pieces b)) (During (unplaced_block b)) (z.counts ⊕ size_of_block b)
   pub exit : (z : Seen) → z.exit ≡ false → (b : List Stmt) → has_exit b → IsWithin (z.counts ⊕ size_of_block b)
       → ItemWords p z (keyed kinds.Exit (block_pieces b)) (Exit (unplaced_block b)) (z.counts ⊕ size_of_block b)
+  pub history : (z : Seen) → NoHistory z → ItemWords p z history_words (History nowhere) z.counts
   pub default : (z : Seen) (t : Trans) → IsTrans t → IsWithin (z.counts ⊕ size_of_trans t)
       → ItemWords p z (keyed kinds.Default (trans_pieces t)) (Default (unplaced_trans t)) (z.counts ⊕ size_of_trans t)
   pub inner : (z : Seen) (t : Trans) → IsTrans t → IsWithin (z.counts ⊕ size_of_trans t)
@@ -248,7 +279,9 @@ module _ {p : Place} {level : ℕ} {has_exit : List Stmt → Type 0} {has_outer 
       let base5 : Sorted = record base { parts = record base6.parts { outer = map unplaced_trans parts.outer } } in
       let base4 : Sorted = record base { parts = record base5.parts { inner = map unplaced_trans parts.inner } } in
       let base3 : Sorted = record base { parts = record base4.parts { default = map unplaced_trans parts.default } } in
-      let base2 : Sorted = record base { parts = record base3.parts { exit = unplaced_block parts.exit } } in
+      let base_history : Sorted =
+      record base { parts = record base3.parts { history = unplaced_history parts.history } } in
+      let base2 : Sorted = record base { parts = record base_history.parts { exit = unplaced_block parts.exit } } in
       let base1 : Sorted = record base { parts = record base2.parts { during = unplaced_block parts.during } } in
       let s8 = states_tail states h.states n7 within in
       let s7 =
@@ -271,19 +304,22 @@ module _ {p : Place} {level : ℕ} {has_exit : List Stmt → Type 0} {has_outer 
       (λ ys. record base { parts = record base4.parts { default = ys } }) (λ y ys. refl) (λ z y k q. q)
       (λ z q t. rw (trans_line_words level kinds.Default t) (r.default z t))
       parts.default h.default n3 within4 _ m s5 in
+      let s_history =
+      history_front p level (λ x. record base { parts = record base3.parts { history = x } }) refl r.history
+      parts.history n3 _ m s4 in
       let s3 =
-      action p NoExit Anything has_exit Exit level kinds.Exit
-      (λ b. record base { parts = record base3.parts { exit = b } })
-      (λ b. refl) (λ z q. tt {0}) (λ z b k q. tt {0}) r.exit
-      parts.exit h.exit n2 within3 _ m s4 in
+      action p NoExit NoHistory has_exit Exit level kinds.Exit
+      (λ b. record base { parts = record base_history.parts { exit = b } })
+      (λ b. refl) (λ z q. q.1) (λ z b k q. q.1) (λ z q. r.exit z q.0)
+      parts.exit h.exit n2 within3 _ m s_history in
       let s2 =
       action p EntryAtMost NoExit IsBlock During level kinds.During
       (λ b. record base { parts = record base2.parts { during = b } })
-      (λ b. refl) (λ z q. q.1) (λ z b k q. q.1) (λ z q. r.during z q.0)
+      (λ b. refl) (λ z q. (q.1, q.2)) (λ z b k q. (q.1, q.2)) (λ z q. r.during z q.0)
       parts.during (any_block parts.during h.during) n1 within2 _ m s3 in
       let s1 =
       action p NoAction EntryAtMost IsBlock Entry level kinds.Entry
       (λ b. record base { parts = record base1.parts { entry = b } })
-      (λ b. refl) (λ z q. (q.1, q.2)) (λ z b k q. (q.1, q.2)) (λ z q. r.entry z q.0)
+      (λ b. refl) (λ z q. (q.1, q.2, q.3)) (λ z b k q. (q.1, q.2, q.3)) (λ z q. r.entry z q.0)
       parts.entry (any_block parts.entry h.entry) n within1 _ m s2 in
       simp (words_in-append, append_assoc) s1

@@ -8,7 +8,7 @@ use Rattle.chart_tree.specs.declared.state.CompText.{CompText}
 use Rattle.chart_tree.specs.declared.chart.EventText.{EventText}
 use Rattle.chart_tree.specs.Trees.{Parts, State, States, MoreStates, Var}
 use Rattle.chart_grammar.specs.Limits.{Counts, Counted, after_event, after_variable}
-use Rattle.chart_grammar.specs.States.{values, counts_behind, Item, Entry, During, Exit, Outer, Inner, Default}
+use Rattle.chart_grammar.specs.States.{values, counts_behind, Item, Entry, During, Exit, History, Outer, Inner, Default}
 use Rattle.chart_grammar.specs.States.{JunctionItem, StateItem, EventItem, VarItem, Seen, after_item, Sorted, put}
 use Rattle.chart_grammar.specs.States.{sorted}
 use Rattle.canonical_claims.specs.Sizes.{none, ◌⊕◌, sizes, size_of_block, size_of_trans, size_of_junction}
@@ -27,6 +27,7 @@ abbrev pub size_of_item : Item → Counts
 size_of_item (Entry block) = size_of_block block
 size_of_item (During block) = size_of_block block
 size_of_item (Exit block) = size_of_block block
+size_of_item (History at) = none
 size_of_item (Outer t) = size_of_trans t
 size_of_item (Inner t) = size_of_trans t
 size_of_item (Default t) = size_of_trans t
@@ -40,6 +41,7 @@ abbrev pub IsItem : ℕ → Item → Type 0
 IsItem deep (Entry block) = IsBlock block
 IsItem deep (During block) = IsBlock block
 IsItem deep (Exit block) = IsBlock block
+IsItem deep (History at) = Unit {0}
 IsItem deep (Outer t) = IsTrans t
 IsItem deep (Inner t) = IsTrans t
 IsItem deep (Default t) = IsTrans t
@@ -53,6 +55,7 @@ abbrev pub IsNew : Seen → Item → Type 0
 IsNew z (Entry block) = z.entry ≡ false
 IsNew z (During block) = z.during ≡ false
 IsNew z (Exit block) = z.exit ≡ false
+IsNew z (History at) = Unit {0}
 IsNew z (Outer t) = Unit {0}
 IsNew z (Inner t) = Unit {0}
 IsNew z (Default t) = Unit {0}
@@ -88,6 +91,7 @@ abbrev pub IsFree : Item → Sorted → Type 0
 IsFree (Entry block) s = s.parts.entry ≡ []
 IsFree (During block) s = s.parts.during ≡ []
 IsFree (Exit block) s = s.parts.exit ≡ []
+IsFree (History at) s = Unit {0}
 IsFree (Outer t) s = Unit {0}
 IsFree (Inner t) s = Unit {0}
 IsFree (Default t) s = Unit {0}
@@ -101,6 +105,7 @@ put_size : (x : Item) (s : Sorted) → IsFree x s → size_of_item x ⊕ size_of
 put_size (Entry block) s free = let none_there = ap length free in same_counts _ _ (omega arith)
 put_size (During block) s free = let none_there = ap length free in same_counts _ _ (omega arith)
 put_size (Exit block) s free = let none_there = ap length free in same_counts _ _ (omega arith)
+put_size (History at) s free = same_counts _ _ (omega arith)
 put_size (Outer t) s free = same_counts _ _ (omega arith)
 put_size (Inner t) s free = same_counts _ _ (omega arith)
 put_size (Default t) s free = same_counts _ _ (omega arith)
@@ -145,6 +150,9 @@ put_sorted deep (During block) s h a =
 put_sorted deep (Exit block) s h a =
     let o = a.parts in
     new_parts deep s _ a (made_parts _ o.name o.entry o.during h o.outer o.inner o.default o.junctions)
+put_sorted deep (History at) s h a =
+    let o = a.parts in
+    new_parts deep s _ a (made_parts _ o.name o.entry o.during o.exit o.outer o.inner o.default o.junctions)
 put_sorted deep (Outer t) s h a =
     let o = a.parts in
     new_parts deep s _ a (made_parts _ o.name o.entry o.during o.exit (h, o.outer) o.inner o.default o.junctions)

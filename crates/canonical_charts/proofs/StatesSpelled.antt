@@ -11,7 +11,7 @@ use Rattle.chart_tree.specs.declared.state.CompText.TheVariants as comps
 use Rattle.chart_tree.specs.declared.chart.EventText.{EventText}
 use Rattle.chart_tree.specs.Trees.{Junction, Parts, State, StateOf, States, NoState, MoreStates, Var}
 use Rattle.chart_grammar.specs.Limits.{Counts, Counted, usual, after_state}
-use Rattle.chart_grammar.specs.States.{values, counts_behind, Item, Entry, During, Exit, Outer, Inner, Default}
+use Rattle.chart_grammar.specs.States.{values, counts_behind, Item, Entry, During, Exit, History, Outer, Inner, Default}
 use Rattle.chart_grammar.specs.States.{JunctionItem, StateItem, EventItem, VarItem, nothing_seen, counted_as}
 use Rattle.chart_grammar.specs.States.{StateGrammar, item_heads, item, items, Sorted, no_items, put, sorted}
 use Rattle.chart_grammar.specs.States.{comp_with, state_with, comp_heads, comp, maybe_comp, state_body, state_over}
@@ -35,8 +35,9 @@ use Rattle.canonical_claims.proofs.Room.{state_room}
 use Rattle.canonical_charts.proofs.ItemLists.{unplaced_item, Place, left}
 use Rattle.canonical_charts.proofs.PartsSpelled.{listed_sizes, IsNested, listed_nested, any_block, Readers, HasItems}
 use Rattle.canonical_charts.proofs.PartsSpelled.{behind_all, parts_tail}
-use Rattle.canonical_charts.proofs.ItemsSpelled.{Leads, leads_more, keyed_leads, spell_beginning, action_item_spelled}
-use Rattle.canonical_charts.proofs.ItemsSpelled.{trans_item_spelled, junction_item_spelled}
+use Rattle.canonical_charts.proofs.ItemsSpelled.{Leads, leads_more, keyed_leads, spell_beginning, history_leads}
+use Rattle.canonical_charts.proofs.ItemsSpelled.{history_item_spelled, action_item_spelled, trans_item_spelled}
+use Rattle.canonical_charts.proofs.ItemsSpelled.{junction_item_spelled}
 
 -- ---- how states, junctions and charts begin and end
 
@@ -96,6 +97,7 @@ sorted_alike name c (x ∷ xs) =
     put_alike (Entry block) s = refl
     put_alike (During block) s = refl
     put_alike (Exit block) s = refl
+    put_alike (History at) s = refl
     put_alike (Outer t) s = refl
     put_alike (Inner t) s = refl
     put_alike (Default t) s = refl
@@ -159,48 +161,59 @@ module _ (t : TransitionClaims) (level : ℕ) (nested : State → Type 0) (st : 
         (spell_right (is kinds.Entry)
         (spell_right (is kinds.During)
         (spell_left (is kinds.Exit) (action_item_spelled t kinds.Exit Exit (λ b. refl) z.counts b h within))));
+    history = λ z q.
+        spell_beginning (item_heads z) kinds.History _ history_leads (rw q refl)
+        (spell_right (is kinds.Entry)
+        (spell_right (is kinds.During)
+        (spell_right (is kinds.Exit)
+        (spell_left (is kinds.History) (history_item_spelled z.counts)))));
     outer = λ z x h within.
         spell_beginning (item_heads z) kinds.Outer _ (keyed_leads kinds.Outer (trans_pieces x)) refl
         (spell_right (is kinds.Entry)
         (spell_right (is kinds.During)
         (spell_right (is kinds.Exit)
-        (spell_left (is kinds.Outer) (trans_item_spelled t kinds.Outer Outer (λ x. refl) z.counts x h within)))));
+        (spell_right (is kinds.History)
+        (spell_left (is kinds.Outer) (trans_item_spelled t kinds.Outer Outer (λ x. refl) z.counts x h within))))));
     inner = λ z x h within.
         spell_beginning (item_heads z) kinds.Inner _ (keyed_leads kinds.Inner (trans_pieces x)) refl
         (spell_right (is kinds.Entry)
         (spell_right (is kinds.During)
         (spell_right (is kinds.Exit)
+        (spell_right (is kinds.History)
         (spell_right (is kinds.Outer)
-        (spell_left (is kinds.Inner) (trans_item_spelled t kinds.Inner Inner (λ x. refl) z.counts x h within))))));
+        (spell_left (is kinds.Inner) (trans_item_spelled t kinds.Inner Inner (λ x. refl) z.counts x h within)))))));
     default = λ z x h within.
         spell_beginning (item_heads z) kinds.Default _ (keyed_leads kinds.Default (trans_pieces x)) refl
         (spell_right (is kinds.Entry)
         (spell_right (is kinds.During)
         (spell_right (is kinds.Exit)
+        (spell_right (is kinds.History)
         (spell_right (is kinds.Outer)
         (spell_right (is kinds.Inner)
         (spell_left (is kinds.Default)
-        (trans_item_spelled t kinds.Default Default (λ x. refl) z.counts x h within)))))));
+        (trans_item_spelled t kinds.Default Default (λ x. refl) z.counts x h within))))))));
     junction = λ z x h within.
         spell_beginning (item_heads z) kinds.Junction _ (junction_leads level x) refl
         (spell_right (is kinds.Entry)
         (spell_right (is kinds.During)
         (spell_right (is kinds.Exit)
+        (spell_right (is kinds.History)
         (spell_right (is kinds.Outer)
         (spell_right (is kinds.Inner)
         (spell_right (is kinds.Default)
-        (spell_left (is kinds.Junction) (junction_item_spelled t level z.counts x h within))))))));
+        (spell_left (is kinds.Junction) (junction_item_spelled t level z.counts x h within)))))))));
     state = λ z x h within.
         spell_beginning (item_heads z) kinds.State _ (state_leads level x) refl
         (spell_right (is kinds.Entry)
         (spell_right (is kinds.During)
         (spell_right (is kinds.Exit)
+        (spell_right (is kinds.History)
         (spell_right (is kinds.Outer)
         (spell_right (is kinds.Inner)
         (spell_right (is kinds.Default)
         (spell_right (is kinds.Junction)
         (spell_made (reads z.counts x h within)
-        (λ found e. ap (λ (y : Counted State). counted_as StateItem y) e)))))))));
+        (λ found e. ap (λ (y : Counted State). counted_as StateItem y) e))))))))));
   }
 
 -- ---- states
@@ -255,7 +268,7 @@ module _ (e : ExpressionClaims) (t : TransitionClaims) where
       let readers = state_readers t (level + 1) (IsNested deep) st reads (unplaced_name parts.name) parts.comp in
       let tail =
       parts_tail readers parts states (state_items deep parts states h.0 h.2) (after_state n) all
-      (nothing_seen (after_state n)) (refl, refl, refl) refl in
+      (nothing_seen (after_state n)) (refl, refl, refl, refl) refl in
       spell_then (e.name_spelled parts.name) (λ name named.
       spell_then (comp_spelled parts.comp) (λ c composed.
       spell_word kinds.OpenBrace

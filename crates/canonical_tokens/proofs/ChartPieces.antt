@@ -1,10 +1,11 @@
 -- A canonical text is cut into the words of its pieces.
 -- `on_x` says that the pieces of x stay apart, and from the pieces after them, where these stay apart after x.
-use Rattle.std.proofs.Common.{◌≡◌, ℕ, zero, suc, ◌+◌, true, List, [], ◌++◌, refl, append_assoc}
+use Rattle.std.proofs.Common.{◌≡◌, ℕ, zero, suc, ◌+◌, true, List, [], ◌++◌, Option, Some, None, refl, append_assoc}
 use Rattle.std.proofs.lemmas.List.{append-nil}
 use Rattle.std.specs.List.{AllByRecursion, flat_map}
 use Rattle.token_grammar.specs.declared.token.Kind.{Kind}
 use Rattle.token_grammar.specs.declared.token.Kind.TheVariants as kinds
+use Rattle.token_grammar.specs.declared.token.Span.{Span}
 use Rattle.chart_tree.specs.declared.name.NameText.{NameText}
 use Rattle.chart_tree.specs.declared.chart.EventText.{EventText}
 use Rattle.chart_tree.specs.declared.state.CompText.{CompText}
@@ -13,10 +14,10 @@ use Rattle.chart_tree.specs.Trees.{Stmt, Trans, Junction, Parts, State, StateOf,
 use Rattle.chart_tree.specs.Trees.{Chart}
 use Rattle.chart_grammar.specs.Limits.{usual}
 use Rattle.chart_print.specs.Pieces.{Piece}
-use Rattle.chart_print.specs.Canonical.{action_line, trans_line, junction_trans_line, end_line, comp_pieces}
-use Rattle.chart_print.specs.Canonical.{head_pieces, head_line, junction_pieces, actions_pieces, transitions_pieces}
-use Rattle.chart_print.specs.Canonical.{parts_pieces, parts_in, states_in, state_pieces, states_pieces, event_line}
-use Rattle.chart_print.specs.Canonical.{var_line, chart_pieces, canonical}
+use Rattle.chart_print.specs.Canonical.{action_line, history_line, trans_line, junction_trans_line, end_line}
+use Rattle.chart_print.specs.Canonical.{comp_pieces, head_pieces, head_line, junction_pieces, actions_pieces}
+use Rattle.chart_print.specs.Canonical.{transitions_pieces, parts_pieces, parts_in, states_in, state_pieces}
+use Rattle.chart_print.specs.Canonical.{states_pieces, event_line, var_line, chart_pieces, canonical}
 use Rattle.canonical_claims.specs.Terms.{IsNamed, IsBlock, IsTrans, IsJunction, IsVar, IsParts, IsState, IsStates}
 use Rattle.canonical_claims.specs.Terms.{IsChart}
 use Rattle.canonical_claims.specs.Claims.{NumberClaims}
@@ -36,6 +37,15 @@ on_action_line claims level k stmts rest fixed has h =
     on_unless stmts AfterBlank _ rest (on_line level _ rest (simp append_assoc
     (on_key k AfterBlank _ fixed refl
     (on_space (seam_of k) _ (on_block claims stmts _ has (on_newline AfterSymbol rest h)))))) h
+
+on_history_line : (level : ℕ) (history : Option Span) (rest : List Piece) → Apart AfterBlank rest
+    → Apart AfterBlank (history_line level history ++ rest)
+unfolding history_line
+on_history_line level None rest h = h
+on_history_line level (Some at) rest h =
+    on_line level _ rest (simp append_assoc
+    (on_key kinds.History AfterBlank _ refl refl
+    (on_key kinds.Semicolon AfterWord _ refl refl (on_newline AfterSymbol rest h))))
 
 on_trans_line : NumberClaims → (level : ℕ) (k : Kind) → is_fixed k ≡ true → (trans : Trans) → IsTrans trans
     → (rest : List Piece)
@@ -100,11 +110,12 @@ on_parts claims level parts rest has h =
     (on_action_line claims level kinds.Entry parts.entry _ refl has.entry
     (on_action_line claims level kinds.During parts.during _ refl has.during
     (on_action_line claims level kinds.Exit parts.exit _ refl has.exit
+    (on_history_line level parts.history _
     (on_trans_lines claims level kinds.Default parts.default _ refl has.default
     (on_trans_lines claims level kinds.Inner parts.inner _ refl has.inner
     (on_trans_lines claims level kinds.Outer parts.outer _ refl has.outer
     (on_each (junction_pieces level) IsJunction AfterBlank parts.junctions rest
-    (on_junction claims level) has.junctions h)))))))
+    (on_junction claims level) has.junctions h))))))))
 
 mutual
   unfolding state_pieces

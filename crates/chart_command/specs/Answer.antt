@@ -17,7 +17,7 @@ use Rattle.chart_command.specs.Fmt.{FmtEnds}
 use Rattle.chart_command.specs.Compile.{CompileEnds}
 use Rattle.chart_command.specs.Trace.{TraceEnds}
 
--- words that are none of the program's end the call at once: nothing is read, and nothing is written
+-- words that name no command end the call at once: nothing is read, and nothing is written
 pub record UsageEnds (call : Call) (ending : Ending) : Type 0 where
   pub is_usage : ending ≡ endings.Usage
   pub sources : call.sources_after ≡ call.sources_before

@@ -4,12 +4,12 @@ use Rattle.std.specs.List.{AllByRecursion}
 use Rattle.flow_base.specs.declared.inputs.Inputs.{Ghosts as Inputs}
 use Rattle.flow_base.specs.declared.sink.Sink.{Ghosts as Sink}
 
--- files: what each has left, where that is told, and how often reads of each failed
+-- files: what each has left, where that is known, and how often reads of each failed
 pub record Sources : Type 0 where
   pub left : List ℕ → Option (List ℕ)
   pub faults : List ℕ → ℕ
 
--- a sink: what it holds, where that is told, and how often writes of it failed
+-- a sink: what it holds, where that is known, and how often writes of it failed
 pub record Output : Type 0 where
   pub holds : Option (List ℕ)
   pub faults : ℕ
@@ -39,7 +39,7 @@ call_of inputs out inputs_before inputs_after out_before out_after =
       output_after = output_of out out_after;
     }
 
--- what files of other names have left stays
+-- files of other names have left what they had
 abbrev pub OthersStay : List (List ℕ) → Sources → Sources → Type 0
 OthersStay names before after =
     (other : List ℕ) → AllByRecursion (λ name. other ≢ name) names → after.left other ≡ before.left other

@@ -15,7 +15,7 @@ pub record IsCodeText (text : List ℕ) (P : Program) : Type 0 where
   pub text_is : text ≡ code_text P
   pub well_formed : IsCode P
 
--- the text is none of well-formed code, for the reason that ends the call
+-- the text isn't the text of well-formed code, for the reason that ends the call
 pub record RefusesCode (text : List ℕ) (ending : Ending) : Type 0 where
   pub fault : CodeTextFault
   pub refused : outcome text ≡ Err fault

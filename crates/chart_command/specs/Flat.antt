@@ -16,7 +16,7 @@ use Rattle.chart_command.specs.declared.ending.Ending.TheVariants as endings
 abbrev pub flat_trace : Chart → List FlatEvent → List ℕ
 flat_trace c events = trace c.events events (map (λ s. name_at (state_names c) s ∷ []) (flat_run c events))
 
--- the text is none of a flat chart, for the reason that ends the call
+-- the text isn't the text of a flat chart, for the reason that ends the call
 pub record RefusesFlat (text : List ℕ) (ending : Ending) : Type 0 where
   pub kind : FormKind
   pub at : Span

@@ -1,4 +1,4 @@
--- How a file is read: whole, or why nothing comes of it.
+-- How a file is read: whole, or why it isn't read.
 use Rattle.std.specs.Prelude.{◌≡◌, ℕ, ◌+◌, ◌<◌, ◌≤◌, Vec, List, [], length, Option, Some, None, Result, Ok, Err}
 use Rattle.std.specs.Option.{option_map}
 use Rattle.std.specs.declared.alloc.Global.{Global}
@@ -8,12 +8,12 @@ use Rattle.chart_command.specs.declared.ending.Ending.{Ending}
 use Rattle.chart_command.specs.declared.ending.Ending.TheVariants as endings
 use Rattle.chart_command.specs.Call.{Sources}
 
--- a text is a file's where it is the one that is told, and where none is told it may be
+-- a text is that of a file where it equals the bytes that are known, and where none are known any text may be
 abbrev pub IsTold : Option (List ℕ) → List ℕ → Type 0
 IsTold None text = Unit {0}
 IsTold (Some told) text = text ≡ told
 
--- what a file that was read to its end has left: nothing, where that is told
+-- what a file that was read to its end has left: nothing, where that is known
 abbrev pub read_out : Option (List ℕ) → Option (List ℕ)
 read_out left = option_map (λ _. []) left
 
@@ -24,7 +24,7 @@ pub record ReadWhole (before after : Sources) (name text : List ℕ) : Type 0 wh
   pub others : OthersKept name before.left after.left
   pub quiet : AllStay before.faults after.faults
 
--- the file's text passes the limit, and at most one byte past the limit was read
+-- the file's text is over the limit, and at most one byte past the limit was read
 pub record ReadPast (limit : ℕ) (before after : Sources) (name text : List ℕ) : Type 0 where
   pub is_told : IsTold (before.left name) text
   pub long : limit < length text
@@ -49,7 +49,7 @@ pub data Unread (limit : ℕ) (Refuses : List ℕ → Ending → Type 0) (before
   -- its text is refused
   Refused : (text : List ℕ) → ReadWhole before after name text → length text ≤ limit → Refuses text ending
       → Unread limit Refuses before after name ending
-  -- its text is refused since it passes the limit
+  -- its text is refused since it is over the limit
   TooLong : (text : List ℕ) → ReadPast limit before after name text → Refuses text ending
       → Unread limit Refuses before after name ending
   -- a read of it failed
@@ -71,7 +71,7 @@ abbrev pub FileGives : {T : Type 0} → ℕ → (List ℕ → T → Type 0) → 
 FileGives limit Means Refuses before after name (Ok value) = Gives Means before after name value
 FileGives limit Means Refuses before after name (Err ending) = Unread limit Refuses before after name ending
 
--- a text is refused only where it passes the limit, and the call ends with `too_long`
+-- a text is refused only where it is over the limit, and the call ends with `too_long`
 pub record RefusesLong (limit : ℕ) (too_long : Ending) (text : List ℕ) (ending : Ending) : Type 0 where
   pub long : limit < length text
   pub ending_is : ending ≡ too_long

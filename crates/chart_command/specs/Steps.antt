@@ -32,7 +32,7 @@ pub data RunEnds (before after : Output) (names : List (List ℕ)) (text whole :
   -- a write failed
   Write : ending ≡ endings.Write → WroteFront before after whole → RunEnds before after names text whole ending
 
--- how a line of the event file is taken by an engine: the moment after it, and what is written
+-- how an engine processes a line of the event file: the moment after it, and what is written
 abbrev pub StepEnds : {S T : Type 0} → Output → Output → (S → FlatEvent → S) → (S → List (List ℕ)) → List (List ℕ)
     → S → ℕ → Result FlatEvent LineFault → S → Result T Ending → Type 0
 StepEnds out out' after shown names s index (Ok e) s' result =

@@ -12,11 +12,11 @@ use Rattle.chart_command.specs.Reading.{ReadWhole, Unread, Gives, RefusesLong}
 use Rattle.chart_command.specs.Runner.{Runner, event_names, IsTrace}
 use Rattle.chart_command.specs.Steps.{RunEnds}
 
--- an event file that passes the limit is refused whole, as its line 0
+-- an event file that is over the limit is refused whole, as its line 0
 abbrev pub RefusesEvents : List ℕ → Ending → Type 0
 RefusesEvents = RefusesLong EVENTS_LIMIT (endings.Line 0 line_faults.NotBuilt)
 
--- the first file was read whole, then the second, and neither has anything left where that is told
+-- the first file was read whole, then the second, and neither has anything left where that is known
 pub record BothRead (Spells : List ℕ → Runner → Type 0) (call : Call) (first second : List ℕ) (runner : Runner)
     (events : List ℕ) : Type 0 where
   pub between : Sources

@@ -14,11 +14,11 @@ pub enum Ending {
     Done,
     /// The chart text is refused, at that place.
     Chart(FormKind, Span),
-    /// The event file is refused at that line, counted from 1; as line 0 it is refused whole.
+    /// The event file is refused at that line, counted from 1; 0 where the whole file is refused, since it is too long.
     Line(u64, LineFault),
     /// The code text is refused.
     Code(CodeTextFault),
-    /// The words are none of the program's.
+    /// The words name no command.
     Usage,
     /// A file that the words name couldn't be read.
     Read,
@@ -29,7 +29,7 @@ pub enum Ending {
 }
 
 impl Ending {
-    /// The status that belongs to it.
+    /// The status of the ending.
     pub fn status(self) -> Status
         ensures { result ≡ status_of self }
     {

@@ -15,7 +15,7 @@ pub trait Engine {
     /// The names of the active states, as the trace shows them.
     ghost shown: { Self → List (List ℕ) };
 
-    /// It has been started, and is as its kind wants it.
+    /// The run has been started, and its invariant holds.
     ghost running: { Self → Type 0 };
 
     /// The run after one more event.
@@ -43,9 +43,9 @@ pub trait Engine {
     /// An event's word has at most 63 bytes.
     ghost short: { (engine : Self) (event : FlatEvent) → running engine → IsEventIn (names engine) event → length (event_word (names engine) event) ≤ 63 };
 
-    /// The names stay.
+    /// An event leaves the names of the events unchanged.
     ghost same_names: { (engine : Self) (event : FlatEvent) → running engine → names (after engine event) ≡ names engine };
 
-    /// A run goes on.
+    /// After an event the run can process the next.
     ghost goes_on: { (engine : Self) (event : FlatEvent) → running engine → IsEventIn (names engine) event → running (after engine event) };
 }

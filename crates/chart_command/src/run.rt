@@ -102,7 +102,7 @@ fn write_event<G: Engine, O: Sink>(
     write_step(engine, index, word, out)
 }
 
-/// Writes the line of the trace for a step that has been taken.
+/// Writes a line of the trace, for the start or for an event that was processed.
 fn write_step<G: Engine, O: Sink>(
     engine: &G,
     index: u64,

@@ -26,7 +26,7 @@ fn is_file(word: &str) -> bool
     }
 }
 
-/// What the words ask for; none where they are none of the program's.
+/// What the words ask for; none where the words name no command.
 pub fn command_from<'a>(words: &'a [String]) -> Option<Command<'a>>
     ensures { option_map command_seen result ≡ command_of words.now }
 {

@@ -19,10 +19,10 @@ use Rattle.chart_grammar.specs.Limits.{after_variable}
 use Rattle.chart_grammar.specs.Transitions.{block, after_stmts, trans_heads}
 use Rattle.chart_grammar.specs.Declarations.{kind_heads}
 use Rattle.chart_grammar.specs.States.{values, counts_behind, junction_list, junction, StateGrammar, Item, Entry}
-use Rattle.chart_grammar.specs.States.{During, Exit, Outer, Inner, Default, JunctionItem, StateItem, EventItem}
-use Rattle.chart_grammar.specs.States.{VarItem, Seen, after_item, counted_as, action_item, trans_item, junction_item}
-use Rattle.chart_grammar.specs.States.{event_item, variable_item, item_heads, chart_heads, item, chart_item}
-use Rattle.chart_grammar.specs.States.{next_item, next_chart_item, items, chart_items}
+use Rattle.chart_grammar.specs.States.{During, Exit, History, Outer, Inner, Default, JunctionItem, StateItem}
+use Rattle.chart_grammar.specs.States.{EventItem, VarItem, Seen, after_item, counted_as, action_item, history_item}
+use Rattle.chart_grammar.specs.States.{trans_item, junction_item, event_item, variable_item, item_heads, chart_heads}
+use Rattle.chart_grammar.specs.States.{item, chart_item, next_item, next_chart_item, items, chart_items}
 use Rattle.chart_grammar.proofs.SetLaws.{good_clean, same_set, good_beginning}
 use Rattle.chart_grammar.proofs.WordLaws.{fine_name}
 use Rattle.chart_grammar.proofs.TransitionLaws.{fine_block, good_junction_trans, good_keyword_trans}
@@ -69,6 +69,14 @@ fine_action_item l keyword kind n = record { good = good_clean (is kinds.OpenBra
     whole : Fine (action_item l keyword kind n) (also (is keyword) false (is kinds.OpenBrace)) false nothing
     whole = fine_then (fine_token keyword) (λ _. rest) refl
 
+pub fine_history_item : (n : Counts) → Fine (history_item n) (is kinds.History) false nothing
+unfolding history_item
+fine_history_item n =
+    fine_as (is kinds.History) nothing
+    (fine_then (fine_token kinds.History) (λ t.
+    fine_then (fine_token kinds.Semicolon) (λ _.
+    fine_give (record { value = History t.at; counts = n })) refl) refl) refl refl
+
 pub good_trans_item : (l : Limits) (keyword : Kind) (kind : Trans → Item) (n : Counts)
     → Good (trans_item l keyword kind n) (is keyword) false nothing
 unfolding trans_item
@@ -101,35 +109,50 @@ good_variable_item l n =
 abbrev pub item_kinds : Set
 item_kinds k =
     is kinds.Entry k ||
-    (is kinds.During k || (is kinds.Exit k || (is kinds.Outer k || (is kinds.Inner k || (is kinds.Default k
-    || (is kinds.Junction k || is kinds.State k))))))
+    (is kinds.During k || (is kinds.Exit k || (is kinds.History k || (is kinds.Outer k || (is kinds.Inner k
+    || (is kinds.Default k || (is kinds.Junction k || is kinds.State k)))))))
 
 -- the FIRST set of an item of the chart
 abbrev pub chart_kinds : Set
 chart_kinds k =
     is kinds.Entry k ||
-    (is kinds.During k || (is kinds.Inner k || (is kinds.Default k || (is kinds.Junction k || (is kinds.Event k
-    || (kind_heads k || is kinds.State k))))))
+    (is kinds.During k || (is kinds.History k || (is kinds.Inner k || (is kinds.Default k || (is kinds.Junction k
+    || (is kinds.Event k || (kind_heads k || is kinds.State k)))))))
 
 -- each set of items that may come next is within those
-seen_items : (entry during exit : Bool) (n : Counts)
-    → subset (item_heads (record { entry = entry; during = during; exit = exit; counts = n })) item_kinds ≡ true
-seen_items true true true n = refl
-seen_items true true false n = refl
-seen_items true false true n = refl
-seen_items true false false n = refl
-seen_items false true true n = refl
-seen_items false true false n = refl
-seen_items false false true n = refl
-seen_items false false false n = refl
+seen_items : (entry during exit history : Bool) (n : Counts)
+    → subset
+    (item_heads (record { entry = entry; during = during; exit = exit; history = history; counts = n })) item_kinds ≡ true
+seen_items true true true true n = refl
+seen_items true true true false n = refl
+seen_items true true false true n = refl
+seen_items true true false false n = refl
+seen_items true false true true n = refl
+seen_items true false true false n = refl
+seen_items true false false true n = refl
+seen_items true false false false n = refl
+seen_items false true true true n = refl
+seen_items false true true false n = refl
+seen_items false true false true n = refl
+seen_items false true false false n = refl
+seen_items false false true true n = refl
+seen_items false false true false n = refl
+seen_items false false false true n = refl
+seen_items false false false false n = refl
 
 -- what may stand in the chart after what was seen is in the FIRST set of an item of the chart
-seen_chart : (entry during exit : Bool) (n : Counts)
-    → subset (chart_heads (record { entry = entry; during = during; exit = exit; counts = n })) chart_kinds ≡ true
-seen_chart true true exit n = refl
-seen_chart true false exit n = refl
-seen_chart false true exit n = refl
-seen_chart false false exit n = refl
+seen_chart : (entry during exit history : Bool) (n : Counts)
+    → subset
+    (chart_heads (record { entry = entry; during = during; exit = exit; history = history; counts = n })) chart_kinds
+    ≡ true
+seen_chart true true exit true n = refl
+seen_chart true true exit false n = refl
+seen_chart true false exit true n = refl
+seen_chart true false exit false n = refl
+seen_chart false true exit true n = refl
+seen_chart false true exit false n = refl
+seen_chart false false exit true n = refl
+seen_chart false false exit false n = refl
 
 module _ (l : Limits) {state : StateGrammar} (a : (n : Counts) → Good (state n) (is kinds.State) false nothing) where
   good_state_item : (n : Counts)
@@ -143,11 +166,12 @@ module _ (l : Limits) {state : StateGrammar} (a : (n : Counts) → Good (state n
       (good_either (is kinds.Entry) (fine_action_item l kinds.Entry Entry z.counts).good
       (good_either (is kinds.During) (fine_action_item l kinds.During During z.counts).good
       (good_either (is kinds.Exit) (fine_action_item l kinds.Exit Exit z.counts).good
+      (good_either (is kinds.History) (fine_history_item z.counts).good
       (good_either (is kinds.Outer) (good_trans_item l kinds.Outer Outer z.counts)
       (good_either (is kinds.Inner) (good_trans_item l kinds.Inner Inner z.counts)
       (good_either (is kinds.Default) (good_trans_item l kinds.Default Default z.counts)
       (good_either (is kinds.Junction) (good_junction_item l z.counts) (good_state_item z.counts)
-      refl refl) refl refl) refl refl) refl refl) refl refl) refl refl) refl refl) refl refl
+      refl refl) refl refl) refl refl) refl refl) refl refl) refl refl) refl refl) refl refl) refl refl
 
   pub good_chart_item : (z : Seen) → Good (chart_item l state z) chart_kinds false nothing
   unfolding chart_item
@@ -155,12 +179,13 @@ module _ (l : Limits) {state : StateGrammar} (a : (n : Counts) → Good (state n
       good_as chart_kinds nothing
       (good_either (is kinds.Entry) (fine_action_item l kinds.Entry Entry z.counts).good
       (good_either (is kinds.During) (fine_action_item l kinds.During During z.counts).good
+      (good_either (is kinds.History) (fine_history_item z.counts).good
       (good_either (is kinds.Inner) (good_trans_item l kinds.Inner Inner z.counts)
       (good_either (is kinds.Default) (good_trans_item l kinds.Default Default z.counts)
       (good_either (is kinds.Junction) (good_junction_item l z.counts)
       (good_either (is kinds.Event) (good_event_item l z.counts)
       (good_either kind_heads (good_variable_item l z.counts) (good_state_item z.counts)
-      refl refl) refl refl) refl refl) refl refl) refl refl) refl refl) refl refl) refl refl
+      refl refl) refl refl) refl refl) refl refl) refl refl) refl refl) refl refl) refl refl) refl refl
 
   -- an item where it may stand
   pub good_next_item : (z : Seen) → Good (next_item l state z) (item_heads z) false nothing
@@ -174,11 +199,11 @@ module _ (l : Limits) {state : StateGrammar} (a : (n : Counts) → Good (state n
   fine_items z =
       fine_as item_kinds item_kinds
       (fine_many_from item_heads after_item item_kinds z good_next_item (λ z. same_set (item_heads z))
-      (λ z. seen_items z.entry z.during z.exit z.counts) refl) refl refl
+      (λ z. seen_items z.entry z.during z.exit z.history z.counts) refl) refl refl
 
   pub fine_chart_items : (z : Seen) → Fine (chart_items l state z) chart_kinds true chart_kinds
   unfolding chart_items
   fine_chart_items z =
       fine_as chart_kinds chart_kinds
       (fine_many_from chart_heads after_item chart_kinds z good_next_chart_item (λ z. same_set (chart_heads z))
-      (λ z. seen_chart z.entry z.during z.exit z.counts) refl) refl refl
+      (λ z. seen_chart z.entry z.during z.exit z.history z.counts) refl) refl refl

@@ -21,11 +21,11 @@ use Rattle.chart_grammar.specs.Limits.{Limits, usual, Counts, junction_refused, 
 use Rattle.chart_grammar.specs.Limits.{after_variable, lifts_from}
 use Rattle.chart_grammar.specs.Transitions.{trans_heads}
 use Rattle.chart_grammar.specs.Declarations.{kind_heads}
-use Rattle.chart_grammar.specs.States.{junction_list, junction, StateGrammar, Item, Entry, During, Exit, Outer, Inner}
-use Rattle.chart_grammar.specs.States.{Default, JunctionItem, StateItem, EventItem, VarItem, Seen, after_item}
-use Rattle.chart_grammar.specs.States.{counted_as, action_item, trans_item, junction_item, event_item, variable_item}
-use Rattle.chart_grammar.specs.States.{item_heads, chart_heads, item, chart_item, unexpected, beginning, items}
-use Rattle.chart_grammar.specs.States.{chart_items}
+use Rattle.chart_grammar.specs.States.{junction_list, junction, StateGrammar, Item, Entry, During, Exit, History}
+use Rattle.chart_grammar.specs.States.{Outer, Inner, Default, JunctionItem, StateItem, EventItem, VarItem, Seen}
+use Rattle.chart_grammar.specs.States.{after_item, counted_as, action_item, history_item, trans_item, junction_item}
+use Rattle.chart_grammar.specs.States.{event_item, variable_item, item_heads, chart_heads, item, chart_item}
+use Rattle.chart_grammar.specs.States.{unexpected, beginning, items, chart_items}
 use Rattle.chart_grammar.proofs.TransitionLaws.{good_junction_trans}
 use Rattle.chart_grammar.proofs.ItemLaws.{acted, good_next_item, good_next_chart_item}
 use Rattle.chart_grammar.proofs.LimitLaws.{Comparison, expected, item_alike}
@@ -79,6 +79,13 @@ module _ {k : ℕ} {l : Limits} (c : Comparison k l) where
       eased_then (eased_block c n) (λ found.
       eased_give (acted kind n found)))
 
+  eased_history_item : (n : Counts) → Eased (lifts_from k) (history_item n) (history_item n)
+  unfolding history_item
+  eased_history_item n =
+      eased_then (eased_token (expected c) kinds.History) (λ t.
+      eased_then (eased_token (expected c) kinds.Semicolon) (λ _.
+      eased_give (record { value = History t.at; counts = n })))
+
   lifted_trans_item : (keyword : Kind) (kind : Trans → Item) (n : Counts)
       → Lifted (lifts_from k) (trans_item usual keyword kind n) (trans_item l keyword kind n)
   unfolding trans_item
@@ -121,21 +128,23 @@ module _ {k : ℕ} {l : Limits} {state state' : StateGrammar} (c : Comparison k 
       lifted_either (is kinds.Entry) (eased_action_item c kinds.Entry Entry z.counts).lifted
       (lifted_either (is kinds.During) (eased_action_item c kinds.During During z.counts).lifted
       (lifted_either (is kinds.Exit) (eased_action_item c kinds.Exit Exit z.counts).lifted
+      (lifted_either (is kinds.History) (eased_history_item c z.counts).lifted
       (lifted_either (is kinds.Outer) (lifted_trans_item c kinds.Outer Outer z.counts)
       (lifted_either (is kinds.Inner) (lifted_trans_item c kinds.Inner Inner z.counts)
       (lifted_either (is kinds.Default) (lifted_trans_item c kinds.Default Default z.counts)
-      (lifted_either (is kinds.Junction) (lifted_junction_item c z.counts) (lifted_state_item z.counts)))))))
+      (lifted_either (is kinds.Junction) (lifted_junction_item c z.counts) (lifted_state_item z.counts))))))))
 
   lifted_chart_item : (z : Seen) → Lifted (lifts_from k) (chart_item usual state z) (chart_item l state' z)
   unfolding chart_item
   lifted_chart_item z =
       lifted_either (is kinds.Entry) (eased_action_item c kinds.Entry Entry z.counts).lifted
       (lifted_either (is kinds.During) (eased_action_item c kinds.During During z.counts).lifted
+      (lifted_either (is kinds.History) (eased_history_item c z.counts).lifted
       (lifted_either (is kinds.Inner) (lifted_trans_item c kinds.Inner Inner z.counts)
       (lifted_either (is kinds.Default) (lifted_trans_item c kinds.Default Default z.counts)
       (lifted_either (is kinds.Junction) (lifted_junction_item c z.counts)
       (lifted_either (is kinds.Event) (lifted_event_item c z.counts)
-      (lifted_either kind_heads (lifted_variable_item c z.counts) (lifted_state_item z.counts)))))))
+      (lifted_either kind_heads (lifted_variable_item c z.counts) (lifted_state_item z.counts))))))))
 
   pub eased_items : (z : Seen) → Eased (lifts_from k) (items usual state z) (items l state' z)
   unfolding items

@@ -3,6 +3,7 @@ use Rattle.std.specs.Prelude.{ℕ, zero, suc, Bool, true, false, not, ◌&&◌, 
 use Rattle.std.specs.Prelude.{if◌then◌else◌}
 use Rattle.token_grammar.specs.declared.token.Kind.{Kind}
 use Rattle.token_grammar.specs.declared.token.Kind.TheVariants as kinds
+use Rattle.token_grammar.specs.declared.token.Span.{Span}
 use Rattle.token_grammar.specs.declared.fault.Fault.{Fault}
 use Rattle.token_grammar.specs.declared.fault.Fault.TheVariants as faults
 use Rattle.token_grammar.specs.Token.{Lexeme}
@@ -59,6 +60,7 @@ pub data Item : Type 0 where
   Entry : List Stmt → Item
   During : List Stmt → Item
   Exit : List Stmt → Item
+  History : Span → Item
   Outer : Trans → Item
   Inner : Trans → Item
   Default : Trans → Item
@@ -67,16 +69,17 @@ pub data Item : Type 0 where
   EventItem : EventText → Item
   VarItem : Var → Item
 
--- which of the three actions there are so far, and how many things
+-- which of the three actions there are so far, whether there is the word `history`, and how many things
 pub record Seen : Type 0 where
   pub entry : Bool
   pub during : Bool
   pub exit : Bool
+  pub history : Bool
   pub counts : Counts
 
 -- nothing yet
 abbrev pub nothing_seen : Counts → Seen
-nothing_seen n = record { entry = false; during = false; exit = false; counts = n }
+nothing_seen n = record { entry = false; during = false; exit = false; history = false; counts = n }
 
 -- what is seen after an item
 abbrev pub after_item : Seen → Counted Item → Seen
@@ -84,6 +87,7 @@ after_item z x = elim x.value [
   | Entry block ↦ record z { entry = true; counts = x.counts }
   | During block ↦ record z { during = true; counts = x.counts }
   | Exit block ↦ record z { exit = true; counts = x.counts }
+  | History at ↦ record z { history = true; counts = x.counts }
   | Outer t ↦ record z { counts = x.counts }
   | Inner t ↦ record z { counts = x.counts }
   | Default t ↦ record z { counts = x.counts }
@@ -104,6 +108,13 @@ action_item l keyword item n = do
   token keyword
   found ← block l n
   give (record { value = item found; counts = after_stmts n found })
+
+-- 'history' ';', which counts as nothing
+unfoldable pub history_item : Counts → Grammar (Counted Item)
+history_item n = do
+  t ← token kinds.History
+  token kinds.Semicolon
+  give (record { value = History t.at; counts = n })
 
 -- a keyword, and a transition
 unfoldable pub trans_item : Limits → Kind → (Trans → Item) → Counts → Grammar (Counted Item)
@@ -129,44 +140,48 @@ variable_item l n = do
   found ← variable l n
   give (record { value = VarItem found; counts = after_variable n })
 
--- what a state may have after what was seen: each of the three actions at most once
+-- what a state may have after what was seen: each of the three actions and `history` at most once
 abbrev pub item_heads : Seen → Kind → Bool
 item_heads z k =
     (is kinds.Entry k && not z.entry) || ((is kinds.During k && not z.during)
-    || ((is kinds.Exit k && not z.exit) || (is kinds.Outer k || (is kinds.Inner k || (is kinds.Default k
-    || (is kinds.Junction k || is kinds.State k))))))
+    || ((is kinds.Exit k && not z.exit) || ((is kinds.History k && not z.history)
+    || (is kinds.Outer k || (is kinds.Inner k || (is kinds.Default k
+    || (is kinds.Junction k || is kinds.State k)))))))
 
 -- what the chart itself may have: no exit action and no outer transition, but declarations
 abbrev pub chart_heads : Seen → Kind → Bool
 chart_heads z k =
     (is kinds.Entry k && not z.entry) || ((is kinds.During k && not z.during)
+    || ((is kinds.History k && not z.history)
     || (is kinds.Inner k || (is kinds.Default k || (is kinds.Junction k || (is kinds.State k
-    || (is kinds.Event k || kind_heads k))))))
+    || (is kinds.Event k || kind_heads k)))))))
 
 -- item := ('entry' | 'during' | 'exit') block | ('outer' | 'inner' | 'default') trans
---     | junction | state
+--     | 'history' ';' | junction | state
 unfoldable pub item : Limits → StateGrammar → Seen → Grammar (Counted Item)
 item l state z =
     either (is kinds.Entry) (action_item l kinds.Entry Entry z.counts)
     (either (is kinds.During) (action_item l kinds.During During z.counts)
     (either (is kinds.Exit) (action_item l kinds.Exit Exit z.counts)
+    (either (is kinds.History) (history_item z.counts)
     (either (is kinds.Outer) (trans_item l kinds.Outer Outer z.counts)
     (either (is kinds.Inner) (trans_item l kinds.Inner Inner z.counts)
     (either (is kinds.Default) (trans_item l kinds.Default Default z.counts)
     (either (is kinds.Junction) (junction_item l z.counts)
-    (state z.counts >>= λ found. give (counted_as StateItem found))))))))
+    (state z.counts >>= λ found. give (counted_as StateItem found)))))))))
 
 -- the same in the chart, with declarations and without exit actions and outer transitions
 unfoldable pub chart_item : Limits → StateGrammar → Seen → Grammar (Counted Item)
 chart_item l state z =
     either (is kinds.Entry) (action_item l kinds.Entry Entry z.counts)
     (either (is kinds.During) (action_item l kinds.During During z.counts)
+    (either (is kinds.History) (history_item z.counts)
     (either (is kinds.Inner) (trans_item l kinds.Inner Inner z.counts)
     (either (is kinds.Default) (trans_item l kinds.Default Default z.counts)
     (either (is kinds.Junction) (junction_item l z.counts)
     (either (is kinds.Event) (event_item l z.counts)
     (either kind_heads (variable_item l z.counts)
-    (state z.counts >>= λ found. give (counted_as StateItem found))))))))
+    (state z.counts >>= λ found. give (counted_as StateItem found)))))))))
 
 -- a token of another kind isn't expected
 abbrev pub unexpected : (Kind → Bool) → Lexeme → Option Fault
@@ -210,6 +225,7 @@ no_items name comp = record {
     entry = [];
     during = [];
     exit = [];
+    history = None;
     outer = [];
     inner = [];
     default = [];
@@ -225,6 +241,7 @@ abbrev pub put : Item → Sorted → Sorted
 put (Entry block) s = record s { parts = record s.parts { entry = block } }
 put (During block) s = record s { parts = record s.parts { during = block } }
 put (Exit block) s = record s { parts = record s.parts { exit = block } }
+put (History at) s = record s { parts = record s.parts { history = Some at } }
 put (Outer t) s = record s { parts = record s.parts { outer = t ∷ s.parts.outer } }
 put (Inner t) s = record s { parts = record s.parts { inner = t ∷ s.parts.inner } }
 put (Default t) s = record s { parts = record s.parts { default = t ∷ s.parts.default } }

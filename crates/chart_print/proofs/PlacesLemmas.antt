@@ -4,6 +4,7 @@ use Rattle.std.proofs.Common.{◌≡◌, ℕ, ◌+◌, List, [], ◌∷◌, map,
 use Rattle.std.specs.List.{flat_map}
 use Rattle.std.specs.Option.{option_map}
 use Rattle.token_grammar.specs.declared.token.Kind.{Kind}
+use Rattle.token_grammar.specs.declared.token.Span.{Span}
 use Rattle.chart_tree.specs.declared.name.NameText.{NameText}
 use Rattle.chart_tree.specs.declared.sort.InitText.{InitText}
 use Rattle.chart_tree.specs.declared.sort.InitText.TheVariants as inits
@@ -18,13 +19,15 @@ use Rattle.chart_print.specs.Transitions.{target_pieces, stmt_pieces, block_stmt
 use Rattle.chart_print.specs.Transitions.{trigger_pieces, guard_pieces, condition_pieces, action_pieces, dest_pieces}
 use Rattle.chart_print.specs.Transitions.{arrow_pieces, trans_pieces}
 use Rattle.chart_print.specs.Declarations.{event_pieces, value_pieces, init_pieces, typed_pieces, var_pieces}
-use Rattle.chart_print.specs.Canonical.{head_pieces, head_line, action_line, trans_line, junction_trans_line}
-use Rattle.chart_print.specs.Canonical.{junction_pieces, actions_pieces, transitions_pieces, parts_pieces}
-use Rattle.chart_print.specs.Canonical.{state_pieces, states_pieces, event_line, var_line, chart_pieces, canonical}
+use Rattle.chart_print.specs.Canonical.{head_pieces, head_line, action_line, history_line, trans_line}
+use Rattle.chart_print.specs.Canonical.{junction_trans_line, junction_pieces, actions_pieces, transitions_pieces}
+use Rattle.chart_print.specs.Canonical.{parts_pieces, state_pieces, states_pieces, event_line, var_line, chart_pieces}
+use Rattle.chart_print.specs.Canonical.{canonical}
 use Rattle.chart_print.specs.Places.{unplaced_name, unplaced_path, unplaced_expr, unplaced_stmt, unplaced_block}
-use Rattle.chart_print.specs.Places.{unplaced_dest, unplaced_guard, unplaced_trans, unplaced_junction, unplaced_parts}
-use Rattle.chart_print.specs.Places.{unplaced_state, unplaced_states, unplaced_event, unplaced_init, unplaced_var}
-use Rattle.chart_print.specs.Places.{without_places, AreSameApartFromPlaces}
+use Rattle.chart_print.specs.Places.{unplaced_dest, unplaced_guard, unplaced_trans, unplaced_junction}
+use Rattle.chart_print.specs.Places.{unplaced_history, unplaced_parts, unplaced_state, unplaced_states}
+use Rattle.chart_print.specs.Places.{unplaced_event, unplaced_init, unplaced_var, without_places}
+use Rattle.chart_print.specs.Places.{AreSameApartFromPlaces}
 
 -- what a change of each item doesn't change, it doesn't change of the list
 flat_map-same : {X : Type 0} (f : X → List Piece) (change : X → X) → ((x : X) → f (change x) ≡ f x) → (xs : List X)
@@ -128,6 +131,12 @@ action_line-same : (level : ℕ) (keyword : Kind) (stmts : List Stmt)
 unfolding action_line
 action_line-same level keyword stmts = rw (block_pieces-same stmts) (unless_empty-same stmts _)
 
+history_line-same : (level : ℕ) (history : Option Span)
+    → history_line level (unplaced_history history) ≡ history_line level history
+unfolding history_line
+history_line-same level None = refl
+history_line-same level (Some at) = refl
+
 trans_line-same : (level : ℕ) (keyword : Kind) (trans : Trans)
     → trans_line level keyword (unplaced_trans trans) ≡ trans_line level keyword trans
 unfolding trans_line
@@ -158,6 +167,7 @@ parts_pieces-same level parts =
       action_line-same level _ parts.entry,
       action_line-same level _ parts.during,
       action_line-same level _ parts.exit,
+      history_line-same level parts.history,
       trans_lines-same level _ parts.default,
       trans_lines-same level _ parts.inner,
       trans_lines-same level _ parts.outer,

@@ -21,13 +21,14 @@ parts-seen : (s : StateText) → parts_in (state_of s) ≡ record {
   entry = block_of (items_of (out-StateText s).entry);
   during = block_of (items_of (out-StateText s).during);
   exit = block_of (items_of (out-StateText s).exit);
+  history = (out-StateText s).history;
   outer = map trans_of (items_of (out-StateText s).outer);
   inner = map trans_of (items_of (out-StateText s).inner);
   default = map trans_of (items_of (out-StateText s).default);
   junctions = map junction_of (items_of (out-StateText s).junctions);
 }
-parts-seen (StateText' name comp entry during exit outer inner default junctions shape states) =
-    rw (outs-StateText' name comp entry during exit outer inner default junctions shape states) refl
+parts-seen (StateText' name comp entry during exit history outer inner default junctions shape states) =
+    rw (outs-StateText' name comp entry during exit history outer inner default junctions shape states) refl
 
 -- the same, one by one
 pub name-seen : (s : StateText) → (parts_in (state_of s)).name ≡ (out-StateText s).name
@@ -44,6 +45,9 @@ during-seen s = ap (λ (p : Parts). p.during) (parts-seen s)
 
 pub exit-seen : (s : StateText) → (parts_in (state_of s)).exit ≡ block_of (items_of (out-StateText s).exit)
 exit-seen s = ap (λ (p : Parts). p.exit) (parts-seen s)
+
+pub history-seen : (s : StateText) → (parts_in (state_of s)).history ≡ (out-StateText s).history
+history-seen s = ap (λ (p : Parts). p.history) (parts-seen s)
 
 pub outer-seen : (s : StateText) → (parts_in (state_of s)).outer ≡ map trans_of (items_of (out-StateText s).outer)
 outer-seen s = ap (λ (p : Parts). p.outer) (parts-seen s)
@@ -70,8 +74,11 @@ states-row level _ (more_of-StateText {n = n} state others) =
 pub states-seen : (level : ℕ) (s : StateText)
     → states_pieces level (states_in (state_of s)) ≡ flat_map (state_pieces level)
     (map state_of (items_of (out-StateText s).states))
-states-seen level (StateText' name comp entry during exit outer inner default junctions shape states) =
-    rw (outs-StateText' name comp entry during exit outer inner default junctions shape states, items_shown-the_row-StateText-0 shape states)
+states-seen level (StateText' name comp entry during exit history outer inner default junctions shape states) =
+    rw (
+      outs-StateText' name comp entry during exit history outer inner default junctions shape states,
+      items_shown-the_row-StateText-0 shape states,
+    )
     (states-row level _ states)
 
 -- a state, part by part
@@ -82,8 +89,18 @@ unfolding state_pieces
 state_pieces-parts level (StateOf parts states) = refl
 
 -- the parts of a state as the code has them
-pub ruleset fields =
-    (name-seen, comp-seen, entry-seen, during-seen, exit-seen, outer-seen, inner-seen, default-seen, junctions-seen)
+pub ruleset fields = (
+  name-seen,
+  comp-seen,
+  entry-seen,
+  during-seen,
+  exit-seen,
+  history-seen,
+  outer-seen,
+  inner-seen,
+  default-seen,
+  junctions-seen,
+)
 
 -- what is written of a state
 pub ruleset seen = (printed, fields, states-seen, state_pieces-parts)

@@ -1,8 +1,9 @@
 -- The canonical text of a chart: each item on a line of its own, two spaces deeper at each level.
-use Rattle.std.specs.Prelude.{ℕ, ◌+◌, List, [], ◌++◌}
+use Rattle.std.specs.Prelude.{ℕ, ◌+◌, List, [], ◌++◌, Option, Some, None}
 use Rattle.std.specs.List.{flat_map}
 use Rattle.token_grammar.specs.declared.token.Kind.{Kind}
 use Rattle.token_grammar.specs.declared.token.Kind.TheVariants as kinds
+use Rattle.token_grammar.specs.declared.token.Span.{Span}
 use Rattle.chart_tree.specs.declared.name.NameText.{NameText}
 use Rattle.chart_tree.specs.declared.chart.EventText.{EventText}
 use Rattle.chart_tree.specs.declared.state.CompText.{CompText}
@@ -20,6 +21,11 @@ use Rattle.chart_print.specs.Declarations.{event_pieces, var_pieces}
 unfoldable pub action_line : ℕ → Kind → List Stmt → List Piece
 action_line level keyword stmts =
     unless_empty stmts (line level (key keyword ++ space ++ block_pieces stmts))
+
+-- the line of the word `history`, where that stands
+unfoldable pub history_line : ℕ → Option Span → List Piece
+history_line level None = []
+history_line level (Some at) = line level (key kinds.History ++ key kinds.Semicolon)
 
 -- a line of a keyword and a transition
 unfoldable pub trans_line : ℕ → Kind → Trans → List Piece
@@ -75,6 +81,7 @@ transitions_pieces level parts =
 unfoldable pub parts_pieces : ℕ → Parts → List Piece
 parts_pieces level parts =
     actions_pieces level parts
+    ++ history_line level parts.history
     ++ transitions_pieces level parts
     ++ flat_map (junction_pieces level) parts.junctions
 

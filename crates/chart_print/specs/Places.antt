@@ -1,5 +1,5 @@
 -- Charts without the places of their parts.
-use Rattle.std.specs.Prelude.{◌≡◌, List, map}
+use Rattle.std.specs.Prelude.{◌≡◌, List, map, Option}
 use Rattle.std.specs.Option.{option_map}
 use Rattle.token_grammar.specs.declared.token.Span.{Span}
 use Rattle.chart_tree.specs.declared.name.NameText.{NameText}
@@ -68,6 +68,10 @@ unplaced_junction junction = record {
   list = map unplaced_trans junction.list;
 }
 
+-- the word `history`
+abbrev pub unplaced_history : Option Span → Option Span
+unplaced_history history = option_map (λ at. nowhere) history
+
 -- what a state has beside its child states
 abbrev pub unplaced_parts : Parts → Parts
 unplaced_parts parts = record {
@@ -76,6 +80,7 @@ unplaced_parts parts = record {
   entry = unplaced_block parts.entry;
   during = unplaced_block parts.during;
   exit = unplaced_block parts.exit;
+  history = unplaced_history parts.history;
   outer = map unplaced_trans parts.outer;
   inner = map unplaced_trans parts.inner;
   default = map unplaced_trans parts.default;

@@ -9,7 +9,7 @@ ghost use Rattle.chart_print.specs.Canonical as spec;
 use crate::printer::{Printer, deeper};
 use chart_tree::{CompText, JunctionText, NameText, StateText, StmtText, TransText};
 use std::alloc::AllocError;
-use token_grammar::Kind;
+use token_grammar::{Kind, Span};
 
 impl Printer {
     /// Appends the line of an action, unless its block is empty.
@@ -31,6 +31,22 @@ impl Printer {
         self.space()?;
         self.block(stmts)?;
         self.newline()
+    }
+
+    /// Appends the line of the word `history`, where that stands.
+    #[tactic(auto, using(crate::proofs::Written::printed), unfolding(crate::specs::Canonical::history_line, crate::specs::Pieces::line))]
+    fn history_line(&mut self, level: usize, history: Option<Span>) -> Result<(), AllocError>
+        ensures { OnOk result (self.new ≡ written self.old (spec.history_line level history)) }
+    {
+        match history {
+            None => Ok(()),
+            Some(_) => {
+                self.indent(level)?;
+                self.key(Kind::History)?;
+                self.key(Kind::Semicolon)?;
+                self.newline()
+            }
+        }
     }
 
     /// Appends a line for each transition.
@@ -179,6 +195,7 @@ impl Printer {
             (spec.parts_pieces level (spec.parts_in (views.state_of state.now)))) }
     {
         self.actions(level, state)?;
+        self.history_line(level, state.history)?;
         self.transitions(level, state)?;
         self.junctions(level, state.junctions.items())
     }

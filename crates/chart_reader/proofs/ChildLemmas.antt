@@ -23,6 +23,7 @@ pub rolled : (x : StateText-F StateText) → state_of (roll-StateText x) ≡ Sta
   entry = block_of (items_of x.entry);
   during = block_of (items_of x.during);
   exit = block_of (items_of x.exit);
+  history = x.history;
   outer = map trans_of (items_of x.outer);
   inner = map trans_of (items_of x.inner);
   default = map trans_of (items_of x.default);

@@ -1,4 +1,4 @@
--- What begins the items that are no actions.
+-- What begins the items that are neither actions nor `history`.
 use Rattle.std.specs.Prelude.{Bool, ◌||◌}
 use Rattle.token_grammar.specs.declared.token.Kind.{Kind}
 use Rattle.token_grammar.specs.declared.token.Kind.TheVariants as kinds

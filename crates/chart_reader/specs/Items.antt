@@ -21,6 +21,7 @@ abbrev pub item_of : Item → grammar.Item
 item_of (items.Entry block) = grammar.Entry (block_of (items_of block))
 item_of (items.During block) = grammar.During (block_of (items_of block))
 item_of (items.Exit block) = grammar.Exit (block_of (items_of block))
+item_of (items.History at) = grammar.History at
 item_of (items.Outer t) = grammar.Outer (trans_of t)
 item_of (items.Inner t) = grammar.Inner (trans_of t)
 item_of (items.Default t) = grammar.Default (trans_of t)
@@ -29,9 +30,15 @@ item_of (items.State s) = grammar.StateItem (state_of s)
 item_of (items.Event e) = grammar.EventItem e
 item_of (items.Var v) = grammar.VarItem (var_of v)
 
--- which actions were seen, and how many things there are
+-- which actions were seen, whether `history` was, and how many things there are
 abbrev pub seen_of : Seen → Counts → grammar.Seen
-seen_of seen n = record { entry = seen.entry; during = seen.during; exit = seen.exit; counts = n }
+seen_of seen n = record {
+  entry = seen.entry;
+  during = seen.during;
+  exit = seen.exit;
+  history = seen.history;
+  counts = n;
+}
 
 -- child states of the code, in order
 abbrev pub children_of : List StateText → States
@@ -47,6 +54,7 @@ sorted_of l = record {
     entry = block_of (items_of l.entry);
     during = block_of (items_of l.during);
     exit = block_of (items_of l.exit);
+    history = l.history;
     outer = map trans_of (reverse l.outer.items);
     inner = map trans_of (reverse l.inner.items);
     default = map trans_of (reverse l.default.items);

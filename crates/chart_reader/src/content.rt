@@ -8,7 +8,7 @@ ghost use Rattle.chart_reader.specs.Items.{item_of, seen_of};
 use crate::group::Group;
 use chart_tree::{EventText, JunctionText, StateText, StmtText, TransText, VarText};
 use flow_base::List;
-use token_grammar::Kind;
+use token_grammar::{Kind, Span};
 
 /// What may stand in a state or the chart.
 #[derive(Drop)]
@@ -19,6 +19,8 @@ pub(crate) enum Item {
     During(List<StmtText>),
     /// `exit` and its block.
     Exit(List<StmtText>),
+    /// The word `history`, by its place.
+    History(Span),
     /// An outer transition.
     Outer(TransText),
     /// An inner transition.
@@ -35,12 +37,13 @@ pub(crate) enum Item {
     Var(VarText),
 }
 
-/// Which of the three actions there are so far.
+/// Which of the three actions there are so far, and whether there is the word `history`.
 #[derive(Clone, Copy)]
 pub(crate) struct Seen {
     pub entry: bool,
     pub during: bool,
     pub exit: bool,
+    pub history: bool,
 }
 
 impl Seen {
@@ -52,10 +55,11 @@ impl Seen {
             entry: false,
             during: false,
             exit: false,
+            history: false,
         }
     }
 
-    /// Those, and the action that the item is.
+    /// Those, and the item, where it is an action or `history`.
     pub fn after(self, item: &Item) -> Seen
         ensures { (n m : limits.Counts) → seen_of result m
             ≡ states.after_item (seen_of self n) (record { value = item_of item.now; counts = m }) }
@@ -70,6 +74,10 @@ impl Seen {
                 ..self
             },
             Item::Exit(_) => Seen { exit: true, ..self },
+            Item::History(_) => Seen {
+                history: true,
+                ..self
+            },
             _ => self,
         }
     }
@@ -87,6 +95,9 @@ impl Seen {
         if kind == Kind::Exit {
             return !self.exit;
         }
+        if kind == Kind::History {
+            return !self.history;
+        }
         begins_in_state(kind)
     }
 
@@ -100,11 +111,14 @@ impl Seen {
         if kind == Kind::During {
             return !self.during;
         }
+        if kind == Kind::History {
+            return !self.history;
+        }
         begins_in_chart(kind)
     }
 }
 
-/// Whether an item of a state that is no action begins so.
+/// Whether an item of a state that is no action and not `history` begins so.
 fn begins_in_state(kind: Kind) -> bool
     ensures { result ≡ in_state_heads kind }
 {
@@ -115,7 +129,7 @@ fn begins_in_state(kind: Kind) -> bool
         || kind == Kind::State
 }
 
-/// Whether a declaration or an item of the chart that is no action begins so.
+/// Whether a declaration begins so, or an item of the chart that is no action and not `history`.
 fn begins_in_chart(kind: Kind) -> bool
     ensures { result ≡ in_chart_heads kind }
 {

@@ -15,7 +15,7 @@ use crate::group::Group;
 use crate::reader::Reader;
 use chart_tree::{JunctionText, STATE_DEPTH_LIMIT, StmtText, TransText};
 use flow_base::List;
-use token_grammar::{Kind, ReadError};
+use token_grammar::{Kind, ReadError, Span};
 
 impl<'t, 'a> Reader<'t, 'a> {
     /// The transitions of a junction.
@@ -71,6 +71,20 @@ impl<'t, 'a> Reader<'t, 'a> {
         Ok(block)
     }
 
+    /// The word `history` and its semicolon.
+    #[tactic(auto, unfolding(chart_grammar::specs::States::history_item))]
+    fn history(&mut self) -> Result<Span, ReadError>
+        ensures { Gives
+            (λ at. record { value = states.History at; counts = counts_of self.new.counts })
+            result (lexemes self.new.rest.now)
+            ((states.history_item (counts_of self.old.counts)).reads
+            (lexemes self.old.rest.now)) }
+    {
+        let at = self.token(Kind::History)?.at;
+        self.token(Kind::Semicolon)?;
+        Ok(at)
+    }
+
     /// Whether an item of a state is at hand, after those that were seen.
     fn is_at_item(&self, seen: Seen) -> bool
         ensures { result ≡ heads (states.item_heads (seen_of seen (counts_of self.now.counts)))
@@ -109,6 +123,8 @@ impl<'t, 'a> Reader<'t, 'a> {
             Ok(Item::During(self.keyword_block(Kind::During)?))
         } else if self.is_at(Kind::Exit) {
             Ok(Item::Exit(self.keyword_block(Kind::Exit)?))
+        } else if self.is_at(Kind::History) {
+            Ok(Item::History(self.history()?))
         } else if self.is_at(Kind::Outer) {
             Ok(Item::Outer(self.keyword_trans(Kind::Outer)?))
         } else if self.is_at(Kind::Inner) {
@@ -156,6 +172,8 @@ impl<'t, 'a> Reader<'t, 'a> {
             Ok(Item::Entry(self.keyword_block(Kind::Entry)?))
         } else if self.is_at(Kind::During) {
             Ok(Item::During(self.keyword_block(Kind::During)?))
+        } else if self.is_at(Kind::History) {
+            Ok(Item::History(self.history()?))
         } else if self.is_at(Kind::Inner) {
             Ok(Item::Inner(self.keyword_trans(Kind::Inner)?))
         } else if self.is_at(Kind::Default) {

@@ -11,6 +11,7 @@ use chart_tree::{
 };
 use flow_base::List;
 use std::alloc::{AllocError, Global};
+use token_grammar::Span;
 
 /// The items of a state, each list with its last item first.
 #[derive(Drop)]
@@ -20,6 +21,7 @@ pub(crate) struct Lists {
     pub entry: List<StmtText>,
     pub during: List<StmtText>,
     pub exit: List<StmtText>,
+    pub history: Option<Span>,
     pub outer: Vec<TransText>,
     pub inner: Vec<TransText>,
     pub default: Vec<TransText>,
@@ -54,6 +56,7 @@ impl Lists {
             entry: List::of(Vec::new(alloc)),
             during: List::of(Vec::new(alloc)),
             exit: List::of(Vec::new(alloc)),
+            history: None,
             outer: Vec::new(alloc),
             inner: Vec::new(alloc),
             default: Vec::new(alloc),
@@ -73,6 +76,7 @@ impl Lists {
             Item::Entry(block) => self.entry = block,
             Item::During(block) => self.during = block,
             Item::Exit(block) => self.exit = block,
+            Item::History(at) => self.history = Some(at),
             Item::Outer(trans) => self.outer.push(trans)?,
             Item::Inner(trans) => self.inner.push(trans)?,
             Item::Default(trans) => self.default.push(trans)?,
@@ -121,6 +125,7 @@ impl Lists {
             entry: lists.entry,
             during: lists.during,
             exit: lists.exit,
+            history: lists.history,
             outer: List::of(lists.outer),
             inner: List::of(lists.inner),
             default: List::of(lists.default),

@@ -85,16 +85,16 @@ fn as_many_as_may_be_are_read_and_one_more_is_refused(rt: HostRuntime) -> Result
         (
             "chart C {\n",
             "local n : bool;\n",
-            512,
+            1_024,
             "}",
-            "chart 514:1: 8 TooMany variables",
+            "chart 1026:1: 8 TooMany variables",
         ),
         (
             "chart C {\n",
             "event input E;\n",
-            512,
+            1_024,
             "}",
-            "chart 514:1: 8 TooMany events",
+            "chart 1026:1: 8 TooMany events",
         ),
         (
             "chart C { entry {\n",

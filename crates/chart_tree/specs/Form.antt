@@ -26,6 +26,23 @@ form_number forms.LiteralNotBinary = 5
 form_number forms.TextTooLong = 6
 form_number forms.NestTooDeep = 7
 form_number (forms.TooMany thing) = 8
+form_number forms.NameTwice = 9
+form_number forms.UnknownName = 10
+form_number forms.WrongKind = 11
+form_number forms.TypeClash = 12
+form_number forms.TooWide = 13
+form_number forms.AssignsInput = 14
+form_number forms.EventKind = 15
+form_number forms.InitRange = 16
+form_number forms.EmptyComposition = 17
+form_number forms.DefaultMissing = 18
+form_number forms.DefaultUnwanted = 19
+form_number forms.DefaultOpen = 20
+form_number forms.DefaultLeaves = 21
+form_number forms.InnerLeaves = 22
+form_number forms.CrossesRegions = 23
+form_number forms.TooManyPairs = 24
+form_number forms.HistoryUnwanted = 26
 form_number forms.NotBuilt = 25
 
 -- its name
@@ -45,6 +62,23 @@ form_name (forms.TooMany things.Events) = codes "TooMany events"
 form_name (forms.TooMany things.Statements) = codes "TooMany statements"
 form_name (forms.TooMany things.Operators) = codes "TooMany operators"
 form_name (forms.TooMany things.Items) = codes "TooMany items"
+form_name forms.NameTwice = codes "NameTwice"
+form_name forms.UnknownName = codes "UnknownName"
+form_name forms.WrongKind = codes "WrongKind"
+form_name forms.TypeClash = codes "TypeClash"
+form_name forms.TooWide = codes "TooWide"
+form_name forms.AssignsInput = codes "AssignsInput"
+form_name forms.EventKind = codes "EventKind"
+form_name forms.InitRange = codes "InitRange"
+form_name forms.EmptyComposition = codes "EmptyComposition"
+form_name forms.DefaultMissing = codes "DefaultMissing"
+form_name forms.DefaultUnwanted = codes "DefaultUnwanted"
+form_name forms.DefaultOpen = codes "DefaultOpen"
+form_name forms.DefaultLeaves = codes "DefaultLeaves"
+form_name forms.InnerLeaves = codes "InnerLeaves"
+form_name forms.CrossesRegions = codes "CrossesRegions"
+form_name forms.TooManyPairs = codes "TooManyPairs"
+form_name forms.HistoryUnwanted = codes "HistoryUnwanted"
 form_name forms.NotBuilt = codes "NotBuilt"
 
 -- a text that is too long is refused at its first byte, before all else

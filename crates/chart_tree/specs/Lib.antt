@@ -1,3 +1,4 @@
+pub mod First
 pub mod Form
 pub mod Trees
 pub mod Views

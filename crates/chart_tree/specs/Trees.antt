@@ -72,13 +72,14 @@ pub record Junction : Type 0 where
   pub name : NameText
   pub list : List Trans
 
--- what a state has beside its child states
+-- what a state has beside its child states, with the place of the word `history` where that stands
 pub record Parts : Type 0 where
   pub name : NameText
   pub comp : CompText
   pub entry : List Stmt
   pub during : List Stmt
   pub exit : List Stmt
+  pub history : Option Span
   pub outer : List Trans
   pub inner : List Trans
   pub default : List Trans

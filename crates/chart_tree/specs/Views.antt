@@ -1,8 +1,7 @@
 -- Trees of the code as contracts see them.
-use Rattle.std.specs.Prelude.{List, map, Option, Some, None}
+use Rattle.std.specs.Prelude.{List, map}
 use Rattle.std.specs.Option.{option_map}
 use Rattle.flow_base.specs.Lists.{items_of}
-use Rattle.chart_tree.specs.declared.name.NameText.{NameText}
 use Rattle.chart_tree.specs.declared.name.PathText.{PathText}
 use Rattle.chart_tree.specs.declared.sort.SortText.{SortText}
 use Rattle.chart_tree.specs.declared.sort.SortText.TheVariants as sorts
@@ -19,7 +18,7 @@ use Rattle.chart_tree.specs.declared.state.TransText.{TransText}
 use Rattle.chart_tree.specs.declared.state.JunctionText.{JunctionText}
 use Rattle.chart_tree.specs.declared.state.StateText.{StateText, StateText', Row_of-StateText, end_of-StateText, more_of-StateText}
 use Rattle.chart_tree.specs.declared.chart.ChartText.{ChartText}
-use Rattle.chart_tree.specs.Trees.{ScaleParts, Sort, FlagSort, NumberSort, Var, Path, Expr, Lit, Flag, Name, Active, Unary, Binary, Stmt, Assign, Send, Emit, Dest, ToState, ToJunction, Guard, Trans, Junction, Parts, State, StateOf, States, NoState, MoreStates, Chart}
+use Rattle.chart_tree.specs.Trees.{ScaleParts, Sort, FlagSort, NumberSort, Var, Path, Expr, Lit, Flag, Name, Active, Unary, Binary, Stmt, Assign, Send, Emit, Dest, ToState, ToJunction, Guard, Trans, Junction, State, StateOf, States, NoState, MoreStates, Chart}
 
 -- the parts of a scale
 abbrev pub parts_of : Scale → ScaleParts
@@ -84,13 +83,14 @@ junction_of j = record { name = j.name; list = map trans_of (items_of j.list) }
 abbrev mutual
   -- a state of the code
   pub state_of : StateText → State
-  state_of (StateText' name comp entry during exit outer inner default junctions shape states) =
+  state_of (StateText' name comp entry during exit history outer inner default junctions shape states) =
       StateOf (record {
         name = name;
         comp = comp;
         entry = block_of (items_of entry);
         during = block_of (items_of during);
         exit = block_of (items_of exit);
+        history = history;
         outer = map trans_of (items_of outer);
         inner = map trans_of (items_of inner);
         default = map trans_of (items_of default);

@@ -27,6 +27,43 @@ pub enum FormKind {
     NestTooDeep,
     /// One more of these than there may be.
     TooMany(Thing),
+    /// An earlier event or datum, an earlier sibling state, or an earlier junction of the same state
+    /// has this name.
+    NameTwice,
+    /// There is no such datum, event, junction or state.
+    UnknownName,
+    /// A datum where an event is wanted, or the reverse.
+    WrongKind,
+    /// Operands that don't match the operator, a guard that isn't a flag, or a value of the other sort.
+    TypeClash,
+    /// An expression of over 100 bits, or of over 64 bits after the point.
+    TooWide,
+    /// An assignment to an input.
+    AssignsInput,
+    /// A trigger that is an output event, a `send` of an event that isn't local, or an `emit` of one
+    /// that isn't output.
+    EventKind,
+    /// A first number that isn't a value of the type.
+    InitRange,
+    /// A composition word without child states, or a chart without states.
+    EmptyComposition,
+    /// An OR with child states and without default transitions.
+    DefaultMissing,
+    /// Default transitions in an AND or a leaf.
+    DefaultUnwanted,
+    /// A default list, or a junction reached from one, doesn't end in a transition without event and
+    /// guard.
+    DefaultOpen,
+    /// From a default list a state is reached that isn't below its state.
+    DefaultLeaves,
+    /// From an inner list a state is reached that is neither its state nor below it.
+    InnerLeaves,
+    /// From an outer or inner list a state is reached whose home isn't an OR.
+    CrossesRegions,
+    /// Over 32,768 pairs of a list and a transition that stands in it or in a junction reached from it.
+    TooManyPairs,
+    /// The word `history` in an AND or a leaf.
+    HistoryUnwanted,
     /// A token, a byte or a name that no flat chart has there.
     NotBuilt,
 }
@@ -58,6 +95,23 @@ impl FormKind {
             FormKind::TextTooLong => 6,
             FormKind::NestTooDeep => 7,
             FormKind::TooMany(_) => 8,
+            FormKind::NameTwice => 9,
+            FormKind::UnknownName => 10,
+            FormKind::WrongKind => 11,
+            FormKind::TypeClash => 12,
+            FormKind::TooWide => 13,
+            FormKind::AssignsInput => 14,
+            FormKind::EventKind => 15,
+            FormKind::InitRange => 16,
+            FormKind::EmptyComposition => 17,
+            FormKind::DefaultMissing => 18,
+            FormKind::DefaultUnwanted => 19,
+            FormKind::DefaultOpen => 20,
+            FormKind::DefaultLeaves => 21,
+            FormKind::InnerLeaves => 22,
+            FormKind::CrossesRegions => 23,
+            FormKind::TooManyPairs => 24,
+            FormKind::HistoryUnwanted => 26,
             FormKind::NotBuilt => 25,
         }
     }
@@ -82,6 +136,23 @@ impl FormKind {
             FormKind::TooMany(Thing::Statements) => "TooMany statements",
             FormKind::TooMany(Thing::Operators) => "TooMany operators",
             FormKind::TooMany(Thing::Items) => "TooMany items",
+            FormKind::NameTwice => "NameTwice",
+            FormKind::UnknownName => "UnknownName",
+            FormKind::WrongKind => "WrongKind",
+            FormKind::TypeClash => "TypeClash",
+            FormKind::TooWide => "TooWide",
+            FormKind::AssignsInput => "AssignsInput",
+            FormKind::EventKind => "EventKind",
+            FormKind::InitRange => "InitRange",
+            FormKind::EmptyComposition => "EmptyComposition",
+            FormKind::DefaultMissing => "DefaultMissing",
+            FormKind::DefaultUnwanted => "DefaultUnwanted",
+            FormKind::DefaultOpen => "DefaultOpen",
+            FormKind::DefaultLeaves => "DefaultLeaves",
+            FormKind::InnerLeaves => "InnerLeaves",
+            FormKind::CrossesRegions => "CrossesRegions",
+            FormKind::TooManyPairs => "TooManyPairs",
+            FormKind::HistoryUnwanted => "HistoryUnwanted",
             FormKind::NotBuilt => "NotBuilt",
         }
     }

@@ -6,6 +6,7 @@
 mod chart;
 mod expr;
 mod fault;
+mod first;
 mod limits;
 mod name;
 mod sort;
@@ -14,6 +15,7 @@ mod state;
 pub use chart::{ChartText, EventText, EventWord, VarText, VarWord};
 pub use expr::{BinWord, ExprText, UnWord};
 pub use fault::{FormFault, FormKind};
+pub use first::{Found, keep};
 pub use limits::{
     CHART_TEXT_LIMIT, EVENT_LIMIT, ITEM_LIMIT, JUNCTION_LIMIT, OPERATOR_LIMIT, STATE_DEPTH_LIMIT,
     STATE_LIMIT, STATEMENT_LIMIT, TRANSITION_LIMIT, VARIABLE_LIMIT,

@@ -16,10 +16,10 @@ pub const JUNCTION_LIMIT: u32 = 4_096;
 pub const TRANSITION_LIMIT: u32 = 8_192;
 
 /// The greatest number of data in a chart.
-pub const VARIABLE_LIMIT: u32 = 512;
+pub const VARIABLE_LIMIT: u32 = 1_024;
 
 /// The greatest number of events in a chart.
-pub const EVENT_LIMIT: u32 = 512;
+pub const EVENT_LIMIT: u32 = 1_024;
 
 /// The greatest number of statements in a block.
 pub const STATEMENT_LIMIT: u32 = 256;

@@ -83,6 +83,8 @@ pub struct StateText {
     pub during: List<StmtText>,
     /// Its exit action.
     pub exit: List<StmtText>,
+    /// The place of the word `history`, where it stands.
+    pub history: Option<Span>,
     /// Its outer transitions.
     pub outer: List<TransText>,
     /// Its inner transitions.

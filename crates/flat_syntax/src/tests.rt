@@ -60,6 +60,7 @@ fn refuses_tokens(rt: HostRuntime) -> Result<(), Fail> {
         ("chart Lamp or {\n", "2:1: 3 Expected"),
         ("chart Lamp and { }", "1:12: 25 NotBuilt"),
         ("chart Lamp or { // x\n", "1:17: 25 NotBuilt"),
+        ("chart Lamp or { history; }", "1:17: 25 NotBuilt"),
         ("chart Lamp or {\n  #", "2:3: 25 NotBuilt"),
         ("chart C or { default -> A; }", "1:28: 25 NotBuilt"),
         (

@@ -2,7 +2,7 @@
 #![tactic(auto)]
 
 use chart_command::chart_main;
-use flow_base::{RealInputs, RealSink, Status};
+use flow_base::{RealInputs, RealSink, Status, write_all};
 use std::process::ExitCode;
 use std::{env, io};
 
@@ -10,9 +10,10 @@ fn main(rt: HostRuntime) -> ExitCode {
     match words(&rt) {
         Ok(words) => ExitCode::from(run(&rt, &words).code()),
         Err(error) if error.kind() == io::ErrorKind::OutOfMemory => {
+            let _ = write_all(&mut RealSink::new(rt.stderr()), b"out of memory\n");
             ExitCode::from(Status::Memory.code())
         }
-        // Words that are no text are none of the program's.
+        // Words that are no text name no command.
         Err(_) => ExitCode::from(run(&rt, &[]).code()),
     }
 }

@@ -1,0 +1,81 @@
+-- Keeping the first of several faults.
+use Rattle.std.proofs.Common.{◌≡◌, ℕ, ◌<◌, Bool, true, false, Option, Some, None, refl, arith, inl, inr, ⊎_elim, cond}
+use Rattle.std.specs.Prelude.{◌⊎◌}
+use Rattle.std.proofs.lemmas.Bool.Decides.{nat_tests}
+use Rattle.chart_tree.specs.Form.{form_number}
+use Rattle.chart_tree.specs.declared.first.Found.{Found}
+use Rattle.chart_tree.specs.First.{comes_before, is_before, kept, earlier_of, IsFirst, IsOne, Passed}
+
+-- (a, b, c) comes before (x, y, z)
+Before : ℕ → ℕ → ℕ → ℕ → ℕ → ℕ → Type 0
+Before a b c x y z = (a < x) ⊎ ((a ≡ x) × ((b < y) ⊎ ((b ≡ y) × (c < z))))
+
+comes_before-irreflexive : (a b c : ℕ) → comes_before a b c a b c ≡ false
+unfolding comes_before
+comes_before-irreflexive a b c = grind (arith, nat_tests)
+
+-- what isn't before the old one isn't before one that is
+comes_before-through : (a b c x y z u v w : ℕ) → comes_before a b c x y z ≡ false → comes_before u v w x y z ≡ true → comes_before a b c u v w ≡ false
+unfolding comes_before
+comes_before-through a b c x y z u v w p q = grind (arith, nat_tests)
+
+kept_at : Found → Found → Bool → Option Found
+kept_at f g b = cond b (Some g) (Some f)
+
+pub kept_one : (F : Found → Type 0) (o : Option Found) (g : Found) → IsOne F o → F g → IsOne F (kept o g)
+unfolding kept
+kept_one F None g a b = b
+kept_one F (Some f) g a b = go (is_before g f)
+  where
+    go : (t : Bool) → IsOne F (cond t (Some g) (Some f))
+    go true = b
+    go false = a
+
+pub kept_new : (o : Option Found) (g : Found) → Passed (kept o g) g
+unfolding kept
+kept_new None g = comes_before-irreflexive g.at.line g.at.column (form_number g.kind)
+kept_new (Some f) g = go (is_before g f) refl
+  where
+    go : (t : Bool) → is_before g f ≡ t → Passed (cond t (Some g) (Some f)) g
+    go true e = comes_before-irreflexive g.at.line g.at.column (form_number g.kind)
+    go false e = e
+
+pub kept_old : (o : Option Found) (g h : Found) → Passed o h → Passed (kept o g) h
+unfolding kept
+kept_old None g h a = absurd a
+kept_old (Some f) g h a = go (is_before g f) refl
+  where
+    go : (t : Bool) → is_before g f ≡ t → Passed (cond t (Some g) (Some f)) h
+    go true e = comes_before-through _ _ _ f.at.line f.at.column (form_number f.kind) _ _ _ a e
+    go false e = a
+
+-- where each fault was passed, what was kept is the first
+pub first_of_passed : (F : Found → Type 0) (o : Option Found) → IsOne F o → ((f : Found) → F f → Passed o f) → IsFirst F o
+first_of_passed F None a b = b
+first_of_passed F (Some g) a b = (a, b)
+
+pub not_before_itself : (f : Found) → is_before f f ≡ false
+not_before_itself f = comes_before-irreflexive f.at.line f.at.column (form_number f.kind)
+
+-- ---- the first of several sets
+
+comes_before-after : (a b c x y z u v w : ℕ) → comes_before a b c u v w ≡ false → comes_before u v w x y z ≡ false → comes_before a b c x y z ≡ false
+unfolding comes_before
+comes_before-after a b c x y z u v w p q = grind (arith, nat_tests)
+
+-- the first of two sets is the earlier of their first ones
+pub first_union : (F G : Found → Type 0) (a b : Option Found) → IsFirst F a → IsFirst G b → IsFirst (λ f. F f ⊎ G f) (earlier_of a b)
+unfolding kept
+first_union F G None None p q = λ f h. ⊎_elim (p f) (q f) h
+first_union F G (Some x) None p q = (inl p.0, λ f h. ⊎_elim (p.1 f) (λ y. absurd (q f y)) h)
+first_union F G None (Some g) p q = (inr q.0, λ f h. ⊎_elim (λ x. absurd (p f x)) (q.1 f) h)
+first_union F G (Some x) (Some g) p q = go (is_before g x) refl
+  where
+    go : (t : Bool) → is_before g x ≡ t → IsFirst (λ f. F f ⊎ G f) (cond t (Some g) (Some x))
+    go true e = (inr q.0, λ f h. ⊎_elim (λ y. comes_before-through _ _ _ x.at.line x.at.column (form_number x.kind) _ _ _ (p.1 f y) e) (q.1 f) h)
+    go false e = (inl p.0, λ f h. ⊎_elim (p.1 f) (λ y. comes_before-after _ _ _ _ _ _ g.at.line g.at.column (form_number g.kind) (q.1 f y) e) h)
+
+-- sets with the same faults have the same first one
+pub first_same : (F G : Found → Type 0) (o : Option Found) → ((f : Found) → F f → G f) → ((f : Found) → G f → F f) → IsFirst F o → IsFirst G o
+first_same F G None to from p = λ f h. p f (from f h)
+first_same F G (Some g) to from p = (to g p.0, λ f h. p.1 f (from f h))

@@ -51,7 +51,8 @@ leads_back list j h =
 leads_on : (list : List Trans) (j : ℕ) → chart_reached.LeadsTo list j → LeadsTo (map arrow_of_trans list) j
 leads_on list j h =
     let k = h.within.0 in
-    let at : slice_get list k ≡ Some h.trans = slice_get-get_or list k h.trans h.within.1 ∙ ap (λ t. Some t) h.within.2 in
+    let at : slice_get list k ≡ Some h.trans = slice_get-get_or list k h.trans h.within.1 ∙ ap
+    (λ t. Some t) h.within.2 in
     (arrow_of_trans h.trans, (k, into_map arrow_of_trans list k h.trans at), h.leads)
 
 -- a transition that isn't open has neither event nor guard
@@ -80,7 +81,8 @@ closes_on list c = record {
   some = λ e. subst chart_valid.Closes (map_empty arrow_of_trans list e) c;
   last = λ a l.
       let r = from_map arrow_of_trans list l.0 a l.2 in
-      let last : last_or None list ≡ Some r.item = last_get list None l.0 (l.1 ∙ length-map list arrow_of_trans) ∙ r.is in
+      let last : last_or None list ≡ Some r.item = last_get list None l.0 (l.1 ∙ length-map list arrow_of_trans)
+      ∙ r.is in
       let h = subst (λ o. IsSomeAnd o (λ (t : Trans). (t.event ≡ None) × (t.guard ≡ None))) last c in
       sym (ap (λ (x : Arrow). x.«open») r.same) ∙ trans_closed r.item.event r.item.guard h.0 h.1;
 }
@@ -148,7 +150,8 @@ module _ (c : Chart) where
       → Reached (net_of_chart c) (map arrow_of_trans list) j
   reached_on list _ (chart_reached.Directly j h) = Directly j (leads_on list j h)
   reached_on list _ (chart_reached.Through k j r h) =
-      Through k j (reached_on list k r) (subst (λ l. LeadsTo l j) (sym (junctions_same k)) (leads_on (junction c k) j h))
+      Through k j (reached_on list k r)
+      (subst (λ l. LeadsTo l j) (sym (junctions_same k)) (leads_on (junction c k) j h))
 
   -- a list of the net that is met is one of the chart that is met
   record MeetsBack (base : List Trans) (list : List Arrow) : Type 0 where
@@ -262,7 +265,9 @@ module _ (c : Chart) where
     children = λ e. v.children ((tree.leaves 0 tree.some).0 e);
     no_default = λ s lt ne.
         map_empty arrow_of_trans (charts.list_of c s Default) (sym (lists_same s Default lt) ∙ v.no_default s lt ne);
-    default = λ s lt e. closes_back (charts.list_of c s Default) (subst Closes (lists_same s Default lt) (v.default s lt e));
+    default =
+        λ s lt e. closes_back (charts.list_of c s Default)
+        (subst Closes (lists_same s Default lt) (v.default s lt e));
     junctions = λ s j lt r. closes_back (junction c j) (subst Closes (junctions_same j)
         (v.junctions s j lt (subst (λ l. Reached (net_of_chart c) l j) (sym (lists_same s Default lt))
         (reached_on (charts.list_of c s Default) j r))));
@@ -284,7 +289,9 @@ module _ (c : Chart) where
     words = words_same;
     children = λ e. h.children ((tree.leaves 0 tree.some).1 e);
     no_default = λ s lt ne. lists_same s Default lt ∙ ap (map arrow_of_trans) (h.no_default s lt ne);
-    default = λ s lt e. subst Closes (sym (lists_same s Default lt)) (closes_on (charts.list_of c s Default) (h.default s lt e));
+    default =
+        λ s lt e. subst Closes (sym (lists_same s Default lt))
+        (closes_on (charts.list_of c s Default) (h.default s lt e));
     junctions = λ s j lt r. subst Closes (sym (junctions_same j)) (closes_on (junction c j) (h.junctions s j lt
         (reached_back (charts.list_of c s Default) j
         (subst (λ l. Reached (net_of_chart c) l j) (lists_same s Default lt) r))));
@@ -293,7 +300,8 @@ module _ (c : Chart) where
         let b = meets_back (charts.list_of c s kind) list
         (subst (λ base. Meets (net_of_chart c) base list) (lists_same s kind lt) m) in
         let r = from_map arrow_of_trans b.own l.has.0 a (subst (λ x. slice_get x l.has.0 ≡ Some a) b.same l.has.1) in
-        let all = All-from_recursion (λ (t : Trans). LeadsWell c.tree s kind t.dest) b.own (h.leads s kind b.own lt b.met) in
+        let all = All-from_recursion (λ (t : Trans). LeadsWell c.tree s kind t.dest) b.own
+        (h.leads s kind b.own lt b.met) in
         let here = all l.has.0 r.item (slice_get_within b.own l.has.0 r.item r.is) in
         let e = get_or_from_slice_get b.own l.has.0 r.item r.item r.is in
         let to : r.item.dest ≡ State d = ap (λ (x : Arrow). x.to) r.same ∙ l.to in

@@ -1,5 +1,6 @@
 -- A valid net is valid without its places.
-use Rattle.std.proofs.Common.{◌≡◌, ℕ, zero, suc, List, [], ◌∷◌, length, map, get_or, Option, Some, None, Bool, cond, refl, sym, ap, ◌∙◌, subst, arith}
+use Rattle.std.proofs.Common.{◌≡◌, ℕ, zero, suc, List, [], ◌∷◌, length, map, get_or, Option, Some, None, Bool, cond}
+use Rattle.std.proofs.Common.{refl, sym, ap, ◌∙◌, subst, arith}
 use Rattle.std.specs.Prelude.{slice_get}
 use Rattle.std.specs.Option.{option_map}
 use Rattle.token_grammar.specs.declared.token.Span.{Span}
@@ -8,7 +9,8 @@ use Rattle.active_config.specs.Tree.{state_count}
 use Rattle.chart_structure.specs.declared.net.Arrow.{Arrow}
 use Rattle.state_tree.specs.declared.parts.ListKind.{ListKind}
 use Rattle.state_tree.specs.declared.parts.ListKind.TheVariants.{Outer, Inner, Default}
-use Rattle.chart_structure.specs.Net.{Node, JunctionNode, Net, nowhere, no_node, no_junction, node_list, word_of, history_of, list_of, junction_count, junction_list}
+use Rattle.chart_structure.specs.Net.{Node, JunctionNode, Net, nowhere, no_node, no_junction, node_list, word_of}
+use Rattle.chart_structure.specs.Net.{history_of, list_of, junction_count, junction_list}
 use Rattle.chart_structure.specs.Reached.{Reached, Directly, Through, LeadsTo, Meets, Itself, AtJunction}
 use Rattle.chart_structure.specs.Reached.{size_of, ArePairs, StatePairs, PairsBelow}
 use Rattle.state_tree.specs.Reached.{weight}
@@ -29,7 +31,8 @@ erases (x ∷ xs) zero a e = record { arrow = x; is = refl; same = cc }
 erases (x ∷ xs) (suc i) a e = let r = erases xs i a e in record { arrow = r.arrow; is = r.is; same = r.same }
 
 -- and the other way round
-erased_at : (list : List Arrow) (i : ℕ) (a : Arrow) → slice_get list i ≡ Some a → slice_get (map erase list) i ≡ Some (erase a)
+erased_at : (list : List Arrow) (i : ℕ) (a : Arrow) → slice_get list i ≡ Some a → slice_get (map erase list) i ≡ Some
+    (erase a)
 erased_at [] i a e = absurd cc
 erased_at (x ∷ xs) zero a e = let same : x ≡ a = cc in ap (λ y. Some (erase y)) same
 erased_at (x ∷ xs) (suc i) a e = erased_at xs i a e
@@ -47,7 +50,8 @@ node_at [] s = refl
 node_at (x ∷ xs) zero = refl
 node_at (x ∷ xs) (suc s) = node_at xs s
 
-junction_at : (ps : List JunctionNode) (j : ℕ) → get_or (map erase_junction ps) j no_junction ≡ erase_junction (get_or ps j no_junction)
+junction_at : (ps : List JunctionNode) (j : ℕ) → get_or (map erase_junction ps) j no_junction ≡ erase_junction
+    (get_or ps j no_junction)
 junction_at [] j = refl
 junction_at (x ∷ xs) zero = refl
 junction_at (x ∷ xs) (suc j) = junction_at xs j
@@ -81,18 +85,23 @@ module _ (n : Net) where
   -- ---- what is reached
 
   leads_back : (list : List Arrow) (j : ℕ) → LeadsTo (map erase list) j → LeadsTo list j
-  leads_back list j h = let r = erases list h.1.0 h.0 h.1.1 in (r.arrow, (h.1.0, r.is), ap (λ (a : Arrow). a.to) r.same ∙ h.2)
+  leads_back list j h =
+      let r = erases list h.1.0 h.0 h.1.1 in (r.arrow, (h.1.0, r.is), ap (λ (a : Arrow). a.to) r.same ∙ h.2)
 
   leads_on : (list : List Arrow) (j : ℕ) → LeadsTo list j → LeadsTo (map erase list) j
   leads_on list j h = (erase h.0, (h.1.0, erased_at list h.1.0 h.0 h.1.1), h.2)
 
   reached_back : (list : List Arrow) (j : ℕ) → Reached (erased n) (map erase list) j → Reached n list j
   reached_back list _ (Directly j h) = Directly j (leads_back list j h)
-  reached_back list _ (Through k j r h) = Through k j (reached_back list k r) (leads_back (junction_list n k) j (subst (λ l. LeadsTo l j) (junctions_same k) h))
+  reached_back list _ (Through k j r h) =
+      Through k j (reached_back list k r)
+      (leads_back (junction_list n k) j (subst (λ l. LeadsTo l j) (junctions_same k) h))
 
   reached_on : (list : List Arrow) (j : ℕ) → Reached n list j → Reached (erased n) (map erase list) j
   reached_on list _ (Directly j h) = Directly j (leads_on list j h)
-  reached_on list _ (Through k j r h) = Through k j (reached_on list k r) (subst (λ l. LeadsTo l j) (sym (junctions_same k)) (leads_on (junction_list n k) j h))
+  reached_on list _ (Through k j r h) =
+      Through k j (reached_on list k r)
+      (subst (λ l. LeadsTo l j) (sym (junctions_same k)) (leads_on (junction_list n k) j h))
 
   -- a list that is met is one that was met, erased
   record MeetsBack (base list : List Arrow) : Type 0 where
@@ -102,12 +111,15 @@ module _ (n : Net) where
 
   meets_back : (base list : List Arrow) → Meets (erased n) (map erase base) list → MeetsBack base list
   meets_back base _ Itself = record { own = base; met = Itself; same = refl }
-  meets_back base _ (AtJunction j r) = record { own = junction_list n j; met = AtJunction j (reached_back base j r); same = junctions_same j }
+  meets_back base _ (AtJunction j r) =
+      record { own = junction_list n j; met = AtJunction j (reached_back base j r); same = junctions_same j }
 
   closes_on : (list : List Arrow) → Closes list → Closes (map erase list)
   closes_on list c = record {
     some = λ e. c.some (map_empty list e);
-    last = λ a l. let r = erases list l.0 a l.2 in sym (ap (λ (x : Arrow). x.«open») r.same) ∙ c.last r.arrow (l.0, l.1 ∙ length-map list erase, r.is);
+    last =
+        λ a l. let r = erases list l.0 a l.2 in sym (ap (λ (x : Arrow). x.«open») r.same) ∙ c.last r.arrow
+        (l.0, l.1 ∙ length-map list erase, r.is);
   }
 
   -- ---- pairs
@@ -117,18 +129,25 @@ module _ (n : Net) where
 
   weight_by : (p : ℕ → Bool) (m : ℕ) → weight p (size_of (erased n)) m ≡ weight p (size_of n) m
   weight_by p zero = refl
-  weight_by p (suc m) = let a = weight_by p m in let b : cond (p m) (size_of (erased n) m) 0 ≡ cond (p m) (size_of n m) 0 = ap (λ x. cond (p m) x 0) (size_same m) in omega arith
+  weight_by p (suc m) =
+      let a = weight_by p m in
+      let b : cond (p m) (size_of (erased n) m) 0 ≡ cond (p m) (size_of n m) 0 = ap (λ x. cond (p m) x 0)
+      (size_same m) in omega arith
 
   pairs_back : (list : List Arrow) (count : ℕ) → ArePairs (erased n) (map erase list) count → ArePairs n list count
   pairs_back list count a = record {
     within = a.within;
     exact = λ j. ((λ h. reached_back list j ((a.exact j).0 h)), (λ r. (a.exact j).1 (reached_on list j r)));
     sum = let e = weight_by a.within (junction_count n) in let f = length-map list erase in
-        let g : weight a.within (size_of (erased n)) (junction_count (erased n)) ≡ weight a.within (size_of (erased n)) (junction_count n) = ap (weight a.within (size_of (erased n))) count_same in omega (arith, a.sum);
+        let g : weight a.within (size_of (erased n)) (junction_count (erased n)) ≡ weight a.within
+        (size_of (erased n)) (junction_count n) = ap (weight a.within (size_of (erased n))) count_same in omega
+        (arith, a.sum);
   }
 
-  kind_back : (s : ℕ) (kind : ListKind) (count : ℕ) → ArePairs (erased n) (list_of (erased n) s kind) count → ArePairs n (list_of n s kind) count
-  kind_back s kind count a = pairs_back (list_of n s kind) count (subst (λ l. ArePairs (erased n) l count) (lists_same s kind) a)
+  kind_back : (s : ℕ) (kind : ListKind) (count : ℕ) → ArePairs (erased n) (list_of (erased n) s kind) count
+      → ArePairs n (list_of n s kind) count
+  kind_back s kind count a =
+      pairs_back (list_of n s kind) count (subst (λ l. ArePairs (erased n) l count) (lists_same s kind) a)
 
   state_back : (s count : ℕ) → StatePairs (erased n) s count → StatePairs n s count
   state_back s count a = record {
@@ -151,12 +170,17 @@ module _ (n : Net) where
     children = v.children;
     no_default = λ s lt ne. lists_same s Default ∙ ap (map erase) (v.no_default s lt ne);
     default = λ s lt e. subst Closes (sym (lists_same s Default)) (closes_on (list_of n s Default) (v.default s lt e));
-    junctions = λ s j lt r. subst Closes (sym (junctions_same j)) (closes_on (junction_list n j) (v.junctions s j lt (reached_back (list_of n s Default) j (subst (λ l. Reached (erased n) l j) (lists_same s Default) r))));
+    junctions =
+        λ s j lt r. subst Closes (sym (junctions_same j))
+        (closes_on (junction_list n j)
+        (v.junctions s j lt
+        (reached_back (list_of n s Default) j (subst (λ l. Reached (erased n) l j) (lists_same s Default) r))));
     history = λ s at lt is.
         let b = place_back (history_of n s) at (sym (history_same s) ∙ is) in v.history s b.0 lt b.1;
     leads = λ s kind list a d lt m l.
         let b = meets_back (list_of n s kind) list (subst (λ base. Meets (erased n) base list) (lists_same s kind) m) in
         let r = erases b.own l.has.0 a (subst (λ x. slice_get x l.has.0 ≡ Some a) b.same l.has.1) in
-        v.leads s kind b.own r.arrow d lt b.met (record { has = (l.has.0, r.is); to = ap (λ (x : Arrow). x.to) r.same ∙ l.to });
+        v.leads s kind b.own r.arrow d lt b.met
+        (record { has = (l.has.0, r.is); to = ap (λ (x : Arrow). x.to) r.same ∙ l.to });
     pairs = λ count are. v.pairs count (below_back (state_count n.tree) count are);
   }

@@ -6,7 +6,8 @@ use Rattle.state_tree.specs.declared.parts.ListKind.{ListKind}
 use Rattle.chart_structure.specs.declared.net.Arrow.{Arrow}
 use Rattle.chart_structure.specs.declared.net.Node as code_node
 use Rattle.chart_structure.specs.declared.net.JunctionNode as code_junction
-use Rattle.chart_structure.specs.Net.{Net, IsNet, no_node, no_junction, node_list, word_of, name_of, history_of, list_of}
+use Rattle.chart_structure.specs.Net.{Net, IsNet, no_node, no_junction, node_list, word_of, name_of, history_of}
+use Rattle.chart_structure.specs.Net.{list_of}
 use Rattle.chart_structure.specs.Net.{junction_count, junction_list, junction_name, Has, IsDest}
 use Rattle.chart_structure.specs.Views.{node_of, junction_of, net_of}
 

@@ -7,7 +7,8 @@ use Rattle.std.proofs.lemmas.Bool.{cases_lt}
 use Rattle.token_grammar.specs.declared.token.Span.{Span}
 use Rattle.active_config.specs.declared.comp.Comp.{Comp}
 use Rattle.active_config.specs.declared.comp.Comp.TheVariants.{Leaf, Or, And}
-use Rattle.active_config.specs.Tree.{Tree, IsTree, state_count, comp_of, children_of, ancestors, is_below, is_at_or_below}
+use Rattle.active_config.specs.Tree.{Tree, IsTree, state_count, comp_of, children_of, ancestors, is_below}
+use Rattle.active_config.specs.Tree.{is_at_or_below}
 use Rattle.active_config.proofs.PathLemmas.{above_of_below, path_le, parent_lt}
 use Rattle.chart_tree.specs.declared.first.Found.{Found}
 use Rattle.state_tree.specs.declared.limits.TheConstants.{MOST_PAIRS}
@@ -109,7 +110,8 @@ module _ (n : Net) (net : IsNet n) (none : (f : Found) → StructureFault n f �
       or_where (home_of n.tree s Outer d) (home_within n.tree net.tree s d to.1)
       (λ ne. none _ (OfList s Outer list _ lt m (CrossesOuter a d l ne)))
   may_lead s Inner list a d lt m l =
-      let under = not_false (is_at_or_below n.tree d s) (λ off. none _ (OfList s Inner list _ lt m (LeavesInner a d l off))) in
+      let under = not_false (is_at_or_below n.tree d s)
+      (λ off. none _ (OfList s Inner list _ lt m (LeavesInner a d l off))) in
       (under, or_where s lt (λ ne. none _ (OfList s Inner list _ lt m (CrossesInner a d l under ne))))
   may_lead s Default list a d lt m l =
       not_false (is_below n.tree d s) (λ off. none _ (OfList s Default list _ lt m (LeavesDefault a d l off)))
@@ -138,7 +140,8 @@ module _ (n : Net) (net : IsNet n) (none : (f : Found) → StructureFault n f �
     };
     history = λ s at lt is. or_where s lt (λ other. none _ (OfState s _ lt (UnwantedHistory at other is)));
     leads = may_lead;
-    pairs = λ count are. ⊎_elim (λ over. absurd (few _ (TooMany count are over))) (λ le. le) (cases_lt MOST_PAIRS count);
+    pairs =
+        λ count are. ⊎_elim (λ over. absurd (few _ (TooMany count are over))) (λ le. le) (cases_lt MOST_PAIRS count);
   }
 
 -- ---- from valid to no faults
@@ -186,5 +189,7 @@ module _ (n : Net) (net : IsNet n) (v : IsValid n) where
 -- the pass answers none exactly where the net is valid
 pub answer_valid : (n : Net) (o : Option Found) → IsNet n → IsAnswer n o → (o ≡ None) ↔ IsValid n
 answer_valid n None net a = ((λ e. valid_where n net a.0 a.1), (λ v. refl))
-answer_valid n (Some f) net a =
-    ((λ e. absurd cc), (λ v. absurd (⊎_elim (λ first. no_fault n net v f first.0) (λ pairs. no_pair_fault n net v f pairs.1) a)))
+answer_valid n (Some f) net a = (
+  (λ e. absurd cc),
+  (λ v. absurd (⊎_elim (λ first. no_fault n net v f first.0) (λ pairs. no_pair_fault n net v f pairs.1) a)),
+)

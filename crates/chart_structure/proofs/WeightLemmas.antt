@@ -1,5 +1,6 @@
 -- Sums over the numbers of a set.
-use Rattle.std.proofs.Common.{◌≡◌, ◌≢◌, ℕ, zero, suc, ◌+◌, ◌≤◌, ◌<◌, Bool, true, false, refl, sym, ap, subst, cond, arith, ⊎_elim}
+use Rattle.std.proofs.Common.{◌≡◌, ◌≢◌, ℕ, zero, suc, ◌+◌, ◌≤◌, ◌<◌, Bool, true, false, refl, sym, ap, subst, cond}
+use Rattle.std.proofs.Common.{arith, ⊎_elim}
 use Rattle.std.proofs.lemmas.Bool.{cases_lt}
 use Rattle.state_tree.specs.Reached.{weight}
 
@@ -11,11 +12,13 @@ weight_same p q w (suc n) f =
     omega arith
 
 -- one more number in the set adds its weight
-pub weight_more : (p q : ℕ → Bool) (w : ℕ → ℕ) (n j : ℕ) → j < n → p j ≡ false → q j ≡ true → ((i : ℕ) → i ≢ j → q i ≡ p i) → weight q w n ≡ weight p w n + w j
+pub weight_more : (p q : ℕ → Bool) (w : ℕ → ℕ) (n j : ℕ) → j < n → p j ≡ false → q j ≡ true →
+    ((i : ℕ) → i ≢ j → q i ≡ p i) → weight q w n ≡ weight p w n + w j
 weight_more p q w zero j lt off on other = absurd (omega arith)
 weight_more p q w (suc n) j lt off on other = ⊎_elim
     (λ below. let rest = weight_more p q w n j below off on other in
-    let here : cond (q n) (w n) 0 ≡ cond (p n) (w n) 0 = ap (λ b. cond b (w n) 0) (other n (λ e. absurd (omega arith))) in
+    let here : cond (q n) (w n) 0 ≡ cond (p n) (w n) 0 = ap (λ b. cond b (w n) 0)
+    (other n (λ e. absurd (omega arith))) in
     omega arith)
     (λ at. let e : j ≡ n = omega arith in
     let rest = weight_same p q w n (λ i lt. other i (λ f. absurd (omega arith))) in
@@ -35,7 +38,8 @@ weight_ones p zero = omega arith
 weight_ones p (suc n) = let rest = weight_ones p n in let here = ones p n (p n) in omega arith
 
 -- two sets of the same numbers weigh the same
-pub weight_where : (p q : ℕ → Bool) (w : ℕ → ℕ) (n : ℕ) → ((i : ℕ) → p i ≡ true → q i ≡ true) → ((i : ℕ) → q i ≡ true → p i ≡ true) → weight q w n ≡ weight p w n
+pub weight_where : (p q : ℕ → Bool) (w : ℕ → ℕ) (n : ℕ) → ((i : ℕ) → p i ≡ true → q i ≡ true) →
+    ((i : ℕ) → q i ≡ true → p i ≡ true) → weight q w n ≡ weight p w n
 weight_where p q w n f g = weight_same p q w n (λ i lt. go (q i) (p i) (g i) (f i))
   where
     go : (a b : Bool) → (a ≡ true → b ≡ true) → (b ≡ true → a ≡ true) → a ≡ b

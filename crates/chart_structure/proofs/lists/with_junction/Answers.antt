@@ -9,7 +9,9 @@ use Rattle.chart_structure.proofs.ListLemmas.{empty_fault}
 use Rattle.chart_structure.proofs.lists.with_junction.Goals as goal
 
 pub with_list-kept-requires-clause-met : goal.with_list-kept-requires-clause-met
-with_list-kept-requires-clause-met c = subst (Meets c.args.net.now (list_of c.args.net.now c.args.state c.args.kind)) (sym c.junction-list.ensures.list) (AtJunction _ c.requires.reached)
+with_list-kept-requires-clause-met c =
+    subst (Meets c.args.net.now (list_of c.args.net.now c.args.state c.args.kind)) (sym c.junction-list.ensures.list)
+    (AtJunction _ c.requires.reached)
 
 pub returns-then-is_empty-clause-one : goal.returns-then-is_empty-clause-one
 returns-then-is_empty-clause-one c =
@@ -21,7 +23,12 @@ pub returns-then-is_empty-clause-old : goal.returns-then-is_empty-clause-old
 returns-then-is_empty-clause-old c = λ f h. keep_old _ _ _ f c.keep.ensures (c.with_list-kept.ensures.old f h)
 
 pub returns-then-is_empty-clause-new : goal.returns-then-is_empty-clause-new
-returns-then-is_empty-clause-new c = λ f h. keep_old _ _ _ f c.keep.ensures (c.with_list-kept.ensures.new f (subst (λ l. ListFault c.args.net.now c.args.state l c.args.kind f) (sym c.junction-list.ensures.list) h))
+returns-then-is_empty-clause-new c =
+    λ f h. keep_old _ _ _ f c.keep.ensures
+    (c.with_list-kept.ensures.new f
+    (subst (λ l. ListFault c.args.net.now c.args.state l c.args.kind f) (sym c.junction-list.ensures.list) h))
 
 pub returns-then-is_empty-clause-empty : goal.returns-then-is_empty-clause-empty
-returns-then-is_empty-clause-empty c = λ d none. subst (λ at. Passed c.keep.result (at_place DefaultOpen at)) c.junction_name-at.ensures (keep_new _ _ _ c.keep.ensures)
+returns-then-is_empty-clause-empty c =
+    λ d none. subst (λ at. Passed c.keep.result (at_place DefaultOpen at)) c.junction_name-at.ensures
+    (keep_new _ _ _ c.keep.ensures)

@@ -8,14 +8,22 @@ use Rattle.chart_structure.proofs.lists.with_last.Goals as goal
 
 pub returns-then-is_open-clause-one : goal.returns-then-is_open-clause-one
 returns-then-is_open-clause-one c =
-    keep_one _ _ _ _ c.keep.ensures c.requires.one (last_fault _ _ _ _ c.requires.state c.requires.met (some_length _ (is_empty_false _ _ c.is_empty.ensures c.if-is_empty.false)) (sym c.is_open.ensures ∙ c.if-is_open.true))
+    keep_one _ _ _ _ c.keep.ensures c.requires.one
+    (last_fault _ _ _ _ c.requires.state c.requires.met
+    (some_length _ (is_empty_false _ _ c.is_empty.ensures c.if-is_empty.false))
+    (sym c.is_open.ensures ∙ c.if-is_open.true))
 
 pub returns-then-is_open-clause-old : goal.returns-then-is_open-clause-old
 returns-then-is_open-clause-old c = λ f h. keep_old _ _ _ f c.keep.ensures h
 
 pub returns-then-is_open-clause-new : goal.returns-then-is_open-clause-new
 returns-then-is_open-clause-new c = λ a last is.
-    subst (λ (x : Arrow). Passed c.keep.result (at_place DefaultOpen x.at)) (last_is _ _ _ (some_length _ (is_empty_false _ _ c.is_empty.ensures c.if-is_empty.false)) last) (keep_new _ _ _ c.keep.ensures)
+    subst (λ (x : Arrow). Passed c.keep.result (at_place DefaultOpen x.at))
+    (last_is _ _ _ (some_length _ (is_empty_false _ _ c.is_empty.ensures c.if-is_empty.false)) last)
+    (keep_new _ _ _ c.keep.ensures)
 
 pub returns-else-is_open-clause-new : goal.returns-else-is_open-clause-new
-returns-else-is_open-clause-new c = λ a last is. absurd (not_open _ _ (last_is _ _ _ (some_length _ (is_empty_false _ _ c.is_empty.ensures c.if-is_empty.false)) last) (sym c.is_open.ensures ∙ c.if-is_open.false) is)
+returns-else-is_open-clause-new c =
+    λ a last is. absurd
+    (not_open _ _ (last_is _ _ _ (some_length _ (is_empty_false _ _ c.is_empty.ensures c.if-is_empty.false)) last)
+    (sym c.is_open.ensures ∙ c.if-is_open.false) is)

@@ -5,7 +5,9 @@ use Rattle.chart_structure.proofs.PassLemmas.{kind_passed, kind_pairs}
 use Rattle.chart_structure.proofs.pass.with_kind.Goals as goal
 
 pub with_list-own-requires-clause-met : goal.with_list-own-requires-clause-met
-with_list-own-requires-clause-met c = subst (Meets c.args.net.now (list_of c.args.net.now c.args.state c.args.kind)) (sym c.list-list.ensures.list) Itself
+with_list-own-requires-clause-met c =
+    subst (Meets c.args.net.now (list_of c.args.net.now c.args.state c.args.kind))
+    (sym c.list-list.ensures.list) Itself
 
 pub returns-clause-new : goal.returns-clause-new
 returns-clause-new c =
@@ -13,4 +15,5 @@ returns-clause-new c =
     kind_passed _ _ _ _ _ _ _ _ c.list-list.ensures.list c.in_ok-reach.ensures.walk c.in_ok-reach.ensures.all _ _ _ c.deref.ensures.value c.with_list-own.ensures.new e.old e.new e.empty
 
 pub returns-clause-pairs : goal.returns-clause-pairs
-returns-clause-pairs c = kind_pairs _ _ _ _ _ _ _ _ c.list-list.ensures.list c.in_ok-reach.ensures.walk c.in_ok-reach.ensures.all _ _ c.saturating_add.ensures
+returns-clause-pairs c =
+    kind_pairs _ _ _ _ _ _ _ _ c.list-list.ensures.list c.in_ok-reach.ensures.walk c.in_ok-reach.ensures.all _ _ c.saturating_add.ensures

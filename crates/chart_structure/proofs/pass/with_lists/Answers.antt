@@ -7,4 +7,5 @@ returns-clause-new c =
     state_passed_by _ _ _ _ _ _ c.with_state.ensures.new o.old i.old a.old o.new i.new a.new
 
 pub returns-clause-pairs : goal.returns-clause-pairs
-returns-clause-pairs c = state_pairs _ _ _ _ _ _ c.in_ok-outer.ensures.pairs c.in_ok-inner.ensures.pairs c.in_ok-all.ensures.pairs
+returns-clause-pairs c =
+    state_pairs _ _ _ _ _ _ c.in_ok-outer.ensures.pairs c.in_ok-inner.ensures.pairs c.in_ok-all.ensures.pairs

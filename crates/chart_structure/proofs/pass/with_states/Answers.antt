@@ -12,10 +12,12 @@ loop-state-preserved c = let e = c.in_ok-found.ensures in
 
 pub returns-clause-first : goal.returns-clause-first
 returns-clause-first c =
-    let n : c.len-state-end.result ≡ state_count c.args.net.now.tree = c.len-state-end.ensures.count ∙ ap state_count c.shape.ensures.tree in
+    let n : c.len-state-end.result ≡ state_count c.args.net.now.tree = c.len-state-end.ensures.count
+    ∙ ap state_count c.shape.ensures.tree in
     states_first _ _ _ _ _ (omega arith) c.loop-state.invariant
 
 pub returns-clause-pairs : goal.returns-clause-pairs
 returns-clause-pairs c =
-    let n : c.len-state-end.result ≡ state_count c.args.net.now.tree = c.len-state-end.ensures.count ∙ ap state_count c.shape.ensures.tree in
+    let n : c.len-state-end.result ≡ state_count c.args.net.now.tree = c.len-state-end.ensures.count
+    ∙ ap state_count c.shape.ensures.tree in
     states_pairs _ _ _ _ _ (omega arith) c.loop-state.invariant

@@ -8,10 +8,12 @@ visit-requires-clause-within c = dest_within _ _ _ _ _ c.requires.dests c.loop-a
 
 pub loop-arrow-preserved : goal.loop-arrow-preserved
 loop-arrow-preserved c = elim c.match-arrow.branch [
-  | in-State w ↦ rw (w.marks-is, w.found-is, w.count-is) (follows_state _ _ _ _ _ _ _ _ _ _ _ _ c.loop-arrow.invariant c.loop-arrow-test.true w.in-State.is)
+  | in-State w ↦ rw (w.marks-is, w.found-is, w.count-is)
+      (follows_state _ _ _ _ _ _ _ _ _ _ _ _ c.loop-arrow.invariant c.loop-arrow-test.true w.in-State.is)
   | in-Junction+in_ok-count-in-Junction w ↦
       let x = w.in_ok-count-in-Junction.ensures in
-      rw (w.marks-is, w.found-is, w.count-is) (follows_junction _ _ _ _ _ _ _ _ _ _ _ _ _ _ _ c.loop-arrow.invariant c.loop-arrow-test.true w.in-Junction.is w.visit.auto.marks x.walk x.grows x.marked)
+      rw (w.marks-is, w.found-is, w.count-is)
+      (follows_junction _ _ _ _ _ _ _ _ _ _ _ _ _ _ _ c.loop-arrow.invariant c.loop-arrow-test.true w.in-Junction.is w.visit.auto.marks x.walk x.grows x.marked)
 ]
 
 pub returns-clause-marked : goal.returns-clause-marked

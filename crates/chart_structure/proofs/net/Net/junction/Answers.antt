@@ -13,4 +13,6 @@ returns-clause-list c =
 pub returns-clause-dests : goal.returns-clause-dests
 returns-clause-dests c =
     let e = junctions_are _ _ _ _ c.self.view_is in
-    junction_dests _ _ _ _ c.self.view_is c.self.invariant _ _ (c.deref.ensures.value ∙ junction_list_is _ _ _ _ c.self.view_is _ c.index.result.now (omega arith) c.index.ensures)
+    junction_dests _ _ _ _ c.self.view_is c.self.invariant _ _
+    (c.deref.ensures.value ∙ junction_list_is _ _ _ _ c.self.view_is _ c.index.result.now
+    (omega arith) c.index.ensures)

@@ -6,4 +6,6 @@ pub index-requires : goal.index-requires
 index-requires c = let e = junctions_are _ _ _ _ c.self.view_is in omega arith
 
 pub returns : goal.returns
-returns c = let e = junctions_are _ _ _ _ c.self.view_is in junction_name_is _ _ _ _ c.self.view_is _ _ (omega arith) c.index.ensures
+returns c =
+    let e = junctions_are _ _ _ _ c.self.view_is in
+    junction_name_is _ _ _ _ c.self.view_is _ _ (omega arith) c.index.ensures

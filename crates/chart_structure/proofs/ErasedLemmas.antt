@@ -1,57 +1,38 @@
 -- A valid net is valid without its places.
-use Rattle.std.proofs.Common.{◌≡◌, ℕ, zero, suc, List, [], ◌∷◌, length, map, get_or, Option, Some, None, Bool, cond}
+use Rattle.std.proofs.Common.{◌≡◌, ℕ, zero, suc, List, [], ◌∷◌, length, map, get_or, Option, Some, None, Bool}
 use Rattle.std.proofs.Common.{refl, sym, ap, ◌∙◌, subst, arith}
 use Rattle.std.specs.Prelude.{slice_get}
 use Rattle.std.specs.Option.{option_map}
-use Rattle.token_grammar.specs.declared.token.Span.{Span}
 use Rattle.std.proofs.lemmas.List.{length-map}
+use Rattle.token_grammar.specs.declared.token.Span.{Span}
 use Rattle.active_config.specs.Tree.{state_count}
-use Rattle.chart_structure.specs.declared.net.Arrow.{Arrow}
 use Rattle.state_tree.specs.declared.parts.ListKind.{ListKind}
 use Rattle.state_tree.specs.declared.parts.ListKind.TheVariants.{Outer, Inner, Default}
+use Rattle.state_tree.specs.Reached.{weight}
+use Rattle.chart_structure.specs.declared.net.Arrow.{Arrow}
 use Rattle.chart_structure.specs.Net.{Node, JunctionNode, Net, nowhere, no_node, no_junction, node_list, word_of}
 use Rattle.chart_structure.specs.Net.{history_of, list_of, junction_count, junction_list}
 use Rattle.chart_structure.specs.Reached.{Reached, Directly, Through, LeadsTo, Meets, Itself, AtJunction}
 use Rattle.chart_structure.specs.Reached.{size_of, ArePairs, StatePairs, PairsBelow}
-use Rattle.state_tree.specs.Reached.{weight}
 use Rattle.chart_structure.specs.Valid.{Closes, IsValid}
 use Rattle.chart_structure.specs.Erased.{erase, erase_node, erase_junction, erased}
+use Rattle.chart_structure.proofs.MapLemmas.{Comes, from_map, into_map, map_empty}
+use Rattle.chart_structure.proofs.WeightLemmas.{weight_by}
 
--- ---- lists
+-- ---- look-ups
 
--- a transition of an erased list is one of the list
-pub record Erases (list : List Arrow) (i : ℕ) (a : Arrow) : Type 0 where
-  pub arrow : Arrow
-  pub is : slice_get list i ≡ Some arrow
-  pub same : erase arrow ≡ a
-
-erases : (list : List Arrow) (i : ℕ) (a : Arrow) → slice_get (map erase list) i ≡ Some a → Erases list i a
-erases [] i a e = absurd cc
-erases (x ∷ xs) zero a e = record { arrow = x; is = refl; same = cc }
-erases (x ∷ xs) (suc i) a e = let r = erases xs i a e in record { arrow = r.arrow; is = r.is; same = r.same }
-
--- and the other way round
-erased_at : (list : List Arrow) (i : ℕ) (a : Arrow) → slice_get list i ≡ Some a → slice_get (map erase list) i ≡ Some
-    (erase a)
-erased_at [] i a e = absurd cc
-erased_at (x ∷ xs) zero a e = let same : x ≡ a = cc in ap (λ y. Some (erase y)) same
-erased_at (x ∷ xs) (suc i) a e = erased_at xs i a e
-
+-- a place of an erased word comes from one
 place_back : (o : Option Span) (at : Span) → option_map (λ _. nowhere) o ≡ Some at → (x : Span) × (o ≡ Some x)
 place_back None at e = absurd cc
 place_back (Some x) at e = (x, refl)
-
-map_empty : (list : List Arrow) → map erase list ≡ [] → list ≡ []
-map_empty [] e = refl
-map_empty (x ∷ xs) e = absurd cc
 
 node_at : (ns : List Node) (s : ℕ) → get_or (map erase_node ns) s no_node ≡ erase_node (get_or ns s no_node)
 node_at [] s = refl
 node_at (x ∷ xs) zero = refl
 node_at (x ∷ xs) (suc s) = node_at xs s
 
-junction_at : (ps : List JunctionNode) (j : ℕ) → get_or (map erase_junction ps) j no_junction ≡ erase_junction
-    (get_or ps j no_junction)
+junction_at : (ps : List JunctionNode) (j : ℕ)
+    → get_or (map erase_junction ps) j no_junction ≡ erase_junction (get_or ps j no_junction)
 junction_at [] j = refl
 junction_at (x ∷ xs) zero = refl
 junction_at (x ∷ xs) (suc j) = junction_at xs j
@@ -86,10 +67,11 @@ module _ (n : Net) where
 
   leads_back : (list : List Arrow) (j : ℕ) → LeadsTo (map erase list) j → LeadsTo list j
   leads_back list j h =
-      let r = erases list h.1.0 h.0 h.1.1 in (r.arrow, (h.1.0, r.is), ap (λ (a : Arrow). a.to) r.same ∙ h.2)
+      let r = from_map erase list h.1.0 h.0 h.1.1 in
+      (r.item, (h.1.0, r.is), ap (λ (a : Arrow). a.to) r.same ∙ h.2)
 
   leads_on : (list : List Arrow) (j : ℕ) → LeadsTo list j → LeadsTo (map erase list) j
-  leads_on list j h = (erase h.0, (h.1.0, erased_at list h.1.0 h.0 h.1.1), h.2)
+  leads_on list j h = (erase h.0, (h.1.0, into_map erase list h.1.0 h.0 h.1.1), h.2)
 
   reached_back : (list : List Arrow) (j : ℕ) → Reached (erased n) (map erase list) j → Reached n list j
   reached_back list _ (Directly j h) = Directly j (leads_back list j h)
@@ -116,10 +98,10 @@ module _ (n : Net) where
 
   closes_on : (list : List Arrow) → Closes list → Closes (map erase list)
   closes_on list c = record {
-    some = λ e. c.some (map_empty list e);
-    last =
-        λ a l. let r = erases list l.0 a l.2 in sym (ap (λ (x : Arrow). x.«open») r.same) ∙ c.last r.arrow
-        (l.0, l.1 ∙ length-map list erase, r.is);
+    some = λ e. c.some (map_empty erase list e);
+    last = λ a l.
+        let r = from_map erase list l.0 a l.2 in
+        sym (ap (λ (x : Arrow). x.«open») r.same) ∙ c.last r.item (l.0, l.1 ∙ length-map list erase, r.is);
   }
 
   -- ---- pairs
@@ -127,21 +109,17 @@ module _ (n : Net) where
   size_same : (j : ℕ) → size_of (erased n) j ≡ size_of n j
   size_same j = ap length (junctions_same j) ∙ length-map (junction_list n j) erase
 
-  weight_by : (p : ℕ → Bool) (m : ℕ) → weight p (size_of (erased n)) m ≡ weight p (size_of n) m
-  weight_by p zero = refl
-  weight_by p (suc m) =
-      let a = weight_by p m in
-      let b : cond (p m) (size_of (erased n) m) 0 ≡ cond (p m) (size_of n m) 0 = ap (λ x. cond (p m) x 0)
-      (size_same m) in omega arith
+  weight_is : (p : ℕ → Bool) → weight p (size_of (erased n)) (junction_count (erased n))
+      ≡ weight p (size_of n) (junction_count n)
+  weight_is p =
+      ap (weight p (size_of (erased n))) count_same
+      ∙ weight_by p (size_of (erased n)) (size_of n) size_same (junction_count n)
 
   pairs_back : (list : List Arrow) (count : ℕ) → ArePairs (erased n) (map erase list) count → ArePairs n list count
   pairs_back list count a = record {
     within = a.within;
     exact = λ j. ((λ h. reached_back list j ((a.exact j).0 h)), (λ r. (a.exact j).1 (reached_on list j r)));
-    sum = let e = weight_by a.within (junction_count n) in let f = length-map list erase in
-        let g : weight a.within (size_of (erased n)) (junction_count (erased n)) ≡ weight a.within
-        (size_of (erased n)) (junction_count n) = ap (weight a.within (size_of (erased n))) count_same in omega
-        (arith, a.sum);
+    sum = omega (arith, a.sum, weight_is a.within, length-map list erase);
   }
 
   kind_back : (s : ℕ) (kind : ListKind) (count : ℕ) → ArePairs (erased n) (list_of (erased n) s kind) count
@@ -170,17 +148,16 @@ module _ (n : Net) where
     children = v.children;
     no_default = λ s lt ne. lists_same s Default ∙ ap (map erase) (v.no_default s lt ne);
     default = λ s lt e. subst Closes (sym (lists_same s Default)) (closes_on (list_of n s Default) (v.default s lt e));
-    junctions =
-        λ s j lt r. subst Closes (sym (junctions_same j))
-        (closes_on (junction_list n j)
-        (v.junctions s j lt
-        (reached_back (list_of n s Default) j (subst (λ l. Reached (erased n) l j) (lists_same s Default) r))));
+    junctions = λ s j lt r.
+        let reached = reached_back (list_of n s Default) j
+        (subst (λ l. Reached (erased n) l j) (lists_same s Default) r) in
+        subst Closes (sym (junctions_same j)) (closes_on (junction_list n j) (v.junctions s j lt reached));
     history = λ s at lt is.
         let b = place_back (history_of n s) at (sym (history_same s) ∙ is) in v.history s b.0 lt b.1;
     leads = λ s kind list a d lt m l.
         let b = meets_back (list_of n s kind) list (subst (λ base. Meets (erased n) base list) (lists_same s kind) m) in
-        let r = erases b.own l.has.0 a (subst (λ x. slice_get x l.has.0 ≡ Some a) b.same l.has.1) in
-        v.leads s kind b.own r.arrow d lt b.met
+        let r = from_map erase b.own l.has.0 a (subst (λ x. slice_get x l.has.0 ≡ Some a) b.same l.has.1) in
+        v.leads s kind b.own r.item d lt b.met
         (record { has = (l.has.0, r.is); to = ap (λ (x : Arrow). x.to) r.same ∙ l.to });
     pairs = λ count are. v.pairs count (below_back (state_count n.tree) count are);
   }

@@ -111,6 +111,15 @@ module _ (n : Net) (s : ℕ) where
         (with_fault_new (comp_fault root (word_of n s) childless listless) (name_of n s) first k
         (comp_fault_where root childless listless k a b here h))
 
+-- the test's answer, put where the name says, is that of the state's own word and name
+pub composition_is : (n : Net) (s : ℕ) (root childless listless : Bool) (word : Comp) (at : Span)
+    (wrong : Option FormKind) (first next : Option Found) → next ≡ with_fault wrong at first
+    → wrong ≡ comp_fault root word childless listless → word ≡ word_of n s → at ≡ name_of n s
+    → next ≡ with_fault (comp_fault root (word_of n s) childless listless) (name_of n s) first
+composition_is n s root childless listless word at wrong first next e f g h =
+    e ∙ ap (λ o. with_fault o at first) (f ∙ ap (λ w. comp_fault root w childless listless) g)
+    ∙ ap (λ at. with_fault (comp_fault root (word_of n s) childless listless) at first) h
+
 some_test : (o : Option ℕ) → is_some o ≡ false → o ≡ None
 some_test None e = refl
 some_test (Some x) e = absurd cc

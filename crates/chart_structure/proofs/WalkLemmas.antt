@@ -7,12 +7,12 @@ use Rattle.std.proofs.lemmas.Bool.Decides.{nat_tests}
 use Rattle.std.proofs.lemmas.List.{get_or-set_same, get_or-set_other, length-set, length-append}
 use Rattle.std.proofs.Math.ListN.{get_or-append, get_or-eq_default}
 use Rattle.std.proofs.Math.Seq.{get_or-append_seam}
-use Rattle.chart_structure.specs.declared.net.Arrow.{Arrow}
 use Rattle.std.proofs.lemmas.Option.{slice_get-get_or, slice_get_within}
 use Rattle.state_tree.specs.declared.parts.Dest.TheVariants.{State, Junction}
+use Rattle.state_tree.specs.Reached.{weight}
+use Rattle.chart_structure.specs.declared.net.Arrow.{Arrow}
 use Rattle.chart_structure.specs.Net.{Net, junction_count, junction_list, Has, IsDest}
 use Rattle.chart_structure.specs.Reached.{Reached, Directly, Through, LeadsTo, size_of}
-use Rattle.state_tree.specs.Reached.{weight}
 use Rattle.chart_structure.specs.Marks.{has_mark, IsIn, greatest_count, IsWalk, Grows, Marked}
 use Rattle.chart_structure.proofs.WeightLemmas.{weight_more, weight_ones}
 
@@ -32,8 +32,8 @@ pub marked_other : (marks : List ℕ) (mark j i : ℕ) → i ≢ j → has_mark 
 marked_other marks mark j i ne = ap (λ x. x == mark) (get_or-set_other marks j i mark 0 ne)
 
 -- a mark that was there stays
-pub marked_still : (marks : List ℕ) (mark j i : ℕ) → j < length marks → has_mark marks mark i ≡ true → has_mark
-    (set marks j mark) mark i ≡ true
+pub marked_still : (marks : List ℕ) (mark j i : ℕ) → j < length marks → has_mark marks mark i ≡ true
+    → has_mark (set marks j mark) mark i ≡ true
 marked_still marks mark j i lt h =
     ⊎_elim (λ e. subst (λ k. has_mark (set marks j mark) mark k ≡ true) (sym e) (marked_here marks mark j lt))
     (λ ne. marked_other marks mark j i ne ∙ h) (cases_eq i j)
@@ -43,15 +43,17 @@ marked_cases : (marks : List ℕ) (mark j i : ℕ) (P : Type 0) → (i ≡ j →
     → has_mark (set marks j mark) mark i ≡ true → P
 marked_cases marks mark j i P f g h = ⊎_elim f (λ ne. g (sym (marked_other marks mark j i ne) ∙ h)) (cases_eq i j)
 
+-- the last number of a list is in it
 last_in : (xs : List ℕ) (j : ℕ) → IsIn (xs ++ j ∷ []) j
 last_in xs j = (length xs, omega (arith, length-append xs (j ∷ [])), get_or-append_seam xs j [] 0)
 
+-- what is in a list stays in a longer one
 still_in : (xs : List ℕ) (j i : ℕ) → IsIn xs i → IsIn (xs ++ j ∷ []) i
 still_in xs j i h = (h.0, omega (arith, length-append xs (j ∷ []), h.1), get_or-append xs (j ∷ []) 0 h.0 h.1 ∙ h.2)
 
--- one more
-pub grows_by_one : (mark : ℕ) (marks found : List ℕ) (j : ℕ) → j < length marks → Grows mark marks
-    (set marks j mark) found (found ++ j ∷ [])
+-- one junction more
+pub grows_by_one : (mark : ℕ) (marks found : List ℕ) (j : ℕ) → j < length marks
+    → Grows mark marks (set marks j mark) found (found ++ j ∷ [])
 grows_by_one mark marks found j lt = record {
   kept = λ i h. marked_still marks mark j i lt h;
   grown = omega (arith, length-append found (j ∷ []));
@@ -61,6 +63,7 @@ grows_by_one mark marks found j lt = record {
 pub grows_none : (mark : ℕ) (marks found : List ℕ) → Grows mark marks marks found found
 grows_none mark marks found = record { kept = λ i h. h; grown = omega arith; same = λ i h. refl }
 
+-- one growth after another is one
 pub grows_then : (mark : ℕ) (a b c x y z : List ℕ) → Grows mark a b x y → Grows mark b c y z → Grows mark a c x z
 grows_then mark a b c x y z g h = record {
   kept = λ i m. h.kept i (g.kept i m);
@@ -69,6 +72,7 @@ grows_then mark a b c x y z g h = record {
 }
 
 module _ (n : Net) (root : List Arrow) (mark : ℕ) (marks found : List ℕ) (pairs j : ℕ) where
+  -- a walk with one junction more, which is reached and has no mark yet
   pub walk_more : IsWalk n root mark marks found pairs → Reached n root j → j < junction_count n
       → get_or marks j 0 ≢ mark
       → IsWalk n root mark (set marks j mark) (found ++ j ∷ []) (min (pairs + size_of n j) greatest_count)
@@ -76,10 +80,10 @@ module _ (n : Net) (root : List Arrow) (mark : ℕ) (marks found : List ℕ) (pa
       let inside : j < length marks = omega (arith, w.sized) in
       let off : has_mark marks mark j ≡ false = other_test _ _ ne in
       let on = marked_here marks mark j inside in
-      let one = weight_more (has_mark marks mark) (has_mark (set marks j mark) mark) (λ _. 1)
-      (junction_count n) j lt off on (marked_other marks mark j) in
-      let more = weight_more (has_mark marks mark) (has_mark (set marks j mark) mark) (size_of n)
-      (junction_count n) j lt off on (marked_other marks mark j) in
+      let one = weight_more (has_mark marks mark) (has_mark (set marks j mark) mark) (λ _. 1) (junction_count n) j
+      lt off on (marked_other marks mark j) in
+      let more = weight_more (has_mark marks mark) (has_mark (set marks j mark) mark) (size_of n) (junction_count n) j
+      lt off on (marked_other marks mark j) in
       record {
         sized = length-set marks j mark ∙ w.sized;
         below =
@@ -107,21 +111,23 @@ module _ (n : Net) (root : List Arrow) (mark : ℕ) (marks found : List ℕ) (pa
 
   pub walk_more_at : (more longer : List ℕ) (count : ℕ) (list : List Arrow) → IsWalk n root mark marks found pairs
       → Reached n root j → j < junction_count n → get_or marks j 0 ≢ mark
-      → more ≡ set marks j mark → longer ≡ found ++ j ∷ [] → list ≡ junction_list n j → count ≡ min
-      (pairs + length list) greatest_count → IsWalk n root mark more longer count
+      → more ≡ set marks j mark → longer ≡ found ++ j ∷ [] → list ≡ junction_list n j
+      → count ≡ min (pairs + length list) greatest_count → IsWalk n root mark more longer count
   walk_more_at more longer count list w r lt ne e f g h =
-      let k : count ≡ min (pairs + size_of n j) greatest_count = h ∙ ap
-      (λ (l : List Arrow). min (pairs + length l) greatest_count) g in
+      let k : count ≡ min (pairs + size_of n j) greatest_count =
+      h ∙ ap (λ (l : List Arrow). min (pairs + length l) greatest_count) g in
       subst (λ m. IsWalk n root mark m longer count) (sym e)
       (subst (λ l. IsWalk n root mark (set marks j mark) l count) (sym f)
       (subst (IsWalk n root mark (set marks j mark) (found ++ j ∷ [])) (sym k) (walk_more w r lt ne)))
 
--- what is known when the first transitions of a list were followed
+-- ---- the transitions of one list
+
+-- what is known when the first i transitions of a list were followed
 pub record FollowsSoFar (n : Net) (list : List Arrow) (mark i : ℕ) (marks more found longer : List ℕ)
     (pairs count : ℕ) : Type 0 where
   pub sized : length more ≡ junction_count n
-  pub walk : (root : List Arrow) → IsWalk n root mark marks found pairs →
-      ((j : ℕ) → LeadsTo list j → Reached n root j) → IsWalk n root mark more longer count
+  pub walk : (root : List Arrow) → IsWalk n root mark marks found pairs
+      → ((j : ℕ) → LeadsTo list j → Reached n root j) → IsWalk n root mark more longer count
   pub grows : Grows mark marks more found longer
   pub marked : (k j : ℕ) (a : Arrow) → k < i → slice_get list k ≡ Some a → a.to ≡ Junction j
       → has_mark more mark j ≡ true
@@ -135,6 +141,7 @@ dest_within n list i j d h lt e = subst (IsDest n) e (h (get_or list i d) (i, sl
 pub at_zero : (xs : List ℕ) (i x : ℕ) → i < length xs → x ≡ get_or xs i x → x ≡ get_or xs i 0
 at_zero xs i x lt e = let f = slice_get-get_or xs i x lt in let g = slice_get-get_or xs i 0 lt in cc
 
+-- a transition that is read at a place is the one that stands there
 same_arrow : (list : List Arrow) (i k : ℕ) (d a : Arrow) → i < length list → k ≡ i → slice_get list k ≡ Some a
     → get_or list i d ≡ a
 same_arrow list i k d a lt e h =
@@ -143,22 +150,24 @@ same_arrow list i k d a lt e h =
 
 module _ (n : Net) (list : List Arrow) (mark i : ℕ) (marks more found longer : List ℕ) (pairs count : ℕ)
     (d : Arrow) where
-  pub follows_state : (s : ℕ) → FollowsSoFar n list mark i marks more found longer pairs count → i < length list →
-      (get_or list i d).to ≡ State s
+  -- a transition to a state marks nothing
+  pub follows_state : (s : ℕ) → FollowsSoFar n list mark i marks more found longer pairs count → i < length list
+      → (get_or list i d).to ≡ State s
       → FollowsSoFar n list mark (i + 1) marks more found longer pairs count
   follows_state s f lt e = record {
     sized = f.sized;
     walk = f.walk;
     grows = f.grows;
     marked = λ k j a h g t. ⊎_elim (λ old. f.marked k j a old g t)
-        (λ new. absurd
-        (let x = same_arrow list i k d a lt (omega arith) g in let y = ap (λ (b : Arrow). b.to) x in cc))
+        (λ new. absurd (let x = same_arrow list i k d a lt (omega arith) g in
+        let y = ap (λ (b : Arrow). b.to) x in cc))
         (cases_lt k i);
   }
 
+  -- a transition to a junction marks it
   pub follows_junction : (j : ℕ) (marks2 found2 : List ℕ) (count2 : ℕ)
-      → FollowsSoFar n list mark i marks more found longer pairs count → i < length list →
-      (get_or list i d).to ≡ Junction j
+      → FollowsSoFar n list mark i marks more found longer pairs count → i < length list
+      → (get_or list i d).to ≡ Junction j
       → length marks2 ≡ length more
       → ((root : List Arrow) → IsWalk n root mark more longer count → Reached n root j
       → IsWalk n root mark marks2 found2 count2)
@@ -169,11 +178,12 @@ module _ (n : Net) (list : List Arrow) (mark i : ℕ) (marks more found longer :
     walk = λ root w r. walk root (f.walk root w r) (r j (get_or list i d, (i, slice_get-get_or list i d lt), e));
     grows = grows_then mark marks more marks2 found longer found2 f.grows grows;
     marked = λ k j2 a h g t. ⊎_elim (λ old. grows.kept j2 (f.marked k j2 a old g t))
-        (λ new. let x = same_arrow list i k d a lt (omega arith) g in let y = ap (λ (b : Arrow). b.to) x in
+        (λ new. let x = same_arrow list i k d a lt (omega arith) g in
+        let y = ap (λ (b : Arrow). b.to) x in
         let same : j ≡ j2 = cc in subst (λ m. has_mark marks2 mark m ≡ true) same on) (cases_lt k i);
   }
 
--- at the end of the list
+-- at the end of the list all that it leads to has the mark
 pub follows_all : (n : Net) (list : List Arrow) (mark i : ℕ) (marks more found longer : List ℕ) (pairs count : ℕ)
     → length list ≤ i
     → FollowsSoFar n list mark i marks more found longer pairs count → Marked mark more list
@@ -182,12 +192,14 @@ follows_all n list mark i marks more found longer pairs count le f j h =
 
 -- ---- the whole walk
 
+-- an empty set weighs nothing
 weight_none : (p : ℕ → Bool) (w : ℕ → ℕ) (n : ℕ) → ((i : ℕ) → p i ≡ false) → weight p w n ≡ 0
 weight_none p w zero f = refl
 weight_none p w (suc n) f =
     let rest = weight_none p w n f in
     let here : cond (p n) (w n) 0 ≡ 0 = ap (λ b. cond b (w n) 0) (f n) in omega arith
 
+-- at the start no junction has the mark
 pub walk_start : (n : Net) (root : List Arrow) (mark : ℕ) (marks found : List ℕ) (pairs : ℕ)
     → length marks ≡ junction_count n → ((j : ℕ) → get_or marks j 0 < mark)
     → found ≡ [] → pairs ≡ length root → pairs ≤ greatest_count → IsWalk n root mark marks found pairs
@@ -206,12 +218,13 @@ walk_start n root mark marks found pairs sized fresh none count few =
       total = omega arith;
     }
 
--- what is known when the junctions found before were followed
+-- what is known when the first junctions that were found, up to the next one, were followed
 pub record ReachesSoFar (n : Net) (list : List Arrow) (mark next : ℕ) (marks found : List ℕ) (pairs : ℕ) : Type 0 where
   pub walk : IsWalk n list mark marks found pairs
   pub direct : Marked mark marks list
   pub closed : (i : ℕ) → i < next → Marked mark marks (junction_list n (get_or found i 0))
 
+-- no more junctions are found than there are
 pub found_few : (n : Net) (list : List Arrow) (mark : ℕ) (marks found : List ℕ) (pairs : ℕ)
     → IsWalk n list mark marks found pairs → length found ≤ junction_count n
 found_few n list mark marks found pairs w = omega (arith, w.count, weight_ones (has_mark marks mark) (junction_count n))
@@ -228,6 +241,7 @@ pub found_within : (n : Net) (list : List Arrow) (mark : ℕ) (marks found : Lis
 found_within n list mark marks found pairs i j pos w lt e =
     omega (arith, w.sized, marked_within marks mark (get_or found i 0) pos (w.listed i lt))
 
+-- after the list itself was followed
 pub reaches_start : (n : Net) (list : List Arrow) (mark : ℕ) (marks more found longer : List ℕ) (pairs count : ℕ)
     → IsWalk n list mark marks found pairs
     → ((root : List Arrow) → IsWalk n root mark marks found pairs → ((j : ℕ) → LeadsTo list j → Reached n root j)
@@ -239,6 +253,7 @@ reaches_start n list mark marks more found longer pairs count w walk marked = re
   closed = λ i lt. absurd (omega arith);
 }
 
+-- one junction more
 pub reaches_more : (n : Net) (list : List Arrow) (mark next : ℕ) (marks more found longer : List ℕ)
     (pairs count j : ℕ) (own : List Arrow) → ReachesSoFar n list mark next marks found pairs
     → next < length found → j ≡ get_or found next 0 → own ≡ junction_list n j
@@ -246,8 +261,8 @@ pub reaches_more : (n : Net) (list : List Arrow) (mark next : ℕ) (marks more f
     → IsWalk n root mark more longer count)
     → Grows mark marks more found longer → Marked mark more own → ReachesSoFar n list mark (next + 1) more longer count
 reaches_more n list mark next marks more found longer pairs count j own r lt e f walk grows marked =
-    let reached : Reached n list j = subst (Reached n list) (sym e)
-    (r.walk.sound (get_or found next 0) (r.walk.listed next lt)) in
+    let sound = r.walk.sound (get_or found next 0) (r.walk.listed next lt) in
+    let reached : Reached n list j = subst (Reached n list) (sym e) sound in
     record {
       walk = walk list r.walk (λ k h. Through j k reached (subst (λ l. LeadsTo l k) f h));
       direct = λ k h. grows.kept k (r.direct k h);

@@ -4,6 +4,7 @@ use Rattle.std.proofs.Common.{arith, ⊎_elim}
 use Rattle.std.proofs.lemmas.Bool.{cases_lt}
 use Rattle.state_tree.specs.Reached.{weight}
 
+-- sets that have the same numbers below the limit weigh the same
 pub weight_same : (p q : ℕ → Bool) (w : ℕ → ℕ) (n : ℕ) → ((i : ℕ) → i < n → q i ≡ p i) → weight q w n ≡ weight p w n
 weight_same p q w zero f = refl
 weight_same p q w (suc n) f =
@@ -28,6 +29,7 @@ weight_more p q w (suc n) j lt off on other = ⊎_elim
     omega arith)
     (cases_lt j n)
 
+-- one number counts at most one
 ones : (p : ℕ → Bool) (n : ℕ) (b : Bool) → cond b 1 0 ≤ 1
 ones p n true = omega arith
 ones p n false = omega arith
@@ -37,7 +39,7 @@ pub weight_ones : (p : ℕ → Bool) (n : ℕ) → weight p (λ _. 1) n ≤ n
 weight_ones p zero = omega arith
 weight_ones p (suc n) = let rest = weight_ones p n in let here = ones p n (p n) in omega arith
 
--- two sets of the same numbers weigh the same
+-- so do sets of which each has what the other has
 pub weight_where : (p q : ℕ → Bool) (w : ℕ → ℕ) (n : ℕ) → ((i : ℕ) → p i ≡ true → q i ≡ true) →
     ((i : ℕ) → q i ≡ true → p i ≡ true) → weight q w n ≡ weight p w n
 weight_where p q w n f g = weight_same p q w n (λ i lt. go (q i) (p i) (g i) (f i))

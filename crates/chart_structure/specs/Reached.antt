@@ -44,7 +44,7 @@ pub record StatePairs (n : Net) (s count : ℕ) : Type 0 where
   pub of_default : ArePairs n (list_of n s Default) default
   pub sum : count ≡ outer + inner + default
 
--- how many pairs have a list of one of the first states, of which there are as many as the number says
+-- how many pairs have a list of one of the first s states
 abbrev pub PairsBelow : Net → ℕ → ℕ → Type 0
 PairsBelow n zero count = count ≡ 0
 PairsBelow n (suc s) count =

@@ -57,8 +57,8 @@ is_leaf Leaf = true
 is_leaf Or = false
 is_leaf And = false
 
--- what is wrong with the composition of a state: whether it is the root, its word, whether it has no children, and
--- whether it has no default list
+-- what is wrong with the composition of a state, by four things: whether it is the root, its word, whether it has no
+-- children, and whether it has no default list
 abbrev pub comp_fault : Bool → Comp → Bool → Bool → Option FormKind
 comp_fault root word true listless = if root || not (is_leaf word) then Some kinds.EmptyComposition else None
 comp_fault root word false listless = if is_or word && listless then Some kinds.DefaultMissing else None

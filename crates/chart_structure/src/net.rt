@@ -4,7 +4,7 @@ use state_tree::{Dest, ListKind};
 use std::marker::Model;
 use token_grammar::Span;
 
-/// A transition: whether it may fail to fire, and where it leads.
+/// A transition: whether it has an event or a guard, and where it leads.
 #[derive(Clone, Copy, Debug, PartialEq, Eq)]
 pub struct Arrow {
     /// The place of the transition.

@@ -17,7 +17,8 @@ pub returns-then-is_empty-clause-one : goal.returns-then-is_empty-clause-one
 returns-then-is_empty-clause-one c =
     keep_one _ _ _ _ (c.keep.ensures) c.with_list-kept.ensures.one
     (subst (λ at. StructureFault c.args.net.now (at_place DefaultOpen at)) (sym c.junction_name-at.ensures)
-    (empty_fault c.args.net.now c.args.state c.args.junction c.args.kind _ c.requires.state c.in-Default.is c.requires.reached c.junction-list.ensures.list (c.is_empty.ensures.0 c.if-is_empty.true)))
+    (empty_fault c.args.net.now c.args.state c.args.junction c.args.kind _ c.requires.state c.in-Default.is
+    c.requires.reached c.junction-list.ensures.list (c.is_empty.ensures.0 c.if-is_empty.true)))
 
 pub returns-then-is_empty-clause-old : goal.returns-then-is_empty-clause-old
 returns-then-is_empty-clause-old c = λ f h. keep_old _ _ _ f c.keep.ensures (c.with_list-kept.ensures.old f h)

@@ -12,8 +12,10 @@ with_list-own-requires-clause-met c =
 pub returns-clause-new : goal.returns-clause-new
 returns-clause-new c =
     let e = c.with_junctions-fault.ensures in
-    kind_passed _ _ _ _ _ _ _ _ c.list-list.ensures.list c.in_ok-reach.ensures.walk c.in_ok-reach.ensures.all _ _ _ c.deref.ensures.value c.with_list-own.ensures.new e.old e.new e.empty
+    kind_passed _ _ _ _ _ _ _ _ c.list-list.ensures.list c.in_ok-reach.ensures.walk c.in_ok-reach.ensures.all
+    _ _ _ c.deref.ensures.value c.with_list-own.ensures.new e.old e.new e.empty
 
 pub returns-clause-pairs : goal.returns-clause-pairs
 returns-clause-pairs c =
-    kind_pairs _ _ _ _ _ _ _ _ c.list-list.ensures.list c.in_ok-reach.ensures.walk c.in_ok-reach.ensures.all _ _ c.saturating_add.ensures
+    kind_pairs _ _ _ _ _ _ _ _ c.list-list.ensures.list c.in_ok-reach.ensures.walk c.in_ok-reach.ensures.all
+    _ _ c.saturating_add.ensures

@@ -13,7 +13,8 @@ loop-arrow-preserved c = elim c.match-arrow.branch [
   | in-Junction+in_ok-count-in-Junction w ↦
       let x = w.in_ok-count-in-Junction.ensures in
       rw (w.marks-is, w.found-is, w.count-is)
-      (follows_junction _ _ _ _ _ _ _ _ _ _ _ _ _ _ _ c.loop-arrow.invariant c.loop-arrow-test.true w.in-Junction.is w.visit.auto.marks x.walk x.grows x.marked)
+      (follows_junction _ _ _ _ _ _ _ _ _ _ _ _ _ _ _ c.loop-arrow.invariant c.loop-arrow-test.true
+      w.in-Junction.is w.visit.auto.marks x.walk x.grows x.marked)
 ]
 
 pub returns-clause-marked : goal.returns-clause-marked

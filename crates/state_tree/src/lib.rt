@@ -12,4 +12,5 @@ pub mod limits;
 mod parts;
 
 pub use chart::Chart;
+pub use homes::outer_home;
 pub use parts::{BlockKind, Dest, ListKind, StateParts, Trans};

@@ -1,0 +1,12 @@
+pub mod NetLemmas
+pub mod KeepLemmas
+pub mod DestLemmas
+pub mod ListLemmas
+pub mod StateLemmas
+pub mod WeightLemmas
+pub mod WalkLemmas
+pub mod PassLemmas
+pub mod ValidLemmas
+pub mod MapLemmas
+pub mod ErasedLemmas
+pub mod ChartLemmas

@@ -1,0 +1,10 @@
+pub mod Net
+pub mod Views
+pub mod Reached
+pub mod Structure
+pub mod Valid
+pub mod Charts
+pub mod Tests
+pub mod Marks
+pub mod Pass
+pub mod Erased

@@ -1,0 +1,118 @@
+//! The faults of destinations.
+ghost use Rattle.std.specs.Prelude.{◌≡◌, ◌<◌, ℕ};
+ghost use Rattle.active_config.specs.Tree as tree;
+ghost use Rattle.active_config.specs.Tree.{state_count};
+ghost use Rattle.chart_tree.specs.declared.fault.FormKind.{FormKind};
+ghost use Rattle.chart_tree.specs.declared.first.Found.{Found};
+ghost use Rattle.chart_tree.specs.First.{at_place, IsOne, Passed};
+ghost use Rattle.state_tree.specs.Chart as charts;
+ghost use Rattle.chart_structure.specs.declared.net.Arrow.{Arrow};
+ghost use Rattle.chart_structure.specs.Net as spec;
+ghost use Rattle.chart_structure.specs.Reached.{Meets};
+ghost use Rattle.chart_structure.specs.Structure.{StructureFault};
+ghost use Rattle.chart_structure.specs.Tests as tests;
+
+use crate::kept::with_fault;
+use crate::net::{Arrow, Net};
+use active_config::{Comp, Shape};
+use chart_tree::{FormKind, Found};
+use state_tree::{Dest, ListKind, outer_home};
+
+/// Whether a composition word is an OR.
+pub fn is_or(word: Comp) -> bool
+    ensures { result ≡ charts.is_or word }
+{
+    match word {
+        Comp::Or => true,
+        Comp::Leaf | Comp::And => false,
+    }
+}
+
+/// Whether a state is another one or below it.
+#[tactic(auto, unfolding(active_config::specs::Tree::is_at_or_below))]
+fn is_at_or_below(shape: &Shape, state: u32, above: u32) -> bool
+    requires state { state < state_count shape.now }
+    requires above { above < state_count shape.now }
+    ensures { result ≡ tree.is_at_or_below shape.now state above }
+{
+    state == above || shape.is_below(state, above)
+}
+
+/// What is wrong with a home of this composition.
+fn crossing(word: Comp) -> Option<FormKind>
+    ensures { result ≡ tests.crossing word }
+{
+    if is_or(word) {
+        None
+    } else {
+        Some(FormKind::CrossesRegions)
+    }
+}
+
+/// What is wrong with a state to which a list leads.
+fn dest_fault(net: &Net, state: u32, kind: ListKind, dest: u32) -> Option<FormKind>
+    requires state { state < state_count net.now.tree }
+    requires dest { dest < state_count net.now.tree }
+    ensures { result ≡ tests.dest_fault net.now state kind dest }
+{
+    let shape = net.shape();
+    match kind {
+        ListKind::Default => {
+            if shape.is_below(dest, state) {
+                None
+            } else {
+                Some(FormKind::DefaultLeaves)
+            }
+        }
+        ListKind::Inner => {
+            if is_at_or_below(shape, dest, state) {
+                crossing(net.word(state))
+            } else {
+                Some(FormKind::InnerLeaves)
+            }
+        }
+        ListKind::Outer => crossing(net.word(outer_home(shape, state, dest))),
+    }
+}
+
+/// The first fault, with that of one destination.
+fn with_dest(
+    net: &Net,
+    state: u32,
+    kind: ListKind,
+    arrow: Arrow,
+    first: Option<Found>,
+) -> Option<Found>
+    requires state { state < state_count net.now.tree }
+    requires dest { spec.IsDest net.now arrow.to }
+    ensures { result ≡ tests.with_dest net.now state kind arrow.to arrow.to_at first }
+{
+    match arrow.to {
+        Dest::Junction(_) => first,
+        Dest::State(dest) => with_fault(dest_fault(net, state, kind, dest), arrow.to_at, first),
+    }
+}
+
+/// The first fault, with those of the destinations of a list that is met.
+pub fn with_dests(
+    net: &Net,
+    state: u32,
+    kind: ListKind,
+    list: &[Arrow],
+    first: Option<Found>,
+) -> Option<Found>
+    requires state { state < state_count net.now.tree }
+    requires dests { (a : Arrow) → spec.Has list.now a → spec.IsDest net.now a.to }
+    requires met { Meets net.now (spec.list_of net.now state kind) list.now }
+    requires one { IsOne (StructureFault net.now) first }
+    ensures one { IsOne (StructureFault net.now) result }
+    ensures old { (f : Found) → Passed first f → Passed result f }
+    ensures new { (a : Arrow) (d : ℕ) (wrong : FormKind) →
+        tests.IsDestFault net.now state kind list.now a d wrong → Passed result (at_place wrong a.to_at) }
+{
+    let mut kept = first;
+    for arrow in list {
+        kept = with_dest(net, state, kind, *arrow, kept);
+    }
+    kept
+}

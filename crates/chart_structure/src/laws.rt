@@ -1,0 +1,43 @@
+//! What holds of every net and of every checked chart.
+ghost use Rattle.std.specs.Prelude.{◌≡◌, ◌≤◌, ℕ};
+ghost use Rattle.active_config.specs.Tree.{IsTree};
+ghost use Rattle.chart_tree.specs.declared.first.Found.{Found};
+ghost use Rattle.state_tree.specs.declared.limits.TheConstants as limits;
+ghost use Rattle.state_tree.specs.Chart.{Chart};
+ghost use Rattle.state_tree.specs.Reached.{ChartPairs};
+ghost use Rattle.state_tree.specs.Valid.{HasStructure};
+ghost use Rattle.chart_structure.specs.Charts.{net_of_chart};
+ghost use Rattle.chart_structure.specs.Erased.{erased};
+ghost use Rattle.chart_structure.specs.Net.{Net, IsNet};
+ghost use Rattle.chart_structure.specs.Structure.{StructureFault, PairFault};
+ghost use Rattle.chart_structure.specs.Valid.{IsValid};
+
+/// A net without faults is valid.
+pub fn faultless_nets_are_valid()
+    ensures { (n : Net) → IsNet n → ((f : Found) → StructureFault n f → ⊥)
+        → ((f : Found) → PairFault n f → ⊥) → IsValid n }
+{}
+
+/// A valid net has no fault.
+pub fn valid_nets_are_faultless()
+    ensures structure { (n : Net) (f : Found) → IsNet n → IsValid n → StructureFault n f → ⊥ }
+    ensures pairs { (n : Net) (f : Found) → IsNet n → IsValid n → PairFault n f → ⊥ }
+{}
+
+/// A valid net is valid without its places.
+pub fn valid_nets_need_no_places()
+    ensures { (n : Net) → IsValid n → IsValid (erased n) }
+{}
+
+/// Where the net of a chart is valid, the chart has its structure, and its pairs keep their limit.
+pub fn charts_of_valid_nets_have_structure()
+    ensures structure { (c : Chart) → IsTree c.tree → IsValid (net_of_chart c) → HasStructure c }
+    ensures pairs { (c : Chart) (count : ℕ) → IsValid (net_of_chart c) → ChartPairs c count
+        → count ≤ limits.MOST_PAIRS }
+{}
+
+/// Where a chart has its structure and its pairs keep their limit, its net is valid.
+pub fn charts_with_structure_have_valid_nets()
+    ensures { (c : Chart) → IsTree c.tree → HasStructure c
+        → ((count : ℕ) → ChartPairs c count → count ≤ limits.MOST_PAIRS) → IsValid (net_of_chart c) }
+{}

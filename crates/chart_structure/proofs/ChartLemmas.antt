@@ -12,7 +12,7 @@ use Rattle.token_grammar.specs.declared.token.Span.{Span}
 use Rattle.active_config.specs.declared.comp.Comp.TheVariants.{Leaf, Or}
 use Rattle.active_config.specs.Tree.{Tree, IsTree, state_count, comp_of, children_of}
 use Rattle.actions.specs.Exprs.{Expr}
-use Rattle.state_tree.specs.declared.limits.TheConstants.{MOST_PAIRS}
+use Rattle.state_tree.specs.declared.limits.TheConstants.{PAIR_LIMIT}
 use Rattle.state_tree.specs.declared.parts.Dest.{Dest}
 use Rattle.state_tree.specs.declared.parts.Dest.TheVariants.{State, Junction}
 use Rattle.state_tree.specs.declared.parts.ListKind.{ListKind}
@@ -257,7 +257,7 @@ module _ (c : Chart) where
 
   -- ---- from the net to the chart
 
-  pub few_pairs : IsValid (net_of_chart c) → (count : ℕ) → chart_reached.ChartPairs c count → count ≤ MOST_PAIRS
+  pub few_pairs : IsValid (net_of_chart c) → (count : ℕ) → chart_reached.ChartPairs c count → count ≤ PAIR_LIMIT
   few_pairs v count are = v.pairs count (below_on (state_count c.tree) count (omega arith) are)
 
   pub structure_of : IsTree c.tree → IsValid (net_of_chart c) → HasStructure c
@@ -283,7 +283,7 @@ module _ (c : Chart) where
 
   -- ---- from the chart to the net
 
-  pub valid_net : IsTree c.tree → HasStructure c → ((count : ℕ) → chart_reached.ChartPairs c count → count ≤ MOST_PAIRS)
+  pub valid_net : IsTree c.tree → HasStructure c → ((count : ℕ) → chart_reached.ChartPairs c count → count ≤ PAIR_LIMIT)
       → IsValid (net_of_chart c)
   valid_net tree h few = record {
     words = words_same;

@@ -9,7 +9,7 @@ use Rattle.chart_tree.specs.declared.fault.FormKind.TheVariants as kinds
 use Rattle.chart_tree.specs.declared.first.Found.{Found}
 use Rattle.chart_structure.specs.declared.net.Arrow.{Arrow}
 use Rattle.state_tree.specs.Reached.{weight}
-use Rattle.state_tree.specs.declared.limits.TheConstants.{MOST_PAIRS}
+use Rattle.state_tree.specs.declared.limits.TheConstants.{PAIR_LIMIT}
 use Rattle.state_tree.specs.declared.parts.ListKind.{ListKind}
 use Rattle.state_tree.specs.declared.parts.ListKind.TheVariants.{Outer, Inner, Default}
 use Rattle.chart_structure.specs.Net.{Net, name_of, list_of, junction_count, junction_list, junction_name}
@@ -209,14 +209,14 @@ below_same n (suc s) a b x y =
 
 -- without a fault of structure, too many pairs are the answer
 pub answer_pairs : (n : Net) (fault : Option Found) (total : ℕ) → IsFirst (StructureFault n) fault
-    → CountsPairs n total → fault ≡ None → MOST_PAIRS < total
+    → CountsPairs n total → fault ≡ None → PAIR_LIMIT < total
     → IsAnswer n (Some (at_place kinds.TooManyPairs (name_of n 0)))
 answer_pairs n fault total first c e lt =
     inr (subst (IsFirst (StructureFault n)) e first, TooMany c.count c.are (omega (arith, c.bounded)))
 
 -- else the first fault of structure is
 pub answer_first : (n : Net) (fault : Option Found) (total : ℕ) → IsFirst (StructureFault n) fault
-    → CountsPairs n total → (fault ≡ None → total ≤ MOST_PAIRS) → IsAnswer n fault
+    → CountsPairs n total → (fault ≡ None → total ≤ PAIR_LIMIT) → IsAnswer n fault
 answer_first n (Some f) total first c few = inl first
 answer_first n None total first c few = (first, go)
   where

@@ -11,7 +11,7 @@ use Rattle.active_config.specs.Tree.{Tree, IsTree, state_count, comp_of, childre
 use Rattle.active_config.specs.Tree.{is_at_or_below}
 use Rattle.active_config.proofs.PathLemmas.{above_of_below, path_le, parent_lt}
 use Rattle.chart_tree.specs.declared.first.Found.{Found}
-use Rattle.state_tree.specs.declared.limits.TheConstants.{MOST_PAIRS}
+use Rattle.state_tree.specs.declared.limits.TheConstants.{PAIR_LIMIT}
 use Rattle.state_tree.specs.declared.parts.ListKind.{ListKind}
 use Rattle.state_tree.specs.declared.parts.ListKind.TheVariants.{Outer, Inner, Default}
 use Rattle.state_tree.specs.Homes.{common_above, or_root, home_of}
@@ -141,7 +141,7 @@ module _ (n : Net) (net : IsNet n) (none : (f : Found) → StructureFault n f �
     history = λ s at lt is. or_where s lt (λ other. none _ (OfState s _ lt (UnwantedHistory at other is)));
     leads = may_lead;
     pairs =
-        λ count are. ⊎_elim (λ over. absurd (few _ (TooMany count are over))) (λ le. le) (cases_lt MOST_PAIRS count);
+        λ count are. ⊎_elim (λ over. absurd (few _ (TooMany count are over))) (λ le. le) (cases_lt PAIR_LIMIT count);
   }
 
 -- ---- from valid to no faults

@@ -6,7 +6,7 @@ use Rattle.active_config.specs.Tree.{state_count, children_of, is_below, is_at_o
 use Rattle.chart_tree.specs.declared.fault.FormKind.TheVariants as kinds
 use Rattle.chart_tree.specs.declared.first.Found.{Found}
 use Rattle.chart_tree.specs.First.{at_place}
-use Rattle.state_tree.specs.declared.limits.TheConstants.{MOST_PAIRS}
+use Rattle.state_tree.specs.declared.limits.TheConstants.{PAIR_LIMIT}
 use Rattle.state_tree.specs.declared.parts.Dest.TheVariants.{State}
 use Rattle.state_tree.specs.declared.parts.ListKind.{ListKind}
 use Rattle.state_tree.specs.declared.parts.ListKind.TheVariants.{Outer, Inner, Default}
@@ -69,5 +69,5 @@ pub data StructureFault (n : Net) : Found → Type 0 where
 
 -- there are too many pairs of a list and a transition: at the chart's name
 pub data PairFault (n : Net) : Found → Type 0 where
-  TooMany : (count : ℕ) → NetPairs n count → MOST_PAIRS < count
+  TooMany : (count : ℕ) → NetPairs n count → PAIR_LIMIT < count
       → PairFault n (at_place kinds.TooManyPairs (name_of n 0))

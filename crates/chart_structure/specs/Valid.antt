@@ -3,7 +3,7 @@ use Rattle.std.specs.Prelude.{◌≡◌, ◌≢◌, ◌<◌, ◌≤◌, ℕ, Lis
 use Rattle.token_grammar.specs.declared.token.Span.{Span}
 use Rattle.active_config.specs.declared.comp.Comp.TheVariants.{Or}
 use Rattle.active_config.specs.Tree.{state_count, comp_of, children_of}
-use Rattle.state_tree.specs.declared.limits.TheConstants.{MOST_PAIRS}
+use Rattle.state_tree.specs.declared.limits.TheConstants.{PAIR_LIMIT}
 use Rattle.state_tree.specs.declared.parts.ListKind.{ListKind}
 use Rattle.state_tree.specs.declared.parts.ListKind.TheVariants.{Default}
 use Rattle.state_tree.specs.Valid.{MayLead}
@@ -30,4 +30,4 @@ pub record IsValid (n : Net) : Type 0 where
   pub history : (s : ℕ) (at : Span) → s < state_count n.tree → history_of n s ≡ Some at → comp_of n.tree s ≡ Or
   pub leads : (s : ℕ) (kind : ListKind) (list : List Arrow) (a : Arrow) (d : ℕ) → s < state_count n.tree
       → Meets n (list_of n s kind) list → Leads list a d → MayLead n.tree s kind d
-  pub pairs : (count : ℕ) → NetPairs n count → count ≤ MOST_PAIRS
+  pub pairs : (count : ℕ) → NetPairs n count → count ≤ PAIR_LIMIT

@@ -33,11 +33,11 @@ pub fn valid_nets_need_no_places()
 pub fn charts_of_valid_nets_have_structure()
     ensures structure { (c : Chart) → IsTree c.tree → IsValid (net_of_chart c) → HasStructure c }
     ensures pairs { (c : Chart) (count : ℕ) → IsValid (net_of_chart c) → ChartPairs c count
-        → count ≤ limits.MOST_PAIRS }
+        → count ≤ limits.PAIR_LIMIT }
 {}
 
 /// Where a chart has its structure and its pairs keep their limit, its net is valid.
 pub fn charts_with_structure_have_valid_nets()
     ensures { (c : Chart) → IsTree c.tree → HasStructure c
-        → ((count : ℕ) → ChartPairs c count → count ≤ limits.MOST_PAIRS) → IsValid (net_of_chart c) }
+        → ((count : ℕ) → ChartPairs c count → count ≤ limits.PAIR_LIMIT) → IsValid (net_of_chart c) }
 {}

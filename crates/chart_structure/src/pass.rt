@@ -15,7 +15,7 @@ use crate::reach::reached_from;
 use crate::states::with_state;
 use chart_tree::{FormKind, Found};
 use state_tree::ListKind;
-use state_tree::limits::MOST_PAIRS;
+use state_tree::limits::PAIR_LIMIT;
 use std::alloc::{AllocError, Global};
 
 /// What the pass finds.
@@ -51,7 +51,7 @@ pub fn first_fault(alloc: Global, net: &Net) -> Result<Option<Found>, AllocError
     // Only the proof reads the tree: it has a root.
     let _ = net.shape();
     let found = find_faults(alloc, net)?;
-    if found.fault.is_none() && found.pairs > MOST_PAIRS as u64 {
+    if found.fault.is_none() && found.pairs > PAIR_LIMIT as u64 {
         return Ok(Some(Found {
             kind: FormKind::TooManyPairs,
             at: net.name(0),

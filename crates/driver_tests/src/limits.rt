@@ -87,18 +87,15 @@ fn a_million_events(rt: HostRuntime) -> Result<(), Fail> {
 }
 
 #[test]
-fn the_longest_file(rt: HostRuntime) -> Result<(), Fail> {
+fn a_file_that_is_one_line_too_long(rt: HostRuntime) -> Result<(), Fail> {
     let scale = Scale::make(true, 8, 0).ok_or("a scale")?;
     // 64 bytes a line, the newline included
     let line = "# 3456789012345678901234567890123456789012345678901234567890123";
-    for (count, answer) in [(1_048_576, Ok(())), (1_048_577, Err(DriveEnd::FileTooLong))] {
-        let mut inputs = lines(rt.alloc(), line, count)?;
-        let mut out = SureSink::new();
-        assert_eq!(rt;
-            run(rt.alloc(), scale, &mut inputs, &mut out)?,
-            answer,
-            "{count}"
-        );
-    }
+    let mut inputs = lines(rt.alloc(), line, 1_048_577)?;
+    let mut out = SureSink::new();
+    assert_eq!(rt;
+        run(rt.alloc(), scale, &mut inputs, &mut out)?,
+        Err(DriveEnd::FileTooLong)
+    );
     Ok(())
 }

@@ -1,4 +1,4 @@
-//! Tests of actions: what no clause says, worked by hand.
+//! Tests of actions: what no contract says, worked by hand.
 #![tactic(auto)]
 
 #[cfg(test)]

@@ -48,7 +48,7 @@ abbrev pub ReactsWithInputs : ReactionRelation → World → EventWithInputs →
 ReactsWithInputs react w given w' fault =
     (set : World) × AreSet 0 given.inputs w set × react set given.event w' fault
 
--- after a fault no moment comes, and else what is said
+-- after a moment with a fault there is none; after any other one, more holds
 abbrev pub UnlessFaulted : Option Fault → List Moment → Type 0 → Type 0
 UnlessFaulted None moments more = more
 UnlessFaulted (Some fault) moments more = moments ≡ []

@@ -22,7 +22,7 @@ use Rattle.actions.specs.Sorts.{Scope}
 abbrev pub Valued : Type 0
 Valued = Result Value Fault
 
--- goes on with a value
+-- what f gives for a value; a fault is passed on
 abbrev pub with_value : Valued → (Value → Valued) → Valued
 with_value (Ok value) f = f value
 with_value (Err fault) f = Err fault

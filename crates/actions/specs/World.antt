@@ -37,12 +37,12 @@ paid bounds w = if nat_le bounds.steps w.used then Err Steps else Ok (record w {
 abbrev pub put_out : ℕ → World → World
 put_out event w = record w { outputs = w.outputs ++ event ∷ [] }
 
--- how long a piece of work goes on: while a state is active, or while it is active and no child of it is
+-- the condition under which a piece of work continues: a state is active, or a state is active and has no active child
 pub data Life : Type 0 where
   On : ℕ → Life
   Bare : ℕ → Life
 
--- the work still goes on
+-- the work continues
 abbrev pub lives : Tree → Life → Configuration → Bool
 lives t (On s) marks = is_on s marks
 lives t (Bare s) marks = is_bare t s marks
@@ -54,11 +54,11 @@ pub record Declaration : Type 0 where
   pub sort : Sort
   pub mode : Mode
 
--- of the data that there are
+-- what is declared, read from the data of a world
 abbrev pub of_data : List Datum → List Declaration
 of_data vals = map (λ (d : Datum). record { sort = d.sort; mode = d.mode }) vals
 
--- of the data that are declared
+-- what is declared, read from the declarations
 abbrev pub of_names : Names → List Declaration
 of_names n = map (λ (v : Var). record { sort = v.sort; mode = v.mode }) n.vars
 

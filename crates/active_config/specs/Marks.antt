@@ -11,7 +11,7 @@ pub record Configuration : Type 0 where
   pub flags : List Bool
   pub last : List (Option ℕ)
 
--- for how many states there are flags
+-- how many states have a flag
 unfoldable pub mark_count : Configuration → ℕ
 mark_count marks = length marks.flags
 
@@ -35,13 +35,14 @@ no_marks t = record { flags = replicate (state_count t) false; last = replicate 
 unfoldable pub with_mark : ℕ → Bool → Configuration → Configuration
 with_mark s on marks = record marks { flags = slice_set marks.flags s on }
 
--- whether a state, composed so, takes one more active child: an OR must be bare, and the others active
+-- whether a state with this composition may get one more active child: an OR where it is bare, every other state where
+-- it is active
 abbrev pub takes_child : Tree → ℕ → Comp → Configuration → Bool
 takes_child t s Leaf marks = is_on s marks
 takes_child t s Or marks = is_bare t s marks
 takes_child t s And marks = is_on s marks
 
--- whether a parent takes one more active child; the root has no parent that could refuse
+-- whether a parent may get one more active child; for the root, which has no parent, it is true
 abbrev pub parent_takes_child : Tree → Option ℕ → Configuration → Bool
 parent_takes_child t None marks = true
 parent_takes_child t (Some p) marks = takes_child t p (comp_of t p) marks
@@ -54,7 +55,7 @@ can_mark t s marks = not (is_on s marks) && parent_takes_child t (parent_of t s)
 unfoldable pub last_of : ℕ → Configuration → Option ℕ
 last_of p marks = slice_index_or marks.last p None
 
--- the remembered children after s became that of its parent, if it has one
+-- the remembered children, where the parent of s, if there is one, now remembers s
 abbrev pub remember : Option ℕ → ℕ → List (Option ℕ) → List (Option ℕ)
 remember None s last = last
 remember (Some p) s last = slice_set last p (Some s)

@@ -72,8 +72,8 @@ pub fn marks_stay_consistent()
         parent_of t s ≡ Some p → comp_of t p ≡ Or → IsConsistent t (with_last t s marks) }
 {}
 
-/// A state that is kept is from then on what its parent remembers. What any other state remembers
-/// stays, and no state becomes active or inactive. Marking and clearing leave what is remembered.
+/// After `keep` the parent of the state remembers it. What any other state remembers stays, and no
+/// state becomes active or inactive. Marking and clearing leave what is remembered.
 pub fn keeping_changes_one_entry()
     ensures here { (t : Tree) (marks : Configuration) (s p : ℕ) → IsConsistent t marks →
         p < state_count t → parent_of t s ≡ Some p → last_of p (with_last t s marks) ≡ Some s }
@@ -86,7 +86,7 @@ pub fn keeping_changes_one_entry()
 {}
 
 /// In a tree the number of a parent is lower than that of its child, and a state is strictly below
-/// its parent and all that are above that one.
+/// its parent and the ancestors of its parent.
 pub fn states_stand_below_their_parents()
     ensures lower { (t : Tree) (s p : ℕ) → IsTree t → parent_of t s ≡ Some p → p < s }
     ensures below { (t : Tree) (s p a : ℕ) → IsTree t → parent_of t s ≡ Some p →

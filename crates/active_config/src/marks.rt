@@ -27,7 +27,7 @@ impl Marks {
     ghost use Rattle.active_config.specs.Tree.{state_count, comp_of, parent_of};
     ghost use Rattle.active_config.specs.Marks as spec;
 
-    /// No state of the shape is active, and none remembers a child.
+    /// The configuration in which no state is active and none remembers a child.
     pub fn make(alloc: Global, shape: &Shape) -> Result<Marks, Memory>
         ensures none { IfOk result (λ marks. marks ≡ spec.no_marks shape.now) }
         ensures consistent { IfOk result (λ marks. spec.IsConsistent shape.now marks) }
@@ -86,7 +86,8 @@ impl Marks {
         None
     }
 
-    /// Makes a state active. It isn't, its parent is, and a parent that is an OR is bare.
+    /// Makes a state active that isn't active. Its parent, if it has one, must be active, and bare
+    /// where it is an OR.
     pub fn mark(&mut self, shape: &Shape, state: u32)
         requires state { state < state_count shape.now }
         requires consistent { spec.IsConsistent shape.now self.old }
@@ -110,7 +111,7 @@ impl Marks {
         self.flags[state as usize] = false;
     }
 
-    /// Makes a state the child that its parent remembers. That parent is an OR.
+    /// Makes the parent of a state remember it. The parent must be an OR.
     pub fn keep(&mut self, shape: &Shape, state: u32)
         requires state { state < state_count shape.now }
         requires consistent { spec.IsConsistent shape.now self.old }

@@ -31,7 +31,7 @@ use Rattle.canonical_claims.specs.Sizes.{◌⊕◌, size_of_block, size_of_trans
 use Rattle.canonical_claims.specs.Terms.{IsNamed, IsPath, IsLiteral, IsScale, IsExpr, IsBlock, IsTrans, IsJunction}
 use Rattle.canonical_claims.specs.Terms.{IsVar, IsChart}
 
--- all tokens are cut from a text
+-- each of the tokens is cut from some text
 abbrev pub AreCut : List Lexeme → Type 0
 AreCut u = AllByRecursion IsCut u
 
@@ -41,7 +41,7 @@ AreCut u = AllByRecursion IsCut u
 abbrev pub literal_bytes : LitText → List ℕ
 literal_bytes lit = digits_bytes lit.units lit.places ++ bits_bytes lit.q
 
--- they are one number without a fault, which tells the same
+-- these bytes are one number without a fault, and are read as the same literal
 pub record LiteralIsRead (lit : LitText) : Type 0 where
   pub number : IsNumber (literal_bytes lit)
   pub sound : fault_of_number (number_read (literal_bytes lit)) ≡ None
@@ -51,12 +51,12 @@ pub record LiteralIsRead (lit : LitText) : Type 0 where
 abbrev pub scale_bytes : ScaleParts → List ℕ
 scale_bytes scale = if is_int scale then int_bytes scale else fix_bytes scale
 
--- they are a name, which names that scale
+-- these bytes are a NAME and, as a type, this scale
 pub record ScaleIsRead (scale : ScaleParts) : Type 0 where
   pub named : IsTrue (is_name (scale_bytes scale))
   pub told : type_word (scale_bytes scale) ≡ Some (ScaleWord scale)
 
--- numbers and types: their canonical bytes are read as these
+-- numbers and types: their canonical bytes are read as the same numbers and types
 pub record NumberClaims : Type 0 where
   pub literal_is_read : (lit : LitText) → IsLiteral lit → LiteralIsRead lit
   pub zero_is_literal : IsLiteral zero_lit
@@ -69,15 +69,15 @@ pub record NumberClaims : Type 0 where
 
 -- ---- names, paths and expressions
 
--- names, paths, numbers and expressions: what is spelled has what Terms lists, and what has it is spelled by its
--- canonical words
+-- names, paths, numbers and expressions: what some tokens spell meets the conditions of Terms, and what meets them is
+-- spelled by its canonical words
 pub record ExpressionClaims : Type 0 where
   pub name_has : (u : List Lexeme) (x : NameText) → AreCut u → name.spells u x → IsNamed x
   -- whatever its text, since only the kind of the word counts here
   pub name_spelled : (x : NameText) → WordsSpell name unplaced_name (words_in (name_pieces x)) (unplaced_name x)
   pub path_has : (u : List Lexeme) (x : Path) → AreCut u → path.spells u x → IsPath x
   pub path_spelled : (x : Path) → IsPath x → WordsSpell path unplaced_path (words_in (path_pieces x)) (unplaced_path x)
-  -- a number is spelled as a token, and `lit_of` is what it tells
+  -- a number is spelled as a token, and `lit_of` gives its literal
   pub number_has : (u : List Lexeme) (t : Lexeme) → AreCut u → (number usual).spells u t → IsLiteral (lit_of t.text)
   pub number_spelled : (lit : LitText) → IsLiteral lit
       → WordsSpell (number usual) (λ t. lit_of t.text) (words_in (literal_pieces lit)) lit
@@ -87,12 +87,12 @@ pub record ExpressionClaims : Type 0 where
 
 -- ---- blocks, transitions, junctions and declarations
 
--- where there were n things, after a part of that size there are `after`, and no more than may be
+-- a part of this size raises the counts from n to after, within the limits
 pub record Adds (n size after : Counts) : Type 0 where
   pub count : after ≡ n ⊕ size
   pub within : IsWithin n → IsWithin after
 
--- a counted value, looked at
+-- a counted value, with the view of its value in place of the value
 abbrev pub counted : {X Y : Type 0} → (X → Y) → Counted X → Counted Y
 counted view x = record { value = view x.value; counts = x.counts }
 
@@ -100,8 +100,8 @@ counted view x = record { value = view x.value; counts = x.counts }
 abbrev pub behind : {X : Type 0} → X → Counts → Counted X
 behind x n = record { value = x; counts = n }
 
--- blocks, transitions, junctions and declarations: the same, and after n things their sizes are added up within the
--- limits
+-- blocks, transitions, junctions and declarations: the same claims, where the counts before are n and the sizes are
+-- added within the limits
 pub record TransitionClaims : Type 0 where
   pub block_has : (n : Counts) (u : List Lexeme) (x : List Stmt) → AreCut u → (block usual n).spells u x
       → IsBlock x × (IsWithin n → IsWithin (n ⊕ size_of_block x))
@@ -131,7 +131,8 @@ pub record TransitionClaims : Type 0 where
 
 -- ---- charts
 
--- charts: a chart that is spelled has what Terms lists, and one that has it is spelled by its canonical words
+-- charts: a chart that some tokens spell meets the conditions of Terms, and one that meets them is spelled by its
+-- canonical words
 pub record ChartClaims : Type 0 where
   pub chart_has : (u : List Lexeme) (x : Chart) → AreCut u → (chart usual).spells u x → IsChart x
   pub chart_spelled : (x : Chart) → IsChart x

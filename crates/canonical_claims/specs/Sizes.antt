@@ -10,7 +10,7 @@ use Rattle.chart_print.specs.Expressions.{expr_precedence, left_least, right_lea
 
 -- ---- operators
 
--- one more where it is enclosed in parentheses
+-- a count, and one more where parentheses are put round the expression
 abbrev pub enclosing : Bool → ℕ → ℕ
 enclosing true operators = operators + 1
 enclosing false operators = operators
@@ -30,12 +30,12 @@ operators_in (Binary word l r at) =
 
 -- ---- counts
 
--- nothing
+-- no things
 abbrev pub none : Counts
 none = record { states = 0; junctions = 0; transitions = 0; variables = 0; events = 0; items = 0 }
 
 infixl 20 ◌⊕◌
--- both together
+-- the sum of two counts
 abbrev pub ◌⊕◌ : Counts → Counts → Counts
 n ⊕ m = record {
   states = n.states + m.states;
@@ -46,25 +46,25 @@ n ⊕ m = record {
   items = n.items + m.items;
 }
 
--- of each of a list
+-- the sum of the counts of a list
 abbrev pub sizes : {X : Type 0} → (X → Counts) → List X → Counts
 sizes size [] = none
 sizes size (x ∷ xs) = size x ⊕ sizes size xs
 
--- in a block
+-- the counts of a block
 abbrev pub size_of_block : List Stmt → Counts
 size_of_block stmts = record none { items = length stmts }
 
--- in a transition, which is one itself
+-- the counts of a transition, which counts itself
 abbrev pub size_of_trans : Trans → Counts
 size_of_trans trans =
     after_transition none ⊕ (size_of_block trans.cond ⊕ size_of_block trans.act)
 
--- in a junction
+-- the counts of a junction
 abbrev pub size_of_junction : Junction → Counts
 size_of_junction junction = after_junction none ⊕ sizes size_of_trans junction.list
 
--- in the items of a state but for its child states
+-- the counts of the items of a state but for its child states
 abbrev pub size_of_parts : Parts → Counts
 size_of_parts parts =
     (size_of_block parts.entry ⊕ (size_of_block parts.during ⊕ size_of_block parts.exit))
@@ -73,23 +73,23 @@ size_of_parts parts =
     ⊕ sizes size_of_junction parts.junctions)
 
 abbrev mutual
-  -- in a state
+  -- the counts of a state
   pub size_of_state : State → Counts
   size_of_state (StateOf parts states) =
       after_state none ⊕ (size_of_parts parts ⊕ size_of_states states)
 
-  -- in states
+  -- the counts of states
   pub size_of_states : States → Counts
   size_of_states NoState = none
   size_of_states (MoreStates state others) = size_of_state state ⊕ size_of_states others
 
--- in a chart
+-- the counts of a chart
 abbrev pub size_of_chart : Chart → Counts
 size_of_chart chart =
     sizes (λ e. after_event none) chart.events
     ⊕ (sizes (λ v. after_variable none) chart.vars ⊕ size_of_state chart.root)
 
--- no more than the limits allow
+-- the counts are no more than the limits allow
 pub record IsWithin (n : Counts) : Type 0 where
   pub states : n.states ≤ most things.States
   pub junctions : n.junctions ≤ most things.Junctions

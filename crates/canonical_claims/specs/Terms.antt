@@ -1,4 +1,4 @@
--- What a chart and each of its parts have where some text spells them.
+-- The conditions that a chart and each of its parts meet where some text spells them.
 use Rattle.std.specs.Prelude.{◌≡◌, ℕ, zero, suc, ◌≤◌, Bool, false, IsTrue, List, [], ◌∷◌, length, Option, Some, None}
 use Rattle.std.specs.List.{AllByRecursion}
 use Rattle.token_grammar.specs.declared.fault.Thing.TheVariants as things
@@ -22,7 +22,7 @@ use Rattle.chart_print.specs.Canonical.{parts_in, states_in}
 use Rattle.canonical_claims.specs.Words.{IsNumber}
 use Rattle.canonical_claims.specs.Sizes.{operators_in, size_of_chart, IsWithin}
 
--- what may be missing has it where it is there
+-- a condition on something optional: it holds where the thing is there
 abbrev pub IfThere : {X : Type 0} → (X → Type 0) → Option X → Type 0
 IfThere has None = Unit {0}
 IfThere has (Some x) = has x
@@ -33,12 +33,12 @@ IfThere has (Some x) = has x
 abbrev pub IsNamed : NameText → Type 0
 IsNamed name = IsTrue (is_name name.text)
 
--- at least one name
+-- the condition of a path: it has at least one name
 abbrev pub IsPath : Path → Type 0
 IsPath [] = ⊥
 IsPath (first ∷ others) = IsNamed first × AllByRecursion IsNamed others
 
--- what a number tells that has no fault
+-- a literal that some number without a fault denotes
 pub record IsLiteral (lit : LitText) : Type 0 where
   pub text : List ℕ
   pub number : IsNumber text
@@ -60,7 +60,7 @@ IsSort (NumberSort scale mode) = IsScale scale
 
 -- ---- expressions
 
--- its names are names, and its numbers are numbers
+-- the names of an expression are NAMEs, and its numbers have no fault
 abbrev pub HasTerms : Expr → Type 0
 HasTerms (Lit lit at) = IsLiteral lit
 HasTerms (Flag value at) = Unit {0}
@@ -69,30 +69,30 @@ HasTerms (Active path at) = IsPath path
 HasTerms (Unary word e at) = HasTerms e
 HasTerms (Binary word l r at) = HasTerms l × HasTerms r
 
--- and there is room for its operators and parentheses
+-- an expression so, with at most OPERATOR_LIMIT operators and opening parentheses in its canonical text
 pub record IsExpr (e : Expr) : Type 0 where
   pub terms : HasTerms e
   pub operators : operators_in e ≤ most things.Operators
 
 -- ---- statements and transitions
 
--- a statement
+-- the condition of a statement
 abbrev pub IsStmt : Stmt → Type 0
 IsStmt (Assign name value) = IsNamed name × IsExpr value
 IsStmt (Send name to) = IsNamed name × IfThere IsPath to
 IsStmt (Emit name) = IsNamed name
 
--- a block of at most as many statements as may be
+-- the condition of a block, which has at most STATEMENT_LIMIT statements
 pub record IsBlock (stmts : List Stmt) : Type 0 where
   pub each : AllByRecursion IsStmt stmts
   pub few : length stmts ≤ most things.Statements
 
--- a destination
+-- the condition of a destination
 abbrev pub IsDest : Dest → Type 0
 IsDest (ToState path) = IsPath path
 IsDest (ToJunction name) = IsNamed name
 
--- a transition
+-- the condition of a transition
 pub record IsTrans (trans : Trans) : Type 0 where
   pub event : IfThere IsNamed trans.event
   pub guard : IfThere (λ guard. IsExpr guard.expr) trans.guard
@@ -100,25 +100,25 @@ pub record IsTrans (trans : Trans) : Type 0 where
   pub act : IsBlock trans.act
   pub dest : IsDest trans.dest
 
--- a junction
+-- the condition of a junction
 pub record IsJunction (junction : Junction) : Type 0 where
   pub name : IsNamed junction.name
   pub list : AllByRecursion IsTrans junction.list
 
 -- ---- declarations
 
--- a number that is zero is plain
+-- the condition of a number as a first value: 0 has no minus sign
 pub record IsPlain (negative : Bool) (lit : LitText) : Type 0 where
   pub literal : IsLiteral lit
   pub positive : lit.units ≡ 0 → negative ≡ false
   pub bare : lit.units ≡ 0 → lit ≡ zero_lit
 
--- a first value
+-- the condition of a first value
 abbrev pub IsInit : InitText → Type 0
 IsInit (inits.Number negative lit at) = IsPlain negative lit
 IsInit (inits.Flag value at) = Unit {0}
 
--- the declaration of a datum
+-- the condition of the declaration of a datum
 pub record IsVar (var : Var) : Type 0 where
   pub name : IsNamed var.name
   pub sort : IsSort var.sort
@@ -126,7 +126,7 @@ pub record IsVar (var : Var) : Type 0 where
 
 -- ---- states and charts
 
--- what a state has beside its child states
+-- the condition of what a state has beside its child states
 pub record IsParts (parts : Parts) : Type 0 where
   pub name : IsNamed parts.name
   pub entry : IsBlock parts.entry

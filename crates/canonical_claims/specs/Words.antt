@@ -32,17 +32,18 @@ words_in (Blank bytes ∷ pieces) = words_in pieces
 abbrev pub IsNumber : List ℕ → Type 0
 IsNumber text = IsTrue (begins is_digit text) × (number_length text ≡ length text)
 
--- a token that is cut from a text: where it is a name, its text is one, and likewise a number
+-- a token that is cut from a text: where it is of kind Name, its text is a NAME, and where it is of
+-- kind Number, its text is a number
 pub record IsCut (t : Lexeme) : Type 0 where
   pub name : t.kind ≡ kinds.Name → IsTrue (is_name t.text)
   pub number : t.kind ≡ kinds.Number → IsNumber t.text
 
--- the tokens spell a value that looks like that
+-- the tokens spell a value with this view
 pub record SpellsLike {X Y : Type 0} (g : Grammar X) (view : X → Y) (u : List Lexeme) (y : Y) : Type 0 where
   pub value : X
   pub spelled : g.spells u value
   pub looks : view value ≡ y
 
--- wherever they stand, tokens of these words spell a value that looks like that
+-- wherever they stand, tokens of these words spell a value with this view
 abbrev pub WordsSpell : {X Y : Type 0} → Grammar X → (X → Y) → List Word → Y → Type 0
 WordsSpell g view words y = (u : List Lexeme) → words_of u ≡ words → SpellsLike g view u y

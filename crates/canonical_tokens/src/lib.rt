@@ -1,2 +1,2 @@
-//! A canonical text is cut into the words of its pieces.
+//! The lexer cuts a canonical text into the tokens of its pieces.
 #![tactic(auto)]

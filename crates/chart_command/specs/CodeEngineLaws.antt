@@ -17,7 +17,7 @@ code_few m r = omega (arith, (code_parts m.program r.well_formed).few_events)
 pub code_short : (m : Engine) (e : FlatEvent) → IsRunningCode m → IsEventIn m.program.events e → length (event_word m.program.events e) ≤ 63
 code_short m e r known = event_word-short m.program.events e (code_parts m.program r.well_formed).event_names
 
--- the run goes on
+-- after an event the run can process the next
 pub code_goes_on : (m : Engine) (e : FlatEvent) → IsRunningCode m → IsEventIn m.program.events e → IsRunningCode (code_after m e)
 code_goes_on m e r known =
     record {

@@ -8,8 +8,8 @@ use Rattle.flat_code_text.specs.Reading.{outcome}
 use Rattle.chart_command.specs.declared.ending.Ending.{Ending}
 use Rattle.chart_command.specs.declared.ending.Ending.TheVariants as endings
 
--- reading the text gives that code, within the limits of its length and of its numbers; so the text is the
--- one of the code, and the code is well formed
+-- reading the text gives that code, within the limits of its length and of its numbers; so the text is the code's text,
+-- and the code is well formed
 pub record IsCodeText (text : List ℕ) (P : Program) : Type 0 where
   pub is_read : outcome text ≡ Ok P
   pub text_is : text ≡ code_text P

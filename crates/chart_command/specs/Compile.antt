@@ -18,12 +18,12 @@ pub record IsCompiled (c : Chart) (text : List ℕ) : Type 0 where
   pub spelled : IsCodeText text program
   pub same : Same c program
 
--- how `compile` ends, and when; want of memory comes before the first byte is written
+-- how `compile` ends, and when; memory runs out only before the first byte is written
 pub data CompileEnds (call : Call) (first : List ℕ) (ending : Ending) : Type 0 where
   -- the file holds a flat chart, and the text of code that behaves as it does is written
   Compiled : (chart : Chart) → reading.Gives IsFlat call.sources_before call.sources_after first chart
       → (text : List ℕ) → IsCompiled chart text
       → Writes call.output_before call.output_after text ending → CompileEnds call first ending
-  -- nothing comes of the file, and nothing is written
+  -- the file isn't read or is refused, and nothing is written
   Unread : reading.Unread CHART_TEXT_LIMIT RefusesFlat call.sources_before call.sources_after first ending
       → call.output_after ≡ call.output_before → CompileEnds call first ending

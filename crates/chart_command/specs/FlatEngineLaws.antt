@@ -18,7 +18,7 @@ flat_few w r = r.valid.in_range.events
 pub flat_short : (w : FlatWorld) (e : FlatEvent) → IsRunning w → IsEventIn w.chart.events e → length (event_word w.chart.events e) ≤ 63
 flat_short w e r known = event_word-short w.chart.events e r.valid.event_names
 
--- the run goes on
+-- after an event the run can process the next
 pub flat_goes_on : (w : FlatWorld) (e : FlatEvent) → IsRunning w → IsEventIn w.chart.events e → IsRunning (flat_after w e)
 flat_goes_on w e r known =
     record {

@@ -19,11 +19,11 @@ pub record RefusesChart (text : List ℕ) (ending : Ending) : Type 0 where
   pub refused : IsRefusal text (form_faults.At kind at)
   pub ending_is : ending ≡ endings.Chart kind at
 
--- how `fmt` ends, and when; want of memory comes before the first byte is written
+-- how `fmt` ends, and when; memory runs out only before the first byte is written
 pub data FmtEnds (call : Call) (first : List ℕ) (ending : Ending) : Type 0 where
   -- the file holds a chart text, and its canonical text is written
   Formatted : (canonical : List ℕ) → reading.Gives IsFormatted call.sources_before call.sources_after first canonical
       → Writes call.output_before call.output_after canonical ending → FmtEnds call first ending
-  -- nothing comes of the file, and nothing is written
+  -- the file isn't read or is refused, and nothing is written
   Unread : reading.Unread CHART_TEXT_LIMIT RefusesChart call.sources_before call.sources_after first ending
       → call.output_after ≡ call.output_before → FmtEnds call first ending

@@ -43,7 +43,7 @@ pub record RanOut (before after : Sources) (name : List ℕ) : Type 0 where
   pub others : OthersKept name before.left after.left
   pub quiet : AllStay before.faults after.faults
 
--- why nothing comes of a file, and how the call ends then
+-- why a file isn't read, or is refused, and how the call ends then
 pub data Unread (limit : ℕ) (Refuses : List ℕ → Ending → Type 0) (before after : Sources) (name : List ℕ)
     (ending : Ending) : Type 0 where
   -- its text is refused

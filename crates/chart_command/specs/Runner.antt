@@ -20,7 +20,8 @@ abbrev pub event_names : Runner → List (List ℕ)
 event_names (ByRules c) = c.events
 event_names (OnMachine P) = P.events
 
--- the trace of its run over these events: by the rules, or of the worlds in which the code's run is
+-- the trace of its run over these events: of the states that the rules give, or of the worlds of
+-- the code's run
 abbrev pub IsTrace : Runner → List FlatEvent → List ℕ → Type 0
 IsTrace (ByRules c) es text = text ≡ flat_trace c es
 IsTrace (OnMachine P) es text = (ws : List World) × CodeRuns P es ws × (text ≡ code_trace P es ws)

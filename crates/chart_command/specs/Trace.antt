@@ -33,18 +33,18 @@ pub record RunTraces (before after : Output) (runner : Runner) (text : List ℕ)
   pub is_trace : IsTrace runner (events_of (event_names runner) (lines_of text)) whole
   pub ends : RunEnds before after (event_names runner) text whole ending
 
--- how `rules` and `exec` end, and when, where a text spells what runs, or is refused; want of memory
--- comes before the first byte is written
+-- how `rules` and `exec` end, and when, where a text spells what runs, or is refused; memory runs out only before the
+-- first byte is written
 pub data TraceEnds (limit : ℕ) (Spells : List ℕ → Runner → Type 0) (Refuses : List ℕ → Ending → Type 0)
     (call : Call) (first second : List ℕ) (ending : Ending) : Type 0 where
   -- both files are read, and the trace is written
   Ran : (runner : Runner) (events : List ℕ) → BothRead Spells call first second runner events
       → RunTraces call.output_before call.output_after runner events ending
       → TraceEnds limit Spells Refuses call first second ending
-  -- nothing comes of the first file, the second isn't read, and nothing is written
+  -- the first file isn't read or is refused, the second isn't read, and nothing is written
   FirstUnread : Unread limit Refuses call.sources_before call.sources_after first ending
       → call.output_after ≡ call.output_before → TraceEnds limit Spells Refuses call first second ending
-  -- nothing comes of the second file after the first was read whole, and nothing is written
+  -- the second file isn't read or is refused after the first was read whole, and nothing is written
   SecondUnread : (between : Sources) (runner : Runner) → Gives Spells call.sources_before between first runner
       → Unread EVENTS_LIMIT RefusesEvents between call.sources_after second ending
       → call.output_after ≡ call.output_before → TraceEnds limit Spells Refuses call first second ending

@@ -7,7 +7,7 @@ ghost use Rattle.flat_lines.specs.Trace.{event_word};
 
 use flow_base::{FlatEvent, Text};
 
-/// A run that has been started and goes on event by event.
+/// A run that has been started and processes its events one after another.
 pub trait Engine {
     /// The names of the events.
     ghost names: { Self → List (List ℕ) };

@@ -50,7 +50,7 @@ fn write_kind<E: Sink>(err: &mut E, kind: FormKind) -> Result<(), Failed>
     write_all(err, kind.name().as_bytes())
 }
 
-/// Writes the line of an ending on standard error; it takes no memory.
+/// Writes the line of an ending on standard error. Takes no memory.
 pub fn report<E: Sink>(err: &mut E, ending: Ending) -> Result<(), Failed>
     ensures ok { OnOk result (E.wrote err.new ≡ append_known (E.wrote err.old) (line_of ending)) }
     ensures cause { HasCause (E.faults err.old) (E.faults err.new) result }

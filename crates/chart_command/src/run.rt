@@ -56,7 +56,7 @@ pub fn run<G: Engine, O: Sink>(engine: &mut G, text: &[u8], out: &mut O) -> Endi
     Ending::Done
 }
 
-/// Takes a line of the event file, and writes the line of the trace for it.
+/// Processes a line of the event file, and writes the line of the trace for it.
 fn run_line<G: Engine, O: Sink>(
     engine: &mut G,
     index: u64,

@@ -17,14 +17,14 @@ pub record SpellsAgain (text : List ℕ) (c : Chart) : Type 0 where
   pub spelled : (grammar.chart usual).spells (tokens_of text) chart
   pub same : AreSameApartFromPlaces chart c
 
--- what a canonical text of a chart keeps: it spells the chart again; where it isn't too long for a
--- chart text it is one, and each chart that it spells has it as its canonical text
+-- what a canonical text of a chart preserves: it spells the chart again; where it isn't too long for a chart text it is
+-- one, and each chart that it spells has it as its canonical text
 pub record IsKept (written : List ℕ) (c : Chart) : Type 0 where
   pub again : SpellsAgain written c
   pub is_read : length written ≤ CHART_TEXT_LIMIT → Spells written again.chart
   pub stays : (d : Chart) → Spells written d → canonical d ≡ written
 
--- what is written of a text: the canonical text of the chart that it spells, which keeps it
+-- what is written for a text: the canonical text of the chart that the text spells, which preserves that chart
 pub record IsFormatted (text written : List ℕ) : Type 0 where
   pub chart : Chart
   pub spelled : Spells text chart

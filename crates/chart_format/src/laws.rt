@@ -1,4 +1,4 @@
-//! What canonical texts promise, for all charts that texts spell.
+//! The law of canonical texts: each spells its chart again.
 ghost use Rattle.std.specs.Prelude.{ℕ, List};
 ghost use Rattle.chart_tree.specs.Trees.{Chart};
 ghost use Rattle.chart_reader.specs.Text.{Spells};

@@ -1,7 +1,7 @@
 //! Reads a chart text and writes it canonically.
 //!
 //! `format_text` is the one call. Read `specs/Text.antt`: what is written spells the same chart
-//! again, and stays as it is when it is formatted.
+//! again, and, where it isn't too long, is formatted to itself.
 #![tactic(auto)]
 
 ghost use Rattle.std.specs.Prelude.{◌≡◌, IfOk, IfErr, string_bytes};

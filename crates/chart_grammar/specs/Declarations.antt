@@ -19,7 +19,7 @@ use Rattle.chart_grammar.specs.Types.{sort}
 
 -- ---- events
 
--- what begins a declaration of a datum, and what stands after `event`
+-- the words `input`, `local` and `output`, which begin the declaration of a datum and follow `event`
 abbrev pub kind_heads : Kind → Bool
 kind_heads k = is kinds.Input k || (is kinds.Local k || is kinds.Output k)
 

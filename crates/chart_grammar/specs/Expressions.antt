@@ -28,7 +28,7 @@ pub record Tail : Type 0 where
   pub at : Span
   pub right : Operand
 
--- how operands are read, by the number of operators before them
+-- the grammar of operands, for the number of operators before them
 abbrev pub Operands : Type 1
 Operands = ℕ → Grammar Operand
 
@@ -52,7 +52,7 @@ comparison_heads k =
 abbrev pub sign_heads : Kind → Bool
 sign_heads k = is kinds.Minus k || is kinds.Not k
 
--- what begins an operand with another one inside
+-- the tokens that begin an operand in which another operand is nested
 abbrev pub nested_heads : Kind → Bool
 nested_heads k = sign_heads k || is kinds.OpenParen k
 
@@ -80,7 +80,7 @@ bin_word k =
 abbrev pub un_word : Kind → UnWord
 un_word k = if is kinds.Minus k then un_words.Neg else un_words.Not
 
--- one of the operators, or an opening parenthesis, after `before` of them
+-- one of the operators, or an opening parenthesis, where `before` operators and parentheses stand before it
 unfoldable pub operator : Limits → (Kind → Bool) → ℕ → Grammar Lexeme
 operator l set before = allowed set (λ t. one_more l things.Operators before) (one_of set)
 
@@ -207,8 +207,9 @@ nested l unary before = either sign_heads (signed l unary before) (parens l unar
 abbrev pub too_nested : Lexeme → Option Fault
 too_nested t = Some (faults.TooMany things.Operators)
 
--- unary := ('-' | '!') unary | '(' expr ')' | an operand without an operator; at most as deep
--- as the first number says, after as many operators as the second says
+-- unary := ('-' | '!') unary | '(' expr ')' | an operand without an operator; the first number is
+-- how many levels deep it may be nested, and the second how many operators and parentheses stand
+-- before it
 unfoldable pub unary : Limits → ℕ → ℕ → Grammar Operand
 unary l zero before =
     either nested_heads (allowed nested_heads too_nested (nested l (plain l) before)) (plain l before)

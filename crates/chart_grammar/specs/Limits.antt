@@ -8,7 +8,7 @@ use Rattle.chart_tree.specs.declared.limits.TheConstants.{STATE_DEPTH_LIMIT, STA
 use Rattle.chart_tree.specs.declared.limits.TheConstants.{TRANSITION_LIMIT, VARIABLE_LIMIT, EVENT_LIMIT}
 use Rattle.chart_tree.specs.declared.limits.TheConstants.{STATEMENT_LIMIT, OPERATOR_LIMIT, ITEM_LIMIT}
 
--- where a fault stands among those of one token
+-- the rank of a fault: of two faults of one token the one of lower rank is named
 abbrev pub rank : Fault → ℕ
 rank faults.Expected = 0
 rank faults.LiteralTooLong = 1
@@ -23,18 +23,18 @@ rank (faults.TooMany things.Statements) = 9
 rank (faults.TooMany things.Operators) = 10
 rank (faults.TooMany things.Items) = 11
 
--- how deep states and expressions may be nested, and the rank from which on limits don't count
+-- how deep states and expressions may be nested, and the rank from which on limits are lifted
 pub record Limits : Type 0 where
   pub depth : ℕ
   pub nesting : ℕ
   pub lifted_from : ℕ
 
--- the limits of the language: all count. Nested operators are operators of one expression, so their
--- limit is that of operators
+-- the limits of the language, none of them lifted. Nested operators are operators of one
+-- expression, so their limit is that of operators
 abbrev pub usual : Limits
 usual = record { depth = STATE_DEPTH_LIMIT; nesting = OPERATOR_LIMIT; lifted_from = 12 }
 
--- whether the limit of a fault doesn't count
+-- whether the limit of a fault is lifted
 abbrev pub is_lifted : Limits → Fault → Bool
 is_lifted l fault = nat_le l.lifted_from (rank fault)
 
@@ -49,12 +49,12 @@ most things.Statements = STATEMENT_LIMIT
 most things.Operators = OPERATOR_LIMIT
 most things.Items = ITEM_LIMIT
 
--- a fault, unless its limit doesn't count
+-- a fault, unless its limit is lifted
 abbrev pub unless_lifted : Limits → Option Fault → Option Fault
 unless_lifted l None = None
 unless_lifted l (Some fault) = if is_lifted l fault then None else Some fault
 
--- what is wrong with one more of a thing where there are `count`
+-- the fault of one more of a thing of which there are `count`
 abbrev pub one_more : Limits → Thing → ℕ → Option Fault
 one_more l thing count =
     if nat_lt count (most thing) then None else unless_lifted l (Some (faults.TooMany thing))
@@ -78,23 +78,23 @@ pub record Counted (X : Type 0) : Type 0 where
   pub value : X
   pub counts : Counts
 
--- one more state, which is one more item too; and likewise of the others
+-- the counts after one more state, which is also one more item
 abbrev pub after_state : Counts → Counts
 after_state n = record n { states = n.states + 1; items = n.items + 1 }
 
--- one more junction
+-- the counts after one more junction, which is also one more item
 abbrev pub after_junction : Counts → Counts
 after_junction n = record n { junctions = n.junctions + 1; items = n.items + 1 }
 
--- one more transition
+-- the counts after one more transition, which is also one more item
 abbrev pub after_transition : Counts → Counts
 after_transition n = record n { transitions = n.transitions + 1; items = n.items + 1 }
 
--- one more datum
+-- the counts after one more datum, which is also one more item
 abbrev pub after_variable : Counts → Counts
 after_variable n = record n { variables = n.variables + 1; items = n.items + 1 }
 
--- one more event
+-- the counts after one more event, which is also one more item
 abbrev pub after_event : Counts → Counts
 after_event n = record n { events = n.events + 1; items = n.items + 1 }
 
@@ -126,7 +126,7 @@ event_refused l n = one_more_item l things.Events n.events n
 abbrev pub statement_refused : Limits → ℕ → Counts → Option Fault
 statement_refused l before n = one_more_item l things.Statements before n
 
--- ---- limits that don't count
+-- ---- lifted limits
 
 -- the faults of rank k and above
 abbrev pub lifts_from : ℕ → Fault → Bool
@@ -137,7 +137,7 @@ abbrev pub LiftedBound : Bool → ℕ → ℕ → Type 0
 LiftedBound true most bound = most < bound
 LiftedBound false most bound = bound ≡ most
 
--- the limits of rank k and above don't count, and all others are the usual ones
+-- the limits of rank k and above are lifted, and the others are the usual ones
 pub record LiftedFrom (k : ℕ) (l : Limits) : Type 0 where
   pub from : l.lifted_from ≡ k
   pub depth : LiftedBound (lifts_from k faults.NestTooDeep) usual.depth l.depth

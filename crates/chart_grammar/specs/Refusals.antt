@@ -7,8 +7,9 @@ use Rattle.token_grammar.specs.Grammar.{Continues}
 use Rattle.chart_grammar.specs.Limits.{Limits, LiftedFrom, rank}
 use Rattle.chart_grammar.specs.States.{chart}
 
--- after these tokens, the token doesn't continue though all limits after the fault's don't count;
--- and where it is one of a limit, it continues once that limit doesn't count either
+-- after these tokens, the token doesn't continue even where all limits of higher rank than the
+-- fault are lifted; and, unless the fault is Expected, it continues where the limit of the fault is
+-- lifted too
 pub record IsFaultOf (before : List Lexeme) (t : Lexeme) (fault : Fault) : Type 0 where
   pub stays : (l : Limits) → LiftedFrom (rank fault + 1) l
       → Continues (chart l) (before ++ t ∷ []) → ⊥

@@ -49,7 +49,7 @@ junction l n = do
     counts = counts_behind (after_junction n) list;
   })
 
--- how states are read, by the number of things before them
+-- the grammar of states, for the counts before them
 abbrev pub StateGrammar : Type 1
 StateGrammar = Counts → Grammar (Counted State)
 
@@ -81,7 +81,7 @@ pub record Seen : Type 0 where
 abbrev pub nothing_seen : Counts → Seen
 nothing_seen n = record { entry = false; during = false; exit = false; history = false; counts = n }
 
--- what is seen after an item
+-- what has been seen once an item was read
 abbrev pub after_item : Seen → Counted Item → Seen
 after_item z x = elim x.value [
   | Entry block ↦ record z { entry = true; counts = x.counts }
@@ -170,7 +170,7 @@ item l state z =
     (either (is kinds.Junction) (junction_item l z.counts)
     (state z.counts >>= λ found. give (counted_as StateItem found)))))))))
 
--- the same in the chart, with declarations and without exit actions and outer transitions
+-- an item of the chart: as one of a state, with declarations and without exit actions and outer transitions
 unfoldable pub chart_item : Limits → StateGrammar → Seen → Grammar (Counted Item)
 chart_item l state z =
     either (is kinds.Entry) (action_item l kinds.Entry Entry z.counts)
@@ -183,7 +183,7 @@ chart_item l state z =
     (either kind_heads (variable_item l z.counts)
     (state z.counts >>= λ found. give (counted_as StateItem found)))))))))
 
--- a token of another kind isn't expected
+-- the fault of a token that isn't in the set
 abbrev pub unexpected : (Kind → Bool) → Lexeme → Option Fault
 unexpected set t = if set t.kind then None else Some faults.Expected
 
@@ -195,7 +195,7 @@ beginning set g = allowed (λ k. true) (unexpected set) g
 abbrev pub next_item : Limits → StateGrammar → Seen → Grammar (Counted Item)
 next_item l state z = beginning (item_heads z) (item l state z)
 
--- the same in the chart
+-- an item of the chart where it may stand
 abbrev pub next_chart_item : Limits → StateGrammar → Seen → Grammar (Counted Item)
 next_chart_item l state z = beginning (chart_heads z) (chart_item l state z)
 
@@ -236,7 +236,7 @@ no_items name comp = record {
   vars = [];
 }
 
--- an item goes in front of those after it
+-- an item is put before those that follow it
 abbrev pub put : Item → Sorted → Sorted
 put (Entry block) s = record s { parts = record s.parts { entry = block } }
 put (During block) s = record s { parts = record s.parts { during = block } }
@@ -299,7 +299,7 @@ state_over l state n = do
   allowed (is kinds.State) (λ t. state_refused l n) (token kinds.State)
   state_body l state (after_state n)
 
--- no state: what would begin one is refused
+-- where no state may stand: a token that begins one is refused as nested too deep
 unfoldable pub no_state : Counts → Grammar (Counted State)
 no_state n = do
   allowed (is kinds.State) (λ t. Some faults.NestTooDeep) (token kinds.State)

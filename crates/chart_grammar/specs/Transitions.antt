@@ -138,7 +138,7 @@ maybe_block l n = either (is kinds.OpenBrace) (block l n) (give [])
 unfoldable pub maybe_action : Limits → Counts → Grammar (List Stmt)
 maybe_action l n = either (is kinds.Slash) (action l n) (give [])
 
--- trans := NAME? ('[' expr ']')? block? ('/' block)? '->' dest ';', with the place that it is given
+-- trans := NAME? ('[' expr ']')? block? ('/' block)? '->' dest ';', at the place that is given
 unfoldable pub trans : Limits → Counts → Span → Grammar (Counted Trans)
 trans l n at = do
   event ← maybe_event

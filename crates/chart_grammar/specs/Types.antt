@@ -18,7 +18,7 @@ pub data TypeWord : Type 0 where
   FlagWord : TypeWord
   ScaleWord : ScaleParts → TypeWord
 
--- the number that digits tell, which are all of the text, without a leading zero
+-- the number that a text denotes, if it is all digits without a leading zero
 abbrev pub plain_number : List ℕ → Option ℕ
 plain_number text = if bytes_eq (decimal (value_of text)) text then Some (value_of text) else None
 

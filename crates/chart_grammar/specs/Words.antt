@@ -47,8 +47,8 @@ lit_of text = record {
   q = bits_of text;
 }
 
--- what is wrong with a number that was read from a text, or wasn't. No number is cut that isn't one,
--- and such a token wouldn't continue
+-- the fault of a number token, from what reading its text gives. NotNumber doesn't arise for a token of kind Number; it
+-- is given Expected
 abbrev pub fault_of_number : Result Num NumFault → Option Fault
 fault_of_number (Ok n) = None
 fault_of_number (Err num_faults.NotNumber) = Some faults.Expected

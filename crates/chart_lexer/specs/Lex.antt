@@ -21,22 +21,22 @@ use Rattle.chart_lexer.specs.Symbols.{first_pair, first_single}
 abbrev pub is_comment_byte : ℕ → Bool
 is_comment_byte b = is_allowed b && not (nat_eq b 10)
 
--- how many bytes of a comment stand in front
+-- how many bytes of a comment stand at the front of the text
 abbrev pub comment_length : List ℕ → ℕ
 comment_length s = prefix_len is_comment_byte s
 
--- whether two slashes stand in front
+-- whether two slashes stand at the front of the text
 abbrev pub begins_comment : List ℕ → Bool
 begins_comment [] = false
 begins_comment (a ∷ s) = nat_eq a (byte "/") && begins (λ b. nat_eq b (byte "/")) s
 
--- a word: the longest run of name bytes, at most 63 of them
+-- a word is the longest run of name bytes; a run of over 63 bytes is no token
 abbrev pub word_front : List ℕ → Front
 word_front s =
     if nat_lt NAME_LIMIT (name_length s) then fronts.Stop stops.BadToken
     else fronts.Token (word_kind (take (name_length s) s)) (name_length s)
 
--- a number, with no letter or underscore directly after it
+-- a number; one with a letter or an underscore directly after it is no token
 abbrev pub number_front : List ℕ → Front
 number_front s =
     if begins is_name_byte (drop (number_length s) s) then fronts.Stop stops.BadToken
@@ -48,11 +48,11 @@ longer_symbol (Some kind) single = fronts.Token kind 2
 longer_symbol None (Some kind) = fronts.Token kind 1
 longer_symbol None None = fronts.Stop stops.BadToken
 
--- a symbol: two bytes, or else one
+-- a symbol of two bytes, or else one of one byte
 abbrev pub symbol_front : List ℕ → Front
 symbol_front s = longer_symbol (first_pair s) (first_single s)
 
--- what stands in front: the end, a blank byte, a token and how many bytes it has, or no token
+-- what stands at the front of the text: the end, a blank byte, a token and how many bytes it has, or no token
 unfoldable pub front_of : List ℕ → Front
 front_of [] = fronts.Stop stops.End
 front_of (b ∷ s) =
@@ -63,11 +63,11 @@ front_of (b ∷ s) =
     if begins_comment (b ∷ s) then fronts.Token kinds.Comment (comment_length (b ∷ s)) else
     symbol_front (b ∷ s)
 
--- the token in front is a name, and the whole text
+-- the token at the front is a name, and is the whole text
 abbrev pub IsOneName : List ℕ → Type 0
 IsOneName text = front_of text ≡ fronts.Token kinds.Name (length text)
 
--- a blank or a token has a byte at least, and no more than there are
+-- a token has at least one byte, and a blank or a token no more bytes than the text
 abbrev pub FrontWithin : Front → ℕ → Type 0
 FrontWithin fronts.Blank n = 0 < n
 FrontWithin (fronts.Token kind m) n = (0 < m) × (m ≤ n)
@@ -89,11 +89,11 @@ pub record Lexemes : Type 0 where
   pub stop : Stop
   pub at : Span
 
--- one more token in front
+-- one more token before the others
 abbrev pub before : Lexeme → Lexemes → Lexemes
 before t l = record { tokens = t ∷ l.tokens; stop = l.stop; at = l.at }
 
--- the tokens of a text from a place on, after k bytes of it that are passed over
+-- the tokens of a text from a place on, after its first k bytes, which belong to the token before
 unfoldable pub lexed : ℕ → Span → List ℕ → Lexemes
 lexed k p [] = record { tokens = []; stop = stops.End; at = p }
 lexed (suc k) p (b ∷ s) = lexed k (after_byte p b) s

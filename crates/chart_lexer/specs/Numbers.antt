@@ -1,11 +1,11 @@
--- How many bytes of a text are a number.
+-- How many bytes at the front of a text are a number.
 use Rattle.std.specs.Prelude.{ℕ, ◌+◌, ◌-◌, ◌*◌, ◌&&◌, Bool, true, false, nat_eq, nat_lt, nat_le, List, [], ◌∷◌, take, drop, if◌then◌else◌}
 use Rattle.std.specs.List.{prefix_len}
 use Rattle.std.specs.Str.{byte}
 use Rattle.chart_lexer.specs.Bytes.{is_digit}
 use Rattle.chart_lexer.specs.declared.numbers.TheConstants.{SCALE_LIMIT}
 
--- how many digits stand in front
+-- how many digits stand at the front of the text
 abbrev pub digits_length : List ℕ → ℕ
 digits_length s = prefix_len is_digit s
 
@@ -22,7 +22,7 @@ is_scale (a ∷ []) = true
 is_scale (a ∷ b ∷ []) = nat_le ((a - byte "0") * 10 + (b - byte "0")) SCALE_LIMIT
 is_scale (a ∷ b ∷ c ∷ s) = false
 
--- how many bytes `q` and the scale after it have, where there is such a `q`
+-- how many bytes `q` and the number of bits after it have, where there is such a `q`
 unfoldable pub scale_length : List ℕ → ℕ
 scale_length [] = 0
 scale_length (b ∷ s) =
@@ -32,6 +32,6 @@ scale_length (b ∷ s) =
 unfoldable pub decimal_length : List ℕ → ℕ
 decimal_length s = digits_length s + fraction_length (drop (digits_length s) s)
 
--- how many bytes a decimal has, with a scale after it
+-- how many bytes a decimal has, with `q` and a number of bits after it, if they are there
 unfoldable pub number_length : List ℕ → ℕ
 number_length s = decimal_length s + scale_length (drop (decimal_length s) s)

@@ -39,13 +39,13 @@ single_kind a =
     if nat_eq a (byte "!") then Some kinds.Not else
     None
 
--- the symbol that the first two bytes are
+-- the symbol that the first two bytes of a text spell
 abbrev pub first_pair : List ℕ → Option Kind
 first_pair [] = None
 first_pair (a ∷ []) = None
 first_pair (a ∷ b ∷ s) = pair_kind a b
 
--- the symbol that the first byte is
+-- the symbol that the first byte of a text spells
 abbrev pub first_single : List ℕ → Option Kind
 first_single [] = None
 first_single (a ∷ s) = single_kind a

@@ -7,7 +7,7 @@ use Rattle.token_grammar.specs.Token.{kind_eq}
 use Rattle.chart_lexer.specs.Bytes.{is_letter, is_name_byte, begins}
 use Rattle.chart_lexer.specs.declared.words.TheConstants.{NAME_LIMIT}
 
--- how many name bytes stand in front
+-- how many name bytes stand at the front of the text
 abbrev pub name_length : List ℕ → ℕ
 name_length s = prefix_len is_name_byte s
 

@@ -1,4 +1,4 @@
-//! What stands in front of a text.
+//! What stands at the front of a text.
 ghost use Rattle.std.specs.Prelude.{◌≡◌, ◌<◌, ◌≤◌, IsTrue, length};
 ghost use Rattle.chart_lexer.specs.Bytes.{begins, is_letter, is_digit};
 ghost use Rattle.chart_lexer.specs.Lex as spec;
@@ -14,13 +14,14 @@ use token_grammar::Kind;
 pub enum Stop {
     /// The end of the text.
     End,
-    /// A byte that no chart text may have, in a comment neither.
+    /// A byte that no chart text may have, not even in a comment.
     BadByte,
-    /// A byte at which no token begins, or the first byte of a name or number that is none.
+    /// A byte that begins no token: the first byte of a word of over 63 bytes, of a number followed
+    /// by a letter or an underscore, or of what is neither word, number, comment nor symbol.
     BadToken,
 }
 
-/// What stands in front of a text.
+/// What stands at the front of a text.
 #[derive(Clone, Copy)]
 pub enum Front {
     /// A byte that separates tokens.
@@ -83,7 +84,7 @@ fn symbol_front(text: &[u8]) -> Front
     }
 }
 
-/// What stands in front of a text.
+/// What stands at the front of a text.
 #[tactic(auto, unfolding(crate::specs::Lex::front_of))]
 pub fn front_of(text: &[u8]) -> Front
     ensures value { result ≡ spec.front_of text.now }

@@ -1,4 +1,4 @@
-//! What the definitions of names and of cutting have to do with each other.
+//! The definition of names agrees with the definition of cutting.
 ghost use Rattle.std.specs.Prelude.{◌↔◌, ℕ, List, IsTrue};
 ghost use Rattle.chart_lexer.specs.Words.{is_name};
 ghost use Rattle.chart_lexer.specs.Lex.{IsOneName, HasNames, cut_of};

@@ -1,8 +1,8 @@
 //! Cuts a chart text into tokens with their places.
 //!
-//! `lex` is the one call that readers need; `is_name` tells whether a text is one name, and
-//! `name_text` keeps one. Read `specs/Lex.antt` first: `cut_of` is what a text is cut into, and
-//! `front_of` what stands in front.
+//! `lex` is the one call that readers need; `is_name` decides whether a text is one name, and
+//! `name_text` copies one. Read `specs/Lex.antt` first: `cut_of` is what a text is cut into, and
+//! `front_of` what stands at the front of a text.
 #![tactic(auto)]
 
 mod bytes;

@@ -1,10 +1,10 @@
-//! How many bytes of a text are a number.
+//! How many bytes at the front of a text are a number.
 ghost use Rattle.std.specs.Prelude.{◌≡◌, ◌≤◌, length};
 ghost use Rattle.chart_lexer.specs.Numbers as spec;
 
 use crate::bytes::is_digit;
 
-/// How many digits stand in front.
+/// How many digits stand at the front of the text.
 fn digits_length(text: &[u8]) -> usize
     ensures value { result ≡ spec.digits_length text.now }
     ensures within { result ≤ length text.now }
@@ -25,7 +25,7 @@ fn fraction_length(text: &[u8]) -> usize
     if digits > 0 { digits + 1 } else { 0 }
 }
 
-/// The greatest scale: the most bits that `q` may ask for.
+/// The most bits that `q` may ask for.
 pub const SCALE_LIMIT: u32 = 32;
 
 /// Whether the digits are one or two, of a value up to `SCALE_LIMIT`.
@@ -43,7 +43,7 @@ fn is_scale(digits: &[u8]) -> bool
     }
 }
 
-/// How many bytes `q` and the scale after it have, 0 where there is no such `q`.
+/// How many bytes `q` and the number of bits after it have, 0 where there is no such `q`.
 #[tactic(auto, unfolding(crate::specs::Numbers::scale_length))]
 fn scale_length(text: &[u8]) -> usize
     ensures value { result ≡ spec.scale_length text.now }
@@ -71,7 +71,7 @@ fn decimal_length(text: &[u8]) -> usize
     digits + fraction_length(&text[digits..])
 }
 
-/// How many bytes a decimal has, with a scale after it.
+/// How many bytes a decimal has, with `q` and a number of bits after it, if they are there.
 #[tactic(auto, unfolding(crate::specs::Numbers::number_length))]
 pub fn number_length(text: &[u8]) -> usize
     ensures value { result ≡ spec.number_length text.now }

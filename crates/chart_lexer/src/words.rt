@@ -10,7 +10,7 @@ use token_grammar::Kind;
 /// The most bytes of a name.
 pub const NAME_LIMIT: usize = 63;
 
-/// How many name bytes stand in front.
+/// How many name bytes stand at the front of the text.
 pub fn name_length(text: &[u8]) -> usize
     ensures value { result ≡ spec.name_length text.now }
     ensures within { result ≤ length text.now }
@@ -92,7 +92,7 @@ pub fn is_name(text: &[u8]) -> bool
         && word_kind(text) == Kind::Name
 }
 
-/// The bytes of a name as a text of their own.
+/// A copy of the bytes of a name, as a text.
 pub fn name_text(alloc: Global, name: &[u8]) -> Result<Text, AllocError>
     requires { IsTrue (spec.is_name name.now) }
     ensures { IfOk result (λ text. text ≡ name.now) }

@@ -54,7 +54,7 @@ unfoldable pub value_pieces : InitText → List Piece
 value_pieces (inits.Number negative lit at) = sign_pieces negative ++ literal_pieces lit
 value_pieces (inits.Flag value at) = key (flag_kind value)
 
--- '=' and a value, after a space, unless the value is the one that is meant without it
+-- '=' and a value, after a space, unless it is the first value that a datum has where none is written
 unfoldable pub init_pieces : Sort → InitText → List Piece
 init_pieces sort init =
     if is_missing_init sort init then []

@@ -12,12 +12,12 @@ use Rattle.chart_print.specs.Words.{name_pieces, path_pieces, literal_pieces}
 
 -- ---- operators
 
--- the symbol of an operator before its operand
+-- the symbol of a unary operator
 abbrev pub un_kind : UnWord → Kind
 un_kind un_words.Neg = kinds.Minus
 un_kind un_words.Not = kinds.Not
 
--- the symbol of an operator between two operands
+-- the symbol of a binary operator
 abbrev pub bin_kind : BinWord → Kind
 bin_kind bin_words.Or = kinds.OrOr
 bin_kind bin_words.And = kinds.AndAnd
@@ -36,11 +36,11 @@ bin_kind bin_words.Div = kinds.Slash
 abbrev pub comparison : ℕ
 comparison = 3
 
--- the precedence of what has no operator between two operands
+-- the precedence of an expression without a binary operator
 abbrev pub tightest : ℕ
 tightest = 6
 
--- the precedence of an operator between two operands: the higher, the tighter it binds
+-- the precedence of a binary operator: the higher, the tighter it binds
 abbrev pub precedence : BinWord → ℕ
 precedence bin_words.Or = 1
 precedence bin_words.And = 2
@@ -55,7 +55,7 @@ precedence bin_words.Sub = 4
 precedence bin_words.Mul = 5
 precedence bin_words.Div = 5
 
--- the precedence of an expression: that of its operator between two operands
+-- the precedence of an expression: that of its binary operator
 abbrev pub expr_precedence : Expr → ℕ
 expr_precedence (Lit lit at) = tightest
 expr_precedence (Flag value at) = tightest
@@ -64,7 +64,7 @@ expr_precedence (Active path at) = tightest
 expr_precedence (Unary word e at) = tightest
 expr_precedence (Binary word l r at) = precedence word
 
--- the least precedence of a left operand without parentheses: no comparison is compared
+-- the least precedence of a left operand without parentheses: a comparison isn't an operand of a comparison
 abbrev pub left_least : BinWord → ℕ
 left_least word = if precedence word == comparison then comparison + 1 else precedence word
 
@@ -84,7 +84,7 @@ abbrev pub flag_kind : Bool → Kind
 flag_kind true = kinds.True
 flag_kind false = kinds.False
 
--- an expression on one line: an operator between two operands has a space on each side
+-- an expression on one line: a binary operator has a space on each side
 unfoldable pub expr_pieces : Expr → List Piece
 expr_pieces (Lit lit at) = literal_pieces lit
 expr_pieces (Flag value at) = key (flag_kind value)

@@ -10,7 +10,7 @@ use Rattle.chart_tree.specs.Trees.{Var, Path, Expr, Lit, Flag, Name, Active, Una
 use Rattle.chart_tree.specs.Trees.{Dest, ToState, ToJunction, Guard, Trans, Junction, Parts, State, StateOf, States}
 use Rattle.chart_tree.specs.Trees.{NoState, MoreStates, Chart}
 
--- the place that all have in place of their own
+-- the one place that is put in place of every place
 abbrev pub nowhere : Span
 nowhere = record { line = 0; column = 0 }
 

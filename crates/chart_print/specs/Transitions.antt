@@ -33,7 +33,7 @@ unfoldable pub block_pieces : List Stmt → List Piece
 block_pieces stmts =
     key kinds.OpenBrace ++ flat_map block_stmt_pieces stmts ++ space ++ key kinds.CloseBrace
 
--- what belongs to a block, where the block isn't empty
+-- these pieces, where the block isn't empty
 abbrev pub unless_empty : List Stmt → List Piece → List Piece
 unless_empty [] pieces = []
 unless_empty (stmt ∷ stmts) pieces = pieces

@@ -13,7 +13,7 @@ use Rattle.chart_print.specs.Pieces.{Piece, Token, key, space}
 
 -- ---- names and paths
 
--- a word that is a name to the grammar
+-- one piece, which is a token of kind Name
 unfoldable pub word_pieces : List ℕ → List Piece
 word_pieces bytes = Token kinds.Name bytes ∷ []
 
@@ -38,7 +38,7 @@ digits_bytes units places =
     if places == 0 then decimal units
     else decimal (units / 10 ^ places) ++ codes "." ++ last_digits places units
 
--- 'q' and how many bits are to be kept, where that is asked for
+-- `q` and the number of bits after the point, where the number has a `q`
 unfoldable pub bits_bytes : Option ℕ → List ℕ
 bits_bytes None = []
 bits_bytes (Some bits) = codes "q" ++ decimal bits

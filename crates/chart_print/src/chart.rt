@@ -12,7 +12,7 @@ use std::alloc::{AllocError, Global};
 use token_grammar::Kind;
 
 /// The canonical text of a chart. It doesn't depend on the places of the chart's parts. `Memory`
-/// where memory runs out, and then nothing is kept.
+/// where memory runs out; then no text is returned.
 #[tactic(auto, using(crate::proofs::Written::printed), unfolding(crate::specs::Canonical::canonical))]
 pub fn print_chart(alloc: Global, chart: &ChartText) -> Result<String, Memory>
     ensures { IfOk result (λ text. string_bytes text ≡ spec.canonical (chart_of chart.now)) }

@@ -40,8 +40,8 @@ impl Printer {
         }
     }
 
-    /// Appends the first value of a datum after its sign, unless it is the one that is meant
-    /// without it.
+    /// Appends the first value of a datum after its sign, unless it is the first value that a datum
+    /// has where none is written.
     #[tactic(auto, using(crate::proofs::Written::printed), unfolding(crate::specs::Declarations::init_pieces))]
     fn init(&mut self, sort: SortText, init: InitText) -> Result<(), AllocError>
         ensures { OnOk result

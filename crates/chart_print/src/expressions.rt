@@ -12,7 +12,7 @@ use token_grammar::Kind;
 /// The precedence of comparisons.
 const COMPARISON: u8 = 3;
 
-/// The precedence of an expression that has no operator between two operands.
+/// The precedence of an expression without a binary operator.
 const TIGHTEST: u8 = 6;
 
 impl Printer {
@@ -71,7 +71,7 @@ pub(crate) fn flag_kind(value: bool) -> Kind
     if value { Kind::True } else { Kind::False }
 }
 
-/// The symbol of an operator before its operand.
+/// The symbol of a unary operator.
 fn un_kind(word: UnWord) -> Kind
     ensures { result ≡ spec.un_kind word }
 {
@@ -81,7 +81,7 @@ fn un_kind(word: UnWord) -> Kind
     }
 }
 
-/// The symbol of an operator between two operands.
+/// The symbol of a binary operator.
 fn bin_kind(word: BinWord) -> Kind
     ensures { result ≡ spec.bin_kind word }
 {
@@ -101,7 +101,7 @@ fn bin_kind(word: BinWord) -> Kind
     }
 }
 
-/// The precedence of an operator between two operands: the higher, the tighter it binds.
+/// The precedence of a binary operator: the higher, the tighter it binds.
 fn precedence(word: BinWord) -> u8
     ensures { result ≡ spec.precedence word }
 {

@@ -1,4 +1,4 @@
-//! What the canonical text promises, for all charts at once.
+//! Laws of canonical texts.
 ghost use Rattle.std.specs.Prelude.{◌≡◌};
 ghost use Rattle.chart_tree.specs.Trees.{Chart};
 ghost use Rattle.chart_print.specs.Canonical.{canonical};

@@ -1,7 +1,7 @@
 //! The canonical text of a chart.
 //!
-//! Read `specs/Canonical.antt` first: the text as a list of pieces, which `specs/Pieces.antt` tells
-//! apart as tokens and blanks, production by production.
+//! Read `specs/Canonical.antt` first: the text as a list of pieces, production by production. A
+//! piece is a token or blanks (`specs/Pieces.antt`).
 #![tactic(auto)]
 
 mod chart;

@@ -91,7 +91,8 @@ impl Printer {
     }
 }
 
-/// The next level. Refused where its number doesn't fit, for a tree that no memory holds.
+/// The next level of indentation. `AllocError` where its number doesn't fit a `usize`, which no
+/// tree in memory reaches.
 pub(crate) fn deeper(level: usize) -> Result<usize, AllocError>
     ensures { IfOk result (λ deeper. deeper ≡ level + 1) }
 {

@@ -89,7 +89,7 @@ impl Printer {
         self.number(number % 10)
     }
 
-    /// Appends how many bits are to be kept, where that is asked for.
+    /// Appends `q` and the number of bits after the point, where the number has a `q`.
     #[tactic(auto, using(crate::proofs::Written::printed), unfolding(crate::specs::Words::bits_bytes))]
     fn bits(&mut self, bits: Option<u8>) -> Result<(), AllocError>
         ensures { OnOk result (self.new ≡ self.old ++ spec.bits_bytes bits) }

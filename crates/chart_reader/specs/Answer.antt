@@ -14,18 +14,19 @@ use Rattle.chart_tree.specs.Form.{kind_of}
 use Rattle.chart_tree.specs.Trees.{Chart}
 use Rattle.chart_tree.specs.Views.{chart_of}
 
--- the kind of fault where no token is left to read, by what stands there
+-- the kind of fault where no token is left, by what stands after the last token
 abbrev pub end_kind : Stop → FormKind
 end_kind stops.End = forms.Expected
 end_kind stops.BadByte = forms.BadByte
 end_kind stops.BadToken = forms.BadToken
 
--- a fault of reading is that of the token at hand, or where none is left that of what stands there
+-- a fault of reading at the first token that is left; where none is left, the fault of what stands
+-- after the last token
 abbrev pub fault_at : Fault → List Lexeme → Stop → Span → FormFault
 fault_at fault [] stop at = faults.At (end_kind stop) at
 fault_at fault (t ∷ rest) stop at = faults.At (kind_of fault) t.at
 
--- a chart that took all tokens is that of the text, where the text ends after them
+-- the chart of all tokens, where the text ends after them; else the fault of what stands there
 abbrev pub chart_at : Chart → Stop → Span → Result Chart FormFault
 chart_at c stops.End at = Ok c
 chart_at c stops.BadByte at = Err (faults.At forms.BadByte at)

@@ -45,7 +45,7 @@ abbrev pub children_of : List StateText → States
 children_of [] = NoState
 children_of (s ∷ ss) = MoreStates (state_of s) (children_of ss)
 
--- items in their lists, each of which has its last item first
+-- the items in their lists, each list in reverse order
 abbrev pub sorted_of : Lists → Sorted
 sorted_of l = record {
   parts = record {

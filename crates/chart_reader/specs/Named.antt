@@ -1,4 +1,4 @@
--- Tokens whose names are names.
+-- Tokens of kind Name, whose text is a NAME.
 use Rattle.std.specs.Prelude.{Bool, not, ◌||◌, List, IsTrue}
 use Rattle.std.specs.List.{list_all}
 use Rattle.token_grammar.specs.declared.token.Kind.TheVariants as kinds
@@ -9,6 +9,6 @@ use Rattle.chart_lexer.specs.Words.{is_name}
 abbrev pub is_named : Lexeme → Bool
 is_named t = not (kind_eq t.kind kinds.Name) || is_name t.text
 
--- each of them
+-- each token of a list is so
 abbrev pub AreNamed : List Lexeme → Type 0
 AreNamed ts = IsTrue (list_all is_named ts)

@@ -25,7 +25,7 @@ group_of levels.Comparisons = groups.Comparisons
 group_of levels.Conjunctions = groups.Conjunctions
 group_of levels.Disjunctions = groups.Disjunctions
 
--- the operands of a level, over those without an operator between two of them
+-- the operands of a level, over the operands without a binary operator
 abbrev pub below : Level → Operands → Operands
 below levels.Products unary = unary
 below levels.Sums unary = product usual unary

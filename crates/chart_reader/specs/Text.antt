@@ -53,8 +53,8 @@ pub record StopsAt (text : List ℕ) (fault : Fault) (at : Span) : Type 0 where
 abbrev pub Stops : List ℕ → Fault → Span → Type 0
 Stops text fault at = StopsAt text fault at ⊎ (fault ≡ reading.Expected) × EndsEarly text at
 
--- after tokens that continue, no token begins, and the kind says what stands there: a byte that no
--- chart text may have, or one that begins no token
+-- after tokens that continue, no token begins, and the kind says what stands there: a byte that no chart text may have,
+-- or a byte that begins no token
 pub record NoToken (text : List ℕ) (kind : FormKind) (at : Span) : Type 0 where
   pub cut_short : (cut_of text).stop ≢ stops.End
   pub kind_is : kind ≡ end_kind (cut_of text).stop

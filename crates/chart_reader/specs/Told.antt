@@ -1,4 +1,4 @@
--- What was counted, as the reader keeps it: the values, and the counts after the last.
+-- Values with the counts after the last of them, as the reader keeps them.
 use Rattle.std.specs.Prelude.{List, Ok}
 use Rattle.token_grammar.specs.Token.{Outcome}
 use Rattle.token_grammar.specs.Grammar.{and_then}

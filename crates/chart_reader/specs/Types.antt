@@ -13,12 +13,12 @@ abbrev pub word_of : TypeName → TypeWord
 word_of names.Flag = FlagWord
 word_of (names.Numbers scale) = ScaleWord (parts_of scale)
 
--- a number where it is below 100
+-- a number, where it is below 100
 abbrev pub below_hundred : Option ℕ → Option ℕ
 below_hundred None = None
 below_hundred (Some n) = if nat_lt n 100 then Some n else None
 
--- the scale of a word that tells its width
+-- the scale of a word that has its width in it
 abbrev pub told_of : List ℕ → Option ScaleParts
 told_of word =
     if bytes_eq (take 4 word) (codes "sfix") then scale_told true (drop 4 word) else

@@ -50,7 +50,7 @@ pub(crate) fn one_more(thing: Thing, count: u32) -> Option<Fault>
 }
 
 impl Counts {
-    /// Before the items of a chart, which is a state itself.
+    /// The counts before the items of a chart, which counts as a state.
     pub fn at_begin() -> Counts
         ensures { counts_of result ≡ states.at_begin }
     {

@@ -45,7 +45,7 @@ fn zero_lit() -> LitText
     }
 }
 
-/// A number as a first value, where 0 is written in one way.
+/// A number as a first value; every form of 0 becomes the plain one.
 fn plain_init(negative: bool, lit: LitText, at: Span) -> InitText
     ensures { result ≡ spec.plain_init negative lit at }
 {
@@ -60,7 +60,7 @@ fn plain_init(negative: bool, lit: LitText, at: Span) -> InitText
     }
 }
 
-/// The first value of a datum that gives none.
+/// The first value of a datum for which none is written.
 fn missing_init(sort: SortText, at: Span) -> InitText
     ensures { result ≡ spec.missing_init (sort_of sort) at }
 {

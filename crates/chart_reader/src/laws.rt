@@ -1,4 +1,4 @@
-//! What texts and charts have to do with one another, for all texts at once.
+//! Laws of chart texts and their charts.
 ghost use Rattle.std.specs.Prelude.{◌≡◌, ◌⊎◌, ℕ, List};
 ghost use Rattle.token_grammar.specs.declared.token.Span.{Span};
 ghost use Rattle.chart_tree.specs.declared.fault.FormKind.{FormKind};
@@ -17,7 +17,7 @@ pub fn a_refused_text_spells_no_chart()
         → IsRefusal text (faults.At kind at) → Spells text c → ⊥ }
 {}
 
-/// A text is refused with one kind of fault, at one place.
+/// A text is refused with at most one kind of fault, and at one place.
 pub fn a_text_has_one_refusal()
     ensures { (text : List ℕ) (kind other : FormKind) (at there : Span)
         → IsRefusal text (faults.At kind at) → IsRefusal text (faults.At other there)

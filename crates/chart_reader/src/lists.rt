@@ -46,7 +46,7 @@ fn comp_with(comp: CompText, children: &[StateText]) -> CompText
 }
 
 impl Lists {
-    /// Without items.
+    /// The lists of a state without items.
     fn empty(alloc: Global, name: NameText, comp: CompText) -> Lists
         ensures { sorted_of result ≡ states.no_items name comp }
     {
@@ -67,7 +67,7 @@ impl Lists {
         }
     }
 
-    /// Puts an item in front of those that stand after it in the text.
+    /// Puts an item before those that follow it in the text.
     fn put(&mut self, item: Item) -> Result<(), AllocError>
         ensures { OnOk result
             (sorted_of self.new ≡ states.put (item_of item) (sorted_of self.old)) }
@@ -106,7 +106,7 @@ impl Lists {
         Ok(lists)
     }
 
-    /// The chart of these items. A state is the root of one.
+    /// The chart of these items. The root of the chart is a state.
     pub fn into_chart(self) -> ChartText
         ensures chart { chart_of result ≡ states.chart_with (sorted_of self) }
         ensures root { state_of result.root ≡ states.state_with (sorted_of self) }

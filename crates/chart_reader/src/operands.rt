@@ -1,4 +1,4 @@
-//! Operands without an operator, and the operators before and between operands.
+//! Operands without an operator, and unary and binary operators.
 ghost use Rattle.std.specs.Prelude.{◌≡◌, ◌<◌, IfOk, OnOk};
 ghost use Rattle.token_grammar.specs.Token.{lexeme, lexemes, Gives};
 ghost use Rattle.token_grammar.specs.declared.token.Kind.TheVariants as kinds;
@@ -26,7 +26,7 @@ pub(crate) struct Operand {
     pub operators: u32,
 }
 
-/// An operator between two operands, and the second of them.
+/// A binary operator, and the second of its operands.
 #[derive(Drop)]
 pub(crate) struct Tail {
     /// The operator.
@@ -37,11 +37,11 @@ pub(crate) struct Tail {
     pub right: Operand,
 }
 
-/// How tightly operators between two operands bind. Those of a level stand between operands with
-/// the operators of the levels before it.
+/// The levels of binary operators, from the tightest to the loosest. The operands of a level are
+/// built with the operators of tighter levels.
 #[derive(Clone, Copy)]
 pub(crate) enum Level {
-    /// `*` and `/`, between operands without an operator between two.
+    /// `*` and `/`, between operands without a binary operator.
     Products,
     /// `+` and `-`.
     Sums,
@@ -68,7 +68,7 @@ impl Level {
     }
 }
 
-/// The word of an operator between two operands.
+/// The word of a binary operator.
 pub(crate) fn bin_word(kind: Kind) -> BinWord
     ensures { result ≡ grammar.bin_word kind }
 {
@@ -88,7 +88,7 @@ pub(crate) fn bin_word(kind: Kind) -> BinWord
     }
 }
 
-/// The word of an operator before its operand.
+/// The word of a unary operator.
 pub(crate) fn un_word(kind: Kind) -> UnWord
     ensures { result ≡ grammar.un_word kind }
 {
@@ -118,7 +118,7 @@ pub(crate) fn with_tail(alloc: Global, left: Operand, tail: Tail) -> Result<Oper
 }
 
 impl<'t, 'a> Reader<'t, 'a> {
-    /// An operator, after `before` of them.
+    /// An operator, where `before` operators and parentheses stand before it.
     #[tactic(auto, unfolding(chart_grammar::specs::Expressions::operator))]
     pub fn operator(&mut self, group: Group, before: u32) -> Result<Token<'a>, ReadError>
         ensures read { Gives lexeme result (lexemes self.new.rest.now)
@@ -131,7 +131,7 @@ impl<'t, 'a> Reader<'t, 'a> {
         self.allowed_one_of(group, refused)
     }
 
-    /// An opening parenthesis, after `before` operators.
+    /// An opening parenthesis, where `before` operators and parentheses stand before it.
     pub fn opening(&mut self, before: u32) -> Result<Token<'a>, ReadError>
         ensures read { Gives lexeme result (lexemes self.new.rest.now)
             ((grammar.operator usual (is kinds.OpenParen) before).reads
@@ -197,7 +197,7 @@ impl<'t, 'a> Reader<'t, 'a> {
         })
     }
 
-    /// An operand without an operator, after `before` operators.
+    /// An operand without an operator, where `before` operators and parentheses stand before it.
     #[tactic(auto, unfolding(chart_grammar::specs::Expressions::plain))]
     pub fn plain(&mut self, before: u32) -> Result<Operand, ReadError>
         ensures read { Gives operand_of result (lexemes self.new.rest.now)

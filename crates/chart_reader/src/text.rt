@@ -34,7 +34,7 @@ impl<'t, 'a> Reader<'t, 'a> {
     }
 }
 
-/// The kind of fault where no token is left to read.
+/// The kind of fault where no token is left, by what stands after the last token.
 fn end_kind(stop: Stop) -> FormKind
     ensures { result ≡ spec.end_kind stop }
 {
@@ -45,7 +45,8 @@ fn end_kind(stop: Stop) -> FormKind
     }
 }
 
-/// A fault of reading at the token at hand, or that of what stands where none is left.
+/// A fault of reading at the first token that is left; where none is left, the fault of what stands
+/// after the last token.
 fn fault_at(fault: Fault, rest: &[Token<'_>], stop: Stop, end: Span) -> FormFault
     ensures { result ≡ spec.fault_at fault (lexemes rest.now) stop end }
 {
@@ -55,7 +56,7 @@ fn fault_at(fault: Fault, rest: &[Token<'_>], stop: Stop, end: Span) -> FormFaul
     }
 }
 
-/// The chart that took all tokens, where the text ends after them.
+/// The chart of all tokens, where the text ends after them; else the fault of what stands there.
 fn chart_at(chart: ChartText, stop: Stop, end: Span) -> Result<ChartText, FormFault>
     ensures { IsAnswer result (spec.chart_at (chart_of chart) stop end) }
 {

@@ -21,7 +21,7 @@ pub(crate) enum TypeName {
     Numbers(Scale),
 }
 
-/// The number that a digit tells.
+/// The number that a digit denotes.
 fn one_digit(digit: u8) -> Option<u8>
     ensures { result ≡ below_hundred (spec.plain_number (digit ∷ [])) }
 {
@@ -32,7 +32,7 @@ fn one_digit(digit: u8) -> Option<u8>
     }
 }
 
-/// The number that two digits tell, without a leading zero.
+/// The number that two digits denote, without a leading zero.
 fn two_digits(tens: u8, digit: u8) -> Option<u8>
     ensures { result ≡ below_hundred (spec.plain_number (tens ∷ digit ∷ [])) }
 {
@@ -43,7 +43,7 @@ fn two_digits(tens: u8, digit: u8) -> Option<u8>
     }
 }
 
-/// The number that digits tell, without a leading zero. None from 100 on.
+/// The number that digits denote, without a leading zero. None where it is 100 or more.
 fn small_number(text: &[u8]) -> Option<u8>
     ensures { result ≡ below_hundred (spec.plain_number text.now) }
 {
@@ -54,7 +54,7 @@ fn small_number(text: &[u8]) -> Option<u8>
     }
 }
 
-/// The fraction of a scale, which may be missing. None from 100 on.
+/// The fraction of a scale, 0 where none is written. None where it is 100 or more.
 fn frac_of(text: &[u8]) -> Option<u8>
     ensures { result ≡ below_hundred (spec.frac_told text.now) }
 {
@@ -77,7 +77,7 @@ fn scale_told(signed: bool, text: &[u8]) -> Option<Scale>
     Scale::make(signed, width, frac)
 }
 
-/// The scale of a word that tells its width.
+/// The scale of a word that has its width in it.
 fn told_of(word: &[u8]) -> Option<Scale>
     ensures { option_map parts_of result ≡ told_of word.now }
 {
@@ -131,7 +131,7 @@ fn type_of(word: &[u8]) -> Option<TypeName>
     }
 }
 
-/// What a word says of numbers out of range.
+/// The mode of a word: what is done with numbers out of range.
 fn mode_of(kind: Kind) -> Mode
     ensures { result ≡ spec.mode_word kind }
 {
@@ -168,7 +168,7 @@ impl<'t, 'a> Reader<'t, 'a> {
         }
     }
 
-    /// What is done with numbers out of range.
+    /// The mode at hand: what is done with numbers out of range.
     #[tactic(auto, unfolding(chart_grammar::specs::Types::mode))]
     fn mode(&mut self) -> Result<Mode, ReadError>
         ensures read { Gives (λ m. m) result (lexemes self.new.rest.now)
@@ -179,7 +179,7 @@ impl<'t, 'a> Reader<'t, 'a> {
         Ok(mode_of(token.kind))
     }
 
-    /// The same, which may be missing.
+    /// The mode at hand, `Saturate` where none is written.
     #[tactic(auto, unfolding(chart_grammar::specs::Types::maybe_mode))]
     fn maybe_mode(&mut self) -> Result<Mode, ReadError>
         ensures read { Gives (λ m. m) result (lexemes self.new.rest.now)

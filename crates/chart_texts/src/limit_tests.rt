@@ -28,7 +28,7 @@ fn repeated(
     Ok(text)
 }
 
-/// With as many units as may be the text is read, and with one more it is refused.
+/// A text with the greatest number of units is read, and one with one more is refused.
 fn check_limit(
     rt: &(impl AllocGlobal + Abort),
     (head, unit, most, tail, refused): (&str, &str, usize, &str, &str),

@@ -45,7 +45,7 @@ form_number forms.TooManyPairs = 24
 form_number forms.HistoryUnwanted = 26
 form_number forms.NotBuilt = 25
 
--- its name
+-- the name of a kind of fault
 abbrev pub form_name : FormKind → List ℕ
 form_name forms.BadByte = codes "BadByte"
 form_name forms.BadToken = codes "BadToken"
@@ -81,7 +81,7 @@ form_name forms.TooManyPairs = codes "TooManyPairs"
 form_name forms.HistoryUnwanted = codes "HistoryUnwanted"
 form_name forms.NotBuilt = codes "NotBuilt"
 
--- a text that is too long is refused at its first byte, before all else
+-- a text that is too long is refused at its first byte, before all other faults
 pub record IsTooLong (text : List ℕ) (kind : FormKind) (at : Span) : Type 0 where
   pub kind_is : kind ≡ forms.TextTooLong
   pub long : CHART_TEXT_LIMIT < length text

@@ -17,7 +17,7 @@ pub record ScaleParts : Type 0 where
   pub width : ℕ
   pub frac : ℕ
 
--- what values a datum has, and what is done with a number out of range
+-- the sort of a datum: which values it may have, and what is done with a number out of range
 pub data Sort : Type 0 where
   FlagSort : Sort
   NumberSort : ScaleParts → Mode → Sort

@@ -7,11 +7,11 @@ use flow_base::List;
 /// Who raises an event.
 #[derive(Clone, Copy, Debug, PartialEq, Eq)]
 pub enum EventWord {
-    /// The world around the chart.
+    /// The environment of the chart.
     Input,
     /// The chart, which sends it to itself.
     Local,
-    /// The chart, for the world around it.
+    /// The chart, for its environment.
     Output,
 }
 
@@ -27,9 +27,9 @@ pub struct EventText {
 /// Who sets a datum.
 #[derive(Clone, Copy, Debug, PartialEq, Eq)]
 pub enum VarWord {
-    /// The world around the chart.
+    /// The environment of the chart.
     Input,
-    /// The chart, for the world around it.
+    /// The chart, for its environment.
     Output,
     /// The chart, for itself.
     Local,

@@ -40,8 +40,8 @@ pub enum BinWord {
     Div,
 }
 
-/// An expression. Parentheses leave no trace. The place is that of the first token, and of a
-/// binary expression that of its operator.
+/// An expression. Parentheses leave no trace. Its place is that of its first token; the place of a
+/// binary expression is that of its operator.
 #[derive(Debug, Drop)]
 pub enum ExprText {
     /// A number.

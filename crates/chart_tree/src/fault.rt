@@ -10,10 +10,10 @@ use token_grammar::{Fault, Span, Thing};
 /// What is wrong with a text, at a place.
 #[derive(Clone, Copy, Debug, PartialEq, Eq)]
 pub enum FormKind {
-    /// A byte that no chart text may have, in a comment neither.
+    /// A byte that no chart text may have, not even in a comment.
     BadByte,
-    /// No token begins here, a name has over 63 bytes, or a number is followed by a letter, an
-    /// underscore, or a `q` without one or two digits of value 0 to 32.
+    /// No token begins here, a name has over 63 bytes, or a number is directly followed by a letter
+    /// or an underscore, or has a `q` that isn't followed by one or two digits of value 0 to 32.
     BadToken,
     /// A token, or the end of the text, doesn't continue a chart text after the tokens before it.
     Expected,
@@ -25,7 +25,7 @@ pub enum FormKind {
     TextTooLong,
     /// A state is deeper than 16. The children of the chart are at depth 1.
     NestTooDeep,
-    /// One more of these than there may be.
+    /// One more of these things than the limit allows.
     TooMany(Thing),
     /// An earlier event or datum, an earlier sibling state, or an earlier junction of the same state
     /// has this name.
@@ -64,7 +64,7 @@ pub enum FormKind {
     TooManyPairs,
     /// The word `history` in an AND or a leaf.
     HistoryUnwanted,
-    /// A token, a byte or a name that no flat chart has there.
+    /// A token, a byte or a name that can't stand at this place of a flat chart.
     NotBuilt,
 }
 

@@ -1,4 +1,4 @@
-//! The limits of chart texts, each once: definitions, code and proofs cite them from here.
+//! The limits of chart texts. Definitions, code and proofs cite these constants.
 
 /// The greatest number of bytes in a chart text.
 pub const CHART_TEXT_LIMIT: usize = 1_048_576;
@@ -6,7 +6,7 @@ pub const CHART_TEXT_LIMIT: usize = 1_048_576;
 /// The greatest depth of a state. The children of the chart are at depth 1.
 pub const STATE_DEPTH_LIMIT: u32 = 16;
 
-/// The greatest number of states in a chart, which is a state itself.
+/// The greatest number of states in a chart, counting the chart itself.
 pub const STATE_LIMIT: u32 = 1_024;
 
 /// The greatest number of junctions in a chart.

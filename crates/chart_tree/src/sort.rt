@@ -3,7 +3,7 @@ use crate::name::LitText;
 use fixed_point::{Mode, Scale};
 use token_grammar::Span;
 
-/// What values a datum has.
+/// The sort of a datum: which values it may have.
 #[derive(Clone, Copy, Debug, PartialEq, Eq)]
 pub enum SortText {
     /// True or false.

@@ -36,7 +36,8 @@ pub struct GuardText {
 /// A transition. A missing block is an empty one.
 #[derive(Debug, Drop)]
 pub struct TransText {
-    /// The place of its keyword, in a junction of its first token.
+    /// The place of its keyword; in a junction, which has no keywords, the place of its first
+    /// token.
     pub at: Span,
     /// The event that triggers it.
     pub event: Option<NameText>,
@@ -62,7 +63,8 @@ pub struct JunctionText {
 /// How a state is composed.
 #[derive(Clone, Copy, Debug, PartialEq, Eq)]
 pub enum CompText {
-    /// No word says so. A state with child states has `Or` in place of this.
+    /// Neither word stands there, and the state has no child states. A state with child states is
+    /// `Or` then.
     None,
     /// One child at most is active.
     Or,

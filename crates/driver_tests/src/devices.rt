@@ -8,7 +8,7 @@ use step_driver::DriveEnd;
 const TRACE: &str =
     "0 start [] by=0,count=0 - ok\n1 GO [] by=0,count=0 DONE,DONE ok\n2 GO [] by=0,count=0 DONE,DONE ok\n3 GO [] by=0,count=0 DONE,DONE ok\n";
 
-/// Each line of the file has as many bytes as a read gives, and the fourth read tells the end.
+/// Each line of the file has the length of a read, and the fourth read finds the end.
 #[test]
 fn a_failed_read_leaves_the_whole_lines(rt: HostRuntime) -> Result<(), Fail> {
     // which read fails, and how long the lines of the trace are that stand then

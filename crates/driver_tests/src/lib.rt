@@ -1,5 +1,5 @@
-//! Tests of the driver, over the engine of `sample_engine` and files in memory: what no clause says,
-//! with answers and traces worked by hand.
+//! Tests of the driver, over the engine of `sample_engine` and files in memory: what no contract
+//! says, with answers and traces worked by hand.
 #![tactic(auto)]
 
 #[cfg(test)]

@@ -18,7 +18,7 @@ pub enum Answer {
     Mantissa(i128),
     /// The order of two numbers.
     Order(Ordering),
-    /// So many bytes of decimal text, and how many.
+    /// The decimal text, and the number of its bytes.
     Text([u8; TEXT_LIMIT], usize),
     /// A scale, as `s8.0` or `u8.4`.
     Made(Scale),

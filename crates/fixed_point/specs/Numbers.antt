@@ -57,7 +57,7 @@ abbrev pub floor_div : ℤ → ℤ → ℤ
 floor_div z (pos d) = floor_by z d
 floor_div z (negsuc d) = floor_by (neg_ℤ z) (suc d)
 
--- the dividend's mantissa, at which the quotient of mantissas has the greater fraction
+-- the dividend's mantissa, scaled so that the quotient of the two mantissas is at the greater fraction
 abbrev pub dividend_of : Num → Num → ℤ
 dividend_of a b = a.mantissa *ℤ pos (2 ^ ((common_frac a b - a.frac) + b.frac))
 
@@ -74,7 +74,7 @@ quotient_of a b = if unsigned_abs b.mantissa == 0 then Err (record {}) else Ok (
   frac = common_frac a b;
 })
 
--- the mantissa at a fraction of the greatest value there that is at most this one
+-- the value in steps of 2 ^ -frac, rounded down to a whole number of them
 abbrev pub floored : Num → ℕ → ℤ
 floored a frac = floor_by (a.mantissa *ℤ pos (2 ^ frac)) (2 ^ a.frac)
 

@@ -1,4 +1,4 @@
--- The parts that the reader takes a text into.
+-- The parts into which the reader splits a text.
 use Rattle.std.specs.Prelude.{◌≡◌, ℕ, List, IsTrue}
 use Rattle.fixed_point.specs.Reading.{is_number, is_negative, whole_digits, behind_digits, bits_of}
 use Rattle.fixed_point.specs.declared.reading.Numeral.{Numeral}

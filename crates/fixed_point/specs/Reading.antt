@@ -31,7 +31,7 @@ without byte text = if starts_with byte text then drop 1 text else text
 abbrev pub leading_digits : List ℕ → List ℕ
 leading_digits text = take_while is_ascii_digit text
 
--- what comes after them
+-- what comes after the digits at the front
 abbrev pub after_digits : List ℕ → List ℕ
 after_digits text = drop (length (leading_digits text)) text
 
@@ -43,7 +43,7 @@ digits_behind text = if starts_with 46 text then leading_digits (drop 1 text) el
 abbrev pub rest_behind : List ℕ → List ℕ
 rest_behind text = if starts_with 46 text then after_digits (drop 1 text) else text
 
--- a minus sign stands in front
+-- a minus sign stands at the front
 abbrev pub is_negative : List ℕ → Bool
 is_negative text = starts_with 45 text
 
@@ -51,7 +51,7 @@ is_negative text = starts_with 45 text
 abbrev pub whole_digits : List ℕ → List ℕ
 whole_digits text = leading_digits (without 45 text)
 
--- what comes after them
+-- what comes after the digits before the point
 abbrev pub after_whole : List ℕ → List ℕ
 after_whole text = after_digits (without 45 text)
 
@@ -63,7 +63,7 @@ has_point text = starts_with 46 (after_whole text)
 abbrev pub behind_digits : List ℕ → List ℕ
 behind_digits text = digits_behind (after_whole text)
 
--- what comes after them
+-- what comes after the digits after the point
 abbrev pub after_behind : List ℕ → List ℕ
 after_behind text = rest_behind (after_whole text)
 
@@ -75,9 +75,9 @@ has_bits text = starts_with 113 (after_behind text)
 abbrev pub bits_digits : List ℕ → List ℕ
 bits_digits text = drop 1 (after_behind text)
 
--- ---- the number that digits tell
+-- ---- the number that digits denote
 
--- the number that digits tell, after the digits of another number
+-- the number that digits denote, after the digits of another number
 unfoldable pub value_after : ℕ → List ℕ → ℕ
 value_after n [] = n
 value_after n (digit ∷ digits) = value_after (n * 10 + (digit - 48)) digits
@@ -91,7 +91,7 @@ abbrev pub is_bits : List ℕ → Bool
 is_bits digits = length (leading_digits digits) == length digits
     && nat_le 1 (length digits) && nat_le (length digits) 2 && nat_le (value_of digits) PLACES_LIMIT
 
--- the number of bits that these digits tell, if they do
+-- the number of bits that the digits denote, if they are one or two of a value up to 32
 abbrev pub bits_read : List ℕ → Option ℕ
 bits_read digits = if is_bits digits then Some (value_of digits) else None
 
@@ -112,7 +112,7 @@ is_number text = nat_lt 0 (length (whole_digits text))
 abbrev pub is_exact : ℕ → ℕ → ℕ → Bool
 is_exact units places frac = (units * 2 ^ frac) % 10 ^ places == 0
 
--- the fewest bits after the point, up to 32, that tell units / 10 ^ places exactly, if any do
+-- the fewest bits after the point, up to 32, at which units / 10 ^ places is exact, if there are any
 abbrev pub exact_frac : ℕ → ℕ → Option ℕ
 exact_frac units places =
     let frac = first_from (is_exact units places) 0 (PLACES_LIMIT + 1) in
@@ -127,7 +127,7 @@ frac_of (Some bits) units places = Some bits
 abbrev pub steps_of : ℕ → ℕ → ℕ → ℕ
 steps_of units places frac = units * 2 ^ frac / 10 ^ places
 
--- the same where it is less than 2 ^ 99
+-- that floor, where it is less than 2 ^ 99
 abbrev pub steps_within : ℕ → ℕ → ℕ → Option ℕ
 steps_within units places frac =
     if nat_lt (steps_of units places frac) READ_LIMIT then Some (steps_of units places frac) else None
@@ -146,7 +146,8 @@ number_of negative units places None = Err NotBinary
 number_of negative units places (Some frac) =
     signed_number negative frac (steps_within units places frac)
 
--- the number of digits before and after the point, at most 36, and of bits, or the first fault
+-- the number that digits before and after the point denote, with the bits that are asked for, if
+-- any are, or the first fault; over 36 digits are too long
 abbrev pub number_told : Bool → List ℕ → List ℕ → Option ℕ → Result Num NumFault
 number_told negative whole behind bits =
     let units = value_of (whole ++ behind) in
@@ -154,7 +155,7 @@ number_told negative whole behind bits =
     if nat_lt DIGIT_LIMIT (length (whole ++ behind)) then Err TooLong
     else number_of negative units places (frac_of bits units places)
 
--- the number that a text tells, or the first fault
+-- the number that a text denotes, or the first fault
 unfoldable pub number_read : List ℕ → Result Num NumFault
 number_read text =
     if is_number text

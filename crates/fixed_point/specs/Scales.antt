@@ -1,4 +1,4 @@
--- How a number comes to a scale: in range, at its fraction.
+-- How a number is brought to a scale: in range, at its fraction.
 use Rattle.std.specs.Prelude.{◌≡◌, ℕ, ◌-◌, ◌^◌, ◌≤◌, ℤ, pos, ◌+ℤ◌, ◌-ℤ◌, neg_ℤ, int_lt, int_le, Bool, ◌&&◌, if◌then◌else◌, Option, Some, None, Result, Ok, Err}
 use Rattle.std.specs.Int.{int_rem_euclid}
 use Rattle.fixed_point.specs.Numbers.{floored, is_whole}
@@ -50,7 +50,7 @@ by_mode Saturate scale mantissa = Ok (nearest_end scale mantissa)
 by_mode Wrap scale mantissa = Ok (wrapped scale mantissa)
 by_mode Error scale mantissa = Err (record {})
 
--- a mantissa in range stays, and out of range the mode decides
+-- a mantissa in range is kept; for one out of range the mode decides
 abbrev pub within : Scale → Mode → ℤ → Result ℤ Overflow
 within scale mode mantissa =
     if is_in_range scale mantissa then Ok mantissa else by_mode mode scale mantissa

@@ -15,7 +15,7 @@ last_digits (suc k) n = last_digits k (n / 10) ++ (48 + n % 10) ∷ []
 abbrev pub ends_within : ℕ → ℕ → ℕ → Bool
 ends_within n frac places = (n * 10 ^ places) % 2 ^ frac == 0
 
--- the fewest digits after the point that tell n / 2 ^ frac exactly; frac digits always do
+-- the fewest digits after the point at which n / 2 ^ frac is exact; at frac digits it always is
 abbrev pub places_of : ℕ → ℕ → ℕ
 places_of n frac = first_from (ends_within n frac) 0 frac
 
@@ -27,7 +27,7 @@ fraction_digits n frac = last_digits (places_of n frac) (n * 10 ^ places_of n fr
 abbrev pub behind_point : ℕ → ℕ → List ℕ
 behind_point n frac = if n % 2 ^ frac == 0 then [] else 46 ∷ fraction_digits n frac
 
--- a minus sign where negative
+-- a minus sign where the number is negative
 abbrev pub sign_of : ℤ → List ℕ
 sign_of (pos n) = []
 sign_of (negsuc n) = 45 ∷ []

@@ -1,4 +1,4 @@
-//! How a number comes to a scale.
+//! How a number is brought to a scale.
 ghost use Rattle.std.specs.Prelude.{◌≡◌, ◌≤◌, ◌<◌, ◌^◌, ◌↔◌, IsTrue, unsigned_abs};
 ghost use Rattle.fixed_point.specs.Numbers as spec;
 ghost use Rattle.fixed_point.specs.Scales as scales;
@@ -10,17 +10,17 @@ use crate::power::power_of_two;
 use crate::scale::Scale;
 use thiserror::Error;
 
-/// No mantissa of a scale is greater in magnitude.
+/// No mantissa of any scale is greater in magnitude.
 const FARTHEST: u128 = 1 << 64;
 
 /// What is done with a mantissa that is out of a scale's range.
 #[derive(Clone, Copy, Debug, PartialEq, Eq)]
 pub enum Mode {
-    /// The nearest end of the range is taken.
+    /// The nearest end of the range is kept.
     Saturate,
-    /// The mantissa in range that differs by a multiple of `2^width` is taken.
+    /// The mantissa in range that differs by a multiple of `2^width` is kept.
     Wrap,
-    /// The number is refused.
+    /// The call fails with `Overflow`.
     Error,
 }
 
@@ -61,7 +61,8 @@ pub fn fit(a: Num, to: Scale, mode: Mode) -> Result<i128, Overflow>
     }
 }
 
-/// Whether the mantissa at the fraction is farther from 0 than that of any scale, since its own is.
+/// Whether the number's own mantissa is greater in magnitude than that of any scale, and the
+/// fraction has no fewer bits: then the mantissa at the fraction is greater, too.
 fn is_far(a: Num, frac: u32) -> bool
     ensures { IsTrue result ↔ ((a.frac ≤ frac) × (2 ^ 64 < unsigned_abs a.mantissa)) }
 {

@@ -33,7 +33,7 @@ pub(crate) fn floored(a: Num, frac: u32) -> i128
     if a.frac <= frac {
         scaled(a, frac)
     } else {
-        // With 127 bits dropped the sign alone is left.
+        // Once 127 bits are dropped, only the sign bit is left.
         without_bits(a.mantissa, (a.frac - frac).min(127))
     }
 }

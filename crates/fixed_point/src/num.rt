@@ -6,7 +6,7 @@ pub const MAGNITUDE_LIMIT: u128 = 1 << 100;
 /// The most bits after the point in a calculation.
 pub const FRACTION_LIMIT: u32 = 64;
 
-/// The number `mantissa / 2^frac`. Two of these may be one number: 1 / 2 is 2 / 4.
+/// The number `mantissa / 2^frac`. Different pairs may be the same number: 1 / 2 is 2 / 4.
 #[derive(Clone, Copy, Debug, PartialEq, Eq)]
 pub struct Num {
     /// The whole number of steps.

@@ -41,7 +41,7 @@ pub fn div(a: Num, b: Num) -> Result<Num, Zero>
     })
 }
 
-/// The mantissa of the dividend, brought to where the quotient has the greater fraction.
+/// The mantissa of the dividend, scaled so that the quotient is at the greater fraction.
 fn dividend(a: Num, b: Num) -> i128
     requires { spec.CanDivide a b }
     ensures { result ≡ spec.dividend_of a b }

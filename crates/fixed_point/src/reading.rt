@@ -14,7 +14,7 @@ use thiserror::Error;
 /// Why a text gives no number.
 #[derive(Clone, Copy, Debug, PartialEq, Eq, Error)]
 pub enum NumFault {
-    /// It has another form.
+    /// It isn't of the form of a number.
     #[error("not a number")]
     NotNumber,
     /// It has over 36 digits, or its mantissa is `2^99` or more.
@@ -38,10 +38,10 @@ impl NumFault {
     }
 }
 
-/// The most digits of a number, those of its fraction's `q` aside.
+/// The greatest number of digits of a number, not counting those after `q`.
 pub const DIGIT_LIMIT: usize = 36;
 
-/// Whether the text begins with the byte, and the text without it.
+/// Whether the text begins with the byte, and the text without that byte at its front.
 fn skip_byte(text: &[u8], byte: u8) -> (bool, &[u8])
     ensures found { result.0 ≡ spec.starts_with byte text.now }
     ensures rest { result.1.now ≡ spec.without byte text.now }
@@ -83,7 +83,7 @@ fn split_behind(text: &[u8]) -> (bool, &[u8], &[u8])
     }
 }
 
-/// The number that digits tell, after the digits of another number.
+/// The number that digits denote, after the digits of another number.
 pub fn value_after(start: u128, digits: &[u8]) -> u128
     requires digits { AllPass is_ascii_digit digits.now }
     requires room { (start + 1) * 10 ^ length digits.now ≤ 10 ^ DIGIT_LIMIT }
@@ -114,7 +114,7 @@ fn read_bits(digits: &[u8]) -> Option<u32>
 /// The parts of a number's text.
 #[derive(Clone, Copy, Debug)]
 pub struct Numeral<'a> {
-    /// Whether a minus sign stands in front.
+    /// Whether a minus sign stands at the front.
     pub negative: bool,
     /// The digits before the point, at least one.
     pub whole: &'a [u8],
@@ -158,7 +158,7 @@ pub fn split_number(text: &[u8]) -> Option<Numeral<'_>>
     })
 }
 
-/// The bits that are asked for, else the fewest that tell `units / 10^places` exactly.
+/// The bits that are asked for, else the fewest at which `units / 10^places` is exact.
 fn frac_of(bits: Option<u32>, units: u128, places: u32) -> Option<u32>
     requires { places ≤ 36 }
     ensures { result ≡ spec.frac_of bits units places }
@@ -169,7 +169,8 @@ fn frac_of(bits: Option<u32>, units: u128, places: u32) -> Option<u32>
     }
 }
 
-/// The number of `units / 10^places`, at its floor in steps of `2^-frac`.
+/// The number of that sign whose magnitude is `units / 10^places`, rounded down to steps of
+/// `2^-frac`.
 fn number_of(negative: bool, units: u128, places: u32, frac: Option<u32>) -> Result<Num, NumFault>
     requires { places ≤ 36 }
     ensures { result ≡ spec.number_of negative units places frac }
@@ -187,7 +188,7 @@ fn number_of(negative: bool, units: u128, places: u32, frac: Option<u32>) -> Res
     })
 }
 
-/// The number that the parts of a text tell.
+/// The number that the parts of a text denote.
 fn number_told(parts: Numeral<'_>) -> Result<Num, NumFault>
     requires whole { AllPass is_ascii_digit parts.whole.now }
     requires behind { AllPass is_ascii_digit parts.behind.now }
@@ -208,9 +209,9 @@ fn number_told(parts: Numeral<'_>) -> Result<Num, NumFault>
     )
 }
 
-/// The number that the text tells: an optional minus sign, digits, optionally a point and digits,
-/// and optionally `q` and one or two digits, up to 32, the fraction. A minus sign and `q` don't
-/// stand together.
+/// The number that the text denotes: an optional minus sign, digits, optionally a point and digits,
+/// and optionally `q` and one or two digits of a value up to 32, the bits of the fraction. A minus
+/// sign and `q` don't stand together.
 #[tactic(auto, unfolding(crate::specs::Reading::number_read))]
 pub fn read_decimal(text: &[u8]) -> Result<Num, NumFault>
     ensures { result ≡ spec.number_read text.now }

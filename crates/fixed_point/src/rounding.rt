@@ -6,13 +6,14 @@ ghost use Rattle.fixed_point.specs.declared.reading.TheConstants.{DIGIT_LIMIT};
 use crate::power::power_of_ten;
 use crate::scale::PLACES_LIMIT;
 
-/// Every mantissa that is read is less.
+/// Every mantissa that is read is less than this.
 pub const READ_LIMIT: u128 = 1 << 99;
 
 /// How many fractions a number that is read may have: 0 to `PLACES_LIMIT`.
 const FRACTION_COUNT: u32 = PLACES_LIMIT as u32 + 1;
 
-/// The fewest bits after the point, up to 32, that tell `units / 10^places` exactly.
+/// The fewest bits after the point, up to 32, at which `units / 10^places` is exact, if there are
+/// any.
 pub(crate) fn exact_frac(units: u128, places: u32) -> Option<u32>
     requires { places ≤ DIGIT_LIMIT }
     ensures { result ≡ spec.exact_frac units places }

@@ -10,7 +10,8 @@ use crate::power::unsigned_power;
 /// The most bytes of the decimal text of a number.
 pub const TEXT_LIMIT: usize = 128;
 
-/// Puts a byte after the first `at`, and answers how many bytes there are now.
+/// Writes a byte after the first `at` bytes of the buffer, and answers how many bytes there are
+/// now.
 fn put(buf: &mut [u8], at: usize, byte: u8) -> usize
     requires { at < length buf.old }
     ensures text { take result buf.new ≡ take at buf.old ++ byte ∷ [] }
@@ -29,7 +30,7 @@ fn put_sign(buf: &mut [u8], mantissa: i128) -> usize
     if mantissa < 0 { put(buf, 0, b'-') } else { 0 }
 }
 
-/// Puts the digits of a whole number after the first `at` bytes.
+/// Writes the digits of a whole number after the first `at` bytes of the buffer.
 fn put_whole(buf: &mut [u8], at: usize, number: u128) -> usize
     requires { at + length (decimal number) ≤ length buf.old }
     ensures text { take result buf.new ≡ take at buf.old ++ decimal number }
@@ -42,7 +43,7 @@ fn put_whole(buf: &mut [u8], at: usize, number: u128) -> usize
     put(buf, front_end, b'0' + (number % 10) as u8)
 }
 
-/// Puts the digits after the point of `number / 2^frac` after the first `at` bytes.
+/// Writes the digits after the point of `number / 2^frac` after the first `at` bytes of the buffer.
 fn put_behind(buf: &mut [u8], at: usize, number: u128, frac: u32) -> usize
     requires frac { frac ≤ FRACTION_LIMIT }
     requires room { at + FRACTION_LIMIT ≤ length buf.old }
@@ -71,7 +72,7 @@ pub fn write_decimal(mantissa: i128, frac: u32, buf: &mut [u8]) -> usize
     ensures end { result ≡ length (spec.decimal_text mantissa frac) }
     ensures within { result ≤ TEXT_LIMIT }
 
-    // Read, the text tells the value, and no shorter text tells it.
+    // The text denotes the value as texts are read, and no shorter text does.
     ensures exact { told.TellsExactly mantissa frac (spec.decimal_text mantissa frac) }
     ensures shortest { told.IsShortest mantissa frac (spec.decimal_text mantissa frac) }
 {

@@ -12,7 +12,7 @@ pub record Program : Type 0 where
   pub react : ℕ
   pub procs : List (List Instr)
 
--- code of the code as a contract sees it
+-- the program of a `RawCode`, as contracts see it
 abbrev pub program_of : RawCode → Program
 program_of c = record {
   states = items_of c.states;

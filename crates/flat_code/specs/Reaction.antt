@@ -10,7 +10,7 @@ abbrev pub ended_or : Standing → World → World
 ended_or (Over w) other = w
 ended_or Unfinished other = other
 
--- the world after one more event: a reaction takes fewer steps than two more than its procedure has instructions
+-- the world after one more event: a reaction takes at most one step more than its procedure has instructions
 abbrev pub react_world : Program → World → FlatEvent → World
 react_world P w e = ended_or (run P (length (instructions P P.react) + 2) (called w (number_of e) P.react)) w
 

@@ -1,10 +1,11 @@
--- What every instruction of well-formed code keeps to, so that a run stays in the code.
+-- What holds of each instruction of well-formed code, so that a run stays in its procedure.
 use Rattle.std.specs.Prelude.{◌≡◌, ℕ, ◌+◌, ◌<◌, true, false}
 use Rattle.flat_code.specs.declared.instr.Instr.{Instr}
 use Rattle.flat_code.specs.Program.{Program}
 use Rattle.flat_code.specs.WellFormed.{instr_known, stays_within, is_ret}
 
--- it names what is there, and goes on from place i within a procedure of len instructions
+-- the instruction names what is there, and what follows it at place i is within a procedure of len
+-- instructions
 pub record IsSoundAt (P : Program) (len i : ℕ) (x : Instr) : Type 0 where
   pub known : instr_known P x ≡ true
   pub within : stays_within len i x ≡ true

@@ -29,11 +29,12 @@ first_of (Some fault) later = Some fault
 abbrev pub unless : Bool → CodeKind → ℕ → ℕ → Option CodeFault
 unless good kind p i = if good then None else fault_at kind p i
 
--- more procedures than there may be, or a procedure of more instructions than it may have
+-- more than PROC_LIMIT procedures, or a procedure of more than INSTR_LIMIT instructions
 abbrev pub too_many : Program → Bool
 too_many P = nat_lt PROC_LIMIT (length P.procs) || list_any (λ (is : List Instr). nat_lt INSTR_LIMIT (length is)) P.procs
 
--- a root with at least one state below it, no more states and events than there may be; names that are NAMEs, and no two states below the root or events alike
+-- a root with at least one state below it, at most STATE_LIMIT states and EVENT_LIMIT events; names that are NAMEs; the
+-- names of the states below the root differ, and so do those of the events
 abbrev pub is_table : Program → Bool
 is_table P =
     nat_lt 1 (length P.states) && (not (nat_lt STATE_LIMIT (length P.states)) && (not (nat_lt EVENT_LIMIT (length P.events))
@@ -51,7 +52,7 @@ instr_known P (instrs.Clear s) = nat_lt s (length P.states)
 instr_known P (instrs.Unless k c) = cond_known P c
 instr_known P (instrs.Ret r) = true
 
--- where an instruction at place i goes on stays in a procedure of that length
+-- the place to which an instruction at place i may skip is within a procedure of length len
 abbrev pub stays_within : ℕ → ℕ → Instr → Bool
 stays_within len i (instrs.Mark s) = true
 stays_within len i (instrs.Clear s) = true
@@ -103,7 +104,7 @@ code_fault P =
 abbrev pub IsCode : Program → Type 0
 IsCode P = code_fault P ≡ None
 
--- a fault is the first of the code; want of memory has no cause in it
+-- a fault is the first of the code; Memory is allowed for every program
 abbrev pub IsCause : Program → CodeEnd → Type 0
 IsCause P (ends.Fault fault) = code_fault P ≡ Some fault
 IsCause P ends.Memory = Unit {0}

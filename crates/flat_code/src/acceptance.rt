@@ -15,7 +15,7 @@ use flow_base::{List, Text};
 use std::alloc::Global;
 
 /// The code as accepted, or its first fault. Names are compared pair by pair, so that it takes no
-/// memory.
+/// memory: the allocator isn't used, and `Memory`, which the contract allows, isn't answered.
 pub fn accept(_alloc: Global, raw: RawCode) -> Result<Code, CodeEnd>
     ensures accepted { IfOk result (λ code. code ≡ program_of raw) }
     ensures only { spec.IsCode (program_of raw) → IsOkUnless result CodeEnd.Memory }
@@ -50,7 +50,8 @@ fn fault_at(kind: CodeKind, proc: u32, place: u32) -> Option<CodeFault>
     Some(CodeFault { kind, proc, place })
 }
 
-/// Whether there are more procedures than there may be, or one has more instructions than it may.
+/// Whether there are more than `PROC_LIMIT` procedures, or one has more than `INSTR_LIMIT`
+/// instructions.
 fn too_many(raw: &RawCode) -> bool
     ensures { result ≡ spec.too_many (program_of raw.now) }
 {
@@ -67,7 +68,8 @@ fn has_long(procs: &[List<Instr>]) -> bool
         .any(|instrs| instrs.items().len() > INSTR_LIMIT)
 }
 
-/// Whether there are as many states and events as there may be, with names that are distinct NAMEs.
+/// Whether the numbers of states and events are within the limits, and their names are NAMEs that
+/// differ.
 fn is_table(raw: &RawCode) -> bool
     ensures { result ≡ spec.is_table (program_of raw.now) }
 {
@@ -196,7 +198,7 @@ fn is_state(raw: &RawCode, state: u32) -> bool
     (state as usize) < raw.states.items().len()
 }
 
-/// Whether the places where the instruction goes on are in its procedure of that length.
+/// Whether the place to which the instruction may skip is within its procedure of that length.
 fn stays_within(len: usize, place: usize, instr: Instr) -> bool
     requires { place < len }
     ensures { result ≡ spec.stays_within len place instr }

@@ -11,14 +11,14 @@ use thiserror::Error;
 pub enum CodeKind {
     /// `start` or `react` is no procedure, or an instruction names a state or an event that isn't there.
     BadNumber,
-    /// An `Unless` passes over more than there is after it in its procedure.
+    /// An `Unless` skips past the end of its procedure.
     SkipOut,
     /// Over `PROC_LIMIT` procedures, or a procedure of over `INSTR_LIMIT` instructions.
     TooManyProcs,
     /// A procedure has no instruction, or its last one isn't a `Ret`.
     NoRet,
-    /// The states aren't a root with states below it, there are too many states or events, or a name is
-    /// none or is there twice.
+    /// The states aren't a root with states below it, there are too many states or events, or a
+    /// name is no NAME or occurs twice.
     BadTable,
 }
 

@@ -16,7 +16,7 @@ pub enum Instr {
     Mark(u32),
     /// Makes the state inactive, where it is bare.
     Clear(u32),
-    /// Passes over that number of instructions, unless the condition holds.
+    /// Skips that number of instructions, unless the condition holds.
     Unless(u32, Cond),
     /// Returns with this result.
     Ret(u32),

@@ -1,4 +1,5 @@
-//! What a run of code comes to is determined, and well-formed code keeps a run inside.
+//! Laws of runs of code: a run has at most one ending, and in well-formed code it stays in its
+//! procedure.
 ghost use Rattle.std.specs.Prelude.{◌≡◌, ◌<◌, ℕ, List, Some, length};
 ghost use Rattle.flow_base.specs.declared.event.FlatEvent.{FlatEvent};
 ghost use Rattle.flat_code.specs.Program.{Program};
@@ -9,7 +10,7 @@ ghost use Rattle.flat_code.specs.WellFormed.{IsCode};
 ghost use Rattle.flat_code.specs.Sound.{IsSoundAt};
 ghost use Rattle.flat_code.specs.declared.instr.Instr.{Instr};
 
-/// A run has one ending, and so all events have: the same code comes to the same worlds.
+/// A run has at most one ending, and so a list of events has at most one list of worlds.
 pub fn one_run()
     ensures ending { (P : Program) (m : State) (w w' : World)
         → Gives P m w → Gives P m w' → w ≡ w' }

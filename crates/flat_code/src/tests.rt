@@ -15,7 +15,7 @@ fn texts(alloc: Global, names: &[&str]) -> Result<List<Text>, AllocError> {
     Ok(List::of(found))
 }
 
-/// So many names, all different.
+/// `count` names, all different.
 fn numbered(alloc: Global, count: usize) -> Result<List<Text>, AllocError> {
     let mut found = Vec::new(alloc);
     for i in 0..count {

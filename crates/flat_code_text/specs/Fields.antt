@@ -11,7 +11,7 @@ use Rattle.flat_code.specs.declared.instr.Instr.{Instr}
 use Rattle.flat_code.specs.declared.instr.Instr.TheVariants as instrs
 use Rattle.flat_code_text.specs.Lines.{Parts, parts_at}
 
--- what a text is as a number, where that is below 2 ^ 32 and the text is its one decimal form
+-- the number of which a text is the decimal form, where it is below 2 ^ 32
 unfoldable pub number_of : List ℕ → Option ℕ
 number_of token =
     if nat_lt (digits_value 10 token) (2 ^ 32) && bytes_eq (decimal (digits_value 10 token)) token
@@ -43,7 +43,7 @@ abbrev pub numbered_parts : Parts → Option Numbered
 numbered_parts parts =
     option_map (λ n. record { number = n; rest = parts.rest }) (number_of parts.front)
 
--- the number in front, ended by a space
+-- the number at the front of a text, ended by a space
 unfoldable pub number_then : List ℕ → Option Numbered
 number_then text = option_and_then numbered_parts (parts_at 32 text)
 

@@ -4,7 +4,7 @@ use Rattle.flat_code.specs.Form.{code_fault_text}
 use Rattle.flat_code_text.specs.declared.fault.CodeTextFault.{CodeTextFault}
 use Rattle.flat_code_text.specs.declared.fault.CodeTextFault.TheVariants as faults
 
--- the number of a fault; want of memory has none
+-- the number of a fault; Memory has none
 abbrev pub fault_number : CodeTextFault → ℕ
 fault_number (faults.BadLine n) = 1
 fault_number faults.Truncated = 2

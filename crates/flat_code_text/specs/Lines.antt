@@ -7,11 +7,11 @@ pub record Parts : Type 0 where
   pub front : List ℕ
   pub rest : List ℕ
 
--- parts with one more byte in front
+-- the parts with one more byte at the front
 abbrev pub parts_with : ℕ → Parts → Parts
 parts_with b parts = record { front = b ∷ parts.front; rest = parts.rest }
 
--- the parts round the first such byte, if there is one
+-- the parts before and after the first byte that is this one, if there is one
 abbrev pub parts_at : ℕ → List ℕ → Option Parts
 parts_at byte [] = None
 parts_at byte (b ∷ text) =
@@ -23,12 +23,12 @@ pub record Cut : Type 0 where
   pub lines : List (List ℕ)
   pub rest : List ℕ
 
--- a byte in front of the first line, or of the rest where there is no line
+-- a byte at the front of the first line, or of the rest where there is no line
 abbrev pub begun_with : ℕ → List (List ℕ) → List ℕ → Cut
 begun_with b [] rest = record { lines = []; rest = b ∷ rest }
 begun_with b (line ∷ lines) rest = record { lines = (b ∷ line) ∷ lines; rest = rest }
 
--- a line in front
+-- a line before the others
 abbrev pub line_then : List ℕ → Cut → Cut
 line_then line cut = record { lines = line ∷ cut.lines; rest = cut.rest }
 

@@ -40,22 +40,22 @@ nothing_read =
       expected = expects.Version;
     }
 
--- with n states to come, the root first
+-- the line that is expected where n states are still to come, the root first
 abbrev pub root_next : ℕ → Expected
 root_next zero = expects.DataCount
 root_next (suc n) = expects.Root n
 
--- with n states to come after the root
+-- the line that is expected where n states are still to come, after the root
 abbrev pub leaf_next : ℕ → Expected
 leaf_next zero = expects.DataCount
 leaf_next (suc n) = expects.Leaf n
 
--- with n events to come
+-- the line that is expected where n events are still to come
 abbrev pub event_next : ℕ → Expected
 event_next zero = expects.ProcCount
 event_next (suc n) = expects.Event n
 
--- with n procedures to come
+-- the line that is expected where n procedures are still to come
 abbrev pub head_next : ℕ → Expected
 head_next zero = expects.End
 head_next (suc n) = expects.Head n
@@ -83,12 +83,12 @@ instr_next p (suc n) procs = record p { expected = expects.Instr n procs }
 abbrev pub with_instr : Partial → ℕ → ℕ → Instr → Partial
 with_instr p more procs i = instr_next (record p { instrs = p.instrs ++ i ∷ [] }) more procs
 
--- goes on where the line is that one
+-- what is read with a line that must be the one that is wanted
 abbrev pub fixed : List ℕ → List ℕ → Partial → Expected → Option Partial
 fixed want line p expected =
     if bytes_eq line want then Some (record p { expected = expected }) else None
 
--- the line in its place: a line for each case
+-- what is read with a line that stands where this one is expected
 abbrev pub next_at : Expected → Partial → List ℕ → Option Partial
 next_at expects.Version p line = fixed version_line line p expects.StateCount
 next_at expects.StateCount p line =
@@ -129,7 +129,7 @@ is_whole (expects.Instr more procs) = false
 is_whole expects.End = false
 is_whole expects.Nothing = true
 
--- the line begins as those that are built in part, or not at all
+-- the line begins with a word of lines that aren't built yet, or only in part
 unfoldable pub begins_known : List ℕ → Bool
 begins_known line =
     list_any (starts_with nat_eq line)
@@ -161,7 +161,7 @@ at_end p n rest =
     if not (is_whole p.expected) then Err faults.Truncated else
     if length rest == 0 then Ok (program_read p) else Err (faults.Trailing n)
 
--- goes on, or refuses
+-- what go gives for what is read, or the fault where nothing is read
 abbrev pub or_refuse :
     Option Partial → CodeTextFault → (Partial → Result Program CodeTextFault)
     → Result Program CodeTextFault

@@ -105,7 +105,7 @@ pub record ProcHasNumbers (is : List Instr) : Type 0 where
   pub count : IsNumber (length is)
   pub instrs : AllByRecursion HasNumbers is
 
--- a program with such numbers and names: what RawCode has by its types, but for the names
+-- a program with such numbers and names: the numbers are so by the types of RawCode
 pub record IsSpellable (P : Program) : Type 0 where
   pub states : IsNumber (length P.states)
   pub events : IsNumber (length P.events)

@@ -36,7 +36,7 @@ partial_of p =
       expected = p.expected;
     }
 
--- whether what is read goes on, and to what
+-- whether the line was read, and what is read with it
 abbrev pub GoesOn : Option Partial → Bool → Partial → Type 0
 GoesOn next true new = next ≡ Some new
 GoesOn next false new = next ≡ None

@@ -37,7 +37,7 @@ pub enum CodeTextFault {
 }
 
 impl CodeTextFault {
-    /// The number that stands before the name in a refusal; 0 for want of memory, which is none.
+    /// The number that stands before the name in a refusal; 0 for `Memory`, which is no refusal.
     pub fn number(self) -> u8
         ensures { result ≡ fault_number self }
     {

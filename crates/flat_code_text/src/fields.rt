@@ -74,7 +74,7 @@ pub fn name_behind<'a>(words: &[u8], text: &'a [u8]) -> Option<&'a [u8]>
     if is_name(name) { Some(name) } else { None }
 }
 
-/// The number in front, ended by a space.
+/// The number at the front of the text, ended by a space.
 #[tactic(auto, unfolding(crate::specs::Fields::number_then))]
 pub fn number_then(text: &[u8]) -> Option<Numbered<'_>>
     ensures { option_map numbered_of result ≡ spec.number_then text.now }
@@ -102,7 +102,7 @@ pub fn procs_of(line: &[u8]) -> Option<Procs>
     })
 }
 
-/// The bytes of a name as a text of their own.
+/// A copy of the bytes of a name, as a text.
 pub fn name_text(alloc: Global, name: &[u8]) -> Result<Text, AllocError>
     requires { IsTrue (is_name name.now) }
     ensures { IfOk result (λ text. text ≡ name.now) }

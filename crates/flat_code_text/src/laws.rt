@@ -7,7 +7,7 @@ ghost use Rattle.flat_code_text.specs.declared.limits.TheConstants.{TEXT_LIMIT};
 ghost use Rattle.flat_code_text.specs.Spelling.{code_text, IsSpellable};
 ghost use Rattle.flat_code_text.specs.Reading.{spelled_program, outcome};
 
-/// The text of a program is read as that program, well formed or not.
+/// The text of a program, where it isn't too long, is read as that program, well formed or not.
 pub fn a_text_is_read()
     ensures { (P : Program) → IsSpellable P → length (code_text P) ≤ TEXT_LIMIT
         → spelled_program (code_text P) ≡ Ok P }

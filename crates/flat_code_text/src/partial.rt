@@ -83,7 +83,7 @@ impl Partial {
         }
     }
 
-    /// A line that is always the same.
+    /// Reads a line that must be the one that is wanted.
     fn read_fixed(&mut self, want: &[u8], line: &[u8], expected: Expected) -> bool
         ensures { GoesOn (spec.fixed want.now line.now (partial_of self.old) expected)
             result (partial_of self.new) }

@@ -25,7 +25,7 @@ pub fn read_code(alloc: Global, text: &[u8]) -> Result<Code, CodeTextFault>
     ensures only { (P : Program) → IsSpellable P → IsCode P
         → text.now ≡ code_text P → length text.now ≤ TEXT_LIMIT
         → MatchResult result (λ code. code ≡ P) (λ fault. fault ≡ CodeTextFault.Memory) }
-    // Code and each fault but want of memory are the outcome of the text.
+    // Code, and each fault but `Memory`, are the outcome of the text.
     ensures accepted { IfOk result (λ code. spec.outcome text.now ≡ Ok code) }
     ensures refused { IfErr result (λ fault.
         fault ≢ CodeTextFault.Memory → spec.outcome text.now ≡ Err fault) }

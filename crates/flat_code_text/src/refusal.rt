@@ -42,7 +42,7 @@ pub fn refusal(expected: Expected, number: u32, line: &[u8]) -> CodeTextFault
     }
 }
 
-/// Whether the line begins as those that are built in part, or not at all.
+/// Whether the line begins with a word of lines that aren't built yet, or only in part.
 #[tactic(auto, unfolding(crate::specs::Reading::begins_known))]
 fn begins_known(line: &[u8]) -> bool
     ensures { result ≡ spec.begins_known line.now }

@@ -15,7 +15,8 @@ start_code_to s = instrs.Mark 0 ∷ instrs.Mark (s + 1) ∷ instrs.Ret 0 ∷ []
 abbrev pub start_code : Chart → List Instr
 start_code c = start_code_to c.default
 
--- a transition of state s: unless its event is the current one, the next; else the destination in place of s
+-- a transition of state s: where its event is the current one, the destination becomes active in place of s; else the
+-- next transition is tried
 abbrev pub trans_code : ℕ → FlatTrans → List Instr → List Instr
 trans_code s t rest = instrs.Unless 3 (conds.Current t.event) ∷ instrs.Clear (s + 1) ∷ instrs.Mark (t.dest + 1) ∷ instrs.Ret 0 ∷ rest
 
@@ -24,7 +25,7 @@ abbrev pub transes_code : ℕ → List FlatTrans → List Instr → List Instr
 transes_code s [] rest = rest
 transes_code s (t ∷ ts) rest = trans_code s t (transes_code s ts rest)
 
--- state s: unless it is active, the next; else its transitions
+-- state s: where it is active, its transitions are tried; else the next state is
 abbrev pub state_code : ℕ → State → List Instr → List Instr
 state_code s x rest = instrs.Unless (4 * length x.outer) (conds.On (s + 1)) ∷ transes_code s x.outer rest
 

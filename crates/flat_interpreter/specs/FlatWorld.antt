@@ -8,7 +8,7 @@ pub record FlatWorld : Type 0 where
   pub chart : Chart
   pub active : Option ℕ
 
--- the chart is in range, and the active state is a state of it
+-- the numbers of the chart are in range, and the active state is a state of it
 pub record IsWithin (w : FlatWorld) : Type 0 where
   pub chart : InRange w.chart
   pub active : ForSome w.active (λ s. s < length w.chart.states)

@@ -29,7 +29,7 @@ abbrev pub IsEventIn : List (List ℕ) → FlatEvent → Type 0
 IsEventIn names events.Tick = Unit {0}
 IsEventIn names (events.Named e) = e < length names
 
--- a line that is no event: another name is unknown, and anything else isn't built
+-- the fault of a line that is no event: UnknownEvent for a NAME, NotBuilt for anything else
 abbrev pub fault_of_line : List ℕ → LineFault
 fault_of_line line = if is_name line then faults.UnknownEvent else faults.NotBuilt
 
@@ -43,7 +43,7 @@ abbrev pub event_of_line : List (List ℕ) → List ℕ → Result FlatEvent Lin
 event_of_line names line =
     if bytes_eq line (codes "tick") then Ok events.Tick else named_or (index_of line names) (fault_of_line line)
 
--- an event in front of those after it, and nothing where the line is refused
+-- an event before those after it, and no event where the line is refused
 abbrev pub event_then : Result FlatEvent LineFault → List FlatEvent → List FlatEvent
 event_then (Ok e) rest = e ∷ rest
 event_then (Err fault) rest = []
@@ -58,7 +58,7 @@ pub record RefusedLine : Type 0 where
   pub number : ℕ
   pub fault : LineFault
 
--- this line where it is refused, and else a later one
+-- this line, where it is refused, or else the first later one
 abbrev pub refused_or : ℕ → Result FlatEvent LineFault → Option RefusedLine → Option RefusedLine
 refused_or n (Ok e) later = later
 refused_or n (Err fault) later = Some (record { number = n; fault = fault })

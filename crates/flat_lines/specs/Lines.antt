@@ -1,7 +1,7 @@
 -- The lines of a text.
 use Rattle.std.specs.Prelude.{ℕ, nat_eq, List, [], ◌∷◌, if◌then◌else◌}
 
--- a byte in front of the first line
+-- a byte at the front of the first line
 abbrev pub begun_with : ℕ → List (List ℕ) → List (List ℕ)
 begun_with b [] = (b ∷ []) ∷ []
 begun_with b (line ∷ lines) = (b ∷ line) ∷ lines

@@ -6,7 +6,7 @@ use flow_base::{FlatEvent, Memory};
 use std::alloc::Global;
 use std::marker::Model;
 
-/// How many frames are there at once, since no procedure calls another.
+/// The greatest number of frames at once: 1, since no procedure calls another.
 const FRAME_LIMIT: usize = 1;
 
 /// A run of code. A contract sees the program, the world and whether it is started.
@@ -80,8 +80,8 @@ impl Machine {
         is_on(&self.marks, state)
     }
 
-    /// Runs the procedure of the start from no active state on, also of a machine that is started.
-    /// It takes no memory.
+    /// Runs the procedure of the start, with no state active. A machine that is started already is
+    /// started again. It takes no memory.
     pub fn start(&mut self)
         ensures program { self.new.program ≡ self.old.program }
         ensures started { IsTrue self.new.started }

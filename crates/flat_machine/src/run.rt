@@ -9,7 +9,7 @@ ghost use Rattle.flat_machine.specs.Reach.{state, IsPlace};
 use crate::marks::{clear, is_on, mark};
 use flat_code::{Cond, Frame, Instr, RawCode};
 
-/// Runs the procedure and what it calls, and answers the last result.
+/// Runs the procedure, and answers the last result.
 pub fn run(
     code: &RawCode,
     marks: &mut [bool],

@@ -11,7 +11,7 @@ abbrev pub IsEventOf : Chart → FlatEvent → Type 0
 IsEventOf c events.Tick = Unit {0}
 IsEventOf c (events.Named e) = e < length c.events
 
--- the outer transitions of a state, and none past the states
+-- the outer transitions of a state, and none for a number that is no state
 abbrev pub outer_of : List State → ℕ → List FlatTrans
 outer_of [] s = []
 outer_of (first ∷ rest) zero = first.outer

@@ -1,8 +1,8 @@
 //! The rules of a run, as definitions, and their laws.
 //!
 //! Read `specs/Flat.antt`: the run of a flat chart. Source: the rules for OR states and outer
-//! transitions in Hamon and Rushby, FASE 2004, at charts of flat states. The crate goes when the
-//! whole language is built.
+//! transitions in Hamon and Rushby, FASE 2004, for charts of one level of states. The crate goes
+//! when the whole language is built.
 #![tactic(auto)]
 
 ghost use Rattle.std.specs.Prelude.{◌≡◌, ℕ, ◌+◌, ◌<◌, List, [], ◌∷◌, ◌++◌, length};
@@ -19,7 +19,8 @@ pub fn flat_run_stays_in_the_chart()
         AllByRecursion (λ s. s < length c.states) (flat_run c events) }
 {}
 
-/// One event more leaves the states of a run, and what it leads to from the last of them follows.
+/// One more event keeps the states of a run and adds the state to which it leads from the last of
+/// them.
 pub fn flat_run_goes_on_from_its_last_state()
     ensures { (c : Chart) (events : List FlatEvent) (event : FlatEvent) (front : List ℕ) (last : ℕ) →
         flat_run c events ≡ front ++ last ∷ [] →

@@ -10,12 +10,12 @@ pub record SpelledTrans : Type 0 where
   pub event : Lexeme
   pub dest : Lexeme
 
--- a state likewise
+-- a state with the names that it has in the text
 pub record SpelledState : Type 0 where
   pub name : Lexeme
   pub outer : List SpelledTrans
 
--- a chart likewise
+-- a chart with the names that it has in the text
 pub record SpelledChart : Type 0 where
   pub name : Lexeme
   pub events : List Lexeme
@@ -32,11 +32,11 @@ trans = do
   token kinds.Semicolon
   give (record { event = event; dest = dest })
 
--- trans*, as many as the chart still may have
+-- trans*, at most `room` of them
 unfoldable pub transes : ℕ → Grammar (List SpelledTrans)
 transes room = up_to (is kinds.Outer) trans room
 
--- state := 'state' NAME '{' trans* '}', after `before` transitions of the chart
+-- state := 'state' NAME '{' trans* '}', where `before` transitions of the chart stand before it
 unfoldable pub state : ℕ → Grammar SpelledState
 state before = do
   token kinds.State

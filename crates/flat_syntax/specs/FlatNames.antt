@@ -15,7 +15,7 @@ texts ts = map (λ (t : Lexeme). t.text) ts
 abbrev pub spelled_states : SpelledChart → List (List ℕ)
 spelled_states c = map (λ (s : SpelledState). s.name.text) c.states
 
--- the first of two faults, the earlier in the text first
+-- the first of two faults, where the one that is earlier in the text is given first
 abbrev pub first_of : Option Span → Option Span → Option Span
 first_of None later = later
 first_of (Some place) later = Some place
@@ -60,11 +60,11 @@ number_of names t = unwrap_or (index_of t.text names) 0
 abbrev pub numbered_trans : List (List ℕ) → List (List ℕ) → SpelledTrans → FlatTrans
 numbered_trans events states t = record { event = number_of events t.event; dest = number_of states t.dest }
 
--- a state likewise
+-- a state with numbers in place of names
 abbrev pub numbered_state : List (List ℕ) → List (List ℕ) → SpelledState → State
 numbered_state events states s = record { name = s.name.text; outer = map (numbered_trans events states) s.outer }
 
--- a chart likewise
+-- a chart with numbers in place of names
 abbrev pub numbered : SpelledChart → Chart
 numbered c = record {
   name = c.name.text;

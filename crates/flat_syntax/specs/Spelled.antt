@@ -21,11 +21,11 @@ use Rattle.flat_syntax.specs.FlatNames.{texts}
 abbrev pub trans_spelled : TransTokens → SpelledTrans
 trans_spelled t = record { event = lexeme t.event; dest = lexeme t.dest }
 
--- a state likewise
+-- a state without where its names lie in memory
 abbrev pub state_spelled : StateTokens → SpelledState
 state_spelled s = record { name = lexeme s.name; outer = map trans_spelled s.outer.items }
 
--- a chart likewise
+-- a chart without where its names lie in memory
 abbrev pub chart_spelled : ChartTokens → SpelledChart
 chart_spelled c = record {
   name = lexeme c.name;
@@ -46,7 +46,7 @@ state_names states = map (λ (s : SpelledState). s.name.text) (map state_spelled
 abbrev pub HasName : Lexeme → Type 0
 HasName t = is_name t.text ≡ true
 
--- a state whose name is a NAME, with at most as many transitions as a chart may have
+-- a state whose name is a NAME, with at most FLAT_TRANSITION_LIMIT transitions
 pub record IsSmallState (s : SpelledState) : Type 0 where
   pub name : HasName s.name
   pub few_transitions : length s.outer ≤ FLAT_TRANSITION_LIMIT
@@ -59,7 +59,7 @@ pub record IsSmall (c : SpelledChart) : Type 0 where
   pub few_events : length c.events ≤ FLAT_EVENT_LIMIT
   pub few_states : length c.states ≤ FLAT_STATE_LIMIT
 
--- where the token at hand is at fault, or the end
+-- the refusal at the first token that is left, or at the end where none is left
 abbrev pub refusal_at : List Lexeme → Refusal
 refusal_at [] = refusals.Ended
 refusal_at (t ∷ rest) = refusals.At t.at
@@ -84,7 +84,7 @@ IsSpelledAs c (Err refusals.Ended) = ⊥
 IsSpelledAs c (Err (refusals.At at)) = ⊥
 IsSpelledAs c (Err refusals.Memory) = Unit {0}
 
--- the same of a text
+-- this chart was read from a text, unless memory ran out
 abbrev pub IsReadAsSpelled : SpelledChart → Result ChartTokens FormFault → Type 0
 IsReadAsSpelled c (Ok d) = chart_spelled d ≡ c
 IsReadAsSpelled c (Err (faults.At kind at)) = ⊥

@@ -1,8 +1,8 @@
-//! The text of charts and its tree: flat charts, and the reader that has a tree exactly where the
-//! text spells one.
+//! Flat charts, and the reader that gives the chart of a text exactly where the text spells one.
 //!
 //! The public call is `read_flat`. Read `specs/FlatGrammar.antt`, `specs/FlatNames.antt` and
-//! `specs/FlatText.antt` first, in this order.
+//! `specs/FlatText.antt` first, in this order. The crate serves flat charts, and goes when the
+//! whole language is built.
 #![tactic(auto)]
 
 mod limits;

@@ -1,4 +1,4 @@
-//! The limits of flat charts, each once: definitions, code and proofs cite them from here.
+//! The limits of flat charts. Definitions, code and proofs cite these constants.
 
 /// The greatest number of events in a flat chart.
 pub const FLAT_EVENT_LIMIT: usize = 64;

@@ -123,7 +123,7 @@ fn numbered_trans(
     }
 }
 
-/// The transitions of a state likewise, in order.
+/// The transitions of a state with numbers in place of names, in order.
 fn numbered_transes(
     alloc: Global,
     events: &[Token<'_>],
@@ -143,7 +143,7 @@ fn numbered_transes(
     Ok(found)
 }
 
-/// The states likewise, in order.
+/// The states with numbers in place of names, in order.
 fn numbered_states(
     alloc: Global,
     events: &[Token<'_>],

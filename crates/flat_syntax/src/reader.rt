@@ -24,7 +24,7 @@ fn read_trans<'a>(cursor: &mut Cursor<'_, 'a>) -> Result<TransTokens<'a>, ReadEr
     Ok(TransTokens { event, dest })
 }
 
-/// The transitions of a state, at most `room`: as many as the chart still may have.
+/// The transitions of a state, at most `room`, which is how many more the chart may have.
 fn read_transes<'a>(
     cursor: &mut Cursor<'_, 'a>,
     room: usize,
@@ -41,7 +41,7 @@ fn read_transes<'a>(
     Ok(found)
 }
 
-/// A state, after `before` transitions of the chart.
+/// A state, where `before` transitions of the chart stand before it.
 #[tactic(auto, unfolding(crate::specs::FlatGrammar::state))]
 fn read_state<'a>(cursor: &mut Cursor<'_, 'a>, before: usize) -> Result<StateTokens<'a>, ReadError>
     ensures read { Gives state_spelled result (lexemes cursor.new.rest.now)

@@ -8,14 +8,14 @@ pub struct TransTokens<'a> {
     pub dest: Token<'a>,
 }
 
-/// A state likewise.
+/// A state with the names that it has in the text.
 #[derive(Debug, Drop)]
 pub struct StateTokens<'a> {
     pub name: Token<'a>,
     pub outer: Vec<TransTokens<'a>>,
 }
 
-/// A chart likewise.
+/// A chart with the names that it has in the text.
 #[derive(Debug, Drop)]
 pub struct ChartTokens<'a> {
     pub name: Token<'a>,

@@ -102,7 +102,7 @@ fn refuses_names(rt: HostRuntime) -> Result<(), Fail> {
             "chart C or { event input E; default -> A; state A { outer E -> E; } }",
             "1:64: 25 NotBuilt",
         ),
-        // A name at fault waits for the whole text.
+        // A fault of names is reported only where the whole text follows the grammar.
         (
             "chart C or { default -> B; state A { } ",
             "1:40: 3 Expected",

@@ -48,7 +48,8 @@ pub fn read_flat(alloc: Global, text: &[u8]) -> Result<FlatChart, FormFault>
     ensures only { (c : Chart) → IsFlat text.now c → IsReadAs c result }
     // Each refusal has its cause and its place.
     ensures refused { IfErr result (IsRefusal text.now) }
-    // Its names and counts are those of a chart.
+    // The chart is valid: its names are NAMEs and differ, its numbers are in range, and the limits
+    // hold.
     ensures valid { IfOk result (λ c. IsValid (chart_of c)) }
 {
     if text.len() > CHART_TEXT_LIMIT {

@@ -2,7 +2,7 @@
 use Rattle.std.specs.Prelude.{ℕ, ◌+◌, ◌-◌, ◌^◌, ◌==◌, nat_lt, if◌then◌else◌, Bool, List}
 use Rattle.std.specs.List.{list_any}
 
--- one more, up to 2 ^ 64 - 1
+-- the count after one more, at most 2 ^ 64 - 1
 abbrev pub counted : ℕ → ℕ
 counted count = if nat_lt count (2 ^ 64 - 1) then count + 1 else count
 

@@ -1,4 +1,4 @@
--- A list of this crate as the list of its items.
+-- The items of a list of this crate.
 use Rattle.std.specs.Prelude.{List as Items}
 use Rattle.flow_base.specs.declared.list.List.{List}
 

@@ -31,7 +31,7 @@ fresh_file name bytes piece fail =
       failed = 0;
     }
 
--- the file has that name
+-- whether the file has that name
 abbrev pub is_named : List ℕ → FileState → Bool
 is_named name file = bytes_eq file.name name
 
@@ -44,7 +44,7 @@ abbrev pub bytes_left : Option FileState → List ℕ
 bytes_left None = []
 bytes_left (Some file) = drop file.given file.bytes
 
--- the count of failed reads, with that of the names that aren't there
+-- how many reads of the file failed; without a file, how many reads of names without a file failed
 abbrev pub failed_reads : ℕ → Option FileState → ℕ
 failed_reads missed None = missed
 failed_reads missed (Some file) = file.failed
@@ -57,7 +57,7 @@ left_of files name = Some (bytes_left (first_of name files))
 abbrev pub faults_of : FilesState → List ℕ → ℕ
 faults_of inputs name = failed_reads inputs.missed (first_of name inputs.files)
 
--- the number of the file's next read is listed
+-- whether the file's next read fails: its number is listed
 abbrev pub fails_next : FileState → Bool
 fails_next file = is_listed file.fail (counted file.reads)
 
@@ -94,7 +94,7 @@ change_first change name [] = []
 change_first change name (file ∷ files) =
     if is_named name file then change file ∷ files else file ∷ change_first change name files
 
--- the files after a read of that name: its first file was read, or one more name wasn't there
+-- the files after a read of that name: its first file was read, or one more read found no file of its name
 abbrev pub after_read : ℕ → List ℕ → FilesState → Option FileState → FilesState
 after_read room name inputs None = record inputs { missed = counted inputs.missed }
 after_read room name inputs (Some file) =

@@ -2,7 +2,8 @@
 use Rattle.std.specs.Prelude.{ℕ, ◌-◌, min, List, [], ◌++◌, length, take, ◌==◌, nat_lt, ◌&&◌, ◌||◌, Bool, if◌then◌else◌, Option, Some, None}
 use Rattle.flow_base.specs.Counts.{counted, is_listed}
 
--- what was taken, how much in all and by one write may be, which writes fail, and what was done so far
+-- the bytes taken so far, the most bytes in all and by one write, the numbers of the writes that fail, and how many
+-- writes were made and failed
 pub record SinkState : Type 0 where
   pub bytes : List ℕ
   pub room : ℕ

@@ -3,16 +3,16 @@ ghost use Rattle.std.specs.Prelude.{◌≡◌, ◌≤◌, ◌↔◌, IsSome, IfS
 ghost use Rattle.flow_base.specs.Bounds.{AreBounds};
 ghost use Rattle.flow_base.specs.declared.bounds.TheConstants.{DEPTH_LIMIT, STEP_LIMIT};
 
-/// The deepest that the depth of a run may be set.
+/// The greatest depth that a run may be given.
 pub const DEPTH_LIMIT: u32 = 32;
 
-/// The most steps that one event may be given.
+/// The greatest number of steps that one event may be given.
 pub const STEP_LIMIT: u32 = 50_000;
 
-/// How deep events may be sent, and how many steps the work of one event may take.
+/// The bounds of a run: how deep sends may nest, and how many steps the work of one event may take.
 #[derive(Clone, Copy, Debug, PartialEq, Eq)]
 pub struct Bounds {
-    /// How deep an event that is sent may send further ones: 1 to `DEPTH_LIMIT`.
+    /// How deep sends may nest: 1 to `DEPTH_LIMIT`.
     pub depth: u32,
     /// The steps of one event: 1 to `STEP_LIMIT`.
     pub steps: u32,

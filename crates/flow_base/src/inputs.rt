@@ -12,12 +12,13 @@ use thiserror::Error;
 pub struct Failed;
 
 /// Files that are read by name. Each name has a count of its failed reads, which never falls; its
-/// last value is 2^64 - 1, and a count that stands there counts as one that rose.
+/// greatest value is 2^64 - 1, and a count at this value is taken as one that rose.
 pub trait Inputs {
-    /// Whether the type tells the bytes that are left: memory does, files don't.
+    /// Whether the bytes that are left are known to contracts: those of files in memory are, those
+    /// of real files aren't.
     ghost tells: { Bool };
 
-    /// The bytes of that name that are not given yet, where the type tells them.
+    /// The bytes of that name that are not given yet, where they are known.
     ghost left: { Self → List ℕ → Option (List ℕ) };
 
     /// How often a read of that name failed.
@@ -38,6 +39,6 @@ pub trait Inputs {
         ensures counts { NoneFalls (faults self.old) (faults self.new) }
         ensures ok { OnOk result (AllStay (faults self.old) (faults self.new)) };
 
-    /// Whether it tells them is fixed for the type.
+    /// Whether they are known depends on the type alone.
     ghost fixed: { (inputs : Self) (name : List ℕ) → is_some (left inputs name) ≡ tells };
 }

@@ -1,5 +1,5 @@
-//! What every other crate uses: texts and lists that contracts see as lists, the bounds and the
-//! faults of a run, the status of the program, and the sources and sinks of bytes.
+//! What most other crates use: texts and lists, of whose bytes and items contracts speak, the
+//! bounds and the faults of a run, the status of the program, and the sources and sinks of bytes.
 //!
 //! Read `specs/Causes.antt` and `specs/Bytes.antt` first: they say what a source and a sink promise.
 #![tactic(auto)]

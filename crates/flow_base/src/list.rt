@@ -1,7 +1,7 @@
-//! Lists that contracts see as lists.
+//! A list whose contracts speak of its items.
 use crate::memory::Memory;
 
-/// A list. A contract sees its items by `items_of`.
+/// A list. Its contracts speak of its items, by `items_of`.
 #[derive(Debug, Drop)]
 pub struct List<T> {
     items: Vec<T>,
@@ -30,7 +30,7 @@ impl<T: Drop> List<T> {
     ghost use Rattle.std.specs.Prelude.{◌≡◌, ◌++◌, ◌∷◌, [], OnOk, OnErr};
     ghost use Rattle.flow_base.specs.Lists.{items_of};
 
-    /// Appends the item. Refused, the list is as before and the item is dropped.
+    /// Appends the item. On an error the list is unchanged and the item is dropped.
     pub fn push(&mut self, item: T) -> Result<(), Memory>
         ensures ok { OnOk result (items_of self.new ≡ items_of self.old ++ item ∷ []) }
         ensures err { OnErr result (items_of self.new ≡ items_of self.old) }

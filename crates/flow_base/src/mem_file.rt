@@ -1,4 +1,4 @@
-//! A file in memory, of which some reads fail.
+//! A file in memory, some of whose reads may fail.
 ghost use Rattle.std.specs.Prelude.{◌≡◌, ◌<◌, ◌≤◌, ◌++◌, [], Some};
 ghost use Rattle.std.specs.Prelude.{take, length, position, string_bytes, OnErr};
 ghost use Rattle.std.specs.Result.{result_ok};
@@ -72,7 +72,7 @@ impl MemFile {
         self.fail.contains(&self.reads.saturating_add(1))
     }
 
-    /// Gives its next bytes, without a look at the reads that fail.
+    /// Gives its next bytes, whether or not the read is to fail.
     pub(crate) fn give(&mut self, buf: &mut [u8]) -> usize
         ensures count { result ≡ spec.next_count (length buf.new) self.old }
         ensures state { self.new ≡ spec.after_giving (length buf.new) self.old }
@@ -88,7 +88,8 @@ impl MemFile {
         count
     }
 
-    /// Reads its next bytes, or fails where the number of the read is listed, and leaves the buffer.
+    /// Reads its next bytes, or fails where the number of the read is listed; a failed read leaves
+    /// the buffer unchanged.
     pub(crate) fn read(&mut self, buf: &mut [u8]) -> Result<usize, Failed>
         ensures count { result_ok result ≡ spec.read_count (length buf.new) (Some self.old) }
         ensures state { self.new ≡ spec.after_next (length buf.new) self.old }

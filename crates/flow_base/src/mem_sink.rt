@@ -1,4 +1,4 @@
-//! A sink in memory, which fails where it is told to.
+//! A sink in memory, whose listed writes fail.
 ghost use Rattle.std.specs.Prelude.{◌≡◌, ◌<◌, [], Bool, true, ℕ, List, Option, Some};
 ghost use Rattle.std.specs.Prelude.{IfOk, is_some, refl};
 ghost use Rattle.std.specs.Result.{result_ok};

@@ -18,8 +18,8 @@ const PIECE_SIZE: usize = 4_096;
 /// Files of the system. A file is opened at the first read of its name and read once: later reads
 /// go on in it, and after its end each gives 0. One that can't be opened fails at each read.
 ///
-/// One count serves every name. Memory that runs out in a read counts as a fault. No content is
-/// told.
+/// One count serves every name. Memory that runs out in a read counts as a fault. Contracts don't
+/// know the content of the files.
 #[derive(Drop)]
 pub struct RealInputs<R: Files> {
     rt: R,
@@ -48,7 +48,8 @@ impl<F: Read + Drop> RealFile<F> {
     {
         match &mut self.source {
             Source::Open(file) => {
-                // The system may write into the buffer of a read that fails.
+                // A read of the system that fails may have written into its buffer, so it gets one
+                // of its own.
                 let mut piece = [0u8; PIECE_SIZE];
                 let most = buf.len().min(PIECE_SIZE);
                 let Ok(count) = file.read(&mut piece[..most]) else {

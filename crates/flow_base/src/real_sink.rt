@@ -5,7 +5,7 @@ use crate::inputs::Failed;
 use crate::sink::Sink;
 use std::io::Write;
 
-/// Writes to a writer, and counts its faults. It tells no content.
+/// Writes to a writer, and counts its faults. Contracts don't know what was written.
 ///
 /// A write that the writer refuses is a fault, one that was interrupted too, and so is one that
 /// takes nothing of a piece that isn't empty.

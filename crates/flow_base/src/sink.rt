@@ -7,13 +7,13 @@ ghost use Rattle.flow_base.specs.Bytes.{WritesFront, TakesSome, AppendsProperFro
 
 use crate::inputs::Failed;
 
-/// A sink of bytes. Its count of failed writes never falls; the last value is 2^64 - 1, and a
-/// count that stands there counts as one that rose.
+/// A sink of bytes. Its count of failed writes never falls; its greatest value is 2^64 - 1, and a
+/// count at this value is taken as one that rose.
 pub trait Sink {
-    /// Whether the type tells what was written.
+    /// Whether what was written is known to contracts.
     ghost tells: { Bool };
 
-    /// All that was written, where the type tells it.
+    /// All that was written, where it is known.
     ghost wrote: { Self → Option (List ℕ) };
 
     /// How often a write failed.
@@ -28,7 +28,7 @@ pub trait Sink {
         // A failure comes only where the count rose, and success leaves it.
         ensures cause { HasCause (faults self.old) (faults self.new) result };
 
-    /// Whether it tells that is fixed for the type.
+    /// Whether it is known depends on the type alone.
     ghost fixed: { (sink : Self) → is_some (wrote sink) ≡ tells };
 }
 
@@ -36,7 +36,7 @@ pub trait Sink {
 pub fn write_all<O: Sink>(out: &mut O, piece: &[u8]) -> Result<(), Failed>
     ensures ok { OnOk result (O.wrote out.new ≡ append_known (O.wrote out.old) piece.now) }
 
-    // A failure is one of the sink, after a proper front of the piece.
+    // A failure comes from the sink, after a proper prefix of the piece was written.
     ensures failed { OnErr result (AppendsProperFront (O.wrote out.old) (O.wrote out.new) piece.now) }
     ensures cause { HasCause (O.faults out.old) (O.faults out.new) result }
     ensures empty { length piece.now ≡ 0 → out.new ≡ out.old }

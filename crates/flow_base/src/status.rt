@@ -9,7 +9,7 @@ pub enum Status {
     Ok,
     /// A file was refused.
     Refused,
-    /// The words are none of the program's.
+    /// The words name no command of the program.
     Usage,
     /// The run ended at a fault.
     RunFault,

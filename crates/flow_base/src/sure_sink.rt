@@ -7,7 +7,8 @@ ghost use Rattle.flow_base.specs.Bytes.{WritesFront, TakesSome};
 use crate::inputs::Failed;
 use crate::sink::Sink;
 
-/// Takes every piece whole, keeps nothing and tells nothing. No write fails.
+/// Takes every piece whole and keeps nothing. Contracts don't know what was written. No write
+/// fails.
 #[derive(Clone, Copy, Debug)]
 pub struct SureSink;
 

@@ -1,4 +1,4 @@
-//! What no clause says: that calls succeed, and what the file system gives and takes.
+//! Tests of what no contract says: that calls succeed, and what the file system gives and takes.
 ghost use Rattle.std.specs.Prelude.{◌<◌};
 
 use crate::{
@@ -27,7 +27,7 @@ fn file(
     ))
 }
 
-/// Two files named a, of which the first serves, and one named b, whose second read fails.
+/// Two files named a, the first of which is read, and one named b, whose second read fails.
 fn files(alloc: Global) -> Result<Vec<MemFile>, AllocError> {
     let mut files = Vec::new(alloc);
     files.push(file(alloc, "a", b"hello", 2, &[])?)?;

@@ -45,11 +45,11 @@ impl From<AllocError> for ReadEnd {
     }
 }
 
-/// The most bytes that one read is asked for.
+/// The greatest number of bytes that one read is asked for.
 const PIECE_SIZE: usize = 4_096;
 
 /// Reads the rest of a file whole, where it has at most `limit` bytes. A longer file is refused
-/// after one byte past the limit. What was read before an error is lost.
+/// once one byte past the limit was read. What was read before an error is lost.
 pub fn read_whole<I: Inputs>(
     alloc: Global,
     inputs: &mut I,

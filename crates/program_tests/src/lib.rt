@@ -1,4 +1,4 @@
-//! Tests of the whole program over files in memory: what no clause says, worked by hand.
+//! Tests of the whole program over files in memory: what no contract says, worked by hand.
 #![tactic(auto)]
 
 #[cfg(test)]

@@ -1,4 +1,5 @@
--- What rules and code do to a world. These stay shut wherever code is compared with rules.
+-- What rules and code do to a world. The changes that both use are `unfoldable`, so that a proof
+-- which compares code with rules needs only that both use them.
 use Rattle.std.specs.Prelude.{ℕ, List, Result, Ok, Err, Bool, true, false, if◌then◌else◌}
 use Rattle.flow_base.specs.declared.bounds.Bounds.{Bounds}
 use Rattle.flow_base.specs.declared.fault.Fault.{Fault}

@@ -5,7 +5,8 @@ use Rattle.actions.specs.declared.event.Event.{Event}
 use Rattle.actions.specs.declared.event.Event.TheVariants.{Start, Tick, Named}
 use Rattle.actions.specs.World.{World}
 
--- how a piece of work ends, with the world as it then stands; or it isn't over within the height that was given
+-- how a piece of work ends, with the world as it then stands; or Unfinished: no derivation of the given height gives an
+-- end
 pub data Run (A : Type 0) : Type 0 where
   Ended : A → World → Run A
   Faulted : Fault → World → Run A
@@ -15,7 +16,7 @@ pub data Run (A : Type 0) : Type 0 where
 abbrev pub Work : Type 0 → Type 0
 Work A = World → Run A
 
--- goes on from where a run has ended; a fault is the outcome of the whole
+-- f continues a run that has ended; a fault, or an unfinished run, is the outcome of both
 abbrev pub then_do : {A B : Type 0} → Run A → (A → Work B) → Run B
 then_do (Ended a w) f = f a w
 then_do (Faulted x w) f = Faulted x w
@@ -75,12 +76,12 @@ abbrev pub if_some : {A : Type 0} → Option ℕ → Work A → (ℕ → Work A)
 if_some None m f = m
 if_some (Some x) m f = f x
 
--- how a block ends: all of it was run, or it was cut since its life was over
+-- how a block ends: all of it was run, or it was cut, that is, it returned early, since its life was over
 pub data End : Type 0 where
   Done : End
   Cut : End
 
--- goes on where a block was done
+-- the work m where a block was done, else the answer a at once
 abbrev pub if_done : {A : Type 0} → End → A → Work A → Work A
 if_done Done a m = m
 if_done Cut a m = give a

@@ -25,7 +25,7 @@ Starts p w f = rules.Starts p.chart p.bounds w f
 abbrev pub Reacts : Program → World → Event → World → Option Fault → Type 0
 Reacts p w e w' f = rules.Reacts p.chart p.bounds w e w' f
 
--- what an engine runs, its world, and where it is in its life
+-- what an engine runs, its world, and how far its run is
 pub record EngineState : Type 0 where
   pub chart : Kept
   pub bounds : Bounds

@@ -14,7 +14,7 @@ use Rattle.sos_interpreter.specs.declared.run.Went.TheVariants as wents
 use Rattle.sos_interpreter.specs.declared.world.Life.{Life}
 use Rattle.sos_interpreter.specs.declared.world.Life.TheVariants as lives
 
--- how long a piece of work goes on
+-- the condition under which a piece of work continues
 abbrev pub life_seen : Life → worlds.Life
 life_seen (lives.On s) = worlds.On s
 life_seen (lives.Bare s) = worlds.Bare s

@@ -7,7 +7,7 @@ use state_tree::Chart;
 use std::alloc::Global;
 use std::marker::Model;
 
-/// Where an engine is in its life.
+/// How far the run of an engine is.
 #[derive(Clone, Copy)]
 enum Phase {
     /// Before the start.

@@ -31,7 +31,7 @@ use std::alloc::Global;
 pub enum End {
     /// All of it was done.
     Done,
-    /// Its life ended.
+    /// It returned early, since its life was over.
     Cut,
 }
 
@@ -56,24 +56,25 @@ pub enum Went {
 /// What a search finds.
 #[derive(Drop)]
 pub enum Found<'a> {
-    /// A destination, with the actions on the way.
+    /// A destination, with the transition actions on the path.
     Fire(u32, Vec<&'a [Stmt]>),
     /// An empty junction.
     DeadEnd,
-    /// Nothing.
+    /// Nothing was found.
     No,
-    /// It was stopped, since its life was over.
+    /// It was stopped by an early return.
     Stop,
 }
 
-/// Where a search goes back to: the rest of a list, after a junction was left by this action.
+/// A list to go back to: the rest of it, after a transition with this action that led to a
+/// junction.
 #[derive(Drop)]
 struct Place<'a> {
     rest: &'a [Trans],
     action: &'a [Stmt],
 }
 
-/// Keeps a place.
+/// Keeps a list to go back to.
 fn push_place<'a>(places: &mut Vec<Place<'a>>, place: Place<'a>) -> Result<(), Halt>
     ensures ok { OnOk result (places.new.items ≡ places.entry.now.items ++ place.entry ∷ []) }
     ensures err { IfErr result (λ h. h ≡ halts.Memory) }
@@ -182,7 +183,7 @@ fn statement(
     }
 }
 
-/// Whether a block goes on.
+/// Cuts a block where its life is over.
 fn alive(chart: &Chart, world: &LiveWorld, life: Life) -> End
     requires fits { FitsChart (chart_of chart.now) world.now }
     requires life { IsLife (chart_of chart.now) (life_seen life) }

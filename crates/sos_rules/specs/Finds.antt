@@ -8,7 +8,7 @@ use Rattle.state_tree.specs.Valid.{AreStmts}
 use Rattle.run_work.specs.Work.{Run, Ended, Faulted, Unfinished}
 use Rattle.sos_rules.specs.Parts.{Found, Fire, DeadEnd, No, Stop}
 
--- a destination was found, or the search was stopped since its life was over
+-- a destination was found, or the search was stopped by an early return
 abbrev pub IsFind : Found → Type 0
 IsFind (Fire d actions) = Unit {0}
 IsFind DeadEnd = ⊥

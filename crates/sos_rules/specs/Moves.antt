@@ -18,7 +18,7 @@ abbrev pub keep_if : Bool → Tree → ℕ → World → World
 keep_if true t s w = keep_in t s w
 keep_if false t s w = w
 
--- a state is marked, and where its parent has history, that remembers it
+-- a state becomes active, and a parent with history remembers it
 unfoldable pub entered_in : Chart → ℕ → World → World
 entered_in c s w = keep_if (is_remembered c s) c.tree s (set_mark s true w)
 
@@ -44,7 +44,7 @@ module _ (c : Chart) where
   exit_children p s now And = p.exit_each (reverse (children_of c.tree s)) now
 
   -- An active state is left: first its children, then its exit action runs while it is bare, and where that wasn't cut
-  -- and the state is bare, its mark goes.
+  -- and the state is bare, it becomes inactive.
   abbrev pub exit_rule : Parts → ℕ → Now → Work (Unit {0})
   exit_rule p s now = do
     on ← test (λ w. is_on s w.marks)
@@ -75,8 +75,8 @@ module _ (c : Chart) where
   enter_inside p s d now Or = enter_toward p s d now
   enter_inside p s d now And = p.enter_each (children_of c.tree s) d now
 
-  -- A state that can be marked is marked, and its parent remembers it where it has history. Then its entry action runs
-  -- while it is bare, and where that wasn't cut, what is inside is entered.
+  -- A state that can become active does so, and its parent remembers it where the parent has history. Then its entry
+  -- action runs while it is bare, and where that wasn't cut, what is inside is entered.
   abbrev pub enter_rule : Parts → ℕ → ℕ → Now → Work (Unit {0})
   enter_rule p s d now = do
     can ← test (λ w. can_mark c.tree s w.marks)
@@ -115,7 +115,7 @@ module _ (c : Chart) where
     x ← look (remembered s)
     if_some x (default_search p s now) (λ x. p.enter x x now)
 
-  -- ---- taking
+  -- ---- taking a firing
 
   -- A firing with home s and destination d: the active child of s is left; where s is bare then, the actions run; and
   -- where none was cut and s is bare, the destination is entered.

@@ -5,15 +5,15 @@ use Rattle.actions.specs.World.{Life}
 use Rattle.run_work.specs.Work.{Unfinished, Work, End, Now}
 use Rattle.state_tree.specs.Chart.{Trans}
 
--- what a search of a list finds: a destination with the transition actions on the way, an empty junction, nothing, or
--- its life was over
+-- what a search of a list finds. Fire: a firing, that is, a path of transitions to a destination, with its transition
+-- actions; DeadEnd: an empty junction; No: nothing; Stop: it was stopped by an early return
 pub data Found : Type 0 where
   Fire : ℕ → List (List Stmt) → Found
   DeadEnd : Found
   No : Found
   Stop : Found
 
--- how processing ends: in the state, or out of it, with the home of what was taken
+-- how processing a state ends. Stay: no firing led out of it; Out: a firing with this home led out of it
 pub data Went : Type 0 where
   Stay : Went
   Out : ℕ → Went
@@ -29,12 +29,12 @@ pub record Parts : Type 0 where
   -- a state is left, and states are left in the order of a list
   pub exit : ℕ → Now → Work (Unit {0})
   pub exit_each : List ℕ → Now → Work (Unit {0})
-  -- a state is entered along the path to the second one, which is the first or below it; and states are
+  -- a state is entered on the path to the second one, which is the first or below it; and the states of a list are
   pub enter : ℕ → ℕ → Now → Work (Unit {0})
   pub enter_each : List ℕ → ℕ → Now → Work (Unit {0})
   -- an OR enters a child by default
   pub defaults : ℕ → Now → Work (Unit {0})
-  -- the transition actions of a firing with this home
+  -- the transition actions of a firing with this home are run
   pub play : ℕ → List (List Stmt) → Now → Work End
   -- a firing with this home and this destination is taken
   pub take : ℕ → ℕ → List (List Stmt) → Now → Work (Unit {0})

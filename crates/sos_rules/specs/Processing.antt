@@ -50,7 +50,7 @@ module _ (c : Chart) where
   abbrev pub process_rule : Parts → ℕ → Now → Work Went
   process_rule p s now = p.search (On s) (node c s).outer now >>= after_outer p s now
 
-  -- after a region: a way out ends the processing of the AND
+  -- after a region: a firing that led out of it ends the processing of the AND
   abbrev pub after_region : Parts → List ℕ → Now → Went → Work Went
   after_region p xs now Stay = p.process_each xs now
   after_region p xs now (Out h) = give (Out h)

@@ -7,7 +7,7 @@ use Rattle.sos_rules.specs.Parts.{Parts, no_parts}
 use Rattle.sos_rules.specs.Processing.{process_rule, process_each_rule}
 use Rattle.sos_rules.specs.Searches.{block_rule, send_rule, search_rule, play_rule}
 
--- every piece of work by its rule, over the pieces that the rules may use
+-- each piece of work, defined by its rule over the pieces of work that the rules call
 abbrev pub rules : Chart → Bounds → Parts → Parts
 rules c b p = record {
   block = block_rule c b p;

@@ -25,7 +25,8 @@ assign v e w = change_or_fault (assigned_in v e w) w
 abbrev pub pay : Bounds → Work (Unit {0})
 pay b w = change_or_fault (paid_in b w) w
 
--- directly after a send the life is tested: where it is over, the action is cut, that is, it returns early
+-- directly after a send the condition of its life is tested: where it no longer holds, the action is cut, that is, it
+-- returns early
 abbrev pub while_alive : Tree → Life → Work End
 while_alive t life = do
   alive ← test (λ w. lives t life w.marks)
@@ -83,8 +84,8 @@ module _ (c : Chart) (b : Bounds) where
     heard ← test (receives to)
     choose heard (p.process (receiver to) (deeper e now) >> nothing) nothing)
 
-  -- after a junction's list: an action joins those of a firing, and where nothing was found the rest of the first list
-  -- is searched in the world as it stands
+  -- after a junction's list: the action is put before those of a firing; where nothing was found, the rest of the list
+  -- that led to the junction is searched, and no change of the world is undone
   abbrev pub after_junction : Parts → Life → List Stmt → List Trans → Now → Found → Work Found
   after_junction p life action rest now (Fire d actions) = give (Fire d (action ∷ actions))
   after_junction p life action rest now DeadEnd = give DeadEnd

@@ -10,7 +10,7 @@ pub record IsLiteral (n : Num) : Type 0 where
   pub small : units < 2 ^ 99
   pub short : n.frac ≤ 32
 
--- all literals of an expression are
+-- every literal of an expression is in range
 abbrev pub LiteralsFit : Expr → Type 0
 LiteralsFit (Lit n) = IsLiteral n
 LiteralsFit (Flag b) = Unit {0}

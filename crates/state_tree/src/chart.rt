@@ -57,7 +57,7 @@ impl Chart {
     ghost use Rattle.state_tree.specs.Views.{block_seen, list_seen, node_seen};
 
     /// The chart of a tree, what it declares, a part for each state in pre-order, and the lists of
-    /// the junctions. It takes no memory.
+    /// the junctions. The parts must be those of a valid chart. It takes no memory.
     #[tactic(auto, unfolding(crate::specs::Kept::chart_of))]
     pub fn make(
         shape: Shape,

@@ -69,7 +69,8 @@ fn is_at_or_below(shape: &Shape, state: u32, above: u32) -> bool
     state == above || shape.is_below(state, above)
 }
 
-/// Where a path to a state goes on in a child of an AND.
+/// Where a child of an AND is entered on the way to `dest`: at `dest`, where it is the child or
+/// below it, else at the child.
 pub fn path_in(shape: &Shape, child: u32, dest: u32) -> u32
     requires child { child < state_count shape.now }
     requires dest { dest < state_count shape.now }

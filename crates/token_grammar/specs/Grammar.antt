@@ -1,13 +1,12 @@
 -- Grammars: which tokens spell a value, and what reading from the front gives.
 --
--- The words are those of LL(1) grammars, whose reader decides by one token of look-ahead. A grammar is
--- nullable where no token at all spells a value. Its FIRST is the set of the kinds of token with which a
--- spelling begins, and its FOLLOW the set of those that may come after one in the grammar around it. Of
--- two grammars, `either` takes the first where the token at hand is in its FIRST, so the FIRST of the
--- second must have no kind of it. A grammar that may go on after what is a spelling already, as `many`
--- may with one more item, goes on where the token at hand is of the set that goes on (the followlast
--- set), so FOLLOW must have no kind of that. `Good` in proofs/Good.antt states this, with what follows
--- for the reading, and proofs/Fine.antt proves it of each word below from its parts.
+-- The words are those of LL(1) grammars, whose reader decides by one token of look-ahead. A grammar is nullable where
+-- no token at all spells a value. Its FIRST is the set of the kinds of token with which a spelling begins, and its
+-- FOLLOW the set of those that may come after one in the grammar around it. Of two grammars, `either` takes the first
+-- where the token at hand is in its FIRST, so the two FIRST sets must be disjoint. Where a spelling may be extended, as
+-- that of `many` by one more item, reading extends it if the token at hand is in the set that extends it (the
+-- followlast set), so FOLLOW must be disjoint from that set. `Good` in proofs/Good.antt states this and what it implies
+-- for reading, and proofs/Fine.antt proves it of each word below from its parts.
 use Rattle.std.specs.Prelude.{◌≡◌, ℕ, zero, suc, Bool, true, false, List, [], ◌∷◌, ◌++◌, length, Ok, Err, Option, Some, None, if◌then◌else◌, ◌⊎◌}
 use Rattle.token_grammar.specs.declared.token.Kind.{Kind}
 use Rattle.token_grammar.specs.declared.token.Span.{Span}
@@ -22,7 +21,7 @@ pub record Grammar (X : Type 0) : Type 1 where
   -- what reading from the front gives
   pub reads : List Lexeme → Outcome X
 
--- what reads on after what was read
+-- continues reading with f of the value that was read; a fault is passed on
 abbrev pub and_then : {X Y : Type 0} → Outcome X → (X → List Lexeme → Outcome Y) → Outcome Y
 and_then (Ok x) f = f x.0 x.1
 and_then (Err e) f = Err e
@@ -102,12 +101,12 @@ optional set g = either set (g >>= λ x. give (Some x)) (give None)
 
 -- ---- limits: what is one too many isn't spelled
 
--- what a test says of the first token, where that is in the set
+-- the fault that a test gives the first token, where that token is in the set
 abbrev pub first_refused : (Kind → Bool) → (Lexeme → Option Fault) → List Lexeme → Option Fault
 first_refused set test [] = None
 first_refused set test (t ∷ s) = if set t.kind then test t else None
 
--- goes on where nothing was refused
+-- the reading, unless its first token is refused
 abbrev pub unless_refused : {X : Type 0} → Option Fault → List Lexeme → Outcome X → Outcome X
 unless_refused None s read = read
 unless_refused (Some f) s read = Err (f, s)
@@ -116,20 +115,20 @@ unless_refused (Some f) s read = Err (f, s)
 abbrev pub none_lifted : Fault → Bool
 none_lifted f = false
 
--- what a test says, where some faults are lifted
+-- the fault that a test gives, unless it is lifted
 abbrev pub unless_lifted : (Fault → Bool) → Option Fault → Option Fault
 unless_lifted lifts None = None
 unless_lifted lifts (Some f) = if lifts f then None else Some f
 
--- g, whose first token is one of the set; where the test has a fault for that token, g isn't
--- spelled, and the token is refused with it
+-- g, unless its first token is in the set and the test gives that token a fault: then nothing is spelled, and reading
+-- is refused with that fault
 abbrev pub allowed : {X : Type 0} → (Kind → Bool) → (Lexeme → Option Fault) → Grammar X → Grammar X
 allowed set test g = record {
   spells = λ u x. (first_refused set test u ≡ None) × g.spells u x;
   reads = λ s. unless_refused (first_refused set test s) s (g.reads s);
 }
 
--- what is never spelled; a token of the set is refused with the fault
+-- no tokens spell any value; a token of the set is refused with the fault, any other one, and the end, as Expected
 unfoldable pub forbidden : {X : Type 0} → (Kind → Bool) → Fault → Grammar X
 forbidden set fault = record {
   spells = λ u x. ⊥;
@@ -143,7 +142,7 @@ abbrev pub first_place : List Lexeme → Span
 first_place [] = record { line = 0; column = 0 }
 first_place (t ∷ s) = t.at
 
--- what g says where it is told the place of its first token
+-- the grammar that g gives for the place of the first token
 abbrev pub at_first : {X : Type 0} → (Span → Grammar X) → Grammar X
 at_first g = record {
   spells = λ u x. (g (first_place u)).spells u x;
@@ -180,7 +179,7 @@ unfoldable pub many : {X : Type 0} → (Kind → Bool) → Grammar X → Grammar
 many set g =
     record { spells = many_spells g.spells; reads = λ s. many_reads set g.reads (length s) s }
 
--- what was read before, and what is still read
+-- the items that were read, before those still to be read
 abbrev pub after : {X : Type 0} → List X → Outcome (List X) → Outcome (List X)
 after front read = and_then read (λ xs r. Ok (front ++ xs, r))
 
@@ -204,7 +203,7 @@ many_from_reads set f next (suc n) s t =
     (λ x r. and_then (many_from_reads set f next n (next s x) r) (λ xs q. Ok (x ∷ xs, q)))
     else Ok ([], t)
 
--- any number; next tells what an item leaves for those after it
+-- any number; next gives the state after an item, on which the items after it depend
 unfoldable pub many_from : {S X : Type 0}
     → (S → Kind → Bool) → (S → Grammar X) → (S → X → S) → S → Grammar (List X)
 many_from set g next s = record {
@@ -233,7 +232,7 @@ up_to_reads set f next (suc n) s t =
     (λ x r. and_then (up_to_reads set f next n (next s x) r) (λ xs q. Ok (x ∷ xs, q)))
     else Ok ([], t)
 
--- at most n; next tells what an item leaves for those after it
+-- at most n; next gives the state after an item, on which the items after it depend
 unfoldable pub up_to_from : {S X : Type 0}
     → (Kind → Bool) → (S → Grammar X) → (S → X → S) → ℕ → S → Grammar (List X)
 up_to_from set g next n s = record {
@@ -241,7 +240,7 @@ up_to_from set g next n s = record {
   reads = up_to_reads set (λ z. (g z).reads) next n s;
 }
 
--- at most n of the same
+-- at most n items of one grammar
 abbrev pub up_to : {X : Type 0} → (Kind → Bool) → Grammar X → ℕ → Grammar (List X)
 up_to set g n = up_to_from set (λ (done : ℕ). g) (λ done x. done) n 0
 

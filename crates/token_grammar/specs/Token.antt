@@ -79,20 +79,21 @@ pub record Lexeme : Type 0 where
 abbrev pub lexeme : Token → Lexeme
 lexeme t = record { kind = t.kind; text = t.text.now; at = t.at }
 
--- the same of each token
+-- the tokens of the code as contracts see them
 abbrev pub lexemes : List Token → List Lexeme
 lexemes ts = map lexeme ts
 
--- a value and the tokens after it, or a fault and the tokens from where it is
+-- the value and the tokens after it, or the fault and the tokens from the one at fault on
 abbrev pub Outcome : Type 0 → Type 0
 Outcome X = Result (X × List Lexeme) (Fault × List Lexeme)
 
--- What a reader that stopped says of what reading gives: at Memory nothing.
+-- A reader that failed: its fault and the tokens that are left are what reading gives; at Memory
+-- nothing is said.
 abbrev pub Fails : {Y : Type 0} → ReadError → List Lexeme → Outcome Y → Type 0
 Fails errors.Memory rest read = Unit {0}
 Fails (errors.Fault f) rest read = read ≡ Err (f, rest)
 
--- What a reader returned, seen by view, and the rest that it left are what reading gives.
+-- The view of what a reader returned, and the tokens that it left, are what reading gives.
 abbrev pub Gives : {X Y : Type 0} → (X → Y) → Result X ReadError → List Lexeme → Outcome Y → Type 0
 Gives view (Ok x) rest read = read ≡ Ok (view x, rest)
 Gives view (Err e) rest read = Fails e rest read

@@ -25,7 +25,8 @@ impl<'t, 'a> Cursor<'t, 'a> {
         }
     }
 
-    /// Takes the token at hand, where it is of that kind. Another, or the end, is `Expected`.
+    /// Takes the token at hand, where it is of that kind. A token of another kind, or the end, is
+    /// refused as `Expected`.
     pub fn token(&mut self, kind: Kind) -> Result<Token<'a>, ReadError>
         ensures { Gives lexeme result (lexemes self.new.rest.now)
             ((token kind).reads (lexemes self.old.rest.now)) }

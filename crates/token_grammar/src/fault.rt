@@ -6,10 +6,10 @@ ghost use Rattle.token_grammar.specs.declared.fault.ReadError.TheVariants.{Memor
 use std::alloc::{AllocError, AllocFailed};
 use thiserror::Error;
 
-/// What there can be too many of.
+/// The things whose number is limited.
 #[derive(Clone, Copy, Debug, PartialEq, Eq)]
 pub enum Thing {
-    /// States of a chart, with its root.
+    /// States of a chart, counting its root.
     States,
     /// Junctions of a chart.
     Junctions,
@@ -27,22 +27,22 @@ pub enum Thing {
     Items,
 }
 
-/// What is wrong at the token at hand.
+/// What is wrong with the token at hand.
 #[derive(Clone, Copy, Debug, PartialEq, Eq, Error)]
 pub enum Fault {
     /// It doesn't continue the text before it.
     #[error("unexpected token or end of the text")]
     Expected,
-    /// It is a number of over 36 digits, or of a mantissa of 2^99 or more.
+    /// It is a number with over 36 digits, or with a mantissa of 2^99 or more.
     #[error("number too long")]
     LiteralTooLong,
-    /// It is a number that no fraction of up to 32 bits makes exact.
+    /// It is a number that isn't exact at any fraction of up to 32 bits.
     #[error("no binary fraction of at most 32 bits")]
     LiteralNotBinary,
     /// It begins a state that is nested too deep.
     #[error("state nested too deep")]
     NestTooDeep,
-    /// It begins one more of these than there may be.
+    /// It begins one more of these things than the limit allows.
     #[error("one too many of its sort")]
     TooMany(Thing),
 }

@@ -62,7 +62,7 @@ pub enum Kind {
     Error,
     /// `history`
     History,
-    /// A name: a letter, and then letters, digits and underscores; no reserved word.
+    /// A name: a letter, and then letters, digits and underscores, but no reserved word.
     Name,
     /// A number.
     Number,

@@ -22,7 +22,8 @@ pub use fitting::{Mode, Overflow, exact, fit};
 pub use num::{FRACTION_LIMIT, MAGNITUDE_LIMIT, Num};
 pub use quotient::{Zero, div};
 pub use reading::{
-    DIGIT_LIMIT, NumFault, Numeral, read_decimal, split_digits, split_number, value_after,
+    DIGIT_LIMIT, NumFault, Numeral, frac_of, number_of, read_decimal, split_digits, split_number,
+    value_after,
 };
 pub use rounding::READ_LIMIT;
 pub use scale::{PLACES_LIMIT, Scale, WIDTH_LIMIT};

@@ -159,7 +159,7 @@ pub fn split_number(text: &[u8]) -> Option<Numeral<'_>>
 }
 
 /// The bits that are asked for, else the fewest at which `units / 10^places` is exact.
-fn frac_of(bits: Option<u32>, units: u128, places: u32) -> Option<u32>
+pub fn frac_of(bits: Option<u32>, units: u128, places: u32) -> Option<u32>
     requires { places ≤ 36 }
     ensures { result ≡ spec.frac_of bits units places }
 {
@@ -170,8 +170,13 @@ fn frac_of(bits: Option<u32>, units: u128, places: u32) -> Option<u32>
 }
 
 /// The number of that sign whose magnitude is `units / 10^places`, rounded down to steps of
-/// `2^-frac`.
-fn number_of(negative: bool, units: u128, places: u32, frac: Option<u32>) -> Result<Num, NumFault>
+/// `2^-frac`. `NotBinary` without a fraction, and `TooLong` for a magnitude of 2^99 steps or more.
+pub fn number_of(
+    negative: bool,
+    units: u128,
+    places: u32,
+    frac: Option<u32>,
+) -> Result<Num, NumFault>
     requires { places ≤ 36 }
     ensures { result ≡ spec.number_of negative units places frac }
 {

@@ -1,0 +1,27 @@
+//! Reads a chart text to the chart that may be run, or finds its first fault.
+//!
+//! Read `specs/Accepted.antt`: which texts are accepted, and which fault of another one is the first.
+#![tactic(auto)]
+ghost use Rattle.std.specs.Prelude.{◌≡◌, IfOk, IfErr};
+ghost use Rattle.state_tree.specs.Kept.{chart_of};
+ghost use Rattle.accepted_charts.specs.Accepted.{IsAccepted, Refuses, IsFaultOf};
+
+use chart_tree::FormFault;
+use flow_base::Memory;
+use state_tree::Chart;
+use std::alloc::Global;
+
+/// The chart of a text that has no fault.
+pub fn accept_chart(alloc: Global, text: &[u8]) -> Result<Chart, FormFault>
+    ensures accepted { IfOk result (λ c. IsAccepted text.now (chart_of c)) }
+    ensures refused { IfErr result (Refuses text.now) }
+{
+    loop {}
+}
+
+/// The first fault of a text, none where it is accepted.
+pub fn chart_fault(alloc: Global, text: &[u8]) -> Result<Option<FormFault>, Memory>
+    ensures { IfOk result (IsFaultOf text.now) }
+{
+    loop {}
+}

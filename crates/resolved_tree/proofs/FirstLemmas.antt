@@ -1,0 +1,36 @@
+-- The first of the faults of a list.
+use Rattle.std.proofs.Common.{◌≡◌, List, [], ◌∷◌, ◌++◌, Option, Some, None, refl, inl, inr, subst}
+use Rattle.chart_tree.specs.declared.first.Found.{Found}
+use Rattle.chart_tree.specs.First.{kept, IsFirst, IsOne, Passed}
+use Rattle.chart_tree.proofs.FirstLemmas.{kept_one, kept_old, kept_new, first_of_passed}
+use Rattle.resolved_tree.specs.Faults.{first_with, first_of, IsIn}
+
+pub first_with_both : (found : Option Found) (xs ys : List Found) → first_with found (xs ++ ys) ≡ first_with (first_with found xs) ys
+unfolding first_with
+first_with_both found [] ys = refl
+first_with_both found (x ∷ xs) ys = first_with_both (kept found x) xs ys
+
+-- what is kept is what was found or one of the list, and all of these are passed
+pub first_with_one : (F : Found → Type 0) (found : Option Found) (faults : List Found) → IsOne F found
+    → ((f : Found) → IsIn faults f → F f) → IsOne F (first_with found faults)
+unfolding first_with
+first_with_one F found [] one all = one
+first_with_one F found (x ∷ xs) one all =
+    first_with_one F (kept found x) xs (kept_one F found x one (all x (inl refl))) (λ f h. all f (inr h))
+
+pub first_with_old : (found : Option Found) (faults : List Found) (f : Found) → Passed found f → Passed (first_with found faults) f
+unfolding first_with
+first_with_old found [] f h = h
+first_with_old found (x ∷ xs) f h = first_with_old (kept found x) xs f (kept_old found x f h)
+
+pub first_with_new : (found : Option Found) (faults : List Found) (f : Found) → IsIn faults f → Passed (first_with found faults) f
+unfolding first_with
+first_with_new found [] f h = absurd h
+first_with_new found (x ∷ xs) f (inl e) = subst (λ y. Passed (first_with (kept found x) xs) y) e (first_with_old (kept found x) xs x (kept_new found x))
+first_with_new found (x ∷ xs) f (inr h) = first_with_new (kept found x) xs f h
+
+-- the first of a list comes first
+pub first_of_first : (faults : List Found) → IsFirst (λ f. IsIn faults f) (first_of faults)
+unfolding first_of
+first_of_first faults = first_of_passed (λ f. IsIn faults f) (first_with None faults)
+    (first_with_one (λ f. IsIn faults f) None faults tt (λ f h. h)) (λ f h. first_with_new None faults f h)

@@ -9,12 +9,20 @@ use Rattle.chart_tree.specs.declared.chart.EventText.{EventText}
 use Rattle.chart_tree.specs.Trees.{Var, Path, Chart}
 use Rattle.chart_places.specs.Placed.{Placed, Owned, placed_states, placed_tree, placed_junctions, is_earlier}
 
--- all that names are looked for in: the tree, the names of its states, the junctions with the states in which they
--- stand, and the names of the events and of the data
+-- the name of a junction, and the state in which it stands
+pub record JunctionName : Type 0 where
+  pub owner : ℕ
+  pub name : NameText
+
+-- the name of a junction of a chart text
+abbrev pub junction_name : Owned → JunctionName
+junction_name o = record { owner = o.owner; name = o.junction.name }
+
+-- all that names are looked for in: the tree, the names of its states, of the junctions, of the events and of the data
 pub record Scopes : Type 0 where
   pub tree : Tree
   pub states : List NameText
-  pub junctions : List Owned
+  pub junctions : List JunctionName
   pub events : List NameText
   pub vars : List NameText
 
@@ -23,7 +31,7 @@ unfoldable pub scopes_of : Chart → Scopes
 scopes_of c = record {
   tree = placed_tree (placed_states c.root);
   states = map (λ (p : Placed). p.parts.name) (placed_states c.root);
-  junctions = placed_junctions (placed_states c.root);
+  junctions = map junction_name (placed_junctions (placed_states c.root));
   events = map (λ (e : EventText). e.name) c.events;
   vars = map (λ (v : Var). v.name) c.vars;
 }
@@ -73,7 +81,7 @@ state_at p s (name ∷ names) = from_state (state_named p s name.text) name.at (
 -- whether junction j stands in state s and has the name
 abbrev pub is_junction_of : Scopes → ℕ → List ℕ → ℕ → Bool
 is_junction_of p s name j =
-    option_map_or (λ (o : Owned). (o.owner == s) && bytes_eq o.junction.name.text name) (slice_get p.junctions j) false
+    option_map_or (λ (o : JunctionName). (o.owner == s) && bytes_eq o.name.text name) (slice_get p.junctions j) false
 
 -- the first junction of state s that has the name
 unfoldable pub junction_named : Scopes → ℕ → List ℕ → Option ℕ

@@ -1,10 +1,10 @@
 //! The states and junctions of a chart text by number, and what each name means where it stands.
 //!
-//! `Places` is made once of a chart text; its look-ups take no memory, and each costs a few steps
+//! `Scopes` is made once of a chart text; its look-ups take no memory, and each costs a few steps
 //! for each state above. Read `specs/Placed.antt`, how states and junctions are numbered, and
 //! `specs/Scopes.antt`, what a name means.
 #![tactic(auto)]
 
-mod places;
+mod scopes;
 
-pub use places::{Meaning, Places};
+pub use scopes::{Meaning, Scopes};

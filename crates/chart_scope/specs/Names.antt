@@ -9,8 +9,8 @@ use Rattle.chart_tree.specs.declared.name.NameText.{NameText}
 use Rattle.chart_tree.specs.First.{at_place}
 use Rattle.chart_tree.specs.Trees.{Parts, Chart}
 use Rattle.active_config.specs.Tree.{parent_of}
-use Rattle.chart_places.specs.Placed.{Placed, Owned, placed_states}
-use Rattle.chart_places.specs.Scopes.{Scopes, Meaning, Event, Datum, scopes_of, meaning_of, child_named, junction_named}
+use Rattle.chart_places.specs.Placed.{Placed, Owned, placed_states, placed_junctions}
+use Rattle.chart_places.specs.Scopes.{Scopes, JunctionName, Meaning, Event, Datum, scopes_of, meaning_of, child_named, junction_named}
 use Rattle.resolved_tree.specs.Faults.{first_of}
 use Rattle.chart_scope.specs.Uses.{block_faults, list_faults}
 
@@ -57,10 +57,10 @@ doubled_states p n [] = []
 doubled_states p n (x ∷ xs) = doubled_state p n (parent_of p.tree n) x ++ doubled_states p (suc n) xs
 
 -- a junction, the first of which has number n: an earlier junction of the state has the name
-abbrev pub doubled_junctions : Scopes → ℕ → List Owned → List Found
+abbrev pub doubled_junctions : Scopes → ℕ → List JunctionName → List Found
 doubled_junctions p n [] = []
 doubled_junctions p n (o ∷ os) =
-    unless_own (is_number n (junction_named p o.owner o.junction.name.text)) o.junction.name ++ doubled_junctions p (suc n) os
+    unless_own (is_number n (junction_named p o.owner o.name.text)) o.name ++ doubled_junctions p (suc n) os
 
 -- ---- names that are used
 
@@ -86,7 +86,7 @@ used_in_junctions p (o ∷ os) = list_faults p o.owner o.junction.list ++ used_i
 unfoldable pub name_faults : Chart → List Found
 name_faults c = let p = scopes_of c in
     doubled_events p 0 p.events ++ doubled_vars p 0 p.vars ++ doubled_states p 0 p.states
-    ++ doubled_junctions p 0 p.junctions ++ used_in_states p 0 (placed_states c.root) ++ used_in_junctions p p.junctions
+    ++ doubled_junctions p 0 p.junctions ++ used_in_states p 0 (placed_states c.root) ++ used_in_junctions p (placed_junctions (placed_states c.root))
 
 -- a chart text is refused with the first fault of its names, or memory ran out
 abbrev pub Refuses : Chart → FormFault → Type 0

@@ -6,22 +6,35 @@ ghost use Rattle.std.specs.Prelude.{◌≡◌, IfOk, IfErr};
 ghost use Rattle.state_tree.specs.Kept.{chart_of};
 ghost use Rattle.accepted_charts.specs.Accepted.{IsAccepted, Refuses, IsFaultOf};
 
+use chart_check::check;
+use chart_reader::read_chart;
+use chart_scope::resolve;
 use chart_tree::FormFault;
 use flow_base::Memory;
 use state_tree::Chart;
 use std::alloc::Global;
 
 /// The chart of a text that has no fault.
+///
+/// A text that has one is refused with its first fault: TextTooLong, else the first fault of reading,
+/// else of names, else of types, else of structure, else of the number of pairs; in each pass by
+/// place, and at one place by number.
 pub fn accept_chart(alloc: Global, text: &[u8]) -> Result<Chart, FormFault>
     ensures accepted { IfOk result (λ c. IsAccepted text.now (chart_of c)) }
     ensures refused { IfErr result (Refuses text.now) }
 {
-    loop {}
+    let tree = read_chart(alloc, text)?;
+    let resolved = resolve(alloc, &tree)?;
+    check(alloc, resolved)
 }
 
 /// The first fault of a text, none where it is accepted.
 pub fn chart_fault(alloc: Global, text: &[u8]) -> Result<Option<FormFault>, Memory>
     ensures { IfOk result (IsFaultOf text.now) }
 {
-    loop {}
+    match accept_chart(alloc, text) {
+        Ok(_) => Ok(None),
+        Err(FormFault::Memory) => Err(Memory),
+        Err(fault) => Ok(Some(fault)),
+    }
 }

@@ -4,12 +4,17 @@
 #![tactic(auto)]
 ghost use Rattle.std.specs.Prelude.{◌≡◌, IfOk, IfErr};
 ghost use Rattle.state_tree.specs.Kept.{chart_of};
-ghost use Rattle.resolved_tree.specs.Plain as plain;
 ghost use Rattle.resolved_tree.specs.Promise.{IsResolved};
 ghost use Rattle.resolved_tree.specs.Views.{resolved_of};
 ghost use Rattle.chart_check.specs.Check.{IsChecked, Refuses};
 
-use chart_tree::FormFault;
+mod parts;
+
+use crate::parts::{Parts, chart_parts};
+use chart_nets::net_of;
+use chart_structure::first_fault;
+use chart_tree::{FormFault, Found};
+use chart_types::first_type_fault;
 use resolved_tree::Resolved;
 use state_tree::Chart;
 use std::alloc::Global;
@@ -21,5 +26,13 @@ pub fn check(alloc: Global, resolved: Resolved) -> Result<Chart, FormFault>
     ensures accepted { IfOk result (λ c. IsChecked (resolved_of resolved) (chart_of c)) }
     ensures refused { IfErr result (Refuses (resolved_of resolved)) }
 {
-    loop {}
+    if let Some(Found { kind, at }) = first_type_fault(&resolved) {
+        return Err(FormFault::At(kind, at));
+    }
+    let net = net_of(alloc, &resolved)?;
+    if let Some(Found { kind, at }) = first_fault(alloc, &net)? {
+        return Err(FormFault::At(kind, at));
+    }
+    let Parts { shape, names, states, junctions } = chart_parts(alloc, resolved)?;
+    Ok(Chart::make(shape, names, states, junctions))
 }

@@ -1,6 +1,6 @@
 //! The answers to the texts of a table.
 
-use crate::escape::unescape;
+use table_texts::unescape;
 use chart_format::format_text;
 use chart_tree::FormFault;
 use std::alloc::{AllocError, Global};

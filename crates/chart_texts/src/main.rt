@@ -3,14 +3,13 @@
 #![tactic(auto)]
 
 mod answer;
-mod escape;
 #[cfg(test)]
 mod limit_tests;
 #[cfg(test)]
 mod tree_tests;
 
 use answer::answer_line;
-use escape::Escaped;
+use table_texts::Escaped;
 use std::io;
 
 fn main(rt: HostRuntime) -> io::Result<()> {

@@ -1,7 +1,7 @@
 //! The answers to the cases of a table.
 
 use crate::declarations::read_declarations;
-use crate::escape::unescape;
+use table_texts::unescape;
 use crate::events::answer_file;
 use crate::refusal::Refusal;
 use crate::worlds::answer_world;

@@ -5,7 +5,6 @@
 mod answer;
 mod configuration;
 mod declarations;
-mod escape;
 mod events;
 mod mantissas;
 mod refusal;

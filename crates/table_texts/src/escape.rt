@@ -1,16 +1,18 @@
-//! How a text is written in one line.
+//! How a text is written in one line: a byte that can't stand there is escaped.
 ghost use Rattle.std.specs.Prelude.{◌<◌, length, IfSome};
 
 use std::alloc::{AllocError, Global};
 use std::fmt;
 
-/// The bytes that a line stands for, unless a backslash of it begins no escape.
+/// The bytes that a line stands for; none where a backslash of it begins no escape.
+///
+/// A backslash begins `\n`, `\t`, `\r`, `\\`, or `\x` with two hexadecimal digits.
 pub fn unescape(alloc: Global, line: &[u8]) -> Result<Option<Vec<u8>>, AllocError> {
     let mut text = Vec::new(alloc);
     let mut rest = line;
-    while let Some((byte, behind)) = next_byte(rest) {
+    while let Some((byte, after)) = next_byte(rest) {
         text.push(byte)?;
-        rest = behind;
+        rest = after;
     }
     Ok(if rest.is_empty() { Some(text) } else { None })
 }
@@ -22,13 +24,13 @@ fn next_byte(line: &[u8]) -> Option<(u8, &[u8])>
     ensures { IfSome result (λ next. length next.1.now < length line.now) }
 {
     match line {
-        [b'\\', b'n', behind @ ..] => Some((b'\n', behind)),
-        [b'\\', b't', behind @ ..] => Some((b'\t', behind)),
-        [b'\\', b'r', behind @ ..] => Some((b'\r', behind)),
-        [b'\\', b'\\', behind @ ..] => Some((b'\\', behind)),
-        [b'\\', b'x', high, low, behind @ ..] => Some((hex_byte(*high, *low)?, behind)),
+        [b'\\', b'n', after @ ..] => Some((b'\n', after)),
+        [b'\\', b't', after @ ..] => Some((b'\t', after)),
+        [b'\\', b'r', after @ ..] => Some((b'\r', after)),
+        [b'\\', b'\\', after @ ..] => Some((b'\\', after)),
+        [b'\\', b'x', high, low, after @ ..] => Some((hex_byte(*high, *low)?, after)),
         [b'\\', ..] | [] => None,
-        [byte, behind @ ..] => Some((*byte, behind)),
+        [byte, after @ ..] => Some((*byte, after)),
     }
 }
 

@@ -1,5 +1,5 @@
 use Rattle.std.proofs.Common.{length}
-use Rattle.event_files.proofs.escape.unescape.Given as goal
+use Rattle.table_texts.proofs.escape.unescape.Given as goal
 
 abbrev pub decreases-loop-byte : goal.decreases-loop-byte
 decreases-loop-byte l = length l.rest

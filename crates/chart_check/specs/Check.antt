@@ -1,7 +1,5 @@
 -- Which resolved charts are accepted, and the first fault of another one.
-use Rattle.std.specs.Prelude.{◌≡◌, List, [], Some, None}
-use Rattle.token_grammar.specs.declared.token.Span.{Span}
-use Rattle.chart_tree.specs.declared.fault.FormKind.{FormKind}
+use Rattle.std.specs.Prelude.{◌≡◌, [], Option, Some, None}
 use Rattle.chart_tree.specs.declared.fault.FormFault.{FormFault}
 use Rattle.chart_tree.specs.declared.fault.FormFault.TheVariants as faults
 use Rattle.chart_tree.specs.declared.first.Found.{Found}
@@ -30,6 +28,11 @@ pub data IsFirstOf (r : Resolved) (f : Found) : Type 0 where
   OfTypes : first_of (type_faults r) ≡ Some f → IsFirstOf r f
   OfStructure : type_faults r ≡ [] → IsFirst (StructureFault (net_of r)) (Some f) → IsFirstOf r f
   OfPairs : type_faults r ≡ [] → IsFirst (StructureFault (net_of r)) None → PairFault (net_of r) f → IsFirstOf r f
+
+-- what is answered where the first fault of a resolved chart is asked for
+abbrev pub IsAnswer : Resolved → Option Found → Type 0
+IsAnswer r None = IsSound r
+IsAnswer r (Some f) = IsFirstOf r f
 
 -- a resolved chart is refused with its first fault, or memory ran out
 abbrev pub Refuses : Resolved → FormFault → Type 0

@@ -57,7 +57,7 @@ charts = chart_claims (expression_claims number_claims) transitions
 -- ---- charts
 
 -- a chart that a text spells has what a spelled chart has
-spelled_has : (text : List ℕ) (c : Chart) → Spells text c → IsChart c
+pub spelled_has : (text : List ℕ) (c : Chart) → Spells text c → IsChart c
 unfolding tokens_of
 spelled_has text c s =
     charts.chart_has _ c (some_cut (λ t. not (kind_eq t.kind kinds.Comment)) _ (tokens_are_cut text)) s.spelled

@@ -14,7 +14,7 @@ mod laws;
 use chart_print::print_chart;
 use chart_reader::read_chart;
 use chart_tree::FormFault;
-pub use laws::a_canonical_text_spells_its_chart_again;
+pub use laws::{a_canonical_text_spells_its_chart_again, spelled_charts_meet_their_conditions};
 use std::alloc::Global;
 
 /// The canonical text of the chart that the text spells.

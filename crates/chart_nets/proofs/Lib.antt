@@ -1,0 +1,4 @@
+pub mod MapLemmas
+pub mod TreeLemmas
+pub mod NetLemmas
+pub mod ChartLemmas

@@ -1,5 +1,5 @@
 -- The net of a resolved chart: the tree of its states, and where its transitions lead.
-use Rattle.std.specs.Prelude.{◌||◌, List, map}
+use Rattle.std.specs.Prelude.{◌||◌, map}
 use Rattle.std.specs.Option.{is_some}
 use Rattle.token_grammar.specs.declared.token.Span.{Span}
 use Rattle.chart_structure.specs.declared.net.Arrow.{Arrow}

@@ -5,6 +5,14 @@
 //! `specs/Scopes.antt`, what a name means.
 #![tactic(auto)]
 
+mod entries;
+mod junctions;
 mod scopes;
+mod states;
+mod table;
+mod tree;
 
+pub use junctions::{OwnedJunction, junctions_of};
 pub use scopes::{Meaning, Scopes};
+pub use states::{PlacedState, survey};
+pub use tree::shape_of;

@@ -1,0 +1,6 @@
+pub mod FoundLemmas
+pub mod DeclarationLemmas
+pub mod StateViews
+pub mod StateLemmas
+pub mod OwnerLemmas
+pub mod NameLemmas

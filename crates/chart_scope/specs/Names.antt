@@ -10,7 +10,8 @@ use Rattle.chart_tree.specs.First.{at_place}
 use Rattle.chart_tree.specs.Trees.{Parts, Chart}
 use Rattle.active_config.specs.Tree.{parent_of}
 use Rattle.chart_places.specs.Placed.{Placed, Owned, placed_states, placed_junctions}
-use Rattle.chart_places.specs.Scopes.{Scopes, JunctionName, Meaning, Event, Datum, scopes_of, meaning_of, child_named, junction_named}
+use Rattle.chart_places.specs.Scopes.{Scopes, JunctionName, Meaning, Event, Datum, scopes_of}
+use Rattle.chart_places.specs.Scopes.{meaning_of, child_named, junction_named}
 use Rattle.resolved_tree.specs.Faults.{first_of}
 use Rattle.chart_scope.specs.Uses.{block_faults, list_faults}
 
@@ -86,7 +87,8 @@ used_in_junctions p (o ∷ os) = list_faults p o.owner o.junction.list ++ used_i
 unfoldable pub name_faults : Chart → List Found
 name_faults c = let p = scopes_of c in
     doubled_events p 0 p.events ++ doubled_vars p 0 p.vars ++ doubled_states p 0 p.states
-    ++ doubled_junctions p 0 p.junctions ++ used_in_states p 0 (placed_states c.root) ++ used_in_junctions p (placed_junctions (placed_states c.root))
+    ++ doubled_junctions p 0 p.junctions ++ used_in_states p 0 (placed_states c.root)
+    ++ used_in_junctions p (placed_junctions (placed_states c.root))
 
 -- a chart text is refused with the first fault of its names, or memory ran out
 abbrev pub Refuses : Chart → FormFault → Type 0

@@ -6,7 +6,6 @@ use Rattle.chart_tree.specs.declared.fault.FormKind.TheVariants as kinds
 use Rattle.chart_tree.specs.declared.first.Found.{Found}
 use Rattle.chart_tree.specs.declared.name.NameText.{NameText}
 use Rattle.chart_tree.specs.First.{at_place}
-use Rattle.chart_tree.specs.Trees as trees
 use Rattle.chart_tree.specs.Trees.{Path, Expr, Lit, Flag, Name, Active, Unary, Binary, Stmt, Assign, Send, Emit}
 use Rattle.chart_tree.specs.Trees.{Dest, ToState, ToJunction, Guard, Trans}
 use Rattle.chart_places.specs.Scopes.{Scopes, Meaning, Event, Datum, meaning_of, state_at, junction_at, nowhere}

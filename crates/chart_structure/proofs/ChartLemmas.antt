@@ -115,7 +115,7 @@ module _ (c : Chart) where
   node_at : (s : ℕ) → s < state_count c.tree → get_or (net_of_chart c).nodes s no_node ≡ node_of_state c s
   node_at s lt = get_or-map-range_with_len (node_of_state c) 0 (state_count c.tree) s s no_node lt (omega arith)
 
-  words_same : (s : ℕ) → s < state_count c.tree → word_of (net_of_chart c) s ≡ comp_of c.tree s
+  pub words_same : (s : ℕ) → s < state_count c.tree → word_of (net_of_chart c) s ≡ comp_of c.tree s
   unfolding word_of
   words_same s lt = ap (λ x. x.word) (node_at s lt)
 
@@ -124,7 +124,7 @@ module _ (c : Chart) where
   unfolding history_of
   history_same s lt = ap (λ x. x.history) (node_at s lt)
 
-  lists_same : (s : ℕ) (kind : ListKind) → s < state_count c.tree
+  pub lists_same : (s : ℕ) (kind : ListKind) → s < state_count c.tree
       → list_of (net_of_chart c) s kind ≡ map arrow_of_trans (charts.list_of c s kind)
   unfolding list_of
   lists_same s kind lt = ap (λ x. node_list x kind) (node_at s lt) ∙ list_at c s kind
@@ -133,7 +133,7 @@ module _ (c : Chart) where
   unfolding junction_list junction
   junctions_same j = junction_at c.junctions j
 
-  count_same : junction_count (net_of_chart c) ≡ charts.junction_count c
+  pub count_same : junction_count (net_of_chart c) ≡ charts.junction_count c
   unfolding junction_count charts.junction_count
   count_same = length-map c.junctions node_of_junction
 
@@ -215,7 +215,7 @@ module _ (c : Chart) where
       subst (λ l. ArePairs (net_of_chart c) l count) (sym (lists_same s kind lt))
       (pairs_on (charts.list_of c s kind) count a)
 
-  below_back : (s count : ℕ) → s ≤ state_count c.tree → PairsBelow (net_of_chart c) s count
+  pub below_back : (s count : ℕ) → s ≤ state_count c.tree → PairsBelow (net_of_chart c) s count
       → chart_reached.PairsBelow c s count
   below_back zero count le a = a
   below_back (suc s) count le a =

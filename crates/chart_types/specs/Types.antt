@@ -1,15 +1,13 @@
 -- The faults of types of a resolved chart, each with its place.
-use Rattle.std.specs.Prelude.{ℕ, ℤ, Bool, List, [], ◌∷◌, ◌++◌, Option, Some, None, Result, Ok, Err, slice_get}
+use Rattle.std.specs.Prelude.{ℤ, List, [], ◌∷◌, ◌++◌, Option, Some, None, Ok, Err, slice_get}
 use Rattle.std.specs.List.{flat_map}
 use Rattle.token_grammar.specs.declared.token.Span.{Span}
-use Rattle.actions.specs.declared.expr.Value.TheVariants as values
 use Rattle.actions.specs.declared.names.Sort.{Sort}
 use Rattle.actions.specs.declared.names.Sort.TheVariants as sorts
 use Rattle.actions.specs.declared.names.Var.{Var}
 use Rattle.actions.specs.declared.names.VarKind.{VarKind}
 use Rattle.actions.specs.declared.names.VarKind.TheVariants as vars
 use Rattle.actions.specs.declared.names.EventDecl.{EventDecl}
-use Rattle.actions.specs.declared.names.EventKind.{EventKind}
 use Rattle.actions.specs.declared.names.EventKind.TheVariants as events
 use Rattle.actions.specs.declared.sort.ExprSort.{ExprSort}
 use Rattle.actions.specs.declared.sort.ExprSort.TheVariants as gives
@@ -17,7 +15,8 @@ use Rattle.actions.specs.declared.sort.ExprFault.{ExprFault}
 use Rattle.actions.specs.declared.sort.ExprFault.TheVariants as wrong
 use Rattle.actions.specs.Data.{mantissa_in}
 use Rattle.actions.specs.Names.{Names}
-use Rattle.actions.specs.Sorts.{Scope, scope_of, Sorted, sort_of, binary_sort, negative_sort, not_sort, assignment_fault}
+use Rattle.actions.specs.Sorts.{Scope, scope_of, Sorted, sort_of, binary_sort, negative_sort, not_sort}
+use Rattle.actions.specs.Sorts.{assignment_fault}
 use Rattle.chart_tree.specs.declared.fault.FormKind.{FormKind}
 use Rattle.chart_tree.specs.declared.fault.FormKind.TheVariants as kinds
 use Rattle.chart_tree.specs.declared.first.Found.{Found}
@@ -163,11 +162,6 @@ abbrev pub list_faults : Names → List Trans → List Found
 list_faults n ts = flat_map (trans_faults n) ts
 
 -- ---- first values
-
--- the place of a first value
-abbrev pub init_place : InitText → Span
-init_place (inits.Number negative lit at) = at
-init_place (inits.Flag value at) = at
 
 -- a number that isn't a value of the type: at the number
 abbrev pub out_of_type : Option ℤ → Span → List Found

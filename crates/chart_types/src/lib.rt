@@ -2,20 +2,17 @@
 //!
 //! Read `specs/Types.antt`: which faults there are, and where.
 #![tactic(auto)]
-ghost use Rattle.std.specs.Prelude.{◌≡◌};
-ghost use Rattle.resolved_tree.specs.Faults.{first_of};
-ghost use Rattle.resolved_tree.specs.Promise.{IsResolved};
-ghost use Rattle.resolved_tree.specs.Views.{resolved_of};
-ghost use Rattle.chart_types.specs.Types.{type_faults};
 
-use chart_tree::Found;
-use resolved_tree::Resolved;
+mod expressions;
+mod faults;
+mod inits;
+mod laws;
+mod literals;
+mod names;
+mod operators;
+mod pass;
+mod statements;
+mod transitions;
 
-/// The first fault of the types of a resolved chart, by place, and at one place by number. It takes
-/// no memory.
-pub fn first_type_fault(resolved: &Resolved) -> Option<Found>
-    requires { IsResolved (resolved_of resolved.now) }
-    ensures { result ≡ first_of (type_faults (resolved_of resolved.now)) }
-{
-    loop {}
-}
+pub use laws::{expressions_with_a_sort_have_no_fault, literals_in_range_have_sorts};
+pub use pass::first_type_fault;

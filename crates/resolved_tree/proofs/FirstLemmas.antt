@@ -1,7 +1,7 @@
 -- The first of the faults of a list.
-use Rattle.std.proofs.Common.{◌≡◌, List, [], ◌∷◌, ◌++◌, Option, Some, None, refl, inl, inr, subst}
+use Rattle.std.proofs.Common.{◌≡◌, List, [], ◌∷◌, ◌++◌, Option, Some, None, Bool, true, false, refl, inl, inr, subst, cond}
 use Rattle.chart_tree.specs.declared.first.Found.{Found}
-use Rattle.chart_tree.specs.First.{kept, IsFirst, IsOne, Passed}
+use Rattle.chart_tree.specs.First.{kept, is_before, IsFirst, IsOne, Passed}
 use Rattle.chart_tree.proofs.FirstLemmas.{kept_one, kept_old, kept_new, first_of_passed}
 use Rattle.resolved_tree.specs.Faults.{first_with, first_of, IsIn}
 
@@ -34,3 +34,27 @@ pub first_of_first : (faults : List Found) → IsFirst (λ f. IsIn faults f) (fi
 unfolding first_of
 first_of_first faults = first_of_passed (λ f. IsIn faults f) (first_with None faults)
     (first_with_one (λ f. IsIn faults f) None faults tt (λ f h. h)) (λ f h. first_with_new None faults f h)
+
+-- ---- no fault
+
+-- a fault that was found is kept, or the other one is
+kept_some : (o : Option Found) (g : Found) → kept o g ≡ None → o ≡ None
+unfolding kept
+kept_some None g e = refl
+kept_some (Some f) g e = absurd (either (is_before g f) e)
+  where
+    either : (b : Bool) → cond b (Some g) (Some f) ≡ None → ⊥
+    either true e = cc
+    either false e = cc
+
+-- a fault that was found isn't lost
+stays : (o : Option Found) (faults : List Found) → first_with o faults ≡ None → o ≡ None
+unfolding first_with
+stays o [] e = e
+stays o (g ∷ faults) e = kept_some o g (stays (kept o g) faults e)
+
+-- where no fault is the first one there is none
+pub none_found : (faults : List Found) → first_of faults ≡ None → faults ≡ []
+unfolding first_of first_with kept
+none_found [] e = refl
+none_found (f ∷ faults) e = absurd (let lost = stays (Some f) faults e in cc)

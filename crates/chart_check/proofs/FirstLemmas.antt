@@ -1,0 +1,111 @@
+-- The first fault of a resolved chart is one alone.
+use Rattle.std.proofs.Common.{◌≡◌, ℕ, nat_eq, false, cond, List, [], Some, None, refl, sym}
+use Rattle.std.proofs.Common.{ap, ap₂, ◌∙◌, arith}
+use Rattle.std.proofs.lemmas.Bool.Decides.{nat_tests}
+use Rattle.chart_tree.specs.declared.fault.FormKind.{FormKind}
+use Rattle.chart_tree.specs.declared.fault.FormKind.TheVariants as kinds
+use Rattle.chart_tree.specs.declared.first.Found.{Found}
+use Rattle.chart_tree.specs.First.{IsFirst, comes_before, is_before}
+use Rattle.chart_tree.specs.Form.{form_number}
+use Rattle.chart_structure.specs.Net.{Net}
+use Rattle.state_tree.specs.declared.parts.ListKind.{ListKind}
+use Rattle.chart_structure.specs.declared.net.Arrow.{Arrow}
+use Rattle.chart_structure.specs.Structure.{StateFault, EmptyState, EmptyChart, Missing, Unwanted, UnwantedHistory}
+use Rattle.chart_structure.specs.Structure.{ListFault, Open, LeavesDefault, LeavesInner, CrossesInner, CrossesOuter}
+use Rattle.chart_structure.specs.Structure.{StructureFault, OfState, OfList, OfEmpty, PairFault, TooMany}
+use Rattle.resolved_tree.specs.Faults.{first_of, first_with}
+use Rattle.resolved_tree.specs.Resolved.{Resolved}
+use Rattle.chart_types.specs.Types.{type_faults}
+use Rattle.chart_nets.specs.Nets.{net_of}
+use Rattle.chart_check.specs.Check.{IsSound, IsFirstOf, OfTypes, OfStructure, OfPairs}
+
+-- ---- the order of faults
+
+-- two triples, neither of which comes before the other one, are equal
+record AreEqual (a b c x y z : ℕ) : Type 0 where
+  first : a ≡ x
+  second : b ≡ y
+  third : c ≡ z
+
+neither_before : (a b c x y z : ℕ) → comes_before a b c x y z ≡ false → comes_before x y z a b c ≡ false
+    → AreEqual a b c x y z
+unfolding comes_before
+neither_before a b c x y z ab ba = record {
+  first = grind (arith, nat_tests);
+  second = grind (arith, nat_tests);
+  third = grind (arith, nat_tests);
+}
+
+-- the kind of a fault of structure, by its number
+abbrev kind_at : ℕ → FormKind
+kind_at n =
+    cond (nat_eq n 17) kinds.EmptyComposition (cond (nat_eq n 18) kinds.DefaultMissing
+    (cond (nat_eq n 19) kinds.DefaultUnwanted (cond (nat_eq n 20) kinds.DefaultOpen
+    (cond (nat_eq n 21) kinds.DefaultLeaves (cond (nat_eq n 22) kinds.InnerLeaves
+    (cond (nat_eq n 23) kinds.CrossesRegions kinds.HistoryUnwanted))))))
+
+-- the number of the fault gives its kind
+abbrev HasKind : Found → Type 0
+HasKind f = kind_at (form_number f.kind) ≡ f.kind
+
+state_kind : (n : Net) (s : ℕ) (f : Found) → StateFault n s f → HasKind f
+state_kind n s _ (EmptyState word childless) = refl
+state_kind n s _ (EmptyChart root childless) = refl
+state_kind n s _ (Missing word some empty) = refl
+state_kind n s _ (Unwanted a word is) = refl
+state_kind n s _ (UnwantedHistory at word is) = refl
+
+list_kind : (n : Net) (s : ℕ) (list : List Arrow) (kind : ListKind) (f : Found) → ListFault n s list kind f → HasKind f
+list_kind n s list _ _ (Open a last on) = refl
+list_kind n s list _ _ (LeavesDefault a d l off) = refl
+list_kind n s list _ _ (LeavesInner a d l off) = refl
+list_kind n s list _ _ (CrossesInner a d l on ne) = refl
+list_kind n s list _ _ (CrossesOuter a d l ne) = refl
+
+structure_kind : (n : Net) (f : Found) → StructureFault n f → HasKind f
+structure_kind n f (OfState s _ lt h) = state_kind n s f h
+structure_kind n f (OfList s kind list _ lt m h) = list_kind n s list kind f h
+structure_kind n _ (OfEmpty s j lt r empty) = refl
+
+abbrev found_of : FormKind → ℕ → ℕ → Found
+found_of kind line column = record { kind = kind; at = record { line = line; column = column } }
+
+-- two faults, neither of which is before the other one, are equal
+same_fault : (f g : Found) → HasKind f → HasKind g → is_before f g ≡ false → is_before g f ≡ false → f ≡ g
+same_fault f g kf kg fg gf =
+    let e = neither_before f.at.line f.at.column (form_number f.kind) g.at.line g.at.column (form_number g.kind) fg gf in
+    let kind : f.kind ≡ g.kind = sym kf ∙ ap kind_at e.third ∙ kg in
+    ap₂ (λ k l. found_of k l f.at.column) kind e.first ∙ ap (found_of g.kind g.at.line) e.second
+
+-- the first fault of structure is one alone
+one_of_structure : (n : Net) (f g : Found) → IsFirst (StructureFault n) (Some f) → IsFirst (StructureFault n) (Some g)
+    → f ≡ g
+one_of_structure n f g a b =
+    same_fault f g (structure_kind n f a.0) (structure_kind n g b.0) (b.1 f a.0) (a.1 g b.0)
+
+-- so is a fault of the number of pairs
+one_of_pairs : (n : Net) (f g : Found) → PairFault n f → PairFault n g → f ≡ g
+one_of_pairs n _ _ (TooMany count are over) (TooMany count' are' over') = refl
+
+-- ---- the first fault
+
+no_first : (r : Resolved) (f : Found) → type_faults r ≡ [] → first_of (type_faults r) ≡ Some f → ⊥
+unfolding first_of first_with
+no_first r f none e =
+    absurd (let same : first_of (type_faults r) ≡ None = ap first_of none in cc)
+
+pub one_first : (r : Resolved) (f g : Found) → IsFirstOf r f → IsFirstOf r g → f ≡ g
+one_first r f g (OfTypes a) (OfTypes b) = cc
+one_first r f g (OfTypes a) (OfStructure none b) = absurd (no_first r f none a)
+one_first r f g (OfTypes a) (OfPairs none sound b) = absurd (no_first r f none a)
+one_first r f g (OfStructure none a) (OfTypes b) = absurd (no_first r g none b)
+one_first r f g (OfStructure none a) (OfStructure none' b) = one_of_structure (net_of r) f g a b
+one_first r f g (OfStructure none a) (OfPairs none' sound b) = absurd (sound f a.0)
+one_first r f g (OfPairs none sound a) (OfTypes b) = absurd (no_first r g none b)
+one_first r f g (OfPairs none sound a) (OfStructure none' b) = absurd (sound g b.0)
+one_first r f g (OfPairs none sound a) (OfPairs none' sound' b) = one_of_pairs (net_of r) f g a b
+
+pub none_where_sound : (r : Resolved) (f : Found) → IsSound r → IsFirstOf r f → ⊥
+none_where_sound r f s (OfTypes a) = no_first r f s.types a
+none_where_sound r f s (OfStructure none a) = s.structure f a.0
+none_where_sound r f s (OfPairs none sound a) = s.pairs f a

@@ -1,0 +1,11 @@
+//! What the first fault of a resolved chart is.
+ghost use Rattle.std.specs.Prelude.{◌≡◌};
+ghost use Rattle.chart_tree.specs.declared.first.Found.{Found};
+ghost use Rattle.resolved_tree.specs.Resolved.{Resolved};
+ghost use Rattle.chart_check.specs.Check.{IsSound, IsFirstOf};
+
+/// A resolved chart has at most one first fault, and none where it is sound.
+pub fn a_chart_has_one_first_fault()
+    ensures one { (r : Resolved) (f g : Found) → IsFirstOf r f → IsFirstOf r g → f ≡ g }
+    ensures none { (r : Resolved) (f : Found) → IsSound r → IsFirstOf r f → ⊥ }
+{}

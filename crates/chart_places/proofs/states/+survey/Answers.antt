@@ -1,0 +1,22 @@
+use Rattle.std.proofs.Common.{◌≡◌, ◌++◌, ap, ◌∙◌, List, map, ℕ, subst}
+use Rattle.std.specs.Prelude.{vec_len, OnOk}
+use Rattle.flow_base.specs.Lists.{items_of}
+use Rattle.chart_tree.specs.declared.state.StateText.{StateText, out-StateText}
+use Rattle.chart_tree.specs.Views.{state_of}
+use Rattle.chart_places.specs.Placed.{Placed}
+use Rattle.chart_places.specs.Survey.{placed_of, placed_row}
+use Rattle.chart_places.proofs.SurveyLemmas.{placed-after}
+use Rattle.chart_places.proofs.states.+survey.Goals as goal
+
+pub place_state-returns-in-Ok : goal.place_state-returns-in-Ok
+place_state-returns-in-Ok t c =
+    let m = vec_len c.push.new.self in
+    let pushed = map placed_of c.push.new.self.items in
+    let same =
+    ap (λ (ss : List StateText). pushed ++ placed_row c.len-number.result m (map state_of ss)) c.items.ensures
+    ∙ ap (λ (n : ℕ). pushed ++ placed_row n m (map state_of (items_of (out-StateText c.args.state.now).states)))
+    c.len-number.ensures
+    ∙ placed-after c.args.places.now.items c.push.new.self.items c.args.parent (vec_len c.args.places.now) m
+    c.args.state c.in-Ok.ensures.items c.in-Ok.ensures.len in
+    subst (λ (ps : List Placed). OnOk c.place_below.result (map placed_of c.place_below.new.places.items ≡ ps)) same
+    c.place_below.ensures

@@ -1,0 +1,79 @@
+//! The tables of the names of states, junctions, events and data.
+ghost use Rattle.std.specs.Prelude.{◌≡◌, ◌++◌, ◌∷◌, [], map, IfOk, OnOk};
+ghost use Rattle.chart_tree.specs.Views.{var_of};
+ghost use Rattle.chart_places.specs.Survey.{placed_of, owned_of};
+ghost use Rattle.chart_places.specs.Tables as spec;
+
+use crate::junctions::OwnedJunction;
+use crate::states::PlacedState;
+use crate::table::{Entry, NameTable};
+use chart_tree::{EventText, NameText, VarText};
+use flow_base::Memory;
+use std::alloc::Global;
+
+/// Appends a name.
+fn push<'a>(
+    names: &mut Vec<Entry<'a>>,
+    owner: Option<u32>,
+    name: &'a NameText,
+) -> Result<(), Memory>
+    ensures { OnOk result (map spec.declared_of names.new.items ≡ map spec.declared_of names.old.items
+        ++ record { owner = owner; name = name.now } ∷ []) }
+{
+    match names.push(Entry { owner, name }) {
+        Ok(()) => Ok(()),
+        Err(_) => Err(Memory),
+    }
+}
+
+/// The names of states, each in its parent.
+#[tactic(auto, using(crate::proofs::SurveyLemmas::named))]
+pub fn of_states<'a>(alloc: Global, states: &[PlacedState<'a>]) -> Result<NameTable<'a>, Memory>
+    ensures { IfOk result (λ t. t ≡ map spec.state_name (map placed_of states.now)) }
+{
+    let mut names = Vec::new(alloc);
+    for place in states {
+        push(&mut names, place.parent, &place.state.name)?;
+    }
+    let table = NameTable::make(alloc, names)?;
+    Ok(table)
+}
+
+/// The names of junctions, each in its state.
+pub fn of_junctions<'a>(
+    alloc: Global,
+    junctions: &[OwnedJunction<'a>],
+) -> Result<NameTable<'a>, Memory>
+    ensures { IfOk result (λ t. t ≡ map spec.junction_name (map owned_of junctions.now)) }
+{
+    let mut names = Vec::new(alloc);
+    for owned in junctions {
+        push(&mut names, Some(owned.owner), &owned.junction.name)?;
+    }
+    let table = NameTable::make(alloc, names)?;
+    Ok(table)
+}
+
+/// The names of events.
+pub fn of_events(alloc: Global, events: &[EventText]) -> Result<NameTable<'_>, Memory>
+    ensures { IfOk result (λ t. t ≡ map spec.event_name events.now) }
+{
+    let mut names = Vec::new(alloc);
+    for event in events {
+        push(&mut names, None, &event.name)?;
+    }
+    let table = NameTable::make(alloc, names)?;
+    Ok(table)
+}
+
+/// The names of data.
+pub fn of_vars(alloc: Global, vars: &[VarText]) -> Result<NameTable<'_>, Memory>
+    ensures { IfOk result (λ t. t ≡ map spec.var_name (map var_of vars.now)) }
+{
+    let mut names = Vec::new(alloc);
+    for var in vars {
+        push(&mut names, None, &var.name)?;
+    }
+    let table = NameTable::make(alloc, names)?;
+    Ok(table)
+}

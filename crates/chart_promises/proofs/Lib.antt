@@ -1,0 +1,10 @@
+pub mod ListLemmas
+pub mod SizeLemmas
+pub mod LiteralLemmas
+pub mod ScopeLemmas
+pub mod UseLemmas
+pub mod PlacedLemmas
+pub mod DistinctLemmas
+pub mod NameLemmas
+pub mod ThereLemmas
+pub mod PromiseLemmas

@@ -1,0 +1,29 @@
+-- States that are resolved one by one, and the owners of junctions.
+use Rattle.std.proofs.Common.{◌≡◌, ◌<◌, ◌+◌, ℕ, List, [], ◌∷◌, ◌++◌, map, drop, length, get_or, suc, sym, ap, ◌∙◌}
+use Rattle.std.proofs.Common.{add-one, append_assoc}
+use Rattle.std.proofs.Math.Seq.{drop-cons}
+use Rattle.chart_places.specs.declared.states.PlacedState.{PlacedState}
+use Rattle.chart_places.specs.Scopes.{Scopes}
+use Rattle.chart_places.specs.Survey.{placed_of}
+use Rattle.resolved_tree.specs.Resolved.{State}
+use Rattle.chart_scope.specs.Resolution.{resolved_state, resolved_states}
+
+-- the item at a place, and those after it
+item_first : {X : Type 0} (xs : List X) (i : ℕ) (x : X) → i < length xs → x ≡ get_or xs i x
+    → drop i xs ≡ x ∷ drop (suc i) xs
+item_first xs i x lt is = drop-cons xs i x lt ∙ ap (λ y. y ∷ drop (suc i) xs) (sym is)
+
+-- one more state is resolved
+pub one_more_state : (p : Scopes) (old new all : List State) (r : State) (i : ℕ)
+    (xs : List PlacedState) (x : PlacedState)
+    → i < length xs → x ≡ get_or xs i x → new ≡ old ++ r ∷ [] → r ≡ resolved_state p i (placed_of x)
+    → old ++ resolved_states p i (map placed_of (drop i xs)) ≡ all
+    → new ++ resolved_states p (i + 1) (map placed_of (drop (i + 1) xs)) ≡ all
+one_more_state p old new all r i xs x lt is more resolved so_far =
+    let rest : List State = resolved_states p (suc i) (map placed_of (drop (suc i) xs)) in
+    rw add-one (
+    ap (λ (rs : List State). rs ++ rest) more ∙ append_assoc old (r ∷ []) rest
+    ∙ ap (λ (s : State). old ++ s ∷ rest) resolved
+    ∙ ap (λ (ys : List PlacedState). old ++ resolved_states p i (map placed_of ys)) (sym (item_first xs i x lt is))
+    ∙ so_far
+    )

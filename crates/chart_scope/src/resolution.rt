@@ -1,0 +1,104 @@
+//! The resolved chart of a chart text.
+ghost use Rattle.std.specs.Prelude.{◌≡◌, ◌<◌, ◌^◌, length, map, IfOk, IfErr};
+ghost use Rattle.flow_base.specs.Lists.{items_of};
+ghost use Rattle.actions.specs.Names.{names_of};
+ghost use Rattle.chart_tree.specs.Views.{chart_of};
+ghost use Rattle.chart_places.specs.Placed.{Placed, placed_states, placed_junctions, placed_tree};
+ghost use Rattle.chart_places.specs.Scopes.{scopes_of};
+ghost use Rattle.chart_places.specs.Survey.{placed_of, owned_of};
+ghost use Rattle.resolved_tree.specs.Faults.{first_with, first_of};
+ghost use Rattle.resolved_tree.specs.Views.{resolved_of};
+ghost use Rattle.chart_scope.specs.Names.{name_faults, Refuses};
+ghost use Rattle.chart_scope.specs.Resolution.{AreVarsOf, IsResolved, event_decl};
+
+use crate::doubled::{with_events, with_junctions, with_states, with_vars};
+use crate::{declarations, states};
+use actions::Names;
+use active_config::Shape;
+use chart_places::{OwnedJunction, PlacedState, Scopes, junctions_of, shape_of, survey};
+use chart_tree::{ChartText, FormFault, Found};
+use resolved_tree::Resolved;
+use std::alloc::{AllocError, Global};
+
+/// The names of the states, the data and the events of a chart text.
+fn names(alloc: Global, chart: &ChartText, states: &[PlacedState<'_>]) -> Result<Names, AllocError>
+    ensures states { IfOk result (λ r. (names_of r).states
+        ≡ map (λ (x : Placed). x.parts.name.text) (map placed_of states.now)) }
+    ensures vars { IfOk result (λ r. AreVarsOf (chart_of chart.now).vars (names_of r).vars) }
+    ensures events { IfOk result (λ r. (names_of r).events
+        ≡ map event_decl (chart_of chart.now).events) }
+{
+    Ok(Names {
+        states: declarations::state_names(alloc, states)?,
+        vars: declarations::vars(alloc, chart.vars.items())?,
+        events: declarations::events(alloc, chart.events.items())?,
+    })
+}
+
+/// The resolved chart of a chart text, given its states and junctions and the scopes of its names.
+fn resolve_in(
+    alloc: Global,
+    scopes: &Scopes<'_>,
+    shape: Shape,
+    chart: &ChartText,
+    states: &[PlacedState<'_>],
+    junctions: &[OwnedJunction<'_>],
+) -> Result<Resolved, FormFault>
+    requires scopes { scopes.now ≡ scopes_of (chart_of chart.now) }
+    requires tree { shape ≡ placed_tree (placed_states (chart_of chart.now).root) }
+    requires states { map placed_of states.now ≡ placed_states (chart_of chart.now).root }
+    requires junctions { map owned_of junctions.now
+        ≡ placed_junctions (placed_states (chart_of chart.now).root) }
+    requires few_states { length states.now < 2 ^ 32 }
+    requires few_junctions { length junctions.now < 2 ^ 32 }
+    requires few_events { length (chart_of chart.now).events < 2 ^ 32 }
+    requires few_vars { length (chart_of chart.now).vars < 2 ^ 32 }
+    ensures resolved { IfOk result (λ r. IsResolved (chart_of chart.now) (resolved_of r)) }
+    ensures refused { IfErr result (Refuses (chart_of chart.now)) }
+{
+    let mut found: Option<Found> = None;
+    with_events(scopes, chart.events.items(), &mut found);
+    with_vars(scopes, chart.vars.items(), &mut found);
+    with_states(scopes, &shape, states, &mut found);
+    with_junctions(scopes, junctions, &mut found);
+    let built_states = states::states(alloc, scopes, states, &mut found)?;
+    let built_junctions = states::junctions(alloc, scopes, junctions, &mut found)?;
+    match found {
+        Some(fault) => Err(FormFault::At(fault.kind, fault.at)),
+        None => Ok(Resolved {
+            shape,
+            names: names(alloc, chart, states)?,
+            inits: declarations::inits(alloc, chart.vars.items())?,
+            states: built_states,
+            junctions: built_junctions,
+        }),
+    }
+}
+
+/// The resolved chart of a chart text, or the first fault of its names, by place, and at one place
+/// by number.
+pub fn resolve(alloc: Global, chart: &ChartText) -> Result<Resolved, FormFault>
+    requires states { length (placed_states (chart_of chart.now).root) < 2 ^ 32 }
+    requires junctions { length (scopes_of (chart_of chart.now)).junctions < 2 ^ 32 }
+    requires events { length (chart_of chart.now).events < 2 ^ 32 }
+    requires vars { length (chart_of chart.now).vars < 2 ^ 32 }
+    ensures resolved { IfOk result (λ r. IsResolved (chart_of chart.now) (resolved_of r)) }
+    ensures refused { IfErr result (Refuses (chart_of chart.now)) }
+{
+    let Ok(states) = survey(alloc, &chart.root) else {
+        return Err(FormFault::Memory);
+    };
+    let Ok(junctions) = junctions_of(alloc, &states) else {
+        return Err(FormFault::Memory);
+    };
+    let Ok(shape) = shape_of(alloc, &states) else {
+        return Err(FormFault::Memory);
+    };
+    let Ok(tree) = shape_of(alloc, &states) else {
+        return Err(FormFault::Memory);
+    };
+    let Ok(scopes) = Scopes::make(alloc, tree, &states, &junctions, chart) else {
+        return Err(FormFault::Memory);
+    };
+    resolve_in(alloc, &scopes, shape, chart, &states, &junctions)
+}

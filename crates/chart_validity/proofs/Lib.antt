@@ -1,0 +1,11 @@
+pub mod ListLemmas
+pub mod LiteralLemmas
+pub mod SortLemmas
+pub mod DeclLemmas
+pub mod TypeLemmas
+pub mod NetLemmas
+pub mod BareLemmas
+pub mod ErasedLemmas
+pub mod ChartLemmas
+pub mod FaultlessLemmas
+pub mod ConverseLemmas

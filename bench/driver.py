@@ -9,6 +9,7 @@ import os, shutil, subprocess, sys, tempfile, time
 
 MILLION = 1_000_000
 COUNTED = 2_000
+WORDS = ('drive', 'copy')
 MIDDLE = 'abcdefghijklmnopqrstuvwxyz' * 2 + 'abcdef'
 
 
@@ -99,11 +100,11 @@ def driven(program, folder):
     print(row % ('file of', 'bytes', 'drive', 'copy', 'instr. line', 'instr. copy', 'peak'))
     for kind in DRIVEN:
         size = write(folder, 'events', lines(kind, MILLION))
-        times = ['%.2f s' % seconds([program, word, 'events'], folder) for word in ('drive', 'copy')]
-        counts = [instructions_per_line([program, word], folder, lambda count: lines(kind, count)) for word in ('drive', 'copy')]
+        times = ['%.2f s' % seconds([program, word, 'events'], folder) for word in WORDS]
+        counts = [instructions_per_line([program, word], folder, lambda count: lines(kind, count)) for word in WORDS]
         print(row % ('a million ' + kind, size, *times, *counts, '%d KiB' % peak([program, 'drive'], folder, 'events')))
     size = write(folder, 'events', lines('long lines', MILLION) + padded('#', 64) * 48_576)
-    times = ['%.2f s' % seconds([program, word, 'events'], folder) for word in ('drive', 'copy')]
+    times = ['%.2f s' % seconds([program, word, 'events'], folder) for word in WORDS]
     print(row % ('these and comments', size, *times, '', '', '%d KiB' % peak([program, 'drive'], folder, 'events')))
     size = write(folder, 'events', lines('ticks', 10))
     print(row % ('ten ticks', size, '', '', '', '', '%d KiB' % peak([program, 'drive'], folder, 'events')))
@@ -113,7 +114,8 @@ def named(program, folder):
     print()
     print('%-26s %12s' % ('events and data of a chart', 'instr. line'))
     for most in (8, 64, 1024):
-        print('%-26d %12s' % (most, instructions_per_line([program, 'lines', str(most)], folder, lambda count: wide_lines(most, count))))
+        words = [program, 'lines', str(most)]
+        print('%-26d %12s' % (most, instructions_per_line(words, folder, lambda count: wide_lines(most, count))))
 
 
 def main(program):

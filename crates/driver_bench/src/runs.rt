@@ -24,7 +24,14 @@ pub fn drive_file(rt: &HostRuntime, name: &str) -> Result<(), Refusal> {
     let mut out = RealSink::new(rt.stdout());
     let mut lines = LineReader::make(rt.alloc())?;
     let mut vals = InputVals::make(rt.alloc(), counter.view().names)?;
-    drive(&mut counter, &mut inputs, name, &mut lines, &mut vals, &mut out)?;
+    drive(
+        &mut counter,
+        &mut inputs,
+        name,
+        &mut lines,
+        &mut vals,
+        &mut out,
+    )?;
     Ok(())
 }
 

@@ -105,7 +105,7 @@ fn write_event(
     answer: &mut String,
 ) -> Result<(), AllocError>
     requires vars { length (names_of names.now).vars < 2 ^ 32 }
-    requires vals { length vals.now ≡ length (names_of names.now).vars }
+    requires vals { length vals.now.values ≡ length (names_of names.now).vars }
 {
     let word = event_word(names, event);
     let head = format!(in alloc; "line {line} {word}")?;

@@ -1,12 +1,12 @@
 -- A run over a file, as its lines are taken one after the other, and how it ends.
-use Rattle.std.proofs.Common.{◌≡◌, ◌≢◌, ℕ, ◌+◌, ◌<◌, ◌≤◌, Bool, true, false, nat_le, List, [], ◌∷◌, ◌++◌, length, take, Option, Some, None, Result, Ok, Err, refl, sym, ap, ◌∙◌, subst, arith, append_assoc, append-nil, length-append, inl, inr}
+use Rattle.std.proofs.Common.{◌≡◌, ℕ, ◌+◌, ◌≤◌, Bool, true, false, nat_le, List, [], ◌∷◌, ◌++◌, length, take, Option, Some, None, Result, Ok, Err, refl, sym, ap, ◌∙◌, subst, arith, append_assoc, append-nil, length-append, inl, inr}
 use Rattle.actions.specs.Runs.{EventWithInputs, StartRelation, ReactionRelation, ReactsWithInputs}
 use Rattle.step_driver.specs.Parts.{Done, Tried, LineTaken, Follows}
 use Rattle.step_text.specs.declared.limits.TheConstants.{EVENT_LIMIT}
 use Rattle.std.specs.Prelude.{is_some}
-use Rattle.std.specs.Io.KnownBytes.{append_known, prepend_known, IsAtEnd}
+use Rattle.std.specs.Io.KnownBytes.{append_known}
 use Rattle.std.proofs.lemmas.Bool.Decides.{nat_tests}
-use Rattle.std.proofs.lemmas.List.{length-take-le, take-append-le}
+use Rattle.std.proofs.lemmas.List.{length-take-le}
 use Rattle.std.proofs.Math.Seq.{take-append-add}
 use Rattle.flow_base.specs.Bytes.{AppendsProperFront}
 use Rattle.flow_base.specs.declared.fault.Fault.{Fault}
@@ -17,10 +17,9 @@ use Rattle.actions.specs.World.{World}
 use Rattle.actions.specs.declared.event.Event.TheVariants.{Start}
 use Rattle.step_text.specs.declared.fault.LineFault.{LineFault}
 use Rattle.step_text.specs.declared.fault.LineFault.TheVariants as line_faults
-use Rattle.step_text.specs.declared.line_reader.LineEnd.TheVariants as line_ends
 use Rattle.step_text.specs.EventFile.{EventFile, Stop, AtEnd, AtLine, AtEvent, AtLimit, event_file}
 use Rattle.step_text.specs.EventLines.{event_of_line}
-use Rattle.step_text.specs.NextLine.{Nexts, TakesLine}
+use Rattle.step_text.specs.NextLine.{Nexts}
 use Rattle.step_text.specs.Reading.{Reading, unused}
 use Rattle.step_text.specs.Trace.{trace_line}
 use Rattle.step_driver.specs.declared.driver.DriveEnd.{DriveEnd}
@@ -28,7 +27,7 @@ use Rattle.step_driver.specs.declared.driver.DriveEnd.TheVariants as ends
 use Rattle.step_driver.specs.Traces.{Ran, RunFault}
 use Rattle.step_driver.specs.Driving as spec
 use Rattle.step_driver.specs.Driving.{Seen, IsText, Drives, answer_of}
-use Rattle.step_driver.proofs.FileLemmas.{Reads, LineSays, Whole, reads_nothing, reads_fills, reads_line, whole_file, whole_end, whole_too_long, whole_past_file, whole_lines, line_skipped, line_with_event, whole_event, whole_too_many, whole_refused}
+use Rattle.step_driver.proofs.FileLemmas.{Reads, LineSays, Whole, reads_nothing, reads_fills, reads_line, whole_end, whole_too_long, whole_past_file, whole_lines, line_skipped, line_with_event, whole_event, whole_too_many, whole_refused}
 use Rattle.step_driver.proofs.RunLemmas.{SoFar, started, start_faulted, one_more, ran_so_far, event_faulted}
 
 -- the lines taken so far gave these events, and their trace was written

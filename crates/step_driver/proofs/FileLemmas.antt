@@ -1,10 +1,10 @@
 -- The events of a file, as its lines are taken one after the other.
-use Rattle.std.proofs.Common.{◌≡◌, ℕ, suc, ◌+◌, ◌-◌, ◌<◌, ◌≤◌, Bool, true, false, cond, nat_eq, nat_lt, nat_le, ◌&&◌, ◌||◌, List, [], ◌∷◌, ◌++◌, length, take, drop, Option, Some, None, Result, Ok, Err, refl, sym, ap, ◌∙◌, subst, arith, append_assoc, append-nil, length-append}
+use Rattle.std.proofs.Common.{◌≡◌, ℕ, ◌+◌, ◌<◌, ◌≤◌, Bool, true, false, nat_lt, nat_le, ◌||◌, List, [], ◌∷◌, ◌++◌, length, take, drop, Option, Some, None, Result, Ok, Err, refl, sym, ap, ◌∙◌, subst, arith, append_assoc, append-nil, length-append}
 use Rattle.actions.specs.Runs.{EventWithInputs}
 use Rattle.step_text.specs.declared.limits.TheConstants.{LINE_LIMIT, FILE_LIMIT, EVENT_LIMIT}
 use Rattle.std.specs.Io.KnownBytes.{prepend_known, IsAtEnd}
 use Rattle.std.proofs.lemmas.Bool.Decides.{nat_tests}
-use Rattle.std.proofs.lemmas.List.{length-take-le, take_all}
+use Rattle.std.proofs.lemmas.List.{length-take-le}
 use Rattle.flow_base.proofs.Pieces.{prepend_known-append}
 use Rattle.actions.specs.Names.{Names}
 use Rattle.step_text.specs.declared.fault.LineFault.{LineFault}
@@ -16,7 +16,7 @@ use Rattle.step_text.specs.Lines.{lines_of, line_length, without_return, IsPlain
 use Rattle.step_text.specs.NextLine.{TakesLine, IsTooLong, IsPastFile, Fills}
 use Rattle.step_text.specs.Reading.{Reading, unused, is_enough, is_ready}
 use Rattle.step_text.proofs.NextLemmas.{kept_at_end}
-use Rattle.step_text.proofs.LineLemmas.{line_length-le, take_line-plain, lines_of-closed, lines_of-open, lines_of-first, line_length-append, plain_all}
+use Rattle.step_text.proofs.LineLemmas.{line_length-le, lines_of-closed, lines_of-open, lines_of-first, line_length-append, plain_all}
 use Rattle.step_driver.specs.Driving.{IsText, is_closed, HasWhole}
 
 -- the events of a text that begins at that place of the file

@@ -1,5 +1,5 @@
 -- A run, as its events are taken one after the other.
-use Rattle.std.proofs.Common.{◌≡◌, ℕ, ◌+◌, List, [], ◌∷◌, ◌++◌, length, Option, Some, None, refl, sym, ap, ◌∙◌, subst, arith, append_assoc, append-nil, length-append}
+use Rattle.std.proofs.Common.{◌≡◌, ℕ, ◌+◌, List, [], ◌∷◌, ◌++◌, length, Some, None, refl, sym, ap, ◌∙◌, subst, append_assoc, append-nil, length-append}
 use Rattle.actions.specs.Runs.{EventWithInputs, StartRelation, ReactionRelation, Moment, ReactsWithInputs, GoesOn, Runs}
 use Rattle.flow_base.specs.declared.fault.Fault.{Fault}
 use Rattle.active_config.specs.Tree.{Tree}
@@ -7,7 +7,7 @@ use Rattle.actions.specs.Names.{Names}
 use Rattle.actions.specs.World.{World}
 use Rattle.actions.specs.declared.event.Event.TheVariants.{Start}
 use Rattle.step_text.specs.Trace.{trace_line}
-use Rattle.step_driver.specs.Traces.{Ran, RunFault, trace, trace_from, run_fault, moment_line}
+use Rattle.step_driver.specs.Traces.{Ran, trace, trace_from, run_fault}
 
 -- the run over these events left this world with no fault, and had this text: what comes of further events goes on from there
 pub record SoFar (start : StartRelation) (react : ReactionRelation) (t : Tree) (n : Names) (events : List EventWithInputs) (w : World) (text : List ℕ) : Type 0 where

@@ -2,6 +2,7 @@
 ghost use Rattle.std.specs.Prelude.{◌≡◌, ◌≢◌, ◌<◌, ◌≤◌, ◌^◌, length, true, false, IsTrue, Err};
 ghost use Rattle.flow_base.specs.Causes.{OthersKept, NoneFalls};
 ghost use Rattle.actions.specs.Engines.{Fresh, Running};
+ghost use Rattle.step_text.specs.LineValues.{IsMadeFor};
 ghost use Rattle.step_text.specs.Reading.{unused};
 ghost use Rattle.step_driver.specs.Causes as causes;
 ghost use Rattle.step_driver.specs.Driving as spec;
@@ -59,7 +60,7 @@ pub fn drive<G: Engine, I: Inputs, O: Sink>(
     requires few { length (G.declared (G.program engine.old)).events < 2 ^ 32 }
     requires few_data { length (G.declared (G.program engine.old)).vars < 2 ^ 32 }
     requires unused { lines.old ≡ unused }
-    requires vals { length vals.old ≡ length (G.declared (G.program engine.old)).vars }
+    requires vals { IsMadeFor (G.declared (G.program engine.old)) vals.old }
     ensures drives { spec.Drives (G.Starts (G.program engine.old)) (G.Reacts (G.program engine.old))
         (G.tree (G.program engine.old)) (G.declared (G.program engine.old))
         (record {

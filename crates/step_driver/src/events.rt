@@ -3,6 +3,7 @@ ghost use Rattle.std.specs.Prelude.{◌≡◌, ◌≢◌, ◌<◌, ◌≤◌, �
 ghost use Rattle.actions.specs.Engines.{Fresh, Running, CanReactTo, IsFaultOf, fault_of};
 ghost use Rattle.actions.specs.declared.event.Event.TheVariants.{Start as AtStart};
 ghost use Rattle.step_text.specs.EventLines.{event_of_line};
+ghost use Rattle.step_text.specs.LineValues.{IsMadeFor};
 ghost use Rattle.step_text.specs.Trace.{IsEventOf, trace_line};
 ghost use Rattle.actions.specs.Runs.{AreInputValues, AreSet, ReactsWithInputs};
 ghost use Rattle.step_driver.specs.Causes as causes;
@@ -42,7 +43,7 @@ pub(crate) fn run_line<G: Engine, O: Sink>(
     requires running { G.stage engine.old ≡ Running }
     requires few { length (G.declared (G.program engine.old)).events < 2 ^ 32 }
     requires few_data { length (G.declared (G.program engine.old)).vars < 2 ^ 32 }
-    requires vals { length vals.old ≡ length (G.declared (G.program engine.old)).vars }
+    requires vals { IsMadeFor (G.declared (G.program engine.old)) vals.old }
     requires index { index ≤ EVENT_LIMIT }
     ensures taken { spec.LineTaken (G.Reacts (G.program engine.old))
         (G.tree (G.program engine.old)) (G.declared (G.program engine.old)) number index
@@ -50,7 +51,7 @@ pub(crate) fn run_line<G: Engine, O: Sink>(
         (G.world engine.old) (G.world engine.new) (O.wrote out.old) (O.wrote out.new) result }
     ensures program { G.program engine.new ≡ G.program engine.old }
     ensures stage { OnOk result (G.stage engine.new ≡ Running) }
-    ensures vals { length vals.new ≡ length vals.old }
+    ensures vals { IsMadeFor (G.declared (G.program engine.old)) vals.new }
     ensures writes { causes.HasWriteCause (O.faults out.old) (O.faults out.new) result }
     ensures reads { causes.is_read result ≡ false }
     ensures memory { IsTrue G.never_wants_memory → result ≢ Err DriveEnd.Memory }
@@ -78,11 +79,11 @@ fn run_event<G: Engine, O: Sink>(
 ) -> Result<(), DriveEnd>
     requires running { G.stage engine.old ≡ Running }
     requires few { length (G.declared (G.program engine.old)).vars < 2 ^ 32 }
-    requires few_values { length vals.now < 2 ^ 32 }
+    requires few_values { length vals.now.values < 2 ^ 32 }
     requires event { CanReactTo (G.declared (G.program engine.old)) event }
-    requires vals { AreInputValues (G.declared (G.program engine.old)) 0 vals.now }
+    requires vals { AreInputValues (G.declared (G.program engine.old)) 0 vals.now.values }
     ensures done { spec.Done
-        (ReactsWithInputs (G.Reacts (G.program engine.old)) (G.world engine.old) (record { event = event; inputs = vals.now }))
+        (ReactsWithInputs (G.Reacts (G.program engine.old)) (G.world engine.old) (record { event = event; inputs = vals.now.values }))
         (λ w f. trace_line (G.tree (G.program engine.old)) (G.declared (G.program engine.old)) w index event f)
         index (G.world engine.new) (O.wrote out.old) (O.wrote out.new) result }
     ensures program { G.program engine.new ≡ G.program engine.old }
@@ -99,9 +100,9 @@ fn run_event<G: Engine, O: Sink>(
 /// Gives each input the value that the line names for it.
 fn set_inputs<G: Engine>(engine: &mut G, vals: &InputVals)
     requires running { G.stage engine.old ≡ Running }
-    requires few { length vals.now < 2 ^ 32 }
-    requires vals { AreInputValues (G.declared (G.program engine.old)) 0 vals.now }
-    ensures set { AreSet 0 vals.now (G.world engine.old) (G.world engine.new) }
+    requires few { length vals.now.values < 2 ^ 32 }
+    requires vals { AreInputValues (G.declared (G.program engine.old)) 0 vals.now.values }
+    ensures set { AreSet 0 vals.now.values (G.world engine.old) (G.world engine.new) }
     ensures program { G.program engine.new ≡ G.program engine.old }
     ensures stage { G.stage engine.new ≡ G.stage engine.old }
 {

@@ -4,6 +4,7 @@ pub mod Taking
 pub mod NextLemmas
 pub mod TokenLemmas
 pub mod ValueLemmas
+pub mod TableLemmas
 pub mod PieceLemmas
 pub mod JoinLemmas
 pub mod PutLemmas

@@ -2,6 +2,8 @@ pub mod Lines
 pub mod Limits
 pub mod Faults
 pub mod InputValues
+pub mod NameTables
+pub mod LineValues
 pub mod EventLines
 pub mod EventFile
 pub mod Reading

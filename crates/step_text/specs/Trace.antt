@@ -1,5 +1,5 @@
 -- The lines of a trace.
-use Rattle.std.specs.Prelude.{ℕ, ◌-◌, ◌<◌, Bool, List, [], ◌∷◌, ◌++◌, length, map, drop, reverse, codes, decimal, Option, Some, None, if◌then◌else◌, slice_index_or}
+use Rattle.std.specs.Prelude.{ℕ, ◌-◌, ◌<◌, List, [], ◌∷◌, ◌++◌, length, map, drop, reverse, codes, decimal, Option, Some, None, if◌then◌else◌, slice_index_or}
 use Rattle.std.specs.List.{filter, join_with_byte, range_with_len, slice_get}
 use Rattle.std.specs.Option.{option_map_or}
 use Rattle.flow_base.specs.declared.fault.Fault.{Fault}

@@ -8,13 +8,14 @@ ghost use Rattle.actions.specs.declared.names.EventDecl.{EventDecl as DeclShown}
 ghost use Rattle.step_text.specs.EventLines as spec;
 ghost use Rattle.step_text.specs.InputValues.{no_inputs};
 ghost use Rattle.step_text.specs.LineParts as parts;
+ghost use Rattle.step_text.specs.LineValues.{IsMadeFor};
 ghost use Rattle.actions.specs.Runs.{AreInputValues};
 
 use crate::fault::LineFault;
 use crate::input_vals::InputVals;
 use crate::tokens::next_token;
 use crate::values::give;
-use actions::{Event, EventDecl, EventKind, Names};
+use actions::{Event, EventKind, Names};
 
 /// Reads a line of an event file: its event, with the values that it names in `vals`, whatever was
 /// there before.
@@ -26,12 +27,12 @@ pub fn event_line(
     line: &[u8],
     vals: &mut InputVals,
 ) -> Result<Option<Event>, LineFault>
-    requires made { length vals.old ≡ length (names_of names.now).vars }
+    requires made { IsMadeFor (names_of names.now) vals.old }
     requires few { length (names_of names.now).events < 2 ^ 32 }
     ensures answer { result ≡ spec.answer_of (spec.event_of_line (names_of names.now) line.now) }
-    ensures vals { vals.new
+    ensures vals { vals.new.values
         ≡ spec.inputs_of (names_of names.now) (spec.event_of_line (names_of names.now) line.now) }
-    ensures length { length vals.new ≡ length vals.old }
+    ensures made { IsMadeFor (names_of names.now) vals.new }
     ensures given { spec.SaysWhatCanBeGiven (names_of names.now) (spec.event_of_line (names_of names.now) line.now) }
 {
     vals.clear();
@@ -44,10 +45,11 @@ pub fn event_line(
 
 /// Reads a line. Where it is skipped and at a fault, `vals` has what was read up to there.
 fn read_line(names: &Names, line: &[u8], vals: &mut InputVals) -> Result<Option<Event>, LineFault>
-    requires made { vals.old ≡ no_inputs (names_of names.now) }
+    requires none { vals.old.values ≡ no_inputs (names_of names.now) }
+    requires made { IsMadeFor (names_of names.now) vals.old }
     requires few { length (names_of names.now).events < 2 ^ 32 }
-    ensures says { parts.Says (names_of names.now) (spec.event_of_line (names_of names.now) line.now) vals.new result }
-    ensures length { length vals.new ≡ length vals.old }
+    ensures says { parts.Says (names_of names.now) (spec.event_of_line (names_of names.now) line.now) vals.new.values result }
+    ensures made { IsMadeFor (names_of names.now) vals.new }
 {
     let Some(first) = next_token(line) else {
         return Ok(None);
@@ -55,7 +57,7 @@ fn read_line(names: &Names, line: &[u8], vals: &mut InputVals) -> Result<Option<
     if first.token[0] == b'#' {
         return Ok(None);
     }
-    let event = match event_of(names, first.token) {
+    let event = match event_of(names, vals, first.token) {
         Ok(event) => event,
         Err(fault) => return Err(fault),
     };
@@ -67,11 +69,11 @@ fn read_line(names: &Names, line: &[u8], vals: &mut InputVals) -> Result<Option<
 
 /// Keeps what the tokens of a text give to inputs.
 fn give_all(names: &Names, text: &[u8], vals: &mut InputVals) -> Result<(), LineFault>
-    requires made { length vals.old ≡ length (names_of names.now).vars }
-    requires values { AreInputValues (names_of names.now) 0 vals.old }
-    ensures gave { parts.GaveAll (names_of names.now) vals.old (spec.tokens_of text.now) vals.new result }
-    ensures length { length vals.new ≡ length vals.old }
-    ensures values { AreInputValues (names_of names.now) 0 vals.new }
+    requires made { IsMadeFor (names_of names.now) vals.old }
+    requires values { AreInputValues (names_of names.now) 0 vals.old.values }
+    ensures gave { parts.GaveAll (names_of names.now) vals.old.values (spec.tokens_of text.now) vals.new.values result }
+    ensures made { IsMadeFor (names_of names.now) vals.new }
+    ensures values { AreInputValues (names_of names.now) 0 vals.new.values }
 {
     let mut rest = text;
     'tokens: while let Some(cut) = next_token(rest) {
@@ -84,7 +86,8 @@ fn give_all(names: &Names, text: &[u8], vals: &mut InputVals) -> Result<(), Line
 }
 
 /// The event that a token spells.
-fn event_of(names: &Names, token: &[u8]) -> Result<Event, LineFault>
+fn event_of(names: &Names, vals: &InputVals, token: &[u8]) -> Result<Event, LineFault>
+    requires made { IsMadeFor (names_of names.now) vals.now }
     requires few { length (names_of names.now).events < 2 ^ 32 }
     ensures event { result ≡ spec.event_of (names_of names.now) token.now }
     ensures fits { IfOk result (CanReactTo (names_of names.now)) }
@@ -92,10 +95,10 @@ fn event_of(names: &Names, token: &[u8]) -> Result<Event, LineFault>
     if token == b"tick".as_slice() {
         return Ok(Event::Tick);
     }
-    let events = names.events.items();
-    let Some(place) = place_of_event(events, token) else {
+    let Some(place) = place_of_event(names, vals, token) else {
         return Err(LineFault::UnknownEvent);
     };
+    let events = names.events.items();
     match events[place].kind {
         EventKind::Input => Ok(Event::Named(place as u32)),
         EventKind::Local | EventKind::Output => Err(LineFault::NotInputEvent),
@@ -103,11 +106,10 @@ fn event_of(names: &Names, token: &[u8]) -> Result<Event, LineFault>
 }
 
 /// The place of the first event of that name.
-fn place_of_event(events: &[EventDecl], name: &[u8]) -> Option<usize>
-    ensures place { result ≡ position (λ (e : DeclShown). bytes_eq e.name name.now) events.now }
-    ensures within { IfSome result (λ n. n < length events.now) }
+fn place_of_event(names: &Names, vals: &InputVals, name: &[u8]) -> Option<usize>
+    requires made { IsMadeFor (names_of names.now) vals.now }
+    ensures place { result ≡ position (λ (e : DeclShown). bytes_eq e.name name.now) (names_of names.now).events }
+    ensures within { IfSome result (λ n. n < length (names_of names.now).events) }
 {
-    events
-        .iter()
-        .position(|event| event.name.text().as_bytes() == name)
+    vals.event_number(name)
 }

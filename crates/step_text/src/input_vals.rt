@@ -1,74 +1,115 @@
 //! The values that one line names.
+use crate::name_table::{NameTable, number_data, number_events};
 use actions::{Names, Value};
 use flow_base::Memory;
 use std::alloc::Global;
 use std::marker::Model;
 
-/// The values that one line of an event file names, one for each datum that it names.
+/// The values that one line of an event file names, one for each datum that it names. Beside them it
+/// keeps the numbers of the names of the chart that it was made for.
 #[derive(Debug, Drop)]
 pub struct InputVals {
     values: Vec<Option<Value>>,
+    /// Whether a datum may have a value.
+    used: bool,
+    events: NameTable,
+    vars: NameTable,
 }
 
 impl Model for InputVals {
-    ghost use Rattle.std.specs.Prelude.{List, Option};
-    ghost use Rattle.actions.specs.declared.expr.Value.{Value as Shown};
+    ghost use Rattle.std.specs.Prelude.{◌≡◌, false, length, replicate, None};
+    ghost use Rattle.step_text.specs.LineValues.{LineValues};
 
-    ghost Value = { List (Option Shown) };
+    ghost Value = { LineValues };
 
-    ghost view = { λ v. v.values.items };
+    ghost view = { λ v. record { values = v.values.items; events = v.events; vars = v.vars } };
+
+    ghost invariant = { λ v. v.used ≡ false
+        → v.values.items ≡ replicate (length v.values.items) None };
 }
 
 impl InputVals {
     ghost use Rattle.std.specs.Prelude.{◌≡◌, ◌<◌, length, replicate, None, Some, IfOk, slice_index_or, slice_set, is_some};
     ghost use Rattle.actions.specs.Names.{names_of};
     ghost use Rattle.step_text.specs.InputValues.{no_inputs};
+    ghost use Rattle.step_text.specs.LineValues.{IsMadeFor};
+    ghost use Rattle.step_text.specs.NameTables.{number_in};
 
     /// No values, with room for one of each datum.
     pub fn make(alloc: Global, names: &Names) -> Result<InputVals, Memory>
-        ensures { IfOk result (λ vals. vals ≡ no_inputs (names_of names.now)) }
+        ensures none { IfOk result (λ vals. vals.values ≡ no_inputs (names_of names.now)) }
+        ensures made { IfOk result (IsMadeFor (names_of names.now)) }
     {
+        let Ok(events) = number_events(alloc, names.events.items()) else {
+            return Err(Memory);
+        };
+        let Ok(vars) = number_data(alloc, names.vars.items()) else {
+            return Err(Memory);
+        };
         match vec![in alloc; None; names.vars.items().len()] {
-            Ok(values) => Ok(InputVals { values }),
+            Ok(values) => Ok(InputVals {
+                values,
+                used: false,
+                events,
+                vars,
+            }),
             Err(_) => Err(Memory),
         }
     }
 
     /// The value that the line gives the datum. None where it gives it none. It takes no memory.
     pub fn get(&self, v: u32) -> Option<Value>
-        requires { v < length self.now }
-        ensures { result ≡ slice_index_or self.now v None }
+        requires { v < length self.now.values }
+        ensures { result ≡ slice_index_or self.now.values v None }
     {
         self.values[v as usize]
     }
 
     /// How many data there are.
     pub fn len(&self) -> usize
-        ensures { result ≡ length self.now }
+        ensures { result ≡ length self.now.values }
     {
         self.values.len()
     }
 
+    /// The number of the event that has that name.
+    pub(crate) fn event_number(&self, name: &[u8]) -> Option<usize>
+        ensures { result ≡ number_in self.now.events name.now }
+    {
+        self.events.number(name)
+    }
+
+    /// The number of the datum that has that name.
+    pub(crate) fn datum_number(&self, name: &[u8]) -> Option<usize>
+        ensures { result ≡ number_in self.now.vars name.now }
+    {
+        self.vars.number(name)
+    }
+
     /// Whether the datum has a value.
     pub(crate) fn is_named(&self, v: usize) -> bool
-        requires { v < length self.now }
-        ensures { result ≡ is_some (slice_index_or self.now v None) }
+        requires { v < length self.now.values }
+        ensures { result ≡ is_some (slice_index_or self.now.values v None) }
     {
         self.values[v].is_some()
     }
 
     /// Drops all values.
     pub(crate) fn clear(&mut self)
-        ensures { self.new ≡ replicate (length self.old) None }
+        ensures { self.new ≡ record self.old { values = replicate (length self.old.values) None } }
     {
-        self.values.fill(None);
+        if self.used {
+            self.values.fill(None);
+            self.used = false;
+        }
     }
 
     /// Keeps a value.
     pub(crate) fn keep(&mut self, v: usize, value: Value)
-        requires { v < length self.old }
-        ensures { self.new ≡ slice_set self.old v (Some value) }
+        requires { v < length self.old.values }
+        ensures { self.new ≡ record self.old { values = slice_set self.old.values v (Some value) } }
     {
         self.values[v] = Some(value);
+        self.used = true;
     }
 }

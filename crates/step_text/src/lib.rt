@@ -10,6 +10,7 @@ mod fault;
 mod input_vals;
 mod limits;
 mod line_reader;
+mod name_table;
 mod pieces;
 mod tokens;
 mod trace;

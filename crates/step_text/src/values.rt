@@ -8,28 +8,29 @@ ghost use Rattle.actions.specs.Names.{names_of};
 ghost use Rattle.actions.specs.declared.names.Var.{Var as VarShown};
 ghost use Rattle.step_text.specs.InputValues as spec;
 ghost use Rattle.step_text.specs.LineParts.{Gave};
+ghost use Rattle.step_text.specs.LineValues.{IsMadeFor};
 ghost use Rattle.actions.specs.Runs.{AreInputValues};
 
 use crate::fault::LineFault;
 use crate::input_vals::InputVals;
-use actions::{Names, Sort, Value, Var, VarKind};
+use actions::{Names, Sort, Value, VarKind};
 use fixed_point::{Num, Scale, exact, read_decimal};
 
 /// Keeps the value that a token `NAME=VALUE` gives an input.
 pub(crate) fn give(names: &Names, token: &[u8], vals: &mut InputVals) -> Result<(), LineFault>
-    requires made { length vals.old ≡ length (names_of names.now).vars }
-    ensures gave { Gave (names_of names.now) vals.old token.now vals.new result }
-    ensures length { length vals.new ≡ length vals.old }
-    ensures values { AreInputValues (names_of names.now) 0 vals.old
-        → AreInputValues (names_of names.now) 0 vals.new }
+    requires made { IsMadeFor (names_of names.now) vals.old }
+    ensures gave { Gave (names_of names.now) vals.old.values token.now vals.new.values result }
+    ensures made { IsMadeFor (names_of names.now) vals.new }
+    ensures values { AreInputValues (names_of names.now) 0 vals.old.values
+        → AreInputValues (names_of names.now) 0 vals.new.values }
 {
     let Some(sign) = first_sign(token) else {
         return Err(LineFault::UnknownInput);
     };
-    let vars = names.vars.items();
-    let Some(place) = place_of_var(vars, &token[..sign]) else {
+    let Some(place) = place_of_var(names, vals, &token[..sign]) else {
         return Err(LineFault::UnknownInput);
     };
+    let vars = names.vars.items();
     let var = &vars[place];
     if !is_input(var.kind) {
         return Err(LineFault::UnknownInput);
@@ -65,12 +66,12 @@ fn first_sign(token: &[u8]) -> Option<usize>
 }
 
 /// The place of the first datum of that name.
-fn place_of_var(vars: &[Var], name: &[u8]) -> Option<usize>
-    ensures place { result ≡ position (λ (v : VarShown). bytes_eq v.name name.now) vars.now }
-    ensures within { IfSome result (λ n. n < length vars.now) }
+fn place_of_var(names: &Names, vals: &InputVals, name: &[u8]) -> Option<usize>
+    requires made { IsMadeFor (names_of names.now) vals.now }
+    ensures place { result ≡ position (λ (v : VarShown). bytes_eq v.name name.now) (names_of names.now).vars }
+    ensures within { IfSome result (λ n. n < length (names_of names.now).vars) }
 {
-    vars.iter()
-        .position(|var| var.name.text().as_bytes() == name)
+    vals.datum_number(name)
 }
 
 /// The value of a sort that a text spells.

@@ -1,5 +1,6 @@
-use Rattle.std.proofs.Common.{◌≡◌, ◌≤◌, ◌-◌, length, false}
+use Rattle.std.proofs.Common.{◌≡◌, ◌≤◌, ◌-◌, false}
 use Rattle.actions.specs.Names.{names_of}
+use Rattle.step_text.specs.LineValues.{IsMadeFor}
 use Rattle.step_text.specs.declared.limits.TheConstants.{EVENT_LIMIT, FILE_LIMIT}
 use Rattle.event_files.proofs.events.write_events.Given as goal
 
@@ -7,7 +8,7 @@ use Rattle.event_files.proofs.events.write_events.Given as goal
 abbrev pub invariant-lines : goal.invariant-lines
 invariant-lines l = record {
   usable : l.lines.failed ≡ false;
-  vals : length l.vals ≡ length (names_of l.names).vars;
+  vals : IsMadeFor (names_of l.names) l.vals;
   limit : l.count ≤ EVENT_LIMIT;
 }
 

@@ -1,5 +1,4 @@
-use Rattle.std.proofs.Common.{◌≡◌, ◌+◌, length, refl, sym, ap, ◌∙◌, arith}
-use Rattle.std.proofs.lemmas.List.{length-replicate}
+use Rattle.std.proofs.Common.{refl, ◌∙◌}
 use Rattle.std.proofs.lemmas.Result.{err_from_is_err_and}
 use Rattle.step_driver.proofs.Driven.{driven_start, start_ends, all_driven, lines_end, line_driven, line_fails}
 use Rattle.step_driver.proofs.driver.drive.Goals as goal
@@ -50,7 +49,7 @@ lines-preserved g c =
       driven = line_driven _ _ _ _ _ _ _ _ _ _ _ _ _ _ _ _ inv.driven next taken;
       program = c.in_ok-index.ensures.program ∙ inv.program;
       running = c.in_ok-index.ensures.stage;
-      vals = c.in_ok-index.ensures.vals ∙ inv.vals;
+      vals = let v = c.in_ok-index.ensures.vals in rw inv.program at v;
       others = λ other ne. c.in_ok-next_line.ensures.others other ne ∙ inv.others other ne;
       counts = λ other. stay other ∙ inv.counts other;
       writes = c.in_ok-index.ensures.writes.others refl ∙ inv.writes;

@@ -1,4 +1,5 @@
-use Rattle.std.proofs.Common.{◌≡◌, ◌-◌, length}
+use Rattle.std.proofs.Common.{◌≡◌, ◌-◌}
+use Rattle.step_text.specs.LineValues.{IsMadeFor}
 use Rattle.step_text.specs.declared.limits.TheConstants.{FILE_LIMIT}
 use Rattle.flow_base.specs.Causes.{OthersKept, AllStay}
 use Rattle.actions.specs.Engines.{Running}
@@ -15,7 +16,7 @@ invariant-lines g l =
           (g.I.Inputs.left l.fn.inputs l.name) (g.I.Inputs.left l.inputs l.name) l.lines (e.world l.engine) l.index;
       program : e.program l.engine ≡ p;
       running : e.stage l.engine ≡ Running;
-      vals : length l.vals ≡ length (e.declared p).vars;
+      vals : IsMadeFor (e.declared p) l.vals;
       others : OthersKept l.name (g.I.Inputs.left l.fn.inputs) (g.I.Inputs.left l.inputs);
       counts : AllStay (g.I.Inputs.faults l.fn.inputs) (g.I.Inputs.faults l.inputs);
       writes : g.O.Sink.faults l.out ≡ g.O.Sink.faults l.fn.out;

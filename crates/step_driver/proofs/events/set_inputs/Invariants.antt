@@ -11,6 +11,6 @@ invariant-loop-v g l =
     record {
       running : e.stage l.engine ≡ Running;
       program : e.program l.engine ≡ e.program l.fn.engine;
-      values : AreInputValues (e.declared (e.program l.fn.engine)) l.v (drop l.v l.vals);
-      set : (w : World) → AreSet l.v (drop l.v l.vals) (e.world l.engine) w → AreSet 0 l.vals (e.world l.fn.engine) w;
+      values : AreInputValues (e.declared (e.program l.fn.engine)) l.v (drop l.v l.vals.values);
+      set : (w : World) → AreSet l.v (drop l.v l.vals.values) (e.world l.engine) w → AreSet 0 l.vals.values (e.world l.fn.engine) w;
     }

@@ -2,15 +2,16 @@ use Rattle.std.proofs.Common.{◌≡◌, length}
 use Rattle.actions.specs.Names.{names_of}
 use Rattle.step_text.specs.EventLines.{tokens_of}
 use Rattle.step_text.specs.InputValues.{all_given}
+use Rattle.step_text.specs.LineValues.{IsMadeFor}
 use Rattle.actions.specs.Runs.{AreInputValues}
 use Rattle.step_text.proofs.event_lines.give_all.Given as goal
 
 -- the tokens that are left give what all give
 abbrev pub invariant-tokens : goal.invariant-tokens
 invariant-tokens l = record {
-  given : all_given (names_of l.names) l.vals (tokens_of l.rest) ≡ all_given (names_of l.names) l.fn.vals (tokens_of l.text);
-  values : AreInputValues (names_of l.names) 0 l.vals;
-  made : length l.vals ≡ length l.fn.vals;
+  given : all_given (names_of l.names) l.vals.values (tokens_of l.rest) ≡ all_given (names_of l.names) l.fn.vals.values (tokens_of l.text);
+  values : AreInputValues (names_of l.names) 0 l.vals.values;
+  made : IsMadeFor (names_of l.names) l.vals;
 }
 
 abbrev pub decreases-tokens : goal.decreases-tokens

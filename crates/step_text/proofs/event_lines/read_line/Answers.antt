@@ -21,15 +21,15 @@ returns-in-Err-clause-says c =
     says_no_event (names_of c.args.names.now) c.args.line.now t (tokens_of c.in-Some.first.rest.now) c.in-Err.fault c.in-Some.ensures.tokens hash (sym c.in-Err.ensures.event)
 
 pub give_all-requires-clause-values : goal.give_all-requires-clause-values
-give_all-requires-clause-values c = rw c.requires.made (no_values (names_of c.args.names.now) 0 (length (names_of c.args.names.now).vars))
+give_all-requires-clause-values c = rw c.requires.none (no_values (names_of c.args.names.now) 0 (length (names_of c.args.names.now).vars))
 
 pub returns-in-Ok-give_all-clause-says : goal.returns-in-Ok-give_all-clause-says
 returns-in-Ok-give_all-clause-says c =
     let t = c.in-Some.first.token.now in
     let hash : nat_eq (get_or t 0 0) 35 ≡ false = let h = c.if-first-eq35.false in grind (arith, nat_tests) in
     let a = c.in-Ok-give_all.ensures.gave in
-    let all = rw c.requires.made at a in (
-      says_step (names_of c.args.names.now) c.args.line.now t (tokens_of c.in-Some.first.rest.now) c.in-Ok.event c.give_all.new.vals c.in-Some.ensures.tokens hash (sym c.in-Ok.ensures.event) all,
+    let all = rw c.requires.none at a in (
+      says_step (names_of c.args.names.now) c.args.line.now t (tokens_of c.in-Some.first.rest.now) c.in-Ok.event c.give_all.new.vals.values c.in-Some.ensures.tokens hash (sym c.in-Ok.ensures.event) all,
       record { event = c.in-Ok.ensures.fits; inputs = c.in-Ok-give_all.ensures.values },
     )
 
@@ -38,6 +38,6 @@ returns-in-Err-give_all-clause-says c =
     let t = c.in-Some.first.token.now in
     let hash : nat_eq (get_or t 0 0) 35 ≡ false = let h = c.if-first-eq35.false in grind (arith, nat_tests) in
     let a = c.in-Err-give_all.ensures.gave in
-    let all = rw c.requires.made at a in
+    let all = rw c.requires.none at a in
     says_no_values (names_of c.args.names.now) c.args.line.now t (tokens_of c.in-Some.first.rest.now) c.in-Ok.event c.in-Err-give_all.fault c.in-Some.ensures.tokens hash
     (sym c.in-Ok.ensures.event) all

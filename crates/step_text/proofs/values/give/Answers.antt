@@ -11,8 +11,8 @@ returns-then-not-is_input-clause-gave c =
     let w = c.in-Some-place_of_var.ensures.within in
     let i = c.index-vars-place.is in
     let d : Names-datum (names_of c.args.names.now) c.args.token.now c.in-Some.sign c.in-Some-place_of_var.place c.index-vars-place.result =
-    record { sign = c.in-Some.ensures.place; place = rw e at p; within = rw e at w; is = rw e at i } in
-    gives_no_input (names_of c.args.names.now) c.args.vals.now c.args.token.now c.in-Some.sign c.in-Some-place_of_var.place c.index-vars-place.result d
+    record { sign = c.in-Some.ensures.place; place = p; within = w; is = rw e at i } in
+    gives_no_input (names_of c.args.names.now) c.args.vals.now.values c.args.token.now c.in-Some.sign c.in-Some-place_of_var.place c.index-vars-place.result d
     (sym c.is_input.ensures ∙ c.if-not-is_input.true)
 
 pub returns-then-is_named-clause-gave : goal.returns-then-is_named-clause-gave
@@ -22,8 +22,8 @@ returns-then-is_named-clause-gave c =
     let w = c.in-Some-place_of_var.ensures.within in
     let i = c.index-vars-place.is in
     let d : Names-datum (names_of c.args.names.now) c.args.token.now c.in-Some.sign c.in-Some-place_of_var.place c.index-vars-place.result =
-    record { sign = c.in-Some.ensures.place; place = rw e at p; within = rw e at w; is = rw e at i } in
-    gives_twice (names_of c.args.names.now) c.args.vals.now c.args.token.now c.in-Some.sign c.in-Some-place_of_var.place c.index-vars-place.result d
+    record { sign = c.in-Some.ensures.place; place = p; within = w; is = rw e at i } in
+    gives_twice (names_of c.args.names.now) c.args.vals.now.values c.args.token.now c.in-Some.sign c.in-Some-place_of_var.place c.index-vars-place.result d
     (sym c.is_input.ensures ∙ c.if-not-is_input.false) (sym c.is_named.ensures ∙ c.if-is_named.true)
 
 pub returns-in-Some-value_of_text-clause-gave : goal.returns-in-Some-value_of_text-clause-gave
@@ -33,10 +33,10 @@ returns-in-Some-value_of_text-clause-gave c =
     let w = c.in-Some-place_of_var.ensures.within in
     let i = c.index-vars-place.is in
     let d : Names-datum (names_of c.args.names.now) c.args.token.now c.in-Some.sign c.in-Some-place_of_var.place c.index-vars-place.result =
-    record { sign = c.in-Some.ensures.place; place = rw e at p; within = rw e at w; is = rw e at i } in
+    record { sign = c.in-Some.ensures.place; place = p; within = w; is = rw e at i } in
     let v = c.in-Some-value_of_text.ensures.value in
     let value = rw (rest_is (c.in-Some.sign + 1) c.args.token.now) at v in
-    rw c.keep.ensures (gives_value (names_of c.args.names.now) c.args.vals.now c.args.token.now c.in-Some.sign c.in-Some-place_of_var.place c.index-vars-place.result _ d
+    rw c.keep.ensures (gives_value (names_of c.args.names.now) c.args.vals.now.values c.args.token.now c.in-Some.sign c.in-Some-place_of_var.place c.index-vars-place.result _ d
     (sym c.is_input.ensures ∙ c.if-not-is_input.false) (sym c.is_named.ensures ∙ c.if-is_named.false) value)
 
 pub returns-in-Some-value_of_text-clause-values : goal.returns-in-Some-value_of_text-clause-values
@@ -47,11 +47,11 @@ returns-in-Some-value_of_text-clause-values c = λ all.
     let i = c.index-vars-place.is in
     let place = c.in-Some-place_of_var.place in
     let d : Names-datum (names_of c.args.names.now) c.args.token.now c.in-Some.sign c.in-Some-place_of_var.place c.index-vars-place.result =
-    record { sign = c.in-Some.ensures.place; place = rw e at p; within = rw e at w; is = rw e at i } in
+    record { sign = c.in-Some.ensures.place; place = p; within = w; is = rw e at i } in
     let input = gives_input (names_of c.args.names.now) c.args.token.now c.in-Some.sign place c.index-vars-place.result c.in-Some-value_of_text.value d
     (sym c.is_input.ensures ∙ c.if-not-is_input.false) c.in-Some-value_of_text.ensures.sort in
     let z : 0 + place ≡ place = omega arith in
-    rw c.keep.ensures (one_value (names_of c.args.names.now) 0 place c.args.vals.now c.in-Some-value_of_text.value (omega (arith, d.within, c.requires.made)) all (rw z input))
+    rw c.keep.ensures (one_value (names_of c.args.names.now) 0 place c.args.vals.now.values c.in-Some-value_of_text.value (omega (arith, d.within, c.requires.made.room)) all (rw z input))
 
 pub returns-in-None-clause-gave : goal.returns-in-None-clause-gave
 returns-in-None-clause-gave c =
@@ -60,8 +60,8 @@ returns-in-None-clause-gave c =
     let w = c.in-Some-place_of_var.ensures.within in
     let i = c.index-vars-place.is in
     let d : Names-datum (names_of c.args.names.now) c.args.token.now c.in-Some.sign c.in-Some-place_of_var.place c.index-vars-place.result =
-    record { sign = c.in-Some.ensures.place; place = rw e at p; within = rw e at w; is = rw e at i } in
+    record { sign = c.in-Some.ensures.place; place = p; within = w; is = rw e at i } in
     let v = c.in-None.ensures.value in
     let value = rw (rest_is (c.in-Some.sign + 1) c.args.token.now) at v in
-    gives_value (names_of c.args.names.now) c.args.vals.now c.args.token.now c.in-Some.sign c.in-Some-place_of_var.place c.index-vars-place.result _ d
+    gives_value (names_of c.args.names.now) c.args.vals.now.values c.args.token.now c.in-Some.sign c.in-Some-place_of_var.place c.index-vars-place.result _ d
     (sym c.is_input.ensures ∙ c.if-not-is_input.false) (sym c.is_named.ensures ∙ c.if-is_named.false) value

@@ -1,11 +1,13 @@
-use Rattle.std.proofs.Common.{rules, tests}
-use Rattle.std.proofs.lemmas.Iterator.{YieldsList-from_slice}
-use Rattle.std.proofs.lemmas.Iterator.Search.{position_from_yields_List}
+use Rattle.std.proofs.Common.{◌∙◌}
 use Rattle.std.specs.Str.{bytes_eq}
+use Rattle.actions.specs.Names.{names_of}
 use Rattle.actions.specs.declared.names.Var.{Var}
+use Rattle.step_text.proofs.TableLemmas.{position_within}
 use Rattle.step_text.proofs.values.place_of_var.Goals as goal
 
 pub returns-clause-place : goal.returns-clause-place
-returns-clause-place c =
-    position_from_yields_List (λ (e : Var). bytes_eq e.name c.args.name.now) _ _ c.position.result c.position.ensures.ran
-    (YieldsList-from_slice c.args.vars.now cc) (λ x b q k. search (rules, tests))
+returns-clause-place c = c.datum_number.ensures ∙ c.requires.made.vars c.args.name.now
+
+pub returns-clause-within : goal.returns-clause-within
+returns-clause-within c =
+    position_within (λ (v : Var). bytes_eq v.name c.args.name.now) (names_of c.args.names.now).vars _ (c.datum_number.ensures ∙ c.requires.made.vars c.args.name.now)

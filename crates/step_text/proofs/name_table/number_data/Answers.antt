@@ -1,0 +1,16 @@
+use Rattle.std.proofs.Common.{◌≡◌, rules, sym, ap, ◌∙◌, cond, Some, None}
+use Rattle.std.specs.Str.{bytes_eq}
+use Rattle.actions.specs.declared.names.Var.{Var}
+use Rattle.step_text.specs.NameTables.{or_else, number_after}
+use Rattle.step_text.proofs.TableLemmas.{position_more}
+use Rattle.step_text.proofs.name_table.number_data.Goals as goal
+
+-- one name more
+pub data-preserved : goal.data-preserved
+data-preserved c = λ name.
+    let x = c.index-vars-number.result in
+    let n = c.data.number in
+    let text : c.as_bytes.result.now ≡ x.name = search rules in
+    c.in_ok-keep.ensures name ∙ ap (λ kept. number_after c.data.table kept n name) text
+    ∙ ap (λ o. or_else o (cond (bytes_eq x.name name) (Some n) None)) (c.data.invariant name)
+    ∙ sym (position_more (λ (v : Var). bytes_eq v.name name) c.args.vars.now n x c.data-test.true c.index-vars-number.is)

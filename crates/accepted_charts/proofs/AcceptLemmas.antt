@@ -1,14 +1,36 @@
 -- What a text spells can be resolved, and its resolved chart can be checked.
-use Rattle.std.proofs.Common.{List, ℕ}
+use Rattle.std.proofs.Common.{List, ℕ, Result, Ok, Err, IfErr}
+use Rattle.chart_tree.specs.declared.fault.FormFault.{FormFault}
+use Rattle.chart_tree.specs.declared.fault.FormFault.TheVariants as faults
 use Rattle.chart_tree.specs.Trees.{Chart}
 use Rattle.canonical_claims.specs.Terms.{IsChart}
 use Rattle.chart_reader.specs.Text.{Spells}
 use Rattle.chart_format.proofs.Formatted.{spelled_has}
 use Rattle.resolved_tree.specs.Promise as promise
 use Rattle.resolved_tree.specs.Resolved.{Resolved}
+use Rattle.chart_scope.specs.Names as names
 use Rattle.chart_scope.specs.Resolution.{IsResolved}
+use Rattle.chart_check.specs.Check as check
 use Rattle.chart_promises.proofs.PromiseLemmas.{keeps_promise}
+use Rattle.accepted_charts.specs.Accepted.{Refuses, OfNames, OfChart}
 
 -- the resolved chart of a text keeps the promise of resolved charts
 pub promised : (text : List ℕ) (c : Chart) (r : Resolved) → Spells text c → IsResolved c r → promise.IsResolved r
 promised text c r spells h = keeps_promise c r (spelled_has text c spells) h.resolves h.faultless
+
+-- a fault of the names of a text is its first fault
+pub of_names : (text : List ℕ) (c : Chart) (fault : FormFault) → Spells text c → names.Refuses c fault → Refuses text fault
+of_names text c (faults.At kind at) spells h = OfNames c spells h
+of_names text c faults.Memory spells h = tt
+
+-- the first fault of the resolved chart of a text is the first fault of the text
+pub of_chart : (text : List ℕ) (c : Chart) (r : Resolved) (fault : FormFault) → Spells text c → IsResolved c r
+    → check.Refuses r fault → Refuses text fault
+of_chart text c r (faults.At kind at) spells h f = OfChart r (record { tree = c; spells = spells; resolves = h }) f
+of_chart text c r faults.Memory spells h f = tt
+
+-- so is an answer
+pub refused : {A : Type 0} (text : List ℕ) (c : Chart) (r : Resolved) (result : Result A FormFault) → Spells text c → IsResolved c r
+    → IfErr result (check.Refuses r) → IfErr result (Refuses text)
+refused text c r (Ok x) spells h f = tt
+refused text c r (Err fault) spells h f = of_chart text c r fault spells h f

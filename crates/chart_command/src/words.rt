@@ -8,8 +8,6 @@ ghost use Rattle.chart_command.specs.Seen.{command_seen};
 pub enum Command<'a> {
     /// `fmt CHART`
     Fmt(&'a str),
-    /// `rules CHART EVENTS`
-    Rules(&'a str, &'a str),
     /// `compile CHART`
     Compile(&'a str),
     /// `exec CODE EVENTS`
@@ -59,7 +57,6 @@ fn with_two<'a>(name: &str, first: &'a str, second: &'a str) -> Option<Command<'
         return None;
     }
     match name {
-        "rules" => Some(Command::Rules(first, second)),
         "exec" => Some(Command::Exec(first, second)),
         _ => None,
     }

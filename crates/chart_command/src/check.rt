@@ -1,0 +1,69 @@
+//! The command `check`.
+ghost use Rattle.std.specs.Prelude.{◌≡◌, ◌<◌, IfOk, List, string_bytes, length, sum_by};
+ghost use Rattle.active_config.specs.Tree.{state_count};
+ghost use Rattle.state_tree.specs.Chart.{Trans, node};
+ghost use Rattle.state_tree.specs.Counts.{node_transitions, transition_count};
+ghost use Rattle.state_tree.specs.Kept.{chart_of};
+ghost use Rattle.chart_command.specs.Check.{counts_line};
+
+use flow_base::Memory;
+use state_tree::{Chart, ListKind};
+use std::alloc::Global;
+
+/// The line that `check` writes of a chart with so many pairs.
+fn counts_line(alloc: Global, chart: &Chart, pairs: u32) -> Result<String, Memory>
+    ensures { IfOk result (λ line. string_bytes line ≡ counts_line (chart_of chart.now) pairs) }
+{
+    let states = chart.shape().len();
+    let junctions = chart.junctions();
+    let transitions = transition_count(chart);
+    let line = format!(in alloc; "ok {states} states {junctions} junctions {transitions} transitions {pairs} pairs\n");
+    match line {
+        Ok(line) => Ok(line),
+        Err(_) => Err(Memory),
+    }
+}
+
+/// How many transitions a chart has.
+fn transition_count(chart: &Chart) -> u32
+    ensures { result ≡ transition_count (chart_of chart.now) }
+{
+    count_of_states(chart) + count_of_junctions(chart)
+}
+
+/// How many transitions stand in the lists of all states.
+fn count_of_states(chart: &Chart) -> u32
+    ensures { result ≡ sum_by node_transitions (chart_of chart.now).nodes }
+{
+    let mut count = 0;
+    let mut state = 0;
+    'states: while state < chart.shape().len() {
+        count += count_of_state(chart, state);
+        state += 1;
+    }
+    count
+}
+
+/// How many transitions stand in the lists of a state.
+fn count_of_state(chart: &Chart, state: u32) -> u32
+    requires { state < state_count (chart_of chart.now).tree }
+    ensures { result ≡ node_transitions (node (chart_of chart.now) state) }
+{
+    let outer = chart.list(state, ListKind::Outer).len();
+    let inner = chart.list(state, ListKind::Inner).len();
+    let default = chart.list(state, ListKind::Default).len();
+    (outer + inner + default) as u32
+}
+
+/// How many transitions stand in the lists of all junctions.
+fn count_of_junctions(chart: &Chart) -> u32
+    ensures { result ≡ sum_by (λ (list : List Trans). length list) (chart_of chart.now).junctions }
+{
+    let mut count = 0;
+    let mut junction = 0;
+    'junctions: while junction < chart.junctions() {
+        count += chart.junction(junction).len() as u32;
+        junction += 1;
+    }
+    count
+}

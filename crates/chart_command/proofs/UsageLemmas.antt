@@ -10,7 +10,7 @@ use Rattle.command_files.specs.Call.{Call}
 use Rattle.code_command.specs.declared.exec.ExecEnd.{ExecEnd}
 use Rattle.code_command.specs.declared.exec.ExecEnd.TheVariants as execs
 use Rattle.code_command.specs.declared.run.RunEnd.TheVariants as runs
-use Rattle.chart_command.specs.declared.refusal.Refusal.{Refusal}
+use Rattle.chart_files.specs.declared.refusal.Refusal.{Refusal}
 use Rattle.chart_command.specs.declared.ending.Ending.{Ending}
 use Rattle.chart_command.specs.declared.ending.Ending.TheVariants as endings
 use Rattle.chart_command.specs.Ending.{of_chart_file, of_text, of_exec, status_of}

@@ -9,7 +9,7 @@ use Rattle.code_command.specs.CodeText.{IsCodeText}
 use Rattle.command_files.specs.declared.text.TextEnd.{TextEnd}
 use Rattle.command_files.specs.Call.{Call}
 use Rattle.command_files.specs.Texts.{TextEnds}
-use Rattle.chart_command.specs.declared.refusal.Refusal.{Refusal}
+use Rattle.chart_files.specs.declared.refusal.Refusal.{Refusal}
 use Rattle.chart_command.specs.Refusals.{RefusesFlat}
 
 -- the text of code that is well formed, can be read, and behaves as the chart

@@ -2,6 +2,8 @@
 use Rattle.std.specs.Prelude.{ℕ, List, [], ◌++◌, codes, decimal}
 use Rattle.flow_base.specs.declared.status.Status.{Status}
 use Rattle.flow_base.specs.declared.status.Status.TheVariants as statuses
+use Rattle.token_grammar.specs.declared.token.Span.{Span}
+use Rattle.chart_tree.specs.declared.fault.FormKind.{FormKind}
 use Rattle.chart_tree.specs.Form.{form_number, form_name}
 use Rattle.flat_code_text.specs.Form.{fault_text}
 use Rattle.flat_lines.specs.Events.{line_fault_text}
@@ -17,7 +19,7 @@ use Rattle.trace_command.specs.declared.run.TraceEnd.TheVariants as traces
 use Rattle.code_command.specs.declared.exec.ExecEnd.{ExecEnd}
 use Rattle.code_command.specs.declared.exec.ExecEnd.TheVariants as execs
 use Rattle.code_command.specs.declared.run.RunEnd.TheVariants as runs
-use Rattle.chart_command.specs.declared.refusal.Refusal.{Refusal}
+use Rattle.chart_files.specs.declared.refusal.Refusal.{Refusal}
 use Rattle.chart_command.specs.declared.ending.Ending.{Ending}
 use Rattle.chart_command.specs.declared.ending.Ending.TheVariants as endings
 
@@ -75,11 +77,13 @@ status_of endings.Read = statuses.Read
 status_of endings.Write = statuses.Write
 status_of endings.Memory = statuses.Memory
 
--- place, number and name of a refusal of a chart text
-abbrev pub refusal_text : Refusal → List ℕ
-refusal_text r =
-    codes "chart " ++ decimal r.at.line ++ codes ":" ++ decimal r.at.column
-    ++ codes ": " ++ decimal (form_number r.kind) ++ codes " " ++ form_name r.kind
+-- a place in a chart text
+abbrev pub place_text : Span → List ℕ
+place_text at = codes "chart " ++ decimal at.line ++ codes ":" ++ decimal at.column
+
+-- number and name of a kind of fault of a chart text
+abbrev pub kind_text : FormKind → List ℕ
+kind_text kind = codes ": " ++ decimal (form_number kind) ++ codes " " ++ form_name kind
 
 -- number and name of a fault of an event line
 abbrev pub event_fault_text : LineFault → List ℕ
@@ -88,7 +92,7 @@ event_fault_text fault = decimal (line_fault_number fault) ++ codes " " ++ line_
 -- the line on standard error, none where the answer is whole
 abbrev pub line_of : Ending → List ℕ
 line_of endings.Done = []
-line_of (endings.Chart refusal) = refusal_text refusal ++ codes "\n"
+line_of (endings.Chart refusal) = place_text refusal.at ++ kind_text refusal.kind ++ codes "\n"
 line_of (endings.Code fault) = fault_text fault ++ codes "\n"
 line_of (endings.Line number fault) = codes "event " ++ decimal number ++ codes ": " ++ event_fault_text fault ++ codes "\n"
 line_of (endings.FlatLine number fault) = codes "event " ++ decimal number ++ codes ": " ++ line_fault_text fault ++ codes "\n"

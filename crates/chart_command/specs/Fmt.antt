@@ -5,7 +5,7 @@ use Rattle.chart_tree.specs.declared.limits.TheConstants.{CHART_TEXT_LIMIT}
 use Rattle.command_files.specs.declared.text.TextEnd.{TextEnd}
 use Rattle.command_files.specs.Call.{Call}
 use Rattle.command_files.specs.Texts.{TextEnds}
-use Rattle.chart_command.specs.declared.refusal.Refusal.{Refusal}
+use Rattle.chart_files.specs.declared.refusal.Refusal.{Refusal}
 use Rattle.chart_command.specs.Refusals.{RefusesChart}
 
 -- how `fmt` ends, and when: it writes the canonical text of a chart text

@@ -2,8 +2,6 @@ pub mod Words
 pub mod Seen
 pub mod Refusals
 pub mod Fmt
-pub mod Check
-pub mod Rules
 pub mod Compile
 pub mod Ending
 pub mod Answer

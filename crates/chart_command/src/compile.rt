@@ -8,7 +8,7 @@ ghost use Rattle.chart_command.specs.Compile.{IsCompiled, Compiles, CompileEnds}
 ghost use Rattle.chart_command.specs.Refusals.{RefusesFlat};
 
 use crate::flat_file::read_flat_chart;
-use crate::refusal::Refusal;
+use chart_files::Refusal;
 use command_files::{FileEnd, TextEnd, write_made};
 use flat_code_text::print_code;
 use flat_compile::compile_flat;

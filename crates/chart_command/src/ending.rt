@@ -2,7 +2,7 @@
 ghost use Rattle.std.specs.Prelude.{◌≡◌};
 ghost use Rattle.chart_command.specs.Ending as spec;
 
-use crate::refusal::Refusal;
+use chart_files::Refusal;
 use code_command::{ExecEnd, RunEnd};
 use command_files::{FileEnd, TextEnd};
 use flat_code_text::CodeTextFault;

@@ -6,7 +6,7 @@ ghost use Rattle.command_files.specs.Call.{sources_of};
 ghost use Rattle.command_files.specs.Reading.{FileGives};
 ghost use Rattle.chart_command.specs.Refusals.{RefusesFlat};
 
-use crate::refusal::{Refusal, TOO_LONG, end_of_fault};
+use chart_files::{Refusal, TOO_LONG, end_of_fault};
 use chart_tree::CHART_TEXT_LIMIT;
 use command_files::{FileEnd, read_text};
 use flat_syntax::{FlatChart, read_flat};

@@ -6,7 +6,7 @@ ghost use Rattle.command_files.specs.Reading.{FileGives};
 ghost use Rattle.chart_command.specs.Fmt.{FmtEnds};
 ghost use Rattle.chart_command.specs.Refusals.{RefusesChart};
 
-use crate::refusal::{Refusal, TOO_LONG, end_of_fault};
+use chart_files::{Refusal, TOO_LONG, end_of_fault};
 use chart_format::format_text;
 use chart_tree::CHART_TEXT_LIMIT;
 use command_files::{FileEnd, TextEnd, read_text, write_made};

@@ -2,22 +2,17 @@
 //!
 //! The public call is `chart_main`, and its one main clause is `Answer` of `specs/Answer.antt`. Read
 //! `specs/Words.antt` first, then `specs/Call.antt`, `specs/Reading.antt` and `specs/Texts.antt` of
-//! `command_files`, then a command: `specs/Fmt.antt`, `specs/Check.antt`, `specs/Compile.antt`,
-//! `specs/Rules.antt` after `specs/Trace.antt` of `trace_command`, or `specs/Exec.antt` of
+//! `command_files`, then a command: `specs/Fmt.antt`, `specs/Compile.antt`, or `specs/Exec.antt` of
 //! `code_command`; and last `specs/Ending.antt` and `specs/Answer.antt`.
 #![tactic(auto)]
 
-mod check;
 mod command;
 mod compile;
 mod ending;
 mod flat_file;
 mod fmt;
-mod refusal;
 mod report;
-mod rules;
 mod words;
 
 pub use command::chart_main;
 pub use ending::Ending;
-pub use refusal::Refusal;

@@ -2,13 +2,14 @@
 ghost use Rattle.std.specs.Prelude.{◌≡◌, ◌++◌, OnOk, codes, decimal};
 ghost use Rattle.std.specs.Io.KnownBytes.{append_known};
 ghost use Rattle.flow_base.specs.Causes.{HasCause};
-ghost use Rattle.chart_command.specs.Ending.{refusal_text, event_fault_text, line_of};
+ghost use Rattle.chart_command.specs.Ending.{place_text, kind_text, event_fault_text, line_of};
 
 use crate::ending::Ending;
-use crate::refusal::Refusal;
+use chart_tree::FormKind;
 use flow_base::{Failed, Sink, write_all};
 use itoa::Buffer;
 use step_text::LineFault;
+use token_grammar::Span;
 
 /// Writes a number.
 fn write_number<E: Sink>(err: &mut E, number: u64) -> Result<(), Failed>
@@ -29,19 +30,26 @@ fn write_line<E: Sink>(err: &mut E, text: &str) -> Result<(), Failed>
     write_all(err, b"\n")
 }
 
-/// Writes place, number and name of a refusal of a chart text.
-fn write_refusal<E: Sink>(err: &mut E, refusal: Refusal) -> Result<(), Failed>
-    ensures ok { OnOk result (E.wrote err.new ≡ append_known (E.wrote err.old) (refusal_text refusal)) }
+/// Writes the place of a fault of a chart text.
+fn write_place<E: Sink>(err: &mut E, at: Span) -> Result<(), Failed>
+    ensures ok { OnOk result (E.wrote err.new ≡ append_known (E.wrote err.old) (place_text at)) }
     ensures cause { HasCause (E.faults err.old) (E.faults err.new) result }
 {
     write_all(err, b"chart ")?;
-    write_number(err, u64::from(refusal.at.line))?;
+    write_number(err, u64::from(at.line))?;
     write_all(err, b":")?;
-    write_number(err, u64::from(refusal.at.column))?;
+    write_number(err, u64::from(at.column))
+}
+
+/// Writes number and name of a kind of fault of a chart text.
+fn write_kind<E: Sink>(err: &mut E, kind: FormKind) -> Result<(), Failed>
+    ensures ok { OnOk result (E.wrote err.new ≡ append_known (E.wrote err.old) (kind_text kind)) }
+    ensures cause { HasCause (E.faults err.old) (E.faults err.new) result }
+{
     write_all(err, b": ")?;
-    write_number(err, u64::from(refusal.kind.number()))?;
+    write_number(err, u64::from(kind.number()))?;
     write_all(err, b" ")?;
-    write_all(err, refusal.kind.name().as_bytes())
+    write_all(err, kind.name().as_bytes())
 }
 
 /// Writes what stands before the fault of an event line or of a run: a word, and the number of the
@@ -74,7 +82,8 @@ pub fn report<E: Sink>(err: &mut E, ending: &Ending) -> Result<(), Failed>
     match ending {
         Ending::Done => Ok(()),
         Ending::Chart(refusal) => {
-            write_refusal(err, *refusal)?;
+            write_place(err, refusal.at)?;
+            write_kind(err, refusal.kind)?;
             write_all(err, b"\n")
         }
         Ending::Code(fault) => write_line(err, fault.text().as_str()),

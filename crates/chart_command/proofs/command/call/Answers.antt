@@ -12,9 +12,9 @@ returns-in-Some-Fmt-clause-ends g c =
     let asked = c.in-Some-Fmt in
     subst
     (λ (command : Option words.Command).
-    Ends command (call_of g.I.Inputs g.O.Sink c.args.inputs.now c.format_chart.new.inputs c.args.out.now c.format_chart.new.out) c.from-in-Some-Fmt.result)
+    Ends command (call_of g.I.Inputs g.O.Sink c.args.inputs.now c.format_chart.new.inputs c.args.out.now c.format_chart.new.out) c.from.result)
     (ap (λ (command : Command). Some (command_seen command)) (sym asked.field-0-is) ∙ asked.ensures)
-    (record { end = c.format_chart.result; ends = c.format_chart.ensures.ends; ending_is = c.from-in-Some-Fmt.ensures })
+    (record { end = c.format_chart.result; ends = c.format_chart.ensures.ends; ending_is = c.from.ensures })
 
 -- the words ask for `compile`
 pub returns-in-Some-Compile-clause-ends : goal.returns-in-Some-Compile-clause-ends

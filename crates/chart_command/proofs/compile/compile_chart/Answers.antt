@@ -9,10 +9,10 @@ use Rattle.chart_command.proofs.compile.compile_chart.Goals as goal
 pub returns-clause-ends : goal.returns-clause-ends
 returns-clause-ends g c =
     text_ends CHART_TEXT_LIMIT Compiles RefusesFlat
-    (call_of g.I.Inputs g.O.Sink c.args.inputs.now c.read_compiled.new.inputs c.args.out.now c.write_made.new.out)
-    c.args.first.now c.read_compiled.result c.write_made.result c.read_compiled.ensures c.write_made.ensures
+    (call_of g.I.Inputs g.O.Sink c.args.inputs.now c.read_compiled-code.new.inputs c.args.out.now c.write_made.new.out)
+    c.args.first.now c.read_compiled-code.result c.write_made.result c.read_compiled-code.ensures c.write_made.ensures
 
 pub returns-clause-others : goal.returns-clause-others
 returns-clause-others g c =
-    one_named (sources_of g.I.Inputs c.args.inputs.now) (sources_of g.I.Inputs c.read_compiled.new.inputs) c.args.first.now
-    (others_kept CHART_TEXT_LIMIT _ RefusesFlat _ _ c.args.first.now c.read_compiled.result c.read_compiled.ensures)
+    one_named (sources_of g.I.Inputs c.args.inputs.now) (sources_of g.I.Inputs c.read_compiled-code.new.inputs) c.args.first.now
+    (others_kept CHART_TEXT_LIMIT _ RefusesFlat _ _ c.args.first.now c.read_compiled-code.result c.read_compiled-code.ensures)

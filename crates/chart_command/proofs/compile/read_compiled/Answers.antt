@@ -19,6 +19,6 @@ returns-in-Ok g c =
     }
 
 -- memory runs out
-pub returns-in-Err-Memory : goal.returns-in-Err-Memory
-returns-in-Err-Memory g c =
+pub returns : goal.returns
+returns g c =
     let read = c.in_ok-chart.ensures.file.read in record { others = read.others; quiet = read.quiet }

@@ -5,16 +5,16 @@ use Rattle.std.proofs.lemmas.Result.{err_from_is_err_and}
 use Rattle.chart_tree.specs.declared.limits.TheConstants.{CHART_TEXT_LIMIT}
 use Rattle.chart_reader.specs.Text.{IsRefusal}
 use Rattle.chart_format.specs.Text.{IsFormatted}
-use Rattle.command_files.proofs.ReadingLemmas.{refused_so, gives_of}
-use Rattle.chart_command.specs.Refusals.{RefusesChart}
-use Rattle.chart_command.proofs.ChartTextLemmas.{text_too_long, refused_as}
+use Rattle.command_files.proofs.ReadingLemmas.{gives_of}
+use Rattle.chart_files.proofs.FileLemmas.{unread_as, refused_as}
+use Rattle.chart_command.proofs.ChartTextLemmas.{text_too_long}
 use Rattle.chart_command.proofs.fmt.read_formatted.Goals as goal
 
 -- the text isn't read
 pub returns-in_err-text : goal.returns-in_err-text
 returns-in_err-text g c =
     let p = err_from_is_err_and c.from_residual.result c.from_residual.ensures.1 in
-    rw (p.1, p.2) (refused_so CHART_TEXT_LIMIT _ RefusesChart _ _ c.args.name.now _ text_too_long c.in_err-text.ensures)
+    rw (p.1, p.2) (unread_as IsRefusal _ _ c.args.name.now _ text_too_long c.in_err-text.ensures)
 
 -- the text is a chart text
 pub returns-in-Ok : goal.returns-in-Ok
@@ -24,8 +24,8 @@ returns-in-Ok g c =
     c.in-Ok.ensures.formatted
 
 -- the text is refused
-pub returns-in-Err : goal.returns-in-Err
-returns-in-Err g c =
+pub returns : goal.returns
+returns g c =
     rw c.end_of_fault.ensures
-    (refused_as CHART_TEXT_LIMIT _ _ c.args.name.now c.in_ok-text.text c.in_ok-text.ensures IsRefusal c.in-Err.fault _ c.deref.ensures.value
+    (refused_as IsRefusal _ _ c.args.name.now c.in_ok-text.text c.in_ok-text.ensures c.in-Err.fault _ c.deref.ensures.value
     c.in-Err.ensures.refused)

@@ -5,15 +5,11 @@ use Rattle.state_tree.specs.Chart.{Chart}
 use Rattle.sos_rules.specs.Reactions.{Starts, Reacts}
 use Rattle.trace_command.specs.Trace.{Behaviour}
 
--- the usual bounds of a run
-abbrev pub usual : Bounds
-usual = record { depth = 8; steps = 10000 }
-
--- how a chart behaves by the rules at the usual bounds
-abbrev pub by_rules : Chart → Behaviour
-by_rules c = record {
-  starts = Starts c usual;
-  reacts = Reacts c usual;
+-- how a chart behaves by the rules, where each event has these bounds
+abbrev pub by_rules : Chart → Bounds → Behaviour
+by_rules c bounds = record {
+  starts = Starts c bounds;
+  reacts = Reacts c bounds;
   tree = c.tree;
   names = c.names;
   never_wants_memory = false;

@@ -4,14 +4,14 @@ ghost use Rattle.active_config.specs.Tree.{state_count};
 ghost use Rattle.state_tree.specs.Chart.{Trans, node};
 ghost use Rattle.state_tree.specs.Counts.{node_transitions, transition_count};
 ghost use Rattle.state_tree.specs.Kept.{chart_of};
-ghost use Rattle.chart_command.specs.Check.{counts_line};
+ghost use Rattle.checked_commands.specs.Check.{counts_line};
 
 use flow_base::Memory;
 use state_tree::{Chart, ListKind};
 use std::alloc::Global;
 
 /// The line that `check` writes of a chart with so many pairs.
-fn counts_line(alloc: Global, chart: &Chart, pairs: u32) -> Result<String, Memory>
+pub fn counts_line(alloc: Global, chart: &Chart, pairs: u32) -> Result<String, Memory>
     ensures { IfOk result (λ line. string_bytes line ≡ counts_line (chart_of chart.now) pairs) }
 {
     let states = chart.shape().len();
@@ -28,6 +28,7 @@ fn counts_line(alloc: Global, chart: &Chart, pairs: u32) -> Result<String, Memor
 fn transition_count(chart: &Chart) -> u32
     ensures { result ≡ transition_count (chart_of chart.now) }
 {
+    let _ = chart.shape();
     count_of_states(chart) + count_of_junctions(chart)
 }
 
@@ -35,9 +36,10 @@ fn transition_count(chart: &Chart) -> u32
 fn count_of_states(chart: &Chart) -> u32
     ensures { result ≡ sum_by node_transitions (chart_of chart.now).nodes }
 {
+    let states = chart.shape().len();
     let mut count = 0;
     let mut state = 0;
-    'states: while state < chart.shape().len() {
+    'states: while state < states {
         count += count_of_state(chart, state);
         state += 1;
     }
@@ -49,6 +51,7 @@ fn count_of_state(chart: &Chart, state: u32) -> u32
     requires { state < state_count (chart_of chart.now).tree }
     ensures { result ≡ node_transitions (node (chart_of chart.now) state) }
 {
+    let _ = chart.shape();
     let outer = chart.list(state, ListKind::Outer).len();
     let inner = chart.list(state, ListKind::Inner).len();
     let default = chart.list(state, ListKind::Default).len();
@@ -59,9 +62,11 @@ fn count_of_state(chart: &Chart, state: u32) -> u32
 fn count_of_junctions(chart: &Chart) -> u32
     ensures { result ≡ sum_by (λ (list : List Trans). length list) (chart_of chart.now).junctions }
 {
+    let _ = chart.shape();
+    let junctions = chart.junctions();
     let mut count = 0;
     let mut junction = 0;
-    'junctions: while junction < chart.junctions() {
+    'junctions: while junction < junctions {
         count += chart.junction(junction).len() as u32;
         junction += 1;
     }

@@ -1,6 +1,6 @@
 //! Why a chart text is refused.
 ghost use Rattle.std.specs.Prelude.{◌≡◌};
-ghost use Rattle.chart_command.specs.Refusals.{end_of_fault};
+ghost use Rattle.chart_files.specs.Refusals.{end_of_fault};
 
 use chart_tree::{FormFault, FormKind};
 use command_files::FileEnd;

@@ -1,6 +1,6 @@
 -- Transitions, counted state by state and junction by junction.
-use Rattle.std.proofs.Common.{◌≡◌, ℕ, ◌+◌, ◌<◌, ◌≤◌, List, [], length, take, get_or, sym, ap, subst, ◌∙◌, arith, refl}
-use Rattle.std.specs.Prelude.{sum_by}
+use Rattle.std.proofs.Common.{◌≡◌, ℕ, ◌+◌, ◌<◌, ◌≤◌, List, [], ◌++◌, append_assoc, codes, length, take, get_or, sym, ap, subst, ◌∙◌, arith, refl}
+use Rattle.std.specs.Prelude.{sum_by, decimal}
 use Rattle.std.proofs.Math.Seq.{take-length}
 use Rattle.std.proofs.lemmas.List.{length-map}
 use Rattle.std.proofs.lemmas.List.Sums.{get_or-le-sum_by, sum_by_more, sum_by_more_le}
@@ -81,3 +81,20 @@ pub counts_are : (c : Chart) (states junctions transitions pairs : ℕ) → stat
 counts_are c states junctions transitions pairs s j t =
     ap (λ (n : ℕ). counts_text n junctions transitions pairs) s ∙ ap (λ (n : ℕ). counts_text (state_count c.tree) n transitions pairs) j
     ∙ ap (λ (n : ℕ). counts_text (state_count c.tree) (junction_count c) n pairs) t
+
+-- nine pieces
+nine : (a b c d e f g h i : List ℕ) → a ++ (b ++ (c ++ (d ++ (e ++ (f ++ (g ++ (h ++ i))))))) ≡ a ++ b ++ c ++ d ++ e ++ f ++ g ++ h ++ i
+nine a b c d e f g h i =
+    sym (append_assoc (a ++ b ++ c ++ d ++ e ++ f ++ g) h i ∙ append_assoc (a ++ b ++ c ++ d ++ e ++ f) g (h ++ i)
+    ∙ append_assoc (a ++ b ++ c ++ d ++ e) f (g ++ (h ++ i)) ∙ append_assoc (a ++ b ++ c ++ d) e (f ++ (g ++ (h ++ i)))
+    ∙ append_assoc (a ++ b ++ c) d (e ++ (f ++ (g ++ (h ++ i)))) ∙ append_assoc (a ++ b) c (d ++ (e ++ (f ++ (g ++ (h ++ i)))))
+    ∙ append_assoc a b (c ++ (d ++ (e ++ (f ++ (g ++ (h ++ i)))))))
+
+-- the line of counts, put piece by piece
+pub counts_in_pieces : (states junctions transitions pairs : ℕ)
+    → codes "ok " ++ (decimal states ++ (codes " states " ++ (decimal junctions ++ (codes " junctions " ++ (decimal transitions
+    ++ (codes " transitions " ++ (decimal pairs ++ codes " pairs\n")))))))
+    ≡ counts_text states junctions transitions pairs
+counts_in_pieces states junctions transitions pairs =
+    nine (codes "ok ") (decimal states) (codes " states ") (decimal junctions) (codes " junctions ") (decimal transitions) (codes " transitions ")
+    (decimal pairs) (codes " pairs\n")

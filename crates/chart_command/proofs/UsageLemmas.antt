@@ -7,14 +7,18 @@ use Rattle.command_files.specs.declared.file.FileEnd.TheVariants as files
 use Rattle.command_files.specs.declared.text.TextEnd.{TextEnd}
 use Rattle.command_files.specs.declared.text.TextEnd.TheVariants as texts
 use Rattle.command_files.specs.Call.{Call}
+use Rattle.trace_command.specs.declared.run.TraceEnd.{TraceEnd}
+use Rattle.trace_command.specs.declared.run.TraceEnd.TheVariants as traces
+use Rattle.checked_commands.specs.declared.rules.RulesEnd.{RulesEnd}
+use Rattle.checked_commands.specs.declared.rules.RulesEnd.TheVariants as rules_ends
 use Rattle.code_command.specs.declared.exec.ExecEnd.{ExecEnd}
 use Rattle.code_command.specs.declared.exec.ExecEnd.TheVariants as execs
 use Rattle.code_command.specs.declared.run.RunEnd.TheVariants as runs
 use Rattle.chart_files.specs.declared.refusal.Refusal.{Refusal}
 use Rattle.chart_command.specs.declared.ending.Ending.{Ending}
 use Rattle.chart_command.specs.declared.ending.Ending.TheVariants as endings
-use Rattle.chart_command.specs.Ending.{of_chart_file, of_text, of_exec, status_of}
-use Rattle.chart_command.specs.Words.{Command, Fmt, Compile, Exec}
+use Rattle.chart_command.specs.Ending.{of_chart_file, of_text, of_trace, of_rules, of_exec, status_of}
+use Rattle.chart_command.specs.Words.{Command, Check, Fmt, Rules, Compile, Exec}
 use Rattle.chart_command.specs.Answer.{Ends}
 
 -- a chart file of which nothing comes ends no call so
@@ -28,6 +32,22 @@ text : (end : TextEnd Refusal) → endings.Usage ≡ of_text end → ⊥
 text texts.Done e = absurd cc
 text (texts.Unread end) e = file end e
 text texts.Write e = absurd cc
+
+-- nor does a run that writes its trace
+trace : (end : TraceEnd) → endings.Usage ≡ of_trace end → ⊥
+trace traces.Done e = absurd cc
+trace (traces.Line number fault) e = absurd cc
+trace traces.TooManyLines e = absurd cc
+trace traces.FileTooLong e = absurd cc
+trace (traces.Fault index word) e = absurd cc
+trace traces.Read e = absurd cc
+trace traces.Write e = absurd cc
+trace traces.Memory e = absurd cc
+
+-- nor does `rules`
+rules : (end : RulesEnd) → endings.Usage ≡ of_rules end → ⊥
+rules (rules_ends.NoChart end) e = file end e
+rules (rules_ends.Ran end) e = trace end e
 
 -- nor does `exec`
 exec : (end : ExecEnd) → endings.Usage ≡ of_exec end → ⊥
@@ -58,7 +78,9 @@ usage_ending endings.Memory e = absurd cc
 
 -- a command of the program doesn't end so
 never : (command : Command) (call : Call) → Ends (Some command) call endings.Usage → ⊥
+never (Check first) call h = text h.end h.ending_is
 never (Fmt first) call h = text h.end h.ending_is
+never (Rules first second) call h = rules h.end h.ending_is
 never (Compile first) call h = text h.end h.ending_is
 never (Exec first second) call h = exec h.end h.ending_is
 

@@ -4,11 +4,13 @@ use Rattle.std.specs.Io.KnownBytes.{append_known}
 use Rattle.flow_base.specs.Causes.{Stands}
 use Rattle.flow_base.specs.declared.status.Status.{Status}
 use Rattle.command_files.specs.Call.{Output, Call, OthersStay}
+use Rattle.checked_commands.specs.Check.{CheckEnds}
+use Rattle.checked_commands.specs.Rules.{RulesEnds}
 use Rattle.code_command.specs.Exec.{ExecEnds}
 use Rattle.chart_command.specs.declared.ending.Ending.{Ending}
 use Rattle.chart_command.specs.declared.ending.Ending.TheVariants as endings
-use Rattle.chart_command.specs.Ending.{of_text, of_exec, status_of, line_of}
-use Rattle.chart_command.specs.Words.{Command, Fmt, Compile, Exec, files_of}
+use Rattle.chart_command.specs.Ending.{of_text, of_rules, of_exec, status_of, line_of}
+use Rattle.chart_command.specs.Words.{Command, Check, Fmt, Rules, Compile, Exec, files_of}
 use Rattle.chart_command.specs.Fmt.{FmtEnds}
 use Rattle.chart_command.specs.Compile.{CompileEnds}
 
@@ -27,7 +29,9 @@ pub record EndsAs {E : Type 0} (ending_of : E → Ending) (CommandEnds : E → T
 -- how a call ends, and when
 abbrev pub Ends : Option Command → Call → Ending → Type 0
 Ends None call ending = UsageEnds call ending
+Ends (Some (Check first)) call ending = EndsAs of_text (CheckEnds call first) ending
 Ends (Some (Fmt first)) call ending = EndsAs of_text (FmtEnds call first) ending
+Ends (Some (Rules first second)) call ending = EndsAs of_rules (RulesEnds call first second) ending
 Ends (Some (Compile first)) call ending = EndsAs of_text (CompileEnds call first) ending
 Ends (Some (Exec first second)) call ending = EndsAs of_exec (ExecEnds call first second) ending
 

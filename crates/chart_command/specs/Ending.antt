@@ -16,6 +16,8 @@ use Rattle.command_files.specs.declared.text.TextEnd.{TextEnd}
 use Rattle.command_files.specs.declared.text.TextEnd.TheVariants as texts
 use Rattle.trace_command.specs.declared.run.TraceEnd.{TraceEnd}
 use Rattle.trace_command.specs.declared.run.TraceEnd.TheVariants as traces
+use Rattle.checked_commands.specs.declared.rules.RulesEnd.{RulesEnd}
+use Rattle.checked_commands.specs.declared.rules.RulesEnd.TheVariants as rules
 use Rattle.code_command.specs.declared.exec.ExecEnd.{ExecEnd}
 use Rattle.code_command.specs.declared.exec.ExecEnd.TheVariants as execs
 use Rattle.code_command.specs.declared.run.RunEnd.TheVariants as runs
@@ -47,6 +49,11 @@ of_trace (traces.Fault index word) = endings.Fault index word
 of_trace traces.Read = endings.Read
 of_trace traces.Write = endings.Write
 of_trace traces.Memory = endings.Memory
+
+-- of `rules`
+abbrev pub of_rules : RulesEnd → Ending
+of_rules (rules.NoChart end) = of_chart_file end
+of_rules (rules.Ran end) = of_trace end
 
 -- of `exec`; an event file that is too long is refused as its line 0
 abbrev pub of_exec : ExecEnd → Ending

@@ -5,8 +5,12 @@ use Rattle.std.specs.Str.{bytes_eq}
 
 -- a command with its files
 pub data Command : Type 0 where
+  -- `check CHART`
+  Check : List ℕ → Command
   -- `fmt CHART`
   Fmt : List ℕ → Command
+  -- `rules CHART EVENTS`
+  Rules : List ℕ → List ℕ → Command
   -- `compile CHART`
   Compile : List ℕ → Command
   -- `exec CODE EVENTS`
@@ -33,7 +37,9 @@ with_two command (first ∷ second ∷ third ∷ rest) = None
 -- the command of that name; any other name is none
 abbrev pub command_named : List ℕ → List (List ℕ) → Option Command
 command_named name files =
+    if bytes_eq name (codes "check") then with_one Check files else
     if bytes_eq name (codes "fmt") then with_one Fmt files else
+    if bytes_eq name (codes "rules") then with_two Rules files else
     if bytes_eq name (codes "compile") then with_one Compile files else
     if bytes_eq name (codes "exec") then with_two Exec files else None
 
@@ -48,7 +54,9 @@ command_of words = command_of_texts (map string_bytes words)
 
 -- the files that a command names
 abbrev pub files_named : Command → List (List ℕ)
+files_named (Check first) = first ∷ []
 files_named (Fmt first) = first ∷ []
+files_named (Rules first second) = first ∷ second ∷ []
 files_named (Compile first) = first ∷ []
 files_named (Exec first second) = first ∷ second ∷ []
 

@@ -3,6 +3,7 @@ ghost use Rattle.std.specs.Prelude.{◌≡◌};
 ghost use Rattle.chart_command.specs.Ending as spec;
 
 use chart_files::Refusal;
+use checked_commands::RulesEnd;
 use code_command::{ExecEnd, RunEnd};
 use command_files::{FileEnd, TextEnd};
 use flat_code_text::CodeTextFault;
@@ -108,6 +109,20 @@ impl From<TraceEnd> for Ending {
             TraceEnd::Read => Ending::Read,
             TraceEnd::Write => Ending::Write,
             TraceEnd::Memory => Ending::Memory,
+        }
+    }
+}
+
+impl From<RulesEnd> for Ending {
+    ghost use Rattle.std.specs.Prelude.{◌≡◌};
+    ghost use Rattle.chart_command.specs.Ending.{of_rules};
+
+    ghost from_gives = { λ end ending. ending ≡ of_rules end };
+
+    fn from(end: RulesEnd) -> Ending {
+        match end {
+            RulesEnd::NoChart(end) => Ending::from(end),
+            RulesEnd::Ran(end) => Ending::from(end),
         }
     }
 }

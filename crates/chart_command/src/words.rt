@@ -6,8 +6,12 @@ ghost use Rattle.chart_command.specs.Seen.{command_seen};
 
 /// A command with its files.
 pub enum Command<'a> {
+    /// `check CHART`
+    Check(&'a str),
     /// `fmt CHART`
     Fmt(&'a str),
+    /// `rules CHART EVENTS`
+    Rules(&'a str, &'a str),
     /// `compile CHART`
     Compile(&'a str),
     /// `exec CODE EVENTS`
@@ -43,6 +47,7 @@ fn with_one<'a>(name: &str, first: &'a str) -> Option<Command<'a>>
         return None;
     }
     match name {
+        "check" => Some(Command::Check(first)),
         "fmt" => Some(Command::Fmt(first)),
         "compile" => Some(Command::Compile(first)),
         _ => None,
@@ -57,6 +62,7 @@ fn with_two<'a>(name: &str, first: &'a str, second: &'a str) -> Option<Command<'
         return None;
     }
     match name {
+        "rules" => Some(Command::Rules(first, second)),
         "exec" => Some(Command::Exec(first, second)),
         _ => None,
     }

@@ -3,8 +3,9 @@
 //! Read `specs/Check.antt` and `specs/Rules.antt`.
 #![tactic(auto)]
 
+mod accepted_file;
 mod check;
 mod rules;
 
-pub use check::counts_line;
-pub use rules::run_rules;
+pub use check::check_chart;
+pub use rules::{RulesEnd, run_chart};

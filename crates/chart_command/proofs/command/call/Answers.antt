@@ -6,15 +6,35 @@ use Rattle.chart_command.specs.Words as words
 use Rattle.chart_command.specs.Answer.{Ends}
 use Rattle.chart_command.proofs.command.call.Goals as goal
 
+-- the words ask for `check`
+pub returns-in-Some-Check-clause-ends : goal.returns-in-Some-Check-clause-ends
+returns-in-Some-Check-clause-ends g c =
+    let asked = c.in-Some-Check in
+    subst
+    (λ (command : Option words.Command).
+    Ends command (call_of g.I.Inputs g.O.Sink c.args.inputs.now c.check_chart.new.inputs c.args.out.now c.check_chart.new.out) c.from.result)
+    (ap (λ (command : Command). Some (command_seen command)) (sym asked.field-0-is) ∙ asked.ensures)
+    (record { end = c.check_chart.result; ends = c.check_chart.ensures.ends; ending_is = c.from.ensures })
+
 -- the words ask for `fmt`
 pub returns-in-Some-Fmt-clause-ends : goal.returns-in-Some-Fmt-clause-ends
 returns-in-Some-Fmt-clause-ends g c =
     let asked = c.in-Some-Fmt in
     subst
     (λ (command : Option words.Command).
-    Ends command (call_of g.I.Inputs g.O.Sink c.args.inputs.now c.format_chart.new.inputs c.args.out.now c.format_chart.new.out) c.from.result)
+    Ends command (call_of g.I.Inputs g.O.Sink c.args.inputs.now c.format_chart.new.inputs c.args.out.now c.format_chart.new.out) c.from-in-Some-Fmt.result)
     (ap (λ (command : Command). Some (command_seen command)) (sym asked.field-0-is) ∙ asked.ensures)
-    (record { end = c.format_chart.result; ends = c.format_chart.ensures.ends; ending_is = c.from.ensures })
+    (record { end = c.format_chart.result; ends = c.format_chart.ensures.ends; ending_is = c.from-in-Some-Fmt.ensures })
+
+-- the words ask for `rules`
+pub returns-in-Some-Rules-clause-ends : goal.returns-in-Some-Rules-clause-ends
+returns-in-Some-Rules-clause-ends g c =
+    let asked = c.in-Some-Rules in
+    subst
+    (λ (command : Option words.Command).
+    Ends command (call_of g.I.Inputs g.O.Sink c.args.inputs.now c.run_chart.new.inputs c.args.out.now c.run_chart.new.out) c.from-in-Some-Rules.result)
+    (ap (λ (command : Command). Some (command_seen command)) (sym asked.field-0-is) ∙ asked.ensures)
+    (record { end = c.run_chart.result; ends = c.run_chart.ensures.ends; ending_is = c.from-in-Some-Rules.ensures })
 
 -- the words ask for `compile`
 pub returns-in-Some-Compile-clause-ends : goal.returns-in-Some-Compile-clause-ends

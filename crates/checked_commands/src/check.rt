@@ -65,7 +65,9 @@ fn counts_line(alloc: Global, chart: &Chart, pairs: u32) -> Result<String, Memor
     let states = chart.shape().len();
     let junctions = chart.junctions();
     let transitions = transition_count(chart);
-    let line = format!(in alloc; "ok {states} states {junctions} junctions {transitions} transitions {pairs} pairs\n");
+    let line = format!(in alloc;
+        "ok {states} states {junctions} junctions {transitions} transitions {pairs} pairs\n"
+    );
     match line {
         Ok(line) => Ok(line),
         Err(_) => Err(Memory),

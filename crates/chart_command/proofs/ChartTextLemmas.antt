@@ -1,34 +1,16 @@
 -- Chart texts that are too long.
-use Rattle.std.proofs.Common.{ℕ, List, refl, inl}
+use Rattle.std.proofs.Common.{ℕ, ◌<◌, List, length, refl, inl}
 use Rattle.chart_lexer.specs.Lex.{begin}
+use Rattle.chart_tree.specs.declared.fault.FormFault.TheVariants as faults
 use Rattle.chart_tree.specs.declared.fault.FormKind.TheVariants as forms
 use Rattle.chart_tree.specs.declared.limits.TheConstants.{CHART_TEXT_LIMIT}
-use Rattle.chart_command.specs.declared.ending.Ending.{Ending}
-use Rattle.chart_command.specs.declared.ending.Ending.TheVariants as endings
-use Rattle.chart_command.specs.Reading.{RefusesLong}
-use Rattle.chart_command.specs.Flat.{RefusesFlat}
-use Rattle.chart_command.specs.Fmt.{RefusesChart}
-
--- how a call ends where a chart text is too long
-abbrev pub chart_too_long : Ending
-chart_too_long = endings.Chart forms.TextTooLong begin
+use Rattle.chart_reader.specs.Text as reader
+use Rattle.flat_syntax.specs.FlatText as flat
 
 -- a text that is too long is no flat chart
-pub flat_too_long : (text : List ℕ) (ending : Ending) → RefusesLong CHART_TEXT_LIMIT chart_too_long text ending
-    → RefusesFlat text ending
-flat_too_long text ending r = record {
-  kind = forms.TextTooLong;
-  at = begin;
-  refused = inl (record { kind_is = refl; long = r.long; place = refl });
-  ending_is = r.ending_is;
-}
+pub flat_too_long : (text : List ℕ) → CHART_TEXT_LIMIT < length text → flat.IsRefusal text (faults.At forms.TextTooLong begin)
+flat_too_long text h = inl (record { kind_is = refl; long = h; place = refl })
 
 -- a text that is too long is no chart text
-pub text_too_long : (text : List ℕ) (ending : Ending) → RefusesLong CHART_TEXT_LIMIT chart_too_long text ending
-    → RefusesChart text ending
-text_too_long text ending r = record {
-  kind = forms.TextTooLong;
-  at = begin;
-  refused = inl (record { kind_is = refl; long = r.long; place = refl });
-  ending_is = r.ending_is;
-}
+pub text_too_long : (text : List ℕ) → CHART_TEXT_LIMIT < length text → reader.IsRefusal text (faults.At forms.TextTooLong begin)
+text_too_long text h = inl (record { kind_is = refl; long = h; place = refl })

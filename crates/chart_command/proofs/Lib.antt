@@ -1,10 +1,3 @@
-pub mod Appended
-pub mod NameLemmas
-pub mod ReadingLemmas
 pub mod ChartTextLemmas
 pub mod CodeTextLemmas
-pub mod CodeTraceLemmas
-pub mod Underway
-pub mod Runs
-pub mod TraceLemmas
 pub mod UsageLemmas

@@ -3,19 +3,16 @@ use Rattle.std.specs.Prelude.{◌≡◌, Option, Some, None}
 use Rattle.std.specs.Io.KnownBytes.{append_known}
 use Rattle.flow_base.specs.Causes.{Stands}
 use Rattle.flow_base.specs.declared.status.Status.{Status}
-use Rattle.chart_tree.specs.declared.limits.TheConstants.{CHART_TEXT_LIMIT}
-use Rattle.flat_code_text.specs.declared.limits.TheConstants.{TEXT_LIMIT}
+use Rattle.command_files.specs.Call.{Output, Call, OthersStay}
+use Rattle.checked_commands.specs.Check.{CheckEnds}
+use Rattle.checked_commands.specs.Rules.{RulesEnds}
+use Rattle.code_command.specs.Exec.{ExecEnds}
 use Rattle.chart_command.specs.declared.ending.Ending.{Ending}
 use Rattle.chart_command.specs.declared.ending.Ending.TheVariants as endings
-use Rattle.chart_command.specs.Ending.{status_of, line_of}
-use Rattle.chart_command.specs.Words.{Command, Fmt, Rules, Compile, Exec, files_of}
-use Rattle.chart_command.specs.Call.{Output, Call, OthersStay}
-use Rattle.chart_command.specs.Flat.{RefusesFlat}
-use Rattle.chart_command.specs.CodeText.{RefusesCode}
-use Rattle.chart_command.specs.Runner.{SpellsChart, SpellsCode}
+use Rattle.chart_command.specs.Ending.{of_text, of_rules, of_exec, status_of, line_of}
+use Rattle.chart_command.specs.Words.{Command, Check, Fmt, Rules, Compile, Exec, files_of}
 use Rattle.chart_command.specs.Fmt.{FmtEnds}
 use Rattle.chart_command.specs.Compile.{CompileEnds}
-use Rattle.chart_command.specs.Trace.{TraceEnds}
 
 -- words that name no command end the call at once: nothing is read, and nothing is written
 pub record UsageEnds (call : Call) (ending : Ending) : Type 0 where
@@ -23,15 +20,20 @@ pub record UsageEnds (call : Call) (ending : Ending) : Type 0 where
   pub sources : call.sources_after ≡ call.sources_before
   pub output : call.output_after ≡ call.output_before
 
+-- the command ends so, and the call accordingly
+pub record EndsAs {E : Type 0} (ending_of : E → Ending) (CommandEnds : E → Type 0) (ending : Ending) : Type 0 where
+  pub end : E
+  pub ends : CommandEnds end
+  pub ending_is : ending ≡ ending_of end
+
 -- how a call ends, and when
 abbrev pub Ends : Option Command → Call → Ending → Type 0
 Ends None call ending = UsageEnds call ending
-Ends (Some (Fmt first)) call ending = FmtEnds call first ending
-Ends (Some (Rules first second)) call ending =
-    TraceEnds CHART_TEXT_LIMIT SpellsChart RefusesFlat call first second ending
-Ends (Some (Compile first)) call ending = CompileEnds call first ending
-Ends (Some (Exec first second)) call ending =
-    TraceEnds TEXT_LIMIT SpellsCode RefusesCode call first second ending
+Ends (Some (Check first)) call ending = EndsAs of_text (CheckEnds call first) ending
+Ends (Some (Fmt first)) call ending = EndsAs of_text (FmtEnds call first) ending
+Ends (Some (Rules first second)) call ending = EndsAs of_rules (RulesEnds call first second) ending
+Ends (Some (Compile first)) call ending = EndsAs of_text (CompileEnds call first) ending
+Ends (Some (Exec first second)) call ending = EndsAs of_exec (ExecEnds call first second) ending
 
 -- the answer: the call ends in one way, which fixes its status and, where no write of it fails, its line
 -- on standard error; files that the words don't name keep what they have left

@@ -1,4 +1,4 @@
--- How a call ends: its status, and its line on standard error.
+-- How a call ends, from how its command ends; its status, and its line on standard error.
 use Rattle.std.specs.Prelude.{ℕ, List, [], ◌++◌, codes, decimal}
 use Rattle.flow_base.specs.declared.status.Status.{Status}
 use Rattle.flow_base.specs.declared.status.Status.TheVariants as statuses
@@ -7,15 +7,78 @@ use Rattle.chart_tree.specs.declared.fault.FormKind.{FormKind}
 use Rattle.chart_tree.specs.Form.{form_number, form_name}
 use Rattle.flat_code_text.specs.Form.{fault_text}
 use Rattle.flat_lines.specs.Events.{line_fault_text}
+use Rattle.flat_lines.specs.declared.events.LineFault.TheVariants as flat_faults
+use Rattle.step_text.specs.Faults.{line_fault_number, line_fault_name}
+use Rattle.step_text.specs.declared.fault.LineFault.{LineFault}
+use Rattle.command_files.specs.declared.file.FileEnd.{FileEnd}
+use Rattle.command_files.specs.declared.file.FileEnd.TheVariants as files
+use Rattle.command_files.specs.declared.text.TextEnd.{TextEnd}
+use Rattle.command_files.specs.declared.text.TextEnd.TheVariants as texts
+use Rattle.trace_command.specs.declared.run.TraceEnd.{TraceEnd}
+use Rattle.trace_command.specs.declared.run.TraceEnd.TheVariants as traces
+use Rattle.checked_commands.specs.declared.rules.RulesEnd.{RulesEnd}
+use Rattle.checked_commands.specs.declared.rules.RulesEnd.TheVariants as rules
+use Rattle.code_command.specs.declared.exec.ExecEnd.{ExecEnd}
+use Rattle.code_command.specs.declared.exec.ExecEnd.TheVariants as execs
+use Rattle.code_command.specs.declared.run.RunEnd.TheVariants as runs
+use Rattle.chart_files.specs.declared.refusal.Refusal.{Refusal}
 use Rattle.chart_command.specs.declared.ending.Ending.{Ending}
 use Rattle.chart_command.specs.declared.ending.Ending.TheVariants as endings
+
+-- ---- from the endings of the commands
+
+-- where nothing comes of a chart file
+abbrev pub of_chart_file : FileEnd Refusal → Ending
+of_chart_file (files.Refused refusal) = endings.Chart refusal
+of_chart_file files.Read = endings.Read
+of_chart_file files.Memory = endings.Memory
+
+-- of a command that writes a text made of a chart file
+abbrev pub of_text : TextEnd Refusal → Ending
+of_text texts.Done = endings.Done
+of_text (texts.Unread end) = of_chart_file end
+of_text texts.Write = endings.Write
+
+-- of a command that writes the trace of a run
+abbrev pub of_trace : TraceEnd → Ending
+of_trace traces.Done = endings.Done
+of_trace (traces.Line number fault) = endings.Line number fault
+of_trace traces.TooManyLines = endings.TooManyLines
+of_trace traces.FileTooLong = endings.FileTooLong
+of_trace (traces.Fault index word) = endings.Fault index word
+of_trace traces.Read = endings.Read
+of_trace traces.Write = endings.Write
+of_trace traces.Memory = endings.Memory
+
+-- of `rules`
+abbrev pub of_rules : RulesEnd → Ending
+of_rules (rules.NoChart end) = of_chart_file end
+of_rules (rules.Ran end) = of_trace end
+
+-- of `exec`; an event file that is too long is refused as its line 0
+abbrev pub of_exec : ExecEnd → Ending
+of_exec (execs.NoCode (files.Refused fault)) = endings.Code fault
+of_exec (execs.NoCode files.Read) = endings.Read
+of_exec (execs.NoCode files.Memory) = endings.Memory
+of_exec (execs.NoEvents (files.Refused long)) = endings.FlatLine 0 flat_faults.NotBuilt
+of_exec (execs.NoEvents files.Read) = endings.Read
+of_exec (execs.NoEvents files.Memory) = endings.Memory
+of_exec (execs.Ran runs.Done) = endings.Done
+of_exec (execs.Ran (runs.Line number fault)) = endings.FlatLine number fault
+of_exec (execs.Ran runs.Write) = endings.Write
+
+-- ---- status and line
 
 -- the status of each ending
 abbrev pub status_of : Ending → Status
 status_of endings.Done = statuses.Ok
-status_of (endings.Chart kind at) = statuses.Refused
-status_of (endings.Line number fault) = statuses.Refused
+status_of (endings.Chart refusal) = statuses.Refused
 status_of (endings.Code fault) = statuses.Refused
+status_of (endings.Line number fault) = statuses.Refused
+status_of (endings.FlatLine number fault) = statuses.Refused
+status_of endings.TooManyLines = statuses.Refused
+status_of endings.FileTooLong = statuses.Refused
+status_of (endings.Fault index word) = statuses.RunFault
 status_of endings.Usage = statuses.Usage
 status_of endings.Read = statuses.Read
 status_of endings.Write = statuses.Write
@@ -29,12 +92,20 @@ place_text at = codes "chart " ++ decimal at.line ++ codes ":" ++ decimal at.col
 abbrev pub kind_text : FormKind → List ℕ
 kind_text kind = codes ": " ++ decimal (form_number kind) ++ codes " " ++ form_name kind
 
+-- number and name of a fault of an event line
+abbrev pub event_fault_text : LineFault → List ℕ
+event_fault_text fault = decimal (line_fault_number fault) ++ codes " " ++ line_fault_name fault
+
 -- the line on standard error, none where the answer is whole
 abbrev pub line_of : Ending → List ℕ
 line_of endings.Done = []
-line_of (endings.Chart kind at) = place_text at ++ kind_text kind ++ codes "\n"
-line_of (endings.Line number fault) = codes "event " ++ decimal number ++ codes ": " ++ line_fault_text fault ++ codes "\n"
+line_of (endings.Chart refusal) = place_text refusal.at ++ kind_text refusal.kind ++ codes "\n"
 line_of (endings.Code fault) = fault_text fault ++ codes "\n"
+line_of (endings.Line number fault) = codes "event " ++ decimal number ++ codes ": " ++ event_fault_text fault ++ codes "\n"
+line_of (endings.FlatLine number fault) = codes "event " ++ decimal number ++ codes ": " ++ line_fault_text fault ++ codes "\n"
+line_of endings.TooManyLines = codes "event: 5 TooManyLines\n"
+line_of endings.FileTooLong = codes "event: 6 FileTooLong\n"
+line_of (endings.Fault index word) = codes "run " ++ decimal index ++ codes ": " ++ word ++ codes "\n"
 line_of endings.Usage =
     codes "usage: flowc check CHART, fmt CHART, rules CHART EVENTS, compile CHART, exec CODE EVENTS, run CHART EVENTS, selftest N; --depth D, --steps S\n"
 line_of endings.Read = codes "read fault\n"

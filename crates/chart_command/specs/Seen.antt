@@ -5,6 +5,7 @@ use Rattle.chart_command.specs.Words as words
 
 -- the names that it refers to
 abbrev pub command_seen : Command → words.Command
+command_seen (commands.Check first) = words.Check first.now
 command_seen (commands.Fmt first) = words.Fmt first.now
 command_seen (commands.Rules first second) = words.Rules first.now second.now
 command_seen (commands.Compile first) = words.Compile first.now

@@ -5,6 +5,8 @@ use Rattle.std.specs.Str.{bytes_eq}
 
 -- a command with its files
 pub data Command : Type 0 where
+  -- `check CHART`
+  Check : List ℕ → Command
   -- `fmt CHART`
   Fmt : List ℕ → Command
   -- `rules CHART EVENTS`
@@ -35,6 +37,7 @@ with_two command (first ∷ second ∷ third ∷ rest) = None
 -- the command of that name; any other name is none
 abbrev pub command_named : List ℕ → List (List ℕ) → Option Command
 command_named name files =
+    if bytes_eq name (codes "check") then with_one Check files else
     if bytes_eq name (codes "fmt") then with_one Fmt files else
     if bytes_eq name (codes "rules") then with_two Rules files else
     if bytes_eq name (codes "compile") then with_one Compile files else
@@ -51,6 +54,7 @@ command_of words = command_of_texts (map string_bytes words)
 
 -- the files that a command names
 abbrev pub files_named : Command → List (List ℕ)
+files_named (Check first) = first ∷ []
 files_named (Fmt first) = first ∷ []
 files_named (Rules first second) = first ∷ second ∷ []
 files_named (Compile first) = first ∷ []

@@ -1,16 +1,16 @@
 //! The program.
 ghost use Rattle.std.specs.Prelude.{◌≡◌, ◌↔◌, None};
 ghost use Rattle.chart_command.specs.Words.{command_of, files_of};
-ghost use Rattle.chart_command.specs.Call.{sources_of, output_of, call_of, OthersStay};
+ghost use Rattle.command_files.specs.Call.{sources_of, output_of, call_of, OthersStay};
 ghost use Rattle.chart_command.specs.Answer.{Ends, Answer};
 
 use crate::compile::compile_chart;
 use crate::ending::Ending;
-use crate::exec::run_code;
 use crate::fmt::format_chart;
 use crate::report::report;
-use crate::rules::run_chart;
 use crate::words::{Command, command_from};
+use checked_commands::{check_chart, run_chart};
+use code_command::exec_code;
 use flow_base::{Inputs, Sink, Status};
 use std::alloc::Global;
 
@@ -18,9 +18,10 @@ use std::alloc::Global;
 /// `out` and a line on `err` where the answer isn't whole, and answers the status with which the
 /// process ends.
 ///
-/// `fmt CHART` writes the canonical text of the chart of the file. `rules CHART EVENTS` runs the
-/// flat chart of the first file over the events of the second and writes the trace.
-/// `compile CHART` writes the text of code that behaves as the flat chart of the file.
+/// `check CHART` writes how many states, junctions, transitions and pairs the accepted chart of the
+/// file has. `fmt CHART` writes the canonical text of the chart of the file. `rules CHART EVENTS` runs
+/// the accepted chart of the first file by the rules over the events of the second and writes the
+/// trace. `compile CHART` writes the text of code that behaves as the flat chart of the file.
 /// `exec CODE EVENTS` runs the code of the first file over the events of the second and writes the
 /// trace. All other words are refused as Usage.
 pub fn chart_main<I: Inputs, O: Sink, E: Sink>(
@@ -36,7 +37,7 @@ pub fn chart_main<I: Inputs, O: Sink, E: Sink>(
         (output_of E.Sink err.old) (output_of E.Sink err.new) result }
 {
     let ending = call(alloc, words, inputs, out);
-    let _ = report(err, ending);
+    let _ = report(err, &ending);
     ending.status()
 }
 
@@ -48,10 +49,15 @@ fn call<I: Inputs, O: Sink>(alloc: Global, words: &[String], inputs: &mut I, out
         (sources_of I.Inputs inputs.old) (sources_of I.Inputs inputs.new) }
 {
     match command_from(words) {
-        Some(Command::Fmt(chart)) => format_chart(alloc, chart, inputs, out),
-        Some(Command::Rules(chart, events)) => run_chart(alloc, chart, events, inputs, out),
-        Some(Command::Compile(chart)) => compile_chart(alloc, chart, inputs, out),
-        Some(Command::Exec(code, events)) => run_code(alloc, code, events, inputs, out),
+        Some(Command::Check(chart)) => Ending::from(check_chart(alloc, chart, inputs, out)),
+        Some(Command::Fmt(chart)) => Ending::from(format_chart(alloc, chart, inputs, out)),
+        Some(Command::Rules(chart, events)) => {
+            Ending::from(run_chart(alloc, chart, events, inputs, out))
+        }
+        Some(Command::Compile(chart)) => Ending::from(compile_chart(alloc, chart, inputs, out)),
+        Some(Command::Exec(code, events)) => {
+            Ending::from(exec_code(alloc, code, events, inputs, out))
+        }
         None => Ending::Usage,
     }
 }

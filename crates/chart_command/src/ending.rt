@@ -1,23 +1,36 @@
 //! How a call ends.
 ghost use Rattle.std.specs.Prelude.{◌≡◌};
-ghost use Rattle.chart_command.specs.Ending.{status_of};
+ghost use Rattle.chart_command.specs.Ending as spec;
 
+use chart_files::Refusal;
+use checked_commands::RulesEnd;
+use code_command::{ExecEnd, RunEnd};
+use command_files::{FileEnd, TextEnd};
 use flat_code_text::CodeTextFault;
-use flat_lines::LineFault;
-use flat_syntax::{FormKind, Span};
 use flow_base::Status;
+use step_text::LineFault;
+use trace_command::{FaultWord, TraceEnd};
 
 /// How a call of the program ends.
-#[derive(Clone, Copy, Debug, PartialEq, Eq)]
+#[derive(Drop)]
 pub enum Ending {
     /// The whole answer was written.
     Done,
-    /// The chart text is refused, at that place.
-    Chart(FormKind, Span),
-    /// The event file is refused at that line, counted from 1; 0 where the whole file is refused, since it is too long.
-    Line(u64, LineFault),
+    /// The chart text is refused.
+    Chart(Refusal),
     /// The code text is refused.
     Code(CodeTextFault),
+    /// The event file is refused at that line, counted from 1.
+    Line(u64, LineFault),
+    /// The event file of flat code is refused at that line, counted from 1; 0 where the whole file is
+    /// refused, since it is too long.
+    FlatLine(u64, flat_lines::LineFault),
+    /// The event file has more events than it may.
+    TooManyLines,
+    /// The event file has more bytes than it may.
+    FileTooLong,
+    /// The run has the fault of that word at that index.
+    Fault(u64, FaultWord),
     /// The words name no command.
     Usage,
     /// A file that the words name couldn't be read.
@@ -30,16 +43,107 @@ pub enum Ending {
 
 impl Ending {
     /// The status of the ending.
-    pub fn status(self) -> Status
-        ensures { result ≡ status_of self }
+    pub fn status(&self) -> Status
+        ensures { result ≡ spec.status_of self.now }
     {
         match self {
             Ending::Done => Status::Ok,
-            Ending::Chart(_, _) | Ending::Line(_, _) | Ending::Code(_) => Status::Refused,
+            Ending::Chart(_)
+            | Ending::Code(_)
+            | Ending::Line(_, _)
+            | Ending::FlatLine(_, _)
+            | Ending::TooManyLines
+            | Ending::FileTooLong => Status::Refused,
+            Ending::Fault(_, _) => Status::RunFault,
             Ending::Usage => Status::Usage,
             Ending::Read => Status::Read,
             Ending::Write => Status::Write,
             Ending::Memory => Status::Memory,
+        }
+    }
+}
+
+impl From<FileEnd<Refusal>> for Ending {
+    ghost use Rattle.std.specs.Prelude.{◌≡◌};
+    ghost use Rattle.chart_command.specs.Ending.{of_chart_file};
+
+    ghost from_gives = { λ end ending. ending ≡ of_chart_file end };
+
+    fn from(end: FileEnd<Refusal>) -> Ending {
+        match end {
+            FileEnd::Refused(refusal) => Ending::Chart(refusal),
+            FileEnd::Read => Ending::Read,
+            FileEnd::Memory => Ending::Memory,
+        }
+    }
+}
+
+impl From<TextEnd<Refusal>> for Ending {
+    ghost use Rattle.std.specs.Prelude.{◌≡◌};
+    ghost use Rattle.chart_command.specs.Ending.{of_text};
+
+    ghost from_gives = { λ end ending. ending ≡ of_text end };
+
+    fn from(end: TextEnd<Refusal>) -> Ending {
+        match end {
+            TextEnd::Done => Ending::Done,
+            TextEnd::Unread(end) => Ending::from(end),
+            TextEnd::Write => Ending::Write,
+        }
+    }
+}
+
+impl From<TraceEnd> for Ending {
+    ghost use Rattle.std.specs.Prelude.{◌≡◌};
+    ghost use Rattle.chart_command.specs.Ending.{of_trace};
+
+    ghost from_gives = { λ end ending. ending ≡ of_trace end };
+
+    fn from(end: TraceEnd) -> Ending {
+        match end {
+            TraceEnd::Done => Ending::Done,
+            TraceEnd::Line(number, fault) => Ending::Line(number, fault),
+            TraceEnd::TooManyLines => Ending::TooManyLines,
+            TraceEnd::FileTooLong => Ending::FileTooLong,
+            TraceEnd::Fault(index, word) => Ending::Fault(index, word),
+            TraceEnd::Read => Ending::Read,
+            TraceEnd::Write => Ending::Write,
+            TraceEnd::Memory => Ending::Memory,
+        }
+    }
+}
+
+impl From<RulesEnd> for Ending {
+    ghost use Rattle.std.specs.Prelude.{◌≡◌};
+    ghost use Rattle.chart_command.specs.Ending.{of_rules};
+
+    ghost from_gives = { λ end ending. ending ≡ of_rules end };
+
+    fn from(end: RulesEnd) -> Ending {
+        match end {
+            RulesEnd::NoChart(end) => Ending::from(end),
+            RulesEnd::Ran(end) => Ending::from(end),
+        }
+    }
+}
+
+impl From<ExecEnd> for Ending {
+    ghost use Rattle.std.specs.Prelude.{◌≡◌};
+    ghost use Rattle.chart_command.specs.Ending.{of_exec};
+
+    ghost from_gives = { λ end ending. ending ≡ of_exec end };
+
+    fn from(end: ExecEnd) -> Ending {
+        match end {
+            ExecEnd::NoCode(FileEnd::Refused(fault)) => Ending::Code(fault),
+            ExecEnd::NoEvents(FileEnd::Refused(_)) => {
+                Ending::FlatLine(0, flat_lines::LineFault::NotBuilt)
+            }
+            ExecEnd::NoCode(FileEnd::Read) | ExecEnd::NoEvents(FileEnd::Read) => Ending::Read,
+            ExecEnd::NoCode(FileEnd::Memory) | ExecEnd::NoEvents(FileEnd::Memory) => Ending::Memory,
+            ExecEnd::Ran(RunEnd::Done) => Ending::Done,
+            ExecEnd::Ran(RunEnd::Line(number, fault)) => Ending::FlatLine(number, fault),
+            ExecEnd::Ran(RunEnd::Write) => Ending::Write,
         }
     }
 }

@@ -2,12 +2,14 @@
 ghost use Rattle.std.specs.Prelude.{◌≡◌, ◌++◌, OnOk, codes, decimal};
 ghost use Rattle.std.specs.Io.KnownBytes.{append_known};
 ghost use Rattle.flow_base.specs.Causes.{HasCause};
-ghost use Rattle.chart_command.specs.Ending.{place_text, kind_text, line_of};
+ghost use Rattle.chart_command.specs.Ending.{place_text, kind_text, event_fault_text, line_of};
 
 use crate::ending::Ending;
-use flat_syntax::{FormKind, Span};
+use chart_tree::FormKind;
 use flow_base::{Failed, Sink, write_all};
 use itoa::Buffer;
+use step_text::LineFault;
+use token_grammar::Span;
 
 /// Writes a number.
 fn write_number<E: Sink>(err: &mut E, number: u64) -> Result<(), Failed>
@@ -50,25 +52,56 @@ fn write_kind<E: Sink>(err: &mut E, kind: FormKind) -> Result<(), Failed>
     write_all(err, kind.name().as_bytes())
 }
 
+/// Writes what stands before the fault of an event line or of a run: a word, and the number of the
+/// line or the index of the event.
+fn write_head<E: Sink>(err: &mut E, word: &str, number: u64) -> Result<(), Failed>
+    ensures ok { OnOk result (E.wrote err.new ≡ append_known (E.wrote err.old)
+        (word.now ++ decimal number ++ codes ": ")) }
+    ensures cause { HasCause (E.faults err.old) (E.faults err.new) result }
+{
+    write_all(err, word.as_bytes())?;
+    write_number(err, number)?;
+    write_all(err, b": ")
+}
+
+/// Writes number and name of a fault of an event line.
+fn write_event_fault<E: Sink>(err: &mut E, fault: LineFault) -> Result<(), Failed>
+    ensures ok { OnOk result (E.wrote err.new ≡ append_known (E.wrote err.old) (event_fault_text fault)) }
+    ensures cause { HasCause (E.faults err.old) (E.faults err.new) result }
+{
+    write_number(err, u64::from(fault.number()))?;
+    write_all(err, b" ")?;
+    write_all(err, fault.name().as_bytes())
+}
+
 /// Writes the line of an ending on standard error. Takes no memory.
-pub fn report<E: Sink>(err: &mut E, ending: Ending) -> Result<(), Failed>
-    ensures ok { OnOk result (E.wrote err.new ≡ append_known (E.wrote err.old) (line_of ending)) }
+pub fn report<E: Sink>(err: &mut E, ending: &Ending) -> Result<(), Failed>
+    ensures ok { OnOk result (E.wrote err.new ≡ append_known (E.wrote err.old) (line_of ending.now)) }
     ensures cause { HasCause (E.faults err.old) (E.faults err.new) result }
 {
     match ending {
         Ending::Done => Ok(()),
-        Ending::Chart(kind, at) => {
-            write_place(err, at)?;
-            write_kind(err, kind)?;
+        Ending::Chart(refusal) => {
+            write_place(err, refusal.at)?;
+            write_kind(err, refusal.kind)?;
             write_all(err, b"\n")
         }
+        Ending::Code(fault) => write_line(err, fault.text().as_str()),
         Ending::Line(number, fault) => {
-            write_all(err, b"event ")?;
-            write_number(err, number)?;
-            write_all(err, b": ")?;
+            write_head(err, "event ", *number)?;
+            write_event_fault(err, *fault)?;
+            write_all(err, b"\n")
+        }
+        Ending::FlatLine(number, fault) => {
+            write_head(err, "event ", *number)?;
             write_line(err, fault.text().as_str())
         }
-        Ending::Code(fault) => write_line(err, fault.text().as_str()),
+        Ending::TooManyLines => write_all(err, b"event: 5 TooManyLines\n"),
+        Ending::FileTooLong => write_all(err, b"event: 6 FileTooLong\n"),
+        Ending::Fault(index, word) => {
+            write_head(err, "run ", *index)?;
+            write_line(err, word.text())
+        }
         Ending::Usage => write_all(err, USAGE.as_bytes()),
         Ending::Read => write_all(err, b"read fault\n"),
         Ending::Write => write_all(err, b"write fault\n"),

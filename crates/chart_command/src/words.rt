@@ -6,6 +6,8 @@ ghost use Rattle.chart_command.specs.Seen.{command_seen};
 
 /// A command with its files.
 pub enum Command<'a> {
+    /// `check CHART`
+    Check(&'a str),
     /// `fmt CHART`
     Fmt(&'a str),
     /// `rules CHART EVENTS`
@@ -45,6 +47,7 @@ fn with_one<'a>(name: &str, first: &'a str) -> Option<Command<'a>>
         return None;
     }
     match name {
+        "check" => Some(Command::Check(first)),
         "fmt" => Some(Command::Fmt(first)),
         "compile" => Some(Command::Compile(first)),
         _ => None,

@@ -58,14 +58,15 @@ fn check(
 #[test]
 fn failing_devices(rt: HostRuntime) -> Result<(), Fail> {
     let start = "0 start [Off] - - ok\n";
-    for (line, text) in [("rules c e", LAMP), ("exec c e", CODE)] {
-        // The event file is read whole before anything is written.
+    let given = "0 start [Off] - - ok\n1 GO [On] - - ok\n2 GO [Off] - - ok\n";
+    // `exec` reads the event file whole before anything is written, `rules` line by line.
+    for (line, text, out) in [("rules c e", LAMP, given), ("exec c e", CODE, "")] {
         check(
             &rt,
             line,
             text,
             (&[3], &[], &[]),
-            (Status::Read, "", "read fault\n"),
+            (Status::Read, out, "read fault\n"),
         )?;
         check(
             &rt,
@@ -96,7 +97,7 @@ fn failing_devices(rt: HostRuntime) -> Result<(), Fail> {
 #[test]
 fn failing_writes_of_a_text(rt: HostRuntime) -> Result<(), Fail> {
     // The text is made whole before anything is written, in one piece.
-    for line in ["compile c", "fmt c"] {
+    for line in ["check c", "compile c", "fmt c"] {
         check(
             &rt,
             line,

@@ -2,6 +2,8 @@
 #![tactic(auto)]
 
 #[cfg(test)]
+mod checking;
+#[cfg(test)]
 mod code;
 #[cfg(test)]
 mod devices;
@@ -9,5 +11,7 @@ mod devices;
 mod formatting;
 #[cfg(test)]
 mod rows;
+#[cfg(test)]
+mod running;
 #[cfg(test)]
 mod setup;

@@ -49,14 +49,19 @@ fn event_files(rt: HostRuntime) -> Result<(), Fail> {
             "0 start [Off] - - ok\n1 GO [On] - - ok\n",
             "event 2: 2 UnknownEvent\n",
         ),
-        ("\n", Status::Refused, START, "event 1: 7 NotBuilt\n"),
-        ("GO\r\n", Status::Refused, START, "event 1: 7 NotBuilt\n"),
-        ("state\n", Status::Refused, START, "event 1: 7 NotBuilt\n"),
     ];
     for (events, status, out, err) in cases {
         for (line, text) in [("rules c e", LAMP), ("exec c e", CODE)] {
             check(&rt, line, text, events, (status, out, err))?;
         }
+    }
+    // Flat code takes lines of one name, without spaces.
+    for (events, err) in [
+        ("\n", "event 1: 7 NotBuilt\n"),
+        ("GO\r\n", "event 1: 7 NotBuilt\n"),
+        ("state\n", "event 1: 7 NotBuilt\n"),
+    ] {
+        check(&rt, "exec c e", CODE, events, (Status::Refused, START, err))?;
     }
     Ok(())
 }
@@ -73,9 +78,7 @@ fn chart_texts(rt: HostRuntime) -> Result<(), Fail> {
         ),
     ];
     for (chart, err) in cases {
-        for line in ["rules c e", "compile c"] {
-            check(&rt, line, chart, "GO\n", (Status::Refused, "", err))?;
-        }
+        check(&rt, "compile c", chart, "GO\n", (Status::Refused, "", err))?;
     }
     Ok(())
 }
@@ -93,6 +96,10 @@ fn other_words(rt: HostRuntime) -> Result<(), Fail> {
         "rule c e",
         "rules -c e",
         "rules c -",
+        "check",
+        "check -c",
+        "check c e",
+        "run c e",
         "compile",
         "compile -c",
         "compile c e",
@@ -111,7 +118,7 @@ fn other_words(rt: HostRuntime) -> Result<(), Fail> {
         "rules c ",
         LAMP,
         "",
-        (Status::Read, "", "read fault\n"),
+        (Status::Read, START, "read fault\n"),
     )?;
     // One file in both places is given once.
     check(&rt, "rules c c", LAMP, "", (Status::Ok, START, ""))

@@ -1,21 +1,18 @@
-use Rattle.std.proofs.Common.{ℕ, List, refl, subst}
-use Rattle.std.specs.Prelude.{string_bytes}
-use Rattle.flat_syntax.specs.FlatChart.{chart_of}
-use Rattle.chart_command.specs.Call.{output_of}
-use Rattle.chart_command.specs.Writing.{Writes}
-use Rattle.chart_command.specs.Compile.{Compiled, Unread}
+use Rattle.chart_tree.specs.declared.limits.TheConstants.{CHART_TEXT_LIMIT}
+use Rattle.chart_command.specs.Compile.{Compiles}
+use Rattle.command_files.specs.Call.{sources_of, call_of}
+use Rattle.command_files.proofs.ReadingLemmas.{one_named, others_kept}
+use Rattle.command_files.proofs.TextLemmas.{text_ends}
+use Rattle.chart_command.specs.Refusals.{RefusesFlat}
 use Rattle.chart_command.proofs.compile.compile_chart.Goals as goal
 
--- nothing comes of the file
-pub returns-in-Err-clause-ends : goal.returns-in-Err-clause-ends
-returns-in-Err-clause-ends g c = Unread c.in-Err.ensures.file refl
+pub returns-clause-ends : goal.returns-clause-ends
+returns-clause-ends g c =
+    text_ends CHART_TEXT_LIMIT Compiles RefusesFlat
+    (call_of g.I.Inputs g.O.Sink c.args.inputs.now c.read_compiled-code.new.inputs c.args.out.now c.write_made.new.out)
+    c.args.first.now c.read_compiled-code.result c.write_made.result c.read_compiled-code.ensures c.write_made.ensures
 
--- the text of the code is written
-pub returns-in-Ok-compiled-clause-ends : goal.returns-in-Ok-compiled-clause-ends
-returns-in-Ok-compiled-clause-ends g c =
-    let given = c.in-Ok.ensures.file in
-    Compiled (chart_of c.in-Ok.chart) (record { text = given.text; read = given.read; means = given.means })
-    (string_bytes c.in-Ok-compiled.text) c.in-Ok-compiled.ensures
-    (subst
-    (λ (t : List ℕ). Writes (output_of g.O.Sink c.args.out.now) (output_of g.O.Sink c.write_text.new.out) t c.write_text.result)
-    c.deref.ensures c.write_text.ensures)
+pub returns-clause-others : goal.returns-clause-others
+returns-clause-others g c =
+    one_named (sources_of g.I.Inputs c.args.inputs.now) (sources_of g.I.Inputs c.read_compiled-code.new.inputs) c.args.first.now
+    (others_kept CHART_TEXT_LIMIT _ RefusesFlat _ _ c.args.first.now c.read_compiled-code.result c.read_compiled-code.ensures)

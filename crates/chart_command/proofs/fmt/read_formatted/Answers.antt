@@ -1,13 +1,12 @@
-use Rattle.std.proofs.Common.{ℕ, List, refl, subst}
+use Rattle.std.proofs.Common.{ℕ, List}
 use Rattle.std.specs.Prelude.{String, string_bytes}
 use Rattle.std.specs.declared.alloc.Global.{Global}
 use Rattle.std.proofs.lemmas.Result.{err_from_is_err_and}
 use Rattle.chart_tree.specs.declared.limits.TheConstants.{CHART_TEXT_LIMIT}
 use Rattle.chart_reader.specs.Text.{IsRefusal}
 use Rattle.chart_format.specs.Text.{IsFormatted}
-use Rattle.chart_command.specs.declared.ending.Ending.TheVariants as endings
-use Rattle.chart_command.specs.Fmt.{RefusesChart}
-use Rattle.chart_command.proofs.ReadingLemmas.{refused_so, gives_of, refused_of}
+use Rattle.command_files.proofs.ReadingLemmas.{gives_of}
+use Rattle.chart_files.proofs.FileLemmas.{unread_as, refused_as}
 use Rattle.chart_command.proofs.ChartTextLemmas.{text_too_long}
 use Rattle.chart_command.proofs.fmt.read_formatted.Goals as goal
 
@@ -15,7 +14,7 @@ use Rattle.chart_command.proofs.fmt.read_formatted.Goals as goal
 pub returns-in_err-text : goal.returns-in_err-text
 returns-in_err-text g c =
     let p = err_from_is_err_and c.from_residual.result c.from_residual.ensures.1 in
-    rw (p.1, p.2) (refused_so CHART_TEXT_LIMIT _ RefusesChart _ _ c.args.name.now _ (λ text r. text_too_long text _ r) c.in_err-text.ensures)
+    rw (p.1, p.2) (unread_as IsRefusal _ _ c.args.name.now _ text_too_long c.in_err-text.ensures)
 
 -- the text is a chart text
 pub returns-in-Ok : goal.returns-in-Ok
@@ -25,8 +24,8 @@ returns-in-Ok g c =
     c.in-Ok.ensures.formatted
 
 -- the text is refused
-pub returns-in-Err-At : goal.returns-in-Err-At
-returns-in-Err-At g c =
-    refused_of CHART_TEXT_LIMIT _ _ c.args.name.now c.in_ok-text.text c.in_ok-text.ensures RefusesChart
-    (endings.Chart c.in-Err-At.kind c.in-Err-At.at) _ c.deref.ensures.value
-    (record { kind = c.in-Err-At.kind; at = c.in-Err-At.at; refused = subst (IsRefusal c.deref.result.now) c.in-Err-At.field-0-is c.in-Err-At.ensures.refused; ending_is = refl })
+pub returns : goal.returns
+returns g c =
+    rw c.end_of_fault.ensures
+    (refused_as IsRefusal _ _ c.args.name.now c.in_ok-text.text c.in_ok-text.ensures c.in-Err.fault _ c.deref.ensures.value
+    c.in-Err.ensures.refused)

@@ -1,0 +1,3 @@
+pub mod Refusals
+pub mod Check
+pub mod Rules

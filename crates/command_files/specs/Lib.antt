@@ -1,0 +1,4 @@
+pub mod Call
+pub mod Reading
+pub mod Writing
+pub mod Texts

@@ -2,6 +2,7 @@
 //!
 //! Read `specs/Accepted.antt`: which texts are accepted, and which fault of another one is the first.
 #![tactic(auto)]
+
 ghost use Rattle.std.specs.Prelude.{◌≡◌, IfOk, IfErr};
 ghost use Rattle.state_tree.specs.Kept.{chart_of};
 ghost use Rattle.accepted_charts.specs.Accepted.{IsAccepted, Refuses, IsFaultOf};

@@ -32,9 +32,7 @@ use actions::{Expr, Names};
 use active_config::Shape;
 use chart_nets::plain_dest;
 use flow_base::{List, Memory};
-use resolved_tree::{
-    Ref, Resolved, ResolvedGuard, ResolvedJunction, ResolvedState, ResolvedTrans,
-};
+use resolved_tree::{Ref, Resolved, ResolvedGuard, ResolvedJunction, ResolvedState, ResolvedTrans};
 use state_tree::{StateParts, Trans};
 use std::alloc::{AllocError, Global};
 

@@ -1,20 +1,18 @@
 //! The answers to the lines of a table.
 
-use crate::counts::counts_of;
+use crate::checks::check;
 use crate::refusal::Refusal;
 use crate::runs::{Ran, run};
-use accepted_charts::accept_chart;
 use flow_base::Bounds;
 use std::alloc::Global;
 use table_texts::{Escaped, unescape};
 
-/// The answer to a line: of one field, a chart text, its counts or its refusal; of three fields, with
+/// The answer to a line: of one field, a chart text, the line that `check` writes of it; of three fields, with
 /// a tab between two of them, the bounds of a run (`DEPTH STEPS`, or `-` for the usual ones), a chart
 /// text and an event file, the status, standard output and standard error of that run.
 pub fn answer_line(alloc: Global, line: &str) -> Result<String, Refusal> {
     let Some((bounds, texts)) = line.split_once('\t') else {
-        let chart = accept_chart(alloc, text_of(alloc, line)?.as_slice())?;
-        return counts_of(alloc, &chart);
+        return check(alloc, text_of(alloc, line)?);
     };
     let Some((chart, events)) = texts.split_once('\t') else {
         return Err(Refusal::NotARun);

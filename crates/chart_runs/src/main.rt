@@ -4,7 +4,7 @@
 #![tactic(auto)]
 
 mod answer;
-mod counts;
+mod checks;
 mod refusal;
 mod runs;
 

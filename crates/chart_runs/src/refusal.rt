@@ -1,6 +1,5 @@
 //! Why a line has no answer.
 
-use chart_tree::FormFault;
 use std::alloc::{AllocError, AllocFailed};
 use thiserror::Error;
 
@@ -13,9 +12,6 @@ pub enum Refusal {
     /// The line has two fields, or bounds that no run may have.
     #[error("not a run")]
     NotARun,
-    /// The chart text is refused.
-    #[error(transparent)]
-    Chart(#[from] FormFault),
     /// Memory ran out.
     #[error("out of memory")]
     Memory,

@@ -43,13 +43,25 @@ pub fn run(alloc: Global, chart: &[u8], events: Vec<u8>, bounds: Bounds) -> Resu
             });
         }
     };
-    let file = MemFile::new(String::from_str(alloc, NAME)?, events, PIECE_SIZE, Vec::new(alloc));
+    let file = MemFile::new(
+        String::from_str(alloc, NAME)?,
+        events,
+        PIECE_SIZE,
+        Vec::new(alloc),
+    );
     let mut inputs = MemInputs::new(vec![in alloc; file]?);
     let mut out = MemSink::new(alloc, TRACE_LIMIT, PIECE_SIZE, Vec::new(alloc))?;
     let mut rules = Rules::make(alloc, chart, bounds)?;
     let mut lines = LineReader::make(alloc)?;
     let mut vals = InputVals::make(alloc, rules.view().names)?;
-    let end = drive(&mut rules, &mut inputs, NAME, &mut lines, &mut vals, &mut out);
+    let end = drive(
+        &mut rules,
+        &mut inputs,
+        NAME,
+        &mut lines,
+        &mut vals,
+        &mut out,
+    );
     let (status, err) = ending(alloc, end, &rules)?;
     let out = String::from_utf8_lossy(alloc, out.bytes())?;
     Ok(Ran { status, out, err })

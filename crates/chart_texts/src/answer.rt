@@ -1,9 +1,9 @@
 //! The answers to the texts of a table.
 
-use table_texts::unescape;
 use chart_format::format_text;
 use chart_tree::FormFault;
 use std::alloc::{AllocError, Global};
+use table_texts::unescape;
 use thiserror::Error;
 
 /// Why a line has no canonical text.

@@ -9,8 +9,8 @@ mod limit_tests;
 mod tree_tests;
 
 use answer::answer_line;
-use table_texts::Escaped;
 use std::io;
+use table_texts::Escaped;
 
 fn main(rt: HostRuntime) -> io::Result<()> {
     for line in rt.lines(rt.alloc()) {

@@ -1,11 +1,11 @@
 //! The answers to the cases of a table.
 
 use crate::declarations::read_declarations;
-use table_texts::unescape;
 use crate::events::answer_file;
 use crate::refusal::Refusal;
 use crate::worlds::answer_world;
 use std::alloc::Global;
+use table_texts::unescape;
 
 /// The answer to the case of a line: its declarations, each with a tab after it, and then `file` with
 /// the text of an event file, or `world` with what a trace line tells besides the values.

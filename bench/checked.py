@@ -1,0 +1,109 @@
+#!/usr/bin/env python3
+"""Measures `check` on large charts and `rules` on the generated case 0, and prints seconds, machine instructions and memory.
+
+    bench/checked.py BIN    BIN is a built program, as crates/flowc/out/flowc after `rt run` there
+
+Instructions are counted by valgrind's tool callgrind; where it isn't installed, their column has a `-`. It makes its files
+in a temporary folder, and is no test: it has no limit of its own."""
+import os
+import re
+import shutil
+import subprocess
+import sys
+import tempfile
+
+import generated
+from run import MIB, measure
+
+CHAINS, LENGTH, STATES = 132, 31, 1022
+
+
+def long_name(first, number):
+    return '%s%s%06d' % (first, 'x' * 56, number)
+
+
+def filled(lines):
+    """The lines as a text of 1 MiB, the rest of it a comment."""
+    text = '\n'.join(lines) + '\n'
+    return text + '//' + 'x' * (MIB - len(text) - 2)
+
+
+def pairs():
+    """1,023 states, 4,092 junctions in chains, and 32,705 pairs: each state leads to a chain."""
+    yield from ('chart C or {', 'event input GO;', 'default -> %s;' % long_name('s', 0))
+    for chain in range(CHAINS):
+        for place in range(LENGTH):
+            junction = chain * LENGTH + place
+            last = place + 1 == LENGTH
+            to = long_name('s', chain) if last else '@' + long_name('j', junction + 1)
+            yield 'junction %s { -> %s; }' % (long_name('j', junction), to)
+    for state in range(STATES):
+        yield 'state %s { outer GO -> @%s; }' % (long_name('s', state), long_name('j', state % CHAINS * LENGTH))
+    yield '}'
+
+
+def names():
+    """1,024 events, 1,024 data, and 6,000 assignments from datum to datum, in states that stand 16 deep."""
+    yield 'chart C or {'
+    yield from ('event input %s;' % long_name('e', i) for i in range(1024))
+    yield from ('local %s : int32;' % long_name('d', i) for i in range(1024))
+    for depth in range(16):
+        yield 'default -> %s; state %s {' % (long_name('s', depth), long_name('s', depth))
+        for block in ('entry', 'during'):
+            yield block + ' {'
+            yield from ('%s = %s;' % (long_name('d', i * 5 % 1024), long_name('d', i * 7 % 1024)) for i in range(180))
+            yield '}'
+    yield '} ' * 16 + '}'
+
+
+def operators():
+    """2,000 assignments with 60 operators each."""
+    yield 'chart C or { local n : int8; local m : int8; default -> s0;'
+    for state in range(10):
+        yield 'state s%d {' % state
+        yield 'during {'
+        yield from ('n = %s;' % ' + '.join(['m'] * 61) for _ in range(200))
+        yield '} }'
+    yield '}'
+
+
+KINDS = {'pairs': pairs, 'names': names, 'operators': operators}
+
+
+def counted(words, folder):
+    """The machine instructions of a run, or None without callgrind."""
+    if not shutil.which('valgrind'):
+        return None
+    ran = subprocess.run(['valgrind', '--tool=callgrind', '--callgrind-out-file=/dev/null', *words], cwd=folder,
+                         stdout=subprocess.DEVNULL, stderr=subprocess.PIPE, text=True)
+    found = re.search(r'Collected : ([0-9]+)', ran.stderr)
+    return int(found[1]) if found else None
+
+
+def shown(number):
+    return '-' if number is None else '%.0f' % number
+
+
+def main(program):
+    with tempfile.TemporaryDirectory() as folder:
+        for kind, lines in KINDS.items():
+            with open(os.path.join(folder, kind), 'w') as file:
+                file.write(filled(lines()))
+            seconds, peak, status = measure([program, 'check', kind], folder)
+            instructions = counted([program, 'check', kind], folder)
+            print('check, 1 MiB of %-10s %6.3f s  %5.1f MiB  %12s instructions  status %d'
+                  % (kind, seconds, peak, shown(instructions), status))
+        generated.main(['0', folder])
+        seconds, peak, status = measure([program, 'rules', '0.chart', '0.events'], folder)
+        counts = []
+        for events in (1000, 2000):
+            with open(os.path.join(folder, '0.events')) as file, open(os.path.join(folder, 'front'), 'w') as front:
+                front.writelines(line for line, _ in zip(file, range(events)))
+            counts.append(counted([program, 'rules', '0.chart', 'front'], folder))
+        event = None if None in counts else (counts[1] - counts[0]) / 1000
+        print('rules, %d events of case 0  %6.3f s  %5.1f MiB  %12s instructions an event  status %d'
+              % (generated.EVENTS, seconds, peak, shown(event), status))
+
+
+if __name__ == '__main__':
+    main(os.path.abspath(sys.argv[1])) if len(sys.argv) == 2 else sys.exit(__doc__)

@@ -1,0 +1,5 @@
+use Rattle.frame_stack.proofs.CallLemmas.{chunks_are_free}
+use Rattle.frame_stack.proofs.stack.FrameStack.free.Goals as goal
+
+pub give_all_back-requires : goal.give_all_back-requires
+give_all_back-requires c = chunks_are_free c.self.invariant c.self.view_is c.requires

@@ -1,6 +1,6 @@
 -- What each call of a stack finds in the chunks and leaves there, by what a contract sees of the stack.
 use Rattle.std.proofs.Common.{◌≡◌, ℕ, suc, ◌+◌, ◌-◌, ◌*◌, ◌/◌, ◌%◌, ◌<◌, ◌≤◌, List, [], ◌∷◌, ◌++◌, length, take}
-use Rattle.std.proofs.Common.{replicate, set, get_or, Option, Some, None, sym, ap, ◌∙◌, subst, arith, length-append}
+use Rattle.std.proofs.Common.{replicate, set, get_or, Some, None, sym, ap, ◌∙◌, subst, arith, length-append}
 use Rattle.std.proofs.lemmas.List.{length-set, nil_from_length}
 use Rattle.std.specs.Prelude.{All}
 use Rattle.frame_stack.specs.declared.slot.Slot.{Slot}
@@ -15,16 +15,16 @@ use Rattle.frame_stack.proofs.StackLemmas.{same_slots, is_stack, no_slot, total,
 use Rattle.frame_stack.proofs.StackLemmas.{replaced, slot_of, none_of, added, free_chunks, free_places, all_free}
 
 -- a stack with these fields, which a contract sees as v
-module _ {cs : List Chunk} {len n : ℕ} {v : Stack} (is : IsStack cs len n) (seen : stack (stack_frames cs) n ≡ v) where
+module _ {cs : List Chunk} {len n : ℕ} {v : Stack} (is : IsStack cs len n) (see : stack (stack_frames cs) n ≡ v) where
   abbrev ss : List Slot
   ss = slots_in (places cs)
 
   -- as many slots as frames
   slots_count : length ss ≡ length v.frames
-  slots_count = sym (frames_length ss) ∙ ap (λ s. length s.frames) seen
+  slots_count = sym (frames_length ss) ∙ ap (λ s. length s.frames) see
 
   spare_is : n ≡ v.spare
-  spare_is = ap (λ s. s.spare) seen
+  spare_is = ap (λ s. s.spare) see
 
   pub len_is : len ≡ length v.frames
   len_is = is.counted ∙ slots_count
@@ -53,7 +53,7 @@ module _ {cs : List Chunk} {len n : ℕ} {v : Stack} (is : IsStack cs len n) (se
     held = get_or ss i no_slot
 
     held_words : words_in held ≡ get_or v.frames i []
-    held_words = sym (frame_at ss i no_slot [] below) ∙ ap (λ s. get_or s.frames i []) seen
+    held_words = sym (frame_at ss i no_slot [] below) ∙ ap (λ s. get_or s.frames i []) see
 
     held_good : IsSlot held
     held_good = slot_at ss i no_slot is.holds.slots below
@@ -87,7 +87,7 @@ module _ {cs : List Chunk} {len n : ℕ} {v : Stack} (is : IsStack cs len n) (se
 
       -- its chunk after the word w was changed
       module _ (c : Chunk) (w value : ℕ) (ok : IsChunk c) (some : w < length (get_or v.frames i []))
-        (made : (s : Slot) → get_or d.cells.slots (i % 1024) None ≡ Some s
+          (made : (s : Slot) → get_or d.cells.slots (i % 1024) None ≡ Some s
           → c.cells.slots ≡ set d.cells.slots (i % 1024) (Some (with_word s w value))) where
         abbrev written : Slot
         written = with_word held w value
@@ -106,7 +106,7 @@ module _ {cs : List Chunk} {len n : ℕ} {v : Stack} (is : IsStack cs len n) (se
             ap frames_in (same_slots (set cs (i / 1024) c) (set ss i written) n holds_written)
             ∙ frames_set ss i written
             ∙ ap (λ ws. set (frames_in ss) i ws) (word_set held w value low ∙ ap (λ ws. set ws w value) held_words)
-            ∙ ap (λ s. set s.frames i (set (get_or v.frames i []) w value)) seen
+            ∙ ap (λ s. set s.frames i (set (get_or v.frames i []) w value)) see
 
   -- a frame is pushed
   module _ (spare : 0 < v.spare) where
@@ -130,7 +130,7 @@ module _ {cs : List Chunk} {len n : ℕ} {v : Stack} (is : IsStack cs len n) (se
       next_empty = none_of cs ss n is.holds len is.counted left d e
 
       module _ (c : Chunk) (s : Slot) (ok : IsChunk c) (made : c.cells.slots ≡ set d.cells.slots (len % 1024) (Some s))
-        (good : IsSlot s) where
+          (good : IsSlot s) where
         holds_pushed : Holds (set cs (len / 1024) c) (ss ++ s ∷ []) (n - 1)
         holds_pushed = pushed cs ss n is.holds len is.counted left d c s e ok made good
 
@@ -143,7 +143,7 @@ module _ {cs : List Chunk} {len n : ℕ} {v : Stack} (is : IsStack cs len n) (se
         pub push_frames : (ws : List ℕ) → words_in s ≡ ws → stack_frames (set cs (len / 1024) c) ≡ v.frames ++ ws ∷ []
         push_frames ws same =
             ap frames_in (same_slots (set cs (len / 1024) c) (ss ++ s ∷ []) (n - 1) holds_pushed)
-            ∙ frames_push ss s ∙ (λ j. (seen j).frames ++ same j ∷ [])
+            ∙ frames_push ss s ∙ (λ j. (see j).frames ++ same j ∷ [])
 
   -- the top frame is popped
   module _ (some : 0 < length v.frames) where
@@ -151,7 +151,7 @@ module _ {cs : List Chunk} {len n : ℕ} {v : Stack} (is : IsStack cs len n) (se
     top_below = omega (arith, some, len_is)
 
     module _ (d : Chunk) (e : d ≡ get_or cs ((len - 1) / 1024) d) (c : Chunk) (ok : IsChunk c)
-      (made : c.cells.slots ≡ set d.cells.slots ((len - 1) % 1024) None) where
+        (made : c.cells.slots ≡ set d.cells.slots ((len - 1) % 1024) None) where
       long : length ss ≡ suc (len - 1)
       long = omega (arith, some, slots_count, is.counted)
 
@@ -168,7 +168,7 @@ module _ {cs : List Chunk} {len n : ℕ} {v : Stack} (is : IsStack cs len n) (se
           let less : len - 1 ≡ length (frames_in ss) - 1 = omega (arith, frames_length ss, long) in
           ap frames_in (same_slots (set cs ((len - 1) / 1024) c) (take (len - 1) ss) (n + 1) holds_popped)
           ∙ frames_take ss (len - 1) ∙ ap (λ k. take k (frames_in ss)) less
-          ∙ ap (λ t. take (length t.frames - 1) t.frames) seen
+          ∙ ap (λ t. take (length t.frames - 1) t.frames) see
 
   -- free chunks are added
   module _ (ds : List Chunk) (free : All IsFree ds) (few : length cs + length ds ≤ 1125899906842624) where
@@ -183,7 +183,7 @@ module _ {cs : List Chunk} {len n : ℕ} {v : Stack} (is : IsStack cs len n) (se
   pub reserve_frames : (ds : List Chunk) → All IsFree ds → stack_frames (cs ++ ds) ≡ v.frames
   reserve_frames ds free =
       let more = added cs ss n is.holds ds (length ds * 1024) (free_chunks ds free) (free_places ds free) in
-      ap frames_in (same_slots (cs ++ ds) ss (n + length ds * 1024) more) ∙ ap (λ t. t.frames) seen
+      ap frames_in (same_slots (cs ++ ds) ss (n + length ds * 1024) more) ∙ ap (λ t. t.frames) see
 
 -- the slots of the chunks can be counted
 pub slots_fit : {cs : List Chunk} {len n : ℕ} → IsStack cs len n → len + n ≡ length cs * 1024

@@ -1,6 +1,6 @@
 -- Where a place of the row of all places lies: the place i is in the chunk i / 1024.
-use Rattle.std.proofs.Common.{◌≡◌, ℕ, zero, suc, ◌+◌, ◌-◌, ◌*◌, ◌<◌, List, [], ◌∷◌, ◌++◌, length, set, get_or, Option, None}
-use Rattle.std.proofs.Common.{refl, sym, ap, ◌∙◌, arith, length-append, append_assoc}
+use Rattle.std.proofs.Common.{◌≡◌, ℕ, zero, suc, ◌+◌, ◌-◌, ◌*◌, ◌<◌, List, [], ◌∷◌, ◌++◌, length, set, get_or}
+use Rattle.std.proofs.Common.{Option, None, refl, sym, ap, ◌∙◌, arith, length-append, append_assoc}
 use Rattle.std.proofs.lemmas.List.{get_or_append_left, set-append_left, set-append_right}
 use Rattle.std.proofs.Math.Seq.{get_or-append_right}
 use Rattle.frame_stack.specs.declared.slot.Slot.{Slot}

@@ -8,7 +8,8 @@ use Rattle.std.proofs.Math.Nat.{mod-lt}
 use Rattle.std.specs.Prelude.{All}
 use Rattle.frame_stack.specs.declared.slot.Slot.{Slot}
 use Rattle.frame_stack.specs.declared.chunk.Chunk.{Chunk}
-use Rattle.frame_stack.specs.Chunks.{IsSlot, IsChunk, IsFree, AreChunks, places, slots_in, AreSlots, somes, Holds, IsStack}
+use Rattle.frame_stack.specs.Chunks.{IsSlot, IsChunk, IsFree, AreChunks, places, slots_in, AreSlots, somes}
+use Rattle.frame_stack.specs.Chunks.{Holds, IsStack}
 use Rattle.frame_stack.proofs.PlaceLemmas.{place_at, places_set, are_set, is_chunk_at, places_length, places_append}
 use Rattle.frame_stack.proofs.PlaceLemmas.{are_append}
 use Rattle.frame_stack.proofs.FrameLemmas.{somes_length, nones_length, slots_back, filled_at, empty_at, laid_push}
@@ -33,8 +34,14 @@ module _ (cs : List Chunk) (ss : List Slot) (n : ℕ) (h : Holds cs ss n) where
   -- each place is a slot or spare
   pub total : length cs * 1024 ≡ length ss + n
   total =
-      omega (arith, places_length cs h.chunks, ap length h.laid, length-append (somes ss) (replicate n None),
-        somes_length ss, nones_length n)
+      omega (
+        arith,
+        places_length cs h.chunks,
+        ap length h.laid,
+        length-append (somes ss) (replicate n None),
+        somes_length ss,
+        nones_length n,
+      )
 
   module _ (i : ℕ) (lt : i < length ss + n) where
     pub small : i % 1024 < 1024
@@ -65,9 +72,9 @@ module _ (cs : List Chunk) (ss : List Slot) (n : ℕ) (h : Holds cs ss n) where
       changed c x ts m ok made laid slots = record {
         chunks = are_set cs (i / 1024) c h.chunks ok;
         laid =
-          places_set cs (i / 1024) (i % 1024) i d c x h.chunks within small parts
+            places_set cs (i / 1024) (i % 1024) i d c x h.chunks within small parts
             (made ∙ ap (λ b. set b.cells.slots (i % 1024) x) e)
-          ∙ ap (λ l. set l i x) h.laid ∙ laid;
+            ∙ ap (λ l. set l i x) h.laid ∙ laid;
         slots = slots;
       }
 
@@ -114,8 +121,8 @@ module _ (cs : List Chunk) (ss : List Slot) (n : ℕ) (h : Holds cs ss n) where
   added ds m ok free = record {
     chunks = are_append cs ds h.chunks ok;
     laid =
-      places_append cs ds ∙ (λ j. h.laid j ++ free j) ∙ append_assoc (somes ss) (replicate n None) (replicate m None)
-      ∙ ap (λ l. somes ss ++ l) (replicate-append-replicate n m None);
+        places_append cs ds ∙ (λ j. h.laid j ++ free j) ∙ append_assoc (somes ss) (replicate n None) (replicate m None)
+        ∙ ap (λ l. somes ss ++ l) (replicate-append-replicate n m None);
     slots = h.slots;
   }
 
@@ -148,7 +155,7 @@ first_free : (c : Chunk) (cs : List Chunk) (n : ℕ) → AreChunks (c ∷ cs) �
     → (c.cells.slots ≡ replicate 1024 None) × (places cs ≡ replicate (length cs * 1024) None)
 first_free c cs n h e =
     let long : n ≡ 1024 + length cs * 1024 =
-      omega (arith, ap length e, nones_length n, places_length (c ∷ cs) h) in
+    omega (arith, ap length e, nones_length n, places_length (c ∷ cs) h) in
     front_of c.cells.slots (places cs) 1024 (length cs * 1024) h.0.size
     (e ∙ ap (λ k. replicate k None) long ∙ sym (replicate-append-replicate 1024 (length cs * 1024) None))
 

@@ -14,4 +14,4 @@ stack fs n = record { frames = fs; spare = n }
 -- a stack as a pair, by which it is coded
 abbrev pub stack_code : Coded Stack
 stack_code = code_by (List (List ℕ) × ℕ) (coded× (coded_list (coded_list coded_ℕ)) coded_ℕ)
-  (λ s. (s.frames, s.spare)) (λ p. stack p.0 p.1) (λ _. refl)
+    (λ s. (s.frames, s.spare)) (λ p. stack p.0 p.1) (λ _. refl)

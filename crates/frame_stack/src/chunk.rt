@@ -76,7 +76,7 @@ impl Chunk {
         ensures chunk { IsChunk self.new }
         ensures slots { (s : Frame) → get_or self.old.cells.slots place None ≡ Some s →
             self.new.cells.slots ≡
-                slice_set self.old.cells.slots place (Some (with_word s w value)) }
+            slice_set self.old.cells.slots place (Some (with_word s w value)) }
     {
         self.cells.get_mut(self.base, place).words[w] = value;
     }

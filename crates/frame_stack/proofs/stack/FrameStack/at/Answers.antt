@@ -26,4 +26,4 @@ pub returns-clause-words : goal.returns-clause-words
 returns-clause-words c =
     c.words.ensures.words
     ∙ frame_words c.self.invariant c.self.view_is c.args.i c.requires c.index.result.now c.index.ensures
-      c.slot.result.now c.slot.ensures
+    c.slot.result.now c.slot.ensures

@@ -14,10 +14,10 @@ invariant_of-self c =
     let wanted = (c.args.n - s.spare - 1) / 1024 + 1 in
     let long : length ds ≡ wanted = omega (arith, c.in_ok-more.ensures.1, c.in_ok-more.more.ok.0) in
     let few : length cs + length ds ≤ 1125899906842624 =
-      omega (arith, long, c.if-len-wanted.false, c.len.ensures, s.chunks.ok.0, c.self.invariant.few) in
+    omega (arith, long, c.if-len-wanted.false, c.len.ensures, s.chunks.ok.0, c.self.invariant.few) in
     let more = reserve_stack c.self.invariant c.self.view_is ds c.in_ok-more.ensures.0 few in
     let spare : IsStack (cs ++ ds) s.len (s.spare + wanted * 1024) =
-      subst (λ k. IsStack (cs ++ ds) s.len (s.spare + k * 1024)) long more in
+    subst (λ k. IsStack (cs ++ ds) s.len (s.spare + k * 1024)) long more in
     subst (λ l. IsStack l s.len (s.spare + wanted * 1024)) (sym c.in-Ok.ensures.items) spare
 
 pub returns-in-Ok-clause-frames : goal.returns-in-Ok-clause-frames

@@ -15,7 +15,7 @@ import tempfile
 import generated
 from run import MIB, measure
 
-CHAINS, LENGTH, STATES = 132, 31, 1022
+CHAINS, LENGTH, STATES = 146, 28, 1022
 
 
 def long_name(first, number):
@@ -29,7 +29,7 @@ def filled(lines):
 
 
 def pairs():
-    """1,023 states, 4,092 junctions in chains, and 32,705 pairs: each state leads to a chain."""
+    """1,023 states, 4,088 junctions in chains, 8,177 transitions and 32,705 pairs: each state leads to a chain."""
     yield from ('chart C or {', 'event input GO;', 'default -> %s;' % long_name('s', 0))
     for chain in range(CHAINS):
         for place in range(LENGTH):
@@ -38,7 +38,8 @@ def pairs():
             to = long_name('s', chain) if last else '@' + long_name('j', junction + 1)
             yield 'junction %s { -> %s; }' % (long_name('j', junction), to)
     for state in range(STATES):
-        yield 'state %s { outer GO -> @%s; }' % (long_name('s', state), long_name('j', state % CHAINS * LENGTH))
+        chain, others = long_name('j', state % CHAINS * LENGTH), 'outer GO -> %s; ' % long_name('s', 0)
+        yield 'state %s { outer GO -> @%s; %s}' % (long_name('s', state), chain, others * 3)
     yield '}'
 
 

@@ -102,3 +102,7 @@ is_event e (Named x) = x == e
 -- an event that was sent from here: it is current one level deeper
 abbrev pub deeper : ℕ → Now → Now
 deeper e now = record { event = Named e; depth = suc now.depth }
+
+-- an event from outside is at depth 0
+abbrev pub from_outside : Event → Now
+from_outside e = record { event = e; depth = 0 }

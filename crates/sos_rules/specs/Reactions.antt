@@ -6,7 +6,8 @@ use Rattle.actions.specs.declared.event.Event.{Event}
 use Rattle.actions.specs.declared.event.Event.TheVariants.{Start}
 use Rattle.actions.specs.Runs.{Moment, EventWithInputs, StartRelation, ReactionRelation, Runs}
 use Rattle.actions.specs.World.{World, world_before, begun}
-use Rattle.run_work.specs.Work.{Run, Ended, Faulted, Unfinished, Now}
+use Rattle.run_work.specs.Work.{Run, Ended, Faulted, Unfinished}
+pub use Rattle.run_work.specs.Work.{from_outside}
 use Rattle.state_tree.specs.Chart.{Chart}
 use Rattle.sos_rules.specs.Parts.{Went}
 use Rattle.sos_rules.specs.Rules.{upto}
@@ -21,10 +22,6 @@ moment_of Unfinished = None
 pub record Gives {A : Type 0} (m : ℕ → Run A) (moment : Moment) : Type 0 where
   pub height : ℕ
   pub gives : moment_of (m height) ≡ Some moment
-
--- an event from outside is at depth 0
-abbrev pub from_outside : Event → Now
-from_outside e = record { event = e; depth = 0 }
 
 -- the root is entered from the world before the start
 abbrev pub start_upto : Chart → Bounds → ℕ → Run (Unit {0})

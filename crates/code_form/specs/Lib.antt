@@ -1,0 +1,10 @@
+pub mod Instrs
+pub mod Code
+pub mod Machine
+pub mod Reactions
+pub mod Measures
+pub mod Tables
+pub mod WellFormed
+pub mod Sound
+pub mod Form
+pub mod Kept

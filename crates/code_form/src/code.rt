@@ -33,7 +33,7 @@ pub struct RawCode {
     pub procs: List<List<Instr>>,
 }
 
-/// Code that is well formed. A contract sees the code; `accept` makes it.
+/// Code that is well formed. A contract sees what is written; `accept` makes it.
 #[derive(Debug, Drop)]
 pub struct Code {
     raw: RawCode,
@@ -42,15 +42,19 @@ pub struct Code {
 }
 
 impl Model for Code {
-    ghost use Rattle.code_form.specs.Code as spec;
-
-    ghost Value = { spec.Code };
-
+    ghost use Rattle.std.specs.Coded.{codes};
+    ghost use Rattle.actions.specs.contracts.expr.Expr as e;
+    ghost use Rattle.code_form.specs.declared.code.RawCode.{RawCode};
+    ghost use Rattle.code_form.specs.Code.{code_of};
     ghost use Rattle.code_form.specs.Kept.{IsKept};
 
-    ghost view = { λ code. spec.code_of code.raw };
+    ghost Value = { RawCode };
 
-    ghost invariant = { λ code. IsKept (spec.code_of code.raw) code.height code.work };
+    ghost coded = { Prim.hlevel (codes, e.the_row.coded) };
+
+    ghost view = { λ code. code.raw };
+
+    ghost invariant = { λ code. IsKept (code_of code.raw) code.height code.work };
 }
 
 impl Code {
@@ -63,37 +67,37 @@ impl Code {
     /// Keeps well-formed code with its height and its work. It takes no memory.
     pub(crate) fn of(raw: RawCode, height: u32, work: u64) -> Code
         requires { IsKept (code_of raw) height work }
-        ensures { result ≡ code_of raw }
+        ensures { result ≡ raw }
     {
         Code { raw, height, work }
     }
 
     /// The code as it is written. It takes no memory.
     pub fn raw(&self) -> &RawCode
-        ensures code { code_of result.now ≡ self.now }
-        ensures well_formed { IsCode self.now }
+        ensures raw { result.now ≡ self.now }
+        ensures well_formed { IsCode (code_of self.now) }
     {
         &self.raw
     }
 
     /// The code as it was written, taken out. It takes no memory.
     pub fn into_raw(self) -> RawCode
-        ensures code { code_of result ≡ self }
-        ensures well_formed { IsCode self }
+        ensures raw { result ≡ self }
+        ensures well_formed { IsCode (code_of self) }
     {
         self.raw
     }
 
     /// The greatest height of a procedure, at most 200.
     pub fn height(&self) -> u32
-        ensures { result ≡ greatest (heights self.now.procedures.procs) }
+        ensures { result ≡ greatest (heights (code_of self.now).procedures.procs) }
     {
         self.height
     }
 
     /// The greatest work of a procedure, at most 10,000,000,000 instructions.
     pub fn work(&self) -> u64
-        ensures { result ≡ greatest (works self.now.procedures.procs) }
+        ensures { result ≡ greatest (works (code_of self.now).procedures.procs) }
     {
         self.work
     }

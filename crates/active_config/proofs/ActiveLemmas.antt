@@ -1,85 +1,90 @@
--- The search for an active child, and what it says of a bare state.
-use Rattle.std.proofs.Common.{◌≡◌, ℕ, ◌<◌, List, [], ◌∷◌, length, Option, Some, None, Bool}
-use Rattle.std.proofs.Common.{true, false, cond, not, ◌&&◌, ◌||◌, refl, sym, ap, ◌∙◌, subst, arith}
-use Rattle.std.specs.Prelude.{is_some, IfSome}
-use Rattle.std.specs.List.{find, list_any}
-use Rattle.active_config.specs.Tree.{Tree, state_count, parent_of, children_of, children_from, first_child, next_sibling}
-use Rattle.active_config.specs.Marks.{Configuration, is_on, is_bare, active_child}
+-- The search for an active child, what it says of a bare state, and the search for an active state.
+use Rattle.std.proofs.Common.{◌≡◌, ◌≢◌, ℕ, ◌+◌, ◌-◌, ◌≤◌, ◌<◌, List, [], ◌∷◌, Option, Some, None, Bool}
+use Rattle.std.proofs.Common.{true, false, cond, not, ◌&&◌, ◌||◌, refl, sym, ap, ◌∙◌, arith, inl, inr, ⊎_elim, get_or, length}
+use Rattle.std.proofs.lemmas.Bool.{cases_lt}
+use Rattle.std.proofs.lemmas.Bool.Decides.{nat_tests}
+use Rattle.std.specs.Prelude.{◌⊎◌, nat_lt, is_some, IfSome}
+use Rattle.std.specs.List.{find, list_any, range_with_len}
+use Rattle.active_config.specs.Tree.{Tree, IsTree, state_count, parent_of, is_child, is_below, children_of, children_below}
+use Rattle.active_config.specs.Shape.{IsEnd}
+use Rattle.active_config.specs.BitList.{first_on}
+use Rattle.active_config.specs.Marks.{Configuration, mark_count, is_on, is_bare, active_child, next_on, IsConsistent}
 use Rattle.active_config.proofs.ParentLemmas.{child_within}
-use Rattle.active_config.proofs.SiblingLemmas.{children_of-from, children_from-next, first_is_child, next_is_child}
+use Rattle.active_config.proofs.PathLemmas.{Above, above_of_below, path_le, parent_lt, is_below-step, is_at_or_below-same}
+use Rattle.active_config.proofs.RangeLemmas.{find-filter, find-none, find-first}
+use Rattle.active_config.proofs.SiblingLemmas.{IsFirst, is_first, is_none}
+use Rattle.active_config.proofs.ChildLemmas.{parent_of_child, child_of_parent}
+use Rattle.active_config.proofs.MarksLemmas.{on_past}
+use Rattle.active_config.proofs.TableLemmas.{same_or_other}
 
--- what is left to look through for an active child
-pub record Left (t : Tree) (s : ℕ) (m : Configuration) (rest : Option ℕ) : Type 0 where
-  pub same : active_child t s m ≡ find (λ x. is_on x m) (children_from t s rest)
-  pub is_child_of : (x : ℕ) → rest ≡ Some x → parent_of t x ≡ Some s
-  pub after : IfSome rest (λ x. (s < x) × (x < state_count t))
+-- of two tests that both hold each does, and they don't both hold where one doesn't
+both_hold : (a b : Bool) → a ≡ true → b ≡ true → (a && b) ≡ true
+both_hold true b e f = f
+both_hold false b e f = absurd cc
 
--- at the start that is every child
-pub left_first : (t : Tree) (s : ℕ) (m : Configuration) (o : Option ℕ) → o ≡ first_child t s
-    → IfSome o (λ x. (s < x) × (x < state_count t)) → Left t s m o
-unfolding active_child
-left_first t s m o e after = record {
-  after = after;
-  same = ap (find (λ x. is_on x m)) (children_of-from t s ∙ ap (children_from t s) (sym e));
-  is_child_of = λ x f. first_is_child t s x (sym e ∙ f);
-}
+not_both : (a b : Bool) → (a ≡ true → b ≡ false) → (a && b) ≡ false
+not_both true b h = h refl
+not_both false b h = refl
 
--- an active child that is met is the one looked for
-pub left_found : (t : Tree) (s x : ℕ) (m : Configuration) (b : Bool) → Left t s m (Some x) → b ≡ is_on x m → b ≡ true
-    → Some x ≡ active_child t s m
-left_found t s x m b h e on =
-    let f : is_on x m ≡ true = sym e ∙ on in
-    sym (h.same
-    ∙ ap (find (λ x. is_on x m)) (children_from-next t s x (h.is_child_of x refl))
-    ∙ ap (λ c. cond c (Some x) (find (λ x. is_on x m) (children_from t s (next_sibling t x)))) f)
+-- the first active child is the first state that is a child and active
+active_child-find : (t : Tree) (s : ℕ) (m : Configuration)
+    → active_child t s m ≡ find (λ x. is_child t s x && is_on x m) (range_with_len 0 (state_count t))
+unfolding active_child children_of children_below
+active_child-find t s m = find-filter (λ x. is_on x m) (is_child t s) (range_with_len 0 (state_count t))
 
--- past a child that is not active the search goes on
-pub left_next : (t : Tree) (s x : ℕ) (m : Configuration) (b : Bool) (o : Option ℕ) → Left t s m (Some x) → b ≡ is_on x m
-    → b ≡ false → o ≡ next_sibling t x → IfSome o (λ y. (x < y) × (y < state_count t)) → Left t s m o
-left_next t s x m b o h e off n after =
-    let f : is_on x m ≡ false = sym e ∙ off in
-    record {
-      same = h.same
-          ∙ ap (find (λ x. is_on x m)) (children_from-next t s x (h.is_child_of x refl))
-          ∙ ap (λ c. cond c (Some x) (find (λ x. is_on x m) (children_from t s (next_sibling t x)))) f
-          ∙ ap (λ r. find (λ x. is_on x m) (children_from t s r)) (sym n);
-      is_child_of = λ y g. next_is_child t s x y (h.is_child_of x refl) (sym n ∙ g);
-      after = still o after;
-    }
-  where
-    still : (o : Option ℕ) → IfSome o (λ y. (x < y) × (y < state_count t))
-        → IfSome o (λ y. (s < y) × (y < state_count t))
-    still None a = tt
-    still (Some y) a = let low = h.after.0 in let high = a.0 in (omega arith, a.1)
+module _ (t : Tree) (m : Configuration) (tree : IsTree t) (k : IsConsistent t m) (s e : ℕ) (end : IsEnd t s e) where
+  -- the children of a state are among the states below it
+  child_between : (y : ℕ) → is_child t s y ≡ true → (s < y) × (y < e)
+  child_between y i =
+      let up = parent_of_child t s y i in
+      let lt = child_within t y s up in
+      let low = parent_lt t (state_count t) tree.pre_order y s lt up in
+      let below : is_below t y s ≡ true =
+      is_below-step t (state_count t) tree.pre_order y s s lt up ∙ is_at_or_below-same t s s refl in
+      let test = sym (end.between y lt) ∙ below in
+      (low, grind (arith, nat_tests))
 
--- at the end there is none
-pub left_none : (t : Tree) (s : ℕ) (m : Configuration) → Left t s m None → None ≡ active_child t s m
-unfolding children_from
-left_none t s m h = sym h.same
+  -- the first active one among the states below a state is its child, since the parent of an active state is active
+  first_below_is_child : (x : ℕ) → IsFirst (λ y. is_on y m) (s + 1) (e - (s + 1)) x → parent_of t x ≡ Some s
+  first_below_is_child x first = at (same_or_other up.parent s)
+    where
+      low : s + 1 ≤ x
+      low = first.low
 
--- what is left grows shorter
-pub left_falls : (t : Tree) (s x : ℕ) (m : Configuration) (o : Option ℕ) → Left t s m (Some x) → o ≡ next_sibling t x
-    → length (children_from t s o) < length (children_from t s (Some x))
-left_falls t s x m o h n =
-    let e = ap length (children_from-next t s x (h.is_child_of x refl) ∙ ap (λ r. x ∷ children_from t s r) (sym n)) in
-    omega arith
+      high : x < e
+      high = omega (arith, first.high, end.after)
 
--- what is looked at is a state
-pub left_within : (t : Tree) (s x : ℕ) (m : Configuration) → Left t s m (Some x) → x < state_count t
-left_within t s x m h = child_within t x s (h.is_child_of x refl)
+      within : x < state_count t
+      within = omega (arith, high, end.within)
 
-pub left_at : (t : Tree) (s x : ℕ) (m : Configuration) (rest : Option ℕ) → rest ≡ Some x → Left t s m rest
-    → Left t s m (Some x)
-left_at t s x m rest e h = subst (Left t s m) e h
+      test : (nat_lt s x && nat_lt x e) ≡ true
+      test = let a = low in let b = high in grind (arith, nat_tests)
 
-pub left_end : (t : Tree) (s : ℕ) (m : Configuration) (rest : Option ℕ) → rest ≡ None → Left t s m rest
-    → Left t s m None
-left_end t s m rest e h = subst (Left t s m) e h
+      up : Above t s x
+      up = above_of_below t x s (end.between x within ∙ test)
 
-pub left_falls_at : (t : Tree) (s x : ℕ) (m : Configuration) (rest o : Option ℕ) → rest ≡ Some x → Left t s m rest
-    → o ≡ next_sibling t x → length (children_from t s o) < length (children_from t s rest)
-left_falls_at t s x m rest o e h n =
-    subst (λ r. length (children_from t s o) < length (children_from t s r)) (sym e) (left_falls t s x m o (left_at t s x m rest e h) n)
+      at : (up.parent ≡ s) ⊎ (up.parent ≢ s) → parent_of t x ≡ Some s
+      at (inl same) = up.is_parent ∙ ap Some same
+      at (inr ne) =
+          let lower : up.parent < x = parent_lt t (state_count t) tree.pre_order x up.parent within up.is_parent in
+          let over : s ≤ up.parent = path_le t (state_count t) tree.pre_order up.parent s (omega (arith, within)) up.path in
+          let on : is_on up.parent m ≡ true = k.parents x up.parent up.is_parent first.passes in
+          let off = first.none_before up.parent (omega arith) lower in
+          absurd cc
+
+  -- so it is the first active child
+  first_below : (o : Option ℕ) → find (λ y. is_on y m) (range_with_len (s + 1) (e - (s + 1))) ≡ o → o ≡ active_child t s m
+  first_below None none =
+      sym (active_child-find t s m ∙ find-none (λ y. is_child t s y && is_on y m) 0 (state_count t)
+      (λ y lo hi. not_both _ _ (λ i. let b = child_between y i in
+      is_none (λ z. is_on z m) (s + 1) (e - (s + 1)) none y (omega arith) (omega arith))))
+  first_below (Some x) some =
+      let first = is_first (λ y. is_on y m) (s + 1) (e - (s + 1)) x some in
+      let up = first_below_is_child x first in
+      let within = child_within t x s up in
+      sym (active_child-find t s m ∙ find-first (λ y. is_child t s y && is_on y m) 0 (state_count t) x (omega arith)
+      (omega arith) (both_hold _ _ (child_of_parent t s x up) first.passes)
+      (λ y lo hi. not_both _ _ (λ i. let b = child_between y i in first.none_before y (omega arith) hi)))
 
 none_at : (b : Bool) (x : ℕ) (r : Option ℕ) (a : Bool) → is_some r ≡ a → is_some (cond b (Some x) r) ≡ (b || a)
 none_at true x r a h = refl
@@ -106,3 +111,52 @@ bare_where_on t s m o b c e on f g =
 pub bare_where_off : (t : Tree) (s : ℕ) (m : Configuration) (b : Bool) → b ≡ is_on s m → b ≡ false → b ≡ is_bare t s m
 unfolding is_bare
 bare_where_off t s m b e off = off ∙ ap (λ x. x && not (list_any (λ x. is_on x m) (children_of t s))) (sym off ∙ e)
+
+-- the first flag that is on among those of the states below a state
+pub first_active_is : (t : Tree) (m : Configuration) (flags : List Bool) (s e : ℕ) (r : Option ℕ) → IsTree t
+    → IsConsistent t m → IsEnd t s e → flags ≡ m.flags → r ≡ first_on (s + 1) e flags → r ≡ active_child t s m
+unfolding first_on is_on
+first_active_is t m flags s e r tree k end same is =
+    first_below t m tree k s e end r
+    (ap (λ l. find (λ y. get_or l y false) (range_with_len (s + 1) (e - (s + 1)))) (sym same) ∙ sym is)
+
+-- it is a state after that one
+pub first_active_after : (t : Tree) (s e : ℕ) (r : Option ℕ) → IsEnd t s e → IfSome r (λ x. (s + 1 ≤ x) × (x < e))
+    → IfSome r (λ x. (s < x) × (x < state_count t))
+first_active_after t s e None end h = tt
+first_active_after t s e (Some x) end h = let low = h.0 in let high = h.1 in let within = end.within in (omega arith, omega arith)
+
+-- the first flag that is on from a number on
+pub next_on_is : (m : Configuration) (flags : List Bool) (from n : ℕ) (r : Option ℕ) → flags ≡ m.flags → n ≡ length flags
+    → r ≡ first_on from n flags → r ≡ next_on from m
+unfolding first_on next_on is_on mark_count
+next_on_is m flags from n r same count is =
+    is ∙ ap (λ k. find (λ y. get_or flags y false) (range_with_len from (k - from))) count
+    ∙ ap (λ l. find (λ y. get_or l y false) (range_with_len from (length l - from))) same
+
+-- what is found lies between the bounds, is on, and is the first one
+pub record IsNext (m : Configuration) (from x : ℕ) : Type 0 where
+  pub low : from ≤ x
+  pub high : x < mark_count m
+  pub on : is_on x m ≡ true
+  pub first : (y : ℕ) → from ≤ y → y < x → is_on y m ≡ false
+
+is_next : (m : Configuration) (from x : ℕ) → Some x ≡ next_on from m → IsNext m from x
+unfolding next_on
+is_next m from x e =
+    let first = is_first (λ y. is_on y m) from (mark_count m - from) x (sym e) in
+    record { low = first.low; high = omega (arith, first.low, first.high); on = first.passes; first = first.none_before }
+
+-- so of an answer that is it
+pub if_next : {P : ℕ → Type 0} (m : Configuration) (from : ℕ) (r : Option ℕ) → r ≡ next_on from m
+    → ((x : ℕ) → IsNext m from x → P x) → IfSome r P
+if_next m from None e h = tt
+if_next m from (Some x) e h = h x (is_next m from x e)
+
+-- where none is found, none is on
+pub none_next : (m : Configuration) (from y : ℕ) → None ≡ next_on from m → from ≤ y → is_on y m ≡ false
+unfolding next_on
+none_next m from y e le = ⊎_elim
+    (λ lt. is_none (λ z. is_on z m) from (mark_count m - from) (sym e) y le (omega arith))
+    (λ past. on_past y m past)
+    (cases_lt y (mark_count m))

@@ -13,7 +13,7 @@ use Rattle.active_config.proofs.MarksLemmas.{marked, cleared, remembered, no_mar
 abbrev pub configuration : List Bool → List (Option ℕ) → Configuration
 configuration flags last = record { flags = flags; last = last }
 
-flags_are : (flags : List Bool) (last : List (Option ℕ)) (m : Configuration) → configuration flags last ≡ m
+pub flags_are : (flags : List Bool) (last : List (Option ℕ)) (m : Configuration) → configuration flags last ≡ m
     → flags ≡ m.flags
 flags_are flags last m e = ap (λ (x : Configuration). x.flags) e
 
@@ -39,10 +39,11 @@ unfolding mark_count
 state_within flags last m s e lt = omega (arith, ap length (flags_are flags last m e))
 
 -- a flag that is set is a mark
-pub flag_set : (flags : List Bool) (last : List (Option ℕ)) (m : Configuration) (s : ℕ) (b : Bool)
-    → configuration flags last ≡ m → configuration (set flags s b) last ≡ with_mark s b m
+pub flag_set : (flags after : List Bool) (last : List (Option ℕ)) (m : Configuration) (s : ℕ) (b : Bool)
+    → configuration flags last ≡ m → after ≡ set flags s b → configuration after last ≡ with_mark s b m
 unfolding with_mark
-flag_set flags last m s b e = ap (λ (x : Configuration). record x { flags = set x.flags s b }) e
+flag_set flags after last m s b e is =
+    ap (λ l. configuration l last) is ∙ ap (λ (x : Configuration). record x { flags = set x.flags s b }) e
 
 -- an entry that is set is what the parent remembers
 pub entry_set : (t : Tree) (flags : List Bool) (last : List (Option ℕ)) (m : Configuration) (s p : ℕ)
@@ -61,10 +62,15 @@ any (x ∷ xs) (suc i) a d lt = any xs i a d (omega arith)
 
 -- a flag that is read tells whether the state is active
 pub flag_read : (flags : List Bool) (last : List (Option ℕ)) (m : Configuration) (s : ℕ) (b : Bool)
-    → configuration flags last ≡ m → s < length flags → b ≡ get_or flags s b → b ≡ is_on s m
+    → configuration flags last ≡ m → b ≡ get_or flags s false → b ≡ is_on s m
 unfolding is_on
-flag_read flags last m s b e lt read =
-    read ∙ any flags s b false lt ∙ ap (λ l. get_or l s false) (flags_are flags last m e)
+flag_read flags last m s b e read = read ∙ ap (λ l. get_or l s false) (flags_are flags last m e)
+
+-- how many flags there are
+pub flag_count : (flags : List Bool) (last : List (Option ℕ)) (m : Configuration) → configuration flags last ≡ m
+    → length flags ≡ mark_count m
+unfolding mark_count
+flag_count flags last m e = ap length (flags_are flags last m e)
 
 -- an entry that is read is what the state remembers
 pub entry_read : (flags : List Bool) (last : List (Option ℕ)) (m : Configuration) (s : ℕ) (o : Option ℕ)
@@ -73,18 +79,18 @@ unfolding last_of
 entry_read flags last m s o e lt read = read ∙ any last s o None lt ∙ ap (λ l. get_or l s None) (last_is flags last m e)
 
 -- the lists stay consistent after marking
-pub marked_flags : (t : Tree) (flags : List Bool) (last : List (Option ℕ)) (m : Configuration) (s : ℕ)
-    → configuration flags last ≡ m → IsConsistent t m → can_mark t s m ≡ true
-    → IsConsistent t (configuration (set flags s true) last)
-marked_flags t flags last m s e k can =
-    subst (IsConsistent t) (sym (flag_set flags last m s true e)) (marked t m k s can)
+pub marked_flags : (t : Tree) (flags after : List Bool) (last : List (Option ℕ)) (m : Configuration) (s : ℕ)
+    → configuration flags last ≡ m → after ≡ set flags s true → IsConsistent t m → can_mark t s m ≡ true
+    → IsConsistent t (configuration after last)
+marked_flags t flags after last m s e is k can =
+    subst (IsConsistent t) (sym (flag_set flags after last m s true e is)) (marked t m k s can)
 
 -- after clearing
-pub cleared_flags : (t : Tree) (flags : List Bool) (last : List (Option ℕ)) (m : Configuration) (s : ℕ)
-    → configuration flags last ≡ m → IsConsistent t m → is_bare t s m ≡ true
-    → IsConsistent t (configuration (set flags s false) last)
-cleared_flags t flags last m s e k bare =
-    subst (IsConsistent t) (sym (flag_set flags last m s false e)) (cleared t m k s bare)
+pub cleared_flags : (t : Tree) (flags after : List Bool) (last : List (Option ℕ)) (m : Configuration) (s : ℕ)
+    → configuration flags last ≡ m → after ≡ set flags s false → IsConsistent t m → is_bare t s m ≡ true
+    → IsConsistent t (configuration after last)
+cleared_flags t flags after last m s e is k bare =
+    subst (IsConsistent t) (sym (flag_set flags after last m s false e is)) (cleared t m k s bare)
 
 -- and after keeping
 pub kept_entry : (t : Tree) (flags : List Bool) (last : List (Option ℕ)) (m : Configuration) (s p : ℕ)

@@ -138,7 +138,7 @@ unfolding with_last
 last-with_last-length t s p m up = ap (λ o. length (remember o s m.last)) up ∙ length-set m.last p (Some s)
 
 -- a number past the list is not active
-on_past : (x : ℕ) (m : Configuration) → mark_count m ≤ x → is_on x m ≡ false
+pub on_past : (x : ℕ) (m : Configuration) → mark_count m ≤ x → is_on x m ≡ false
 unfolding is_on mark_count
 on_past x m le = get_or-eq_default m.flags false le
 

@@ -1,6 +1,6 @@
 -- The active configuration: the states that are active, and the child that each OR remembers.
-use Rattle.std.specs.Prelude.{◌≡◌, ◌==◌, ◌&&◌, ℕ, List, length, replicate, Option, Some, None, Bool, true, false, not, slice_index_or, slice_set}
-use Rattle.std.specs.List.{find, list_any}
+use Rattle.std.specs.Prelude.{◌≡◌, ◌==◌, ◌&&◌, ℕ, ◌-◌, List, length, replicate, Option, Some, None, Bool, true, false, not, slice_index_or, slice_set}
+use Rattle.std.specs.List.{find, list_any, range_with_len}
 use Rattle.std.specs.Option.{option_map_or}
 use Rattle.active_config.specs.declared.comp.Comp.{Comp}
 use Rattle.active_config.specs.declared.comp.Comp.TheVariants.{Leaf, Or, And}
@@ -26,6 +26,10 @@ is_bare t s marks = is_on s marks && not (list_any (λ x. is_on x marks) (childr
 -- the first active child of a state, if there is one
 unfoldable pub active_child : Tree → ℕ → Configuration → Option ℕ
 active_child t s marks = find (λ x. is_on x marks) (children_of t s)
+
+-- the first active state from a number on, if there is one
+unfoldable pub next_on : ℕ → Configuration → Option ℕ
+next_on from marks = find (λ x. is_on x marks) (range_with_len from (mark_count marks - from))
 
 -- no state is active, and none remembers a child
 unfoldable pub no_marks : Tree → Configuration

@@ -1,4 +1,5 @@
 //! The active configuration.
+use crate::bit_list::BitList;
 use crate::memory::Memory;
 use crate::shape::Shape;
 use crate::tables::no_states;
@@ -9,7 +10,7 @@ use std::marker::Model;
 /// remembers, if any. Contracts see it as a `Configuration`.
 #[derive(Debug, Drop)]
 pub struct Marks {
-    flags: Vec<bool>,
+    flags: BitList,
     last: Vec<Option<u32>>,
 }
 
@@ -18,11 +19,24 @@ impl Model for Marks {
 
     ghost Value = { Configuration };
 
-    ghost view = { λ m. record { flags = m.flags.items; last = m.last.items } };
+    ghost view = { λ m. record { flags = m.flags; last = m.last.items } };
 }
 
 impl Marks {
-    ghost use Rattle.std.specs.Prelude.{◌≡◌, ◌<◌, true, false, IsTrue, IfOk, IfSome, IsSomeAnd, Some};
+    ghost use Rattle.std.specs.Prelude.{
+      ◌≡◌,
+      ℕ,
+      ◌<◌,
+      ◌≤◌,
+      true,
+      false,
+      IsTrue,
+      IfOk,
+      IfSome,
+      IsSomeAnd,
+      Some,
+      None,
+    };
     ghost use Rattle.active_config.specs.declared.comp.Comp.TheVariants.{Or};
     ghost use Rattle.active_config.specs.Tree.{state_count, comp_of, parent_of};
     ghost use Rattle.active_config.specs.Marks as spec;
@@ -32,9 +46,9 @@ impl Marks {
         ensures none { IfOk result (λ marks. marks ≡ spec.no_marks shape.now) }
         ensures consistent { IfOk result (λ marks. spec.IsConsistent shape.now marks) }
     {
-        let states = shape.len() as usize;
-        match vec![in alloc; false; states] {
-            Ok(flags) => match no_states(alloc, states) {
+        let states = shape.len();
+        match BitList::make(alloc, states) {
+            Ok(flags) => match no_states(alloc, states as usize) {
                 Ok(last) => Ok(Marks { flags, last }),
                 Err(_) => Err(Memory),
             },
@@ -47,7 +61,20 @@ impl Marks {
         requires { state < spec.mark_count self.now }
         ensures { result ≡ spec.is_on state self.now }
     {
-        self.flags[state as usize]
+        self.flags.get(state)
+    }
+
+    /// The first active state from a number on, if there is one. It takes no memory.
+    pub fn next_on(&self, from: u32) -> Option<u32>
+        requires { from ≤ spec.mark_count self.now }
+        ensures next { result ≡ spec.next_on from self.now }
+        ensures within { IfSome result (λ state. (from ≤ state) × (state < spec.mark_count self.now)) }
+        ensures on { IfSome result (λ state. spec.is_on state self.now ≡ true) }
+        ensures first { IfSome result (λ state. (x : ℕ) → from ≤ x → x < state
+            → spec.is_on x self.now ≡ false) }
+        ensures none { result ≡ None → (x : ℕ) → from ≤ x → spec.is_on x self.now ≡ false }
+    {
+        self.flags.first_on(from, self.flags.len())
     }
 
     /// Whether a state is active and none of its children is.
@@ -56,7 +83,7 @@ impl Marks {
         requires consistent { spec.IsConsistent shape.now self.now }
         ensures { result ≡ spec.is_bare shape.now state self.now }
     {
-        self.on(state) && self.first_active(shape, state).is_none()
+        self.on(state) && self.active_child(shape, state).is_none()
     }
 
     /// The first active child of a state, if there is one. An OR has at most one.
@@ -66,24 +93,9 @@ impl Marks {
         ensures child { result ≡ spec.active_child shape.now state self.now }
         ensures after { IfSome result (λ child. (state < child) × (child < state_count shape.now)) }
     {
-        self.first_active(shape, state)
-    }
-
-    /// The first active child of a state.
-    fn first_active(&self, shape: &Shape, state: u32) -> Option<u32>
-        requires state { state < state_count shape.now }
-        requires consistent { spec.IsConsistent shape.now self.now }
-        ensures child { result ≡ spec.active_child shape.now state self.now }
-        ensures after { IfSome result (λ child. (state < child) × (child < state_count shape.now)) }
-    {
-        let mut next = shape.first_child(state);
-        while let Some(child) = next {
-            if self.on(child) {
-                return Some(child);
-            }
-            next = shape.next_sibling(child);
-        }
-        None
+        // The parent of an active state is active, so the first active one below is a child.
+        let end = shape.subtree_end(state);
+        self.flags.first_on(state + 1, end)
     }
 
     /// Makes a state active that isn't active. Its parent, if it has one, must be active, and bare
@@ -96,7 +108,7 @@ impl Marks {
         ensures consistent { spec.IsConsistent shape.now self.new }
     {
         let _ = shape;
-        self.flags[state as usize] = true;
+        self.flags.turn_on(state);
     }
 
     /// Makes a bare state inactive.
@@ -108,7 +120,7 @@ impl Marks {
         ensures consistent { spec.IsConsistent shape.now self.new }
     {
         let _ = shape;
-        self.flags[state as usize] = false;
+        self.flags.turn_off(state);
     }
 
     /// Makes the parent of a state remember it. The parent must be an OR.

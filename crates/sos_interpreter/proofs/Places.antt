@@ -14,7 +14,7 @@ use Rattle.sos_rules.specs.Searches.{after_junction, is_enabled, pay}
 use Rattle.state_tree.specs.Chart.{Chart, Trans, junction}
 use Rattle.state_tree.specs.Views.{list_seen, block_seen}
 use Rattle.state_tree.specs.declared.parts.Dest.TheVariants.{Junction}
-use Rattle.sos_interpreter.specs.declared.run.Place.{Place}
+use Rattle.sos_interpreter.specs.declared.searches.Place.{Place}
 
 -- what the whole search gives, where the search of the newest junction's list gives q
 abbrev pub Unwinds : Chart → Bounds → Life → Now → List Place → Run Found → Run Found → Type 0

@@ -15,8 +15,8 @@ use Rattle.sos_interpreter.proofs.Places.{leads_push, leads_none}
 use Rattle.sos_interpreter.proofs.Turns.{empty_is, all_front, all_more, all_seen}
 use Rattle.sos_interpreter.specs.Settled.{Settled}
 use Rattle.sos_interpreter.specs.Views.{end_of}
-use Rattle.sos_interpreter.specs.declared.run.End.{End}
-use Rattle.sos_interpreter.specs.declared.run.Place.{Place}
+use Rattle.sos_interpreter.specs.declared.blocks.End.{End}
+use Rattle.sos_interpreter.specs.declared.searches.Place.{Place}
 use Rattle.sos_rules.specs.Finds.{AreActions}
 use Rattle.sos_rules.specs.Parts.{Fire, DeadEnd, No, Stop}
 use Rattle.sos_rules.specs.Rules.{upto}

@@ -4,13 +4,13 @@ use Rattle.actions.specs.World as worlds
 use Rattle.run_work.specs.Work as work
 use Rattle.state_tree.specs.Views.{block_seen}
 use Rattle.sos_rules.specs.Parts as rules
-use Rattle.sos_interpreter.specs.declared.run.End.{End}
-use Rattle.sos_interpreter.specs.declared.run.End.TheVariants as ends
-use Rattle.sos_interpreter.specs.declared.run.Found.{Found}
-use Rattle.sos_interpreter.specs.declared.run.Found.TheVariants as founds
-use Rattle.sos_interpreter.specs.declared.run.Now.{Now}
-use Rattle.sos_interpreter.specs.declared.run.Went.{Went}
-use Rattle.sos_interpreter.specs.declared.run.Went.TheVariants as wents
+use Rattle.sos_interpreter.specs.declared.blocks.End.{End}
+use Rattle.sos_interpreter.specs.declared.blocks.End.TheVariants as ends
+use Rattle.sos_interpreter.specs.declared.searches.Found.{Found}
+use Rattle.sos_interpreter.specs.declared.searches.Found.TheVariants as founds
+use Rattle.sos_interpreter.specs.declared.blocks.Now.{Now}
+use Rattle.sos_interpreter.specs.declared.processing.Went.{Went}
+use Rattle.sos_interpreter.specs.declared.processing.Went.TheVariants as wents
 use Rattle.sos_interpreter.specs.declared.world.Life.{Life}
 use Rattle.sos_interpreter.specs.declared.world.Life.TheVariants as lives
 

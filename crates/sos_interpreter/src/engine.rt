@@ -1,5 +1,5 @@
 //! The engine that runs a chart by the rules.
-use crate::run;
+use crate::reactions;
 use crate::world::LiveWorld;
 use actions::{Engine, Event, Halt, Value, View};
 use flow_base::{Bounds, Memory};
@@ -103,7 +103,7 @@ impl Engine for Rules {
     ghost stage = { λ r. r.stage };
 
     fn start(&mut self) -> Result<(), Halt> {
-        let end = run::start(self.alloc, &self.chart, self.bounds, &mut self.world);
+        let end = reactions::start(self.alloc, &self.chart, self.bounds, &mut self.world);
         self.phase = Phase::after(&end);
         end
     }
@@ -113,7 +113,7 @@ impl Engine for Rules {
     }
 
     fn react(&mut self, event: Event) -> Result<(), Halt> {
-        let end = run::react(self.alloc, &self.chart, self.bounds, &mut self.world, event);
+        let end = reactions::react(self.alloc, &self.chart, self.bounds, &mut self.world, event);
         self.phase = Phase::after(&end);
         end
     }

@@ -8,7 +8,7 @@ use Rattle.sos_interpreter.specs.Gives.{Gives}
 use Rattle.sos_interpreter.specs.Settled.{Settled}
 use Rattle.sos_interpreter.specs.Views.{went_of}
 use Rattle.sos_interpreter.proofs.EngineLemmas.{answered, given, reacted_fault}
-use Rattle.sos_interpreter.proofs.run.react.Goals as goal
+use Rattle.sos_interpreter.proofs.reactions.react.Goals as goal
 
 pub returns-in-Ok-clause-defined : goal.returns-in-Ok-clause-defined
 returns-in-Ok-clause-defined c =

@@ -6,7 +6,7 @@ use Rattle.sos_rules.specs.Rules.{upto}
 use Rattle.state_tree.specs.Kept.{chart_of}
 use Rattle.sos_interpreter.specs.Gives.{Gives}
 use Rattle.sos_interpreter.proofs.EngineLemmas.{answered_unit, started_fault}
-use Rattle.sos_interpreter.proofs.run.start.Goals as goal
+use Rattle.sos_interpreter.proofs.reactions.start.Goals as goal
 
 pub returns-clause-defined : goal.returns-clause-defined
 returns-clause-defined c =

@@ -48,24 +48,26 @@ use Rattle.state_tree.specs.Homes.{child_toward}
 use Rattle.state_tree.specs.Kept.{chart_of}
 use Rattle.state_tree.specs.Valid.{AreTrans, AreStmts, IsStmt, IsDest}
 use Rattle.state_tree.specs.Views.{block_seen, list_seen, trans_seen}
-use Rattle.sos_interpreter.proofs.run.+rules.Goals as goal
+use Rattle.sos_interpreter.proofs.+rules.Goals as goal
 
-pub run_block-returns-in_err-statement-clause-gives : goal.run_block-returns-in_err-statement-clause-gives
-run_block-returns-in_err-statement-clause-gives t c =
+-- ---- blocks and sends
+
+pub blocks::run_block-returns-in_err-statement-clause-gives : goal.blocks::run_block-returns-in_err-statement-clause-gives
+blocks::run_block-returns-in_err-statement-clause-gives t c =
     let error = err_from_is_err_and c.from_residual.result c.from_residual.ensures.1 in
     rw (error.1, error.2) (err_through end_of end_of _ _ _ _
     (λ x h. block_turn_fault (chart_of c.args.chart.now) c.args.bounds (now_of c.args.now) (life_seen c.args.life)
     c.args.stmts.now c.loop-stmt.stmt-index c.loop-stmt.world _ c.loop-stmt.invariant.goes c.stmt-item.result _ x
     (omega arith) c.stmt-item.is h) c.in_err-statement.ensures.gives)
 
-pub run_block-returns-in-Cut-clause-gives : goal.run_block-returns-in-Cut-clause-gives
-run_block-returns-in-Cut-clause-gives t c =
+pub blocks::run_block-returns-in-Cut-clause-gives : goal.blocks::run_block-returns-in-Cut-clause-gives
+blocks::run_block-returns-in-Cut-clause-gives t c =
     block_turn_cut (chart_of c.args.chart.now) c.args.bounds (now_of c.args.now) (life_seen c.args.life)
     c.args.stmts.now c.loop-stmt.stmt-index c.loop-stmt.world _ c.loop-stmt.invariant.goes c.stmt-item.result _
     (omega arith) c.stmt-item.is (ended_as end_of _ _ c.in-Cut.is c.in_ok-statement.ensures.gives)
 
-pub run_block-loop-stmt-preserved : goal.run_block-loop-stmt-preserved
-run_block-loop-stmt-preserved t c = record {
+pub blocks::run_block-loop-stmt-preserved : goal.blocks::run_block-loop-stmt-preserved
+blocks::run_block-loop-stmt-preserved t c = record {
   goes =
       block_turn (chart_of c.args.chart.now) c.args.bounds (now_of c.args.now) (life_seen c.args.life) c.args.stmts.now
       c.loop-stmt.stmt-index c.loop-stmt.world _ c.loop-stmt.invariant.goes c.stmt-item.result _ (omega arith)
@@ -73,13 +75,13 @@ run_block-loop-stmt-preserved t c = record {
   fits = c.statement.ensures.fits;
 }
 
-pub run_block-returns-clause-gives : goal.run_block-returns-clause-gives
-run_block-returns-clause-gives t c =
+pub blocks::run_block-returns-clause-gives : goal.blocks::run_block-returns-clause-gives
+blocks::run_block-returns-clause-gives t c =
     block_turns_end (chart_of c.args.chart.now) c.args.bounds (now_of c.args.now) (life_seen c.args.life)
     c.args.stmts.now c.loop-stmt.stmt-index c.loop-stmt.world _ c.loop-stmt.invariant.goes (omega arith)
 
-pub run_block-statement-requires : goal.run_block-statement-requires
-run_block-statement-requires t c = (
+pub blocks::run_block-statement-requires : goal.blocks::run_block-statement-requires
+blocks::run_block-statement-requires t c = (
   omega (arith, c.decreases),
   (
     c.loop-stmt.invariant.fits,
@@ -91,8 +93,8 @@ run_block-statement-requires t c = (
   ),
 )
 
-pub statement-returns-in_err-assign-in-Assign-clause-gives : goal.statement-returns-in_err-assign-in-Assign-clause-gives
-statement-returns-in_err-assign-in-Assign-clause-gives t c =
+pub blocks::statement-returns-in_err-assign-in-Assign-clause-gives : goal.blocks::statement-returns-in_err-assign-in-Assign-clause-gives
+blocks::statement-returns-in_err-assign-in-Assign-clause-gives t c =
     let chart = chart_of c.args.chart.now in
     let now = now_of c.args.now in
     let life = life_seen c.args.life in
@@ -104,8 +106,8 @@ statement-returns-in_err-assign-in-Assign-clause-gives t c =
     (assign_fault chart c.args.bounds now life c.in-Assign.v (expr_of c.in-Assign.e) c.args.world.now c.assign.new.self
     x h)) c.in_err-assign-in-Assign.ensures.does)
 
-pub statement-returns-in_ok-assign-in-Assign-clause-gives : goal.statement-returns-in_ok-assign-in-Assign-clause-gives
-statement-returns-in_ok-assign-in-Assign-clause-gives t c =
+pub blocks::statement-returns-in_ok-assign-in-Assign-clause-gives : goal.blocks::statement-returns-in_ok-assign-in-Assign-clause-gives
+blocks::statement-returns-in_ok-assign-in-Assign-clause-gives t c =
     let chart = chart_of c.args.chart.now in
     let now = now_of c.args.now in
     let life = life_seen c.args.life in
@@ -115,8 +117,8 @@ statement-returns-in_ok-assign-in-Assign-clause-gives t c =
     (assign_done chart c.args.bounds now life c.in-Assign.v (expr_of c.in-Assign.e) c.args.world.now c.assign.new.self
     c.in_ok-assign-in-Assign.ensures.does)
 
-pub statement-returns-in_err-pay-in-Emit-clause-gives : goal.statement-returns-in_err-pay-in-Emit-clause-gives
-statement-returns-in_err-pay-in-Emit-clause-gives t c =
+pub blocks::statement-returns-in_err-pay-in-Emit-clause-gives : goal.blocks::statement-returns-in_err-pay-in-Emit-clause-gives
+blocks::statement-returns-in_err-pay-in-Emit-clause-gives t c =
     let chart = chart_of c.args.chart.now in
     let now = now_of c.args.now in
     let life = life_seen c.args.life in
@@ -129,16 +131,16 @@ statement-returns-in_err-pay-in-Emit-clause-gives t c =
     (emit_fault chart c.args.bounds now life c.in-Emit.e c.args.world.now c.pay.new.self x h))
     c.in_err-pay-in-Emit.ensures.does)
 
-pub statement-returns-in_err-put_out-in-Emit-clause-gives : goal.statement-returns-in_err-put_out-in-Emit-clause-gives
-statement-returns-in_err-put_out-in-Emit-clause-gives t c =
+pub blocks::statement-returns-in_err-put_out-in-Emit-clause-gives : goal.blocks::statement-returns-in_err-put_out-in-Emit-clause-gives
+blocks::statement-returns-in_err-put_out-in-Emit-clause-gives t c =
     let error =
     err_from_is_err_and c.from_residual-in_err-put_out-in-Emit.result
     c.from_residual-in_err-put_out-in-Emit.ensures.1 in
     rw (error.1, error.2)
     (err_does {A = Unit {0}} (λ _. tt) end_of _ _ _ _ (λ x h. absurd cc) c.in_err-put_out-in-Emit.ensures.does)
 
-pub statement-returns-in_ok-put_out-in-Emit-clause-gives : goal.statement-returns-in_ok-put_out-in-Emit-clause-gives
-statement-returns-in_ok-put_out-in-Emit-clause-gives t c =
+pub blocks::statement-returns-in_ok-put_out-in-Emit-clause-gives : goal.blocks::statement-returns-in_ok-put_out-in-Emit-clause-gives
+blocks::statement-returns-in_ok-put_out-in-Emit-clause-gives t c =
     let chart = chart_of c.args.chart.now in
     let now = now_of c.args.now in
     let life = life_seen c.args.life in
@@ -149,8 +151,8 @@ statement-returns-in_ok-put_out-in-Emit-clause-gives t c =
     (emit_done chart c.args.bounds now life c.in-Emit.e c.args.world.now c.pay.new.self
     c.in_ok-pay-in-Emit.ensures.does))
 
-pub statement-returns-in_err-send-in-Send-clause-gives : goal.statement-returns-in_err-send-in-Send-clause-gives
-statement-returns-in_err-send-in-Send-clause-gives t c =
+pub blocks::statement-returns-in_err-send-in-Send-clause-gives : goal.blocks::statement-returns-in_err-send-in-Send-clause-gives
+blocks::statement-returns-in_err-send-in-Send-clause-gives t c =
     let chart = chart_of c.args.chart.now in
     let now = now_of c.args.now in
     let life = life_seen c.args.life in
@@ -163,8 +165,8 @@ statement-returns-in_err-send-in-Send-clause-gives t c =
     (sent_fault chart c.args.bounds now life c.in-Send.e None c.args.world.now c.send.new.world x h))
     c.in_err-send-in-Send.ensures.gives)
 
-pub statement-returns-in_ok-send-in-Send-clause-gives : goal.statement-returns-in_ok-send-in-Send-clause-gives
-statement-returns-in_ok-send-in-Send-clause-gives t c =
+pub blocks::statement-returns-in_ok-send-in-Send-clause-gives : goal.blocks::statement-returns-in_ok-send-in-Send-clause-gives
+blocks::statement-returns-in_ok-send-in-Send-clause-gives t c =
     let chart = chart_of c.args.chart.now in
     let now = now_of c.args.now in
     let life = life_seen c.args.life in
@@ -174,8 +176,8 @@ statement-returns-in_ok-send-in-Send-clause-gives t c =
     (sent_ends chart c.args.bounds now life c.in-Send.e None c.args.world.now c.send.new.world _
     c.in_ok-send-in-Send.ensures.gives c.alive.ensures)
 
-pub statement-returns-in_err-send-in-SendTo-clause-gives : goal.statement-returns-in_err-send-in-SendTo-clause-gives
-statement-returns-in_err-send-in-SendTo-clause-gives t c =
+pub blocks::statement-returns-in_err-send-in-SendTo-clause-gives : goal.blocks::statement-returns-in_err-send-in-SendTo-clause-gives
+blocks::statement-returns-in_err-send-in-SendTo-clause-gives t c =
     let chart = chart_of c.args.chart.now in
     let now = now_of c.args.now in
     let life = life_seen c.args.life in
@@ -188,8 +190,8 @@ statement-returns-in_err-send-in-SendTo-clause-gives t c =
     (sent_fault chart c.args.bounds now life c.in-SendTo.e (Some c.in-SendTo.s) c.args.world.now
     c.send-in-SendTo.new.world x h)) c.in_err-send-in-SendTo.ensures.gives)
 
-pub statement-returns-in_ok-send-in-SendTo-clause-gives : goal.statement-returns-in_ok-send-in-SendTo-clause-gives
-statement-returns-in_ok-send-in-SendTo-clause-gives t c =
+pub blocks::statement-returns-in_ok-send-in-SendTo-clause-gives : goal.blocks::statement-returns-in_ok-send-in-SendTo-clause-gives
+blocks::statement-returns-in_ok-send-in-SendTo-clause-gives t c =
     let chart = chart_of c.args.chart.now in
     let now = now_of c.args.now in
     let life = life_seen c.args.life in
@@ -199,13 +201,13 @@ statement-returns-in_ok-send-in-SendTo-clause-gives t c =
     (sent_ends chart c.args.bounds now life c.in-SendTo.e (Some c.in-SendTo.s) c.args.world.now
     c.send-in-SendTo.new.world _ c.in_ok-send-in-SendTo.ensures.gives c.alive-in-SendTo.ensures)
 
-pub send-returns-then-now-bounds-clause-gives : goal.send-returns-then-now-bounds-clause-gives
-send-returns-then-now-bounds-clause-gives t c =
+pub blocks::send-returns-then-now-bounds-clause-gives : goal.blocks::send-returns-then-now-bounds-clause-gives
+blocks::send-returns-then-now-bounds-clause-gives t c =
     let deep : nat_le c.args.bounds.depth c.args.now.depth ≡ true = grind (arith, nat_tests) in
     send_too_deep (chart_of c.args.chart.now) c.args.bounds (now_of c.args.now) c.args.e c.args.to c.args.world.now deep
 
-pub send-returns-in_err-pay-clause-gives : goal.send-returns-in_err-pay-clause-gives
-send-returns-in_err-pay-clause-gives t c =
+pub blocks::send-returns-in_err-pay-clause-gives : goal.blocks::send-returns-in_err-pay-clause-gives
+blocks::send-returns-in_err-pay-clause-gives t c =
     let error = err_from_is_err_and c.from_residual.result c.from_residual.ensures.1 in
     rw (error.1, error.2) (err_does {A = Unit {0}} {A' = Unit {0}} (λ _. tt) (λ _. tt) _ _ _ _
     (λ x h.
@@ -213,8 +215,8 @@ send-returns-in_err-pay-clause-gives t c =
     send_fault (chart_of c.args.chart.now) c.args.bounds (now_of c.args.now) c.args.e c.args.to c.args.world.now _ x
     deep h) c.in_err-pay.ensures.does)
 
-pub send-returns-in_err-process-in-None-clause-gives : goal.send-returns-in_err-process-in-None-clause-gives
-send-returns-in_err-process-in-None-clause-gives t c =
+pub blocks::send-returns-in_err-process-in-None-clause-gives : goal.blocks::send-returns-in_err-process-in-None-clause-gives
+blocks::send-returns-in_err-process-in-None-clause-gives t c =
     let chart = chart_of c.args.chart.now in
     let now = now_of c.args.now in
     let error =
@@ -232,8 +234,8 @@ send-returns-in_err-process-in-None-clause-gives t c =
     (record { event = Named c.args.e; depth = d }) c.pay.new.self) c.args.now.depth _ h))))
     c.in_err-process-in-None.ensures.gives)
 
-pub send-returns-in_ok-process-in-None-clause-gives : goal.send-returns-in_ok-process-in-None-clause-gives
-send-returns-in_ok-process-in-None-clause-gives t c =
+pub blocks::send-returns-in_ok-process-in-None-clause-gives : goal.blocks::send-returns-in_ok-process-in-None-clause-gives
+blocks::send-returns-in_ok-process-in-None-clause-gives t c =
     let chart = chart_of c.args.chart.now in
     let now = now_of c.args.now in
     let deep : nat_le c.args.bounds.depth c.args.now.depth ≡ false = grind (arith, nat_tests) in
@@ -246,8 +248,8 @@ send-returns-in_ok-process-in-None-clause-gives t c =
     (at_depth (λ d n. (upto chart c.args.bounds n).process c.root.result (record { event = Named c.args.e; depth = d })
     c.pay.new.self) c.args.now.depth _ c.in_ok-process-in-None.ensures.gives)))
 
-pub send-returns-then-not-on-clause-gives : goal.send-returns-then-not-on-clause-gives
-send-returns-then-not-on-clause-gives t c =
+pub blocks::send-returns-then-not-on-clause-gives : goal.blocks::send-returns-then-not-on-clause-gives
+blocks::send-returns-then-not-on-clause-gives t c =
     let chart = chart_of c.args.chart.now in
     let now = now_of c.args.now in
     let deep : nat_le c.args.bounds.depth c.args.now.depth ≡ false = grind (arith, nat_tests) in
@@ -257,8 +259,8 @@ send-returns-then-not-on-clause-gives t c =
     (send_off chart c.args.bounds now c.args.e (Some c.in-Some.s) c.args.world.now c.pay.new.self deep
     c.in_ok-pay.ensures.does off)
 
-pub send-returns-in_err-process-in-Some-clause-gives : goal.send-returns-in_err-process-in-Some-clause-gives
-send-returns-in_err-process-in-Some-clause-gives t c =
+pub blocks::send-returns-in_err-process-in-Some-clause-gives : goal.blocks::send-returns-in_err-process-in-Some-clause-gives
+blocks::send-returns-in_err-process-in-Some-clause-gives t c =
     let chart = chart_of c.args.chart.now in
     let now = now_of c.args.now in
     let error =
@@ -275,8 +277,8 @@ send-returns-in_err-process-in-Some-clause-gives t c =
     (at_depth (λ d n. (upto chart c.args.bounds n).process c.in-Some.s (record { event = Named c.args.e; depth = d })
     c.pay.new.self) c.args.now.depth _ h))) c.in_err-process-in-Some.ensures.gives)
 
-pub send-returns-in_ok-process-in-Some-clause-gives : goal.send-returns-in_ok-process-in-Some-clause-gives
-send-returns-in_ok-process-in-Some-clause-gives t c =
+pub blocks::send-returns-in_ok-process-in-Some-clause-gives : goal.blocks::send-returns-in_ok-process-in-Some-clause-gives
+blocks::send-returns-in_ok-process-in-Some-clause-gives t c =
     let chart = chart_of c.args.chart.now in
     let now = now_of c.args.now in
     let deep : nat_le c.args.bounds.depth c.args.now.depth ≡ false = grind (arith, nat_tests) in
@@ -288,688 +290,10 @@ send-returns-in_ok-process-in-Some-clause-gives t c =
     (at_depth (λ d n. (upto chart c.args.bounds n).process c.in-Some.s (record { event = Named c.args.e; depth = d })
     c.pay.new.self) c.args.now.depth _ c.in_ok-process-in-Some.ensures.gives))
 
-pub exit-returns-then-not-on-clause-gives : goal.exit-returns-then-not-on-clause-gives
-exit-returns-then-not-on-clause-gives t c =
-    let off : is_on c.args.s c.args.world.now.marks ≡ false = cc in
-    exit_off (chart_of c.args.chart.now) c.args.bounds (now_of c.args.now) c.args.s c.args.world.now off
+-- ---- searches
 
-pub exit-returns-in_err-exit_children-clause-gives : goal.exit-returns-in_err-exit_children-clause-gives
-exit-returns-in_err-exit_children-clause-gives t c =
-    let error = err_from_is_err_and c.from_residual.result c.from_residual.ensures.1 in
-    rw (error.1, error.2) (err_through {A = Unit {0}} {A' = Unit {0}} (λ _. tt) (λ _. tt) _ _ _ _
-    (λ x h.
-    let on : is_on c.args.s c.args.world.now.marks ≡ true = cc in
-    exit_children_fault (chart_of c.args.chart.now) c.args.bounds (now_of c.args.now) c.args.s c.args.world.now _ x on
-    h) c.in_err-exit_children.ensures.gives)
-
-pub exit-returns-then-not-bare-clause-gives : goal.exit-returns-then-not-bare-clause-gives
-exit-returns-then-not-bare-clause-gives t c =
-    let chart = chart_of c.args.chart.now in
-    let on : is_on c.args.s c.args.world.now.marks ≡ true = cc in
-    let bare : is_bare chart.tree c.args.s c.exit_children.new.world.marks ≡ false = cc in
-    exit_not_bare chart c.args.bounds (now_of c.args.now) c.args.s c.args.world.now _ on
-    c.in_ok-exit_children.ensures.gives bare
-
-pub exit-returns-in_err-run_block-clause-gives : goal.exit-returns-in_err-run_block-clause-gives
-exit-returns-in_err-run_block-clause-gives t c =
-    let chart = chart_of c.args.chart.now in
-    let error =
-    err_from_is_err_and c.from_residual-in_err-run_block.result c.from_residual-in_err-run_block.ensures.1 in
-    rw (error.1, error.2) (err_through {A' = Unit {0}} end_of (λ _. tt) _ _ _ _
-    (λ x h.
-    let on : is_on c.args.s c.args.world.now.marks ≡ true = cc in
-    let bare : is_bare chart.tree c.args.s c.exit_children.new.world.marks ≡ true = cc in
-    exit_block_fault chart c.args.bounds (now_of c.args.now) c.args.s _ c.args.world.now c.exit_children.new.world _ x
-    c.block.ensures.block on c.in_ok-exit_children.ensures.gives bare h) c.in_err-run_block.ensures.gives)
-
-pub exit-returns-in-Cut-clause-gives : goal.exit-returns-in-Cut-clause-gives
-exit-returns-in-Cut-clause-gives t c =
-    let chart = chart_of c.args.chart.now in
-    let on : is_on c.args.s c.args.world.now.marks ≡ true = cc in
-    let bare : is_bare chart.tree c.args.s c.exit_children.new.world.marks ≡ true = cc in
-    exit_cut chart c.args.bounds (now_of c.args.now) c.args.s _ c.args.world.now c.exit_children.new.world _
-    c.block.ensures.block on c.in_ok-exit_children.ensures.gives bare
-    (ended_as end_of _ _ c.in-Cut.is c.in_ok-run_block.ensures.gives)
-
-pub exit-returns-else-bare-clause-gives : goal.exit-returns-else-bare-clause-gives
-exit-returns-else-bare-clause-gives t c =
-    let chart = chart_of c.args.chart.now in
-    let on : is_on c.args.s c.args.world.now.marks ≡ true = cc in
-    let bare : is_bare chart.tree c.args.s c.exit_children.new.world.marks ≡ true = cc in
-    let off : is_bare chart.tree c.args.s c.run_block.new.world.marks ≡ false = cc in
-    exit_kept chart c.args.bounds (now_of c.args.now) c.args.s _ c.args.world.now c.exit_children.new.world _
-    c.block.ensures.block on c.in_ok-exit_children.ensures.gives bare
-    (ended_as end_of _ _ c.in-Done.is c.in_ok-run_block.ensures.gives) off
-
-pub exit-returns-then-bare-clause-gives : goal.exit-returns-then-bare-clause-gives
-exit-returns-then-bare-clause-gives t c =
-    let chart = chart_of c.args.chart.now in
-    let now = now_of c.args.now in
-    let on : is_on c.args.s c.args.world.now.marks ≡ true = cc in
-    let bare : is_bare chart.tree c.args.s c.exit_children.new.world.marks ≡ true = cc in
-    let off : is_bare chart.tree c.args.s c.run_block.new.world.marks ≡ true = cc in
-    subst (λ v. Settled (λ n. (upto chart c.args.bounds n).exit c.args.s now c.args.world.now) (Ended tt v))
-    (sym c.clear.ensures.cleared) (exit_left chart c.args.bounds now c.args.s _ c.args.world.now
-    c.exit_children.new.world _ c.block.ensures.block on c.in_ok-exit_children.ensures.gives bare
-    (ended_as end_of _ _ c.in-Done.is c.in_ok-run_block.ensures.gives) off)
-
-pub exit_children-returns-in-Leaf-clause-gives : goal.exit_children-returns-in-Leaf-clause-gives
-exit_children-returns-in-Leaf-clause-gives t c =
-    exit_children_leaf (chart_of c.args.chart.now) c.args.bounds (now_of c.args.now) c.args.s _ c.args.world.now
-    c.in-Leaf.ensures
-
-pub exit_children-returns-in-Or-clause-gives : goal.exit_children-returns-in-Or-clause-gives
-exit_children-returns-in-Or-clause-gives t c =
-    passed {A = Unit {0}} (λ _. tt) _ _ _ _ (λ q h. exit_children_or (chart_of c.args.chart.now) c.args.bounds
-    (now_of c.args.now) c.args.s _ c.args.world.now q c.in-Or.ensures h) c.exit_active.ensures.gives
-
-pub exit_children-returns-in-And-clause-gives : goal.exit_children-returns-in-And-clause-gives
-exit_children-returns-in-And-clause-gives t c =
-    passed {A = Unit {0}} (λ _. tt) _ _ _ _ (λ q h. exit_children_and (chart_of c.args.chart.now) c.args.bounds
-    (now_of c.args.now) c.args.s _ c.args.world.now q _ c.in-And.ensures refl h) c.exit_all.ensures.gives
-
-pub exit_active-returns-in-None-clause-gives : goal.exit_active-returns-in-None-clause-gives
-exit_active-returns-in-None-clause-gives t c =
-    exit_active_none (chart_of c.args.chart.now) c.args.bounds (now_of c.args.now) c.args.s c.args.world.now
-    c.in-None.ensures.child
-
-pub exit_active-returns-in-Some-clause-gives : goal.exit_active-returns-in-Some-clause-gives
-exit_active-returns-in-Some-clause-gives t c =
-    passed {A = Unit {0}} (λ _. tt) _ _ _ _ (λ q h. exit_active_one (chart_of c.args.chart.now) c.args.bounds
-    (now_of c.args.now) c.args.s c.in-Some.x c.args.world.now q c.in-Some.ensures.child h) c.exit.ensures.gives
-
-pub exit_all-loop-next-init : goal.exit_all-loop-next-init
-exit_all-loop-next-init t c =
-    let chart = chart_of c.args.chart.now in
-    let now = now_of c.args.now in
-    record {
-      goes =
-          subst (λ l. Continues (λ n. (upto chart c.args.bounds n).exit_each l now c.args.world.now)
-          (λ n. (upto chart c.args.bounds n).exit_each (reverse (children_of chart.tree c.args.s)) now
-          c.args.world.now))
-          (children_of-back chart.tree c.args.s
-          ∙ ap (children_back_from chart.tree c.args.s) (sym c.last_child-next.ensures.child)) continues_same;
-      stands = stands_last chart.tree c.last_child-next.ensures.tree c.args.s _ c.last_child-next.ensures.child;
-      fits = c.requires.fits;
-    }
-
-pub exit_all-returns-in_err-exit-clause-gives : goal.exit_all-returns-in_err-exit-clause-gives
-exit_all-returns-in_err-exit-clause-gives t c =
-    let error = err_from_is_err_and c.from_residual.result c.from_residual.ensures.1 in
-    rw (error.1, error.2) (err_through {A = Unit {0}} {A' = Unit {0}} (λ _. tt) (λ _. tt) _ _ _ _
-    (λ x h. exit_turn_fault (chart_of c.args.chart.now) c.args.bounds (now_of c.args.now) c.args.s c.loop-next.next
-    c.loop-next.world _ c.loop-next.invariant.goes c.in-Some.x c.in-Some.is c.loop-next.invariant.stands _ x h)
-    c.in_err-exit.ensures.gives)
-
-pub exit_all-prev_sibling-next-requires : goal.exit_all-prev_sibling-next-requires
-exit_all-prev_sibling-next-requires t c = (c.loop-next.invariant.stands.child c.in-Some.x c.in-Some.is).within
-
-pub exit_all-loop-next-preserved : goal.exit_all-loop-next-preserved
-exit_all-loop-next-preserved t c =
-    let chart = chart_of c.args.chart.now in
-    record {
-      goes =
-          exit_turn chart c.args.bounds (now_of c.args.now) c.args.s c.loop-next.next c.loop-next.world _
-          c.loop-next.invariant.goes c.in-Some.x c.in-Some.is c.loop-next.invariant.stands _ _
-          c.prev_sibling-next.ensures.sibling c.in_ok-exit.ensures.gives;
-      stands =
-          stands_prev chart.tree c.prev_sibling-next.ensures.tree c.args.s c.in-Some.x _ _ c.in-Some.is
-          c.loop-next.invariant.stands c.prev_sibling-next.ensures.sibling;
-      fits = c.exit.ensures.fits;
-    }
-
-pub exit_all-returns-clause-gives : goal.exit_all-returns-clause-gives
-exit_all-returns-clause-gives t c =
-    exit_turns_end (chart_of c.args.chart.now) c.args.bounds (now_of c.args.now) c.args.s c.loop-next.next
-    c.loop-next.world _ c.loop-next.invariant.goes c.in_default.is
-
-pub exit_all-exit-requires : goal.exit_all-exit-requires
-exit_all-exit-requires t c =
-    let child = c.loop-next.invariant.stands.child c.in-Some.x c.in-Some.is in
-    (omega (arith, child.above, child.within, c.decreases), (c.loop-next.invariant.fits, child.within))
-
-pub enter-returns-then-not-can_mark-clause-gives : goal.enter-returns-then-not-can_mark-clause-gives
-enter-returns-then-not-can_mark-clause-gives t c =
-    let chart = chart_of c.args.chart.now in
-    let can : can_mark chart.tree c.args.s c.args.world.now.marks ≡ false = cc in
-    enter_no chart c.args.bounds (now_of c.args.now) c.args.s c.args.d c.args.world.now can
-
-pub enter-returns-in_err-run_block-clause-gives : goal.enter-returns-in_err-run_block-clause-gives
-enter-returns-in_err-run_block-clause-gives t c =
-    let chart = chart_of c.args.chart.now in
-    let error = err_from_is_err_and c.from_residual.result c.from_residual.ensures.1 in
-    rw (error.1, error.2) (err_through {A' = Unit {0}} end_of (λ _. tt) _ _ _ _
-    (λ x h.
-    let can : can_mark chart.tree c.args.s c.args.world.now.marks ≡ true = cc in
-    enter_fault chart c.args.bounds (now_of c.args.now) c.args.s c.args.d _ c.args.world.now c.enter.new.self
-    c.block.ensures.block can c.enter.ensures.entered _ x h) c.in_err-run_block.ensures.gives)
-
-pub enter-returns-in-Cut-clause-gives : goal.enter-returns-in-Cut-clause-gives
-enter-returns-in-Cut-clause-gives t c =
-    let chart = chart_of c.args.chart.now in
-    let can : can_mark chart.tree c.args.s c.args.world.now.marks ≡ true = cc in
-    enter_cut chart c.args.bounds (now_of c.args.now) c.args.s c.args.d _ c.args.world.now c.enter.new.self
-    c.block.ensures.block can c.enter.ensures.entered c.run_block.new.world
-    (ended_as end_of _ _ c.in-Cut.is c.in_ok-run_block.ensures.gives)
-
-pub enter-returns-in-Done-clause-gives : goal.enter-returns-in-Done-clause-gives
-enter-returns-in-Done-clause-gives t c =
-    let chart = chart_of c.args.chart.now in
-    passed {A = Unit {0}} (λ _. tt) _ _ _ _ (λ q h.
-    let can : can_mark chart.tree c.args.s c.args.world.now.marks ≡ true = cc in
-    enter_done chart c.args.bounds (now_of c.args.now) c.args.s c.args.d _ c.args.world.now c.enter.new.self
-    c.block.ensures.block can c.enter.ensures.entered c.run_block.new.world q
-    (ended_as end_of _ _ c.in-Done.is c.in_ok-run_block.ensures.gives) h) c.enter_inside.ensures.gives
-
-pub enter_inside-returns-in-Leaf-clause-gives : goal.enter_inside-returns-in-Leaf-clause-gives
-enter_inside-returns-in-Leaf-clause-gives t c =
-    inside_leaf (chart_of c.args.chart.now) c.args.bounds (now_of c.args.now) c.args.s c.args.d _ c.args.world.now
-    c.in-Leaf.ensures
-
-pub enter_inside-returns-in-Or-clause-gives : goal.enter_inside-returns-in-Or-clause-gives
-enter_inside-returns-in-Or-clause-gives t c =
-    passed {A = Unit {0}} (λ _. tt) _ _ _ _ (λ q h. inside_or (chart_of c.args.chart.now) c.args.bounds
-    (now_of c.args.now) c.args.s c.args.d _ c.args.world.now q c.in-Or.ensures h) c.enter_toward.ensures.gives
-
-pub enter_inside-returns-in-And-clause-gives : goal.enter_inside-returns-in-And-clause-gives
-enter_inside-returns-in-And-clause-gives t c =
-    passed {A = Unit {0}} (λ _. tt) _ _ _ _ (λ q h. inside_each (chart_of c.args.chart.now) c.args.bounds
-    (now_of c.args.now) c.args.s c.args.d _ c.args.world.now q _ c.in-And.ensures refl h) c.enter_all.ensures.gives
-
-pub enter_toward-returns-then-s-d-clause-gives : goal.enter_toward-returns-then-s-d-clause-gives
-enter_toward-returns-then-s-d-clause-gives t c =
-    passed {A = Unit {0}} (λ _. tt) _ _ _ _ (λ q h.
-    let sd : (c.args.s == c.args.d) ≡ true = grind (arith, nat_tests) in
-    settled_true (c.args.s == c.args.d)
-    (λ n. (upto (chart_of c.args.chart.now) c.args.bounds n).defaults c.args.s (now_of c.args.now)) _ c.args.world.now q
-    sd h) c.defaults.ensures.gives
-
-pub enter_toward-returns-clause-gives : goal.enter_toward-returns-clause-gives
-enter_toward-returns-clause-gives t c =
-    let chart = chart_of c.args.chart.now in
-    passed {A = Unit {0}} (λ _. tt) _ _ _ _ (λ q h.
-    let sd : (c.args.s == c.args.d) ≡ false = grind (arith, nat_tests) in
-    settled_false (c.args.s == c.args.d) _ (λ n. if_some (child_toward chart.tree c.args.s c.args.d) nothing
-    (λ x. (upto chart c.args.bounds n).enter x c.args.d (now_of c.args.now))) c.args.world.now q sd h)
-    c.enter_child.ensures.gives
-
-pub enter_child-returns-in-None-clause-gives : goal.enter_child-returns-in-None-clause-gives
-enter_child-returns-in-None-clause-gives t c =
-    toward_none (chart_of c.args.chart.now) c.args.bounds (now_of c.args.now) c.args.s c.args.d c.args.world.now
-    c.in-None.ensures.child
-
-pub enter_child-returns-in-Some-clause-gives : goal.enter_child-returns-in-Some-clause-gives
-enter_child-returns-in-Some-clause-gives t c =
-    passed {A = Unit {0}} (λ _. tt) _ _ _ _ (λ q h. toward_one (chart_of c.args.chart.now) c.args.bounds
-    (now_of c.args.now) c.args.s c.args.d c.in-Some.x c.args.world.now q c.in-Some.ensures.child h)
-    c.enter.ensures.gives
-
-pub enter_all-loop-next-init : goal.enter_all-loop-next-init
-enter_all-loop-next-init t c =
-    let chart = chart_of c.args.chart.now in
-    let now = now_of c.args.now in
-    record {
-      goes =
-          subst (λ l. Continues (λ n. (upto chart c.args.bounds n).enter_each l c.args.d now c.args.world.now)
-          (λ n. (upto chart c.args.bounds n).enter_each (children_of chart.tree c.args.s) c.args.d now
-          c.args.world.now))
-          (children_of-from chart.tree c.args.s
-          ∙ ap (children_from chart.tree c.args.s) (sym c.first_child-next.ensures.child)) continues_same;
-      stands = stands_first chart.tree c.first_child-next.ensures.tree c.args.s _ c.first_child-next.ensures.child;
-      fits = c.requires.fits;
-    }
-
-pub enter_all-path_in-requires-clause-child : goal.enter_all-path_in-requires-clause-child
-enter_all-path_in-requires-clause-child t c = (c.loop-next.invariant.stands.child c.in-Some.x c.in-Some.is).within
-
-pub enter_all-enter-requires : goal.enter_all-enter-requires
-enter_all-enter-requires t c =
-    let child = c.loop-next.invariant.stands.child c.in-Some.x c.in-Some.is in (
-      omega (arith, child.above, child.within, c.decreases),
-      (c.loop-next.invariant.fits, (child.within, c.path_in.ensures.within)),
-    )
-
-pub enter_all-returns-in_err-enter-clause-gives : goal.enter_all-returns-in_err-enter-clause-gives
-enter_all-returns-in_err-enter-clause-gives t c =
-    let error = err_from_is_err_and c.from_residual.result c.from_residual.ensures.1 in
-    rw (error.1, error.2) (err_through {A = Unit {0}} {A' = Unit {0}} (λ _. tt) (λ _. tt) _ _ _ _
-    (λ x h. enter_turn_fault (chart_of c.args.chart.now) c.args.bounds (now_of c.args.now) c.args.s c.args.d
-    c.loop-next.next c.loop-next.world _ c.loop-next.invariant.goes c.in-Some.x _ c.in-Some.is
-    c.loop-next.invariant.stands c.path_in.ensures.path _ x h) c.in_err-enter.ensures.gives)
-
-pub enter_all-next_sibling-next-requires : goal.enter_all-next_sibling-next-requires
-enter_all-next_sibling-next-requires t c = (c.loop-next.invariant.stands.child c.in-Some.x c.in-Some.is).within
-
-pub enter_all-loop-next-smaller : goal.enter_all-loop-next-smaller
-enter_all-loop-next-smaller t c =
-    ahead_falls (chart_of c.args.chart.now).tree c.in-Some.x _ _ c.in-Some.is
-    (c.loop-next.invariant.stands.child c.in-Some.x c.in-Some.is).within c.next_sibling-next.ensures.after
-
-pub enter_all-loop-next-preserved : goal.enter_all-loop-next-preserved
-enter_all-loop-next-preserved t c =
-    let chart = chart_of c.args.chart.now in
-    record {
-      goes =
-          enter_turn chart c.args.bounds (now_of c.args.now) c.args.s c.args.d c.loop-next.next c.loop-next.world _
-          c.loop-next.invariant.goes c.in-Some.x _ c.in-Some.is c.loop-next.invariant.stands c.path_in.ensures.path _ _
-          c.next_sibling-next.ensures.sibling c.in_ok-enter.ensures.gives;
-      stands =
-          stands_next chart.tree c.next_sibling-next.ensures.tree c.args.s c.in-Some.x _ _ c.in-Some.is
-          c.loop-next.invariant.stands c.next_sibling-next.ensures.sibling;
-      fits = c.enter.ensures.fits;
-    }
-
-pub enter_all-returns-clause-gives : goal.enter_all-returns-clause-gives
-enter_all-returns-clause-gives t c =
-    enter_turns_end (chart_of c.args.chart.now) c.args.bounds (now_of c.args.now) c.args.s c.args.d c.loop-next.next
-    c.loop-next.world _ c.loop-next.invariant.goes c.in_default.is
-
-pub default_search-returns-in_err-d-clause-gives : goal.default_search-returns-in_err-d-clause-gives
-default_search-returns-in_err-d-clause-gives t c =
-    let error = err_from_is_err_and c.from_residual.result c.from_residual.ensures.1 in
-    rw (error.1, error.2) (err_through {A' = Unit {0}} found_of (λ _. tt) _ _ _ _
-    (λ x h. default_fault (chart_of c.args.chart.now) c.args.bounds (now_of c.args.now) c.args.s _ c.args.world.now
-    c.list.ensures.list _ x h) c.in_err-d.ensures.gives)
-
-pub default_search-returns-in-DeadEnd-clause-gives : goal.default_search-returns-in-DeadEnd-clause-gives
-default_search-returns-in-DeadEnd-clause-gives t c =
-    default_after (chart_of c.args.chart.now) c.args.bounds (now_of c.args.now) c.args.s _ c.args.world.now
-    c.list.ensures.list _ c.search.new.world _ (ended_as found_of _ _ c.in-DeadEnd.is c.in_ok-d.ensures.gives)
-    (settled_now _)
-
-pub default_search-returns-in-No-clause-gives : goal.default_search-returns-in-No-clause-gives
-default_search-returns-in-No-clause-gives t c =
-    default_after (chart_of c.args.chart.now) c.args.bounds (now_of c.args.now) c.args.s _ c.args.world.now
-    c.list.ensures.list _ c.search.new.world _ (ended_as found_of _ _ c.in-No.is c.in_ok-d.ensures.gives)
-    (settled_now _)
-
-pub default_search-returns-clause-gives : goal.default_search-returns-clause-gives
-default_search-returns-clause-gives t c =
-    default_after (chart_of c.args.chart.now) c.args.bounds (now_of c.args.now) c.args.s _ c.args.world.now
-    c.list.ensures.list _ c.search.new.world _ (ended_as found_of _ _ c.in-Stop.is c.in_ok-d.ensures.gives)
-    (settled_now _)
-
-pub default_search-returns-in_err-play-in-Fire-clause-gives :
-    goal.default_search-returns-in_err-play-in-Fire-clause-gives
-default_search-returns-in_err-play-in-Fire-clause-gives t c =
-    let chart = chart_of c.args.chart.now in
-    let now = now_of c.args.now in
-    let error =
-    err_from_is_err_and c.from_residual-in_err-play-in-Fire.result c.from_residual-in_err-play-in-Fire.ensures.1 in
-    rw (error.1, error.2) (err_through {A' = Unit {0}} end_of (λ _. tt) _ _ _ _
-    (λ x h. default_after chart c.args.bounds now c.args.s _ c.args.world.now c.list.ensures.list _ c.search.new.world _
-    (ended_as found_of _ _ c.in-Fire.is c.in_ok-d.ensures.gives)
-    (fired_fault chart c.args.bounds now c.args.s c.in-Fire.d (map (λ a. block_seen a.now) c.in-Fire.actions.items)
-    c.search.new.world c.play.new.world x
-    (subst (λ l. Settled
-    (λ n. (upto chart c.args.bounds n).play c.args.s (map (λ a. block_seen a.now) l) now c.search.new.world)
-    (Faulted x c.play.new.world)) c.deref.ensures.value h))) c.in_err-play-in-Fire.ensures.gives)
-
-pub default_search-returns-in-Cut-clause-gives : goal.default_search-returns-in-Cut-clause-gives
-default_search-returns-in-Cut-clause-gives t c =
-    let chart = chart_of c.args.chart.now in
-    let now = now_of c.args.now in
-    default_after chart c.args.bounds now c.args.s _ c.args.world.now c.list.ensures.list _ c.search.new.world _
-    (ended_as found_of _ _ c.in-Fire.is c.in_ok-d.ensures.gives)
-    (fired_cut chart c.args.bounds now c.args.s c.in-Fire.d (map (λ a. block_seen a.now) c.in-Fire.actions.items)
-    c.search.new.world c.play.new.world
-    (subst (λ l. Settled
-    (λ n. (upto chart c.args.bounds n).play c.args.s (map (λ a. block_seen a.now) l) now c.search.new.world)
-    (Ended Cut c.play.new.world)) c.deref.ensures.value
-    (ended_as end_of _ _ c.in-Cut.is c.in_ok-play-in-Fire.ensures.gives)))
-
-pub default_search-returns-in-Fire-clause-gives : goal.default_search-returns-in-Fire-clause-gives
-default_search-returns-in-Fire-clause-gives t c =
-    let chart = chart_of c.args.chart.now in
-    let now = now_of c.args.now in
-    passed {A = Unit {0}} (λ _. tt) _ _ _ _ (λ q h. default_after chart c.args.bounds now c.args.s _ c.args.world.now
-    c.list.ensures.list _ c.search.new.world q (ended_as found_of _ _ c.in-Fire.is c.in_ok-d.ensures.gives)
-    (fired_done chart c.args.bounds now c.args.s c.in-Fire.d (map (λ a. block_seen a.now) c.in-Fire.actions.items)
-    c.search.new.world c.play.new.world q
-    (subst (λ l. Settled
-    (λ n. (upto chart c.args.bounds n).play c.args.s (map (λ a. block_seen a.now) l) now c.search.new.world)
-    (Ended Done c.play.new.world)) c.deref.ensures.value
-    (ended_as end_of _ _ c.in-Done.is c.in_ok-play-in-Fire.ensures.gives)) h)) c.enter_child.ensures.gives
-
-pub play-loop-action-preserved-then-is_empty : goal.play-loop-action-preserved-then-is_empty
-play-loop-action-preserved-then-is_empty t c = record {
-  goes =
-      play_turn_skip (chart_of c.args.chart.now) c.args.bounds (now_of c.args.now) (λ a. block_seen a.now) c.args.s
-      c.args.actions.now c.loop-action.action-index c.loop-action.world _ c.loop-action.invariant.goes
-      c.action-item.result (omega arith) c.action-item.is
-      (ap block_seen (empty_is c.action-item.result.now (grind (arith, nat_tests))));
-  fits = c.loop-action.invariant.fits;
-}
-
-pub play-returns-in_err-pay-clause-gives : goal.play-returns-in_err-pay-clause-gives
-play-returns-in_err-pay-clause-gives t c =
-    let error = err_from_is_err_and c.from_residual.result c.from_residual.ensures.1 in
-    rw (error.1, error.2) (err_does {A = Unit {0}} (λ _. tt) end_of _ _ _ _
-    (λ x h.
-    let some = not_empty stmt_of c.action-item.result.now (grind (arith, nat_tests)) in
-    play_turn_pay_fault (chart_of c.args.chart.now) c.args.bounds (now_of c.args.now) (λ a. block_seen a.now) c.args.s
-    c.args.actions.now c.loop-action.action-index c.loop-action.world _ c.loop-action.invariant.goes
-    c.action-item.result (omega arith) c.action-item.is some _ x h) c.in_err-pay.ensures.does)
-
-pub play-run_block-requires : goal.play-run_block-requires
-play-run_block-requires t c = (
-  omega (arith, c.decreases),
-  (
-    c.pay.ensures.fits,
-    (
-      c.requires.state,
-      all_item (λ a. block_seen a.now) (AreStmts (chart_of c.args.chart.now)) c.args.actions.now
-          c.loop-action.action-index c.action-item.result c.requires.actions (omega arith) c.action-item.is,
-    ),
-  ),
-)
-
-pub play-returns-in_err-run_block-clause-gives : goal.play-returns-in_err-run_block-clause-gives
-play-returns-in_err-run_block-clause-gives t c =
-    let error =
-    err_from_is_err_and c.from_residual-in_err-run_block.result c.from_residual-in_err-run_block.ensures.1 in
-    rw (error.1, error.2) (err_through end_of end_of _ _ _ _
-    (λ x h.
-    let some = not_empty stmt_of c.action-item.result.now (grind (arith, nat_tests)) in
-    play_turn_fault (chart_of c.args.chart.now) c.args.bounds (now_of c.args.now) (λ a. block_seen a.now) c.args.s
-    c.args.actions.now c.loop-action.action-index c.loop-action.world _ c.loop-action.invariant.goes
-    c.action-item.result (omega arith) c.action-item.is some _ _ x c.in_ok-pay.ensures.does h)
-    c.in_err-run_block.ensures.gives)
-
-pub play-returns-in-Cut-clause-gives : goal.play-returns-in-Cut-clause-gives
-play-returns-in-Cut-clause-gives t c =
-    let some = not_empty stmt_of c.action-item.result.now (grind (arith, nat_tests)) in
-    play_turn_cut (chart_of c.args.chart.now) c.args.bounds (now_of c.args.now) (λ a. block_seen a.now) c.args.s
-    c.args.actions.now c.loop-action.action-index c.loop-action.world _ c.loop-action.invariant.goes
-    c.action-item.result (omega arith) c.action-item.is some _ c.run_block.new.world c.in_ok-pay.ensures.does
-    (ended_as end_of _ _ c.in-Cut.is c.in_ok-run_block.ensures.gives)
-
-pub play-loop-action-preserved : goal.play-loop-action-preserved
-play-loop-action-preserved t c =
-    let some = not_empty stmt_of c.action-item.result.now (grind (arith, nat_tests)) in
-    record {
-      goes =
-          play_turn (chart_of c.args.chart.now) c.args.bounds (now_of c.args.now) (λ a. block_seen a.now) c.args.s
-          c.args.actions.now c.loop-action.action-index c.loop-action.world _ c.loop-action.invariant.goes
-          c.action-item.result (omega arith) c.action-item.is some _ c.run_block.new.world c.in_ok-pay.ensures.does
-          (ended_as end_of _ _ c.in-Done.is c.in_ok-run_block.ensures.gives);
-      fits = c.run_block.ensures.fits;
-    }
-
-pub play-returns-clause-gives : goal.play-returns-clause-gives
-play-returns-clause-gives t c =
-    play_turns_end (chart_of c.args.chart.now) c.args.bounds (now_of c.args.now) (λ a. block_seen a.now) c.args.s
-    c.args.actions.now c.loop-action.action-index c.loop-action.world _ c.loop-action.invariant.goes (omega arith)
-
-pub take-returns-in_err-exit_active-clause-gives : goal.take-returns-in_err-exit_active-clause-gives
-take-returns-in_err-exit_active-clause-gives t c =
-    let error = err_from_is_err_and c.from_residual.result c.from_residual.ensures.1 in
-    rw (error.1, error.2) (err_through {A = Unit {0}} {A' = Unit {0}} (λ _. tt) (λ _. tt) _ _ _ _
-    (λ x h. take_exit_fault (chart_of c.args.chart.now) c.args.bounds (now_of c.args.now) c.args.s c.args.d
-    (map (λ a. block_seen a.now) c.args.actions.now) c.args.world.now _ x h) c.in_err-exit_active.ensures.gives)
-
-pub take-returns-then-not-bare-clause-gives : goal.take-returns-then-not-bare-clause-gives
-take-returns-then-not-bare-clause-gives t c =
-    let chart = chart_of c.args.chart.now in
-    let bare : is_bare chart.tree c.args.s c.exit_active.new.world.marks ≡ false = cc in
-    take_not_bare chart c.args.bounds (now_of c.args.now) c.args.s c.args.d
-    (map (λ a. block_seen a.now) c.args.actions.now) c.args.world.now c.exit_active.new.world
-    c.in_ok-exit_active.ensures.gives bare
-
-pub take-returns-in_err-play-clause-gives : goal.take-returns-in_err-play-clause-gives
-take-returns-in_err-play-clause-gives t c =
-    let chart = chart_of c.args.chart.now in
-    let error = err_from_is_err_and c.from_residual-in_err-play.result c.from_residual-in_err-play.ensures.1 in
-    rw (error.1, error.2) (err_through {A' = Unit {0}} end_of (λ _. tt) _ _ _ _
-    (λ x h.
-    let bare : is_bare chart.tree c.args.s c.exit_active.new.world.marks ≡ true = cc in
-    take_play_fault chart c.args.bounds (now_of c.args.now) c.args.s c.args.d
-    (map (λ a. block_seen a.now) c.args.actions.now) c.args.world.now c.exit_active.new.world
-    c.in_ok-exit_active.ensures.gives _ x bare h) c.in_err-play.ensures.gives)
-
-pub take-returns-in-Cut-clause-gives : goal.take-returns-in-Cut-clause-gives
-take-returns-in-Cut-clause-gives t c =
-    let chart = chart_of c.args.chart.now in
-    let bare : is_bare chart.tree c.args.s c.exit_active.new.world.marks ≡ true = cc in
-    take_cut chart c.args.bounds (now_of c.args.now) c.args.s c.args.d (map (λ a. block_seen a.now) c.args.actions.now)
-    c.args.world.now c.exit_active.new.world c.in_ok-exit_active.ensures.gives c.play.new.world bare
-    (ended_as end_of _ _ c.in-Cut.is c.in_ok-play.ensures.gives)
-
-pub take-returns-then-not-bare-2-clause-gives : goal.take-returns-then-not-bare-2-clause-gives
-take-returns-then-not-bare-2-clause-gives t c =
-    let chart = chart_of c.args.chart.now in
-    let bare : is_bare chart.tree c.args.s c.exit_active.new.world.marks ≡ true = cc in
-    let off : is_bare chart.tree c.args.s c.play.new.world.marks ≡ false = cc in
-    take_left chart c.args.bounds (now_of c.args.now) c.args.s c.args.d (map (λ a. block_seen a.now) c.args.actions.now)
-    c.args.world.now c.exit_active.new.world c.in_ok-exit_active.ensures.gives c.play.new.world bare
-    (ended_as end_of _ _ c.in-Done.is c.in_ok-play.ensures.gives) off
-
-pub take-returns-else-not-bare-2-clause-gives : goal.take-returns-else-not-bare-2-clause-gives
-take-returns-else-not-bare-2-clause-gives t c =
-    let chart = chart_of c.args.chart.now in
-    passed {A = Unit {0}} (λ _. tt) _ _ _ _ (λ q h.
-    let bare : is_bare chart.tree c.args.s c.exit_active.new.world.marks ≡ true = cc in
-    let off : is_bare chart.tree c.args.s c.play.new.world.marks ≡ true = cc in
-    take_enters chart c.args.bounds (now_of c.args.now) c.args.s c.args.d
-    (map (λ a. block_seen a.now) c.args.actions.now) c.args.world.now c.exit_active.new.world
-    c.in_ok-exit_active.ensures.gives c.play.new.world q bare
-    (ended_as end_of _ _ c.in-Done.is c.in_ok-play.ensures.gives) off h) c.enter_toward.ensures.gives
-
-pub process-returns-in_err-d-clause-gives : goal.process-returns-in_err-d-clause-gives
-process-returns-in_err-d-clause-gives t c =
-    let error = err_from_is_err_and c.from_residual.result c.from_residual.ensures.1 in
-    rw (error.1, error.2) (err_through found_of went_of _ _ _ _
-    (λ x h. process_fault (chart_of c.args.chart.now) c.args.bounds (now_of c.args.now) c.args.s _ c.args.world.now
-    c.list.ensures.list _ x h) c.in_err-d.ensures.gives)
-
-pub process-returns-in-Stop-clause-gives : goal.process-returns-in-Stop-clause-gives
-process-returns-in-Stop-clause-gives t c =
-    process_after (chart_of c.args.chart.now) c.args.bounds (now_of c.args.now) c.args.s _ c.args.world.now
-    c.list.ensures.list _ c.search.new.world _ (ended_as found_of _ _ c.in-Stop.is c.in_ok-d.ensures.gives)
-    (settled_now _)
-
-pub process-returns-in-DeadEnd-clause-gives : goal.process-returns-in-DeadEnd-clause-gives
-process-returns-in-DeadEnd-clause-gives t c =
-    passed went_of _ _ _ _ (λ q h. process_after (chart_of c.args.chart.now) c.args.bounds (now_of c.args.now) c.args.s
-    _ c.args.world.now c.list.ensures.list _ c.search.new.world q
-    (ended_as found_of _ _ c.in-DeadEnd.is c.in_ok-d.ensures.gives) h) c.go_on_inside.ensures.gives
-
-pub process-returns-in-No-clause-gives : goal.process-returns-in-No-clause-gives
-process-returns-in-No-clause-gives t c =
-    passed went_of _ _ _ _ (λ q h. process_after (chart_of c.args.chart.now) c.args.bounds (now_of c.args.now) c.args.s
-    _ c.args.world.now c.list.ensures.list _ c.search.new.world q
-    (ended_as found_of _ _ c.in-No.is c.in_ok-d.ensures.gives) h) c.go_on_inside-in-No.ensures.gives
-
-pub process-returns-in_err-take-in-Fire-clause-gives : goal.process-returns-in_err-take-in-Fire-clause-gives
-process-returns-in_err-take-in-Fire-clause-gives t c =
-    let chart = chart_of c.args.chart.now in
-    let now = now_of c.args.now in
-    let error =
-    err_from_is_err_and c.from_residual-in_err-take-in-Fire.result c.from_residual-in_err-take-in-Fire.ensures.1 in
-    rw (error.1, error.2) (err_through {A = Unit {0}} (λ _. tt) went_of _ _ _ _
-    (λ x h. process_after chart c.args.bounds now c.args.s _ c.args.world.now c.list.ensures.list _ c.search.new.world _
-    (ended_as found_of _ _ c.in-Fire.is c.in_ok-d.ensures.gives)
-    (outer_fault chart c.args.bounds now c.args.s c.in-Fire.d c.home-home.result
-    (map (λ a. block_seen a.now) c.in-Fire.actions.items) c.search.new.world c.take.new.world x c.home-home.ensures.home
-    (subst (λ l. Settled (λ n. (upto chart c.args.bounds n).take c.home-home.result c.in-Fire.d
-    (map (λ a. block_seen a.now) l) now c.search.new.world) (Faulted x c.take.new.world)) c.deref.ensures.value h)))
-    c.in_err-take-in-Fire.ensures.gives)
-
-pub process-returns-in_ok-take-in-Fire-clause-gives : goal.process-returns-in_ok-take-in-Fire-clause-gives
-process-returns-in_ok-take-in-Fire-clause-gives t c =
-    let chart = chart_of c.args.chart.now in
-    let now = now_of c.args.now in
-    process_after chart c.args.bounds now c.args.s _ c.args.world.now c.list.ensures.list _ c.search.new.world _
-    (ended_as found_of _ _ c.in-Fire.is c.in_ok-d.ensures.gives)
-    (outer_taken chart c.args.bounds now c.args.s c.in-Fire.d c.home-home.result
-    (map (λ a. block_seen a.now) c.in-Fire.actions.items) c.search.new.world c.take.new.world c.home-home.ensures.home
-    (subst (λ l. Settled (λ n. (upto chart c.args.bounds n).take c.home-home.result c.in-Fire.d
-    (map (λ a. block_seen a.now) l) now c.search.new.world) (Ended tt c.take.new.world)) c.deref.ensures.value
-    c.in_ok-take-in-Fire.ensures.gives))
-
-pub go_on_inside-returns-in_err-run_block-clause-gives : goal.go_on_inside-returns-in_err-run_block-clause-gives
-go_on_inside-returns-in_err-run_block-clause-gives t c =
-    let error = err_from_is_err_and c.from_residual.result c.from_residual.ensures.1 in
-    rw (error.1, error.2) (err_through end_of went_of _ _ _ _
-    (λ x h. during_fault (chart_of c.args.chart.now) c.args.bounds (now_of c.args.now) c.args.s _ c.args.world.now
-    c.block.ensures.block _ x h) c.in_err-run_block.ensures.gives)
-
-pub go_on_inside-returns-in-Cut-clause-gives : goal.go_on_inside-returns-in-Cut-clause-gives
-go_on_inside-returns-in-Cut-clause-gives t c =
-    during_cut (chart_of c.args.chart.now) c.args.bounds (now_of c.args.now) c.args.s _ c.args.world.now
-    c.block.ensures.block c.run_block.new.world (ended_as end_of _ _ c.in-Cut.is c.in_ok-run_block.ensures.gives)
-
-pub go_on_inside-returns-in_err-d-in-Done-clause-gives : goal.go_on_inside-returns-in_err-d-in-Done-clause-gives
-go_on_inside-returns-in_err-d-in-Done-clause-gives t c =
-    let error =
-    err_from_is_err_and c.from_residual-in_err-d-in-Done.result c.from_residual-in_err-d-in-Done.ensures.1 in
-    rw (error.1, error.2) (err_through found_of went_of _ _ _ _
-    (λ x h. inner_fault (chart_of c.args.chart.now) c.args.bounds (now_of c.args.now) c.args.s _ c.args.world.now
-    c.block.ensures.block c.run_block.new.world (ended_as end_of _ _ c.in-Done.is c.in_ok-run_block.ensures.gives) _
-    c.list.ensures.list _ x h) c.in_err-d-in-Done.ensures.gives)
-
-pub go_on_inside-returns-in-Stop-clause-gives : goal.go_on_inside-returns-in-Stop-clause-gives
-go_on_inside-returns-in-Stop-clause-gives t c =
-    inner_after (chart_of c.args.chart.now) c.args.bounds (now_of c.args.now) c.args.s _ c.args.world.now
-    c.block.ensures.block c.run_block.new.world (ended_as end_of _ _ c.in-Done.is c.in_ok-run_block.ensures.gives) _
-    c.list.ensures.list _ c.search.new.world _ (ended_as found_of _ _ c.in-Stop.is c.in_ok-d-in-Done.ensures.gives)
-    (settled_now _)
-
-pub go_on_inside-returns-in-DeadEnd-clause-gives : goal.go_on_inside-returns-in-DeadEnd-clause-gives
-go_on_inside-returns-in-DeadEnd-clause-gives t c =
-    passed went_of _ _ _ _ (λ q h. inner_after (chart_of c.args.chart.now) c.args.bounds (now_of c.args.now) c.args.s _
-    c.args.world.now c.block.ensures.block c.run_block.new.world
-    (ended_as end_of _ _ c.in-Done.is c.in_ok-run_block.ensures.gives) _ c.list.ensures.list _ c.search.new.world q
-    (ended_as found_of _ _ c.in-DeadEnd.is c.in_ok-d-in-Done.ensures.gives) h) c.process_children.ensures.gives
-
-pub go_on_inside-returns-in-No-clause-gives : goal.go_on_inside-returns-in-No-clause-gives
-go_on_inside-returns-in-No-clause-gives t c =
-    passed went_of _ _ _ _ (λ q h. inner_after (chart_of c.args.chart.now) c.args.bounds (now_of c.args.now) c.args.s _
-    c.args.world.now c.block.ensures.block c.run_block.new.world
-    (ended_as end_of _ _ c.in-Done.is c.in_ok-run_block.ensures.gives) _ c.list.ensures.list _ c.search.new.world q
-    (ended_as found_of _ _ c.in-No.is c.in_ok-d-in-Done.ensures.gives) h) c.process_children-in-No.ensures.gives
-
-pub go_on_inside-returns-in_err-take-in-Fire-clause-gives : goal.go_on_inside-returns-in_err-take-in-Fire-clause-gives
-go_on_inside-returns-in_err-take-in-Fire-clause-gives t c =
-    let chart = chart_of c.args.chart.now in
-    let now = now_of c.args.now in
-    let error =
-    err_from_is_err_and c.from_residual-in_err-take-in-Fire.result c.from_residual-in_err-take-in-Fire.ensures.1 in
-    rw (error.1, error.2) (err_through {A = Unit {0}} (λ _. tt) went_of _ _ _ _
-    (λ x h. inner_after chart c.args.bounds now c.args.s _ c.args.world.now c.block.ensures.block c.run_block.new.world
-    (ended_as end_of _ _ c.in-Done.is c.in_ok-run_block.ensures.gives) _ c.list.ensures.list _ c.search.new.world _
-    (ended_as found_of _ _ c.in-Fire.is c.in_ok-d-in-Done.ensures.gives)
-    (inner_take_fault chart c.args.bounds now c.args.s c.in-Fire.d (map (λ a. block_seen a.now) c.in-Fire.actions.items)
-    c.search.new.world c.take.new.world x
-    (subst (λ l. Settled
-    (λ n. (upto chart c.args.bounds n).take c.args.s c.in-Fire.d (map (λ a. block_seen a.now) l) now c.search.new.world)
-    (Faulted x c.take.new.world)) c.deref.ensures.value h))) c.in_err-take-in-Fire.ensures.gives)
-
-pub go_on_inside-returns-in_ok-take-in-Fire-clause-gives : goal.go_on_inside-returns-in_ok-take-in-Fire-clause-gives
-go_on_inside-returns-in_ok-take-in-Fire-clause-gives t c =
-    let chart = chart_of c.args.chart.now in
-    let now = now_of c.args.now in
-    inner_after chart c.args.bounds now c.args.s _ c.args.world.now c.block.ensures.block c.run_block.new.world
-    (ended_as end_of _ _ c.in-Done.is c.in_ok-run_block.ensures.gives) _ c.list.ensures.list _ c.search.new.world _
-    (ended_as found_of _ _ c.in-Fire.is c.in_ok-d-in-Done.ensures.gives)
-    (inner_taken chart c.args.bounds now c.args.s c.in-Fire.d (map (λ a. block_seen a.now) c.in-Fire.actions.items)
-    c.search.new.world c.take.new.world
-    (subst (λ l. Settled
-    (λ n. (upto chart c.args.bounds n).take c.args.s c.in-Fire.d (map (λ a. block_seen a.now) l) now c.search.new.world)
-    (Ended tt c.take.new.world)) c.deref.ensures.value c.in_ok-take-in-Fire.ensures.gives))
-
-pub process_children-returns-in-Leaf-clause-gives : goal.process_children-returns-in-Leaf-clause-gives
-process_children-returns-in-Leaf-clause-gives t c =
-    kids_leaf (chart_of c.args.chart.now) c.args.bounds (now_of c.args.now) c.args.s _ c.args.world.now
-    c.in-Leaf.ensures
-
-pub process_children-returns-in-None-clause-gives : goal.process_children-returns-in-None-clause-gives
-process_children-returns-in-None-clause-gives t c =
-    kids_none (chart_of c.args.chart.now) c.args.bounds (now_of c.args.now) c.args.s _ c.args.world.now c.in-Or.ensures
-    c.in-None.ensures.child
-
-pub process_children-returns-in_err-process-in-Some-clause-gives :
-    goal.process_children-returns-in_err-process-in-Some-clause-gives
-process_children-returns-in_err-process-in-Some-clause-gives t c =
-    let error = err_from_is_err_and c.from_residual.result c.from_residual.ensures.1 in
-    rw (error.1, error.2) (err_through went_of went_of _ _ _ _
-    (λ x h. kids_fault (chart_of c.args.chart.now) c.args.bounds (now_of c.args.now) c.args.s c.in-Some.x _
-    c.args.world.now _ x c.in-Or.ensures c.in-Some.ensures.child h) c.in_err-process-in-Some.ensures.gives)
-
-pub process_children-returns-in-Stay-clause-gives : goal.process_children-returns-in-Stay-clause-gives
-process_children-returns-in-Stay-clause-gives t c =
-    kids_one (chart_of c.args.chart.now) c.args.bounds (now_of c.args.now) c.args.s c.in-Some.x _ c.args.world.now
-    c.process.new.world _ _ c.in-Or.ensures c.in-Some.ensures.child
-    (ended_as went_of _ _ c.in-Stay.is c.in_ok-process-in-Some.ensures.gives) refl
-
-pub process_children-returns-in-Out-clause-gives : goal.process_children-returns-in-Out-clause-gives
-process_children-returns-in-Out-clause-gives t c =
-    let chart = chart_of c.args.chart.now in
-    let now = now_of c.args.now in
-    subst (λ z. Settled (λ n. process_children chart (upto chart c.args.bounds n) c.args.s now
-    (comp_of chart.tree c.args.s) c.args.world.now) (Ended z c.process.new.world)) (sym c.out_of.ensures)
-    (kids_out chart c.args.bounds now c.args.s c.in-Some.x c.in-Out.home _ c.args.world.now c.process.new.world
-    c.in-Or.ensures c.in-Some.ensures.child (ended_as went_of _ _ c.in-Out.is c.in_ok-process-in-Some.ensures.gives))
-
-pub process_children-returns-in-And-clause-gives : goal.process_children-returns-in-And-clause-gives
-process_children-returns-in-And-clause-gives t c =
-    passed went_of _ _ _ _ (λ q h. kids_each (chart_of c.args.chart.now) c.args.bounds (now_of c.args.now) c.args.s _
-    c.args.world.now q _ c.in-And.ensures refl h) c.process_all.ensures.gives
-
-pub process_all-loop-next-init : goal.process_all-loop-next-init
-process_all-loop-next-init t c =
-    let chart = chart_of c.args.chart.now in
-    let now = now_of c.args.now in
-    record {
-      goes =
-          subst (λ l. Continues (λ n. (upto chart c.args.bounds n).process_each l now c.args.world.now)
-          (λ n. (upto chart c.args.bounds n).process_each (children_of chart.tree c.args.s) now c.args.world.now))
-          (children_of-from chart.tree c.args.s
-          ∙ ap (children_from chart.tree c.args.s) (sym c.first_child-next.ensures.child)) continues_same;
-      stands = stands_first chart.tree c.first_child-next.ensures.tree c.args.s _ c.first_child-next.ensures.child;
-      fits = c.requires.fits;
-    }
-
-pub process_all-on-requires-clause-state : goal.process_all-on-requires-clause-state
-process_all-on-requires-clause-state t c = (c.loop-next.invariant.stands.child c.in-Some.x c.in-Some.is).within
-
-pub process_all-process-requires : goal.process_all-process-requires
-process_all-process-requires t c =
-    let child = c.loop-next.invariant.stands.child c.in-Some.x c.in-Some.is in
-    (omega (arith, child.above, child.within, c.decreases), (c.loop-next.invariant.fits, child.within))
-
-pub process_all-returns-in_err-process-clause-gives : goal.process_all-returns-in_err-process-clause-gives
-process_all-returns-in_err-process-clause-gives t c =
-    let error = err_from_is_err_and c.from_residual.result c.from_residual.ensures.1 in
-    rw (error.1, error.2) (err_through went_of went_of _ _ _ _
-    (λ x h.
-    let on : is_on c.in-Some.x c.loop-next.world.marks ≡ true = cc in
-    each_turn_fault (chart_of c.args.chart.now) c.args.bounds (now_of c.args.now) c.args.s c.loop-next.next
-    c.loop-next.world _ c.loop-next.invariant.goes c.in-Some.x c.in-Some.is c.loop-next.invariant.stands on _ x h)
-    c.in_err-process.ensures.gives)
-
-pub process_all-returns-in-Out-clause-gives : goal.process_all-returns-in-Out-clause-gives
-process_all-returns-in-Out-clause-gives t c =
-    let on : is_on c.in-Some.x c.loop-next.world.marks ≡ true = cc in
-    each_turn_out (chart_of c.args.chart.now) c.args.bounds (now_of c.args.now) c.args.s c.loop-next.next
-    c.loop-next.world _ c.loop-next.invariant.goes c.in-Some.x c.in-Some.is c.loop-next.invariant.stands on
-    c.process.new.world c.in-Out.home (ended_as went_of _ _ c.in-Out.is c.in_ok-process.ensures.gives)
-
-pub process_all-next_sibling-next-requires : goal.process_all-next_sibling-next-requires
-process_all-next_sibling-next-requires t c = (c.loop-next.invariant.stands.child c.in-Some.x c.in-Some.is).within
-
-pub process_all-loop-next-smaller : goal.process_all-loop-next-smaller
-process_all-loop-next-smaller t c =
-    ahead_falls (chart_of c.args.chart.now).tree c.in-Some.x _ _ c.in-Some.is
-    (c.loop-next.invariant.stands.child c.in-Some.x c.in-Some.is).within c.next_sibling-next.ensures.after
-
-pub process_all-returns-clause-gives : goal.process_all-returns-clause-gives
-process_all-returns-clause-gives t c =
-    each_turns_end (chart_of c.args.chart.now) c.args.bounds (now_of c.args.now) c.args.s c.loop-next.next
-    c.loop-next.world _ c.loop-next.invariant.goes c.in_default.is
-
-pub search-loop-places-init : goal.search-loop-places-init
-search-loop-places-init t c =
+pub searches::search-loop-places-init : goal.searches::search-loop-places-init
+searches::search-loop-places-init t c =
     let chart = chart_of c.args.chart.now in
     let now = now_of c.args.now in
     let life = life_seen c.args.life in
@@ -988,13 +312,13 @@ search-loop-places-init t c =
           (sym c.new-places.ensures.items) tt;
     }
 
-pub search-returns-in-None-pop-clause-gives : goal.search-returns-in-None-pop-clause-gives
-search-returns-in-None-pop-clause-gives t c =
+pub searches::search-returns-in-None-pop-clause-gives : goal.searches::search-returns-in-None-pop-clause-gives
+searches::search-returns-in-None-pop-clause-gives t c =
     finds_nothing (omega (arith, c.in-None-pop.ensures.cases.0, c.loop-places.places.ok.0))
     (at_end _ c.in-None.ensures.cases c.loop-places.invariant.leads)
 
-pub search-loop-places-preserved-in-Some-pop : goal.search-loop-places-preserved-in-Some-pop
-search-loop-places-preserved-in-Some-pop t c =
+pub searches::search-loop-places-preserved-in-Some-pop : goal.searches::search-loop-places-preserved-in-Some-pop
+searches::search-loop-places-preserved-in-Some-pop t c =
     let chart = chart_of c.args.chart.now in
     let rests =
     of_parts (λ p. AreTrans chart (list_seen p.rest.now)) _ _ c.in-Some-pop.ensures.items
@@ -1012,15 +336,15 @@ search-loop-places-preserved-in-Some-pop t c =
       actions = actions.0;
     }
 
-pub search-returns-in_err-enabled-in-Some-clause-gives : goal.search-returns-in_err-enabled-in-Some-clause-gives
-search-returns-in_err-enabled-in-Some-clause-gives t c =
+pub searches::search-returns-in_err-enabled-in-Some-clause-gives : goal.searches::search-returns-in_err-enabled-in-Some-clause-gives
+searches::search-returns-in_err-enabled-in-Some-clause-gives t c =
     let error = err_from_is_err_and c.from_residual.result c.from_residual.ensures.1 in
     rw (error.1, error.2) (err_does (λ b. b) found_of _ _ _ _
     (λ x h. guard_faults (at_first c.in-Some.ensures.cases.0 c.loop-places.invariant.leads) h)
     c.in_err-enabled-in-Some.ensures)
 
-pub search-returns-in_err-run_block-in-Some-clause-gives : goal.search-returns-in_err-run_block-in-Some-clause-gives
-search-returns-in_err-run_block-in-Some-clause-gives t c =
+pub searches::search-returns-in_err-run_block-in-Some-clause-gives : goal.searches::search-returns-in_err-run_block-in-Some-clause-gives
+searches::search-returns-in_err-run_block-in-Some-clause-gives t c =
     let error =
     err_from_is_err_and c.from_residual-in_err-run_block-in-Some.result
     c.from_residual-in_err-run_block-in-Some.ensures.1 in
@@ -1030,14 +354,14 @@ search-returns-in_err-run_block-in-Some-clause-gives t c =
     (λ x h. condition_faults leads enabled (block_faulted _ _ c.items.ensures h))
     c.in_err-run_block-in-Some.ensures.gives)
 
-pub search-returns-in-Cut-clause-gives : goal.search-returns-in-Cut-clause-gives
-search-returns-in-Cut-clause-gives t c =
+pub searches::search-returns-in-Cut-clause-gives : goal.searches::search-returns-in-Cut-clause-gives
+searches::search-returns-in-Cut-clause-gives t c =
     let leads = at_first c.in-Some.ensures.cases.0 c.loop-places.invariant.leads in
     let enabled = c.in_ok-enabled-in-Some.ensures ∙ ap (λ z. Ended z c.loop-places.world) c.if-branch.true in
     condition_cut leads enabled (block_ended _ _ c.items.ensures c.in-Cut.is c.in_ok-run_block-in-Some.ensures.gives)
 
-pub search-returns-in-State-clause-found : goal.search-returns-in-State-clause-found
-search-returns-in-State-clause-found t c =
+pub searches::search-returns-in-State-clause-found : goal.searches::search-returns-in-State-clause-found
+searches::search-returns-in-State-clause-found t c =
     let chart = chart_of c.args.chart.now in
     let list = subst (λ xs. AreTrans chart (list_seen xs)) c.in-Some.ensures.cases.0 c.loop-places.invariant.rest in (
       (subst (IsDest chart) c.in-State.is list.0.dest).1,
@@ -1046,8 +370,8 @@ search-returns-in-State-clause-found t c =
           (collected_are chart c.loop-places.places.items _ c.loop-places.invariant.actions list.0.action.stmts),
     )
 
-pub search-returns-in_err-pay-in-Junction-clause-gives : goal.search-returns-in_err-pay-in-Junction-clause-gives
-search-returns-in_err-pay-in-Junction-clause-gives t c =
+pub searches::search-returns-in_err-pay-in-Junction-clause-gives : goal.searches::search-returns-in_err-pay-in-Junction-clause-gives
+searches::search-returns-in_err-pay-in-Junction-clause-gives t c =
     let error =
     err_from_is_err_and c.from_residual-in_err-pay-in-Junction.result
     c.from_residual-in_err-pay-in-Junction.ensures.1 in
@@ -1057,8 +381,8 @@ search-returns-in_err-pay-in-Junction-clause-gives t c =
     rw (error.1, error.2) (err_does {A = Unit {0}} (λ _. tt) found_of _ _ _ _
     (λ x h. junction_faults leads enabled done (sym c.in-Junction.is) h) c.in_err-pay-in-Junction.ensures.does)
 
-pub search-returns-then-is_empty-clause-gives : goal.search-returns-then-is_empty-clause-gives
-search-returns-then-is_empty-clause-gives t c =
+pub searches::search-returns-then-is_empty-clause-gives : goal.searches::search-returns-then-is_empty-clause-gives
+searches::search-returns-then-is_empty-clause-gives t c =
     let leads = at_first c.in-Some.ensures.cases.0 c.loop-places.invariant.leads in
     let enabled = c.in_ok-enabled-in-Some.ensures ∙ ap (λ z. Ended z c.loop-places.world) c.if-branch.true in
     let done = block_ended _ _ c.items.ensures c.in-Done.is c.in_ok-run_block-in-Some.ensures.gives in
@@ -1067,8 +391,8 @@ search-returns-then-is_empty-clause-gives t c =
     ∙ c.junction-next.ensures.list in
     at_dead_end leads enabled done (sym c.in-Junction.is) c.in_ok-pay-in-Junction.ensures.does none
 
-pub search-loop-places-smaller-in-Junction : goal.search-loop-places-smaller-in-Junction
-search-loop-places-smaller-in-Junction t c =
+pub searches::search-loop-places-smaller-in-Junction : goal.searches::search-loop-places-smaller-in-Junction
+searches::search-loop-places-smaller-in-Junction t c =
     let done = block_ended _ _ c.items.ensures c.in-Done.is c.in_ok-run_block-in-Some.ensures.gives in
     let paid = pay_done c.args.bounds c.run_block.new.world _ c.in_ok-pay-in-Junction.ensures.does in
     visit_falls c.args.bounds.steps c.loop-places.world.used c.run_block.new.world.used _ _
@@ -1077,8 +401,8 @@ search-loop-places-smaller-in-Junction t c =
     paid.0 paid.1 (omega (arith, c.in-Some.ensures.cases.1)) c.junction-next.ensures.short
     (sum_pushed (λ p. length p.rest.now + 1) _ c.loop-places.places.items _ c.in_ok-push_place-in-Junction.ensures.ok)
 
-pub search-loop-places-preserved-in-Junction : goal.search-loop-places-preserved-in-Junction
-search-loop-places-preserved-in-Junction t c =
+pub searches::search-loop-places-preserved-in-Junction : goal.searches::search-loop-places-preserved-in-Junction
+searches::search-loop-places-preserved-in-Junction t c =
     let chart = chart_of c.args.chart.now in
     let leads = at_first c.in-Some.ensures.cases.0 c.loop-places.invariant.leads in
     let enabled = c.in_ok-enabled-in-Some.ensures ∙ ap (λ z. Ended z c.loop-places.world) c.if-branch.true in
@@ -1098,8 +422,8 @@ search-loop-places-preserved-in-Junction t c =
           (subst (AreStmts chart) (sym (ap block_seen c.items-in-Junction.ensures)) list.0.action.stmts);
     }
 
-pub search-loop-places-preserved : goal.search-loop-places-preserved
-search-loop-places-preserved t c =
+pub searches::search-loop-places-preserved : goal.searches::search-loop-places-preserved
+searches::search-loop-places-preserved t c =
     let leads = at_first c.in-Some.ensures.cases.0 c.loop-places.invariant.leads in
     let list =
     subst (λ xs. AreTrans (chart_of c.args.chart.now) (list_seen xs)) c.in-Some.ensures.cases.0
@@ -1113,8 +437,719 @@ search-loop-places-preserved t c =
       actions = c.loop-places.invariant.actions;
     }
 
-pub process_all-loop-next-preserved-then-not-on : goal.process_all-loop-next-preserved-then-not-on
-process_all-loop-next-preserved-then-not-on t c =
+pub searches::search-returns-in-State-clause-gives : goal.searches::search-returns-in-State-clause-gives
+searches::search-returns-in-State-clause-gives t c =
+    let leads = at_first c.in-Some.ensures.cases.0 c.loop-places.invariant.leads in
+    let enabled = c.in_ok-enabled-in-Some.ensures ∙ ap (λ z. Ended z c.loop-places.world) c.if-branch.true in
+    let done = block_ended _ _ c.items.ensures c.in-Done.is c.in_ok-run_block-in-Some.ensures.gives in
+    subst (λ a. Settled (λ n. (upto (chart_of c.args.chart.now) c.args.bounds n).search (life_seen c.args.life)
+    (list_seen c.args.list.now) (now_of c.args.now) c.args.world.now)
+    (Ended (Fire c.in-State.d a) c.run_block.new.world))
+    (sym (collected c.in_ok-actions-in-State.ensures.ok c.deref.ensures.value c.items-in-State.ensures))
+    (at_state leads enabled done (sym c.in-State.is))
+
+-- ---- leaving
+
+pub exits::exit-returns-then-not-on-clause-gives : goal.exits::exit-returns-then-not-on-clause-gives
+exits::exit-returns-then-not-on-clause-gives t c =
+    let off : is_on c.args.s c.args.world.now.marks ≡ false = cc in
+    exit_off (chart_of c.args.chart.now) c.args.bounds (now_of c.args.now) c.args.s c.args.world.now off
+
+pub exits::exit-returns-in_err-exit_children-clause-gives : goal.exits::exit-returns-in_err-exit_children-clause-gives
+exits::exit-returns-in_err-exit_children-clause-gives t c =
+    let error = err_from_is_err_and c.from_residual.result c.from_residual.ensures.1 in
+    rw (error.1, error.2) (err_through {A = Unit {0}} {A' = Unit {0}} (λ _. tt) (λ _. tt) _ _ _ _
+    (λ x h.
+    let on : is_on c.args.s c.args.world.now.marks ≡ true = cc in
+    exit_children_fault (chart_of c.args.chart.now) c.args.bounds (now_of c.args.now) c.args.s c.args.world.now _ x on
+    h) c.in_err-exit_children.ensures.gives)
+
+pub exits::exit-returns-then-not-bare-clause-gives : goal.exits::exit-returns-then-not-bare-clause-gives
+exits::exit-returns-then-not-bare-clause-gives t c =
+    let chart = chart_of c.args.chart.now in
+    let on : is_on c.args.s c.args.world.now.marks ≡ true = cc in
+    let bare : is_bare chart.tree c.args.s c.exit_children.new.world.marks ≡ false = cc in
+    exit_not_bare chart c.args.bounds (now_of c.args.now) c.args.s c.args.world.now _ on
+    c.in_ok-exit_children.ensures.gives bare
+
+pub exits::exit-returns-in_err-run_block-clause-gives : goal.exits::exit-returns-in_err-run_block-clause-gives
+exits::exit-returns-in_err-run_block-clause-gives t c =
+    let chart = chart_of c.args.chart.now in
+    let error =
+    err_from_is_err_and c.from_residual-in_err-run_block.result c.from_residual-in_err-run_block.ensures.1 in
+    rw (error.1, error.2) (err_through {A' = Unit {0}} end_of (λ _. tt) _ _ _ _
+    (λ x h.
+    let on : is_on c.args.s c.args.world.now.marks ≡ true = cc in
+    let bare : is_bare chart.tree c.args.s c.exit_children.new.world.marks ≡ true = cc in
+    exit_block_fault chart c.args.bounds (now_of c.args.now) c.args.s _ c.args.world.now c.exit_children.new.world _ x
+    c.block.ensures.block on c.in_ok-exit_children.ensures.gives bare h) c.in_err-run_block.ensures.gives)
+
+pub exits::exit-returns-in-Cut-clause-gives : goal.exits::exit-returns-in-Cut-clause-gives
+exits::exit-returns-in-Cut-clause-gives t c =
+    let chart = chart_of c.args.chart.now in
+    let on : is_on c.args.s c.args.world.now.marks ≡ true = cc in
+    let bare : is_bare chart.tree c.args.s c.exit_children.new.world.marks ≡ true = cc in
+    exit_cut chart c.args.bounds (now_of c.args.now) c.args.s _ c.args.world.now c.exit_children.new.world _
+    c.block.ensures.block on c.in_ok-exit_children.ensures.gives bare
+    (ended_as end_of _ _ c.in-Cut.is c.in_ok-run_block.ensures.gives)
+
+pub exits::exit-returns-else-bare-clause-gives : goal.exits::exit-returns-else-bare-clause-gives
+exits::exit-returns-else-bare-clause-gives t c =
+    let chart = chart_of c.args.chart.now in
+    let on : is_on c.args.s c.args.world.now.marks ≡ true = cc in
+    let bare : is_bare chart.tree c.args.s c.exit_children.new.world.marks ≡ true = cc in
+    let off : is_bare chart.tree c.args.s c.run_block.new.world.marks ≡ false = cc in
+    exit_kept chart c.args.bounds (now_of c.args.now) c.args.s _ c.args.world.now c.exit_children.new.world _
+    c.block.ensures.block on c.in_ok-exit_children.ensures.gives bare
+    (ended_as end_of _ _ c.in-Done.is c.in_ok-run_block.ensures.gives) off
+
+pub exits::exit-returns-then-bare-clause-gives : goal.exits::exit-returns-then-bare-clause-gives
+exits::exit-returns-then-bare-clause-gives t c =
+    let chart = chart_of c.args.chart.now in
+    let now = now_of c.args.now in
+    let on : is_on c.args.s c.args.world.now.marks ≡ true = cc in
+    let bare : is_bare chart.tree c.args.s c.exit_children.new.world.marks ≡ true = cc in
+    let off : is_bare chart.tree c.args.s c.run_block.new.world.marks ≡ true = cc in
+    subst (λ v. Settled (λ n. (upto chart c.args.bounds n).exit c.args.s now c.args.world.now) (Ended tt v))
+    (sym c.clear.ensures.cleared) (exit_left chart c.args.bounds now c.args.s _ c.args.world.now
+    c.exit_children.new.world _ c.block.ensures.block on c.in_ok-exit_children.ensures.gives bare
+    (ended_as end_of _ _ c.in-Done.is c.in_ok-run_block.ensures.gives) off)
+
+pub exits::exit_children-returns-in-Leaf-clause-gives : goal.exits::exit_children-returns-in-Leaf-clause-gives
+exits::exit_children-returns-in-Leaf-clause-gives t c =
+    exit_children_leaf (chart_of c.args.chart.now) c.args.bounds (now_of c.args.now) c.args.s _ c.args.world.now
+    c.in-Leaf.ensures
+
+pub exits::exit_children-returns-in-Or-clause-gives : goal.exits::exit_children-returns-in-Or-clause-gives
+exits::exit_children-returns-in-Or-clause-gives t c =
+    passed {A = Unit {0}} (λ _. tt) _ _ _ _ (λ q h. exit_children_or (chart_of c.args.chart.now) c.args.bounds
+    (now_of c.args.now) c.args.s _ c.args.world.now q c.in-Or.ensures h) c.exit_active.ensures.gives
+
+pub exits::exit_children-returns-in-And-clause-gives : goal.exits::exit_children-returns-in-And-clause-gives
+exits::exit_children-returns-in-And-clause-gives t c =
+    passed {A = Unit {0}} (λ _. tt) _ _ _ _ (λ q h. exit_children_and (chart_of c.args.chart.now) c.args.bounds
+    (now_of c.args.now) c.args.s _ c.args.world.now q _ c.in-And.ensures refl h) c.exit_all.ensures.gives
+
+pub exits::exit_all-loop-next-init : goal.exits::exit_all-loop-next-init
+exits::exit_all-loop-next-init t c =
+    let chart = chart_of c.args.chart.now in
+    let now = now_of c.args.now in
+    record {
+      goes =
+          subst (λ l. Continues (λ n. (upto chart c.args.bounds n).exit_each l now c.args.world.now)
+          (λ n. (upto chart c.args.bounds n).exit_each (reverse (children_of chart.tree c.args.s)) now
+          c.args.world.now))
+          (children_of-back chart.tree c.args.s
+          ∙ ap (children_back_from chart.tree c.args.s) (sym c.last_child-next.ensures.child)) continues_same;
+      stands = stands_last chart.tree c.last_child-next.ensures.tree c.args.s _ c.last_child-next.ensures.child;
+      fits = c.requires.fits;
+    }
+
+pub exits::exit_all-returns-in_err-exit-clause-gives : goal.exits::exit_all-returns-in_err-exit-clause-gives
+exits::exit_all-returns-in_err-exit-clause-gives t c =
+    let error = err_from_is_err_and c.from_residual.result c.from_residual.ensures.1 in
+    rw (error.1, error.2) (err_through {A = Unit {0}} {A' = Unit {0}} (λ _. tt) (λ _. tt) _ _ _ _
+    (λ x h. exit_turn_fault (chart_of c.args.chart.now) c.args.bounds (now_of c.args.now) c.args.s c.loop-next.next
+    c.loop-next.world _ c.loop-next.invariant.goes c.in-Some.x c.in-Some.is c.loop-next.invariant.stands _ x h)
+    c.in_err-exit.ensures.gives)
+
+pub exits::exit_all-prev_sibling-next-requires : goal.exits::exit_all-prev_sibling-next-requires
+exits::exit_all-prev_sibling-next-requires t c = (c.loop-next.invariant.stands.child c.in-Some.x c.in-Some.is).within
+
+pub exits::exit_all-loop-next-preserved : goal.exits::exit_all-loop-next-preserved
+exits::exit_all-loop-next-preserved t c =
+    let chart = chart_of c.args.chart.now in
+    record {
+      goes =
+          exit_turn chart c.args.bounds (now_of c.args.now) c.args.s c.loop-next.next c.loop-next.world _
+          c.loop-next.invariant.goes c.in-Some.x c.in-Some.is c.loop-next.invariant.stands _ _
+          c.prev_sibling-next.ensures.sibling c.in_ok-exit.ensures.gives;
+      stands =
+          stands_prev chart.tree c.prev_sibling-next.ensures.tree c.args.s c.in-Some.x _ _ c.in-Some.is
+          c.loop-next.invariant.stands c.prev_sibling-next.ensures.sibling;
+      fits = c.exit.ensures.fits;
+    }
+
+pub exits::exit_all-returns-clause-gives : goal.exits::exit_all-returns-clause-gives
+exits::exit_all-returns-clause-gives t c =
+    exit_turns_end (chart_of c.args.chart.now) c.args.bounds (now_of c.args.now) c.args.s c.loop-next.next
+    c.loop-next.world _ c.loop-next.invariant.goes c.in_default.is
+
+pub exits::exit_all-exit-requires : goal.exits::exit_all-exit-requires
+exits::exit_all-exit-requires t c =
+    let child = c.loop-next.invariant.stands.child c.in-Some.x c.in-Some.is in
+    (omega (arith, child.above, child.within, c.decreases), (c.loop-next.invariant.fits, child.within))
+
+pub exits::exit_active-returns-in-None-clause-gives : goal.exits::exit_active-returns-in-None-clause-gives
+exits::exit_active-returns-in-None-clause-gives t c =
+    exit_active_none (chart_of c.args.chart.now) c.args.bounds (now_of c.args.now) c.args.s c.args.world.now
+    c.in-None.ensures.child
+
+pub exits::exit_active-returns-in-Some-clause-gives : goal.exits::exit_active-returns-in-Some-clause-gives
+exits::exit_active-returns-in-Some-clause-gives t c =
+    passed {A = Unit {0}} (λ _. tt) _ _ _ _ (λ q h. exit_active_one (chart_of c.args.chart.now) c.args.bounds
+    (now_of c.args.now) c.args.s c.in-Some.x c.args.world.now q c.in-Some.ensures.child h) c.exit.ensures.gives
+
+-- ---- entering
+
+pub entries::enter-returns-then-not-can_mark-clause-gives : goal.entries::enter-returns-then-not-can_mark-clause-gives
+entries::enter-returns-then-not-can_mark-clause-gives t c =
+    let chart = chart_of c.args.chart.now in
+    let can : can_mark chart.tree c.args.s c.args.world.now.marks ≡ false = cc in
+    enter_no chart c.args.bounds (now_of c.args.now) c.args.s c.args.d c.args.world.now can
+
+pub entries::enter-returns-in_err-run_block-clause-gives : goal.entries::enter-returns-in_err-run_block-clause-gives
+entries::enter-returns-in_err-run_block-clause-gives t c =
+    let chart = chart_of c.args.chart.now in
+    let error = err_from_is_err_and c.from_residual.result c.from_residual.ensures.1 in
+    rw (error.1, error.2) (err_through {A' = Unit {0}} end_of (λ _. tt) _ _ _ _
+    (λ x h.
+    let can : can_mark chart.tree c.args.s c.args.world.now.marks ≡ true = cc in
+    enter_fault chart c.args.bounds (now_of c.args.now) c.args.s c.args.d _ c.args.world.now c.enter.new.self
+    c.block.ensures.block can c.enter.ensures.entered _ x h) c.in_err-run_block.ensures.gives)
+
+pub entries::enter-returns-in-Cut-clause-gives : goal.entries::enter-returns-in-Cut-clause-gives
+entries::enter-returns-in-Cut-clause-gives t c =
+    let chart = chart_of c.args.chart.now in
+    let can : can_mark chart.tree c.args.s c.args.world.now.marks ≡ true = cc in
+    enter_cut chart c.args.bounds (now_of c.args.now) c.args.s c.args.d _ c.args.world.now c.enter.new.self
+    c.block.ensures.block can c.enter.ensures.entered c.run_block.new.world
+    (ended_as end_of _ _ c.in-Cut.is c.in_ok-run_block.ensures.gives)
+
+pub entries::enter-returns-in-Done-clause-gives : goal.entries::enter-returns-in-Done-clause-gives
+entries::enter-returns-in-Done-clause-gives t c =
+    let chart = chart_of c.args.chart.now in
+    passed {A = Unit {0}} (λ _. tt) _ _ _ _ (λ q h.
+    let can : can_mark chart.tree c.args.s c.args.world.now.marks ≡ true = cc in
+    enter_done chart c.args.bounds (now_of c.args.now) c.args.s c.args.d _ c.args.world.now c.enter.new.self
+    c.block.ensures.block can c.enter.ensures.entered c.run_block.new.world q
+    (ended_as end_of _ _ c.in-Done.is c.in_ok-run_block.ensures.gives) h) c.enter_inside.ensures.gives
+
+pub entries::enter_inside-returns-in-Leaf-clause-gives : goal.entries::enter_inside-returns-in-Leaf-clause-gives
+entries::enter_inside-returns-in-Leaf-clause-gives t c =
+    inside_leaf (chart_of c.args.chart.now) c.args.bounds (now_of c.args.now) c.args.s c.args.d _ c.args.world.now
+    c.in-Leaf.ensures
+
+pub entries::enter_inside-returns-in-Or-clause-gives : goal.entries::enter_inside-returns-in-Or-clause-gives
+entries::enter_inside-returns-in-Or-clause-gives t c =
+    passed {A = Unit {0}} (λ _. tt) _ _ _ _ (λ q h. inside_or (chart_of c.args.chart.now) c.args.bounds
+    (now_of c.args.now) c.args.s c.args.d _ c.args.world.now q c.in-Or.ensures h) c.enter_toward.ensures.gives
+
+pub entries::enter_inside-returns-in-And-clause-gives : goal.entries::enter_inside-returns-in-And-clause-gives
+entries::enter_inside-returns-in-And-clause-gives t c =
+    passed {A = Unit {0}} (λ _. tt) _ _ _ _ (λ q h. inside_each (chart_of c.args.chart.now) c.args.bounds
+    (now_of c.args.now) c.args.s c.args.d _ c.args.world.now q _ c.in-And.ensures refl h) c.enter_all.ensures.gives
+
+pub entries::enter_all-loop-next-init : goal.entries::enter_all-loop-next-init
+entries::enter_all-loop-next-init t c =
+    let chart = chart_of c.args.chart.now in
+    let now = now_of c.args.now in
+    record {
+      goes =
+          subst (λ l. Continues (λ n. (upto chart c.args.bounds n).enter_each l c.args.d now c.args.world.now)
+          (λ n. (upto chart c.args.bounds n).enter_each (children_of chart.tree c.args.s) c.args.d now
+          c.args.world.now))
+          (children_of-from chart.tree c.args.s
+          ∙ ap (children_from chart.tree c.args.s) (sym c.first_child-next.ensures.child)) continues_same;
+      stands = stands_first chart.tree c.first_child-next.ensures.tree c.args.s _ c.first_child-next.ensures.child;
+      fits = c.requires.fits;
+    }
+
+pub entries::enter_all-path_in-requires-clause-child : goal.entries::enter_all-path_in-requires-clause-child
+entries::enter_all-path_in-requires-clause-child t c = (c.loop-next.invariant.stands.child c.in-Some.x c.in-Some.is).within
+
+pub entries::enter_all-enter-requires : goal.entries::enter_all-enter-requires
+entries::enter_all-enter-requires t c =
+    let child = c.loop-next.invariant.stands.child c.in-Some.x c.in-Some.is in (
+      omega (arith, child.above, child.within, c.decreases),
+      (c.loop-next.invariant.fits, (child.within, c.path_in.ensures.within)),
+    )
+
+pub entries::enter_all-returns-in_err-enter-clause-gives : goal.entries::enter_all-returns-in_err-enter-clause-gives
+entries::enter_all-returns-in_err-enter-clause-gives t c =
+    let error = err_from_is_err_and c.from_residual.result c.from_residual.ensures.1 in
+    rw (error.1, error.2) (err_through {A = Unit {0}} {A' = Unit {0}} (λ _. tt) (λ _. tt) _ _ _ _
+    (λ x h. enter_turn_fault (chart_of c.args.chart.now) c.args.bounds (now_of c.args.now) c.args.s c.args.d
+    c.loop-next.next c.loop-next.world _ c.loop-next.invariant.goes c.in-Some.x _ c.in-Some.is
+    c.loop-next.invariant.stands c.path_in.ensures.path _ x h) c.in_err-enter.ensures.gives)
+
+pub entries::enter_all-next_sibling-next-requires : goal.entries::enter_all-next_sibling-next-requires
+entries::enter_all-next_sibling-next-requires t c = (c.loop-next.invariant.stands.child c.in-Some.x c.in-Some.is).within
+
+pub entries::enter_all-loop-next-smaller : goal.entries::enter_all-loop-next-smaller
+entries::enter_all-loop-next-smaller t c =
+    ahead_falls (chart_of c.args.chart.now).tree c.in-Some.x _ _ c.in-Some.is
+    (c.loop-next.invariant.stands.child c.in-Some.x c.in-Some.is).within c.next_sibling-next.ensures.after
+
+pub entries::enter_all-loop-next-preserved : goal.entries::enter_all-loop-next-preserved
+entries::enter_all-loop-next-preserved t c =
+    let chart = chart_of c.args.chart.now in
+    record {
+      goes =
+          enter_turn chart c.args.bounds (now_of c.args.now) c.args.s c.args.d c.loop-next.next c.loop-next.world _
+          c.loop-next.invariant.goes c.in-Some.x _ c.in-Some.is c.loop-next.invariant.stands c.path_in.ensures.path _ _
+          c.next_sibling-next.ensures.sibling c.in_ok-enter.ensures.gives;
+      stands =
+          stands_next chart.tree c.next_sibling-next.ensures.tree c.args.s c.in-Some.x _ _ c.in-Some.is
+          c.loop-next.invariant.stands c.next_sibling-next.ensures.sibling;
+      fits = c.enter.ensures.fits;
+    }
+
+pub entries::enter_all-returns-clause-gives : goal.entries::enter_all-returns-clause-gives
+entries::enter_all-returns-clause-gives t c =
+    enter_turns_end (chart_of c.args.chart.now) c.args.bounds (now_of c.args.now) c.args.s c.args.d c.loop-next.next
+    c.loop-next.world _ c.loop-next.invariant.goes c.in_default.is
+
+pub entries::enter_toward-returns-then-s-d-clause-gives : goal.entries::enter_toward-returns-then-s-d-clause-gives
+entries::enter_toward-returns-then-s-d-clause-gives t c =
+    passed {A = Unit {0}} (λ _. tt) _ _ _ _ (λ q h.
+    let sd : (c.args.s == c.args.d) ≡ true = grind (arith, nat_tests) in
+    settled_true (c.args.s == c.args.d)
+    (λ n. (upto (chart_of c.args.chart.now) c.args.bounds n).defaults c.args.s (now_of c.args.now)) _ c.args.world.now q
+    sd h) c.defaults.ensures.gives
+
+pub entries::enter_toward-returns-clause-gives : goal.entries::enter_toward-returns-clause-gives
+entries::enter_toward-returns-clause-gives t c =
+    let chart = chart_of c.args.chart.now in
+    passed {A = Unit {0}} (λ _. tt) _ _ _ _ (λ q h.
+    let sd : (c.args.s == c.args.d) ≡ false = grind (arith, nat_tests) in
+    settled_false (c.args.s == c.args.d) _ (λ n. if_some (child_toward chart.tree c.args.s c.args.d) nothing
+    (λ x. (upto chart c.args.bounds n).enter x c.args.d (now_of c.args.now))) c.args.world.now q sd h)
+    c.enter_child.ensures.gives
+
+pub entries::enter_child-returns-in-None-clause-gives : goal.entries::enter_child-returns-in-None-clause-gives
+entries::enter_child-returns-in-None-clause-gives t c =
+    toward_none (chart_of c.args.chart.now) c.args.bounds (now_of c.args.now) c.args.s c.args.d c.args.world.now
+    c.in-None.ensures.child
+
+pub entries::enter_child-returns-in-Some-clause-gives : goal.entries::enter_child-returns-in-Some-clause-gives
+entries::enter_child-returns-in-Some-clause-gives t c =
+    passed {A = Unit {0}} (λ _. tt) _ _ _ _ (λ q h. toward_one (chart_of c.args.chart.now) c.args.bounds
+    (now_of c.args.now) c.args.s c.args.d c.in-Some.x c.args.world.now q c.in-Some.ensures.child h)
+    c.enter.ensures.gives
+
+-- ---- entering by default
+
+pub defaults::defaults-returns-in-Some-clause-gives : goal.defaults::defaults-returns-in-Some-clause-gives
+defaults::defaults-returns-in-Some-clause-gives t c =
+    passed {A = Unit {0}} (λ _. tt) _ _ _ _ (λ q h. defaults_return (chart_of c.args.chart.now) c.args.bounds
+    (now_of c.args.now) c.args.s c.in-Some.x c.args.world.now q c.in-Some.ensures.child h) c.enter.ensures.gives
+
+pub defaults::defaults-returns-in-None-clause-gives : goal.defaults::defaults-returns-in-None-clause-gives
+defaults::defaults-returns-in-None-clause-gives t c =
+    passed {A = Unit {0}} (λ _. tt) _ _ _ _ (λ q h. defaults_search (chart_of c.args.chart.now) c.args.bounds
+    (now_of c.args.now) c.args.s c.args.world.now q c.in-None.ensures.child h) c.default_search.ensures.gives
+
+pub defaults::default_search-returns-in_err-d-clause-gives : goal.defaults::default_search-returns-in_err-d-clause-gives
+defaults::default_search-returns-in_err-d-clause-gives t c =
+    let error = err_from_is_err_and c.from_residual.result c.from_residual.ensures.1 in
+    rw (error.1, error.2) (err_through {A' = Unit {0}} found_of (λ _. tt) _ _ _ _
+    (λ x h. default_fault (chart_of c.args.chart.now) c.args.bounds (now_of c.args.now) c.args.s _ c.args.world.now
+    c.list.ensures.list _ x h) c.in_err-d.ensures.gives)
+
+pub defaults::default_search-returns-in-DeadEnd-clause-gives : goal.defaults::default_search-returns-in-DeadEnd-clause-gives
+defaults::default_search-returns-in-DeadEnd-clause-gives t c =
+    default_after (chart_of c.args.chart.now) c.args.bounds (now_of c.args.now) c.args.s _ c.args.world.now
+    c.list.ensures.list _ c.search.new.world _ (ended_as found_of _ _ c.in-DeadEnd.is c.in_ok-d.ensures.gives)
+    (settled_now _)
+
+pub defaults::default_search-returns-in-No-clause-gives : goal.defaults::default_search-returns-in-No-clause-gives
+defaults::default_search-returns-in-No-clause-gives t c =
+    default_after (chart_of c.args.chart.now) c.args.bounds (now_of c.args.now) c.args.s _ c.args.world.now
+    c.list.ensures.list _ c.search.new.world _ (ended_as found_of _ _ c.in-No.is c.in_ok-d.ensures.gives)
+    (settled_now _)
+
+pub defaults::default_search-returns-clause-gives : goal.defaults::default_search-returns-clause-gives
+defaults::default_search-returns-clause-gives t c =
+    default_after (chart_of c.args.chart.now) c.args.bounds (now_of c.args.now) c.args.s _ c.args.world.now
+    c.list.ensures.list _ c.search.new.world _ (ended_as found_of _ _ c.in-Stop.is c.in_ok-d.ensures.gives)
+    (settled_now _)
+
+pub defaults::default_search-returns-in_err-play-in-Fire-clause-gives :
+    goal.defaults::default_search-returns-in_err-play-in-Fire-clause-gives
+defaults::default_search-returns-in_err-play-in-Fire-clause-gives t c =
+    let chart = chart_of c.args.chart.now in
+    let now = now_of c.args.now in
+    let error =
+    err_from_is_err_and c.from_residual-in_err-play-in-Fire.result c.from_residual-in_err-play-in-Fire.ensures.1 in
+    rw (error.1, error.2) (err_through {A' = Unit {0}} end_of (λ _. tt) _ _ _ _
+    (λ x h. default_after chart c.args.bounds now c.args.s _ c.args.world.now c.list.ensures.list _ c.search.new.world _
+    (ended_as found_of _ _ c.in-Fire.is c.in_ok-d.ensures.gives)
+    (fired_fault chart c.args.bounds now c.args.s c.in-Fire.d (map (λ a. block_seen a.now) c.in-Fire.actions.items)
+    c.search.new.world c.play.new.world x
+    (subst (λ l. Settled
+    (λ n. (upto chart c.args.bounds n).play c.args.s (map (λ a. block_seen a.now) l) now c.search.new.world)
+    (Faulted x c.play.new.world)) c.deref.ensures.value h))) c.in_err-play-in-Fire.ensures.gives)
+
+pub defaults::default_search-returns-in-Cut-clause-gives : goal.defaults::default_search-returns-in-Cut-clause-gives
+defaults::default_search-returns-in-Cut-clause-gives t c =
+    let chart = chart_of c.args.chart.now in
+    let now = now_of c.args.now in
+    default_after chart c.args.bounds now c.args.s _ c.args.world.now c.list.ensures.list _ c.search.new.world _
+    (ended_as found_of _ _ c.in-Fire.is c.in_ok-d.ensures.gives)
+    (fired_cut chart c.args.bounds now c.args.s c.in-Fire.d (map (λ a. block_seen a.now) c.in-Fire.actions.items)
+    c.search.new.world c.play.new.world
+    (subst (λ l. Settled
+    (λ n. (upto chart c.args.bounds n).play c.args.s (map (λ a. block_seen a.now) l) now c.search.new.world)
+    (Ended Cut c.play.new.world)) c.deref.ensures.value
+    (ended_as end_of _ _ c.in-Cut.is c.in_ok-play-in-Fire.ensures.gives)))
+
+pub defaults::default_search-returns-in-Fire-clause-gives : goal.defaults::default_search-returns-in-Fire-clause-gives
+defaults::default_search-returns-in-Fire-clause-gives t c =
+    let chart = chart_of c.args.chart.now in
+    let now = now_of c.args.now in
+    passed {A = Unit {0}} (λ _. tt) _ _ _ _ (λ q h. default_after chart c.args.bounds now c.args.s _ c.args.world.now
+    c.list.ensures.list _ c.search.new.world q (ended_as found_of _ _ c.in-Fire.is c.in_ok-d.ensures.gives)
+    (fired_done chart c.args.bounds now c.args.s c.in-Fire.d (map (λ a. block_seen a.now) c.in-Fire.actions.items)
+    c.search.new.world c.play.new.world q
+    (subst (λ l. Settled
+    (λ n. (upto chart c.args.bounds n).play c.args.s (map (λ a. block_seen a.now) l) now c.search.new.world)
+    (Ended Done c.play.new.world)) c.deref.ensures.value
+    (ended_as end_of _ _ c.in-Done.is c.in_ok-play-in-Fire.ensures.gives)) h)) c.enter_child.ensures.gives
+
+-- ---- firings
+
+pub firings::play-loop-action-preserved-then-is_empty : goal.firings::play-loop-action-preserved-then-is_empty
+firings::play-loop-action-preserved-then-is_empty t c = record {
+  goes =
+      play_turn_skip (chart_of c.args.chart.now) c.args.bounds (now_of c.args.now) (λ a. block_seen a.now) c.args.s
+      c.args.actions.now c.loop-action.action-index c.loop-action.world _ c.loop-action.invariant.goes
+      c.action-item.result (omega arith) c.action-item.is
+      (ap block_seen (empty_is c.action-item.result.now (grind (arith, nat_tests))));
+  fits = c.loop-action.invariant.fits;
+}
+
+pub firings::play-returns-in_err-pay-clause-gives : goal.firings::play-returns-in_err-pay-clause-gives
+firings::play-returns-in_err-pay-clause-gives t c =
+    let error = err_from_is_err_and c.from_residual.result c.from_residual.ensures.1 in
+    rw (error.1, error.2) (err_does {A = Unit {0}} (λ _. tt) end_of _ _ _ _
+    (λ x h.
+    let some = not_empty stmt_of c.action-item.result.now (grind (arith, nat_tests)) in
+    play_turn_pay_fault (chart_of c.args.chart.now) c.args.bounds (now_of c.args.now) (λ a. block_seen a.now) c.args.s
+    c.args.actions.now c.loop-action.action-index c.loop-action.world _ c.loop-action.invariant.goes
+    c.action-item.result (omega arith) c.action-item.is some _ x h) c.in_err-pay.ensures.does)
+
+pub firings::play-run_block-requires : goal.firings::play-run_block-requires
+firings::play-run_block-requires t c = (
+  omega (arith, c.decreases),
+  (
+    c.pay.ensures.fits,
+    (
+      c.requires.state,
+      all_item (λ a. block_seen a.now) (AreStmts (chart_of c.args.chart.now)) c.args.actions.now
+          c.loop-action.action-index c.action-item.result c.requires.actions (omega arith) c.action-item.is,
+    ),
+  ),
+)
+
+pub firings::play-returns-in_err-run_block-clause-gives : goal.firings::play-returns-in_err-run_block-clause-gives
+firings::play-returns-in_err-run_block-clause-gives t c =
+    let error =
+    err_from_is_err_and c.from_residual-in_err-run_block.result c.from_residual-in_err-run_block.ensures.1 in
+    rw (error.1, error.2) (err_through end_of end_of _ _ _ _
+    (λ x h.
+    let some = not_empty stmt_of c.action-item.result.now (grind (arith, nat_tests)) in
+    play_turn_fault (chart_of c.args.chart.now) c.args.bounds (now_of c.args.now) (λ a. block_seen a.now) c.args.s
+    c.args.actions.now c.loop-action.action-index c.loop-action.world _ c.loop-action.invariant.goes
+    c.action-item.result (omega arith) c.action-item.is some _ _ x c.in_ok-pay.ensures.does h)
+    c.in_err-run_block.ensures.gives)
+
+pub firings::play-returns-in-Cut-clause-gives : goal.firings::play-returns-in-Cut-clause-gives
+firings::play-returns-in-Cut-clause-gives t c =
+    let some = not_empty stmt_of c.action-item.result.now (grind (arith, nat_tests)) in
+    play_turn_cut (chart_of c.args.chart.now) c.args.bounds (now_of c.args.now) (λ a. block_seen a.now) c.args.s
+    c.args.actions.now c.loop-action.action-index c.loop-action.world _ c.loop-action.invariant.goes
+    c.action-item.result (omega arith) c.action-item.is some _ c.run_block.new.world c.in_ok-pay.ensures.does
+    (ended_as end_of _ _ c.in-Cut.is c.in_ok-run_block.ensures.gives)
+
+pub firings::play-loop-action-preserved : goal.firings::play-loop-action-preserved
+firings::play-loop-action-preserved t c =
+    let some = not_empty stmt_of c.action-item.result.now (grind (arith, nat_tests)) in
+    record {
+      goes =
+          play_turn (chart_of c.args.chart.now) c.args.bounds (now_of c.args.now) (λ a. block_seen a.now) c.args.s
+          c.args.actions.now c.loop-action.action-index c.loop-action.world _ c.loop-action.invariant.goes
+          c.action-item.result (omega arith) c.action-item.is some _ c.run_block.new.world c.in_ok-pay.ensures.does
+          (ended_as end_of _ _ c.in-Done.is c.in_ok-run_block.ensures.gives);
+      fits = c.run_block.ensures.fits;
+    }
+
+pub firings::play-returns-clause-gives : goal.firings::play-returns-clause-gives
+firings::play-returns-clause-gives t c =
+    play_turns_end (chart_of c.args.chart.now) c.args.bounds (now_of c.args.now) (λ a. block_seen a.now) c.args.s
+    c.args.actions.now c.loop-action.action-index c.loop-action.world _ c.loop-action.invariant.goes (omega arith)
+
+pub firings::take-returns-in_err-exit_active-clause-gives : goal.firings::take-returns-in_err-exit_active-clause-gives
+firings::take-returns-in_err-exit_active-clause-gives t c =
+    let error = err_from_is_err_and c.from_residual.result c.from_residual.ensures.1 in
+    rw (error.1, error.2) (err_through {A = Unit {0}} {A' = Unit {0}} (λ _. tt) (λ _. tt) _ _ _ _
+    (λ x h. take_exit_fault (chart_of c.args.chart.now) c.args.bounds (now_of c.args.now) c.args.s c.args.d
+    (map (λ a. block_seen a.now) c.args.actions.now) c.args.world.now _ x h) c.in_err-exit_active.ensures.gives)
+
+pub firings::take-returns-then-not-bare-clause-gives : goal.firings::take-returns-then-not-bare-clause-gives
+firings::take-returns-then-not-bare-clause-gives t c =
+    let chart = chart_of c.args.chart.now in
+    let bare : is_bare chart.tree c.args.s c.exit_active.new.world.marks ≡ false = cc in
+    take_not_bare chart c.args.bounds (now_of c.args.now) c.args.s c.args.d
+    (map (λ a. block_seen a.now) c.args.actions.now) c.args.world.now c.exit_active.new.world
+    c.in_ok-exit_active.ensures.gives bare
+
+pub firings::take-returns-in_err-play-clause-gives : goal.firings::take-returns-in_err-play-clause-gives
+firings::take-returns-in_err-play-clause-gives t c =
+    let chart = chart_of c.args.chart.now in
+    let error = err_from_is_err_and c.from_residual-in_err-play.result c.from_residual-in_err-play.ensures.1 in
+    rw (error.1, error.2) (err_through {A' = Unit {0}} end_of (λ _. tt) _ _ _ _
+    (λ x h.
+    let bare : is_bare chart.tree c.args.s c.exit_active.new.world.marks ≡ true = cc in
+    take_play_fault chart c.args.bounds (now_of c.args.now) c.args.s c.args.d
+    (map (λ a. block_seen a.now) c.args.actions.now) c.args.world.now c.exit_active.new.world
+    c.in_ok-exit_active.ensures.gives _ x bare h) c.in_err-play.ensures.gives)
+
+pub firings::take-returns-in-Cut-clause-gives : goal.firings::take-returns-in-Cut-clause-gives
+firings::take-returns-in-Cut-clause-gives t c =
+    let chart = chart_of c.args.chart.now in
+    let bare : is_bare chart.tree c.args.s c.exit_active.new.world.marks ≡ true = cc in
+    take_cut chart c.args.bounds (now_of c.args.now) c.args.s c.args.d (map (λ a. block_seen a.now) c.args.actions.now)
+    c.args.world.now c.exit_active.new.world c.in_ok-exit_active.ensures.gives c.play.new.world bare
+    (ended_as end_of _ _ c.in-Cut.is c.in_ok-play.ensures.gives)
+
+pub firings::take-returns-then-not-bare-2-clause-gives : goal.firings::take-returns-then-not-bare-2-clause-gives
+firings::take-returns-then-not-bare-2-clause-gives t c =
+    let chart = chart_of c.args.chart.now in
+    let bare : is_bare chart.tree c.args.s c.exit_active.new.world.marks ≡ true = cc in
+    let off : is_bare chart.tree c.args.s c.play.new.world.marks ≡ false = cc in
+    take_left chart c.args.bounds (now_of c.args.now) c.args.s c.args.d (map (λ a. block_seen a.now) c.args.actions.now)
+    c.args.world.now c.exit_active.new.world c.in_ok-exit_active.ensures.gives c.play.new.world bare
+    (ended_as end_of _ _ c.in-Done.is c.in_ok-play.ensures.gives) off
+
+pub firings::take-returns-else-not-bare-2-clause-gives : goal.firings::take-returns-else-not-bare-2-clause-gives
+firings::take-returns-else-not-bare-2-clause-gives t c =
+    let chart = chart_of c.args.chart.now in
+    passed {A = Unit {0}} (λ _. tt) _ _ _ _ (λ q h.
+    let bare : is_bare chart.tree c.args.s c.exit_active.new.world.marks ≡ true = cc in
+    let off : is_bare chart.tree c.args.s c.play.new.world.marks ≡ true = cc in
+    take_enters chart c.args.bounds (now_of c.args.now) c.args.s c.args.d
+    (map (λ a. block_seen a.now) c.args.actions.now) c.args.world.now c.exit_active.new.world
+    c.in_ok-exit_active.ensures.gives c.play.new.world q bare
+    (ended_as end_of _ _ c.in-Done.is c.in_ok-play.ensures.gives) off h) c.enter_toward.ensures.gives
+
+-- ---- processing
+
+pub processing::process-returns-in_err-d-clause-gives : goal.processing::process-returns-in_err-d-clause-gives
+processing::process-returns-in_err-d-clause-gives t c =
+    let error = err_from_is_err_and c.from_residual.result c.from_residual.ensures.1 in
+    rw (error.1, error.2) (err_through found_of went_of _ _ _ _
+    (λ x h. process_fault (chart_of c.args.chart.now) c.args.bounds (now_of c.args.now) c.args.s _ c.args.world.now
+    c.list.ensures.list _ x h) c.in_err-d.ensures.gives)
+
+pub processing::process-returns-in-Stop-clause-gives : goal.processing::process-returns-in-Stop-clause-gives
+processing::process-returns-in-Stop-clause-gives t c =
+    process_after (chart_of c.args.chart.now) c.args.bounds (now_of c.args.now) c.args.s _ c.args.world.now
+    c.list.ensures.list _ c.search.new.world _ (ended_as found_of _ _ c.in-Stop.is c.in_ok-d.ensures.gives)
+    (settled_now _)
+
+pub processing::process-returns-in-DeadEnd-clause-gives : goal.processing::process-returns-in-DeadEnd-clause-gives
+processing::process-returns-in-DeadEnd-clause-gives t c =
+    passed went_of _ _ _ _ (λ q h. process_after (chart_of c.args.chart.now) c.args.bounds (now_of c.args.now) c.args.s
+    _ c.args.world.now c.list.ensures.list _ c.search.new.world q
+    (ended_as found_of _ _ c.in-DeadEnd.is c.in_ok-d.ensures.gives) h) c.go_on_inside.ensures.gives
+
+pub processing::process-returns-in-No-clause-gives : goal.processing::process-returns-in-No-clause-gives
+processing::process-returns-in-No-clause-gives t c =
+    passed went_of _ _ _ _ (λ q h. process_after (chart_of c.args.chart.now) c.args.bounds (now_of c.args.now) c.args.s
+    _ c.args.world.now c.list.ensures.list _ c.search.new.world q
+    (ended_as found_of _ _ c.in-No.is c.in_ok-d.ensures.gives) h) c.go_on_inside-in-No.ensures.gives
+
+pub processing::process-returns-in_err-take-in-Fire-clause-gives : goal.processing::process-returns-in_err-take-in-Fire-clause-gives
+processing::process-returns-in_err-take-in-Fire-clause-gives t c =
+    let chart = chart_of c.args.chart.now in
+    let now = now_of c.args.now in
+    let error =
+    err_from_is_err_and c.from_residual-in_err-take-in-Fire.result c.from_residual-in_err-take-in-Fire.ensures.1 in
+    rw (error.1, error.2) (err_through {A = Unit {0}} (λ _. tt) went_of _ _ _ _
+    (λ x h. process_after chart c.args.bounds now c.args.s _ c.args.world.now c.list.ensures.list _ c.search.new.world _
+    (ended_as found_of _ _ c.in-Fire.is c.in_ok-d.ensures.gives)
+    (outer_fault chart c.args.bounds now c.args.s c.in-Fire.d c.home-home.result
+    (map (λ a. block_seen a.now) c.in-Fire.actions.items) c.search.new.world c.take.new.world x c.home-home.ensures.home
+    (subst (λ l. Settled (λ n. (upto chart c.args.bounds n).take c.home-home.result c.in-Fire.d
+    (map (λ a. block_seen a.now) l) now c.search.new.world) (Faulted x c.take.new.world)) c.deref.ensures.value h)))
+    c.in_err-take-in-Fire.ensures.gives)
+
+pub processing::process-returns-in_ok-take-in-Fire-clause-gives : goal.processing::process-returns-in_ok-take-in-Fire-clause-gives
+processing::process-returns-in_ok-take-in-Fire-clause-gives t c =
+    let chart = chart_of c.args.chart.now in
+    let now = now_of c.args.now in
+    process_after chart c.args.bounds now c.args.s _ c.args.world.now c.list.ensures.list _ c.search.new.world _
+    (ended_as found_of _ _ c.in-Fire.is c.in_ok-d.ensures.gives)
+    (outer_taken chart c.args.bounds now c.args.s c.in-Fire.d c.home-home.result
+    (map (λ a. block_seen a.now) c.in-Fire.actions.items) c.search.new.world c.take.new.world c.home-home.ensures.home
+    (subst (λ l. Settled (λ n. (upto chart c.args.bounds n).take c.home-home.result c.in-Fire.d
+    (map (λ a. block_seen a.now) l) now c.search.new.world) (Ended tt c.take.new.world)) c.deref.ensures.value
+    c.in_ok-take-in-Fire.ensures.gives))
+
+pub processing::go_on_inside-returns-in_err-run_block-clause-gives : goal.processing::go_on_inside-returns-in_err-run_block-clause-gives
+processing::go_on_inside-returns-in_err-run_block-clause-gives t c =
+    let error = err_from_is_err_and c.from_residual.result c.from_residual.ensures.1 in
+    rw (error.1, error.2) (err_through end_of went_of _ _ _ _
+    (λ x h. during_fault (chart_of c.args.chart.now) c.args.bounds (now_of c.args.now) c.args.s _ c.args.world.now
+    c.block.ensures.block _ x h) c.in_err-run_block.ensures.gives)
+
+pub processing::go_on_inside-returns-in-Cut-clause-gives : goal.processing::go_on_inside-returns-in-Cut-clause-gives
+processing::go_on_inside-returns-in-Cut-clause-gives t c =
+    during_cut (chart_of c.args.chart.now) c.args.bounds (now_of c.args.now) c.args.s _ c.args.world.now
+    c.block.ensures.block c.run_block.new.world (ended_as end_of _ _ c.in-Cut.is c.in_ok-run_block.ensures.gives)
+
+pub processing::go_on_inside-returns-in_err-d-in-Done-clause-gives : goal.processing::go_on_inside-returns-in_err-d-in-Done-clause-gives
+processing::go_on_inside-returns-in_err-d-in-Done-clause-gives t c =
+    let error =
+    err_from_is_err_and c.from_residual-in_err-d-in-Done.result c.from_residual-in_err-d-in-Done.ensures.1 in
+    rw (error.1, error.2) (err_through found_of went_of _ _ _ _
+    (λ x h. inner_fault (chart_of c.args.chart.now) c.args.bounds (now_of c.args.now) c.args.s _ c.args.world.now
+    c.block.ensures.block c.run_block.new.world (ended_as end_of _ _ c.in-Done.is c.in_ok-run_block.ensures.gives) _
+    c.list.ensures.list _ x h) c.in_err-d-in-Done.ensures.gives)
+
+pub processing::go_on_inside-returns-in-Stop-clause-gives : goal.processing::go_on_inside-returns-in-Stop-clause-gives
+processing::go_on_inside-returns-in-Stop-clause-gives t c =
+    inner_after (chart_of c.args.chart.now) c.args.bounds (now_of c.args.now) c.args.s _ c.args.world.now
+    c.block.ensures.block c.run_block.new.world (ended_as end_of _ _ c.in-Done.is c.in_ok-run_block.ensures.gives) _
+    c.list.ensures.list _ c.search.new.world _ (ended_as found_of _ _ c.in-Stop.is c.in_ok-d-in-Done.ensures.gives)
+    (settled_now _)
+
+pub processing::go_on_inside-returns-in-DeadEnd-clause-gives : goal.processing::go_on_inside-returns-in-DeadEnd-clause-gives
+processing::go_on_inside-returns-in-DeadEnd-clause-gives t c =
+    passed went_of _ _ _ _ (λ q h. inner_after (chart_of c.args.chart.now) c.args.bounds (now_of c.args.now) c.args.s _
+    c.args.world.now c.block.ensures.block c.run_block.new.world
+    (ended_as end_of _ _ c.in-Done.is c.in_ok-run_block.ensures.gives) _ c.list.ensures.list _ c.search.new.world q
+    (ended_as found_of _ _ c.in-DeadEnd.is c.in_ok-d-in-Done.ensures.gives) h) c.process_children.ensures.gives
+
+pub processing::go_on_inside-returns-in-No-clause-gives : goal.processing::go_on_inside-returns-in-No-clause-gives
+processing::go_on_inside-returns-in-No-clause-gives t c =
+    passed went_of _ _ _ _ (λ q h. inner_after (chart_of c.args.chart.now) c.args.bounds (now_of c.args.now) c.args.s _
+    c.args.world.now c.block.ensures.block c.run_block.new.world
+    (ended_as end_of _ _ c.in-Done.is c.in_ok-run_block.ensures.gives) _ c.list.ensures.list _ c.search.new.world q
+    (ended_as found_of _ _ c.in-No.is c.in_ok-d-in-Done.ensures.gives) h) c.process_children-in-No.ensures.gives
+
+pub processing::go_on_inside-returns-in_err-take-in-Fire-clause-gives : goal.processing::go_on_inside-returns-in_err-take-in-Fire-clause-gives
+processing::go_on_inside-returns-in_err-take-in-Fire-clause-gives t c =
+    let chart = chart_of c.args.chart.now in
+    let now = now_of c.args.now in
+    let error =
+    err_from_is_err_and c.from_residual-in_err-take-in-Fire.result c.from_residual-in_err-take-in-Fire.ensures.1 in
+    rw (error.1, error.2) (err_through {A = Unit {0}} (λ _. tt) went_of _ _ _ _
+    (λ x h. inner_after chart c.args.bounds now c.args.s _ c.args.world.now c.block.ensures.block c.run_block.new.world
+    (ended_as end_of _ _ c.in-Done.is c.in_ok-run_block.ensures.gives) _ c.list.ensures.list _ c.search.new.world _
+    (ended_as found_of _ _ c.in-Fire.is c.in_ok-d-in-Done.ensures.gives)
+    (inner_take_fault chart c.args.bounds now c.args.s c.in-Fire.d (map (λ a. block_seen a.now) c.in-Fire.actions.items)
+    c.search.new.world c.take.new.world x
+    (subst (λ l. Settled
+    (λ n. (upto chart c.args.bounds n).take c.args.s c.in-Fire.d (map (λ a. block_seen a.now) l) now c.search.new.world)
+    (Faulted x c.take.new.world)) c.deref.ensures.value h))) c.in_err-take-in-Fire.ensures.gives)
+
+pub processing::go_on_inside-returns-in_ok-take-in-Fire-clause-gives : goal.processing::go_on_inside-returns-in_ok-take-in-Fire-clause-gives
+processing::go_on_inside-returns-in_ok-take-in-Fire-clause-gives t c =
+    let chart = chart_of c.args.chart.now in
+    let now = now_of c.args.now in
+    inner_after chart c.args.bounds now c.args.s _ c.args.world.now c.block.ensures.block c.run_block.new.world
+    (ended_as end_of _ _ c.in-Done.is c.in_ok-run_block.ensures.gives) _ c.list.ensures.list _ c.search.new.world _
+    (ended_as found_of _ _ c.in-Fire.is c.in_ok-d-in-Done.ensures.gives)
+    (inner_taken chart c.args.bounds now c.args.s c.in-Fire.d (map (λ a. block_seen a.now) c.in-Fire.actions.items)
+    c.search.new.world c.take.new.world
+    (subst (λ l. Settled
+    (λ n. (upto chart c.args.bounds n).take c.args.s c.in-Fire.d (map (λ a. block_seen a.now) l) now c.search.new.world)
+    (Ended tt c.take.new.world)) c.deref.ensures.value c.in_ok-take-in-Fire.ensures.gives))
+
+pub processing::process_children-returns-in-Leaf-clause-gives : goal.processing::process_children-returns-in-Leaf-clause-gives
+processing::process_children-returns-in-Leaf-clause-gives t c =
+    kids_leaf (chart_of c.args.chart.now) c.args.bounds (now_of c.args.now) c.args.s _ c.args.world.now
+    c.in-Leaf.ensures
+
+pub processing::process_children-returns-in-None-clause-gives : goal.processing::process_children-returns-in-None-clause-gives
+processing::process_children-returns-in-None-clause-gives t c =
+    kids_none (chart_of c.args.chart.now) c.args.bounds (now_of c.args.now) c.args.s _ c.args.world.now c.in-Or.ensures
+    c.in-None.ensures.child
+
+pub processing::process_children-returns-in_err-process-in-Some-clause-gives :
+    goal.processing::process_children-returns-in_err-process-in-Some-clause-gives
+processing::process_children-returns-in_err-process-in-Some-clause-gives t c =
+    let error = err_from_is_err_and c.from_residual.result c.from_residual.ensures.1 in
+    rw (error.1, error.2) (err_through went_of went_of _ _ _ _
+    (λ x h. kids_fault (chart_of c.args.chart.now) c.args.bounds (now_of c.args.now) c.args.s c.in-Some.x _
+    c.args.world.now _ x c.in-Or.ensures c.in-Some.ensures.child h) c.in_err-process-in-Some.ensures.gives)
+
+pub processing::process_children-returns-in-Stay-clause-gives : goal.processing::process_children-returns-in-Stay-clause-gives
+processing::process_children-returns-in-Stay-clause-gives t c =
+    kids_one (chart_of c.args.chart.now) c.args.bounds (now_of c.args.now) c.args.s c.in-Some.x _ c.args.world.now
+    c.process.new.world _ _ c.in-Or.ensures c.in-Some.ensures.child
+    (ended_as went_of _ _ c.in-Stay.is c.in_ok-process-in-Some.ensures.gives) refl
+
+pub processing::process_children-returns-in-Out-clause-gives : goal.processing::process_children-returns-in-Out-clause-gives
+processing::process_children-returns-in-Out-clause-gives t c =
+    let chart = chart_of c.args.chart.now in
+    let now = now_of c.args.now in
+    subst (λ z. Settled (λ n. process_children chart (upto chart c.args.bounds n) c.args.s now
+    (comp_of chart.tree c.args.s) c.args.world.now) (Ended z c.process.new.world)) (sym c.out_of.ensures)
+    (kids_out chart c.args.bounds now c.args.s c.in-Some.x c.in-Out.home _ c.args.world.now c.process.new.world
+    c.in-Or.ensures c.in-Some.ensures.child (ended_as went_of _ _ c.in-Out.is c.in_ok-process-in-Some.ensures.gives))
+
+pub processing::process_children-returns-in-And-clause-gives : goal.processing::process_children-returns-in-And-clause-gives
+processing::process_children-returns-in-And-clause-gives t c =
+    passed went_of _ _ _ _ (λ q h. kids_each (chart_of c.args.chart.now) c.args.bounds (now_of c.args.now) c.args.s _
+    c.args.world.now q _ c.in-And.ensures refl h) c.process_all.ensures.gives
+
+pub processing::process_all-loop-next-init : goal.processing::process_all-loop-next-init
+processing::process_all-loop-next-init t c =
+    let chart = chart_of c.args.chart.now in
+    let now = now_of c.args.now in
+    record {
+      goes =
+          subst (λ l. Continues (λ n. (upto chart c.args.bounds n).process_each l now c.args.world.now)
+          (λ n. (upto chart c.args.bounds n).process_each (children_of chart.tree c.args.s) now c.args.world.now))
+          (children_of-from chart.tree c.args.s
+          ∙ ap (children_from chart.tree c.args.s) (sym c.first_child-next.ensures.child)) continues_same;
+      stands = stands_first chart.tree c.first_child-next.ensures.tree c.args.s _ c.first_child-next.ensures.child;
+      fits = c.requires.fits;
+    }
+
+pub processing::process_all-on-requires-clause-state : goal.processing::process_all-on-requires-clause-state
+processing::process_all-on-requires-clause-state t c = (c.loop-next.invariant.stands.child c.in-Some.x c.in-Some.is).within
+
+pub processing::process_all-process-requires : goal.processing::process_all-process-requires
+processing::process_all-process-requires t c =
+    let child = c.loop-next.invariant.stands.child c.in-Some.x c.in-Some.is in
+    (omega (arith, child.above, child.within, c.decreases), (c.loop-next.invariant.fits, child.within))
+
+pub processing::process_all-returns-in_err-process-clause-gives : goal.processing::process_all-returns-in_err-process-clause-gives
+processing::process_all-returns-in_err-process-clause-gives t c =
+    let error = err_from_is_err_and c.from_residual.result c.from_residual.ensures.1 in
+    rw (error.1, error.2) (err_through went_of went_of _ _ _ _
+    (λ x h.
+    let on : is_on c.in-Some.x c.loop-next.world.marks ≡ true = cc in
+    each_turn_fault (chart_of c.args.chart.now) c.args.bounds (now_of c.args.now) c.args.s c.loop-next.next
+    c.loop-next.world _ c.loop-next.invariant.goes c.in-Some.x c.in-Some.is c.loop-next.invariant.stands on _ x h)
+    c.in_err-process.ensures.gives)
+
+pub processing::process_all-returns-in-Out-clause-gives : goal.processing::process_all-returns-in-Out-clause-gives
+processing::process_all-returns-in-Out-clause-gives t c =
+    let on : is_on c.in-Some.x c.loop-next.world.marks ≡ true = cc in
+    each_turn_out (chart_of c.args.chart.now) c.args.bounds (now_of c.args.now) c.args.s c.loop-next.next
+    c.loop-next.world _ c.loop-next.invariant.goes c.in-Some.x c.in-Some.is c.loop-next.invariant.stands on
+    c.process.new.world c.in-Out.home (ended_as went_of _ _ c.in-Out.is c.in_ok-process.ensures.gives)
+
+pub processing::process_all-next_sibling-next-requires : goal.processing::process_all-next_sibling-next-requires
+processing::process_all-next_sibling-next-requires t c = (c.loop-next.invariant.stands.child c.in-Some.x c.in-Some.is).within
+
+pub processing::process_all-loop-next-smaller : goal.processing::process_all-loop-next-smaller
+processing::process_all-loop-next-smaller t c =
+    ahead_falls (chart_of c.args.chart.now).tree c.in-Some.x _ _ c.in-Some.is
+    (c.loop-next.invariant.stands.child c.in-Some.x c.in-Some.is).within c.next_sibling-next.ensures.after
+
+pub processing::process_all-returns-clause-gives : goal.processing::process_all-returns-clause-gives
+processing::process_all-returns-clause-gives t c =
+    each_turns_end (chart_of c.args.chart.now) c.args.bounds (now_of c.args.now) c.args.s c.loop-next.next
+    c.loop-next.world _ c.loop-next.invariant.goes c.in_default.is
+
+pub processing::process_all-loop-next-preserved-then-not-on : goal.processing::process_all-loop-next-preserved-then-not-on
+processing::process_all-loop-next-preserved-then-not-on t c =
     let chart = chart_of c.args.chart.now in
     let off : is_on c.in-Some.x c.loop-next.world.marks ≡ false = cc in
     record {
@@ -1128,8 +1163,8 @@ process_all-loop-next-preserved-then-not-on t c =
       fits = c.loop-next.invariant.fits;
     }
 
-pub process_all-loop-next-preserved : goal.process_all-loop-next-preserved
-process_all-loop-next-preserved t c =
+pub processing::process_all-loop-next-preserved : goal.processing::process_all-loop-next-preserved
+processing::process_all-loop-next-preserved t c =
     let chart = chart_of c.args.chart.now in
     let on : is_on c.in-Some.x c.loop-next.world.marks ≡ true = cc in
     record {
@@ -1143,28 +1178,7 @@ process_all-loop-next-preserved t c =
       fits = c.process.ensures.fits;
     }
 
-pub process_all-loop-next-smaller-then-not-on : goal.process_all-loop-next-smaller-then-not-on
-process_all-loop-next-smaller-then-not-on t c =
+pub processing::process_all-loop-next-smaller-then-not-on : goal.processing::process_all-loop-next-smaller-then-not-on
+processing::process_all-loop-next-smaller-then-not-on t c =
     ahead_falls (chart_of c.args.chart.now).tree c.in-Some.x _ _ c.in-Some.is
     (c.loop-next.invariant.stands.child c.in-Some.x c.in-Some.is).within c.next_sibling-next.ensures.after
-
-pub search-returns-in-State-clause-gives : goal.search-returns-in-State-clause-gives
-search-returns-in-State-clause-gives t c =
-    let leads = at_first c.in-Some.ensures.cases.0 c.loop-places.invariant.leads in
-    let enabled = c.in_ok-enabled-in-Some.ensures ∙ ap (λ z. Ended z c.loop-places.world) c.if-branch.true in
-    let done = block_ended _ _ c.items.ensures c.in-Done.is c.in_ok-run_block-in-Some.ensures.gives in
-    subst (λ a. Settled (λ n. (upto (chart_of c.args.chart.now) c.args.bounds n).search (life_seen c.args.life)
-    (list_seen c.args.list.now) (now_of c.args.now) c.args.world.now)
-    (Ended (Fire c.in-State.d a) c.run_block.new.world))
-    (sym (collected c.in_ok-actions-in-State.ensures.ok c.deref.ensures.value c.items-in-State.ensures))
-    (at_state leads enabled done (sym c.in-State.is))
-
-pub defaults-returns-in-Some-clause-gives : goal.defaults-returns-in-Some-clause-gives
-defaults-returns-in-Some-clause-gives t c =
-    passed {A = Unit {0}} (λ _. tt) _ _ _ _ (λ q h. defaults_return (chart_of c.args.chart.now) c.args.bounds
-    (now_of c.args.now) c.args.s c.in-Some.x c.args.world.now q c.in-Some.ensures.child h) c.enter.ensures.gives
-
-pub defaults-returns-in-None-clause-gives : goal.defaults-returns-in-None-clause-gives
-defaults-returns-in-None-clause-gives t c =
-    passed {A = Unit {0}} (λ _. tt) _ _ _ _ (λ q h. defaults_search (chart_of c.args.chart.now) c.args.bounds
-    (now_of c.args.now) c.args.s c.args.world.now q c.in-None.ensures.child h) c.default_search.ensures.gives

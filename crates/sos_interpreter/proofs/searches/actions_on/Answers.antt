@@ -1,7 +1,7 @@
 use Rattle.std.proofs.Common.{map, refl, ap, arith}
 use Rattle.sos_interpreter.proofs.Turns.{gathered, gathered_one}
 use Rattle.state_tree.specs.Views.{block_seen}
-use Rattle.sos_interpreter.proofs.run.actions_on.Goals as goal
+use Rattle.sos_interpreter.proofs.searches.actions_on.Goals as goal
 
 pub loop-place-init : goal.loop-place-init
 loop-place-init c = ap (map (λ a. block_seen a.now)) c.new-actions.ensures.items

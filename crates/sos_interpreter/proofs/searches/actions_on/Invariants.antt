@@ -1,6 +1,6 @@
 use Rattle.std.proofs.Common.{◌≡◌, map, take}
 use Rattle.state_tree.specs.Views.{block_seen}
-use Rattle.sos_interpreter.proofs.run.actions_on.Given as goal
+use Rattle.sos_interpreter.proofs.searches.actions_on.Given as goal
 
 abbrev pub invariant-loop-place : goal.invariant-loop-place
 invariant-loop-place l =

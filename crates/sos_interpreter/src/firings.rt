@@ -1,0 +1,88 @@
+//! What a firing does: its actions run, and it is taken.
+ghost use Rattle.std.specs.Prelude.{map};
+ghost use Rattle.state_tree.specs.Kept.{chart_of};
+ghost use Rattle.state_tree.specs.Views.{block_seen};
+ghost use Rattle.sos_rules.specs.Finds.{AreActions};
+ghost use Rattle.sos_rules.specs.Rules.{upto};
+ghost use Rattle.sos_interpreter.specs.Charts.{IsState, FitsChart};
+ghost use Rattle.sos_interpreter.specs.Gives.{Gives};
+ghost use Rattle.sos_interpreter.specs.Views.{now_of, end_of};
+
+use crate::blocks::{End, Now, run_block};
+use crate::entries::enter_toward;
+use crate::exits::exit_active;
+use crate::world::{Life, LiveWorld};
+use actions::{Halt, Stmt};
+use flow_base::Bounds;
+use state_tree::Chart;
+use std::alloc::Global;
+
+/// Runs the actions of a firing; each that isn't empty costs a step.
+#[cycle(rules)]
+pub(crate) fn play(
+    alloc: Global,
+    chart: &Chart,
+    bounds: Bounds,
+    world: &mut LiveWorld,
+    s: u32,
+    actions: &[&[Stmt]],
+    now: Now,
+) -> Result<End, Halt>
+    requires fits { FitsChart (chart_of chart.now) world.old }
+    requires state { IsState (chart_of chart.now) s }
+    requires actions { AreActions (chart_of chart.now) (map (λ a. block_seen a.now) actions.now) }
+    ensures gives { Gives (λ e. end_of e)
+        (λ n. (upto (chart_of chart.now) bounds n).play s (map (λ a. block_seen a.now) actions.now) (now_of now)
+        world.old)
+        result world.new }
+    ensures fits { FitsChart (chart_of chart.now) world.new }
+{
+    for action in actions {
+        if action.is_empty() {
+            continue;
+        }
+        world.pay(chart, bounds)?;
+        match run_block(alloc, chart, bounds, world, Life::Bare(s), action, now)? {
+            End::Cut => return Ok(End::Cut),
+            End::Done => {}
+        }
+    }
+    Ok(End::Done)
+}
+
+/// Takes a firing with this home.
+#[cycle(rules)]
+pub(crate) fn take(
+    alloc: Global,
+    chart: &Chart,
+    bounds: Bounds,
+    world: &mut LiveWorld,
+    s: u32,
+    d: u32,
+    actions: &[&[Stmt]],
+    now: Now,
+) -> Result<(), Halt>
+    requires fits { FitsChart (chart_of chart.now) world.old }
+    requires state { IsState (chart_of chart.now) s }
+    requires to { IsState (chart_of chart.now) d }
+    requires actions { AreActions (chart_of chart.now) (map (λ a. block_seen a.now) actions.now) }
+    ensures gives { Gives (λ _. tt)
+        (λ n. (upto (chart_of chart.now) bounds n).take s d (map (λ a. block_seen a.now) actions.now) (now_of now)
+        world.old)
+        result world.new }
+    ensures fits { FitsChart (chart_of chart.now) world.new }
+{
+    exit_active(alloc, chart, bounds, world, s, now)?;
+    if !world.bare(chart, s) {
+        return Ok(());
+    }
+    match play(alloc, chart, bounds, world, s, actions, now)? {
+        End::Cut => Ok(()),
+        End::Done => {
+            if !world.bare(chart, s) {
+                return Ok(());
+            }
+            enter_toward(alloc, chart, bounds, world, s, d, now)
+        }
+    }
+}

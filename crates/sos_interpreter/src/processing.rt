@@ -1,0 +1,187 @@
+//! Processing an active state.
+ghost use Rattle.std.specs.Prelude.{◌≡◌};
+ghost use Rattle.active_config.specs.Tree.{comp_of, children_of};
+ghost use Rattle.state_tree.specs.Kept.{chart_of};
+ghost use Rattle.sos_rules.specs.Processing as processing;
+ghost use Rattle.sos_rules.specs.Rules.{upto};
+ghost use Rattle.sos_interpreter.specs.Charts.{IsState, FitsChart};
+ghost use Rattle.sos_interpreter.specs.Gives.{Gives};
+ghost use Rattle.sos_interpreter.specs.Views.{now_of, went_of, went_from};
+
+use crate::blocks::{End, Now, run_block};
+use crate::firings::take;
+use crate::searches::{Found, search};
+use crate::world::{Life, LiveWorld};
+use actions::Halt;
+use active_config::Comp;
+use flow_base::Bounds;
+use state_tree::{BlockKind, Chart, ListKind};
+use std::alloc::Global;
+
+/// How processing ends.
+#[derive(Clone, Copy)]
+pub enum Went {
+    /// The state stays.
+    Stay,
+    /// A firing with this home left the state.
+    Out(u32),
+}
+
+/// Processes an active state.
+#[cycle(rules)]
+pub(crate) fn process(
+    alloc: Global,
+    chart: &Chart,
+    bounds: Bounds,
+    world: &mut LiveWorld,
+    s: u32,
+    now: Now,
+) -> Result<Went, Halt>
+    requires fits { FitsChart (chart_of chart.now) world.old }
+    requires state { IsState (chart_of chart.now) s }
+    ensures gives { Gives (λ r. went_of r)
+        (λ n. (upto (chart_of chart.now) bounds n).process s (now_of now) world.old)
+        result world.new }
+    ensures fits { FitsChart (chart_of chart.now) world.new }
+{
+    match search(
+        alloc,
+        chart,
+        bounds,
+        world,
+        Life::On(s),
+        chart.list(s, ListKind::Outer),
+        now,
+    )? {
+        Found::Fire(d, actions) => {
+            let home = chart.home(s, ListKind::Outer, d);
+            take(alloc, chart, bounds, world, home, d, &actions, now)?;
+            Ok(Went::Out(home))
+        }
+        Found::Stop => Ok(Went::Stay),
+        Found::DeadEnd => go_on_inside(alloc, chart, bounds, world, s, now),
+        Found::No => go_on_inside(alloc, chart, bounds, world, s, now),
+    }
+}
+
+/// Runs the during action, then takes an inner transition or processes the children.
+#[cycle(rules)]
+fn go_on_inside(
+    alloc: Global,
+    chart: &Chart,
+    bounds: Bounds,
+    world: &mut LiveWorld,
+    s: u32,
+    now: Now,
+) -> Result<Went, Halt>
+    requires fits { FitsChart (chart_of chart.now) world.old }
+    requires state { IsState (chart_of chart.now) s }
+    ensures gives { Gives (λ r. went_of r)
+        (λ n. processing.go_on_inside (chart_of chart.now) (upto (chart_of chart.now) bounds n) s (now_of now)
+        world.old)
+        result world.new }
+    ensures fits { FitsChart (chart_of chart.now) world.new }
+{
+    match run_block(
+        alloc,
+        chart,
+        bounds,
+        world,
+        Life::On(s),
+        chart.block(s, BlockKind::During),
+        now,
+    )? {
+        End::Cut => Ok(Went::Stay),
+        End::Done => match search(
+            alloc,
+            chart,
+            bounds,
+            world,
+            Life::On(s),
+            chart.list(s, ListKind::Inner),
+            now,
+        )? {
+            Found::Fire(d, actions) => {
+                take(alloc, chart, bounds, world, s, d, &actions, now)?;
+                Ok(Went::Stay)
+            }
+            Found::Stop => Ok(Went::Stay),
+            Found::DeadEnd => process_children(alloc, chart, bounds, world, s, now),
+            Found::No => process_children(alloc, chart, bounds, world, s, now),
+        },
+    }
+}
+
+/// Processes what is active inside a state.
+#[cycle(rules)]
+fn process_children(
+    alloc: Global,
+    chart: &Chart,
+    bounds: Bounds,
+    world: &mut LiveWorld,
+    s: u32,
+    now: Now,
+) -> Result<Went, Halt>
+    requires fits { FitsChart (chart_of chart.now) world.old }
+    requires state { IsState (chart_of chart.now) s }
+    ensures gives { Gives (λ r. went_of r)
+        (λ n. processing.process_children (chart_of chart.now) (upto (chart_of chart.now) bounds n) s (now_of now)
+        (comp_of (chart_of chart.now).tree s) world.old)
+        result world.new }
+    ensures fits { FitsChart (chart_of chart.now) world.new }
+{
+    match chart.comp(s) {
+        Comp::Leaf => Ok(Went::Stay),
+        Comp::Or => match world.active_child(chart, s) {
+            None => Ok(Went::Stay),
+            Some(x) => match process(alloc, chart, bounds, world, x, now)? {
+                Went::Stay => Ok(Went::Stay),
+                Went::Out(home) => Ok(out_of(s, home)),
+            },
+        },
+        Comp::And => process_all(alloc, chart, bounds, world, s, now),
+    }
+}
+
+/// How processing of an OR ends where a firing left its child: one whose home is the OR ends there.
+fn out_of(s: u32, home: u32) -> Went
+    ensures { went_of result ≡ went_from s home }
+{
+    if home == s {
+        Went::Stay
+    } else {
+        Went::Out(home)
+    }
+}
+
+/// Processes the regions, each that is active when its turn comes.
+#[cycle(rules)]
+fn process_all(
+    alloc: Global,
+    chart: &Chart,
+    bounds: Bounds,
+    world: &mut LiveWorld,
+    s: u32,
+    now: Now,
+) -> Result<Went, Halt>
+    requires fits { FitsChart (chart_of chart.now) world.old }
+    requires state { IsState (chart_of chart.now) s }
+    ensures gives { Gives (λ r. went_of r)
+        (λ n. (upto (chart_of chart.now) bounds n).process_each (children_of (chart_of chart.now).tree s) (now_of now)
+        world.old)
+        result world.new }
+    ensures fits { FitsChart (chart_of chart.now) world.new }
+{
+    let mut next = chart.first_child(s);
+    while let Some(x) = next {
+        next = chart.next_sibling(x);
+        if !world.on(chart, x) {
+            continue;
+        }
+        match process(alloc, chart, bounds, world, x, now)? {
+            Went::Stay => {}
+            Went::Out(home) => return Ok(Went::Out(home)),
+        }
+    }
+    Ok(Went::Stay)
+}

@@ -1,0 +1,172 @@
+//! The search of a list of transitions, and what it finds.
+ghost use Rattle.std.specs.Prelude.{◌≡◌, ◌++◌, ◌∷◌, [], map, IfOk, IfErr, OnOk};
+ghost use Rattle.actions.specs.declared.engine.Halt.TheVariants as halts;
+ghost use Rattle.state_tree.specs.Kept.{chart_of};
+ghost use Rattle.state_tree.specs.Valid.{IsTrans, AreTrans};
+ghost use Rattle.state_tree.specs.Views.{block_seen, list_seen, trans_seen};
+ghost use Rattle.sos_rules.specs.Finds.{IsFound};
+ghost use Rattle.sos_rules.specs.Rules.{upto};
+ghost use Rattle.sos_rules.specs.Searches as searches;
+ghost use Rattle.sos_interpreter.specs.Charts.{IsLife, FitsChart};
+ghost use Rattle.sos_interpreter.specs.Gives.{Does, Gives};
+ghost use Rattle.sos_interpreter.specs.Views.{life_seen, now_of, found_of};
+
+use crate::blocks::{End, Now, run_block};
+use crate::world::{Life, LiveWorld};
+use actions::{Event, Halt, Stmt};
+use flow_base::Bounds;
+use state_tree::{Chart, Dest, Trans};
+use std::alloc::Global;
+
+/// What a search finds.
+#[derive(Drop)]
+pub enum Found<'a> {
+    /// A destination, with the transition actions on the path.
+    Fire(u32, Vec<&'a [Stmt]>),
+    /// An empty junction.
+    DeadEnd,
+    /// Nothing was found.
+    No,
+    /// It was stopped by an early return.
+    Stop,
+}
+
+/// A list to go back to: the rest of it, after a transition with this action that led to a
+/// junction.
+#[derive(Drop)]
+struct Place<'a> {
+    rest: &'a [Trans],
+    action: &'a [Stmt],
+}
+
+/// Searches a list of transitions in order; a junction's list comes before the rest.
+#[cycle(rules)]
+pub(crate) fn search<'a>(
+    alloc: Global,
+    chart: &'a Chart,
+    bounds: Bounds,
+    world: &mut LiveWorld,
+    life: Life,
+    list: &'a [Trans],
+    now: Now,
+) -> Result<Found<'a>, Halt>
+    requires fits { FitsChart (chart_of chart.now) world.old }
+    requires life { IsLife (chart_of chart.now) (life_seen life) }
+    requires list { AreTrans (chart_of chart.now) (list_seen list.now) }
+    ensures gives { Gives (λ f. found_of f)
+        (λ n. (upto (chart_of chart.now) bounds n).search (life_seen life) (list_seen list.now) (now_of now) world.old)
+        result world.new }
+    ensures fits { FitsChart (chart_of chart.now) world.new }
+    ensures found { IfOk result (λ f. IsFound (chart_of chart.now) (found_of f)) }
+{
+    let mut places: Vec<Place<'a>> = Vec::new(alloc);
+    let mut rest = list;
+    loop {
+        match rest.split_first() {
+            None => match places.pop() {
+                None => return Ok(Found::No),
+                Some(place) => rest = place.rest,
+            },
+            Some((t, others)) => {
+                if enabled(chart, world, t, now)? {
+                    match run_block(alloc, chart, bounds, world, life, t.cond.items(), now)? {
+                        End::Cut => return Ok(Found::Stop),
+                        End::Done => {}
+                    }
+                    match t.dest {
+                        Dest::State(d) => {
+                            let actions = actions_on(alloc, &places, t.act.items())?;
+                            return Ok(Found::Fire(d, actions));
+                        }
+                        Dest::Junction(j) => {
+                            world.pay(chart, bounds)?;
+                            let next = chart.junction(j);
+                            if next.is_empty() {
+                                return Ok(Found::DeadEnd);
+                            }
+                            push_place(
+                                &mut places,
+                                Place {
+                                    rest: others,
+                                    action: t.act.items(),
+                                },
+                            )?;
+                            rest = next;
+                        }
+                    }
+                } else {
+                    rest = others;
+                }
+            }
+        }
+    }
+}
+
+/// Whether a transition's event is the current one, and its guard holds.
+fn enabled(chart: &Chart, world: &LiveWorld, t: &Trans, now: Now) -> Result<bool, Halt>
+    requires fits { FitsChart (chart_of chart.now) world.now }
+    requires trans { IsTrans (chart_of chart.now) (trans_seen t.now) }
+    ensures { Does (λ b. b) (searches.is_enabled (trans_seen t.now) (now_of now) world.now) result world.now }
+{
+    if !event_fits(t.event, now.event) {
+        return Ok(false);
+    }
+    match &t.guard {
+        None => Ok(true),
+        Some(guard) => world.is_true(chart, guard),
+    }
+}
+
+/// Whether a trigger is the event.
+fn event_fits(trigger: Option<u32>, event: Event) -> bool
+    ensures { result ≡ searches.event_fits trigger event }
+{
+    match trigger {
+        None => true,
+        Some(e) => match event {
+            Event::Start => false,
+            Event::Tick => false,
+            Event::Named(x) => x == e,
+        },
+    }
+}
+
+/// Keeps a list to go back to.
+fn push_place<'a>(places: &mut Vec<Place<'a>>, place: Place<'a>) -> Result<(), Halt>
+    ensures ok { OnOk result (places.new.items ≡ places.entry.now.items ++ place.entry ∷ []) }
+    ensures err { IfErr result (λ h. h ≡ halts.Memory) }
+{
+    match places.push(place) {
+        Ok(()) => Ok(()),
+        Err(_) => Err(Halt::Memory),
+    }
+}
+
+/// The actions of the lists to go back to, and last this one.
+fn actions_on<'a>(
+    alloc: Global,
+    places: &[Place<'a>],
+    last: &'a [Stmt],
+) -> Result<Vec<&'a [Stmt]>, Halt>
+    ensures ok { IfOk result (λ v. map (λ a. block_seen a.now) v.items
+        ≡ map (λ p. block_seen p.action.now) places.entry.now ++ block_seen last.now ∷ []) }
+    ensures err { IfErr result (λ h. h ≡ halts.Memory) }
+{
+    let mut actions: Vec<&'a [Stmt]> = Vec::new(alloc);
+    for place in places.iter() {
+        push_action(&mut actions, place.action)?;
+    }
+    push_action(&mut actions, last)?;
+    Ok(actions)
+}
+
+/// Keeps an action.
+fn push_action<'a>(actions: &mut Vec<&'a [Stmt]>, action: &'a [Stmt]) -> Result<(), Halt>
+    ensures ok { OnOk result (actions.new.items ≡ actions.entry.now.items ++ action.entry ∷ []) }
+    ensures err { IfErr result (λ h. h ≡ halts.Memory) }
+{
+    match actions.push(action) {
+        Ok(()) => Ok(()),
+        Err(_) => Err(Halt::Memory),
+    }
+}

@@ -1,10 +1,5 @@
 -- A chart that is read from one file and runs over another.
-use Rattle.std.proofs.Common.{◌≡◌, ℕ, ◌<◌, List, length, Result, Ok, Err, refl, sym, ap, subst, ◌∙◌, inl, inr}
-use Rattle.std.specs.Str.{bytes_eq}
-use Rattle.std.proofs.lemmas.Bool.{cases_Bool}
-use Rattle.std.proofs.lemmas.Slice.Eq.{bytes_eq-Decides}
-use Rattle.std.specs.Io.KnownBytes.{IsAtEnd}
-use Rattle.flow_base.specs.Causes.{OthersKept}
+use Rattle.std.proofs.Common.{ℕ, ◌<◌, List, length, refl, inl}
 use Rattle.flow_base.specs.declared.bounds.Bounds.{Bounds}
 use Rattle.chart_lexer.specs.Lex.{begin}
 use Rattle.chart_tree.specs.declared.fault.FormFault.TheVariants as faults
@@ -12,71 +7,24 @@ use Rattle.chart_tree.specs.declared.fault.FormKind.TheVariants as forms
 use Rattle.chart_tree.specs.declared.limits.TheConstants.{CHART_TEXT_LIMIT}
 use Rattle.state_tree.specs.Kept.{Kept, chart_of}
 use Rattle.accepted_charts.specs.Accepted.{IsAccepted, Refuses, OfText}
-use Rattle.step_driver.specs.Driving.{Drives}
-use Rattle.step_driver.specs.declared.driver.DriveEnd.{DriveEnd}
-use Rattle.step_driver.specs.declared.driver.DriveEnd.TheVariants as answers
 use Rattle.command_files.specs.Call.{Sources, Call}
-use Rattle.command_files.specs.Reading.{ReadWhole, Gives}
-use Rattle.command_files.proofs.ReadingLemmas.{read_out-IsAtEnd}
+use Rattle.command_files.specs.Reading.{Gives}
 use Rattle.trace_command.specs.declared.run.TraceEnd.{TraceEnd}
-use Rattle.trace_command.specs.declared.run.TraceEnd.TheVariants as runs
-use Rattle.trace_command.specs.Trace.{Behaviour, TraceEnds, Driven, NotBegun, seen_of, end_of}
-use Rattle.checked_commands.specs.Rules.{AreUsual, by_rules, ChartRan}
+use Rattle.trace_command.specs.FileRuns.{AreUsual, FileRan}
+use Rattle.trace_command.specs.Trace.{TraceEnds}
+use Rattle.trace_command.proofs.RunLemmas.{file_ran}
+use Rattle.checked_commands.specs.Rules.{by_rules}
 
 -- a text that is too long isn't that of an accepted chart
 pub too_long_refused : (text : List ℕ) → CHART_TEXT_LIMIT < length text → Refuses text (faults.At forms.TextTooLong begin)
 too_long_refused text h = OfText (inl (record { kind_is = refl; long = h; place = refl }))
 
--- after a run only the event file isn't as it was
-pub trace_others : (b : Behaviour) (call : Call) (second : List ℕ) (end : TraceEnd) → TraceEnds b call second end
-    → OthersKept second call.sources_before.left call.sources_after.left
-trace_others b call second end (Driven d) = d.others
-trace_others b call second end (NotBegun e same out) = λ other ne. ap (λ (s : Sources). s.left other) same
-
--- a driven run that ended well leaves nothing of the event file
-driven_end : (b : Behaviour) (call : Call) (second : List ℕ) (answer : Result (Unit {0}) DriveEnd)
-    → Drives b.starts b.reacts b.tree b.names (seen_of call second) answer → runs.Done ≡ end_of b.names answer
-    → IsAtEnd (call.sources_after.left second)
-driven_end b call second (Ok done) d e = d.1
-driven_end b call second (Err (answers.Line number fault)) d e = absurd cc
-driven_end b call second (Err (answers.Fault index fault)) d e = absurd cc
-driven_end b call second (Err answers.Read) d e = absurd cc
-driven_end b call second (Err answers.Write) d e = absurd cc
-driven_end b call second (Err answers.TooManyLines) d e = absurd cc
-driven_end b call second (Err answers.FileTooLong) d e = absurd cc
-driven_end b call second (Err answers.Memory) d e = absurd cc
-
--- a run that ended well leaves nothing of the event file
-trace_end : (b : Behaviour) (call : Call) (second : List ℕ) (end : TraceEnd) → TraceEnds b call second end → end ≡ runs.Done
-    → IsAtEnd (call.sources_after.left second)
-trace_end b call second end (Driven d) e = driven_end b call second d.answer d.drives (sym e ∙ d.end_is)
-trace_end b call second end (NotBegun m same out) e = absurd (let bad = sym e ∙ m in cc)
-
--- nothing is left of a file that was read whole, after another was read to its end, whether they have two names or one
-first_end : (before between after : Sources) (first second text : List ℕ) → ReadWhole before between first text
-    → OthersKept second between.left after.left → IsAtEnd (after.left second) → IsAtEnd (after.left first)
-first_end before between after first second text read kept end =
-    elim (cases_Bool (bytes_eq first second)) [
-      | inl same ↦ rw ((bytes_eq-Decides first second).0 same) end
-      | inr other ↦ rw (kept first (λ e. let bad = sym ((bytes_eq-Decides first second).1 e) ∙ other in cc), read.at_end) (read_out-IsAtEnd _)
-    ]
-
 -- the chart that the first file gives ran over the second
-pub ran : (call : Call) (first second : List ℕ) (between : Sources) (chart : Kept) (bounds : Bounds) (end : TraceEnd) → AreUsual bounds
+pub ran : (call : Call) (first second : List ℕ) (between : Sources) (chart : Kept) (bounds : Bounds) (end : TraceEnd)
+    → AreUsual bounds
     → Gives (λ (text : List ℕ) (c : Kept). IsAccepted text (chart_of c)) call.sources_before between first chart
     → TraceEnds (by_rules (chart_of chart) bounds) (record call { sources_before = between }) second end
-    → ChartRan call first second end
+    → FileRan IsAccepted by_rules call first second end
 ran call first second between chart bounds end usual given traced =
-    let b = by_rules (chart_of chart) bounds in
-    let later : Call = record call { sources_before = between } in
-    record {
-      chart = chart_of chart;
-      bounds = bounds;
-      usual = usual;
-      between = between;
-      first_read = record { text = given.text; read = given.read; means = given.means };
-      traces = traced;
-      first_end = λ e. first_end call.sources_before between call.sources_after first second given.text given.read
-          (trace_others b later second end traced) (trace_end b later second end traced e);
-      second_end = λ e. trace_end b later second end traced e;
-    }
+    file_ran IsAccepted by_rules call first second between (chart_of chart) bounds end usual
+    (record { text = given.text; read = given.read; means = given.means }) traced

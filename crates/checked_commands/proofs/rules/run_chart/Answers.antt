@@ -1,6 +1,7 @@
 use Rattle.command_files.specs.Call.{sources_of, call_of}
 use Rattle.command_files.proofs.ReadingLemmas.{both_of_two}
-use Rattle.checked_commands.proofs.RunLemmas.{trace_others, ran}
+use Rattle.trace_command.proofs.RunLemmas.{trace_others}
+use Rattle.checked_commands.proofs.RunLemmas.{ran}
 use Rattle.checked_commands.proofs.rules.run_chart.Goals as goal
 
 -- the chart ran

@@ -4,14 +4,14 @@ use Rattle.state_tree.specs.Kept.{chart_of}
 use Rattle.sos_interpreter.specs.Engine.{EngineState}
 use Rattle.trace_command.specs.Trace.{HasShortNames, TraceEnds}
 use Rattle.checked_commands.specs.Rules.{by_rules}
-use Rattle.checked_commands.proofs.Names.{names_short}
+use Rattle.trace_command.proofs.NameLemmas.{names_short}
 use Rattle.checked_commands.proofs.rules.run_rules.Goals as goal
 
 -- the names of a valid chart are short
 pub trace-requires-clause-short : goal.trace-requires-clause-short
 trace-requires-clause-short g c =
     subst (λ (engine : EngineState). HasShortNames (chart_of engine.chart).names) (sym c.in-Ok.ensures)
-    (names_short (chart_of c.args.chart) c.names.ensures.valid)
+    (names_short (chart_of c.args.chart).names c.names.ensures.valid.names.declared)
 
 -- the program of the engine is the chart with its bounds
 pub returns : goal.returns

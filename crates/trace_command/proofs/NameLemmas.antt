@@ -1,5 +1,5 @@
--- The names of the data of a valid chart.
-use Rattle.std.proofs.Common.{◌≡◌, ℕ, zero, suc, ◌≤◌, ◌&&◌, leb, eqb, true, List, [], ◌∷◌, map, length, arith, sym, ◌∙◌}
+-- The names of data that are NAMEs are short.
+use Rattle.std.proofs.Common.{◌≡◌, ℕ, zero, suc, ◌≤◌, ◌&&◌, leb, eqb, true, List, [], ◌∷◌, ◌++◌, map, length, arith, sym, ◌∙◌}
 use Rattle.std.specs.Prelude.{slice_get}
 use Rattle.std.specs.List.{list_all}
 use Rattle.std.specs.Option.{option_map_or}
@@ -9,8 +9,7 @@ use Rattle.chart_lexer.specs.Bytes.{is_letter, begins}
 use Rattle.chart_lexer.specs.Words.{name_length, is_name}
 use Rattle.actions.specs.declared.names.EventDecl.{EventDecl}
 use Rattle.actions.specs.declared.names.Var.{Var}
-use Rattle.state_tree.specs.Chart.{Chart}
-use Rattle.state_tree.specs.Valid.{IsValid}
+use Rattle.actions.specs.Names.{Names}
 use Rattle.trace_command.specs.Trace.{HasShortNames}
 
 -- a name has at most 63 bytes
@@ -26,10 +25,10 @@ are_short [] v h = omega arith
 are_short (x ∷ vars) zero h = is_short x.name (and_parts (is_name x.name) _ h).0
 are_short (x ∷ vars) (suc v) h = are_short vars v (and_parts (is_name x.name) _ h).1
 
--- the names of the data of a valid chart have at most 63 bytes
-pub names_short : (c : Chart) → IsValid c → HasShortNames c.names
-names_short c valid v =
-    let vars = map (λ (x : Var). x.name) c.names.vars in
-    let events = map (λ (e : EventDecl). e.name) c.names.events in
-    let both = sym (list_all-append is_name vars events) ∙ valid.names.declared in
-    are_short c.names.vars v (and_parts (list_all is_name vars) _ both).0
+-- where the names of all that is declared are NAMEs, those of the data have at most 63 bytes
+pub names_short : (n : Names) → list_all is_name (map (λ (x : Var). x.name) n.vars ++ map (λ (x : EventDecl). x.name) n.events) ≡ true
+    → HasShortNames n
+names_short n h v =
+    let vars = map (λ (x : Var). x.name) n.vars in
+    let both = sym (list_all-append is_name vars (map (λ (x : EventDecl). x.name) n.events)) ∙ h in
+    are_short n.vars v (and_parts (list_all is_name vars) _ both).0

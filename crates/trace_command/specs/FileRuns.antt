@@ -1,0 +1,27 @@
+-- A program that is read from one file and runs over the events of another.
+use Rattle.std.specs.Prelude.{◌≡◌, ℕ, List}
+use Rattle.std.specs.Io.KnownBytes.{IsAtEnd}
+use Rattle.flow_base.specs.declared.bounds.Bounds.{Bounds}
+use Rattle.command_files.specs.Call.{Sources, Call}
+use Rattle.command_files.specs.Reading.{Gives}
+use Rattle.trace_command.specs.declared.run.TraceEnd.{TraceEnd}
+use Rattle.trace_command.specs.declared.run.TraceEnd.TheVariants as runs
+use Rattle.trace_command.specs.Trace.{Behaviour, TraceEnds}
+
+-- the usual bounds: sends nest 8 deep, and an event has 10,000 steps
+pub record AreUsual (bounds : Bounds) : Type 0 where
+  pub depth : bounds.depth ≡ 8
+  pub steps : bounds.steps ≡ 10000
+
+-- The first file was read whole, and what its text means ran over the events of the second, each event with the usual
+-- bounds. Where the run ended well, nothing is left of either file.
+pub record FileRan {P : Type 0} (Means : List ℕ → P → Type 0) (behaves : P → Bounds → Behaviour) (call : Call)
+    (first second : List ℕ) (end : TraceEnd) : Type 0 where
+  pub program : P
+  pub bounds : Bounds
+  pub usual : AreUsual bounds
+  pub between : Sources
+  pub first_read : Gives Means call.sources_before between first program
+  pub traces : TraceEnds (behaves program bounds) (record call { sources_before = between }) second end
+  pub first_end : end ≡ runs.Done → IsAtEnd (call.sources_after.left first)
+  pub second_end : end ≡ runs.Done → IsAtEnd (call.sources_after.left second)

@@ -1,7 +1,7 @@
 //! The active states in a trace line.
-ghost use Rattle.std.specs.Prelude.{◌≡◌, ◌<◌, ◌≤◌, ◌&&◌, not, Some, true, length, map};
+ghost use Rattle.std.specs.Prelude.{◌≡◌, ◌<◌, ◌≤◌, Some, true, length, map};
 ghost use Rattle.std.specs.List.{join_with_byte};
-ghost use Rattle.active_config.specs.Marks.{mark_count, is_on};
+ghost use Rattle.active_config.specs.Marks.{mark_count};
 ghost use Rattle.active_config.specs.Tree.{
   IsTree,
   state_count,
@@ -12,7 +12,6 @@ ghost use Rattle.active_config.specs.Tree.{
 ghost use Rattle.actions.specs.Names.{names_of};
 ghost use Rattle.step_text.specs.Pieces.{Puts};
 ghost use Rattle.step_text.specs.Trace as spec;
-ghost use Rattle.step_text.specs.TraceParts.{state_item};
 
 use crate::pieces::Pieces;
 use crate::trace_parts::{put_item, put_separator};
@@ -34,37 +33,18 @@ pub(crate) fn put_states<O: Sink>(
         pieces.old pieces.new
         (join_with_byte 44 (map (spec.path_of shape.now (names_of names.now)) (spec.active_states shape.now marks.now))) }
 {
+    let states = shape.len();
     let mut is_first = true;
-    for state in 1..shape.len() {
-        is_first = put_state(shape, names, marks, state, is_first, pieces, out);
+    let mut from = 1;
+    'states: while from < states {
+        let Some(state) = marks.next_on(from) else {
+            return;
+        };
+        put_separator(b',', is_first, pieces, out);
+        put_path(shape, names, state, pieces, out);
+        is_first = false;
+        from = state + 1;
     }
-}
-
-/// Puts the path of a state where it is active. It answers whether no path has been put yet.
-fn put_state<O: Sink>(
-    shape: &Shape,
-    names: &Names,
-    marks: &Marks,
-    state: u32,
-    is_first: bool,
-    pieces: &mut Pieces,
-    out: &mut O,
-) -> bool
-    requires tree { IsTree shape.now }
-    requires state { state < state_count shape.now }
-    requires names { length (names_of names.now).states ≡ state_count shape.now }
-    requires marks { mark_count marks.now ≡ state_count shape.now }
-    ensures puts { Puts (O.wrote out.old) (O.wrote out.new) (O.faults out.old) (O.faults out.new)
-        pieces.old pieces.new
-        (state_item shape.now (names_of names.now) marks.now is_first state) }
-    ensures first { result ≡ (is_first && not (is_on state marks.now)) }
-{
-    if !marks.on(state) {
-        return is_first;
-    }
-    put_separator(b',', is_first, pieces, out);
-    put_path(shape, names, state, pieces, out);
-    false
 }
 
 /// Puts the path of a state, from the child of the root that it is or is below down to its own name.

@@ -1,9 +1,11 @@
+pub mod SearchLemmas
 pub mod LineLemmas
 pub mod Windows
 pub mod Taking
 pub mod NextLemmas
 pub mod TokenLemmas
 pub mod ValueLemmas
+pub mod NamedLemmas
 pub mod TableLemmas
 pub mod PieceLemmas
 pub mod JoinLemmas

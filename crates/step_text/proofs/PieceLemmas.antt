@@ -36,12 +36,12 @@ flush_failed w w1 w2 f f1 f2 text held p front rose later = record {
   later = omega (arith, p.count);
 }
 
--- one byte more is kept
-pub pushed : (w w1 : Option (List ℕ)) (f f1 b : ℕ) (text held : List ℕ) → Passed w w1 f f1 text held
-    → Passed w w1 f f1 (text ++ b ∷ []) (held ++ b ∷ [])
-pushed w w1 f f1 b text held p = record {
+-- a text more is kept
+pub pushed : (w w1 : Option (List ℕ)) (f f1 : ℕ) (text held more : List ℕ) → Passed w w1 f f1 text held
+    → Passed w w1 f f1 (text ++ more) (held ++ more)
+pushed w w1 f f1 text held more p = record {
   sent = p.sent;
-  parts = ap (λ (z : List ℕ). z ++ b ∷ []) p.parts ∙ append_assoc p.sent held (b ∷ []);
+  parts = ap (λ (z : List ℕ). z ++ more) p.parts ∙ append_assoc p.sent held more;
   written = p.written;
   count = p.count;
 }
@@ -58,15 +58,15 @@ cut_more w w1 f f1 text more c = record {
   later = c.later;
 }
 
-kept_at : (w w1 : Option (List ℕ)) (f f1 b : ℕ) (text : List ℕ) (held : Held) (failed : Bool) → held.failed ≡ failed → Written w w1 f f1 text held
-    → Written w w1 f f1 (text ++ b ∷ []) (kept held b)
-kept_at w w1 f f1 b text held true e h = let p = rw e at h in rw e (cut_more w w1 f f1 text (b ∷ []) p)
-kept_at w w1 f f1 b text held false e h = let p = rw e at h in rw e (pushed w w1 f f1 b text held.bytes p)
+kept_at : (w w1 : Option (List ℕ)) (f f1 : ℕ) (text more : List ℕ) (held : Held) (failed : Bool) → held.failed ≡ failed
+    → Written w w1 f f1 text held → Written w w1 f f1 (text ++ more) (kept held more)
+kept_at w w1 f f1 text more held true e h = let p = rw e at h in rw e (cut_more w w1 f f1 text more p)
+kept_at w w1 f f1 text more held false e h = let p = rw e at h in rw e (pushed w w1 f f1 text held.bytes more p)
 
--- one byte more is kept, unless a write failed
-pub written_kept : (w w1 : Option (List ℕ)) (f f1 b : ℕ) (text : List ℕ) (held new : Held) → new ≡ kept held b → Written w w1 f f1 text held
-    → Written w w1 f f1 (text ++ b ∷ []) new
-written_kept w w1 f f1 b text held new is h = rw is (kept_at w w1 f f1 b text held held.failed refl h)
+-- a text more is kept, unless a write failed
+pub written_kept : (w w1 : Option (List ℕ)) (f f1 : ℕ) (text more : List ℕ) (held new : Held) → new ≡ kept held more
+    → Written w w1 f f1 text held → Written w w1 f f1 (text ++ more) new
+written_kept w w1 f f1 text more held new is h = rw is (kept_at w w1 f f1 text more held held.failed refl h)
 
 -- no write failed so far
 pub passed : (w w1 : Option (List ℕ)) (f f1 : ℕ) (text : List ℕ) (held : Held) → held.failed ≡ false → Written w w1 f f1 text held

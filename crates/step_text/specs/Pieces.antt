@@ -13,9 +13,9 @@ pub record Held : Type 0 where
 abbrev pub nothing_held : Held
 nothing_held = record { bytes = []; failed = false }
 
--- one byte more is kept, unless a write failed
-abbrev pub kept : Held → ℕ → Held
-kept held byte = if held.failed then held else record held { bytes = held.bytes ++ byte ∷ [] }
+-- a text more is kept, unless a write failed
+abbrev pub kept : Held → List ℕ → Held
+kept held more = if held.failed then held else record held { bytes = held.bytes ++ more }
 
 -- the text is what was written and then what is kept, and no write failed
 pub record Passed (before after : Option (List ℕ)) (f f' : ℕ) (text held : List ℕ) : Type 0 where

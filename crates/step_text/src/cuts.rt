@@ -1,28 +1,20 @@
 //! What bytes of an event file begin with.
-ghost use Rattle.std.specs.Prelude.{◌≡◌, ◌≤◌, ◌<◌, ◌+◌, ℕ, length, take, nat_eq, IfSome};
-ghost use Rattle.std.specs.List.{position};
+ghost use Rattle.std.specs.Prelude.{◌≡◌, ◌≤◌, ◌<◌, ◌+◌, ℕ, length, take};
 ghost use Rattle.step_text.specs.Lines.{line_length, without_return};
 ghost use Rattle.step_text.specs.Reading as spec;
 
 use crate::limits::{BUFFER_SIZE, FILE_LIMIT, LINE_LIMIT};
+use memchr::memchr;
 
 /// The length of the first line of a text, its newline not counted.
 pub(crate) fn first_length(text: &[u8]) -> usize
     ensures length { result ≡ line_length text.now }
     ensures within { result ≤ length text.now }
 {
-    match first_newline(text) {
+    match memchr(b'\n', text) {
         Some(place) => place,
         None => text.len(),
     }
-}
-
-/// The place of the first newline.
-fn first_newline(text: &[u8]) -> Option<usize>
-    ensures place { result ≡ position (λ b. nat_eq b 10) text.now }
-    ensures within { IfSome result (λ n. n < length text.now) }
-{
-    text.iter().position(|byte| *byte == b'\n')
 }
 
 /// The length of a line without a byte 13 at its end.

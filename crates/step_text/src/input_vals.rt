@@ -1,31 +1,42 @@
 //! The values that one line names.
+ghost use Rattle.std.specs.Prelude.{◌≡◌, ◌<◌, length};
+ghost use Rattle.std.specs.List.{AllByRecursion};
+ghost use Rattle.step_text.specs.LineValues.{without};
+
 use crate::name_table::{NameTable, number_data, number_events};
 use actions::{Names, Value};
 use flow_base::Memory;
 use std::alloc::Global;
 use std::marker::Model;
 
+/// The most data that a line names whose numbers are kept.
+const NAMED_LIMIT: usize = 16;
+
 /// The values that one line of an event file names, one for each datum that it names. Beside them it
 /// keeps the numbers of the names of the chart that it was made for.
 #[derive(Debug, Drop)]
 pub struct InputVals {
     values: Vec<Option<Value>>,
-    /// Whether a datum may have a value.
-    used: bool,
+    /// The first `count` of these are the numbers of the data that have a value, unless there are more.
+    named: [usize; NAMED_LIMIT],
+    count: usize,
+    /// Whether a datum may have a value whose number isn't kept.
+    more: bool,
     events: NameTable,
     vars: NameTable,
 }
 
 impl Model for InputVals {
-    ghost use Rattle.std.specs.Prelude.{◌≡◌, false, length, replicate, None};
-    ghost use Rattle.step_text.specs.LineValues.{LineValues};
+    ghost use Rattle.std.specs.Prelude.{◌≤◌, take};
+    ghost use Rattle.step_text.specs.LineValues.{LineValues, AreNamed};
+    ghost use Rattle.step_text.specs.declared.input_vals.TheConstants.{NAMED_LIMIT};
 
     ghost Value = { LineValues };
 
     ghost view = { λ v. record { values = v.values.items; events = v.events; vars = v.vars } };
 
-    ghost invariant = { λ v. v.used ≡ false
-        → v.values.items ≡ replicate (length v.values.items) None };
+    ghost invariant = { λ v. (v.count ≤ NAMED_LIMIT)
+        × AreNamed v.values.items (take v.count v.named) v.more };
 }
 
 impl InputVals {
@@ -49,7 +60,9 @@ impl InputVals {
         match vec![in alloc; None; names.vars.items().len()] {
             Ok(values) => Ok(InputVals {
                 values,
-                used: false,
+                named: [0; NAMED_LIMIT],
+                count: 0,
+                more: false,
                 events,
                 vars,
             }),
@@ -98,10 +111,13 @@ impl InputVals {
     pub(crate) fn clear(&mut self)
         ensures { self.new ≡ record self.old { values = replicate (length self.old.values) None } }
     {
-        if self.used {
+        if self.more {
             self.values.fill(None);
-            self.used = false;
+        } else {
+            drop_values(&mut self.values, &self.named[..self.count]);
         }
+        self.count = 0;
+        self.more = false;
     }
 
     /// Keeps a value.
@@ -110,6 +126,21 @@ impl InputVals {
         ensures { self.new ≡ record self.old { values = slice_set self.old.values v (Some value) } }
     {
         self.values[v] = Some(value);
-        self.used = true;
+        if self.count < NAMED_LIMIT {
+            self.named[self.count] = v;
+            self.count += 1;
+        } else {
+            self.more = true;
+        }
+    }
+}
+
+/// Drops the values of the data with those numbers.
+fn drop_values(values: &mut [Option<Value>], named: &[usize])
+    requires { AllByRecursion (λ v. v < length values.old) named.now }
+    ensures { values.new ≡ without values.old named.now }
+{
+    for number in named {
+        values[*number] = None;
     }
 }

@@ -20,6 +20,7 @@ ghost use Rattle.std.specs.Prelude.{
 };
 ghost use Rattle.std.specs.Io.KnownBytes.{prepend_known, IsAtEnd};
 ghost use Rattle.flow_base.specs.Causes.{HasCause, Rose, OthersKept, NoneFalls, AllStay};
+ghost use Rattle.step_text.specs.Lines.{line_length};
 ghost use Rattle.step_text.specs.NextLine as next;
 ghost use Rattle.step_text.specs.Reading as spec;
 
@@ -134,21 +135,32 @@ impl LineReader {
         ensures counts { NoneFalls (I.faults inputs.old) (I.faults inputs.new) }
         ensures cause { next.HasReadCause name.now (I.faults inputs.old) (I.faults inputs.new) result }
     {
-        'pieces: while !self.is_ready() {
+        let mut plain_length = self.plain_length();
+        'pieces: while !self.is_ready(plain_length) {
             if self.read_more(inputs, name).is_err() {
                 self.failed = true;
                 return Err(LineEnd::Read);
             }
+            plain_length = self.plain_length();
         }
-        self.take_line()
+        self.take_line(plain_length)
     }
 
-    /// Whether the bytes at hand tell what comes next.
-    fn is_ready(&self) -> bool
+    /// The length of the line that the bytes at hand begin with, its newline not counted.
+    fn plain_length(&self) -> usize
+        ensures length { result ≡ line_length self.now.pending }
+        ensures within { result ≤ length self.now.pending }
+    {
+        first_length(&self.buffer[self.start..self.end])
+    }
+
+    /// Whether the bytes at hand, whose first line has that length, tell what comes next.
+    fn is_ready(&self, plain_length: usize) -> bool
+        requires { plain_length ≡ line_length self.now.pending }
         ensures { result ≡ spec.is_ready self.now }
     {
         let pending = &self.buffer[self.start..self.end];
-        self.ended || is_enough(self.at, first_length(pending), pending.len())
+        self.ended || is_enough(self.at, plain_length, pending.len())
     }
 
     /// Reads the next piece after the bytes at hand. No bytes are the end of the file.
@@ -175,15 +187,16 @@ impl LineReader {
         Ok(())
     }
 
-    /// Takes the line that the bytes at hand begin with.
-    fn take_line(&mut self) -> Result<bool, LineEnd>
+    /// Takes the line of that length that the bytes at hand begin with.
+    fn take_line(&mut self, plain_length: usize) -> Result<bool, LineEnd>
+        requires length { plain_length ≡ line_length self.old.pending }
+        requires within { plain_length ≤ length self.old.pending }
         requires ready { spec.is_ready self.old ≡ true }
         requires usable { self.old.failed ≡ false }
         ensures { next.Takes self.old self.new result }
     {
         let pending = &self.buffer[self.start..self.end];
-        let length = first_length(pending);
-        match cut_at(self.at, length, pending.len()) {
+        match cut_at(self.at, plain_length, pending.len()) {
             Cut::TooLong => {
                 self.number += 1;
                 self.failed = true;
@@ -195,7 +208,7 @@ impl LineReader {
             }
             Cut::End => Ok(false),
             Cut::Line(size) => {
-                let kept = length_without_return(&pending[..length]);
+                let kept = length_without_return(&pending[..plain_length]);
                 self.first = self.start;
                 self.last = self.start + kept;
                 self.start += size;

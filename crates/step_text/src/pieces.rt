@@ -25,7 +25,7 @@ impl Model for Pieces {
 }
 
 impl Pieces {
-    ghost use Rattle.std.specs.Prelude.{◌≡◌, ◌++◌, ◌∷◌, [], ◌<◌, ℕ, List, Option, length, false};
+    ghost use Rattle.std.specs.Prelude.{◌≡◌, ◌++◌, ◌∷◌, [], ◌+◌, ◌<◌, ◌≤◌, ℕ, List, Option, length, false, IsTrue};
     ghost use Rattle.step_text.specs.Pieces.{Written, Puts, Ends, nothing_held, kept};
 
     /// No bytes.
@@ -46,13 +46,11 @@ impl Pieces {
         self.len == PIECE_SIZE
     }
 
-    /// Keeps a byte, for which there is room.
-    fn push(&mut self, byte: u8)
-        requires { length self.old.bytes < PIECE_SIZE }
-        ensures { self.new ≡ record self.old { bytes = self.old.bytes ++ byte ∷ [] } }
+    /// Whether there is room for a text of that length.
+    fn has_room(&self, count: usize) -> bool
+        ensures { IsTrue result → length self.now.bytes + count ≤ PIECE_SIZE }
     {
-        self.buffer[self.len] = byte;
-        self.len += 1;
+        count <= PIECE_SIZE - self.len
     }
 
     /// Writes what is kept.
@@ -76,6 +74,18 @@ impl Pieces {
         ensures { Puts (O.wrote out.old) (O.wrote out.new) (O.faults out.old) (O.faults out.new)
             self.old self.new text.now }
     {
+        if self.has_room(text.len()) {
+            self.keep(text);
+        } else {
+            self.put_bytes(text, out);
+        }
+    }
+
+    /// Puts a text for which there may be no room, byte by byte.
+    fn put_bytes<O: Sink>(&mut self, text: &[u8], out: &mut O)
+        ensures { Puts (O.wrote out.old) (O.wrote out.new) (O.faults out.old) (O.faults out.new)
+            self.old self.new text.now }
+    {
         for byte in text {
             self.put_byte(*byte, out);
         }
@@ -88,7 +98,7 @@ impl Pieces {
             → Written w (O.wrote out.new) f (O.faults out.new) (all ++ byte ∷ []) self.new }
     {
         self.make_room(out);
-        self.keep_byte(byte);
+        self.keep(&[byte]);
     }
 
     /// Makes room for a byte.
@@ -103,14 +113,17 @@ impl Pieces {
         }
     }
 
-    /// Keeps a byte, for which there is room unless a write failed.
-    fn keep_byte(&mut self, byte: u8)
-        requires { self.old.failed ≡ false → length self.old.bytes < PIECE_SIZE }
-        ensures { self.new ≡ kept self.old byte }
+    /// Keeps a text, for which there is room unless a write failed.
+    fn keep(&mut self, text: &[u8])
+        requires { self.old.failed ≡ false → length self.old.bytes + length text.now ≤ PIECE_SIZE }
+        ensures { self.new ≡ kept self.old text.now }
     {
-        if !self.failed {
-            self.push(byte);
+        if self.failed {
+            return;
         }
+        let end = self.len + text.len();
+        self.buffer[self.len..end].copy_from_slice(text);
+        self.len = end;
     }
 
     /// Writes the rest.

@@ -3,6 +3,8 @@ ghost use Rattle.std.specs.Prelude.{◌≡◌, ◌∷◌, [], ◌<◌, length, n
 ghost use Rattle.std.specs.List.{position};
 ghost use Rattle.step_text.specs.EventLines.{is_blank, tokens_of};
 
+use memchr::memchr2;
+
 /// A text cut after its first token.
 #[derive(Clone, Copy, Debug)]
 pub(crate) struct TokenCut<'a> {
@@ -38,7 +40,7 @@ fn first_blank(text: &[u8]) -> Option<usize>
     ensures place { result ≡ position is_blank text.now }
     ensures within { IfSome result (λ n. n < length text.now) }
 {
-    text.iter().position(|byte| *byte == b' ' || *byte == b'\t')
+    memchr2(b' ', b'\t', text)
 }
 
 /// The place of the first byte that is neither.

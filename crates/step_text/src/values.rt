@@ -15,6 +15,7 @@ use crate::fault::LineFault;
 use crate::input_vals::InputVals;
 use actions::{Names, Sort, Value, VarKind};
 use fixed_point::{Num, Scale, exact, read_decimal};
+use memchr::memchr;
 
 /// Keeps the value that a token `NAME=VALUE` gives an input.
 pub(crate) fn give(names: &Names, token: &[u8], vals: &mut InputVals) -> Result<(), LineFault>
@@ -62,7 +63,7 @@ fn first_sign(token: &[u8]) -> Option<usize>
     ensures place { result ≡ position (λ b. nat_eq b 61) token.now }
     ensures within { IfSome result (λ n. n < length token.now) }
 {
-    token.iter().position(|byte| *byte == b'=')
+    memchr(b'=', token)
 }
 
 /// The place of the first datum of that name.

@@ -1,6 +1,7 @@
-use Rattle.std.proofs.Common.{◌+◌, ◌-◌, length, cond}
+use Rattle.std.proofs.Common.{◌≡◌, ◌+◌, ◌-◌, ◌≤◌, length, cond}
 use Rattle.step_text.specs.declared.limits.TheConstants.{LINE_LIMIT}
 use Rattle.flow_base.specs.Causes.{OthersKept, AllStay}
+use Rattle.step_text.specs.Lines.{line_length}
 use Rattle.step_text.specs.NextLine.{Fills}
 use Rattle.step_text.proofs.line_reader.LineReader.next_line.Given as goal
 
@@ -8,6 +9,8 @@ use Rattle.step_text.proofs.line_reader.LineReader.next_line.Given as goal
 abbrev pub invariant-pieces : goal.invariant-pieces
 invariant-pieces g l = record {
   fills : Fills l.fn.self l.self (g.I.Inputs.left l.fn.inputs l.name) (g.I.Inputs.left l.inputs l.name);
+  line : l.plain_length ≡ line_length l.self.pending;
+  within : l.plain_length ≤ length l.self.pending;
   others : OthersKept l.name (g.I.Inputs.left l.fn.inputs) (g.I.Inputs.left l.inputs);
   counts : AllStay (g.I.Inputs.faults l.fn.inputs) (g.I.Inputs.faults l.inputs);
 }

@@ -18,7 +18,7 @@ returns-in-Line c =
     ap (λ (b : List ℕ). slice_range b start end) c.deref.ensures.value ∙ was in
     let at : c.self.inside.at ≡ old.at = ap (λ (r : Reading). r.at) c.self.view_is in
     let number : c.self.inside.number ≡ old.number = ap (λ (r : Reading). r.number) c.self.view_is in
-    let length_is : c.first_length-length.result ≡ line_length old.pending = c.first_length-length.ensures.length ∙ ap line_length seen in
+    let length_is : c.args.plain_length ≡ line_length old.pending = c.requires.length in
     let cut : cut_at old.at (line_length old.pending) (length old.pending) ≡ cuts.Line size =
     let e = c.in-Line.ensures in sym (rw (seen, length_is, at) at e) in
     let line = let k = c.length_without_return-kept.ensures.line in rw (seen, length_is) at k in

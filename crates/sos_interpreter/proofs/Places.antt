@@ -94,13 +94,13 @@ module _ (c : Chart) (b : Bounds) (life : Life) (now : Now) where
     pub leads_pop : (pl : Place) → Leads c b life now (places ++ pl ∷ []) [] w list w0
         → Leads c b life now places (list_seen pl.rest.now) w list w0
     leads_pop pl l = record {
-      by = λ q r h u. l.by (Ended No w) r (search_end c b now life w) (unwinds_more places pl (Ended No w) q r h u);
+      by = λ q r h u. l.by (Ended No w) r (search_end c b now) (unwinds_more places pl (Ended No w) q r h u);
     }
 
     module _ (t : Trans) (ts : List Trans) (l : Leads c b life now places (t ∷ ts) w list w0) where
       -- a transition that isn't enabled is passed over
       pub leads_skip : is_enabled t now w ≡ Ended false w → Leads c b life now places ts w list w0
-      leads_skip e = record { by = λ q r h u. l.by q r (search_disabled c b now life t ts w q e h) u }
+      leads_skip e = record { by = λ q r h u. l.by q r (search_disabled c b now e h) u }
 
       -- a fault ends the whole search
       pub leads_fault : (x : Fault) (u : World) → Settled (λ n. (upto c b n).search life (t ∷ ts) now w) (Faulted x u)
@@ -137,11 +137,11 @@ module _ (c : Chart) (b : Bounds) (life : Life) (now : Now) where
             subst (λ a. Settled (λ n. then_do q (after_junction c b (upto c b n) life a ts now)) f.0) ea
             (subst (λ l. Settled
             (λ n. then_do q (after_junction c b (upto c b n) life (block_seen pl.action.now) l now)) f.0) er f.1) in
-            l.by f.0 r (search_goes c b now life t ts w v (Junction j) f.0 e h d
+            l.by f.0 r (search_goes c b now e h d
             (dest_visit c b now life t.action ts j next v u q f.0 p k some s back)) f.2;
       }
 
   -- at the end of a list with no places the search finds nothing
   pub leads_none : (w : World) (list : List Trans) (w0 : World) → Leads c b life now [] [] w list w0
       → Settled (λ n. (upto c b n).search life list now w0) (Ended No w)
-  leads_none w list w0 l = l.by (Ended No w) (Ended No w) (search_end c b now life w) refl
+  leads_none w list w0 l = l.by (Ended No w) (Ended No w) (search_end c b now) refl

@@ -1,31 +1,38 @@
 -- What one transition does to the whole search that has come to it.
-use Rattle.std.proofs.Common.{◌≡◌, ℕ, true, List, [], ◌∷◌, ◌++◌, length, map, sym, ap, ◌∙◌, subst}
+use Rattle.std.proofs.Common.{◌≡◌, ℕ, Bool, true, false, List, [], ◌∷◌, ◌++◌, length, map, sym, ap, ◌∙◌, subst}
 use Rattle.std.specs.List.{AllByRecursion}
+use Rattle.flow_base.specs.Lists.{items_of}
 use Rattle.flow_base.specs.declared.bounds.Bounds.{Bounds}
 use Rattle.flow_base.specs.declared.fault.Fault.{Fault}
 use Rattle.actions.specs.declared.expr.Stmt.{Stmt}
 use Rattle.actions.specs.Exprs as exprs
 use Rattle.actions.specs.World.{World, Life}
-use Rattle.run_work.specs.Work.{Ended, Faulted, Done, Cut, Now}
+use Rattle.run_work.specs.Work.{Run, Ended, Faulted, Now}
 use Rattle.sos_interpreter.proofs.Halts.{ended_as}
 use Rattle.sos_interpreter.proofs.Paths.{search_guard_fault, search_block_fault, search_stop, search_goes, dest_state}
 use Rattle.sos_interpreter.proofs.Paths.{dest_fault, dest_dead_end}
 use Rattle.sos_interpreter.proofs.Places.{Leads, leads_fault, leads_stop, leads_dead_end, leads_fire, leads_pop}
-use Rattle.sos_interpreter.proofs.Places.{leads_push, leads_none}
+use Rattle.sos_interpreter.proofs.Places.{leads_push, leads_none, leads_init, leads_skip}
 use Rattle.sos_interpreter.proofs.Turns.{empty_is, all_front, all_more, all_seen}
 use Rattle.sos_interpreter.specs.Settled.{Settled}
 use Rattle.sos_interpreter.specs.Views.{end_of}
 use Rattle.sos_interpreter.specs.declared.blocks.End.{End}
+use Rattle.sos_interpreter.specs.declared.blocks.End.TheVariants as ends
 use Rattle.sos_interpreter.specs.declared.searches.Place.{Place}
 use Rattle.sos_rules.specs.Finds.{AreActions}
-use Rattle.sos_rules.specs.Parts.{Fire, DeadEnd, No, Stop}
+use Rattle.sos_rules.specs.Parts.{Found, Fire, DeadEnd, No, Stop}
 use Rattle.sos_rules.specs.Rules.{upto}
-use Rattle.sos_rules.specs.Searches.{is_enabled, pay}
+use Rattle.sos_rules.specs.Searches.{is_enabled, pay, at_dest}
 use Rattle.state_tree.specs.Chart as charts
 use Rattle.state_tree.specs.Valid.{AreStmts}
 use Rattle.state_tree.specs.Views.{block_seen, list_seen, trans_seen}
+use Rattle.state_tree.specs.declared.parts.Dest.{Dest}
 use Rattle.state_tree.specs.declared.parts.Dest.TheVariants.{State, Junction}
 use Rattle.state_tree.specs.declared.parts.Trans.{Trans}
+
+-- what is asked of every element holds of an empty list
+pub of_none : {A : Type 0} (P : A → Type 0) {all : List A} → all ≡ [] → AllByRecursion P all
+of_none P none = subst (AllByRecursion P) (sym none) tt
 
 module _ {A : Type 0} (P : A → Type 0) {all : List A} (front : List A) (last : A)
     (parts : all ≡ front ++ last ∷ []) where
@@ -64,24 +71,24 @@ module _ (c : charts.Chart) (b : Bounds) {life : Life} {now : Now} {stmts block 
       → Settled (λ n. (upto c b n).block life (block_seen stmts) now w) (Ended (end_of e) u)
       → Settled (λ n. (upto c b n).block life (block_seen block) now w) (Ended (end_of end) u)
   block_ended {e} same is h =
-      ended_as end_of _ _ is
+      ended_as end_of is
       (subst (λ z. Settled (λ n. (upto c b n).block life (block_seen z) now w) (Ended (end_of e) u)) same h)
 
   -- a block of the same statements faults in the same way
-  pub block_faulted : {x : Fault} → stmts ≡ block
+  block_faulted : {x : Fault} → stmts ≡ block
       → Settled (λ n. (upto c b n).block life (block_seen stmts) now w) (Faulted x u)
       → Settled (λ n. (upto c b n).block life (block_seen block) now w) (Faulted x u)
   block_faulted {x} same h =
       subst (λ z. Settled (λ n. (upto c b n).block life (block_seen z) now w) (Faulted x u)) same h
 
 module _ {c : charts.Chart} {b : Bounds} {life : Life} {now : Now} {places : List Place} {w : World}
-    {list : List charts.Trans} {first : World} where
-  -- a search stands at the first of the transitions that are left
-  pub at_first : {rest others : List Trans} {t : Trans} → rest ≡ t ∷ others
-      → Leads c b life now places (list_seen rest) w list first
-      → Leads c b life now places (trans_seen t ∷ list_seen others) w list first
-  at_first is leads = subst (λ xs. Leads c b life now places (list_seen xs) w list first) is leads
+    {list : List charts.Trans} where
+  -- a search begins with no place
+  pub leads_begin : places ≡ [] → Leads c b life now places list w list w
+  leads_begin none = subst (λ ps. Leads c b life now ps list w list w) (sym none) (leads_init c b life now list w)
 
+module _ {c : charts.Chart} {b : Bounds} {life : Life} {now : Now} {places : List Place} {w : World}
+    {list : List charts.Trans} {first : World} where
   -- a search stands at the end of a list
   pub at_end : (rest : List Trans) → length rest ≡ 0 → Leads c b life now places (list_seen rest) w list first
       → Leads c b life now places [] w list first
@@ -101,61 +108,77 @@ module _ {c : charts.Chart} {b : Bounds} {life : Life} {now : Now} {places : Lis
   goes_back {front} place parts leads =
       leads_pop c b life now front w list first place (subst (λ ps. Leads c b life now ps [] w list first) parts leads)
 
-  module _ {t : charts.Trans} {rest : List charts.Trans}
-      (leads : Leads c b life now places (t ∷ rest) w list first) where
+  module _ {left others : List Trans} {t : Trans} (split : left ≡ t ∷ others)
+      (leads : Leads c b life now places (list_seen left) w list first) where
+    -- a search stands at the first of the transitions that are left
+    at_first : Leads c b life now places (trans_seen t ∷ list_seen others) w list first
+    at_first = subst (λ xs. Leads c b life now places (list_seen xs) w list first) split leads
+
     -- a guard that faults ends the search
-    pub guard_faults : {x : Fault} {u : World} → is_enabled t now w ≡ Faulted x u
+    pub guard_faults : {x : Fault} {u : World} → is_enabled (trans_seen t) now w ≡ Faulted x u
         → Settled (λ n. (upto c b n).search life list now first) (Faulted x u)
-    guard_faults {x} {u} e =
-        leads_fault c b life now places w list first t rest leads x u
-        (search_guard_fault c b now life t rest w u x e)
+    guard_faults e = leads_fault c b life now _ _ _ _ _ _ at_first _ _ (search_guard_fault c b now e)
 
-    module _ (enabled : is_enabled t now w ≡ Ended true w) where
-      -- a condition action that faults ends the search
-      pub condition_faults : {x : Fault} {u : World}
-          → Settled (λ n. (upto c b n).block life t.condition now w) (Faulted x u)
-          → Settled (λ n. (upto c b n).search life list now first) (Faulted x u)
-      condition_faults {x} {u} h =
-          leads_fault c b life now places w list first t rest leads x u
-          (search_block_fault c b now life t rest w u x enabled h)
+    module _ {answer : Bool} (asked : is_enabled (trans_seen t) now w ≡ Ended answer w) where
+      -- a transition that isn't enabled is passed over
+      pub passes_over : answer ≡ false → Leads c b life now places (list_seen others) w list first
+      passes_over off = leads_skip c b life now _ _ _ _ _ _ at_first (asked ∙ ap (λ z. Ended z w) off)
 
-      -- a condition action after which the life is over stops the search
-      pub condition_cut : {u : World} → Settled (λ n. (upto c b n).block life t.condition now w) (Ended Cut u)
-          → Settled (λ n. (upto c b n).search life list now first) (Ended Stop u)
-      condition_cut {u} h =
-          leads_stop c b life now places w list first t rest leads u (search_stop c b now life t rest w u enabled h)
-
-      module _ {v : World} (done : Settled (λ n. (upto c b n).block life t.condition now w) (Ended Done v)) where
-        -- the step for a junction that can't be paid ends the search
-        pub junction_faults : {j : ℕ} {x : Fault} {u : World} → Junction j ≡ t.dest → pay b v ≡ Faulted x u
+      module _ (yes : answer ≡ true) {stmts : List Stmt} (same : stmts ≡ items_of t.cond) where
+        -- a condition action that faults ends the search
+        pub condition_faults : {x : Fault} {u : World}
+            → Settled (λ n. (upto c b n).block life (block_seen stmts) now w) (Faulted x u)
             → Settled (λ n. (upto c b n).search life list now first) (Faulted x u)
-        junction_faults {j} {x} {u} to e =
-            leads_fault c b life now places w list first t rest leads x u
-            (search_goes c b now life t rest w v (Junction j) _ enabled done to
-            (dest_fault c b now life t.action rest j v u x e))
+        condition_faults h =
+            leads_fault c b life now _ _ _ _ _ _ at_first _ _
+            (search_block_fault c b now (asked ∙ ap (λ z. Ended z w) yes) (block_faulted c b same h))
 
-        -- a junction with no transitions is a dead end of the whole search
-        pub at_dead_end : {j : ℕ} {u : World} → Junction j ≡ t.dest → pay b v ≡ Ended tt u → [] ≡ charts.junction c j
-            → Settled (λ n. (upto c b n).search life list now first) (Ended DeadEnd u)
-        at_dead_end {j} {u} to e none =
-            leads_dead_end c b life now places w list first t rest leads u
-            (search_goes c b now life t rest w v (Junction j) _ enabled done to
-            (dest_dead_end c b now life t.action rest j v u e none))
+        -- a condition action after which the life is over stops the search
+        pub condition_cut : {end : End} {u : World} → end ≡ ends.Cut
+            → Settled (λ n. (upto c b n).block life (block_seen stmts) now w) (Ended (end_of end) u)
+            → Settled (λ n. (upto c b n).search life list now first) (Ended Stop u)
+        condition_cut is h =
+            leads_stop c b life now _ _ _ _ _ _ at_first _
+            (search_stop c b now (asked ∙ ap (λ z. Ended z w) yes) (block_ended c b same is h))
 
-        -- a state is found with the actions on the way to it
-        pub at_state : {d : ℕ} → State d ≡ t.dest → Settled (λ n. (upto c b n).search life list now first)
-            (Ended (Fire d (map (λ p. block_seen p.action.now) places ++ t.action ∷ [])) v)
-        at_state {d} to =
-            leads_fire c b life now places w list first t rest leads d v
-            (search_goes c b now life t rest w v (State d) _ enabled done to
-            (dest_state c b now life t.action rest d v))
+        module _ {end : End} (is : end ≡ ends.Done) {v : World}
+            (ran : Settled (λ n. (upto c b n).block life (block_seen stmts) now w) (Ended (end_of end) v)) where
+          -- after its condition action an enabled transition leads to its destination
+          goes : {d : Dest} {r : Run Found} → d ≡ t.dest
+              → Settled (λ n. at_dest c b (upto c b n) life (block_seen (items_of t.act)) (list_seen others) now d v) r
+              → Settled (λ n. (upto c b n).search life (trans_seen t ∷ list_seen others) now w) r
+          goes to h =
+              search_goes c b now (asked ∙ ap (λ z. Ended z w) yes) (block_ended c b same is ran) to h
 
-        -- a junction with transitions is searched first, and its place is kept
-        pub at_junction : {all : List Place} (place : Place) {j : ℕ} {next : List charts.Trans} {u : World}
-            → all ≡ places ++ place ∷ [] → list_seen place.rest.now ≡ rest → block_seen place.action.now ≡ t.action
-            → Junction j ≡ t.dest → pay b v ≡ Ended tt u → next ≡ charts.junction c j → (next ≡ [] → ⊥)
-            → Leads c b life now all next u list first
-        at_junction {all} place {j} {next} {u} parts others action to e is some =
-            subst (λ ps. Leads c b life now ps next u list first) (sym parts)
-            (leads_push c b life now places w list first t rest leads place j next v u others action enabled done to e
-            is some)
+          -- the step for a junction that can't be paid ends the search
+          pub junction_faults : {j : ℕ} {x : Fault} {u : World} → Junction j ≡ t.dest → pay b v ≡ Faulted x u
+              → Settled (λ n. (upto c b n).search life list now first) (Faulted x u)
+          junction_faults {j} {x} {u} to e =
+              leads_fault c b life now _ _ _ _ _ _ at_first _ _ (goes to (dest_fault c b now life _ _ j v u x e))
+
+          -- a junction with no transitions is a dead end of the whole search
+          pub at_dead_end : {j : ℕ} {u : World} → Junction j ≡ t.dest → pay b v ≡ Ended tt u → [] ≡ charts.junction c j
+              → Settled (λ n. (upto c b n).search life list now first) (Ended DeadEnd u)
+          at_dead_end {j} {u} to e none =
+              leads_dead_end c b life now _ _ _ _ _ _ at_first _
+              (goes to (dest_dead_end c b now life (block_seen (items_of t.act)) (list_seen others) j v u e none))
+
+          -- a state is found with the actions on the way to it
+          pub at_state : {d : ℕ} {actions : List (List exprs.Stmt)} → State d ≡ t.dest
+              → actions ≡ actions_at places ++ block_seen (items_of t.act) ∷ []
+              → Settled (λ n. (upto c b n).search life list now first) (Ended (Fire d actions) v)
+          at_state {d} to are =
+              subst (λ a. Settled (λ n. (upto c b n).search life list now first) (Ended (Fire d a) v)) (sym are)
+              (leads_fire c b life now _ _ _ _ _ _ at_first d v
+              (goes to (dest_state c b now life (block_seen (items_of t.act)) (list_seen others) d v)))
+
+          -- a junction with transitions is searched first, and its place is kept
+          pub at_junction : {all : List Place} (place : Place) {j : ℕ} {next : List charts.Trans} {u : World}
+              → all ≡ places ++ place ∷ [] → list_seen place.rest.now ≡ list_seen others
+              → block_seen place.action.now ≡ block_seen (items_of t.act) → Junction j ≡ t.dest
+              → pay b v ≡ Ended tt u → next ≡ charts.junction c j → (next ≡ [] → ⊥)
+              → Leads c b life now all next u list first
+          at_junction place {j} {next} {u} parts rest action to e list_is some =
+              subst (λ ps. Leads c b life now ps next u list first) (sym parts)
+              (leads_push c b life now places w list first _ _ at_first place j next v u rest action
+              (asked ∙ ap (λ z. Ended z w) yes) (block_ended c b same is ran) to e list_is some)

@@ -2,10 +2,12 @@
 use Rattle.std.specs.List.{sum_by, AllByRecursion}
 use Rattle.std.proofs.lemmas.List.Sums.{sum_by_push}
 use Rattle.std.proofs.Common.{◌≡◌, ℕ, zero, suc, ◌+◌, ◌<◌, ◌≤◌, List, [], ◌∷◌, ◌++◌, take, length, map, get_or, drop}
-use Rattle.std.proofs.Common.{Option, Some, None, true, false, refl, sym, ap, ◌∙◌, subst, arith}
+use Rattle.std.proofs.Common.{reverse, Option, Some, None, true, false, refl, sym, ap, ◌∙◌, subst, arith}
 use Rattle.flow_base.specs.declared.bounds.Bounds.{Bounds}
 use Rattle.flow_base.specs.declared.fault.Fault.{Fault}
-use Rattle.active_config.specs.Tree.{next_sibling, prev_sibling, children_from, children_back_from}
+use Rattle.active_config.specs.Tree.{first_child, last_child, next_sibling, prev_sibling, children_of, children_from}
+use Rattle.active_config.specs.Tree.{children_back_from}
+use Rattle.active_config.proofs.SiblingLemmas.{children_of-from, children_of-back}
 use Rattle.active_config.specs.Marks.{is_on}
 use Rattle.actions.specs.declared.expr.Stmt.{Stmt}
 use Rattle.actions.specs.Exprs as exprs
@@ -14,6 +16,7 @@ use Rattle.actions.specs.World.{World, Life, Bare}
 use Rattle.state_tree.specs.Chart as rules
 use Rattle.state_tree.specs.Homes.{path_in}
 use Rattle.run_work.specs.Work.{Run, Ended, Faulted, End, Done, Cut, Now}
+use Rattle.sos_interpreter.proofs.Halts.{continues_same}
 use Rattle.sos_interpreter.proofs.Paths.{enter_each_end, enter_each_more, enter_each_fault, each_end, each_off}
 use Rattle.sos_interpreter.proofs.Paths.{each_stay, each_fault, each_out, play_end, play_skip, play_pay_fault}
 use Rattle.sos_interpreter.proofs.Paths.{play_fault, play_cut, play_more, block_end, block_more, block_cut, block_fault}
@@ -42,85 +45,85 @@ drop_all f (y ∷ xs) zero le = absurd (omega arith)
 drop_all f (y ∷ xs) (suc i) le = drop_all f xs i (omega arith)
 
 module _ (c : rules.Chart) (b : Bounds) (now : Now) where
-  module _ (life : Life) (xs : List Stmt) (i : ℕ) (w : World) (m : ℕ → Run End)
+  module _ {life : Life} (xs : List Stmt) (i : ℕ) {w : World} {m : ℕ → Run End}
       (leads : Continues (λ n. (upto c b n).block life (block_seen (drop i xs)) now w) m) where
     -- a statement is done, and the rest of the block leads on
-    pub block_turn : (x : Stmt) (u : World) → i < length xs → x ≡ get_or xs i x
+    pub block_turn : {x : Stmt} {u : World} → i < length xs → x ≡ get_or xs i x
         → Settled (λ n. statement c b (upto c b n) life (stmt_of x) now w) (Ended Done u)
         → Continues (λ n. (upto c b n).block life (block_seen (drop (i + 1) xs)) now u) m
-    block_turn x u lt e h = record {
+    block_turn {x} lt e h = record {
       by = λ r s.
           leads.by r (subst (λ l. Settled (λ n. (upto c b n).block life l now w) r)
-          (sym (drop_more stmt_of xs i x lt e)) (block_more c b now life (stmt_of x) _ w u r h s));
+          (sym (drop_more stmt_of xs i x lt e)) (block_more c b now h s));
     }
 
     -- a statement after which the life is over ends the block
-    pub block_turn_cut : (x : Stmt) (u : World) → i < length xs → x ≡ get_or xs i x
+    pub block_turn_cut : {x : Stmt} {u : World} → i < length xs → x ≡ get_or xs i x
         → Settled (λ n. statement c b (upto c b n) life (stmt_of x) now w) (Ended Cut u) → Settled m (Ended Cut u)
-    block_turn_cut x u lt e h =
+    block_turn_cut {x} {u} lt e h =
         leads.by _ (subst (λ l. Settled (λ n. (upto c b n).block life l now w) (Ended Cut u))
-        (sym (drop_more stmt_of xs i x lt e)) (block_cut c b now life (stmt_of x) _ w u h))
+        (sym (drop_more stmt_of xs i x lt e)) (block_cut c b now h))
 
     -- a statement that faults ends the block
-    pub block_turn_fault : (x : Stmt) (u : World) (f : Fault) → i < length xs → x ≡ get_or xs i x
+    pub block_turn_fault : {x : Stmt} {u : World} {f : Fault} → i < length xs → x ≡ get_or xs i x
         → Settled (λ n. statement c b (upto c b n) life (stmt_of x) now w) (Faulted f u) → Settled m (Faulted f u)
-    block_turn_fault x u f lt e h =
+    block_turn_fault {x} {u} {f} lt e h =
         leads.by _ (subst (λ l. Settled (λ n. (upto c b n).block life l now w) (Faulted f u))
-        (sym (drop_more stmt_of xs i x lt e)) (block_fault c b now life (stmt_of x) _ w u f h))
+        (sym (drop_more stmt_of xs i x lt e)) (block_fault c b now h))
 
     -- no statement is left
     pub block_turns_end : length xs ≤ i → Settled m (Ended Done w)
     block_turns_end le =
         leads.by _ (subst (λ l. Settled (λ n. (upto c b n).block life l now w) (Ended Done w))
-        (sym (drop_all stmt_of xs i le)) (block_end c b now life w))
+        (sym (drop_all stmt_of xs i le)) (block_end c b now))
 
-  module _ {X : Type 0} (f : X → List exprs.Stmt) (s : ℕ) (xs : List X) (i : ℕ) (w : World) (m : ℕ → Run End)
+  module _ {X : Type 0} (f : X → List exprs.Stmt) {s : ℕ} (xs : List X) (i : ℕ) {w : World} {m : ℕ → Run End}
       (leads : Continues (λ n. (upto c b n).play s (map f (drop i xs)) now w) m) where
     -- an empty action costs nothing
-    pub play_turn_skip : (x : X) → i < length xs → x ≡ get_or xs i x → f x ≡ []
+    pub play_turn_skip : {x : X} → i < length xs → x ≡ get_or xs i x → f x ≡ []
         → Continues (λ n. (upto c b n).play s (map f (drop (i + 1) xs)) now w) m
-    play_turn_skip x lt e z = record {
+    play_turn_skip {x} lt e z = record {
       by = λ r h.
           leads.by r (subst (λ l. Settled (λ n. (upto c b n).play s l now w) r) (sym (drop_more f xs i x lt e))
-          (play_skip c b now s (f x) _ w r z h));
+          (play_skip c b now z h));
     }
 
-    module _ (x : X) (lt : i < length xs) (e : x ≡ get_or xs i x) (some : f x ≡ [] → ⊥) where
+    module _ {x : X} (lt : i < length xs) (e : x ≡ get_or xs i x) (some : f x ≡ [] → ⊥) where
       -- the step of an action that can't be paid ends the play
-      pub play_turn_pay_fault : (u : World) (y : Fault) → pay b w ≡ Faulted y u → Settled m (Faulted y u)
-      play_turn_pay_fault u y p =
+      pub play_turn_pay_fault : {u : World} {y : Fault} → pay b w ≡ Faulted y u → Settled m (Faulted y u)
+      play_turn_pay_fault {u} {y} p =
           leads.by _ (subst (λ l. Settled (λ n. (upto c b n).play s l now w) (Faulted y u))
-          (sym (drop_more f xs i x lt e)) (play_pay_fault c b now s (f x) _ w u y some p))
+          (sym (drop_more f xs i x lt e)) (play_pay_fault c b now some p))
 
       -- an action that faults ends the play
-      pub play_turn_fault : (u v : World) (y : Fault) → pay b w ≡ Ended tt u
+      pub play_turn_fault : {u v : World} {y : Fault} → pay b w ≡ Ended tt u
           → Settled (λ n. (upto c b n).block (Bare s) (f x) now u) (Faulted y v) → Settled m (Faulted y v)
-      play_turn_fault u v y p h =
+      play_turn_fault {v} {y} p h =
           leads.by _ (subst (λ l. Settled (λ n. (upto c b n).play s l now w) (Faulted y v))
-          (sym (drop_more f xs i x lt e)) (play_fault c b now s (f x) _ w u v y some p h))
+          (sym (drop_more f xs i x lt e)) (play_fault c b now some p h))
 
       -- an action after which the life is over ends the play
-      pub play_turn_cut : (u v : World) → pay b w ≡ Ended tt u
+      pub play_turn_cut : {u v : World} → pay b w ≡ Ended tt u
           → Settled (λ n. (upto c b n).block (Bare s) (f x) now u) (Ended Cut v) → Settled m (Ended Cut v)
-      play_turn_cut u v p h =
+      play_turn_cut {v} p h =
           leads.by _ (subst (λ l. Settled (λ n. (upto c b n).play s l now w) (Ended Cut v))
-          (sym (drop_more f xs i x lt e)) (play_cut c b now s (f x) _ w u v some p h))
+          (sym (drop_more f xs i x lt e)) (play_cut c b now some p h))
 
       -- an action is done, and the rest of the actions lead on
-      pub play_turn : (u v : World) → pay b w ≡ Ended tt u
+      pub play_turn : {u v : World} → pay b w ≡ Ended tt u
           → Settled (λ n. (upto c b n).block (Bare s) (f x) now u) (Ended Done v)
           → Continues (λ n. (upto c b n).play s (map f (drop (i + 1) xs)) now v) m
-      play_turn u v p h = record {
+      play_turn p h = record {
         by = λ r k.
             leads.by r (subst (λ l. Settled (λ n. (upto c b n).play s l now w) r) (sym (drop_more f xs i x lt e))
-            (play_more c b now s (f x) _ w u v r some p h k));
+            (play_more c b now some p h k));
       }
 
     -- no action is left
     pub play_turns_end : length xs ≤ i → Settled m (Ended Done w)
     play_turns_end le =
         leads.by _ (subst (λ l. Settled (λ n. (upto c b n).play s l now w) (Ended Done w)) (sym (drop_all f xs i le))
-        (play_end c b now s w))
+        (play_end c b now))
 
 -- a list of length 0 is empty
 pub empty_is : {A : Type 0} (xs : List A) → length xs ≡ 0 → xs ≡ []
@@ -156,102 +159,129 @@ pub sum_pushed : {A : Type 0} (f : A → ℕ) (new xs : List A) (y : A) → new 
 sum_pushed f new xs y e = ap (sum_by f) e ∙ sum_by_push f xs y
 
 module _ (c : rules.Chart) (b : Bounds) (now : Now) (s : ℕ) where
-  module _ (o : Option ℕ) (w : World) (m : ℕ → Run (Unit {0}))
+  -- the walk over the children of a state that are left begins at the last one
+  pub exit_turns_begin : {o : Option ℕ} {w : World} → o ≡ last_child c.tree s
+      → Continues (λ n. (upto c b n).exit_each (children_back_from c.tree s o) now w)
+      (λ n. (upto c b n).exit_each (reverse (children_of c.tree s)) now w)
+  exit_turns_begin {w = w} first =
+      subst (λ l. Continues (λ n. (upto c b n).exit_each l now w)
+      (λ n. (upto c b n).exit_each (reverse (children_of c.tree s)) now w))
+      (children_of-back c.tree s ∙ ap (children_back_from c.tree s) (sym first)) continues_same
+
+  -- the walk over the children that are entered begins at the first one
+  pub enter_turns_begin : {o : Option ℕ} {d : ℕ} {w : World} → o ≡ first_child c.tree s
+      → Continues (λ n. (upto c b n).enter_each (children_from c.tree s o) d now w)
+      (λ n. (upto c b n).enter_each (children_of c.tree s) d now w)
+  enter_turns_begin {d = d} {w} first =
+      subst (λ l. Continues (λ n. (upto c b n).enter_each l d now w)
+      (λ n. (upto c b n).enter_each (children_of c.tree s) d now w))
+      (children_of-from c.tree s ∙ ap (children_from c.tree s) (sym first)) continues_same
+
+  -- the walk over the regions begins at the first one
+  pub each_turns_begin : {o : Option ℕ} {w : World} → o ≡ first_child c.tree s
+      → Continues (λ n. (upto c b n).process_each (children_from c.tree s o) now w)
+      (λ n. (upto c b n).process_each (children_of c.tree s) now w)
+  each_turns_begin {w = w} first =
+      subst (λ l. Continues (λ n. (upto c b n).process_each l now w)
+      (λ n. (upto c b n).process_each (children_of c.tree s) now w))
+      (children_of-from c.tree s ∙ ap (children_from c.tree s) (sym first)) continues_same
+
+  module _ {o : Option ℕ} {w : World} {m : ℕ → Run (Unit {0})}
       (leads : Continues (λ n. (upto c b n).exit_each (children_back_from c.tree s o) now w) m) where
-    module _ (x : ℕ) (is : o ≡ Some x) (stands : Stands c.tree s o) (u : World) where
+    module _ {x : ℕ} (is : o ≡ Some x) (stands : Stands c.tree s o) {u : World} where
       -- a child is left, and those before it lead on
-      pub exit_turn : (o' : Option ℕ) → o' ≡ prev_sibling c.tree x
+      pub exit_turn : {o' : Option ℕ} → o' ≡ prev_sibling c.tree x
           → Settled (λ n. (upto c b n).exit x now w) (Ended tt u)
           → Continues (λ n. (upto c b n).exit_each (children_back_from c.tree s o') now u) m
-      exit_turn o' e h = record {
+      exit_turn {o'} e h = record {
         by = λ r q.
             leads.by r (subst (λ l. Settled (λ n. (upto c b n).exit_each l now w) r)
-            (sym (back_some c.tree s x o o' is stands e)) (exit_each_more c b now x _ w u r h q));
+            (sym (back_some c.tree s x o o' is stands e)) (exit_each_more c b now h q));
       }
 
       -- a fault in leaving a child ends the walk
-      pub exit_turn_fault : (f : Fault) → Settled (λ n. (upto c b n).exit x now w) (Faulted f u)
+      pub exit_turn_fault : {f : Fault} → Settled (λ n. (upto c b n).exit x now w) (Faulted f u)
           → Settled m (Faulted f u)
-      exit_turn_fault f h =
+      exit_turn_fault {f} h =
           leads.by _ (subst (λ l. Settled (λ n. (upto c b n).exit_each l now w) (Faulted f u))
-          (sym (back_some c.tree s x o (prev_sibling c.tree x) is stands refl)) (exit_each_fault c b now x _ w u f h))
+          (sym (back_some c.tree s x o (prev_sibling c.tree x) is stands refl)) (exit_each_fault c b now h))
 
     -- no child is left to leave
     pub exit_turns_end : o ≡ None → Settled m (Ended tt w)
     exit_turns_end e =
         leads.by _ (subst (λ l. Settled (λ n. (upto c b n).exit_each l now w) (Ended tt w))
-        (sym (back_none c.tree s o e)) (exit_each_end c b now w))
+        (sym (back_none c.tree s o e)) (exit_each_end c b now))
 
-  module _ (d : ℕ) (o : Option ℕ) (w : World) (m : ℕ → Run (Unit {0}))
+  module _ {d : ℕ} {o : Option ℕ} {w : World} {m : ℕ → Run (Unit {0})}
       (leads : Continues (λ n. (upto c b n).enter_each (children_from c.tree s o) d now w) m) where
-    module _ (x to : ℕ) (is : o ≡ Some x) (stands : Stands c.tree s o) (path : to ≡ path_in c.tree x d) (u : World)
+    module _ {x to : ℕ} (is : o ≡ Some x) (stands : Stands c.tree s o) (path : to ≡ path_in c.tree x d) {u : World}
       where
         -- a child is entered, and those after it lead on
-        pub enter_turn : (o' : Option ℕ) → o' ≡ next_sibling c.tree x
+        pub enter_turn : {o' : Option ℕ} → o' ≡ next_sibling c.tree x
             → Settled (λ n. (upto c b n).enter x to now w) (Ended tt u)
             → Continues (λ n. (upto c b n).enter_each (children_from c.tree s o') d now u) m
-        enter_turn o' e h = record {
+        enter_turn {o'} e h = record {
           by = λ r q.
               leads.by r (subst (λ l. Settled (λ n. (upto c b n).enter_each l d now w) r)
-              (sym (from_some c.tree s x o o' is stands e)) (enter_each_more c b now x to d _ w u r path h q));
+              (sym (from_some c.tree s x o o' is stands e)) (enter_each_more c b now path h q));
         }
 
         -- a fault in entering a child ends the walk
-        pub enter_turn_fault : (f : Fault) → Settled (λ n. (upto c b n).enter x to now w) (Faulted f u)
+        pub enter_turn_fault : {f : Fault} → Settled (λ n. (upto c b n).enter x to now w) (Faulted f u)
             → Settled m (Faulted f u)
-        enter_turn_fault f h =
+        enter_turn_fault {f} h =
             leads.by _ (subst (λ l. Settled (λ n. (upto c b n).enter_each l d now w) (Faulted f u))
             (sym (from_some c.tree s x o (next_sibling c.tree x) is stands refl))
-            (enter_each_fault c b now x to d _ w u f path h))
+            (enter_each_fault c b now path h))
 
     -- no child is left to enter
     pub enter_turns_end : o ≡ None → Settled m (Ended tt w)
     enter_turns_end e =
         leads.by _ (subst (λ l. Settled (λ n. (upto c b n).enter_each l d now w) (Ended tt w))
-        (sym (from_none c.tree s o e)) (enter_each_end c b now d w))
+        (sym (from_none c.tree s o e)) (enter_each_end c b now))
 
-  module _ (o : Option ℕ) (w : World) (m : ℕ → Run Went)
+  module _ {o : Option ℕ} {w : World} {m : ℕ → Run Went}
       (leads : Continues (λ n. (upto c b n).process_each (children_from c.tree s o) now w) m) where
-    module _ (x : ℕ) (is : o ≡ Some x) (stands : Stands c.tree s o) where
+    module _ {x : ℕ} (is : o ≡ Some x) (stands : Stands c.tree s o) where
       -- a region that isn't active is passed over
-      pub each_turn_off : (o' : Option ℕ) → o' ≡ next_sibling c.tree x → is_on x w.marks ≡ false
+      pub each_turn_off : {o' : Option ℕ} → o' ≡ next_sibling c.tree x → is_on x w.marks ≡ false
           → Continues (λ n. (upto c b n).process_each (children_from c.tree s o') now w) m
-      each_turn_off o' e off = record {
+      each_turn_off {o'} e off = record {
         by = λ r q.
             leads.by r (subst (λ l. Settled (λ n. (upto c b n).process_each l now w) r)
-            (sym (from_some c.tree s x o o' is stands e)) (each_off c b now x _ w r off q));
+            (sym (from_some c.tree s x o o' is stands e)) (each_off c b now off q));
       }
 
-      module _ (on : is_on x w.marks ≡ true) (u : World) where
+      module _ (on : is_on x w.marks ≡ true) {u : World} where
         -- a region is processed and stays, and those after it lead on
-        pub each_turn : (o' : Option ℕ) → o' ≡ next_sibling c.tree x
+        pub each_turn : {o' : Option ℕ} → o' ≡ next_sibling c.tree x
             → Settled (λ n. (upto c b n).process x now w) (Ended Stay u)
             → Continues (λ n. (upto c b n).process_each (children_from c.tree s o') now u) m
-        each_turn o' e h = record {
+        each_turn {o'} e h = record {
           by = λ r q.
               leads.by r (subst (λ l. Settled (λ n. (upto c b n).process_each l now w) r)
-              (sym (from_some c.tree s x o o' is stands e)) (each_stay c b now x _ w u r on h q));
+              (sym (from_some c.tree s x o o' is stands e)) (each_stay c b now on h q));
         }
 
         -- a fault in a region ends the walk
-        pub each_turn_fault : (f : Fault) → Settled (λ n. (upto c b n).process x now w) (Faulted f u)
+        pub each_turn_fault : {f : Fault} → Settled (λ n. (upto c b n).process x now w) (Faulted f u)
             → Settled m (Faulted f u)
-        each_turn_fault f h =
+        each_turn_fault {f} h =
             leads.by _ (subst (λ l. Settled (λ n. (upto c b n).process_each l now w) (Faulted f u))
-            (sym (from_some c.tree s x o (next_sibling c.tree x) is stands refl)) (each_fault c b now x _ w u f on h))
+            (sym (from_some c.tree s x o (next_sibling c.tree x) is stands refl)) (each_fault c b now on h))
 
         -- a way out of a region ends the walk
-        pub each_turn_out : (q : ℕ) → Settled (λ n. (upto c b n).process x now w) (Ended (Out q) u)
+        pub each_turn_out : {q : ℕ} → Settled (λ n. (upto c b n).process x now w) (Ended (Out q) u)
             → Settled m (Ended (Out q) u)
-        each_turn_out q h =
+        each_turn_out {q} h =
             leads.by _ (subst (λ l. Settled (λ n. (upto c b n).process_each l now w) (Ended (Out q) u))
-            (sym (from_some c.tree s x o (next_sibling c.tree x) is stands refl)) (each_out c b now x _ q w u on h))
+            (sym (from_some c.tree s x o (next_sibling c.tree x) is stands refl)) (each_out c b now on h))
 
     -- no region is left
     pub each_turns_end : o ≡ None → Settled m (Ended Stay w)
     each_turns_end e =
         leads.by _ (subst (λ l. Settled (λ n. (upto c b n).process_each l now w) (Ended Stay w))
-        (sym (from_none c.tree s o e)) (each_end c b now w))
+        (sym (from_none c.tree s o e)) (each_end c b now))
 
 -- ---- what all of a list have, one of it has
 

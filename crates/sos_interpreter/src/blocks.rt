@@ -51,7 +51,8 @@ pub(crate) fn run_block(
     requires life { IsLife (chart_of chart.now) (life_seen life) }
     requires stmts { AreStmts (chart_of chart.now) (block_seen stmts.now) }
     ensures gives { Gives (λ e. end_of e)
-        (λ n. (upto (chart_of chart.now) bounds n).block (life_seen life) (block_seen stmts.now) (now_of now) world.old)
+        (λ n. (upto (chart_of chart.now) bounds n).block (life_seen life) (block_seen stmts.now)
+        (now_of now) world.old)
         result world.new }
     ensures fits { FitsChart (chart_of chart.now) world.new }
 {
@@ -79,8 +80,8 @@ fn statement(
     requires life { IsLife (chart_of chart.now) (life_seen life) }
     requires stmt { IsStmt (chart_of chart.now) (stmt_of stmt.now) }
     ensures gives { Gives (λ e. end_of e)
-        (λ n. searches.statement (chart_of chart.now) bounds (upto (chart_of chart.now) bounds n) (life_seen life)
-        (stmt_of stmt.now) (now_of now) world.old)
+        (λ n. searches.statement (chart_of chart.now) bounds (upto (chart_of chart.now) bounds n)
+        (life_seen life) (stmt_of stmt.now) (now_of now) world.old)
         result world.new }
     ensures fits { FitsChart (chart_of chart.now) world.new }
 {

@@ -52,7 +52,8 @@ fn default_search(
     requires fits { FitsChart (chart_of chart.now) world.old }
     requires state { IsState (chart_of chart.now) s }
     ensures gives { Gives (λ _. tt)
-        (λ n. moves.default_search (chart_of chart.now) (upto (chart_of chart.now) bounds n) s (now_of now) world.old)
+        (λ n. moves.default_search (chart_of chart.now) (upto (chart_of chart.now) bounds n) s
+        (now_of now) world.old)
         result world.new }
     ensures fits { FitsChart (chart_of chart.now) world.new }
 {

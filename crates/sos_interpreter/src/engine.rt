@@ -34,8 +34,8 @@ impl Phase {
     }
 }
 
-/// Runs a chart by the rules. `Memory` may come from a search through junctions, from collecting the
-/// actions of a firing, and from putting an event out.
+/// Runs a chart by the rules. `Memory` may come from a search through junctions, from collecting
+/// the actions of a firing, and from putting an event out.
 #[derive(Drop)]
 pub struct Rules {
     alloc: Global,
@@ -54,10 +54,19 @@ impl Model for Rules {
 
     ghost coded = { Prim.hlevel (codes, e.the_row.coded) };
 
-    ghost view = { λ r. record { chart = r.chart; bounds = r.bounds; world = r.world; stage = stage_of r.phase } };
+    ghost view = { λ r. record {
+      chart = r.chart;
+      bounds = r.bounds;
+      world = r.world;
+      stage = stage_of r.phase;
+    } };
 
-    ghost invariant = { λ r.
-        IsEngine (record { chart = r.chart; bounds = r.bounds; world = r.world; stage = stage_of r.phase }) };
+    ghost invariant = { λ r. IsEngine (record {
+      chart = r.chart;
+      bounds = r.bounds;
+      world = r.world;
+      stage = stage_of r.phase;
+    }) };
 }
 
 impl Rules {

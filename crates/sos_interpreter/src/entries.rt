@@ -70,8 +70,8 @@ fn enter_inside(
     requires state { IsState (chart_of chart.now) s }
     requires to { IsState (chart_of chart.now) d }
     ensures gives { Gives (λ _. tt)
-        (λ n. moves.enter_inside (chart_of chart.now) (upto (chart_of chart.now) bounds n) s d (now_of now)
-        (comp_of (chart_of chart.now).tree s) world.old)
+        (λ n. moves.enter_inside (chart_of chart.now) (upto (chart_of chart.now) bounds n) s d
+        (now_of now) (comp_of (chart_of chart.now).tree s) world.old)
         result world.new }
     ensures fits { FitsChart (chart_of chart.now) world.new }
 {
@@ -97,8 +97,8 @@ fn enter_all(
     requires state { IsState (chart_of chart.now) s }
     requires to { IsState (chart_of chart.now) d }
     ensures gives { Gives (λ _. tt)
-        (λ n. (upto (chart_of chart.now) bounds n).enter_each (children_of (chart_of chart.now).tree s) d (now_of now)
-        world.old)
+        (λ n. (upto (chart_of chart.now) bounds n).enter_each
+        (children_of (chart_of chart.now).tree s) d (now_of now) world.old)
         result world.new }
     ensures fits { FitsChart (chart_of chart.now) world.new }
 {
@@ -125,7 +125,8 @@ pub(crate) fn enter_toward(
     requires state { IsState (chart_of chart.now) s }
     requires to { IsState (chart_of chart.now) d }
     ensures gives { Gives (λ _. tt)
-        (λ n. moves.enter_toward (chart_of chart.now) (upto (chart_of chart.now) bounds n) s d (now_of now) world.old)
+        (λ n. moves.enter_toward (chart_of chart.now) (upto (chart_of chart.now) bounds n) s d
+        (now_of now) world.old)
         result world.new }
     ensures fits { FitsChart (chart_of chart.now) world.new }
 {

@@ -72,8 +72,8 @@ fn exit_children(
     requires fits { FitsChart (chart_of chart.now) world.old }
     requires state { IsState (chart_of chart.now) s }
     ensures gives { Gives (λ _. tt)
-        (λ n. moves.exit_children (chart_of chart.now) (upto (chart_of chart.now) bounds n) s (now_of now)
-        (comp_of (chart_of chart.now).tree s) world.old)
+        (λ n. moves.exit_children (chart_of chart.now) (upto (chart_of chart.now) bounds n) s
+        (now_of now) (comp_of (chart_of chart.now).tree s) world.old)
         result world.new }
     ensures fits { FitsChart (chart_of chart.now) world.new }
 {
@@ -97,7 +97,8 @@ fn exit_all(
     requires fits { FitsChart (chart_of chart.now) world.old }
     requires state { IsState (chart_of chart.now) s }
     ensures gives { Gives (λ _. tt)
-        (λ n. (upto (chart_of chart.now) bounds n).exit_each (reverse (children_of (chart_of chart.now).tree s))
+        (λ n. (upto (chart_of chart.now) bounds n).exit_each
+        (reverse (children_of (chart_of chart.now).tree s))
         (now_of now) world.old)
         result world.new }
     ensures fits { FitsChart (chart_of chart.now) world.new }
@@ -123,7 +124,8 @@ pub(crate) fn exit_active(
     requires fits { FitsChart (chart_of chart.now) world.old }
     requires state { IsState (chart_of chart.now) s }
     ensures gives { Gives (λ _. tt)
-        (λ n. moves.exit_active (chart_of chart.now) (upto (chart_of chart.now) bounds n) s (now_of now) world.old)
+        (λ n. moves.exit_active (chart_of chart.now) (upto (chart_of chart.now) bounds n) s
+        (now_of now) world.old)
         result world.new }
     ensures fits { FitsChart (chart_of chart.now) world.new }
 {

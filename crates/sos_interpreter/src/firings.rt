@@ -32,8 +32,8 @@ pub(crate) fn play(
     requires state { IsState (chart_of chart.now) s }
     requires actions { AreActions (chart_of chart.now) (map (λ a. block_seen a.now) actions.now) }
     ensures gives { Gives (λ e. end_of e)
-        (λ n. (upto (chart_of chart.now) bounds n).play s (map (λ a. block_seen a.now) actions.now) (now_of now)
-        world.old)
+        (λ n. (upto (chart_of chart.now) bounds n).play s (map (λ a. block_seen a.now) actions.now)
+        (now_of now) world.old)
         result world.new }
     ensures fits { FitsChart (chart_of chart.now) world.new }
 {
@@ -67,8 +67,8 @@ pub(crate) fn take(
     requires to { IsState (chart_of chart.now) d }
     requires actions { AreActions (chart_of chart.now) (map (λ a. block_seen a.now) actions.now) }
     ensures gives { Gives (λ _. tt)
-        (λ n. (upto (chart_of chart.now) bounds n).take s d (map (λ a. block_seen a.now) actions.now) (now_of now)
-        world.old)
+        (λ n. (upto (chart_of chart.now) bounds n).take s d
+        (map (λ a. block_seen a.now) actions.now) (now_of now) world.old)
         result world.new }
     ensures fits { FitsChart (chart_of chart.now) world.new }
 {

@@ -77,8 +77,8 @@ fn go_on_inside(
     requires fits { FitsChart (chart_of chart.now) world.old }
     requires state { IsState (chart_of chart.now) s }
     ensures gives { Gives (λ r. went_of r)
-        (λ n. processing.go_on_inside (chart_of chart.now) (upto (chart_of chart.now) bounds n) s (now_of now)
-        world.old)
+        (λ n. processing.go_on_inside (chart_of chart.now) (upto (chart_of chart.now) bounds n) s
+        (now_of now) world.old)
         result world.new }
     ensures fits { FitsChart (chart_of chart.now) world.new }
 {
@@ -125,8 +125,8 @@ fn process_children(
     requires fits { FitsChart (chart_of chart.now) world.old }
     requires state { IsState (chart_of chart.now) s }
     ensures gives { Gives (λ r. went_of r)
-        (λ n. processing.process_children (chart_of chart.now) (upto (chart_of chart.now) bounds n) s (now_of now)
-        (comp_of (chart_of chart.now).tree s) world.old)
+        (λ n. processing.process_children (chart_of chart.now) (upto (chart_of chart.now) bounds n)
+        s (now_of now) (comp_of (chart_of chart.now).tree s) world.old)
         result world.new }
     ensures fits { FitsChart (chart_of chart.now) world.new }
 {
@@ -167,8 +167,8 @@ fn process_all(
     requires fits { FitsChart (chart_of chart.now) world.old }
     requires state { IsState (chart_of chart.now) s }
     ensures gives { Gives (λ r. went_of r)
-        (λ n. (upto (chart_of chart.now) bounds n).process_each (children_of (chart_of chart.now).tree s) (now_of now)
-        world.old)
+        (λ n. (upto (chart_of chart.now) bounds n).process_each
+        (children_of (chart_of chart.now).tree s) (now_of now) world.old)
         result world.new }
     ensures fits { FitsChart (chart_of chart.now) world.new }
 {

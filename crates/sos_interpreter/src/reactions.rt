@@ -23,7 +23,8 @@ pub(crate) fn start(
 ) -> Result<(), Halt>
     requires first { world.old ≡ first_world (chart_of chart.now) }
     requires fits { FitsChart (chart_of chart.now) world.old }
-    ensures defined { AnswersBy (Starts (record { chart = chart_of chart.now; bounds = bounds }) world.new) result }
+    ensures defined { AnswersBy (Starts (record { chart = chart_of chart.now; bounds = bounds })
+        world.new) result }
     ensures fits { FitsChart (chart_of chart.now) world.new }
     ensures fault { IsFaultOf (chart_of chart.now).names (fault_of result) }
 {
@@ -44,8 +45,8 @@ pub(crate) fn react(
     event: Event,
 ) -> Result<(), Halt>
     requires fits { FitsChart (chart_of chart.now) world.old }
-    ensures defined { AnswersBy (Reacts (record { chart = chart_of chart.now; bounds = bounds }) world.old event
-        world.new) result }
+    ensures defined { AnswersBy (Reacts (record { chart = chart_of chart.now; bounds = bounds })
+        world.old event world.new) result }
     ensures fits { FitsChart (chart_of chart.now) world.new }
     ensures fault { IsFaultOf (chart_of chart.now).names (fault_of result) }
 {

@@ -54,7 +54,8 @@ pub(crate) fn search<'a>(
     requires life { IsLife (chart_of chart.now) (life_seen life) }
     requires list { AreTrans (chart_of chart.now) (list_seen list.now) }
     ensures gives { Gives (λ f. found_of f)
-        (λ n. (upto (chart_of chart.now) bounds n).search (life_seen life) (list_seen list.now) (now_of now) world.old)
+        (λ n. (upto (chart_of chart.now) bounds n).search (life_seen life) (list_seen list.now)
+        (now_of now) world.old)
         result world.new }
     ensures fits { FitsChart (chart_of chart.now) world.new }
     ensures found { IfOk result (λ f. IsFound (chart_of chart.now) (found_of f)) }
@@ -106,7 +107,8 @@ pub(crate) fn search<'a>(
 fn enabled(chart: &Chart, world: &LiveWorld, t: &Trans, now: Now) -> Result<bool, Halt>
     requires fits { FitsChart (chart_of chart.now) world.now }
     requires trans { IsTrans (chart_of chart.now) (trans_seen t.now) }
-    ensures { Does (λ b. b) (searches.is_enabled (trans_seen t.now) (now_of now) world.now) result world.now }
+    ensures { Does (λ b. b) (searches.is_enabled (trans_seen t.now) (now_of now) world.now) result
+        world.now }
 {
     if !event_fits(t.event, now.event) {
         return Ok(false);

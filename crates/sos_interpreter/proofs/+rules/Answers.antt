@@ -1,16 +1,11 @@
-use Rattle.std.proofs.Common.{◌≡◌, map, ◌+◌, length, Some, None, true, false, reverse, refl, sym, ap}
+use Rattle.std.proofs.Common.{◌≡◌, map, ◌+◌, length, true, false, refl, sym, ap}
 use Rattle.std.proofs.Common.{◌∙◌, subst, arith}
 use Rattle.std.specs.Prelude.{nat_le, ◌==◌}
-use Rattle.std.specs.List.{AllByRecursion}
 use Rattle.std.proofs.lemmas.Bool.Decides.{nat_tests}
-use Rattle.std.proofs.lemmas.Result.{err_from_is_err_and}
-use Rattle.active_config.specs.Tree.{comp_of, children_of, children_from, children_back_from}
 use Rattle.active_config.specs.Marks.{is_on, is_bare, can_mark}
-use Rattle.active_config.proofs.SiblingLemmas.{children_of-from, children_of-back}
-use Rattle.actions.specs.declared.event.Event.TheVariants.{Named}
-use Rattle.actions.specs.Trees.{expr_of, stmt_of}
-use Rattle.run_work.specs.Work.{Ended, Faulted, Done, Cut, deeper, nothing, if_some}
-use Rattle.sos_interpreter.proofs.Halts.{err_through, err_does, passed, ended_as, settled_at, at_depth, continues_same}
+use Rattle.actions.specs.Trees.{stmt_of}
+use Rattle.run_work.specs.Work.{Ended, Done, nothing, if_some}
+use Rattle.sos_interpreter.proofs.Halts.{failed_through, failed_does, nothing_of, passed, ended_as, settled_at}
 use Rattle.sos_interpreter.proofs.Measure.{visit_falls}
 use Rattle.sos_interpreter.proofs.Paths.{enter_no, enter_fault, enter_cut, enter_done, inside_leaf, inside_or}
 use Rattle.sos_interpreter.proofs.Paths.{inside_each, toward_one, toward_none, default_fault, default_after}
@@ -24,8 +19,7 @@ use Rattle.sos_interpreter.proofs.Paths.{exit_off, exit_children_fault, exit_not
 use Rattle.sos_interpreter.proofs.Paths.{exit_kept, exit_left, exit_active_one, exit_active_none, exit_children_leaf}
 use Rattle.sos_interpreter.proofs.Paths.{exit_children_or, exit_children_and, send_too_deep, send_fault, send_off}
 use Rattle.sos_interpreter.proofs.Paths.{send_on, send_on_fault}
-use Rattle.sos_interpreter.proofs.Places.{Leads, leads_init, leads_skip}
-use Rattle.sos_interpreter.proofs.SearchLemmas.{block_ended, block_faulted, at_first, at_end, guard_faults}
+use Rattle.sos_interpreter.proofs.SearchLemmas.{block_ended, leads_begin, of_none, passes_over, at_end, guard_faults}
 use Rattle.sos_interpreter.proofs.SearchLemmas.{condition_faults, condition_cut, junction_faults, at_dead_end, at_state}
 use Rattle.sos_interpreter.proofs.SearchLemmas.{at_junction, goes_back, finds_nothing, of_parts, of_all, collected}
 use Rattle.sos_interpreter.proofs.SearchLemmas.{collected_are}
@@ -35,14 +29,13 @@ use Rattle.sos_interpreter.proofs.Turns.{play_turn_skip, play_turn_pay_fault, pl
 use Rattle.sos_interpreter.proofs.Turns.{play_turns_end, exit_turn, exit_turn_fault, exit_turns_end, enter_turn}
 use Rattle.sos_interpreter.proofs.Turns.{enter_turn_fault, enter_turns_end, each_turn, each_turn_off, each_turn_fault}
 use Rattle.sos_interpreter.proofs.Turns.{each_turn_out, each_turns_end, empty_is, not_empty, sum_pushed, all_item}
+use Rattle.sos_interpreter.proofs.Turns.{exit_turns_begin, enter_turns_begin, each_turns_begin}
 use Rattle.sos_interpreter.proofs.Uses.{block_uses, pay_done}
 use Rattle.sos_rules.specs.Finds.{AreActions}
-use Rattle.sos_interpreter.specs.Settled.{Settled, Continues}
-use Rattle.sos_interpreter.specs.Views.{life_seen, now_of, end_of, went_of, found_of}
-use Rattle.sos_rules.specs.Parts.{Fire}
-use Rattle.sos_rules.specs.Processing.{process_children}
+use Rattle.sos_interpreter.specs.Settled.{Settled}
+use Rattle.sos_interpreter.specs.Views.{now_of, end_of, went_of, found_of}
 use Rattle.sos_rules.specs.Rules.{upto}
-use Rattle.sos_rules.specs.Searches.{statement}
+use Rattle.sos_rules.specs.Searches.{receiver, receives}
 use Rattle.state_tree.proofs.Walks.{stands_first, stands_next, stands_last, stands_prev, ahead_falls}
 use Rattle.state_tree.specs.Homes.{child_toward}
 use Rattle.state_tree.specs.Kept.{chart_of}
@@ -52,33 +45,29 @@ use Rattle.sos_interpreter.proofs.+rules.Goals as goal
 
 -- ---- blocks and sends
 
-pub blocks::run_block-returns-in_err-statement-clause-gives : goal.blocks::run_block-returns-in_err-statement-clause-gives
+pub blocks::run_block-returns-in_err-statement-clause-gives :
+    goal.blocks::run_block-returns-in_err-statement-clause-gives
 blocks::run_block-returns-in_err-statement-clause-gives t c =
-    let error = err_from_is_err_and c.from_residual.result c.from_residual.ensures.1 in
-    rw (error.1, error.2) (err_through end_of end_of _ _ _ _
-    (λ x h. block_turn_fault (chart_of c.args.chart.now) c.args.bounds (now_of c.args.now) (life_seen c.args.life)
-    c.args.stmts.now c.loop-stmt.stmt-index c.loop-stmt.world _ c.loop-stmt.invariant.goes c.stmt-item.result _ x
-    (omega arith) c.stmt-item.is h) c.in_err-statement.ensures.gives)
+    failed_through end_of _ _ _ _ c.from_residual.ensures.1 c.in_err-statement.ensures.gives
+    (λ x h. block_turn_fault _ _ _ c.args.stmts.now c.loop-stmt.stmt-index c.loop-stmt.invariant.goes
+    (omega arith) c.stmt-item.is h)
 
 pub blocks::run_block-returns-in-Cut-clause-gives : goal.blocks::run_block-returns-in-Cut-clause-gives
 blocks::run_block-returns-in-Cut-clause-gives t c =
-    block_turn_cut (chart_of c.args.chart.now) c.args.bounds (now_of c.args.now) (life_seen c.args.life)
-    c.args.stmts.now c.loop-stmt.stmt-index c.loop-stmt.world _ c.loop-stmt.invariant.goes c.stmt-item.result _
-    (omega arith) c.stmt-item.is (ended_as end_of _ _ c.in-Cut.is c.in_ok-statement.ensures.gives)
+    block_turn_cut _ _ _ c.args.stmts.now c.loop-stmt.stmt-index c.loop-stmt.invariant.goes
+    (omega arith) c.stmt-item.is (ended_as end_of c.in-Cut.is c.in_ok-statement.ensures.gives)
 
 pub blocks::run_block-loop-stmt-preserved : goal.blocks::run_block-loop-stmt-preserved
 blocks::run_block-loop-stmt-preserved t c = record {
   goes =
-      block_turn (chart_of c.args.chart.now) c.args.bounds (now_of c.args.now) (life_seen c.args.life) c.args.stmts.now
-      c.loop-stmt.stmt-index c.loop-stmt.world _ c.loop-stmt.invariant.goes c.stmt-item.result _ (omega arith)
-      c.stmt-item.is (ended_as end_of _ _ c.in-Done.is c.in_ok-statement.ensures.gives);
+      block_turn _ _ _ c.args.stmts.now c.loop-stmt.stmt-index c.loop-stmt.invariant.goes (omega arith)
+      c.stmt-item.is (ended_as end_of c.in-Done.is c.in_ok-statement.ensures.gives);
   fits = c.statement.ensures.fits;
 }
 
 pub blocks::run_block-returns-clause-gives : goal.blocks::run_block-returns-clause-gives
 blocks::run_block-returns-clause-gives t c =
-    block_turns_end (chart_of c.args.chart.now) c.args.bounds (now_of c.args.now) (life_seen c.args.life)
-    c.args.stmts.now c.loop-stmt.stmt-index c.loop-stmt.world _ c.loop-stmt.invariant.goes (omega arith)
+    block_turns_end _ _ _ c.args.stmts.now c.loop-stmt.stmt-index c.loop-stmt.invariant.goes (omega arith)
 
 pub blocks::run_block-statement-requires : goal.blocks::run_block-statement-requires
 blocks::run_block-statement-requires t c = (
@@ -93,224 +82,122 @@ blocks::run_block-statement-requires t c = (
   ),
 )
 
-pub blocks::statement-returns-in_err-assign-in-Assign-clause-gives : goal.blocks::statement-returns-in_err-assign-in-Assign-clause-gives
+pub blocks::statement-returns-in_err-assign-in-Assign-clause-gives :
+    goal.blocks::statement-returns-in_err-assign-in-Assign-clause-gives
 blocks::statement-returns-in_err-assign-in-Assign-clause-gives t c =
-    let chart = chart_of c.args.chart.now in
-    let now = now_of c.args.now in
-    let life = life_seen c.args.life in
-    let error = err_from_is_err_and c.from_residual.result c.from_residual.ensures.1 in
-    rw (error.1, error.2) (err_does {A = Unit {0}} (λ _. tt) end_of _ _ _ _
-    (λ x h. subst (λ s. Settled
-    (λ n. statement chart c.args.bounds (upto chart c.args.bounds n) life (stmt_of s) now c.args.world.now)
-    (Faulted x c.assign.new.self)) (sym c.in-Assign.is)
-    (assign_fault chart c.args.bounds now life c.in-Assign.v (expr_of c.in-Assign.e) c.args.world.now c.assign.new.self
-    x h)) c.in_err-assign-in-Assign.ensures.does)
+    failed_does nothing_of _ _ _ _ c.from_residual.ensures.1 c.in_err-assign-in-Assign.ensures.does
+    (λ x h. assign_fault _ _ _ _ _ (ap stmt_of c.in-Assign.is) h)
 
-pub blocks::statement-returns-in_ok-assign-in-Assign-clause-gives : goal.blocks::statement-returns-in_ok-assign-in-Assign-clause-gives
+pub blocks::statement-returns-in_ok-assign-in-Assign-clause-gives :
+    goal.blocks::statement-returns-in_ok-assign-in-Assign-clause-gives
 blocks::statement-returns-in_ok-assign-in-Assign-clause-gives t c =
-    let chart = chart_of c.args.chart.now in
-    let now = now_of c.args.now in
-    let life = life_seen c.args.life in
-    subst (λ s. Settled
-    (λ n. statement chart c.args.bounds (upto chart c.args.bounds n) life (stmt_of s) now c.args.world.now)
-    (Ended Done c.assign.new.self)) (sym c.in-Assign.is)
-    (assign_done chart c.args.bounds now life c.in-Assign.v (expr_of c.in-Assign.e) c.args.world.now c.assign.new.self
-    c.in_ok-assign-in-Assign.ensures.does)
+    assign_done _ _ _ _ _ (ap stmt_of c.in-Assign.is) c.in_ok-assign-in-Assign.ensures.does
 
-pub blocks::statement-returns-in_err-pay-in-Emit-clause-gives : goal.blocks::statement-returns-in_err-pay-in-Emit-clause-gives
+pub blocks::statement-returns-in_err-pay-in-Emit-clause-gives :
+    goal.blocks::statement-returns-in_err-pay-in-Emit-clause-gives
 blocks::statement-returns-in_err-pay-in-Emit-clause-gives t c =
-    let chart = chart_of c.args.chart.now in
-    let now = now_of c.args.now in
-    let life = life_seen c.args.life in
-    let error =
-    err_from_is_err_and c.from_residual-in_err-pay-in-Emit.result c.from_residual-in_err-pay-in-Emit.ensures.1 in
-    rw (error.1, error.2) (err_does {A = Unit {0}} (λ _. tt) end_of _ _ _ _
-    (λ x h. subst (λ s. Settled
-    (λ n. statement chart c.args.bounds (upto chart c.args.bounds n) life (stmt_of s) now c.args.world.now)
-    (Faulted x c.pay.new.self)) (sym c.in-Emit.is)
-    (emit_fault chart c.args.bounds now life c.in-Emit.e c.args.world.now c.pay.new.self x h))
-    c.in_err-pay-in-Emit.ensures.does)
+    failed_does nothing_of _ _ _ _ c.from_residual-in_err-pay-in-Emit.ensures.1 c.in_err-pay-in-Emit.ensures.does
+    (λ x h. emit_fault _ _ _ _ _ (ap stmt_of c.in-Emit.is) h)
 
-pub blocks::statement-returns-in_err-put_out-in-Emit-clause-gives : goal.blocks::statement-returns-in_err-put_out-in-Emit-clause-gives
+pub blocks::statement-returns-in_err-put_out-in-Emit-clause-gives :
+    goal.blocks::statement-returns-in_err-put_out-in-Emit-clause-gives
 blocks::statement-returns-in_err-put_out-in-Emit-clause-gives t c =
-    let error =
-    err_from_is_err_and c.from_residual-in_err-put_out-in-Emit.result
-    c.from_residual-in_err-put_out-in-Emit.ensures.1 in
-    rw (error.1, error.2)
-    (err_does {A = Unit {0}} (λ _. tt) end_of _ _ _ _ (λ x h. absurd cc) c.in_err-put_out-in-Emit.ensures.does)
+    failed_does nothing_of _ _ _ _ c.from_residual-in_err-put_out-in-Emit.ensures.1
+    c.in_err-put_out-in-Emit.ensures.does
+    (λ x h. absurd cc)
 
-pub blocks::statement-returns-in_ok-put_out-in-Emit-clause-gives : goal.blocks::statement-returns-in_ok-put_out-in-Emit-clause-gives
+pub blocks::statement-returns-in_ok-put_out-in-Emit-clause-gives :
+    goal.blocks::statement-returns-in_ok-put_out-in-Emit-clause-gives
 blocks::statement-returns-in_ok-put_out-in-Emit-clause-gives t c =
-    let chart = chart_of c.args.chart.now in
-    let now = now_of c.args.now in
-    let life = life_seen c.args.life in
-    subst (λ s. Settled
-    (λ n. statement chart c.args.bounds (upto chart c.args.bounds n) life (stmt_of s) now c.args.world.now)
-    (Ended Done c.put_out.new.self)) (sym c.in-Emit.is)
-    (settled_at _ _ _ c.in_ok-put_out-in-Emit.ensures.does
-    (emit_done chart c.args.bounds now life c.in-Emit.e c.args.world.now c.pay.new.self
-    c.in_ok-pay-in-Emit.ensures.does))
+    settled_at c.in_ok-put_out-in-Emit.ensures.does
+    (emit_done _ _ _ _ _ (ap stmt_of c.in-Emit.is) c.in_ok-pay-in-Emit.ensures.does)
 
-pub blocks::statement-returns-in_err-send-in-Send-clause-gives : goal.blocks::statement-returns-in_err-send-in-Send-clause-gives
+pub blocks::statement-returns-in_err-send-in-Send-clause-gives :
+    goal.blocks::statement-returns-in_err-send-in-Send-clause-gives
 blocks::statement-returns-in_err-send-in-Send-clause-gives t c =
-    let chart = chart_of c.args.chart.now in
-    let now = now_of c.args.now in
-    let life = life_seen c.args.life in
-    let error =
-    err_from_is_err_and c.from_residual-in_err-send-in-Send.result c.from_residual-in_err-send-in-Send.ensures.1 in
-    rw (error.1, error.2) (err_through {A = Unit {0}} (λ _. tt) end_of _ _ _ _
-    (λ x h. subst (λ s. Settled
-    (λ n. statement chart c.args.bounds (upto chart c.args.bounds n) life (stmt_of s) now c.args.world.now)
-    (Faulted x c.send.new.world)) (sym c.in-Send.is)
-    (sent_fault chart c.args.bounds now life c.in-Send.e None c.args.world.now c.send.new.world x h))
-    c.in_err-send-in-Send.ensures.gives)
+    failed_through nothing_of _ _ _ _ c.from_residual-in_err-send-in-Send.ensures.1 c.in_err-send-in-Send.ensures.gives
+    (λ x h. sent_fault _ _ _ _ h (ap stmt_of c.in-Send.is))
 
-pub blocks::statement-returns-in_ok-send-in-Send-clause-gives : goal.blocks::statement-returns-in_ok-send-in-Send-clause-gives
+pub blocks::statement-returns-in_ok-send-in-Send-clause-gives :
+    goal.blocks::statement-returns-in_ok-send-in-Send-clause-gives
 blocks::statement-returns-in_ok-send-in-Send-clause-gives t c =
-    let chart = chart_of c.args.chart.now in
-    let now = now_of c.args.now in
-    let life = life_seen c.args.life in
-    subst (λ s. Settled
-    (λ n. statement chart c.args.bounds (upto chart c.args.bounds n) life (stmt_of s) now c.args.world.now)
-    (Ended (end_of c.alive.result) c.send.new.world)) (sym c.in-Send.is)
-    (sent_ends chart c.args.bounds now life c.in-Send.e None c.args.world.now c.send.new.world _
-    c.in_ok-send-in-Send.ensures.gives c.alive.ensures)
+    sent_ends _ _ _ _ c.in_ok-send-in-Send.ensures.gives (ap stmt_of c.in-Send.is) c.alive.ensures
 
-pub blocks::statement-returns-in_err-send-in-SendTo-clause-gives : goal.blocks::statement-returns-in_err-send-in-SendTo-clause-gives
+pub blocks::statement-returns-in_err-send-in-SendTo-clause-gives :
+    goal.blocks::statement-returns-in_err-send-in-SendTo-clause-gives
 blocks::statement-returns-in_err-send-in-SendTo-clause-gives t c =
-    let chart = chart_of c.args.chart.now in
-    let now = now_of c.args.now in
-    let life = life_seen c.args.life in
-    let error =
-    err_from_is_err_and c.from_residual-in_err-send-in-SendTo.result c.from_residual-in_err-send-in-SendTo.ensures.1 in
-    rw (error.1, error.2) (err_through {A = Unit {0}} (λ _. tt) end_of _ _ _ _
-    (λ x h. subst (λ s. Settled
-    (λ n. statement chart c.args.bounds (upto chart c.args.bounds n) life (stmt_of s) now c.args.world.now)
-    (Faulted x c.send-in-SendTo.new.world)) (sym c.in-SendTo.is)
-    (sent_fault chart c.args.bounds now life c.in-SendTo.e (Some c.in-SendTo.s) c.args.world.now
-    c.send-in-SendTo.new.world x h)) c.in_err-send-in-SendTo.ensures.gives)
+    failed_through nothing_of _ _ _ _ c.from_residual-in_err-send-in-SendTo.ensures.1
+    c.in_err-send-in-SendTo.ensures.gives
+    (λ x h. sent_fault _ _ _ _ h (ap stmt_of c.in-SendTo.is))
 
-pub blocks::statement-returns-in_ok-send-in-SendTo-clause-gives : goal.blocks::statement-returns-in_ok-send-in-SendTo-clause-gives
+pub blocks::statement-returns-in_ok-send-in-SendTo-clause-gives :
+    goal.blocks::statement-returns-in_ok-send-in-SendTo-clause-gives
 blocks::statement-returns-in_ok-send-in-SendTo-clause-gives t c =
-    let chart = chart_of c.args.chart.now in
-    let now = now_of c.args.now in
-    let life = life_seen c.args.life in
-    subst (λ s. Settled
-    (λ n. statement chart c.args.bounds (upto chart c.args.bounds n) life (stmt_of s) now c.args.world.now)
-    (Ended (end_of c.alive-in-SendTo.result) c.send-in-SendTo.new.world)) (sym c.in-SendTo.is)
-    (sent_ends chart c.args.bounds now life c.in-SendTo.e (Some c.in-SendTo.s) c.args.world.now
-    c.send-in-SendTo.new.world _ c.in_ok-send-in-SendTo.ensures.gives c.alive-in-SendTo.ensures)
+    sent_ends _ _ _ _ c.in_ok-send-in-SendTo.ensures.gives (ap stmt_of c.in-SendTo.is) c.alive-in-SendTo.ensures
 
 pub blocks::send-returns-then-now-bounds-clause-gives : goal.blocks::send-returns-then-now-bounds-clause-gives
 blocks::send-returns-then-now-bounds-clause-gives t c =
     let deep : nat_le c.args.bounds.depth c.args.now.depth ≡ true = grind (arith, nat_tests) in
-    send_too_deep (chart_of c.args.chart.now) c.args.bounds (now_of c.args.now) c.args.e c.args.to c.args.world.now deep
+    send_too_deep _ _ _ deep
 
 pub blocks::send-returns-in_err-pay-clause-gives : goal.blocks::send-returns-in_err-pay-clause-gives
 blocks::send-returns-in_err-pay-clause-gives t c =
-    let error = err_from_is_err_and c.from_residual.result c.from_residual.ensures.1 in
-    rw (error.1, error.2) (err_does {A = Unit {0}} {A' = Unit {0}} (λ _. tt) (λ _. tt) _ _ _ _
-    (λ x h.
+    failed_does nothing_of _ _ _ _ c.from_residual.ensures.1 c.in_err-pay.ensures.does (λ x h.
     let deep : nat_le c.args.bounds.depth c.args.now.depth ≡ false = grind (arith, nat_tests) in
-    send_fault (chart_of c.args.chart.now) c.args.bounds (now_of c.args.now) c.args.e c.args.to c.args.world.now _ x
-    deep h) c.in_err-pay.ensures.does)
+    send_fault _ _ _ deep h)
 
-pub blocks::send-returns-in_err-process-in-None-clause-gives : goal.blocks::send-returns-in_err-process-in-None-clause-gives
+pub blocks::send-returns-in_err-process-in-None-clause-gives :
+    goal.blocks::send-returns-in_err-process-in-None-clause-gives
 blocks::send-returns-in_err-process-in-None-clause-gives t c =
-    let chart = chart_of c.args.chart.now in
-    let now = now_of c.args.now in
-    let error =
-    err_from_is_err_and c.from_residual-in_err-process-in-None.result
-    c.from_residual-in_err-process-in-None.ensures.1 in
-    rw (error.1, error.2) (err_through {A' = Unit {0}} went_of (λ _. tt) _ _ _ _
+    failed_through went_of _ _ _ _ c.from_residual-in_err-process-in-None.ensures.1
+    c.in_err-process-in-None.ensures.gives
     (λ x h.
     let deep : nat_le c.args.bounds.depth c.args.now.depth ≡ false = grind (arith, nat_tests) in
-    subst (λ o. Settled (λ n. (upto chart c.args.bounds n).send c.args.e o now c.args.world.now)
-    (Faulted x c.process.new.world)) (sym c.in-None.is)
-    (send_on_fault chart c.args.bounds now c.args.e None c.args.world.now c.pay.new.self c.process.new.world x deep
-    c.in_ok-pay.ensures.does refl (subst (λ s. Settled
-    (λ n. (upto chart c.args.bounds n).process s (deeper c.args.e now) c.pay.new.self) (Faulted x c.process.new.world))
-    c.root.ensures.root (at_depth (λ d n. (upto chart c.args.bounds n).process c.root.result
-    (record { event = Named c.args.e; depth = d }) c.pay.new.self) c.args.now.depth _ h))))
-    c.in_err-process-in-None.ensures.gives)
+    send_on_fault _ _ _ deep c.in_ok-pay.ensures.does (ap (λ o. receives o c.pay.new.self) c.in-None.is)
+    (c.root.ensures.root ∙ ap receiver (sym c.in-None.is)) (omega arith) h)
 
-pub blocks::send-returns-in_ok-process-in-None-clause-gives : goal.blocks::send-returns-in_ok-process-in-None-clause-gives
+pub blocks::send-returns-in_ok-process-in-None-clause-gives :
+    goal.blocks::send-returns-in_ok-process-in-None-clause-gives
 blocks::send-returns-in_ok-process-in-None-clause-gives t c =
-    let chart = chart_of c.args.chart.now in
-    let now = now_of c.args.now in
     let deep : nat_le c.args.bounds.depth c.args.now.depth ≡ false = grind (arith, nat_tests) in
-    subst (λ o. Settled (λ n. (upto chart c.args.bounds n).send c.args.e o now c.args.world.now)
-    (Ended tt c.process.new.world)) (sym c.in-None.is)
-    (send_on chart c.args.bounds now c.args.e None c.args.world.now c.pay.new.self c.process.new.world _ deep
-    c.in_ok-pay.ensures.does refl (subst (λ s. Settled
-    (λ n. (upto chart c.args.bounds n).process s (deeper c.args.e now) c.pay.new.self)
-    (Ended (went_of c.in_ok-process-in-None.field-0) c.process.new.world)) c.root.ensures.root
-    (at_depth (λ d n. (upto chart c.args.bounds n).process c.root.result (record { event = Named c.args.e; depth = d })
-    c.pay.new.self) c.args.now.depth _ c.in_ok-process-in-None.ensures.gives)))
+    send_on _ _ _ deep c.in_ok-pay.ensures.does (ap (λ o. receives o c.pay.new.self) c.in-None.is)
+    (c.root.ensures.root ∙ ap receiver (sym c.in-None.is)) (omega arith) c.in_ok-process-in-None.ensures.gives
 
 pub blocks::send-returns-then-not-on-clause-gives : goal.blocks::send-returns-then-not-on-clause-gives
 blocks::send-returns-then-not-on-clause-gives t c =
-    let chart = chart_of c.args.chart.now in
-    let now = now_of c.args.now in
     let deep : nat_le c.args.bounds.depth c.args.now.depth ≡ false = grind (arith, nat_tests) in
     let off : is_on c.in-Some.s c.pay.new.self.marks ≡ false = cc in
-    subst (λ o. Settled (λ n. (upto chart c.args.bounds n).send c.args.e o now c.args.world.now)
-    (Ended tt c.pay.new.self)) (sym c.in-Some.is)
-    (send_off chart c.args.bounds now c.args.e (Some c.in-Some.s) c.args.world.now c.pay.new.self deep
-    c.in_ok-pay.ensures.does off)
+    send_off _ _ _ deep c.in_ok-pay.ensures.does (ap (λ o. receives o c.pay.new.self) c.in-Some.is ∙ off)
 
-pub blocks::send-returns-in_err-process-in-Some-clause-gives : goal.blocks::send-returns-in_err-process-in-Some-clause-gives
+pub blocks::send-returns-in_err-process-in-Some-clause-gives :
+    goal.blocks::send-returns-in_err-process-in-Some-clause-gives
 blocks::send-returns-in_err-process-in-Some-clause-gives t c =
-    let chart = chart_of c.args.chart.now in
-    let now = now_of c.args.now in
-    let error =
-    err_from_is_err_and c.from_residual-in_err-process-in-Some.result
-    c.from_residual-in_err-process-in-Some.ensures.1 in
-    rw (error.1, error.2) (err_through {A' = Unit {0}} went_of (λ _. tt) _ _ _ _
+    failed_through went_of _ _ _ _ c.from_residual-in_err-process-in-Some.ensures.1
+    c.in_err-process-in-Some.ensures.gives
     (λ x h.
     let deep : nat_le c.args.bounds.depth c.args.now.depth ≡ false = grind (arith, nat_tests) in
     let on : is_on c.in-Some.s c.pay.new.self.marks ≡ true = cc in
-    subst (λ o. Settled (λ n. (upto chart c.args.bounds n).send c.args.e o now c.args.world.now)
-    (Faulted x c.process-in-Some.new.world)) (sym c.in-Some.is)
-    (send_on_fault chart c.args.bounds now c.args.e (Some c.in-Some.s) c.args.world.now c.pay.new.self
-    c.process-in-Some.new.world x deep c.in_ok-pay.ensures.does on
-    (at_depth (λ d n. (upto chart c.args.bounds n).process c.in-Some.s (record { event = Named c.args.e; depth = d })
-    c.pay.new.self) c.args.now.depth _ h))) c.in_err-process-in-Some.ensures.gives)
+    send_on_fault _ _ _ deep c.in_ok-pay.ensures.does (ap (λ o. receives o c.pay.new.self) c.in-Some.is ∙ on)
+    (ap receiver (sym c.in-Some.is)) (omega arith) h)
 
-pub blocks::send-returns-in_ok-process-in-Some-clause-gives : goal.blocks::send-returns-in_ok-process-in-Some-clause-gives
+pub blocks::send-returns-in_ok-process-in-Some-clause-gives :
+    goal.blocks::send-returns-in_ok-process-in-Some-clause-gives
 blocks::send-returns-in_ok-process-in-Some-clause-gives t c =
-    let chart = chart_of c.args.chart.now in
-    let now = now_of c.args.now in
     let deep : nat_le c.args.bounds.depth c.args.now.depth ≡ false = grind (arith, nat_tests) in
     let on : is_on c.in-Some.s c.pay.new.self.marks ≡ true = cc in
-    subst (λ o. Settled (λ n. (upto chart c.args.bounds n).send c.args.e o now c.args.world.now)
-    (Ended tt c.process-in-Some.new.world)) (sym c.in-Some.is)
-    (send_on chart c.args.bounds now c.args.e (Some c.in-Some.s) c.args.world.now c.pay.new.self
-    c.process-in-Some.new.world _ deep c.in_ok-pay.ensures.does on
-    (at_depth (λ d n. (upto chart c.args.bounds n).process c.in-Some.s (record { event = Named c.args.e; depth = d })
-    c.pay.new.self) c.args.now.depth _ c.in_ok-process-in-Some.ensures.gives))
+    send_on _ _ _ deep c.in_ok-pay.ensures.does (ap (λ o. receives o c.pay.new.self) c.in-Some.is ∙ on)
+    (ap receiver (sym c.in-Some.is)) (omega arith) c.in_ok-process-in-Some.ensures.gives
 
 -- ---- searches
 
 pub searches::search-loop-places-init : goal.searches::search-loop-places-init
-searches::search-loop-places-init t c =
-    let chart = chart_of c.args.chart.now in
-    let now = now_of c.args.now in
-    let life = life_seen c.args.life in
-    record {
-      leads =
-          subst (λ ps. Leads chart c.args.bounds life now ps (list_seen c.args.list.now) c.args.world.now
-          (list_seen c.args.list.now) c.args.world.now) (sym c.new-places.ensures.items)
-          (leads_init chart c.args.bounds life now (list_seen c.args.list.now) c.args.world.now);
-      fits = c.requires.fits;
-      rest = c.requires.list;
-      rests =
-          subst (λ ps. AllByRecursion (λ p. AreTrans chart (list_seen p.rest.now)) ps) (sym c.new-places.ensures.items)
-          tt;
-      actions =
-          subst (λ ps. AllByRecursion (λ p. AreStmts chart (block_seen p.action.now)) ps)
-          (sym c.new-places.ensures.items) tt;
-    }
+searches::search-loop-places-init t c = record {
+  leads = leads_begin c.new-places.ensures.items;
+  fits = c.requires.fits;
+  rest = c.requires.list;
+  rests = of_none _ c.new-places.ensures.items;
+  actions = of_none _ c.new-places.ensures.items;
+}
 
 pub searches::search-returns-in-None-pop-clause-gives : goal.searches::search-returns-in-None-pop-clause-gives
 searches::search-returns-in-None-pop-clause-gives t c =
@@ -336,29 +223,24 @@ searches::search-loop-places-preserved-in-Some-pop t c =
       actions = actions.0;
     }
 
-pub searches::search-returns-in_err-enabled-in-Some-clause-gives : goal.searches::search-returns-in_err-enabled-in-Some-clause-gives
+pub searches::search-returns-in_err-enabled-in-Some-clause-gives :
+    goal.searches::search-returns-in_err-enabled-in-Some-clause-gives
 searches::search-returns-in_err-enabled-in-Some-clause-gives t c =
-    let error = err_from_is_err_and c.from_residual.result c.from_residual.ensures.1 in
-    rw (error.1, error.2) (err_does (λ b. b) found_of _ _ _ _
-    (λ x h. guard_faults (at_first c.in-Some.ensures.cases.0 c.loop-places.invariant.leads) h)
-    c.in_err-enabled-in-Some.ensures)
+    failed_does (λ b. b) _ _ _ _ c.from_residual.ensures.1 c.in_err-enabled-in-Some.ensures
+    (λ x h. guard_faults c.in-Some.ensures.cases.0 c.loop-places.invariant.leads h)
 
-pub searches::search-returns-in_err-run_block-in-Some-clause-gives : goal.searches::search-returns-in_err-run_block-in-Some-clause-gives
+pub searches::search-returns-in_err-run_block-in-Some-clause-gives :
+    goal.searches::search-returns-in_err-run_block-in-Some-clause-gives
 searches::search-returns-in_err-run_block-in-Some-clause-gives t c =
-    let error =
-    err_from_is_err_and c.from_residual-in_err-run_block-in-Some.result
-    c.from_residual-in_err-run_block-in-Some.ensures.1 in
-    let leads = at_first c.in-Some.ensures.cases.0 c.loop-places.invariant.leads in
-    let enabled = c.in_ok-enabled-in-Some.ensures ∙ ap (λ z. Ended z c.loop-places.world) c.if-branch.true in
-    rw (error.1, error.2) (err_through end_of found_of _ _ _ _
-    (λ x h. condition_faults leads enabled (block_faulted _ _ c.items.ensures h))
-    c.in_err-run_block-in-Some.ensures.gives)
+    failed_through end_of _ _ _ _ c.from_residual-in_err-run_block-in-Some.ensures.1
+    c.in_err-run_block-in-Some.ensures.gives
+    (λ x h. condition_faults c.in-Some.ensures.cases.0 c.loop-places.invariant.leads
+    c.in_ok-enabled-in-Some.ensures c.if-branch.true c.items.ensures h)
 
 pub searches::search-returns-in-Cut-clause-gives : goal.searches::search-returns-in-Cut-clause-gives
 searches::search-returns-in-Cut-clause-gives t c =
-    let leads = at_first c.in-Some.ensures.cases.0 c.loop-places.invariant.leads in
-    let enabled = c.in_ok-enabled-in-Some.ensures ∙ ap (λ z. Ended z c.loop-places.world) c.if-branch.true in
-    condition_cut leads enabled (block_ended _ _ c.items.ensures c.in-Cut.is c.in_ok-run_block-in-Some.ensures.gives)
+    condition_cut c.in-Some.ensures.cases.0 c.loop-places.invariant.leads
+    c.in_ok-enabled-in-Some.ensures c.if-branch.true c.items.ensures c.in-Cut.is c.in_ok-run_block-in-Some.ensures.gives
 
 pub searches::search-returns-in-State-clause-found : goal.searches::search-returns-in-State-clause-found
 searches::search-returns-in-State-clause-found t c =
@@ -370,50 +252,47 @@ searches::search-returns-in-State-clause-found t c =
           (collected_are chart c.loop-places.places.items _ c.loop-places.invariant.actions list.0.action.stmts),
     )
 
-pub searches::search-returns-in_err-pay-in-Junction-clause-gives : goal.searches::search-returns-in_err-pay-in-Junction-clause-gives
+pub searches::search-returns-in_err-pay-in-Junction-clause-gives :
+    goal.searches::search-returns-in_err-pay-in-Junction-clause-gives
 searches::search-returns-in_err-pay-in-Junction-clause-gives t c =
-    let error =
-    err_from_is_err_and c.from_residual-in_err-pay-in-Junction.result
-    c.from_residual-in_err-pay-in-Junction.ensures.1 in
-    let leads = at_first c.in-Some.ensures.cases.0 c.loop-places.invariant.leads in
-    let enabled = c.in_ok-enabled-in-Some.ensures ∙ ap (λ z. Ended z c.loop-places.world) c.if-branch.true in
-    let done = block_ended _ _ c.items.ensures c.in-Done.is c.in_ok-run_block-in-Some.ensures.gives in
-    rw (error.1, error.2) (err_does {A = Unit {0}} (λ _. tt) found_of _ _ _ _
-    (λ x h. junction_faults leads enabled done (sym c.in-Junction.is) h) c.in_err-pay-in-Junction.ensures.does)
+    failed_does nothing_of _ _ _ _ c.from_residual-in_err-pay-in-Junction.ensures.1
+    c.in_err-pay-in-Junction.ensures.does
+    (λ x h. junction_faults c.in-Some.ensures.cases.0 c.loop-places.invariant.leads
+    c.in_ok-enabled-in-Some.ensures c.if-branch.true c.items.ensures c.in-Done.is
+    c.in_ok-run_block-in-Some.ensures.gives (sym c.in-Junction.is) h)
 
 pub searches::search-returns-then-is_empty-clause-gives : goal.searches::search-returns-then-is_empty-clause-gives
 searches::search-returns-then-is_empty-clause-gives t c =
-    let leads = at_first c.in-Some.ensures.cases.0 c.loop-places.invariant.leads in
-    let enabled = c.in_ok-enabled-in-Some.ensures ∙ ap (λ z. Ended z c.loop-places.world) c.if-branch.true in
-    let done = block_ended _ _ c.items.ensures c.in-Done.is c.in_ok-run_block-in-Some.ensures.gives in
     let none =
     sym (ap list_seen (empty_is c.junction-next.result.now (grind (arith, nat_tests))))
     ∙ c.junction-next.ensures.list in
-    at_dead_end leads enabled done (sym c.in-Junction.is) c.in_ok-pay-in-Junction.ensures.does none
+    at_dead_end c.in-Some.ensures.cases.0 c.loop-places.invariant.leads
+    c.in_ok-enabled-in-Some.ensures c.if-branch.true c.items.ensures c.in-Done.is
+    c.in_ok-run_block-in-Some.ensures.gives (sym c.in-Junction.is) c.in_ok-pay-in-Junction.ensures.does none
 
 pub searches::search-loop-places-smaller-in-Junction : goal.searches::search-loop-places-smaller-in-Junction
 searches::search-loop-places-smaller-in-Junction t c =
-    let done = block_ended _ _ c.items.ensures c.in-Done.is c.in_ok-run_block-in-Some.ensures.gives in
     let paid = pay_done c.args.bounds c.run_block.new.world _ c.in_ok-pay-in-Junction.ensures.does in
     visit_falls c.args.bounds.steps c.loop-places.world.used c.run_block.new.world.used _ _
     (length c.in-Some.others.now) _ _ _
-    (block_uses _ c.junction-next.ensures.tree c.args.bounds _ _ _ c.loop-places.world c.run_block.new.world Done done)
+    (block_uses _ c.junction-next.ensures.tree c.args.bounds _ _ _ c.loop-places.world c.run_block.new.world Done
+    (block_ended _ _ c.items.ensures c.in-Done.is c.in_ok-run_block-in-Some.ensures.gives))
     paid.0 paid.1 (omega (arith, c.in-Some.ensures.cases.1)) c.junction-next.ensures.short
     (sum_pushed (λ p. length p.rest.now + 1) _ c.loop-places.places.items _ c.in_ok-push_place-in-Junction.ensures.ok)
 
 pub searches::search-loop-places-preserved-in-Junction : goal.searches::search-loop-places-preserved-in-Junction
 searches::search-loop-places-preserved-in-Junction t c =
     let chart = chart_of c.args.chart.now in
-    let leads = at_first c.in-Some.ensures.cases.0 c.loop-places.invariant.leads in
-    let enabled = c.in_ok-enabled-in-Some.ensures ∙ ap (λ z. Ended z c.loop-places.world) c.if-branch.true in
-    let done = block_ended _ _ c.items.ensures c.in-Done.is c.in_ok-run_block-in-Some.ensures.gives in
     let list = subst (λ xs. AreTrans chart (list_seen xs)) c.in-Some.ensures.cases.0 c.loop-places.invariant.rest in
     let some = not_empty trans_seen c.junction-next.result.now (grind (arith, nat_tests)) in
     let pushed = c.in_ok-push_place-in-Junction.ensures.ok in
     record {
       leads =
-          at_junction leads enabled done _ pushed refl (ap block_seen c.items-in-Junction.ensures)
-          (sym c.in-Junction.is) c.in_ok-pay-in-Junction.ensures.does c.junction-next.ensures.list some;
+          at_junction c.in-Some.ensures.cases.0 c.loop-places.invariant.leads
+          c.in_ok-enabled-in-Some.ensures c.if-branch.true c.items.ensures c.in-Done.is
+          c.in_ok-run_block-in-Some.ensures.gives
+          _ pushed refl (ap block_seen c.items-in-Junction.ensures) (sym c.in-Junction.is)
+          c.in_ok-pay-in-Junction.ensures.does c.junction-next.ensures.list some;
       fits = c.pay.ensures.fits;
       rest = c.junction-next.ensures.valid;
       rests = of_all (λ p. AreTrans chart (list_seen p.rest.now)) _ _ pushed c.loop-places.invariant.rests list.1;
@@ -424,13 +303,13 @@ searches::search-loop-places-preserved-in-Junction t c =
 
 pub searches::search-loop-places-preserved : goal.searches::search-loop-places-preserved
 searches::search-loop-places-preserved t c =
-    let leads = at_first c.in-Some.ensures.cases.0 c.loop-places.invariant.leads in
     let list =
     subst (λ xs. AreTrans (chart_of c.args.chart.now) (list_seen xs)) c.in-Some.ensures.cases.0
     c.loop-places.invariant.rest in
-    let disabled = c.in_ok-enabled-in-Some.ensures ∙ ap (λ z. Ended z c.loop-places.world) c.if-branch.false in
     record {
-      leads = leads_skip _ _ _ _ c.loop-places.places.items c.loop-places.world _ _ _ _ leads disabled;
+      leads =
+          passes_over c.in-Some.ensures.cases.0 c.loop-places.invariant.leads c.in_ok-enabled-in-Some.ensures
+          c.if-branch.false;
       fits = c.loop-places.invariant.fits;
       rest = list.1;
       rests = c.loop-places.invariant.rests;
@@ -439,59 +318,47 @@ searches::search-loop-places-preserved t c =
 
 pub searches::search-returns-in-State-clause-gives : goal.searches::search-returns-in-State-clause-gives
 searches::search-returns-in-State-clause-gives t c =
-    let leads = at_first c.in-Some.ensures.cases.0 c.loop-places.invariant.leads in
-    let enabled = c.in_ok-enabled-in-Some.ensures ∙ ap (λ z. Ended z c.loop-places.world) c.if-branch.true in
-    let done = block_ended _ _ c.items.ensures c.in-Done.is c.in_ok-run_block-in-Some.ensures.gives in
-    subst (λ a. Settled (λ n. (upto (chart_of c.args.chart.now) c.args.bounds n).search (life_seen c.args.life)
-    (list_seen c.args.list.now) (now_of c.args.now) c.args.world.now)
-    (Ended (Fire c.in-State.d a) c.run_block.new.world))
-    (sym (collected c.in_ok-actions-in-State.ensures.ok c.deref.ensures.value c.items-in-State.ensures))
-    (at_state leads enabled done (sym c.in-State.is))
+    at_state c.in-Some.ensures.cases.0 c.loop-places.invariant.leads
+    c.in_ok-enabled-in-Some.ensures c.if-branch.true c.items.ensures c.in-Done.is
+    c.in_ok-run_block-in-Some.ensures.gives (sym c.in-State.is)
+    (collected c.in_ok-actions-in-State.ensures.ok c.deref.ensures.value c.items-in-State.ensures)
 
 -- ---- leaving
 
 pub exits::exit-returns-then-not-on-clause-gives : goal.exits::exit-returns-then-not-on-clause-gives
 exits::exit-returns-then-not-on-clause-gives t c =
     let off : is_on c.args.s c.args.world.now.marks ≡ false = cc in
-    exit_off (chart_of c.args.chart.now) c.args.bounds (now_of c.args.now) c.args.s c.args.world.now off
+    exit_off _ _ _ off
 
 pub exits::exit-returns-in_err-exit_children-clause-gives : goal.exits::exit-returns-in_err-exit_children-clause-gives
 exits::exit-returns-in_err-exit_children-clause-gives t c =
-    let error = err_from_is_err_and c.from_residual.result c.from_residual.ensures.1 in
-    rw (error.1, error.2) (err_through {A = Unit {0}} {A' = Unit {0}} (λ _. tt) (λ _. tt) _ _ _ _
-    (λ x h.
+    failed_through nothing_of _ _ _ _ c.from_residual.ensures.1 c.in_err-exit_children.ensures.gives (λ x h.
     let on : is_on c.args.s c.args.world.now.marks ≡ true = cc in
-    exit_children_fault (chart_of c.args.chart.now) c.args.bounds (now_of c.args.now) c.args.s c.args.world.now _ x on
-    h) c.in_err-exit_children.ensures.gives)
+    exit_children_fault _ _ _ on h)
 
 pub exits::exit-returns-then-not-bare-clause-gives : goal.exits::exit-returns-then-not-bare-clause-gives
 exits::exit-returns-then-not-bare-clause-gives t c =
     let chart = chart_of c.args.chart.now in
     let on : is_on c.args.s c.args.world.now.marks ≡ true = cc in
     let bare : is_bare chart.tree c.args.s c.exit_children.new.world.marks ≡ false = cc in
-    exit_not_bare chart c.args.bounds (now_of c.args.now) c.args.s c.args.world.now _ on
-    c.in_ok-exit_children.ensures.gives bare
+    exit_not_bare _ _ _ on c.in_ok-exit_children.ensures.gives bare
 
 pub exits::exit-returns-in_err-run_block-clause-gives : goal.exits::exit-returns-in_err-run_block-clause-gives
 exits::exit-returns-in_err-run_block-clause-gives t c =
     let chart = chart_of c.args.chart.now in
-    let error =
-    err_from_is_err_and c.from_residual-in_err-run_block.result c.from_residual-in_err-run_block.ensures.1 in
-    rw (error.1, error.2) (err_through {A' = Unit {0}} end_of (λ _. tt) _ _ _ _
+    failed_through end_of _ _ _ _ c.from_residual-in_err-run_block.ensures.1 c.in_err-run_block.ensures.gives
     (λ x h.
     let on : is_on c.args.s c.args.world.now.marks ≡ true = cc in
     let bare : is_bare chart.tree c.args.s c.exit_children.new.world.marks ≡ true = cc in
-    exit_block_fault chart c.args.bounds (now_of c.args.now) c.args.s _ c.args.world.now c.exit_children.new.world _ x
-    c.block.ensures.block on c.in_ok-exit_children.ensures.gives bare h) c.in_err-run_block.ensures.gives)
+    exit_block_fault _ _ _ c.block.ensures.block on c.in_ok-exit_children.ensures.gives bare h)
 
 pub exits::exit-returns-in-Cut-clause-gives : goal.exits::exit-returns-in-Cut-clause-gives
 exits::exit-returns-in-Cut-clause-gives t c =
     let chart = chart_of c.args.chart.now in
     let on : is_on c.args.s c.args.world.now.marks ≡ true = cc in
     let bare : is_bare chart.tree c.args.s c.exit_children.new.world.marks ≡ true = cc in
-    exit_cut chart c.args.bounds (now_of c.args.now) c.args.s _ c.args.world.now c.exit_children.new.world _
-    c.block.ensures.block on c.in_ok-exit_children.ensures.gives bare
-    (ended_as end_of _ _ c.in-Cut.is c.in_ok-run_block.ensures.gives)
+    exit_cut _ _ _ c.block.ensures.block on c.in_ok-exit_children.ensures.gives bare
+    (ended_as end_of c.in-Cut.is c.in_ok-run_block.ensures.gives)
 
 pub exits::exit-returns-else-bare-clause-gives : goal.exits::exit-returns-else-bare-clause-gives
 exits::exit-returns-else-bare-clause-gives t c =
@@ -499,9 +366,8 @@ exits::exit-returns-else-bare-clause-gives t c =
     let on : is_on c.args.s c.args.world.now.marks ≡ true = cc in
     let bare : is_bare chart.tree c.args.s c.exit_children.new.world.marks ≡ true = cc in
     let off : is_bare chart.tree c.args.s c.run_block.new.world.marks ≡ false = cc in
-    exit_kept chart c.args.bounds (now_of c.args.now) c.args.s _ c.args.world.now c.exit_children.new.world _
-    c.block.ensures.block on c.in_ok-exit_children.ensures.gives bare
-    (ended_as end_of _ _ c.in-Done.is c.in_ok-run_block.ensures.gives) off
+    exit_kept _ _ _ c.block.ensures.block on c.in_ok-exit_children.ensures.gives bare
+    (ended_as end_of c.in-Done.is c.in_ok-run_block.ensures.gives) off
 
 pub exits::exit-returns-then-bare-clause-gives : goal.exits::exit-returns-then-bare-clause-gives
 exits::exit-returns-then-bare-clause-gives t c =
@@ -511,47 +377,35 @@ exits::exit-returns-then-bare-clause-gives t c =
     let bare : is_bare chart.tree c.args.s c.exit_children.new.world.marks ≡ true = cc in
     let off : is_bare chart.tree c.args.s c.run_block.new.world.marks ≡ true = cc in
     subst (λ v. Settled (λ n. (upto chart c.args.bounds n).exit c.args.s now c.args.world.now) (Ended tt v))
-    (sym c.clear.ensures.cleared) (exit_left chart c.args.bounds now c.args.s _ c.args.world.now
-    c.exit_children.new.world _ c.block.ensures.block on c.in_ok-exit_children.ensures.gives bare
-    (ended_as end_of _ _ c.in-Done.is c.in_ok-run_block.ensures.gives) off)
+    (sym c.clear.ensures.cleared) (exit_left _ _ _ c.block.ensures.block on c.in_ok-exit_children.ensures.gives bare
+    (ended_as end_of c.in-Done.is c.in_ok-run_block.ensures.gives) off)
 
 pub exits::exit_children-returns-in-Leaf-clause-gives : goal.exits::exit_children-returns-in-Leaf-clause-gives
 exits::exit_children-returns-in-Leaf-clause-gives t c =
-    exit_children_leaf (chart_of c.args.chart.now) c.args.bounds (now_of c.args.now) c.args.s _ c.args.world.now
-    c.in-Leaf.ensures
+    exit_children_leaf _ _ _ c.args.s c.in-Leaf.ensures
 
 pub exits::exit_children-returns-in-Or-clause-gives : goal.exits::exit_children-returns-in-Or-clause-gives
 exits::exit_children-returns-in-Or-clause-gives t c =
-    passed {A = Unit {0}} (λ _. tt) _ _ _ _ (λ q h. exit_children_or (chart_of c.args.chart.now) c.args.bounds
-    (now_of c.args.now) c.args.s _ c.args.world.now q c.in-Or.ensures h) c.exit_active.ensures.gives
+    passed _ _ _ c.exit_active.ensures.gives
+    (λ q h. exit_children_or _ _ _ c.args.s c.args.world.now c.in-Or.ensures h)
 
 pub exits::exit_children-returns-in-And-clause-gives : goal.exits::exit_children-returns-in-And-clause-gives
 exits::exit_children-returns-in-And-clause-gives t c =
-    passed {A = Unit {0}} (λ _. tt) _ _ _ _ (λ q h. exit_children_and (chart_of c.args.chart.now) c.args.bounds
-    (now_of c.args.now) c.args.s _ c.args.world.now q _ c.in-And.ensures refl h) c.exit_all.ensures.gives
+    passed _ _ _ c.exit_all.ensures.gives (λ q h. exit_children_and _ _ _ c.args.s c.in-And.ensures refl h)
 
 pub exits::exit_all-loop-next-init : goal.exits::exit_all-loop-next-init
-exits::exit_all-loop-next-init t c =
-    let chart = chart_of c.args.chart.now in
-    let now = now_of c.args.now in
-    record {
-      goes =
-          subst (λ l. Continues (λ n. (upto chart c.args.bounds n).exit_each l now c.args.world.now)
-          (λ n. (upto chart c.args.bounds n).exit_each (reverse (children_of chart.tree c.args.s)) now
-          c.args.world.now))
-          (children_of-back chart.tree c.args.s
-          ∙ ap (children_back_from chart.tree c.args.s) (sym c.last_child-next.ensures.child)) continues_same;
-      stands = stands_last chart.tree c.last_child-next.ensures.tree c.args.s _ c.last_child-next.ensures.child;
-      fits = c.requires.fits;
-    }
+exits::exit_all-loop-next-init t c = record {
+  goes = exit_turns_begin _ _ _ _ c.last_child-next.ensures.child;
+  stands =
+      stands_last (chart_of c.args.chart.now).tree c.last_child-next.ensures.tree c.args.s _
+      c.last_child-next.ensures.child;
+  fits = c.requires.fits;
+}
 
 pub exits::exit_all-returns-in_err-exit-clause-gives : goal.exits::exit_all-returns-in_err-exit-clause-gives
 exits::exit_all-returns-in_err-exit-clause-gives t c =
-    let error = err_from_is_err_and c.from_residual.result c.from_residual.ensures.1 in
-    rw (error.1, error.2) (err_through {A = Unit {0}} {A' = Unit {0}} (λ _. tt) (λ _. tt) _ _ _ _
-    (λ x h. exit_turn_fault (chart_of c.args.chart.now) c.args.bounds (now_of c.args.now) c.args.s c.loop-next.next
-    c.loop-next.world _ c.loop-next.invariant.goes c.in-Some.x c.in-Some.is c.loop-next.invariant.stands _ x h)
-    c.in_err-exit.ensures.gives)
+    failed_through nothing_of _ _ _ _ c.from_residual.ensures.1 c.in_err-exit.ensures.gives
+    (λ x h. exit_turn_fault _ _ _ _ c.loop-next.invariant.goes c.in-Some.is c.loop-next.invariant.stands h)
 
 pub exits::exit_all-prev_sibling-next-requires : goal.exits::exit_all-prev_sibling-next-requires
 exits::exit_all-prev_sibling-next-requires t c = (c.loop-next.invariant.stands.child c.in-Some.x c.in-Some.is).within
@@ -561,8 +415,7 @@ exits::exit_all-loop-next-preserved t c =
     let chart = chart_of c.args.chart.now in
     record {
       goes =
-          exit_turn chart c.args.bounds (now_of c.args.now) c.args.s c.loop-next.next c.loop-next.world _
-          c.loop-next.invariant.goes c.in-Some.x c.in-Some.is c.loop-next.invariant.stands _ _
+          exit_turn _ _ _ _ c.loop-next.invariant.goes c.in-Some.is c.loop-next.invariant.stands
           c.prev_sibling-next.ensures.sibling c.in_ok-exit.ensures.gives;
       stands =
           stands_prev chart.tree c.prev_sibling-next.ensures.tree c.args.s c.in-Some.x _ _ c.in-Some.is
@@ -572,8 +425,7 @@ exits::exit_all-loop-next-preserved t c =
 
 pub exits::exit_all-returns-clause-gives : goal.exits::exit_all-returns-clause-gives
 exits::exit_all-returns-clause-gives t c =
-    exit_turns_end (chart_of c.args.chart.now) c.args.bounds (now_of c.args.now) c.args.s c.loop-next.next
-    c.loop-next.world _ c.loop-next.invariant.goes c.in_default.is
+    exit_turns_end _ _ _ _ c.loop-next.invariant.goes c.in_default.is
 
 pub exits::exit_all-exit-requires : goal.exits::exit_all-exit-requires
 exits::exit_all-exit-requires t c =
@@ -582,13 +434,11 @@ exits::exit_all-exit-requires t c =
 
 pub exits::exit_active-returns-in-None-clause-gives : goal.exits::exit_active-returns-in-None-clause-gives
 exits::exit_active-returns-in-None-clause-gives t c =
-    exit_active_none (chart_of c.args.chart.now) c.args.bounds (now_of c.args.now) c.args.s c.args.world.now
-    c.in-None.ensures.child
+    exit_active_none _ _ _ c.args.s c.in-None.ensures.child
 
 pub exits::exit_active-returns-in-Some-clause-gives : goal.exits::exit_active-returns-in-Some-clause-gives
 exits::exit_active-returns-in-Some-clause-gives t c =
-    passed {A = Unit {0}} (λ _. tt) _ _ _ _ (λ q h. exit_active_one (chart_of c.args.chart.now) c.args.bounds
-    (now_of c.args.now) c.args.s c.in-Some.x c.args.world.now q c.in-Some.ensures.child h) c.exit.ensures.gives
+    passed _ _ _ c.exit.ensures.gives (λ q h. exit_active_one _ _ _ c.args.s c.in-Some.ensures.child h)
 
 -- ---- entering
 
@@ -596,67 +446,55 @@ pub entries::enter-returns-then-not-can_mark-clause-gives : goal.entries::enter-
 entries::enter-returns-then-not-can_mark-clause-gives t c =
     let chart = chart_of c.args.chart.now in
     let can : can_mark chart.tree c.args.s c.args.world.now.marks ≡ false = cc in
-    enter_no chart c.args.bounds (now_of c.args.now) c.args.s c.args.d c.args.world.now can
+    enter_no _ _ _ can
 
 pub entries::enter-returns-in_err-run_block-clause-gives : goal.entries::enter-returns-in_err-run_block-clause-gives
 entries::enter-returns-in_err-run_block-clause-gives t c =
     let chart = chart_of c.args.chart.now in
-    let error = err_from_is_err_and c.from_residual.result c.from_residual.ensures.1 in
-    rw (error.1, error.2) (err_through {A' = Unit {0}} end_of (λ _. tt) _ _ _ _
-    (λ x h.
+    failed_through end_of _ _ _ _ c.from_residual.ensures.1 c.in_err-run_block.ensures.gives (λ x h.
     let can : can_mark chart.tree c.args.s c.args.world.now.marks ≡ true = cc in
-    enter_fault chart c.args.bounds (now_of c.args.now) c.args.s c.args.d _ c.args.world.now c.enter.new.self
-    c.block.ensures.block can c.enter.ensures.entered _ x h) c.in_err-run_block.ensures.gives)
+    enter_fault _ _ _ c.args.d c.args.world.now c.block.ensures.block can c.enter.ensures.entered h)
 
 pub entries::enter-returns-in-Cut-clause-gives : goal.entries::enter-returns-in-Cut-clause-gives
 entries::enter-returns-in-Cut-clause-gives t c =
     let chart = chart_of c.args.chart.now in
     let can : can_mark chart.tree c.args.s c.args.world.now.marks ≡ true = cc in
-    enter_cut chart c.args.bounds (now_of c.args.now) c.args.s c.args.d _ c.args.world.now c.enter.new.self
-    c.block.ensures.block can c.enter.ensures.entered c.run_block.new.world
-    (ended_as end_of _ _ c.in-Cut.is c.in_ok-run_block.ensures.gives)
+    enter_cut _ _ _ c.args.d c.args.world.now c.block.ensures.block can c.enter.ensures.entered
+    (ended_as end_of c.in-Cut.is c.in_ok-run_block.ensures.gives)
 
 pub entries::enter-returns-in-Done-clause-gives : goal.entries::enter-returns-in-Done-clause-gives
 entries::enter-returns-in-Done-clause-gives t c =
     let chart = chart_of c.args.chart.now in
-    passed {A = Unit {0}} (λ _. tt) _ _ _ _ (λ q h.
+    passed _ _ _ c.enter_inside.ensures.gives (λ q h.
     let can : can_mark chart.tree c.args.s c.args.world.now.marks ≡ true = cc in
-    enter_done chart c.args.bounds (now_of c.args.now) c.args.s c.args.d _ c.args.world.now c.enter.new.self
-    c.block.ensures.block can c.enter.ensures.entered c.run_block.new.world q
-    (ended_as end_of _ _ c.in-Done.is c.in_ok-run_block.ensures.gives) h) c.enter_inside.ensures.gives
+    enter_done _ _ _ c.args.d c.args.world.now c.block.ensures.block can c.enter.ensures.entered
+    (ended_as end_of c.in-Done.is c.in_ok-run_block.ensures.gives) h)
 
 pub entries::enter_inside-returns-in-Leaf-clause-gives : goal.entries::enter_inside-returns-in-Leaf-clause-gives
 entries::enter_inside-returns-in-Leaf-clause-gives t c =
-    inside_leaf (chart_of c.args.chart.now) c.args.bounds (now_of c.args.now) c.args.s c.args.d _ c.args.world.now
-    c.in-Leaf.ensures
+    inside_leaf _ _ _ c.args.s c.args.d c.in-Leaf.ensures
 
 pub entries::enter_inside-returns-in-Or-clause-gives : goal.entries::enter_inside-returns-in-Or-clause-gives
 entries::enter_inside-returns-in-Or-clause-gives t c =
-    passed {A = Unit {0}} (λ _. tt) _ _ _ _ (λ q h. inside_or (chart_of c.args.chart.now) c.args.bounds
-    (now_of c.args.now) c.args.s c.args.d _ c.args.world.now q c.in-Or.ensures h) c.enter_toward.ensures.gives
+    passed _ _ _ c.enter_toward.ensures.gives
+    (λ q h. inside_or _ _ _ c.args.s c.args.d c.args.world.now c.in-Or.ensures h)
 
 pub entries::enter_inside-returns-in-And-clause-gives : goal.entries::enter_inside-returns-in-And-clause-gives
 entries::enter_inside-returns-in-And-clause-gives t c =
-    passed {A = Unit {0}} (λ _. tt) _ _ _ _ (λ q h. inside_each (chart_of c.args.chart.now) c.args.bounds
-    (now_of c.args.now) c.args.s c.args.d _ c.args.world.now q _ c.in-And.ensures refl h) c.enter_all.ensures.gives
+    passed _ _ _ c.enter_all.ensures.gives (λ q h. inside_each _ _ _ c.args.s c.in-And.ensures refl h)
 
 pub entries::enter_all-loop-next-init : goal.entries::enter_all-loop-next-init
-entries::enter_all-loop-next-init t c =
-    let chart = chart_of c.args.chart.now in
-    let now = now_of c.args.now in
-    record {
-      goes =
-          subst (λ l. Continues (λ n. (upto chart c.args.bounds n).enter_each l c.args.d now c.args.world.now)
-          (λ n. (upto chart c.args.bounds n).enter_each (children_of chart.tree c.args.s) c.args.d now
-          c.args.world.now))
-          (children_of-from chart.tree c.args.s
-          ∙ ap (children_from chart.tree c.args.s) (sym c.first_child-next.ensures.child)) continues_same;
-      stands = stands_first chart.tree c.first_child-next.ensures.tree c.args.s _ c.first_child-next.ensures.child;
-      fits = c.requires.fits;
-    }
+entries::enter_all-loop-next-init t c = record {
+  goes = enter_turns_begin _ _ _ _ c.first_child-next.ensures.child;
+  stands =
+      stands_first (chart_of c.args.chart.now).tree c.first_child-next.ensures.tree c.args.s _
+      c.first_child-next.ensures.child;
+  fits = c.requires.fits;
+}
 
 pub entries::enter_all-path_in-requires-clause-child : goal.entries::enter_all-path_in-requires-clause-child
-entries::enter_all-path_in-requires-clause-child t c = (c.loop-next.invariant.stands.child c.in-Some.x c.in-Some.is).within
+entries::enter_all-path_in-requires-clause-child t c =
+    (c.loop-next.invariant.stands.child c.in-Some.x c.in-Some.is).within
 
 pub entries::enter_all-enter-requires : goal.entries::enter_all-enter-requires
 entries::enter_all-enter-requires t c =
@@ -667,11 +505,9 @@ entries::enter_all-enter-requires t c =
 
 pub entries::enter_all-returns-in_err-enter-clause-gives : goal.entries::enter_all-returns-in_err-enter-clause-gives
 entries::enter_all-returns-in_err-enter-clause-gives t c =
-    let error = err_from_is_err_and c.from_residual.result c.from_residual.ensures.1 in
-    rw (error.1, error.2) (err_through {A = Unit {0}} {A' = Unit {0}} (λ _. tt) (λ _. tt) _ _ _ _
-    (λ x h. enter_turn_fault (chart_of c.args.chart.now) c.args.bounds (now_of c.args.now) c.args.s c.args.d
-    c.loop-next.next c.loop-next.world _ c.loop-next.invariant.goes c.in-Some.x _ c.in-Some.is
-    c.loop-next.invariant.stands c.path_in.ensures.path _ x h) c.in_err-enter.ensures.gives)
+    failed_through nothing_of _ _ _ _ c.from_residual.ensures.1 c.in_err-enter.ensures.gives
+    (λ x h. enter_turn_fault _ _ _ _ c.loop-next.invariant.goes c.in-Some.is
+    c.loop-next.invariant.stands c.path_in.ensures.path h)
 
 pub entries::enter_all-next_sibling-next-requires : goal.entries::enter_all-next_sibling-next-requires
 entries::enter_all-next_sibling-next-requires t c = (c.loop-next.invariant.stands.child c.in-Some.x c.in-Some.is).within
@@ -686,8 +522,8 @@ entries::enter_all-loop-next-preserved t c =
     let chart = chart_of c.args.chart.now in
     record {
       goes =
-          enter_turn chart c.args.bounds (now_of c.args.now) c.args.s c.args.d c.loop-next.next c.loop-next.world _
-          c.loop-next.invariant.goes c.in-Some.x _ c.in-Some.is c.loop-next.invariant.stands c.path_in.ensures.path _ _
+          enter_turn _ _ _ _
+          c.loop-next.invariant.goes c.in-Some.is c.loop-next.invariant.stands c.path_in.ensures.path
           c.next_sibling-next.ensures.sibling c.in_ok-enter.ensures.gives;
       stands =
           stands_next chart.tree c.next_sibling-next.ensures.tree c.args.s c.in-Some.x _ _ c.in-Some.is
@@ -697,137 +533,98 @@ entries::enter_all-loop-next-preserved t c =
 
 pub entries::enter_all-returns-clause-gives : goal.entries::enter_all-returns-clause-gives
 entries::enter_all-returns-clause-gives t c =
-    enter_turns_end (chart_of c.args.chart.now) c.args.bounds (now_of c.args.now) c.args.s c.args.d c.loop-next.next
-    c.loop-next.world _ c.loop-next.invariant.goes c.in_default.is
+    enter_turns_end _ _ _ _ c.loop-next.invariant.goes c.in_default.is
 
 pub entries::enter_toward-returns-then-s-d-clause-gives : goal.entries::enter_toward-returns-then-s-d-clause-gives
 entries::enter_toward-returns-then-s-d-clause-gives t c =
-    passed {A = Unit {0}} (λ _. tt) _ _ _ _ (λ q h.
+    passed _ _ _ c.defaults.ensures.gives (λ q h.
     let sd : (c.args.s == c.args.d) ≡ true = grind (arith, nat_tests) in
     settled_true (c.args.s == c.args.d)
     (λ n. (upto (chart_of c.args.chart.now) c.args.bounds n).defaults c.args.s (now_of c.args.now)) _ c.args.world.now q
-    sd h) c.defaults.ensures.gives
+    sd h)
 
 pub entries::enter_toward-returns-clause-gives : goal.entries::enter_toward-returns-clause-gives
 entries::enter_toward-returns-clause-gives t c =
     let chart = chart_of c.args.chart.now in
-    passed {A = Unit {0}} (λ _. tt) _ _ _ _ (λ q h.
+    passed _ _ _ c.enter_child.ensures.gives (λ q h.
     let sd : (c.args.s == c.args.d) ≡ false = grind (arith, nat_tests) in
     settled_false (c.args.s == c.args.d) _ (λ n. if_some (child_toward chart.tree c.args.s c.args.d) nothing
     (λ x. (upto chart c.args.bounds n).enter x c.args.d (now_of c.args.now))) c.args.world.now q sd h)
-    c.enter_child.ensures.gives
 
 pub entries::enter_child-returns-in-None-clause-gives : goal.entries::enter_child-returns-in-None-clause-gives
 entries::enter_child-returns-in-None-clause-gives t c =
-    toward_none (chart_of c.args.chart.now) c.args.bounds (now_of c.args.now) c.args.s c.args.d c.args.world.now
-    c.in-None.ensures.child
+    toward_none _ _ _ c.args.s c.args.d c.in-None.ensures.child
 
 pub entries::enter_child-returns-in-Some-clause-gives : goal.entries::enter_child-returns-in-Some-clause-gives
 entries::enter_child-returns-in-Some-clause-gives t c =
-    passed {A = Unit {0}} (λ _. tt) _ _ _ _ (λ q h. toward_one (chart_of c.args.chart.now) c.args.bounds
-    (now_of c.args.now) c.args.s c.args.d c.in-Some.x c.args.world.now q c.in-Some.ensures.child h)
-    c.enter.ensures.gives
+    passed _ _ _ c.enter.ensures.gives (λ q h. toward_one _ _ _ c.args.s c.in-Some.ensures.child h)
 
 -- ---- entering by default
 
 pub defaults::defaults-returns-in-Some-clause-gives : goal.defaults::defaults-returns-in-Some-clause-gives
 defaults::defaults-returns-in-Some-clause-gives t c =
-    passed {A = Unit {0}} (λ _. tt) _ _ _ _ (λ q h. defaults_return (chart_of c.args.chart.now) c.args.bounds
-    (now_of c.args.now) c.args.s c.in-Some.x c.args.world.now q c.in-Some.ensures.child h) c.enter.ensures.gives
+    passed _ _ _ c.enter.ensures.gives (λ q h. defaults_return _ _ _ c.in-Some.ensures.child h)
 
 pub defaults::defaults-returns-in-None-clause-gives : goal.defaults::defaults-returns-in-None-clause-gives
 defaults::defaults-returns-in-None-clause-gives t c =
-    passed {A = Unit {0}} (λ _. tt) _ _ _ _ (λ q h. defaults_search (chart_of c.args.chart.now) c.args.bounds
-    (now_of c.args.now) c.args.s c.args.world.now q c.in-None.ensures.child h) c.default_search.ensures.gives
+    passed _ _ _ c.default_search.ensures.gives (λ q h. defaults_search _ _ _ c.in-None.ensures.child h)
 
 pub defaults::default_search-returns-in_err-d-clause-gives : goal.defaults::default_search-returns-in_err-d-clause-gives
 defaults::default_search-returns-in_err-d-clause-gives t c =
-    let error = err_from_is_err_and c.from_residual.result c.from_residual.ensures.1 in
-    rw (error.1, error.2) (err_through {A' = Unit {0}} found_of (λ _. tt) _ _ _ _
-    (λ x h. default_fault (chart_of c.args.chart.now) c.args.bounds (now_of c.args.now) c.args.s _ c.args.world.now
-    c.list.ensures.list _ x h) c.in_err-d.ensures.gives)
+    failed_through found_of _ _ _ _ c.from_residual.ensures.1 c.in_err-d.ensures.gives (λ x h. default_fault _ _ _
+    c.list.ensures.list h)
 
-pub defaults::default_search-returns-in-DeadEnd-clause-gives : goal.defaults::default_search-returns-in-DeadEnd-clause-gives
+pub defaults::default_search-returns-in-DeadEnd-clause-gives :
+    goal.defaults::default_search-returns-in-DeadEnd-clause-gives
 defaults::default_search-returns-in-DeadEnd-clause-gives t c =
-    default_after (chart_of c.args.chart.now) c.args.bounds (now_of c.args.now) c.args.s _ c.args.world.now
-    c.list.ensures.list _ c.search.new.world _ (ended_as found_of _ _ c.in-DeadEnd.is c.in_ok-d.ensures.gives)
+    default_after _ _ _ c.list.ensures.list (ended_as found_of c.in-DeadEnd.is c.in_ok-d.ensures.gives)
     (settled_now _)
 
 pub defaults::default_search-returns-in-No-clause-gives : goal.defaults::default_search-returns-in-No-clause-gives
 defaults::default_search-returns-in-No-clause-gives t c =
-    default_after (chart_of c.args.chart.now) c.args.bounds (now_of c.args.now) c.args.s _ c.args.world.now
-    c.list.ensures.list _ c.search.new.world _ (ended_as found_of _ _ c.in-No.is c.in_ok-d.ensures.gives)
-    (settled_now _)
+    default_after _ _ _ c.list.ensures.list (ended_as found_of c.in-No.is c.in_ok-d.ensures.gives) (settled_now _)
 
 pub defaults::default_search-returns-clause-gives : goal.defaults::default_search-returns-clause-gives
 defaults::default_search-returns-clause-gives t c =
-    default_after (chart_of c.args.chart.now) c.args.bounds (now_of c.args.now) c.args.s _ c.args.world.now
-    c.list.ensures.list _ c.search.new.world _ (ended_as found_of _ _ c.in-Stop.is c.in_ok-d.ensures.gives)
-    (settled_now _)
+    default_after _ _ _ c.list.ensures.list (ended_as found_of c.in-Stop.is c.in_ok-d.ensures.gives) (settled_now _)
 
 pub defaults::default_search-returns-in_err-play-in-Fire-clause-gives :
     goal.defaults::default_search-returns-in_err-play-in-Fire-clause-gives
 defaults::default_search-returns-in_err-play-in-Fire-clause-gives t c =
-    let chart = chart_of c.args.chart.now in
-    let now = now_of c.args.now in
-    let error =
-    err_from_is_err_and c.from_residual-in_err-play-in-Fire.result c.from_residual-in_err-play-in-Fire.ensures.1 in
-    rw (error.1, error.2) (err_through {A' = Unit {0}} end_of (λ _. tt) _ _ _ _
-    (λ x h. default_after chart c.args.bounds now c.args.s _ c.args.world.now c.list.ensures.list _ c.search.new.world _
-    (ended_as found_of _ _ c.in-Fire.is c.in_ok-d.ensures.gives)
-    (fired_fault chart c.args.bounds now c.args.s c.in-Fire.d (map (λ a. block_seen a.now) c.in-Fire.actions.items)
-    c.search.new.world c.play.new.world x
-    (subst (λ l. Settled
-    (λ n. (upto chart c.args.bounds n).play c.args.s (map (λ a. block_seen a.now) l) now c.search.new.world)
-    (Faulted x c.play.new.world)) c.deref.ensures.value h))) c.in_err-play-in-Fire.ensures.gives)
+    failed_through end_of _ _ _ _ c.from_residual-in_err-play-in-Fire.ensures.1 c.in_err-play-in-Fire.ensures.gives
+    (λ x h. default_after _ _ _ c.list.ensures.list (ended_as found_of c.in-Fire.is c.in_ok-d.ensures.gives)
+    (fired_fault _ _ _ c.in-Fire.d (ap (map (λ a. block_seen a.now)) c.deref.ensures.value) h))
 
 pub defaults::default_search-returns-in-Cut-clause-gives : goal.defaults::default_search-returns-in-Cut-clause-gives
 defaults::default_search-returns-in-Cut-clause-gives t c =
-    let chart = chart_of c.args.chart.now in
-    let now = now_of c.args.now in
-    default_after chart c.args.bounds now c.args.s _ c.args.world.now c.list.ensures.list _ c.search.new.world _
-    (ended_as found_of _ _ c.in-Fire.is c.in_ok-d.ensures.gives)
-    (fired_cut chart c.args.bounds now c.args.s c.in-Fire.d (map (λ a. block_seen a.now) c.in-Fire.actions.items)
-    c.search.new.world c.play.new.world
-    (subst (λ l. Settled
-    (λ n. (upto chart c.args.bounds n).play c.args.s (map (λ a. block_seen a.now) l) now c.search.new.world)
-    (Ended Cut c.play.new.world)) c.deref.ensures.value
-    (ended_as end_of _ _ c.in-Cut.is c.in_ok-play-in-Fire.ensures.gives)))
+    default_after _ _ _ c.list.ensures.list (ended_as found_of c.in-Fire.is c.in_ok-d.ensures.gives)
+    (fired_cut _ _ _ c.in-Fire.d (ap (map (λ a. block_seen a.now)) c.deref.ensures.value)
+    (ended_as end_of c.in-Cut.is c.in_ok-play-in-Fire.ensures.gives))
 
 pub defaults::default_search-returns-in-Fire-clause-gives : goal.defaults::default_search-returns-in-Fire-clause-gives
 defaults::default_search-returns-in-Fire-clause-gives t c =
-    let chart = chart_of c.args.chart.now in
-    let now = now_of c.args.now in
-    passed {A = Unit {0}} (λ _. tt) _ _ _ _ (λ q h. default_after chart c.args.bounds now c.args.s _ c.args.world.now
-    c.list.ensures.list _ c.search.new.world q (ended_as found_of _ _ c.in-Fire.is c.in_ok-d.ensures.gives)
-    (fired_done chart c.args.bounds now c.args.s c.in-Fire.d (map (λ a. block_seen a.now) c.in-Fire.actions.items)
-    c.search.new.world c.play.new.world q
-    (subst (λ l. Settled
-    (λ n. (upto chart c.args.bounds n).play c.args.s (map (λ a. block_seen a.now) l) now c.search.new.world)
-    (Ended Done c.play.new.world)) c.deref.ensures.value
-    (ended_as end_of _ _ c.in-Done.is c.in_ok-play-in-Fire.ensures.gives)) h)) c.enter_child.ensures.gives
+    passed _ _ _ c.enter_child.ensures.gives
+    (λ q h. default_after _ _ _ c.list.ensures.list (ended_as found_of c.in-Fire.is c.in_ok-d.ensures.gives)
+    (fired_done _ _ _ c.in-Fire.d (ap (map (λ a. block_seen a.now)) c.deref.ensures.value)
+    (ended_as end_of c.in-Done.is c.in_ok-play-in-Fire.ensures.gives) h))
 
 -- ---- firings
 
 pub firings::play-loop-action-preserved-then-is_empty : goal.firings::play-loop-action-preserved-then-is_empty
 firings::play-loop-action-preserved-then-is_empty t c = record {
   goes =
-      play_turn_skip (chart_of c.args.chart.now) c.args.bounds (now_of c.args.now) (λ a. block_seen a.now) c.args.s
-      c.args.actions.now c.loop-action.action-index c.loop-action.world _ c.loop-action.invariant.goes
-      c.action-item.result (omega arith) c.action-item.is
+      play_turn_skip _ _ _ (λ a. block_seen a.now)
+      c.args.actions.now c.loop-action.action-index c.loop-action.invariant.goes (omega arith) c.action-item.is
       (ap block_seen (empty_is c.action-item.result.now (grind (arith, nat_tests))));
   fits = c.loop-action.invariant.fits;
 }
 
 pub firings::play-returns-in_err-pay-clause-gives : goal.firings::play-returns-in_err-pay-clause-gives
 firings::play-returns-in_err-pay-clause-gives t c =
-    let error = err_from_is_err_and c.from_residual.result c.from_residual.ensures.1 in
-    rw (error.1, error.2) (err_does {A = Unit {0}} (λ _. tt) end_of _ _ _ _
-    (λ x h.
+    failed_does nothing_of _ _ _ _ c.from_residual.ensures.1 c.in_err-pay.ensures.does (λ x h.
     let some = not_empty stmt_of c.action-item.result.now (grind (arith, nat_tests)) in
-    play_turn_pay_fault (chart_of c.args.chart.now) c.args.bounds (now_of c.args.now) (λ a. block_seen a.now) c.args.s
-    c.args.actions.now c.loop-action.action-index c.loop-action.world _ c.loop-action.invariant.goes
-    c.action-item.result (omega arith) c.action-item.is some _ x h) c.in_err-pay.ensures.does)
+    play_turn_pay_fault _ _ _ (λ a. block_seen a.now)
+    c.args.actions.now c.loop-action.action-index c.loop-action.invariant.goes (omega arith) c.action-item.is some h)
 
 pub firings::play-run_block-requires : goal.firings::play-run_block-requires
 firings::play-run_block-requires t c = (
@@ -844,299 +641,233 @@ firings::play-run_block-requires t c = (
 
 pub firings::play-returns-in_err-run_block-clause-gives : goal.firings::play-returns-in_err-run_block-clause-gives
 firings::play-returns-in_err-run_block-clause-gives t c =
-    let error =
-    err_from_is_err_and c.from_residual-in_err-run_block.result c.from_residual-in_err-run_block.ensures.1 in
-    rw (error.1, error.2) (err_through end_of end_of _ _ _ _
+    failed_through end_of _ _ _ _ c.from_residual-in_err-run_block.ensures.1 c.in_err-run_block.ensures.gives
     (λ x h.
     let some = not_empty stmt_of c.action-item.result.now (grind (arith, nat_tests)) in
-    play_turn_fault (chart_of c.args.chart.now) c.args.bounds (now_of c.args.now) (λ a. block_seen a.now) c.args.s
-    c.args.actions.now c.loop-action.action-index c.loop-action.world _ c.loop-action.invariant.goes
-    c.action-item.result (omega arith) c.action-item.is some _ _ x c.in_ok-pay.ensures.does h)
-    c.in_err-run_block.ensures.gives)
+    play_turn_fault _ _ _ (λ a. block_seen a.now)
+    c.args.actions.now c.loop-action.action-index c.loop-action.invariant.goes (omega arith) c.action-item.is some
+    c.in_ok-pay.ensures.does h)
 
 pub firings::play-returns-in-Cut-clause-gives : goal.firings::play-returns-in-Cut-clause-gives
 firings::play-returns-in-Cut-clause-gives t c =
     let some = not_empty stmt_of c.action-item.result.now (grind (arith, nat_tests)) in
-    play_turn_cut (chart_of c.args.chart.now) c.args.bounds (now_of c.args.now) (λ a. block_seen a.now) c.args.s
-    c.args.actions.now c.loop-action.action-index c.loop-action.world _ c.loop-action.invariant.goes
-    c.action-item.result (omega arith) c.action-item.is some _ c.run_block.new.world c.in_ok-pay.ensures.does
-    (ended_as end_of _ _ c.in-Cut.is c.in_ok-run_block.ensures.gives)
+    play_turn_cut _ _ _ (λ a. block_seen a.now)
+    c.args.actions.now c.loop-action.action-index c.loop-action.invariant.goes (omega arith) c.action-item.is some
+    c.in_ok-pay.ensures.does
+    (ended_as end_of c.in-Cut.is c.in_ok-run_block.ensures.gives)
 
 pub firings::play-loop-action-preserved : goal.firings::play-loop-action-preserved
 firings::play-loop-action-preserved t c =
     let some = not_empty stmt_of c.action-item.result.now (grind (arith, nat_tests)) in
     record {
       goes =
-          play_turn (chart_of c.args.chart.now) c.args.bounds (now_of c.args.now) (λ a. block_seen a.now) c.args.s
-          c.args.actions.now c.loop-action.action-index c.loop-action.world _ c.loop-action.invariant.goes
-          c.action-item.result (omega arith) c.action-item.is some _ c.run_block.new.world c.in_ok-pay.ensures.does
-          (ended_as end_of _ _ c.in-Done.is c.in_ok-run_block.ensures.gives);
+          play_turn _ _ _ (λ a. block_seen a.now)
+          c.args.actions.now c.loop-action.action-index c.loop-action.invariant.goes (omega arith) c.action-item.is
+          some c.in_ok-pay.ensures.does
+          (ended_as end_of c.in-Done.is c.in_ok-run_block.ensures.gives);
       fits = c.run_block.ensures.fits;
     }
 
 pub firings::play-returns-clause-gives : goal.firings::play-returns-clause-gives
 firings::play-returns-clause-gives t c =
-    play_turns_end (chart_of c.args.chart.now) c.args.bounds (now_of c.args.now) (λ a. block_seen a.now) c.args.s
-    c.args.actions.now c.loop-action.action-index c.loop-action.world _ c.loop-action.invariant.goes (omega arith)
+    play_turns_end _ _ _ (λ a. block_seen a.now)
+    c.args.actions.now c.loop-action.action-index c.loop-action.invariant.goes (omega arith)
 
 pub firings::take-returns-in_err-exit_active-clause-gives : goal.firings::take-returns-in_err-exit_active-clause-gives
 firings::take-returns-in_err-exit_active-clause-gives t c =
-    let error = err_from_is_err_and c.from_residual.result c.from_residual.ensures.1 in
-    rw (error.1, error.2) (err_through {A = Unit {0}} {A' = Unit {0}} (λ _. tt) (λ _. tt) _ _ _ _
-    (λ x h. take_exit_fault (chart_of c.args.chart.now) c.args.bounds (now_of c.args.now) c.args.s c.args.d
-    (map (λ a. block_seen a.now) c.args.actions.now) c.args.world.now _ x h) c.in_err-exit_active.ensures.gives)
+    failed_through nothing_of _ _ _ _ c.from_residual.ensures.1 c.in_err-exit_active.ensures.gives
+    (λ x h. take_exit_fault _ _ _ h)
 
 pub firings::take-returns-then-not-bare-clause-gives : goal.firings::take-returns-then-not-bare-clause-gives
 firings::take-returns-then-not-bare-clause-gives t c =
     let chart = chart_of c.args.chart.now in
     let bare : is_bare chart.tree c.args.s c.exit_active.new.world.marks ≡ false = cc in
-    take_not_bare chart c.args.bounds (now_of c.args.now) c.args.s c.args.d
-    (map (λ a. block_seen a.now) c.args.actions.now) c.args.world.now c.exit_active.new.world
-    c.in_ok-exit_active.ensures.gives bare
+    take_not_bare _ _ _ c.in_ok-exit_active.ensures.gives bare
 
 pub firings::take-returns-in_err-play-clause-gives : goal.firings::take-returns-in_err-play-clause-gives
 firings::take-returns-in_err-play-clause-gives t c =
     let chart = chart_of c.args.chart.now in
-    let error = err_from_is_err_and c.from_residual-in_err-play.result c.from_residual-in_err-play.ensures.1 in
-    rw (error.1, error.2) (err_through {A' = Unit {0}} end_of (λ _. tt) _ _ _ _
-    (λ x h.
+    failed_through end_of _ _ _ _ c.from_residual-in_err-play.ensures.1 c.in_err-play.ensures.gives (λ x h.
     let bare : is_bare chart.tree c.args.s c.exit_active.new.world.marks ≡ true = cc in
-    take_play_fault chart c.args.bounds (now_of c.args.now) c.args.s c.args.d
-    (map (λ a. block_seen a.now) c.args.actions.now) c.args.world.now c.exit_active.new.world
-    c.in_ok-exit_active.ensures.gives _ x bare h) c.in_err-play.ensures.gives)
+    take_play_fault _ _ _ c.in_ok-exit_active.ensures.gives bare h)
 
 pub firings::take-returns-in-Cut-clause-gives : goal.firings::take-returns-in-Cut-clause-gives
 firings::take-returns-in-Cut-clause-gives t c =
     let chart = chart_of c.args.chart.now in
     let bare : is_bare chart.tree c.args.s c.exit_active.new.world.marks ≡ true = cc in
-    take_cut chart c.args.bounds (now_of c.args.now) c.args.s c.args.d (map (λ a. block_seen a.now) c.args.actions.now)
-    c.args.world.now c.exit_active.new.world c.in_ok-exit_active.ensures.gives c.play.new.world bare
-    (ended_as end_of _ _ c.in-Cut.is c.in_ok-play.ensures.gives)
+    take_cut _ _ _ c.in_ok-exit_active.ensures.gives bare (ended_as end_of c.in-Cut.is c.in_ok-play.ensures.gives)
 
 pub firings::take-returns-then-not-bare-2-clause-gives : goal.firings::take-returns-then-not-bare-2-clause-gives
 firings::take-returns-then-not-bare-2-clause-gives t c =
     let chart = chart_of c.args.chart.now in
     let bare : is_bare chart.tree c.args.s c.exit_active.new.world.marks ≡ true = cc in
     let off : is_bare chart.tree c.args.s c.play.new.world.marks ≡ false = cc in
-    take_left chart c.args.bounds (now_of c.args.now) c.args.s c.args.d (map (λ a. block_seen a.now) c.args.actions.now)
-    c.args.world.now c.exit_active.new.world c.in_ok-exit_active.ensures.gives c.play.new.world bare
-    (ended_as end_of _ _ c.in-Done.is c.in_ok-play.ensures.gives) off
+    take_left _ _ _ c.in_ok-exit_active.ensures.gives bare
+    (ended_as end_of c.in-Done.is c.in_ok-play.ensures.gives) off
 
 pub firings::take-returns-else-not-bare-2-clause-gives : goal.firings::take-returns-else-not-bare-2-clause-gives
 firings::take-returns-else-not-bare-2-clause-gives t c =
     let chart = chart_of c.args.chart.now in
-    passed {A = Unit {0}} (λ _. tt) _ _ _ _ (λ q h.
+    passed _ _ _ c.enter_toward.ensures.gives (λ q h.
     let bare : is_bare chart.tree c.args.s c.exit_active.new.world.marks ≡ true = cc in
     let off : is_bare chart.tree c.args.s c.play.new.world.marks ≡ true = cc in
-    take_enters chart c.args.bounds (now_of c.args.now) c.args.s c.args.d
-    (map (λ a. block_seen a.now) c.args.actions.now) c.args.world.now c.exit_active.new.world
-    c.in_ok-exit_active.ensures.gives c.play.new.world q bare
-    (ended_as end_of _ _ c.in-Done.is c.in_ok-play.ensures.gives) off h) c.enter_toward.ensures.gives
+    take_enters _ _ _ c.in_ok-exit_active.ensures.gives bare
+    (ended_as end_of c.in-Done.is c.in_ok-play.ensures.gives) off h)
 
 -- ---- processing
 
 pub processing::process-returns-in_err-d-clause-gives : goal.processing::process-returns-in_err-d-clause-gives
 processing::process-returns-in_err-d-clause-gives t c =
-    let error = err_from_is_err_and c.from_residual.result c.from_residual.ensures.1 in
-    rw (error.1, error.2) (err_through found_of went_of _ _ _ _
-    (λ x h. process_fault (chart_of c.args.chart.now) c.args.bounds (now_of c.args.now) c.args.s _ c.args.world.now
-    c.list.ensures.list _ x h) c.in_err-d.ensures.gives)
+    failed_through found_of _ _ _ _ c.from_residual.ensures.1 c.in_err-d.ensures.gives (λ x h. process_fault _ _ _
+    c.list.ensures.list h)
 
 pub processing::process-returns-in-Stop-clause-gives : goal.processing::process-returns-in-Stop-clause-gives
 processing::process-returns-in-Stop-clause-gives t c =
-    process_after (chart_of c.args.chart.now) c.args.bounds (now_of c.args.now) c.args.s _ c.args.world.now
-    c.list.ensures.list _ c.search.new.world _ (ended_as found_of _ _ c.in-Stop.is c.in_ok-d.ensures.gives)
-    (settled_now _)
+    process_after _ _ _ c.list.ensures.list (ended_as found_of c.in-Stop.is c.in_ok-d.ensures.gives) (settled_now _)
 
 pub processing::process-returns-in-DeadEnd-clause-gives : goal.processing::process-returns-in-DeadEnd-clause-gives
 processing::process-returns-in-DeadEnd-clause-gives t c =
-    passed went_of _ _ _ _ (λ q h. process_after (chart_of c.args.chart.now) c.args.bounds (now_of c.args.now) c.args.s
-    _ c.args.world.now c.list.ensures.list _ c.search.new.world q
-    (ended_as found_of _ _ c.in-DeadEnd.is c.in_ok-d.ensures.gives) h) c.go_on_inside.ensures.gives
+    passed _ _ _ c.go_on_inside.ensures.gives (λ q h. process_after _ _ _ c.list.ensures.list
+    (ended_as found_of c.in-DeadEnd.is c.in_ok-d.ensures.gives) h)
 
 pub processing::process-returns-in-No-clause-gives : goal.processing::process-returns-in-No-clause-gives
 processing::process-returns-in-No-clause-gives t c =
-    passed went_of _ _ _ _ (λ q h. process_after (chart_of c.args.chart.now) c.args.bounds (now_of c.args.now) c.args.s
-    _ c.args.world.now c.list.ensures.list _ c.search.new.world q
-    (ended_as found_of _ _ c.in-No.is c.in_ok-d.ensures.gives) h) c.go_on_inside-in-No.ensures.gives
+    passed _ _ _ c.go_on_inside-in-No.ensures.gives (λ q h. process_after _ _ _ c.list.ensures.list
+    (ended_as found_of c.in-No.is c.in_ok-d.ensures.gives) h)
 
-pub processing::process-returns-in_err-take-in-Fire-clause-gives : goal.processing::process-returns-in_err-take-in-Fire-clause-gives
+pub processing::process-returns-in_err-take-in-Fire-clause-gives :
+    goal.processing::process-returns-in_err-take-in-Fire-clause-gives
 processing::process-returns-in_err-take-in-Fire-clause-gives t c =
-    let chart = chart_of c.args.chart.now in
-    let now = now_of c.args.now in
-    let error =
-    err_from_is_err_and c.from_residual-in_err-take-in-Fire.result c.from_residual-in_err-take-in-Fire.ensures.1 in
-    rw (error.1, error.2) (err_through {A = Unit {0}} (λ _. tt) went_of _ _ _ _
-    (λ x h. process_after chart c.args.bounds now c.args.s _ c.args.world.now c.list.ensures.list _ c.search.new.world _
-    (ended_as found_of _ _ c.in-Fire.is c.in_ok-d.ensures.gives)
-    (outer_fault chart c.args.bounds now c.args.s c.in-Fire.d c.home-home.result
-    (map (λ a. block_seen a.now) c.in-Fire.actions.items) c.search.new.world c.take.new.world x c.home-home.ensures.home
-    (subst (λ l. Settled (λ n. (upto chart c.args.bounds n).take c.home-home.result c.in-Fire.d
-    (map (λ a. block_seen a.now) l) now c.search.new.world) (Faulted x c.take.new.world)) c.deref.ensures.value h)))
-    c.in_err-take-in-Fire.ensures.gives)
+    failed_through nothing_of _ _ _ _ c.from_residual-in_err-take-in-Fire.ensures.1 c.in_err-take-in-Fire.ensures.gives
+    (λ x h. process_after _ _ _ c.list.ensures.list (ended_as found_of c.in-Fire.is c.in_ok-d.ensures.gives)
+    (outer_fault _ _ _ c.args.s c.home-home.ensures.home (ap (map (λ a. block_seen a.now)) c.deref.ensures.value) h))
 
-pub processing::process-returns-in_ok-take-in-Fire-clause-gives : goal.processing::process-returns-in_ok-take-in-Fire-clause-gives
+pub processing::process-returns-in_ok-take-in-Fire-clause-gives :
+    goal.processing::process-returns-in_ok-take-in-Fire-clause-gives
 processing::process-returns-in_ok-take-in-Fire-clause-gives t c =
-    let chart = chart_of c.args.chart.now in
-    let now = now_of c.args.now in
-    process_after chart c.args.bounds now c.args.s _ c.args.world.now c.list.ensures.list _ c.search.new.world _
-    (ended_as found_of _ _ c.in-Fire.is c.in_ok-d.ensures.gives)
-    (outer_taken chart c.args.bounds now c.args.s c.in-Fire.d c.home-home.result
-    (map (λ a. block_seen a.now) c.in-Fire.actions.items) c.search.new.world c.take.new.world c.home-home.ensures.home
-    (subst (λ l. Settled (λ n. (upto chart c.args.bounds n).take c.home-home.result c.in-Fire.d
-    (map (λ a. block_seen a.now) l) now c.search.new.world) (Ended tt c.take.new.world)) c.deref.ensures.value
-    c.in_ok-take-in-Fire.ensures.gives))
+    process_after _ _ _ c.list.ensures.list (ended_as found_of c.in-Fire.is c.in_ok-d.ensures.gives)
+    (outer_taken _ _ _ c.args.s c.home-home.ensures.home (ap (map (λ a. block_seen a.now)) c.deref.ensures.value)
+    c.in_ok-take-in-Fire.ensures.gives)
 
-pub processing::go_on_inside-returns-in_err-run_block-clause-gives : goal.processing::go_on_inside-returns-in_err-run_block-clause-gives
+pub processing::go_on_inside-returns-in_err-run_block-clause-gives :
+    goal.processing::go_on_inside-returns-in_err-run_block-clause-gives
 processing::go_on_inside-returns-in_err-run_block-clause-gives t c =
-    let error = err_from_is_err_and c.from_residual.result c.from_residual.ensures.1 in
-    rw (error.1, error.2) (err_through end_of went_of _ _ _ _
-    (λ x h. during_fault (chart_of c.args.chart.now) c.args.bounds (now_of c.args.now) c.args.s _ c.args.world.now
-    c.block.ensures.block _ x h) c.in_err-run_block.ensures.gives)
+    failed_through end_of _ _ _ _ c.from_residual.ensures.1 c.in_err-run_block.ensures.gives
+    (λ x h. during_fault _ _ _ c.block.ensures.block h)
 
 pub processing::go_on_inside-returns-in-Cut-clause-gives : goal.processing::go_on_inside-returns-in-Cut-clause-gives
 processing::go_on_inside-returns-in-Cut-clause-gives t c =
-    during_cut (chart_of c.args.chart.now) c.args.bounds (now_of c.args.now) c.args.s _ c.args.world.now
-    c.block.ensures.block c.run_block.new.world (ended_as end_of _ _ c.in-Cut.is c.in_ok-run_block.ensures.gives)
+    during_cut _ _ _ c.block.ensures.block (ended_as end_of c.in-Cut.is c.in_ok-run_block.ensures.gives)
 
-pub processing::go_on_inside-returns-in_err-d-in-Done-clause-gives : goal.processing::go_on_inside-returns-in_err-d-in-Done-clause-gives
+pub processing::go_on_inside-returns-in_err-d-in-Done-clause-gives :
+    goal.processing::go_on_inside-returns-in_err-d-in-Done-clause-gives
 processing::go_on_inside-returns-in_err-d-in-Done-clause-gives t c =
-    let error =
-    err_from_is_err_and c.from_residual-in_err-d-in-Done.result c.from_residual-in_err-d-in-Done.ensures.1 in
-    rw (error.1, error.2) (err_through found_of went_of _ _ _ _
-    (λ x h. inner_fault (chart_of c.args.chart.now) c.args.bounds (now_of c.args.now) c.args.s _ c.args.world.now
-    c.block.ensures.block c.run_block.new.world (ended_as end_of _ _ c.in-Done.is c.in_ok-run_block.ensures.gives) _
-    c.list.ensures.list _ x h) c.in_err-d-in-Done.ensures.gives)
+    failed_through found_of _ _ _ _ c.from_residual-in_err-d-in-Done.ensures.1 c.in_err-d-in-Done.ensures.gives
+    (λ x h. inner_fault _ _ _ c.block.ensures.block (ended_as end_of c.in-Done.is c.in_ok-run_block.ensures.gives)
+    c.list.ensures.list h)
 
 pub processing::go_on_inside-returns-in-Stop-clause-gives : goal.processing::go_on_inside-returns-in-Stop-clause-gives
 processing::go_on_inside-returns-in-Stop-clause-gives t c =
-    inner_after (chart_of c.args.chart.now) c.args.bounds (now_of c.args.now) c.args.s _ c.args.world.now
-    c.block.ensures.block c.run_block.new.world (ended_as end_of _ _ c.in-Done.is c.in_ok-run_block.ensures.gives) _
-    c.list.ensures.list _ c.search.new.world _ (ended_as found_of _ _ c.in-Stop.is c.in_ok-d-in-Done.ensures.gives)
-    (settled_now _)
+    inner_after _ _ _ c.block.ensures.block (ended_as end_of c.in-Done.is c.in_ok-run_block.ensures.gives)
+    c.list.ensures.list (ended_as found_of c.in-Stop.is c.in_ok-d-in-Done.ensures.gives) (settled_now _)
 
-pub processing::go_on_inside-returns-in-DeadEnd-clause-gives : goal.processing::go_on_inside-returns-in-DeadEnd-clause-gives
+pub processing::go_on_inside-returns-in-DeadEnd-clause-gives :
+    goal.processing::go_on_inside-returns-in-DeadEnd-clause-gives
 processing::go_on_inside-returns-in-DeadEnd-clause-gives t c =
-    passed went_of _ _ _ _ (λ q h. inner_after (chart_of c.args.chart.now) c.args.bounds (now_of c.args.now) c.args.s _
-    c.args.world.now c.block.ensures.block c.run_block.new.world
-    (ended_as end_of _ _ c.in-Done.is c.in_ok-run_block.ensures.gives) _ c.list.ensures.list _ c.search.new.world q
-    (ended_as found_of _ _ c.in-DeadEnd.is c.in_ok-d-in-Done.ensures.gives) h) c.process_children.ensures.gives
+    passed _ _ _ c.process_children.ensures.gives (λ q h. inner_after _ _ _ c.block.ensures.block
+    (ended_as end_of c.in-Done.is c.in_ok-run_block.ensures.gives) c.list.ensures.list
+    (ended_as found_of c.in-DeadEnd.is c.in_ok-d-in-Done.ensures.gives) h)
 
 pub processing::go_on_inside-returns-in-No-clause-gives : goal.processing::go_on_inside-returns-in-No-clause-gives
 processing::go_on_inside-returns-in-No-clause-gives t c =
-    passed went_of _ _ _ _ (λ q h. inner_after (chart_of c.args.chart.now) c.args.bounds (now_of c.args.now) c.args.s _
-    c.args.world.now c.block.ensures.block c.run_block.new.world
-    (ended_as end_of _ _ c.in-Done.is c.in_ok-run_block.ensures.gives) _ c.list.ensures.list _ c.search.new.world q
-    (ended_as found_of _ _ c.in-No.is c.in_ok-d-in-Done.ensures.gives) h) c.process_children-in-No.ensures.gives
+    passed _ _ _ c.process_children-in-No.ensures.gives (λ q h. inner_after _ _ _ c.block.ensures.block
+    (ended_as end_of c.in-Done.is c.in_ok-run_block.ensures.gives) c.list.ensures.list
+    (ended_as found_of c.in-No.is c.in_ok-d-in-Done.ensures.gives) h)
 
-pub processing::go_on_inside-returns-in_err-take-in-Fire-clause-gives : goal.processing::go_on_inside-returns-in_err-take-in-Fire-clause-gives
+pub processing::go_on_inside-returns-in_err-take-in-Fire-clause-gives :
+    goal.processing::go_on_inside-returns-in_err-take-in-Fire-clause-gives
 processing::go_on_inside-returns-in_err-take-in-Fire-clause-gives t c =
-    let chart = chart_of c.args.chart.now in
-    let now = now_of c.args.now in
-    let error =
-    err_from_is_err_and c.from_residual-in_err-take-in-Fire.result c.from_residual-in_err-take-in-Fire.ensures.1 in
-    rw (error.1, error.2) (err_through {A = Unit {0}} (λ _. tt) went_of _ _ _ _
-    (λ x h. inner_after chart c.args.bounds now c.args.s _ c.args.world.now c.block.ensures.block c.run_block.new.world
-    (ended_as end_of _ _ c.in-Done.is c.in_ok-run_block.ensures.gives) _ c.list.ensures.list _ c.search.new.world _
-    (ended_as found_of _ _ c.in-Fire.is c.in_ok-d-in-Done.ensures.gives)
-    (inner_take_fault chart c.args.bounds now c.args.s c.in-Fire.d (map (λ a. block_seen a.now) c.in-Fire.actions.items)
-    c.search.new.world c.take.new.world x
-    (subst (λ l. Settled
-    (λ n. (upto chart c.args.bounds n).take c.args.s c.in-Fire.d (map (λ a. block_seen a.now) l) now c.search.new.world)
-    (Faulted x c.take.new.world)) c.deref.ensures.value h))) c.in_err-take-in-Fire.ensures.gives)
+    failed_through nothing_of _ _ _ _ c.from_residual-in_err-take-in-Fire.ensures.1 c.in_err-take-in-Fire.ensures.gives
+    (λ x h. inner_after _ _ _ c.block.ensures.block (ended_as end_of c.in-Done.is c.in_ok-run_block.ensures.gives)
+    c.list.ensures.list
+    (ended_as found_of c.in-Fire.is c.in_ok-d-in-Done.ensures.gives)
+    (inner_take_fault _ _ _ (ap (map (λ a. block_seen a.now)) c.deref.ensures.value) h))
 
-pub processing::go_on_inside-returns-in_ok-take-in-Fire-clause-gives : goal.processing::go_on_inside-returns-in_ok-take-in-Fire-clause-gives
+pub processing::go_on_inside-returns-in_ok-take-in-Fire-clause-gives :
+    goal.processing::go_on_inside-returns-in_ok-take-in-Fire-clause-gives
 processing::go_on_inside-returns-in_ok-take-in-Fire-clause-gives t c =
-    let chart = chart_of c.args.chart.now in
-    let now = now_of c.args.now in
-    inner_after chart c.args.bounds now c.args.s _ c.args.world.now c.block.ensures.block c.run_block.new.world
-    (ended_as end_of _ _ c.in-Done.is c.in_ok-run_block.ensures.gives) _ c.list.ensures.list _ c.search.new.world _
-    (ended_as found_of _ _ c.in-Fire.is c.in_ok-d-in-Done.ensures.gives)
-    (inner_taken chart c.args.bounds now c.args.s c.in-Fire.d (map (λ a. block_seen a.now) c.in-Fire.actions.items)
-    c.search.new.world c.take.new.world
-    (subst (λ l. Settled
-    (λ n. (upto chart c.args.bounds n).take c.args.s c.in-Fire.d (map (λ a. block_seen a.now) l) now c.search.new.world)
-    (Ended tt c.take.new.world)) c.deref.ensures.value c.in_ok-take-in-Fire.ensures.gives))
+    inner_after _ _ _ c.block.ensures.block (ended_as end_of c.in-Done.is c.in_ok-run_block.ensures.gives)
+    c.list.ensures.list
+    (ended_as found_of c.in-Fire.is c.in_ok-d-in-Done.ensures.gives)
+    (inner_taken _ _ _ (ap (map (λ a. block_seen a.now)) c.deref.ensures.value) c.in_ok-take-in-Fire.ensures.gives)
 
-pub processing::process_children-returns-in-Leaf-clause-gives : goal.processing::process_children-returns-in-Leaf-clause-gives
+pub processing::process_children-returns-in-Leaf-clause-gives :
+    goal.processing::process_children-returns-in-Leaf-clause-gives
 processing::process_children-returns-in-Leaf-clause-gives t c =
-    kids_leaf (chart_of c.args.chart.now) c.args.bounds (now_of c.args.now) c.args.s _ c.args.world.now
-    c.in-Leaf.ensures
+    kids_leaf _ _ _ c.args.s c.in-Leaf.ensures
 
-pub processing::process_children-returns-in-None-clause-gives : goal.processing::process_children-returns-in-None-clause-gives
+pub processing::process_children-returns-in-None-clause-gives :
+    goal.processing::process_children-returns-in-None-clause-gives
 processing::process_children-returns-in-None-clause-gives t c =
-    kids_none (chart_of c.args.chart.now) c.args.bounds (now_of c.args.now) c.args.s _ c.args.world.now c.in-Or.ensures
-    c.in-None.ensures.child
+    kids_none _ _ _ c.args.s c.in-Or.ensures c.in-None.ensures.child
 
 pub processing::process_children-returns-in_err-process-in-Some-clause-gives :
     goal.processing::process_children-returns-in_err-process-in-Some-clause-gives
 processing::process_children-returns-in_err-process-in-Some-clause-gives t c =
-    let error = err_from_is_err_and c.from_residual.result c.from_residual.ensures.1 in
-    rw (error.1, error.2) (err_through went_of went_of _ _ _ _
-    (λ x h. kids_fault (chart_of c.args.chart.now) c.args.bounds (now_of c.args.now) c.args.s c.in-Some.x _
-    c.args.world.now _ x c.in-Or.ensures c.in-Some.ensures.child h) c.in_err-process-in-Some.ensures.gives)
+    failed_through went_of _ _ _ _ c.from_residual.ensures.1 c.in_err-process-in-Some.ensures.gives
+    (λ x h. kids_fault _ _ _ c.args.s c.in-Or.ensures c.in-Some.ensures.child h)
 
-pub processing::process_children-returns-in-Stay-clause-gives : goal.processing::process_children-returns-in-Stay-clause-gives
+pub processing::process_children-returns-in-Stay-clause-gives :
+    goal.processing::process_children-returns-in-Stay-clause-gives
 processing::process_children-returns-in-Stay-clause-gives t c =
-    kids_one (chart_of c.args.chart.now) c.args.bounds (now_of c.args.now) c.args.s c.in-Some.x _ c.args.world.now
-    c.process.new.world _ _ c.in-Or.ensures c.in-Some.ensures.child
-    (ended_as went_of _ _ c.in-Stay.is c.in_ok-process-in-Some.ensures.gives) refl
+    kids_one _ _ _ c.args.s c.in-Or.ensures c.in-Some.ensures.child
+    (ended_as went_of c.in-Stay.is c.in_ok-process-in-Some.ensures.gives) refl
 
-pub processing::process_children-returns-in-Out-clause-gives : goal.processing::process_children-returns-in-Out-clause-gives
+pub processing::process_children-returns-in-Out-clause-gives :
+    goal.processing::process_children-returns-in-Out-clause-gives
 processing::process_children-returns-in-Out-clause-gives t c =
-    let chart = chart_of c.args.chart.now in
-    let now = now_of c.args.now in
-    subst (λ z. Settled (λ n. process_children chart (upto chart c.args.bounds n) c.args.s now
-    (comp_of chart.tree c.args.s) c.args.world.now) (Ended z c.process.new.world)) (sym c.out_of.ensures)
-    (kids_out chart c.args.bounds now c.args.s c.in-Some.x c.in-Out.home _ c.args.world.now c.process.new.world
-    c.in-Or.ensures c.in-Some.ensures.child (ended_as went_of _ _ c.in-Out.is c.in_ok-process-in-Some.ensures.gives))
+    kids_out _ _ _ c.args.s c.out_of.ensures c.in-Or.ensures c.in-Some.ensures.child
+    (ended_as went_of c.in-Out.is c.in_ok-process-in-Some.ensures.gives)
 
-pub processing::process_children-returns-in-And-clause-gives : goal.processing::process_children-returns-in-And-clause-gives
+pub processing::process_children-returns-in-And-clause-gives :
+    goal.processing::process_children-returns-in-And-clause-gives
 processing::process_children-returns-in-And-clause-gives t c =
-    passed went_of _ _ _ _ (λ q h. kids_each (chart_of c.args.chart.now) c.args.bounds (now_of c.args.now) c.args.s _
-    c.args.world.now q _ c.in-And.ensures refl h) c.process_all.ensures.gives
+    passed _ _ _ c.process_all.ensures.gives (λ q h. kids_each _ _ _ c.args.s c.in-And.ensures refl h)
 
 pub processing::process_all-loop-next-init : goal.processing::process_all-loop-next-init
-processing::process_all-loop-next-init t c =
-    let chart = chart_of c.args.chart.now in
-    let now = now_of c.args.now in
-    record {
-      goes =
-          subst (λ l. Continues (λ n. (upto chart c.args.bounds n).process_each l now c.args.world.now)
-          (λ n. (upto chart c.args.bounds n).process_each (children_of chart.tree c.args.s) now c.args.world.now))
-          (children_of-from chart.tree c.args.s
-          ∙ ap (children_from chart.tree c.args.s) (sym c.first_child-next.ensures.child)) continues_same;
-      stands = stands_first chart.tree c.first_child-next.ensures.tree c.args.s _ c.first_child-next.ensures.child;
-      fits = c.requires.fits;
-    }
+processing::process_all-loop-next-init t c = record {
+  goes = each_turns_begin _ _ _ _ c.first_child-next.ensures.child;
+  stands =
+      stands_first (chart_of c.args.chart.now).tree c.first_child-next.ensures.tree c.args.s _
+      c.first_child-next.ensures.child;
+  fits = c.requires.fits;
+}
 
 pub processing::process_all-on-requires-clause-state : goal.processing::process_all-on-requires-clause-state
-processing::process_all-on-requires-clause-state t c = (c.loop-next.invariant.stands.child c.in-Some.x c.in-Some.is).within
+processing::process_all-on-requires-clause-state t c =
+    (c.loop-next.invariant.stands.child c.in-Some.x c.in-Some.is).within
 
 pub processing::process_all-process-requires : goal.processing::process_all-process-requires
 processing::process_all-process-requires t c =
     let child = c.loop-next.invariant.stands.child c.in-Some.x c.in-Some.is in
     (omega (arith, child.above, child.within, c.decreases), (c.loop-next.invariant.fits, child.within))
 
-pub processing::process_all-returns-in_err-process-clause-gives : goal.processing::process_all-returns-in_err-process-clause-gives
+pub processing::process_all-returns-in_err-process-clause-gives :
+    goal.processing::process_all-returns-in_err-process-clause-gives
 processing::process_all-returns-in_err-process-clause-gives t c =
-    let error = err_from_is_err_and c.from_residual.result c.from_residual.ensures.1 in
-    rw (error.1, error.2) (err_through went_of went_of _ _ _ _
-    (λ x h.
+    failed_through went_of _ _ _ _ c.from_residual.ensures.1 c.in_err-process.ensures.gives (λ x h.
     let on : is_on c.in-Some.x c.loop-next.world.marks ≡ true = cc in
-    each_turn_fault (chart_of c.args.chart.now) c.args.bounds (now_of c.args.now) c.args.s c.loop-next.next
-    c.loop-next.world _ c.loop-next.invariant.goes c.in-Some.x c.in-Some.is c.loop-next.invariant.stands on _ x h)
-    c.in_err-process.ensures.gives)
+    each_turn_fault _ _ _ _ c.loop-next.invariant.goes c.in-Some.is c.loop-next.invariant.stands on h)
 
 pub processing::process_all-returns-in-Out-clause-gives : goal.processing::process_all-returns-in-Out-clause-gives
 processing::process_all-returns-in-Out-clause-gives t c =
     let on : is_on c.in-Some.x c.loop-next.world.marks ≡ true = cc in
-    each_turn_out (chart_of c.args.chart.now) c.args.bounds (now_of c.args.now) c.args.s c.loop-next.next
-    c.loop-next.world _ c.loop-next.invariant.goes c.in-Some.x c.in-Some.is c.loop-next.invariant.stands on
-    c.process.new.world c.in-Out.home (ended_as went_of _ _ c.in-Out.is c.in_ok-process.ensures.gives)
+    each_turn_out _ _ _ _ c.loop-next.invariant.goes c.in-Some.is c.loop-next.invariant.stands on
+    (ended_as went_of c.in-Out.is c.in_ok-process.ensures.gives)
 
 pub processing::process_all-next_sibling-next-requires : goal.processing::process_all-next_sibling-next-requires
-processing::process_all-next_sibling-next-requires t c = (c.loop-next.invariant.stands.child c.in-Some.x c.in-Some.is).within
+processing::process_all-next_sibling-next-requires t c =
+    (c.loop-next.invariant.stands.child c.in-Some.x c.in-Some.is).within
 
 pub processing::process_all-loop-next-smaller : goal.processing::process_all-loop-next-smaller
 processing::process_all-loop-next-smaller t c =
@@ -1145,17 +876,16 @@ processing::process_all-loop-next-smaller t c =
 
 pub processing::process_all-returns-clause-gives : goal.processing::process_all-returns-clause-gives
 processing::process_all-returns-clause-gives t c =
-    each_turns_end (chart_of c.args.chart.now) c.args.bounds (now_of c.args.now) c.args.s c.loop-next.next
-    c.loop-next.world _ c.loop-next.invariant.goes c.in_default.is
+    each_turns_end _ _ _ _ c.loop-next.invariant.goes c.in_default.is
 
-pub processing::process_all-loop-next-preserved-then-not-on : goal.processing::process_all-loop-next-preserved-then-not-on
+pub processing::process_all-loop-next-preserved-then-not-on :
+    goal.processing::process_all-loop-next-preserved-then-not-on
 processing::process_all-loop-next-preserved-then-not-on t c =
     let chart = chart_of c.args.chart.now in
     let off : is_on c.in-Some.x c.loop-next.world.marks ≡ false = cc in
     record {
       goes =
-          each_turn_off chart c.args.bounds (now_of c.args.now) c.args.s c.loop-next.next c.loop-next.world _
-          c.loop-next.invariant.goes c.in-Some.x c.in-Some.is c.loop-next.invariant.stands _
+          each_turn_off _ _ _ _ c.loop-next.invariant.goes c.in-Some.is c.loop-next.invariant.stands
           c.next_sibling-next.ensures.sibling off;
       stands =
           stands_next chart.tree c.next_sibling-next.ensures.tree c.args.s c.in-Some.x _ _ c.in-Some.is
@@ -1169,9 +899,8 @@ processing::process_all-loop-next-preserved t c =
     let on : is_on c.in-Some.x c.loop-next.world.marks ≡ true = cc in
     record {
       goes =
-          each_turn chart c.args.bounds (now_of c.args.now) c.args.s c.loop-next.next c.loop-next.world _
-          c.loop-next.invariant.goes c.in-Some.x c.in-Some.is c.loop-next.invariant.stands on _ _
-          c.next_sibling-next.ensures.sibling (ended_as went_of _ _ c.in-Stay.is c.in_ok-process.ensures.gives);
+          each_turn _ _ _ _ c.loop-next.invariant.goes c.in-Some.is c.loop-next.invariant.stands on
+          c.next_sibling-next.ensures.sibling (ended_as went_of c.in-Stay.is c.in_ok-process.ensures.gives);
       stands =
           stands_next chart.tree c.next_sibling-next.ensures.tree c.args.s c.in-Some.x _ _ c.in-Some.is
           c.loop-next.invariant.stands c.next_sibling-next.ensures.sibling;

@@ -1,7 +1,7 @@
 use Rattle.std.proofs.Common.{map, ◌+◌, ◌-◌, ◌*◌, ◌^◌, length, drop, reverse}
 use Rattle.std.specs.List.{sum_by, AllByRecursion}
-use Rattle.active_config.specs.Tree.{state_count, children_of, children_from, children_back_from}
-use Rattle.sos_interpreter.proofs.Measure.{rank_of}
+use Rattle.active_config.specs.Tree.{children_of, children_from, children_back_from}
+use Rattle.sos_interpreter.proofs.Measure.{measure_of}
 use Rattle.sos_interpreter.proofs.Places.{Leads}
 use Rattle.sos_interpreter.specs.Charts.{FitsChart}
 use Rattle.sos_interpreter.specs.Settled.{Continues}
@@ -13,88 +13,72 @@ use Rattle.state_tree.specs.Valid.{AreTrans, AreStmts}
 use Rattle.state_tree.specs.Views.{block_seen, list_seen}
 use Rattle.sos_interpreter.proofs.+rules.Given as goal
 
-abbrev pub decreases-blocks::send : goal.decreases-blocks::send
-decreases-blocks::send l = let n = state_count (chart_of l.chart.now).tree in rank_of (l.bounds.depth - l.now.depth) n (0)
-
-abbrev pub decreases-blocks::statement : goal.decreases-blocks::statement
-decreases-blocks::statement l = let n = state_count (chart_of l.chart.now).tree in rank_of (l.bounds.depth - l.now.depth) n (1)
+-- ---- measures: the depth left, and at one depth what a call stands over
 
 abbrev pub decreases-blocks::run_block : goal.decreases-blocks::run_block
-decreases-blocks::run_block l = let n = state_count (chart_of l.chart.now).tree in rank_of (l.bounds.depth - l.now.depth) n (2)
+decreases-blocks::run_block l = measure_of l.chart.now l.bounds l.now (λ _. 2)
+
+abbrev pub decreases-blocks::statement : goal.decreases-blocks::statement
+decreases-blocks::statement l = measure_of l.chart.now l.bounds l.now (λ _. 1)
+
+abbrev pub decreases-blocks::send : goal.decreases-blocks::send
+decreases-blocks::send l = measure_of l.chart.now l.bounds l.now (λ _. 0)
 
 abbrev pub decreases-searches::search : goal.decreases-searches::search
-decreases-searches::search l = let n = state_count (chart_of l.chart.now).tree in rank_of (l.bounds.depth - l.now.depth) n (3)
-
-abbrev pub decreases-firings::play : goal.decreases-firings::play
-decreases-firings::play l = let n = state_count (chart_of l.chart.now).tree in rank_of (l.bounds.depth - l.now.depth) n (3)
+decreases-searches::search l = measure_of l.chart.now l.bounds l.now (λ _. 3)
 
 abbrev pub decreases-exits::exit : goal.decreases-exits::exit
-decreases-exits::exit l =
-    let n = state_count (chart_of l.chart.now).tree in rank_of (l.bounds.depth - l.now.depth) n (3 * (n - l.s) + 6)
+decreases-exits::exit l = measure_of l.chart.now l.bounds l.now (λ n. 3 * (n - l.s) + 6)
 
 abbrev pub decreases-exits::exit_children : goal.decreases-exits::exit_children
-decreases-exits::exit_children l =
-    let n = state_count (chart_of l.chart.now).tree in rank_of (l.bounds.depth - l.now.depth) n (3 * (n - l.s) + 5)
-
-abbrev pub decreases-exits::exit_active : goal.decreases-exits::exit_active
-decreases-exits::exit_active l =
-    let n = state_count (chart_of l.chart.now).tree in rank_of (l.bounds.depth - l.now.depth) n (3 * (n - l.s) + 4)
+decreases-exits::exit_children l = measure_of l.chart.now l.bounds l.now (λ n. 3 * (n - l.s) + 5)
 
 abbrev pub decreases-exits::exit_all : goal.decreases-exits::exit_all
-decreases-exits::exit_all l =
-    let n = state_count (chart_of l.chart.now).tree in rank_of (l.bounds.depth - l.now.depth) n (3 * (n - l.s) + 4)
+decreases-exits::exit_all l = measure_of l.chart.now l.bounds l.now (λ n. 3 * (n - l.s) + 4)
+
+abbrev pub decreases-exits::exit_active : goal.decreases-exits::exit_active
+decreases-exits::exit_active l = measure_of l.chart.now l.bounds l.now (λ n. 3 * (n - l.s) + 4)
 
 abbrev pub decreases-entries::enter : goal.decreases-entries::enter
-decreases-entries::enter l =
-    let n = state_count (chart_of l.chart.now).tree in rank_of (l.bounds.depth - l.now.depth) n (6 * (n - l.s) + 9)
+decreases-entries::enter l = measure_of l.chart.now l.bounds l.now (λ n. 6 * (n - l.s) + 9)
 
 abbrev pub decreases-entries::enter_inside : goal.decreases-entries::enter_inside
-decreases-entries::enter_inside l =
-    let n = state_count (chart_of l.chart.now).tree in rank_of (l.bounds.depth - l.now.depth) n (6 * (n - l.s) + 8)
-
-abbrev pub decreases-entries::enter_toward : goal.decreases-entries::enter_toward
-decreases-entries::enter_toward l =
-    let n = state_count (chart_of l.chart.now).tree in rank_of (l.bounds.depth - l.now.depth) n (6 * (n - l.s) + 7)
+decreases-entries::enter_inside l = measure_of l.chart.now l.bounds l.now (λ n. 6 * (n - l.s) + 8)
 
 abbrev pub decreases-entries::enter_all : goal.decreases-entries::enter_all
-decreases-entries::enter_all l =
-    let n = state_count (chart_of l.chart.now).tree in rank_of (l.bounds.depth - l.now.depth) n (6 * (n - l.s) + 7)
+decreases-entries::enter_all l = measure_of l.chart.now l.bounds l.now (λ n. 6 * (n - l.s) + 7)
 
-abbrev pub decreases-defaults::defaults : goal.decreases-defaults::defaults
-decreases-defaults::defaults l =
-    let n = state_count (chart_of l.chart.now).tree in rank_of (l.bounds.depth - l.now.depth) n (6 * (n - l.s) + 6)
-
-abbrev pub decreases-defaults::default_search : goal.decreases-defaults::default_search
-decreases-defaults::default_search l =
-    let n = state_count (chart_of l.chart.now).tree in rank_of (l.bounds.depth - l.now.depth) n (6 * (n - l.s) + 5)
+abbrev pub decreases-entries::enter_toward : goal.decreases-entries::enter_toward
+decreases-entries::enter_toward l = measure_of l.chart.now l.bounds l.now (λ n. 6 * (n - l.s) + 7)
 
 abbrev pub decreases-entries::enter_child : goal.decreases-entries::enter_child
-decreases-entries::enter_child l =
-    let n = state_count (chart_of l.chart.now).tree in rank_of (l.bounds.depth - l.now.depth) n (6 * (n - l.s) + 4)
+decreases-entries::enter_child l = measure_of l.chart.now l.bounds l.now (λ n. 6 * (n - l.s) + 4)
+
+abbrev pub decreases-defaults::defaults : goal.decreases-defaults::defaults
+decreases-defaults::defaults l = measure_of l.chart.now l.bounds l.now (λ n. 6 * (n - l.s) + 6)
+
+abbrev pub decreases-defaults::default_search : goal.decreases-defaults::default_search
+decreases-defaults::default_search l = measure_of l.chart.now l.bounds l.now (λ n. 6 * (n - l.s) + 5)
+
+abbrev pub decreases-firings::play : goal.decreases-firings::play
+decreases-firings::play l = measure_of l.chart.now l.bounds l.now (λ _. 3)
 
 abbrev pub decreases-firings::take : goal.decreases-firings::take
-decreases-firings::take l =
-    let n = state_count (chart_of l.chart.now).tree in rank_of (l.bounds.depth - l.now.depth) n (6 * n + 10)
+decreases-firings::take l = measure_of l.chart.now l.bounds l.now (λ n. 6 * n + 10)
 
 abbrev pub decreases-processing::process : goal.decreases-processing::process
-decreases-processing::process l =
-    let n = state_count (chart_of l.chart.now).tree in
-    rank_of (l.bounds.depth - l.now.depth) n (6 * n + 4 * (n - l.s) + 14)
+decreases-processing::process l = measure_of l.chart.now l.bounds l.now (λ n. 6 * n + 4 * (n - l.s) + 14)
 
 abbrev pub decreases-processing::go_on_inside : goal.decreases-processing::go_on_inside
-decreases-processing::go_on_inside l =
-    let n = state_count (chart_of l.chart.now).tree in
-    rank_of (l.bounds.depth - l.now.depth) n (6 * n + 4 * (n - l.s) + 13)
+decreases-processing::go_on_inside l = measure_of l.chart.now l.bounds l.now (λ n. 6 * n + 4 * (n - l.s) + 13)
 
 abbrev pub decreases-processing::process_children : goal.decreases-processing::process_children
-decreases-processing::process_children l =
-    let n = state_count (chart_of l.chart.now).tree in
-    rank_of (l.bounds.depth - l.now.depth) n (6 * n + 4 * (n - l.s) + 12)
+decreases-processing::process_children l = measure_of l.chart.now l.bounds l.now (λ n. 6 * n + 4 * (n - l.s) + 12)
 
 abbrev pub decreases-processing::process_all : goal.decreases-processing::process_all
-decreases-processing::process_all l =
-    let n = state_count (chart_of l.chart.now).tree in
-    rank_of (l.bounds.depth - l.now.depth) n (6 * n + 4 * (n - l.s) + 11)
+decreases-processing::process_all l = measure_of l.chart.now l.bounds l.now (λ n. 6 * n + 4 * (n - l.s) + 11)
+
+-- ---- loops
 
 abbrev pub invariant-blocks::run_block-loop-stmt : goal.invariant-blocks::run_block-loop-stmt
 invariant-blocks::run_block-loop-stmt l = record {
@@ -104,54 +88,6 @@ invariant-blocks::run_block-loop-stmt l = record {
       l.fn.world);
   fits : FitsChart (chart_of l.chart) l.world;
 }
-
-abbrev pub invariant-firings::play-loop-action : goal.invariant-firings::play-loop-action
-invariant-firings::play-loop-action l = record {
-  goes : Continues (λ n. (upto (chart_of l.chart) l.bounds n).play l.s
-      (map (λ a. block_seen a.now) (drop l.action-index l.actions)) (now_of l.now) l.world)
-      (λ n. (upto (chart_of l.chart) l.bounds n).play l.s (map (λ a. block_seen a.now) l.actions) (now_of l.now)
-      l.fn.world);
-  fits : FitsChart (chart_of l.chart) l.world;
-}
-
-abbrev pub invariant-exits::exit_all-loop-next : goal.invariant-exits::exit_all-loop-next
-invariant-exits::exit_all-loop-next l = record {
-  goes : Continues (λ n. (upto (chart_of l.chart) l.bounds n).exit_each
-      (children_back_from (chart_of l.chart).tree l.s l.next) (now_of l.now) l.world)
-      (λ n. (upto (chart_of l.chart) l.bounds n).exit_each (reverse (children_of (chart_of l.chart).tree l.s))
-      (now_of l.now) l.fn.world);
-  stands : Stands (chart_of l.chart).tree l.s l.next;
-  fits : FitsChart (chart_of l.chart) l.world;
-}
-
-abbrev pub invariant-entries::enter_all-loop-next : goal.invariant-entries::enter_all-loop-next
-invariant-entries::enter_all-loop-next l = record {
-  goes : Continues (λ n. (upto (chart_of l.chart) l.bounds n).enter_each
-      (children_from (chart_of l.chart).tree l.s l.next) l.d (now_of l.now) l.world)
-      (λ n. (upto (chart_of l.chart) l.bounds n).enter_each (children_of (chart_of l.chart).tree l.s) l.d (now_of l.now)
-      l.fn.world);
-  stands : Stands (chart_of l.chart).tree l.s l.next;
-  fits : FitsChart (chart_of l.chart) l.world;
-}
-
-abbrev pub invariant-processing::process_all-loop-next : goal.invariant-processing::process_all-loop-next
-invariant-processing::process_all-loop-next l = record {
-  goes : Continues (λ n. (upto (chart_of l.chart) l.bounds n).process_each
-      (children_from (chart_of l.chart).tree l.s l.next) (now_of l.now) l.world)
-      (λ n. (upto (chart_of l.chart) l.bounds n).process_each (children_of (chart_of l.chart).tree l.s) (now_of l.now)
-      l.fn.world);
-  stands : Stands (chart_of l.chart).tree l.s l.next;
-  fits : FitsChart (chart_of l.chart) l.world;
-}
-
-abbrev pub decreases-exits::exit_all-loop-next : goal.decreases-exits::exit_all-loop-next
-decreases-exits::exit_all-loop-next l = behind l.next
-
-abbrev pub decreases-entries::enter_all-loop-next : goal.decreases-entries::enter_all-loop-next
-decreases-entries::enter_all-loop-next l = ahead (chart_of l.chart).tree l.next
-
-abbrev pub decreases-processing::process_all-loop-next : goal.decreases-processing::process_all-loop-next
-decreases-processing::process_all-loop-next l = ahead (chart_of l.chart).tree l.next
 
 abbrev pub invariant-searches::search-loop-places : goal.invariant-searches::search-loop-places
 invariant-searches::search-loop-places l = record {
@@ -167,3 +103,51 @@ invariant-searches::search-loop-places l = record {
 abbrev pub decreases-searches::search-loop-places : goal.decreases-searches::search-loop-places
 decreases-searches::search-loop-places l =
     (l.bounds.steps - l.world.used) * (2 ^ 64 + 1) + length l.rest + sum_by (λ p. length p.rest.now + 1) l.places.items
+
+abbrev pub invariant-exits::exit_all-loop-next : goal.invariant-exits::exit_all-loop-next
+invariant-exits::exit_all-loop-next l = record {
+  goes : Continues (λ n. (upto (chart_of l.chart) l.bounds n).exit_each
+      (children_back_from (chart_of l.chart).tree l.s l.next) (now_of l.now) l.world)
+      (λ n. (upto (chart_of l.chart) l.bounds n).exit_each (reverse (children_of (chart_of l.chart).tree l.s))
+      (now_of l.now) l.fn.world);
+  stands : Stands (chart_of l.chart).tree l.s l.next;
+  fits : FitsChart (chart_of l.chart) l.world;
+}
+
+abbrev pub decreases-exits::exit_all-loop-next : goal.decreases-exits::exit_all-loop-next
+decreases-exits::exit_all-loop-next l = behind l.next
+
+abbrev pub invariant-entries::enter_all-loop-next : goal.invariant-entries::enter_all-loop-next
+invariant-entries::enter_all-loop-next l = record {
+  goes : Continues (λ n. (upto (chart_of l.chart) l.bounds n).enter_each
+      (children_from (chart_of l.chart).tree l.s l.next) l.d (now_of l.now) l.world)
+      (λ n. (upto (chart_of l.chart) l.bounds n).enter_each (children_of (chart_of l.chart).tree l.s) l.d (now_of l.now)
+      l.fn.world);
+  stands : Stands (chart_of l.chart).tree l.s l.next;
+  fits : FitsChart (chart_of l.chart) l.world;
+}
+
+abbrev pub decreases-entries::enter_all-loop-next : goal.decreases-entries::enter_all-loop-next
+decreases-entries::enter_all-loop-next l = ahead (chart_of l.chart).tree l.next
+
+abbrev pub invariant-firings::play-loop-action : goal.invariant-firings::play-loop-action
+invariant-firings::play-loop-action l = record {
+  goes : Continues (λ n. (upto (chart_of l.chart) l.bounds n).play l.s
+      (map (λ a. block_seen a.now) (drop l.action-index l.actions)) (now_of l.now) l.world)
+      (λ n. (upto (chart_of l.chart) l.bounds n).play l.s (map (λ a. block_seen a.now) l.actions) (now_of l.now)
+      l.fn.world);
+  fits : FitsChart (chart_of l.chart) l.world;
+}
+
+abbrev pub invariant-processing::process_all-loop-next : goal.invariant-processing::process_all-loop-next
+invariant-processing::process_all-loop-next l = record {
+  goes : Continues (λ n. (upto (chart_of l.chart) l.bounds n).process_each
+      (children_from (chart_of l.chart).tree l.s l.next) (now_of l.now) l.world)
+      (λ n. (upto (chart_of l.chart) l.bounds n).process_each (children_of (chart_of l.chart).tree l.s) (now_of l.now)
+      l.fn.world);
+  stands : Stands (chart_of l.chart).tree l.s l.next;
+  fits : FitsChart (chart_of l.chart) l.world;
+}
+
+abbrev pub decreases-processing::process_all-loop-next : goal.decreases-processing::process_all-loop-next
+decreases-processing::process_all-loop-next l = ahead (chart_of l.chart).tree l.next

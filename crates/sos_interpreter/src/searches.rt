@@ -1,5 +1,5 @@
 //! The search of a list of transitions, and what it finds.
-ghost use Rattle.std.specs.Prelude.{◌≡◌, ◌++◌, ◌∷◌, [], map, IfOk, IfErr, OnOk};
+ghost use Rattle.std.specs.Prelude.{◌≡◌, ◌≢◌, Err, ◌++◌, ◌∷◌, [], map, IfOk, IfErr, OnOk};
 ghost use Rattle.actions.specs.declared.engine.Halt.TheVariants as halts;
 ghost use Rattle.state_tree.specs.Kept.{chart_of};
 ghost use Rattle.state_tree.specs.Valid.{IsTrans, AreTrans};
@@ -107,8 +107,9 @@ pub(crate) fn search<'a>(
 fn enabled(chart: &Chart, world: &LiveWorld, t: &Trans, now: Now) -> Result<bool, Halt>
     requires fits { FitsChart (chart_of chart.now) world.now }
     requires trans { IsTrans (chart_of chart.now) (trans_seen t.now) }
-    ensures { Does (λ b. b) (searches.is_enabled (trans_seen t.now) (now_of now) world.now) result
-        world.now }
+    ensures does { Does (λ b. b) (searches.is_enabled (trans_seen t.now) (now_of now) world.now)
+        result world.now }
+    ensures memory { result ≢ Err halts.Memory }
 {
     if !event_fits(t.event, now.event) {
         return Ok(false);

@@ -226,7 +226,7 @@ searches::search-loop-places-preserved-in-Some-pop t c =
 pub searches::search-returns-in_err-enabled-in-Some-clause-gives :
     goal.searches::search-returns-in_err-enabled-in-Some-clause-gives
 searches::search-returns-in_err-enabled-in-Some-clause-gives t c =
-    failed_does (λ b. b) _ _ _ _ c.from_residual.ensures.1 c.in_err-enabled-in-Some.ensures
+    failed_does (λ b. b) _ _ _ _ c.from_residual.ensures.1 c.in_err-enabled-in-Some.ensures.does
     (λ x h. guard_faults c.in-Some.ensures.cases.0 c.loop-places.invariant.leads h)
 
 pub searches::search-returns-in_err-run_block-in-Some-clause-gives :
@@ -235,12 +235,12 @@ searches::search-returns-in_err-run_block-in-Some-clause-gives t c =
     failed_through end_of _ _ _ _ c.from_residual-in_err-run_block-in-Some.ensures.1
     c.in_err-run_block-in-Some.ensures.gives
     (λ x h. condition_faults c.in-Some.ensures.cases.0 c.loop-places.invariant.leads
-    c.in_ok-enabled-in-Some.ensures c.if-branch.true c.items.ensures h)
+    c.in_ok-enabled-in-Some.ensures.does c.if-branch.true c.items.ensures h)
 
 pub searches::search-returns-in-Cut-clause-gives : goal.searches::search-returns-in-Cut-clause-gives
 searches::search-returns-in-Cut-clause-gives t c =
     condition_cut c.in-Some.ensures.cases.0 c.loop-places.invariant.leads
-    c.in_ok-enabled-in-Some.ensures c.if-branch.true c.items.ensures c.in-Cut.is c.in_ok-run_block-in-Some.ensures.gives
+    c.in_ok-enabled-in-Some.ensures.does c.if-branch.true c.items.ensures c.in-Cut.is c.in_ok-run_block-in-Some.ensures.gives
 
 pub searches::search-returns-in-State-clause-found : goal.searches::search-returns-in-State-clause-found
 searches::search-returns-in-State-clause-found t c =
@@ -258,7 +258,7 @@ searches::search-returns-in_err-pay-in-Junction-clause-gives t c =
     failed_does nothing_of _ _ _ _ c.from_residual-in_err-pay-in-Junction.ensures.1
     c.in_err-pay-in-Junction.ensures.does
     (λ x h. junction_faults c.in-Some.ensures.cases.0 c.loop-places.invariant.leads
-    c.in_ok-enabled-in-Some.ensures c.if-branch.true c.items.ensures c.in-Done.is
+    c.in_ok-enabled-in-Some.ensures.does c.if-branch.true c.items.ensures c.in-Done.is
     c.in_ok-run_block-in-Some.ensures.gives (sym c.in-Junction.is) h)
 
 pub searches::search-returns-then-is_empty-clause-gives : goal.searches::search-returns-then-is_empty-clause-gives
@@ -267,7 +267,7 @@ searches::search-returns-then-is_empty-clause-gives t c =
     sym (ap list_seen (empty_is c.junction-next.result.now (grind (arith, nat_tests))))
     ∙ c.junction-next.ensures.list in
     at_dead_end c.in-Some.ensures.cases.0 c.loop-places.invariant.leads
-    c.in_ok-enabled-in-Some.ensures c.if-branch.true c.items.ensures c.in-Done.is
+    c.in_ok-enabled-in-Some.ensures.does c.if-branch.true c.items.ensures c.in-Done.is
     c.in_ok-run_block-in-Some.ensures.gives (sym c.in-Junction.is) c.in_ok-pay-in-Junction.ensures.does none
 
 pub searches::search-loop-places-smaller-in-Junction : goal.searches::search-loop-places-smaller-in-Junction
@@ -289,7 +289,7 @@ searches::search-loop-places-preserved-in-Junction t c =
     record {
       leads =
           at_junction c.in-Some.ensures.cases.0 c.loop-places.invariant.leads
-          c.in_ok-enabled-in-Some.ensures c.if-branch.true c.items.ensures c.in-Done.is
+          c.in_ok-enabled-in-Some.ensures.does c.if-branch.true c.items.ensures c.in-Done.is
           c.in_ok-run_block-in-Some.ensures.gives
           _ pushed refl (ap block_seen c.items-in-Junction.ensures) (sym c.in-Junction.is)
           c.in_ok-pay-in-Junction.ensures.does c.junction-next.ensures.list some;
@@ -308,7 +308,7 @@ searches::search-loop-places-preserved t c =
     c.loop-places.invariant.rest in
     record {
       leads =
-          passes_over c.in-Some.ensures.cases.0 c.loop-places.invariant.leads c.in_ok-enabled-in-Some.ensures
+          passes_over c.in-Some.ensures.cases.0 c.loop-places.invariant.leads c.in_ok-enabled-in-Some.ensures.does
           c.if-branch.false;
       fits = c.loop-places.invariant.fits;
       rest = list.1;
@@ -319,7 +319,7 @@ searches::search-loop-places-preserved t c =
 pub searches::search-returns-in-State-clause-gives : goal.searches::search-returns-in-State-clause-gives
 searches::search-returns-in-State-clause-gives t c =
     at_state c.in-Some.ensures.cases.0 c.loop-places.invariant.leads
-    c.in_ok-enabled-in-Some.ensures c.if-branch.true c.items.ensures c.in-Done.is
+    c.in_ok-enabled-in-Some.ensures.does c.if-branch.true c.items.ensures c.in-Done.is
     c.in_ok-run_block-in-Some.ensures.gives (sym c.in-State.is)
     (collected c.in_ok-actions-in-State.ensures.ok c.deref.ensures.value c.items-in-State.ensures)
 

@@ -47,6 +47,7 @@ impl Pieces {
     }
 
     /// Whether there is room for a text of that length.
+    #[inline(always)]
     fn has_room(&self, count: usize) -> bool
         ensures { IsTrue result → length self.now.bytes + count ≤ PIECE_SIZE }
     {
@@ -70,6 +71,7 @@ impl Pieces {
     }
 
     /// Puts a text after what is there.
+    #[inline(always)]
     pub fn put<O: Sink>(&mut self, text: &[u8], out: &mut O)
         ensures { Puts (O.wrote out.old) (O.wrote out.new) (O.faults out.old) (O.faults out.new)
             self.old self.new text.now }
@@ -82,6 +84,7 @@ impl Pieces {
     }
 
     /// Puts a text for which there may be no room, byte by byte.
+    #[inline(never)]
     fn put_bytes<O: Sink>(&mut self, text: &[u8], out: &mut O)
         ensures { Puts (O.wrote out.old) (O.wrote out.new) (O.faults out.old) (O.faults out.new)
             self.old self.new text.now }
@@ -114,6 +117,7 @@ impl Pieces {
     }
 
     /// Keeps a text, for which there is room unless a write failed.
+    #[inline(always)]
     fn keep(&mut self, text: &[u8])
         requires { self.old.failed ≡ false → length self.old.bytes + length text.now ≤ PIECE_SIZE }
         ensures { self.new ≡ kept self.old text.now }

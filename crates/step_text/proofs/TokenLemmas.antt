@@ -14,7 +14,7 @@ is_some_token token = nat_lt 0 (length token)
 abbrev blanks : List ℕ → ℕ
 blanks text = position_or_len (λ b. not (is_blank b)) text
 
-abbrev word : List ℕ → ℕ
+abbrev pub word : List ℕ → ℕ
 word text = position_or_len is_blank text
 
 -- ---- blanks in front
@@ -87,6 +87,16 @@ chosen false m n is = cc
 
 left_out : (m n : ℕ) → None ≡ cond (nat_lt m n) (Some m) None → n ≤ m
 left_out m n is = grind (arith, nat_tests)
+
+front_of : (b k : ℕ) (text : List ℕ) → is_blank b ≡ false → take (cond (not (is_blank b)) (1 + k) 0) (b ∷ text) ≡ b ∷ take k text
+front_of b k text e = let m : 1 + k ≡ suc k = omega arith in rw (e, m) refl
+
+-- a text that begins with a byte that isn't blank has a token that begins with it
+pub tokens_at_once : (b : ℕ) (text : List ℕ) → is_blank b ≡ false
+    → tokens_of (b ∷ text) ≡ (b ∷ take (word text) text) ∷ tokens_of (drop (word (b ∷ text)) (b ∷ text))
+tokens_at_once b text e =
+    let some : 0 < word (b ∷ text) = rw e (omega arith) in
+    tokens_word (b ∷ text) some ∙ ap (λ (z : List ℕ). z ∷ tokens_of (drop (word (b ∷ text)) (b ∷ text))) (front_of b (word text) text e)
 
 -- a text of blanks has no token
 pub tokens_none : (text : List ℕ) → None ≡ position (λ b. not (is_blank b)) text → tokens_of text ≡ []

@@ -18,7 +18,9 @@ use Rattle.actions.specs.Names.{Names}
 use Rattle.actions.specs.declared.event.Event.{Event}
 use Rattle.actions.specs.declared.expr.Value.{Value}
 use Rattle.step_text.specs.declared.fault.LineFault.{LineFault}
-use Rattle.step_text.specs.EventLines.{tokens_of, event_of_line, event_of_tokens, event_of, with_tokens}
+use Rattle.std.proofs.lemmas.Bool.Decides.{nat_tests}
+use Rattle.step_text.proofs.TokenLemmas.{word, tokens_at_once}
+use Rattle.step_text.specs.EventLines.{is_blank, tokens_of, event_of_line, event_of_tokens, event_of, with_tokens}
 use Rattle.step_text.specs.InputValues.{and_then, all_given, given, no_inputs, given_at, given_by_name, given_to, with_input, value_of_text, is_input}
 use Rattle.actions.specs.Runs.{AreInputValues}
 
@@ -73,6 +75,13 @@ pub says_comment : (n : Names) (line first : List ℕ) (rest : List (List ℕ)) 
     → nat_eq (slice_index first 0) 35 ≡ true → event_of_line n line ≡ Ok None
 unfolding event_of_line
 says_comment n line first rest are hash = ap (event_of_tokens n) are ∙ rw hash refl
+
+pub says_hash : (n : Names) (line : List ℕ) → nat_eq (slice_index line 0) 35 ≡ true → event_of_line n line ≡ Ok None
+says_hash n [] hash = absurd (cc)
+says_hash n (b ∷ text) hash =
+    let is : b ≡ 35 = grind (arith, nat_tests) in
+    let solid : is_blank b ≡ false = rw is refl in
+    says_comment n (b ∷ text) (b ∷ take (word text) text) (tokens_of (drop (word (b ∷ text)) (b ∷ text))) (tokens_at_once b text solid) hash
 
 pub says_no_event : (n : Names) (line first : List ℕ) (rest : List (List ℕ)) (fault : LineFault) → tokens_of line ≡ first ∷ rest
     → nat_eq (slice_index first 0) 35 ≡ false → event_of n first ≡ Err fault → event_of_line n line ≡ Err fault

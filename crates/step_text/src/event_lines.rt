@@ -1,5 +1,5 @@
 //! Event lines.
-ghost use Rattle.std.specs.Prelude.{◌≡◌, ◌<◌, ◌^◌, length, IfOk, IfSome};
+ghost use Rattle.std.specs.Prelude.{◌≡◌, ◌<◌, ◌^◌, length, nat_eq, slice_index, IfOk, IfSome};
 ghost use Rattle.std.specs.List.{position};
 ghost use Rattle.std.specs.Str.{bytes_eq};
 ghost use Rattle.actions.specs.Engines.{CanReactTo};
@@ -51,6 +51,9 @@ fn read_line(names: &Names, line: &[u8], vals: &mut InputVals) -> Result<Option<
     ensures says { parts.Says (names_of names.now) (spec.event_of_line (names_of names.now) line.now) vals.new.values result }
     ensures made { IsMadeFor (names_of names.now) vals.new }
 {
+    if begins_with_hash(line) {
+        return Ok(None);
+    }
     let Some(first) = next_token(line) else {
         return Ok(None);
     };
@@ -65,6 +68,13 @@ fn read_line(names: &Names, line: &[u8], vals: &mut InputVals) -> Result<Option<
         Ok(()) => Ok(Some(event)),
         Err(fault) => Err(fault),
     }
+}
+
+/// Whether the first byte of a line is `#`. Most comments are told by it, without their token.
+fn begins_with_hash(line: &[u8]) -> bool
+    ensures { result ≡ nat_eq (slice_index line.now 0) 35 }
+{
+    !line.is_empty() && line[0] == b'#'
 }
 
 /// Keeps what the tokens of a text give to inputs.

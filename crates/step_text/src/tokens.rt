@@ -36,6 +36,7 @@ pub(crate) fn next_token(text: &[u8]) -> Option<TokenCut<'_>>
 }
 
 /// The place of the first space or tab.
+#[inline(never)]
 fn first_blank(text: &[u8]) -> Option<usize>
     ensures place { result ≡ position is_blank text.now }
     ensures within { IfSome result (λ n. n < length text.now) }

@@ -1,9 +1,13 @@
-use Rattle.std.proofs.Common.{◌≡◌, length, get_or, true, false, nat_eq, sym, arith}
+use Rattle.std.proofs.Common.{◌≡◌, length, get_or, true, false, nat_eq, sym, ◌∙◌, arith}
 use Rattle.std.proofs.lemmas.Bool.Decides.{nat_tests}
 use Rattle.actions.specs.Names.{names_of}
 use Rattle.step_text.specs.EventLines.{tokens_of}
-use Rattle.step_text.proofs.ValueLemmas.{says_nothing, says_comment, says_no_event, says_no_values, says_step, no_values}
+use Rattle.step_text.proofs.ValueLemmas.{says_nothing, says_hash, says_comment, says_no_event, says_no_values, says_step, no_values}
 use Rattle.step_text.proofs.event_lines.read_line.Goals as goal
+
+pub returns-then-begins_with_hash-clause-says : goal.returns-then-begins_with_hash-clause-says
+returns-then-begins_with_hash-clause-says c =
+    says_hash (names_of c.args.names.now) c.args.line.now (sym c.begins_with_hash.ensures ∙ c.if-begins_with_hash.true)
 
 pub returns-in_default-clause-says : goal.returns-in_default-clause-says
 returns-in_default-clause-says c = says_nothing (names_of c.args.names.now) c.args.line.now c.in_default.ensures.tokens

@@ -15,7 +15,7 @@ use Rattle.actions.specs.declared.sort.ExprFault.{ExprFault}
 use Rattle.actions.specs.declared.sort.ExprSort.TheVariants as sorts
 use Rattle.actions.specs.Exprs.{Expr, Lit, Flag, Read, Active, Neg, Not, Bin}
 use Rattle.actions.specs.Names.{Names}
-use Rattle.actions.specs.Sorts.{Scope, Sorted, scope_of, sort_of, assignment_fault}
+use Rattle.actions.specs.Sorts.{Sorted, scope_of, sort_of, assignment_fault}
 use Rattle.state_tree.specs.declared.limits.TheConstants.{OPERATOR_LIMIT}
 use Rattle.state_tree.specs.Chart.{is_or}
 use Rattle.state_tree.specs.Expressions.{operator_count}

@@ -1,7 +1,7 @@
 //! Code as it is written, and code that was accepted.
 use crate::instr::Instr;
-use active_config::Comp;
 use actions::{EventDecl, Var};
+use active_config::Comp;
 use flow_base::{List, Text};
 use std::marker::Model;
 

@@ -1,1 +1,12 @@
-
+pub mod Accepted
+pub mod Measures
+pub mod Reckoned
+pub mod Greatest
+pub mod ListLemmas
+pub mod FaultLemmas
+pub mod MeasureLemmas
+pub mod TableLemmas
+pub mod SiblingLemmas
+pub mod WholeTable
+pub mod AcceptLemmas
+pub mod RunLemmas

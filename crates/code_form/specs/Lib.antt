@@ -7,4 +7,5 @@ pub mod Tables
 pub mod WellFormed
 pub mod Sound
 pub mod Form
+pub mod Acceptance
 pub mod Kept

@@ -6,3 +6,7 @@ pub mod Used
 pub mod LeftLemmas
 pub mod RoomLemmas
 pub mod EventLemmas
+pub mod ValueLemmas
+pub mod WorldLemmas
+pub mod FrameLemmas
+pub mod MomentLemmas

@@ -1,3 +1,4 @@
 pub mod Ahead
 pub mod Left
 pub mod Room
+pub mod Moments

@@ -10,4 +10,4 @@ mod laws;
 
 /// The code and what it means.
 pub use code_form as form;
-pub use laws::{events_take_few_frames, events_take_few_instructions};
+pub use laws::{events_take_few_frames, events_take_few_instructions, moments_are_sound};

@@ -7,6 +7,10 @@ pub mod LeftLemmas
 pub mod RoomLemmas
 pub mod EventLemmas
 pub mod ValueLemmas
+pub mod FaultLemmas
 pub mod WorldLemmas
+pub mod AssignLemmas
 pub mod FrameLemmas
+pub mod NoteLemmas
 pub mod MomentLemmas
+pub mod StartLemmas

@@ -1,5 +1,6 @@
 -- What well-formed code keeps, and what stands at a place of it.
-use Rattle.std.proofs.Common.{◌≡◌, ℕ, zero, suc, ◌+◌, ◌<◌, Bool, true, false, List, [], ◌∷◌, length, Option, Some, None, refl, sym, ap, ◌∙◌, subst, arith}
+use Rattle.std.proofs.Common.{◌≡◌, ℕ, zero, suc, ◌+◌, ◌<◌, Bool, true, false, List, [], ◌∷◌, length, Option, Some}
+use Rattle.std.proofs.Common.{None, refl, sym, ap, ◌∙◌, subst, arith}
 use Rattle.std.specs.Prelude.{◌&&◌, nat_lt, slice_get, slice_index_or}
 use Rattle.std.proofs.lemmas.Bool.{ltb-true}
 use Rattle.code_form.specs.declared.fault.CodeFault.{CodeFault}
@@ -74,10 +75,13 @@ unfolding procs_fault
 procs_sound K p [] e = tt
 procs_sound K p (is ∷ rest) e =
     let parts = both_none (proc_fault K p is) (procs_fault K (p + 1) rest) e in
-    (proc_sound K p is parts.0, procs_sound K (suc p) rest (ap (λ (n : ℕ). procs_fault K n rest) (let n : suc p ≡ p + 1 = omega arith in n) ∙ parts.1))
+    let n : suc p ≡ p + 1 = omega arith in (
+      proc_sound K p is parts.0,
+      procs_sound K (suc p) rest (ap (λ (m : ℕ). procs_fault K m rest) n ∙ parts.1),
+    )
 
 -- both tests of a conjunction that holds hold
-both_true : (a b : Bool) → (a && b) ≡ true → (a ≡ true) × (b ≡ true)
+pub both_true : (a b : Bool) → (a && b) ≡ true → (a ≡ true) × (b ≡ true)
 both_true true b e = (refl, e)
 both_true false b e = absurd cc
 
@@ -95,7 +99,8 @@ unfolding later_fault
 code_parts k is =
     let starts = both_none (unless (starts_known k.procedures) kinds.BadNumber 0 0) _ is.sound in
     let procs = both_none (procs_fault (known_of k) 0 k.procedures.procs) _ starts.1 in
-    let there = both_true (nat_lt k.procedures.start (length k.procedures.procs)) (nat_lt k.procedures.react (length k.procedures.procs))
+    let count = length k.procedures.procs in
+    let there = both_true (nat_lt k.procedures.start count) (nat_lt k.procedures.react count)
     (test_holds (starts_known k.procedures) kinds.BadNumber 0 0 starts.0) in
     record {
       procs = procs_sound (known_of k) 0 k.procedures.procs procs.0;
@@ -117,7 +122,8 @@ instructions_at (is ∷ procs) zero = refl
 instructions_at (is ∷ procs) (suc p) = instructions_at procs p
 
 -- a procedure with a number below their count is there
-pub proc_there : (procs : List (List Instr)) (p : ℕ) → p < length procs → slice_get procs p ≡ Some (slice_index_or procs p [])
+pub proc_there : (procs : List (List Instr)) (p : ℕ) → p < length procs
+    → slice_get procs p ≡ Some (slice_index_or procs p [])
 proc_there [] p lt = absurd (omega arith)
 proc_there (is ∷ procs) zero lt = refl
 proc_there (is ∷ procs) (suc p) lt = proc_there procs p (omega arith)

@@ -1,10 +1,9 @@
 -- The value of an expression is one of its sort.
-use Rattle.std.proofs.Common.{◌≡◌, ℕ, zero, suc, ◌^◌, ◌≤◌, ℤ, pos, negsuc, neg_ℤ, unsigned_abs, Bool, true, false, cond}
-use Rattle.std.proofs.Common.{Result, Ok, Err, IfOk, refl, sym, ap, ◌∙◌, subst, arith}
+use Rattle.std.proofs.Common.{◌≡◌, ℕ, zero, suc, ◌^◌, ◌≤◌, ℤ, pos, negsuc, neg_ℤ, unsigned_abs, Bool, true, false}
+use Rattle.std.proofs.Common.{Ok, Err, IfOk, refl, sym, subst}
 use Rattle.std.proofs.lemmas.Result.{IfOk-at_ok}
 use Rattle.std.specs.Prelude.{List, nat_lt, if◌then◌else◌}
 use Rattle.fixed_point.specs.Numbers.{negation_of}
-use Rattle.fixed_point.specs.declared.num.Num.{Num}
 use Rattle.active_config.specs.Marks.{Configuration, is_on, mark_count}
 use Rattle.actions.specs.declared.expr.Op.{Op}
 use Rattle.actions.specs.declared.expr.Op.TheVariants as ops
@@ -17,7 +16,7 @@ use Rattle.actions.specs.Data.{Datum, datum, value_of_datum, HaveTheirSorts}
 use Rattle.actions.specs.Exprs.{Expr, Lit, Flag, Read, Active, Neg, Not, Bin}
 use Rattle.actions.specs.Sorts.{Scope, Sorted, IsNarrow, with_sort, of_flags, binary_sort, negative_sort, not_sort}
 use Rattle.actions.specs.Sorts.{state_sort, sort_of}
-use Rattle.actions.specs.Values.{Valued, HasSort, with_value, flag_of, number_of, applied, decides, value_of, scope_at}
+use Rattle.actions.specs.Values.{Valued, HasSort, with_value, number_of, applied, decides, value_of, scope_at}
 use Rattle.actions.proofs.DataLemmas.{datum_has_sort}
 use Rattle.actions.proofs.NarrowLemmas.{sort_of-narrow}
 use Rattle.actions.proofs.OperandLemmas.{has_flag, applied-has_sort}
@@ -114,5 +113,5 @@ module _ (vals : List Datum) (marks : Configuration) (all : HaveTheirSorts vals)
       let right_narrow = IfOk-at_ok IsNarrow right.1 (sort_of-narrow scope b) in
       with_has_sort left.0 sort (value_of vals marks a) _ (value_has_sort a left.0 left.1)
       (λ x h. either_has_sort sort x (decides op x) _ (λ d. decided op left.0 right.0 sort x d right.2 h)
-          (with_has_sort right.0 sort (value_of vals marks b) (applied op x) (value_has_sort b right.0 right.1)
-          (λ y h'. applied-has_sort op x y left.0 right.0 sort left_narrow right_narrow h h' right.2)))
+      (with_has_sort right.0 sort (value_of vals marks b) (applied op x) (value_has_sort b right.0 right.1)
+      (λ y h'. applied-has_sort op x y left.0 right.0 sort left_narrow right_narrow h h' right.2)))

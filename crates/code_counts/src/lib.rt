@@ -1,5 +1,5 @@
-//! Counts of a run of code: how many instructions an event takes, how many frames there are at once,
-//! and what is true at each moment.
+//! Counts of a run of code: how many instructions an event takes and how many frames there are at
+//! once, and what is true at each moment.
 //!
 //! The laws say what the machine that runs code relies on. Read `specs/Ahead.antt`, where a run
 //! stands after some steps; `specs/Left.antt` and `specs/Room.antt`, what the counts go by; and

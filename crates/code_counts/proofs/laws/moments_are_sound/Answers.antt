@@ -1,6 +1,6 @@
-use Rattle.code_counts.proofs.MomentLemmas.{written_named, can_react, start_moment, reaction_moment, step_sound}
-use Rattle.code_counts.proofs.MomentLemmas.{ahead_sound, top_instr}
-use Rattle.code_counts.proofs.WorldLemmas.{can_assign, can_test}
+use Rattle.code_counts.proofs.AssignLemmas.{can_assign, can_test}
+use Rattle.code_counts.proofs.MomentLemmas.{step_sound, ahead_sound, top_instr}
+use Rattle.code_counts.proofs.StartLemmas.{written_named, can_react, start_moment, reaction_moment}
 use Rattle.code_counts.proofs.laws.moments_are_sound.Goals as goal
 
 pub returns-clause-written : goal.returns-clause-written

@@ -39,6 +39,7 @@ pub record IsTyped (n : Names) (v : ℕ) (e : Expr) : Type 0 where
   pub sorted : sort_of (scope_of n) e ≡ Ok sort
   pub takes : assignment_fault decl.sort sort ≡ None
 
+-- an assignment of well-formed code has such a type
 assign_typed : (K : Known) (v : ℕ) (e : Expr) → instr_typed K (Assign v e) ≡ true → IsTyped K.names v e
 unfolding instr_typed
 assign_typed K v e h =
@@ -91,6 +92,7 @@ keep_gives : (n : Names) (vals : List Datum) (v : ℕ) (r : Result ℤ Overflow)
 keep_gives n vals v (Ok m) lt = tt
 keep_gives n vals v (Err o) lt = lt
 
+-- so does an assignment of a value
 assigned_gives : (n : Names) (vals : List Datum) (v : ℕ) (value : Value) → v < length n.vars
     → Gives n Any (assigned vals v value)
 unfolding assigned
@@ -131,6 +133,7 @@ module _ (k : Code) (b : Bounds) (w : World) (ok : IsWorld k b w) where
   }
   data_give v value lt can (Err x) e = subst (Gives k.names Any) e (assigned_gives k.names w.vals v value lt)
 
+  -- an assigned value of the sort
   value_give : (v : ℕ) (e : Expr) → v < length k.names.vars → (can : CanAssign w v e) → (r : Valued)
       → IfOk r (HasSort can.sort) → Gives k.names Any r → Gives k.names (IsWorld k b) (assigned_value v r w)
   value_give v e lt can (Ok x) has g = data_give v x lt (can.takes x has) (assigned w.vals v x) refl

@@ -27,9 +27,11 @@ module _ (k : Code) (b : Bounds) (is : IsCode k) where
   abbrev hs : ℕ → ℕ
   hs = slice_index (heights k.procedures.procs)
 
+  -- they bound what a run takes
   works_are : AreWorks k.procedures ws (greatest (works k.procedures.procs))
   works_are = are_works (known_of k) k.procedures (code_parts k is).procs
 
+  -- and how high its calls stack up
   heights_are : AreHeights k.procedures hs (greatest (heights k.procedures.procs))
   heights_are = are_heights (known_of k) k.procedures (code_parts k is).procs
 
@@ -49,6 +51,7 @@ module _ (k : Code) (b : Bounds) (is : IsCode k) where
       (lefts.start_left (program_of k b) ws (greatest (works k.procedures.procs)) works_are
       (world_before k.tree k.names) (from_outside Start) 0 k.procedures.start 0 0 None None refl)
 
+  -- a reaction is over in time
   pub reaction_ends : (w : World) (e : Event)
       → IsOver (run (program_of k b) (most_instructions k b) (react_machine k w e))
   reaction_ends w e = run_ends (react_machine k w e) (most_instructions k b)
@@ -72,6 +75,7 @@ module _ (k : Code) (b : Bounds) (is : IsCode k) where
       rooms.start_roomy (program_of k b) hs (greatest (heights k.procedures.procs)) heights_are
       (world_before k.tree k.names) (from_outside Start) 0 (fresh k.procedures.start None 0 0 None) refl
 
+  -- a reaction begins with room
   pub reaction_is_roomy : (w : World) (e : Event) → IsRoomy k b (react_machine k w e)
   reaction_is_roomy w e =
       rooms.start_roomy (program_of k b) hs (greatest (heights k.procedures.procs)) heights_are
@@ -84,9 +88,11 @@ module _ (k : Code) (b : Bounds) (is : IsCode k) where
       let most = greatest (heights k.procedures.procs) in
       rooms.few_frames C hs most heights_are (ahead C n m) (rooms.ahead_roomy C hs most heights_are n m room)
 
+  -- a start has few frames at each moment
   pub start_few : (n : ℕ) → HasFrames (most_frames k b) (ahead (program_of k b) n (start_machine k))
   start_few n = few_ahead n (start_machine k) start_is_roomy
 
+  -- and so has a reaction
   pub reaction_few : (n : ℕ) (w : World) (e : Event)
       → HasFrames (most_frames k b) (ahead (program_of k b) n (react_machine k w e))
   reaction_few n w e = few_ahead n (react_machine k w e) (reaction_is_roomy w e)

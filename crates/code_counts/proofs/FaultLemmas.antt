@@ -35,10 +35,12 @@ module _ (n : Names) where
   with_value_gives (Ok v) f h k = k v
   with_value_gives (Err x) f h k = h
 
+  -- a quotient is a number or the fault of a zero divisor
   quotient_gives : (r : Result Num Zero) → Gives n Any (quotient_value r)
   quotient_gives (Ok x) = tt
   quotient_gives (Err z) = tt
 
+  -- an operator faults by a zero divisor alone
   applied_gives : (op : Op) (a b : Value) → Gives n Any (applied op a b)
   applied_gives ops.Or a b = tt
   applied_gives ops.And a b = tt
@@ -53,10 +55,12 @@ module _ (n : Names) where
   applied_gives ops.Mul a b = tt
   applied_gives ops.Div a b = quotient_gives (quotient_of (number_of a) (number_of b))
 
+  -- one of two values
   either_gives : (b : Bool) (r s : Valued) → Gives n Any r → Gives n Any s → Gives n Any (cond b r s)
   either_gives true r s h k = h
   either_gives false r s h k = k
 
+  -- so does a whole expression
   pub value_gives : (vals : List Datum) (marks : Configuration) (e : Expr) → Gives n Any (value_of vals marks e)
   unfolding value_of
   value_gives vals marks (Lit x) = tt
@@ -70,6 +74,7 @@ module _ (n : Names) where
       (λ left. either_gives (decides op left) (Ok left) _ tt
       (with_value_gives (value_of vals marks b) (applied op left) (value_gives vals marks b) (applied_gives op left)))
 
+  -- a value as a flag
   truth_gives : (r : Valued) → Gives n Any r → Gives n Any (truth r)
   truth_gives (Ok x) h = tt
   truth_gives (Err x) h = h

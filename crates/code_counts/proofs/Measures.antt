@@ -31,6 +31,7 @@ height_agrees f g n (x ∷ is) low h =
     ap (λ (r : ℕ). max r (height_by f is)) (rise_agrees f g n x low.0 h)
     ∙ ap (max (rise g x)) (height_agrees f g n is low.1 h)
 
+-- height is a measure
 pub height_measure : IsMeasure height_by
 height_measure = record { agrees = height_agrees }
 
@@ -53,10 +54,12 @@ lefts_agree f g n (x ∷ is) low h =
     ap (λ (ls : List ℕ). work_from f x ls ∷ ls) (lefts_agree f g n is low.1 h)
     ∙ ap (λ (m : ℕ). m ∷ lefts g is) (work_from_agrees f g n x (lefts g is) low.0 h)
 
+-- and as a whole
 work_agrees : (f g : ℕ → ℕ) (n : ℕ) (is : List Instr) → CallsBelow n is → ((p : ℕ) → p < n → f p ≡ g p)
     → work_by f is ≡ work_by g is
 unfolding work_by
 work_agrees f g n is low h = ap (λ (ls : List ℕ). slice_index ls 0) (lefts_agree f g n is low h)
 
+-- work is a measure
 pub work_measure : IsMeasure work_by
 work_measure = record { agrees = work_agrees }

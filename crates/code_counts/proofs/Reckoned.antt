@@ -29,6 +29,7 @@ module _ (F : (ℕ → ℕ) → List Instr → ℕ) where
   later ns [] = []
   later ns (is ∷ ps) = F (slice_index ns) is ∷ later (ns ++ F (slice_index ns) is ∷ []) ps
 
+  -- they stand behind the numbers that were there
   reckon_later : (ps : List (List Instr)) (ns : List ℕ) → reckon F ns ps ≡ ns ++ later ns ps
   unfolding reckon later
   reckon_later [] ns = sym (append-nil ns)

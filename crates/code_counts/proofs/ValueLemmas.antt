@@ -84,6 +84,7 @@ either_has_sort sort x true r h k = h refl
 either_has_sort sort x false r h k = k
 
 module _ (vals : List Datum) (marks : Configuration) (all : HaveTheirSorts vals) where
+  -- what an expression may name
   abbrev scope : Scope
   scope = scope_at vals marks
 

@@ -78,6 +78,7 @@ module _ (k : Code) (b : Bounds) (w : World) (ok : IsWorld k b w) where
       at true e = marks_fit _ (marked k.tree w.marks ok.fits.consistent s e)
       at false e = ok
 
+  -- a state that is cleared
   pub clear_fits : (s : ℕ) → IsWorld k b (clear_in k.tree s w)
   unfolding clear_in
   clear_fits s = at (is_bare k.tree s w.marks) refl
@@ -86,6 +87,7 @@ module _ (k : Code) (b : Bounds) (w : World) (ok : IsWorld k b w) where
       at true e = marks_fit _ (cleared k.tree w.marks ok.fits.consistent s e)
       at false e = ok
 
+  -- a state that its parent, an OR, remembers
   pub keep_fits : (s : ℕ) → instr_keeps (known_of k) (Keep s) ≡ true → IsWorld k b (keep_in k.tree s w)
   unfolding keep_in instr_keeps
   keep_fits s e = at (parent_of k.tree s) refl e

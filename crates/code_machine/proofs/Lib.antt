@@ -1,0 +1,4 @@
+pub mod Assigned
+pub mod Noted
+pub mod Typed
+pub mod Words

@@ -1,0 +1,18 @@
+//! Runs well-formed code, and takes no memory once the machine is made.
+//!
+//! `Machine` is an engine whose starts and reactions are those of `code_form`. Read
+//! `specs/Frames.antt` and `specs/States.antt` first: what the fields of the machine stand for, and
+//! what each instruction does. The top frame is a value that the loop hands on; the frames below it
+//! lie on a stack whose room is reserved once, and so is the room for the events that are put out.
+#![tactic(auto)]
+
+mod calls;
+mod conditions;
+mod data;
+mod frames;
+mod loaded;
+mod marking;
+mod notes;
+mod obeying;
+mod sends;
+mod state;

@@ -1,0 +1,110 @@
+//! Notes, which `Play` runs in the order of the calls.
+ghost use Rattle.std.specs.Prelude.{
+  ◌≡◌,
+  ◌+◌,
+  ◌<◌,
+  ◌≤◌,
+  ◌^◌,
+  ◌∷◌,
+  suc,
+  length,
+  Some,
+  None,
+  MatchOption,
+  IfSome,
+};
+ghost use Rattle.active_config.specs.Tree.{state_count};
+ghost use Rattle.run_work.specs.Changes.{paid_in};
+ghost use Rattle.code_form.specs.Instrs as instrs;
+ghost use Rattle.code_form.specs.Machine.{act, fresh, if_ok, machine, noted, Goes};
+ghost use Rattle.code_machine.specs.Frames.{seen, AreCalls};
+ghost use Rattle.code_machine.specs.States.{
+  program_in,
+  world_of,
+  now_of,
+  below,
+  Did,
+  Stays,
+  IsReady,
+};
+
+use crate::frames::{Frame, find_note, push_frame};
+use crate::loaded::LoadedCode;
+use crate::state::{MachineState, Move, pay};
+use flow_base::Fault;
+
+/// The lowest frame from this number on that has a note, the top frame among them: its number, and
+/// the note.
+fn find_from(m: &MachineState, top: Frame, from: usize) -> Option<(u32, u32)>
+    requires calls { AreCalls m.now.stack.frames }
+    requires small { length m.now.stack.frames < 2 ^ 32 }
+    ensures note { MatchOption result (noted from (seen top ∷ below m.now) ≡ None)
+        (λ x. noted from (seen top ∷ below m.now) ≡ Some (x.0, x.1)) }
+    ensures within { IfSome result (λ x. x.0 ≤ length m.now.stack.frames) }
+{
+    if let Some(found) = find_note(&m.stack, from) {
+        return Some(found);
+    }
+    let len = m.stack.len();
+    if from <= len && top.note != 0 {
+        Some((len as u32, top.note - 1))
+    } else {
+        None
+    }
+}
+
+/// Pays one step and runs a note, that of a frame with this number.
+fn play_note(code: &LoadedCode, m: &mut MachineState, top: Frame, at: u32, note: u32) -> Move
+    requires ready { IsReady code.now m.old }
+    requires at { at ≤ length m.old.stack.frames }
+    ensures did { Did (if_ok (paid_in code.now.bounds (world_of m.old)) (world_of m.old)
+        (λ v. Goes (machine v (now_of m.old) m.old.result
+        (fresh note None (suc (length (below m.old))) top.home None ∷
+        record (seen top) { cursor = suc at } ∷ below m.old)))) result m.new }
+    ensures stays { Stays m.old m.new }
+{
+    let base = m.stack.len() as u32 + 1;
+    if !pay(code.bounds, m) {
+        return Move::Faults(Fault::Steps);
+    }
+    push_frame(
+        &mut m.stack,
+        Frame {
+            cursor: at + 1,
+            ..top
+        },
+    );
+    Move::Goes(Frame {
+        proc: note,
+        place: 0,
+        note: 0,
+        base,
+        home: top.home,
+        saved: 0,
+        cursor: 0,
+    })
+}
+
+/// Runs the next note above the base, where the home is bare; goes on where none is left.
+pub(crate) fn play(code: &LoadedCode, m: &mut MachineState, top: Frame) -> Move
+    requires ready { IsReady code.now m.old }
+    requires place { top.place < 2 ^ 30 }
+    requires home { top.home < state_count code.now.shape }
+    ensures did { Did (act (program_in code.now) (Some instrs.Play)
+        (world_of m.old) (now_of m.old) m.old.result (seen top) (below m.old)) result m.new }
+    ensures stays { Stays m.old m.new }
+{
+    let first = top.base as usize + 1;
+    let cursor = top.cursor as usize;
+    let from = if cursor < first { first } else { cursor };
+    match find_from(m, top, from) {
+        None => Move::Goes(top.next()),
+        Some((at, note)) => {
+            if m.marks.bare(&code.shape, top.home) {
+                play_note(code, m, top, at, note)
+            } else {
+                Move::Goes(top.next())
+            }
+        }
+    }
+}

@@ -1,0 +1,98 @@
+//! Sends of events.
+ghost use Rattle.std.specs.Prelude.{◌≡◌, ◌+◌, ◌-◌, ◌<◌, ◌^◌, ◌∷◌, suc, length, Some, None};
+ghost use Rattle.active_config.specs.Tree.{state_count};
+ghost use Rattle.run_work.specs.Work.{deeper};
+ghost use Rattle.code_form.specs.Instrs as instrs;
+ghost use Rattle.code_form.specs.Machine.{act, fresh, next};
+ghost use Rattle.code_machine.specs.Frames.{seen};
+ghost use Rattle.code_machine.specs.States.{
+  program_in,
+  world_of,
+  now_of,
+  below,
+  Did,
+  Stays,
+  IsReady,
+};
+
+use crate::frames::{Frame, push_frame};
+use crate::loaded::LoadedCode;
+use crate::state::{MachineState, Move, pay};
+use flow_base::Fault;
+
+/// Makes an event current one level deeper, and calls the procedure that hears it.
+fn receive(code: &LoadedCode, m: &mut MachineState, top: Frame, event: u32, proc: u32) -> Frame
+    requires ready { IsReady code.now m.old }
+    requires place { top.place < 2 ^ 30 }
+    requires depth { m.old.depth < 32 }
+    requires event { event < 2 ^ 32 - 3 }
+    ensures world { (world_of m.new ≡ world_of m.old) × (m.new.result ≡ m.old.result) }
+    ensures now { now_of m.new ≡ deeper event (now_of m.old) }
+    ensures frames { (seen result ∷ below m.new) ≡
+        (fresh proc None (suc (length (below m.old))) 0 (Some (now_of m.old).event) ∷
+        next (seen top) ∷ below m.old) }
+    ensures stays { Stays m.old m.new }
+{
+    let _ = code;
+    let saved = m.event + 1;
+    push_frame(&mut m.stack, top.next());
+    let base = m.stack.len() as u32;
+    m.event = event + 2;
+    m.depth += 1;
+    Frame {
+        proc,
+        place: 0,
+        note: 0,
+        base,
+        home: 0,
+        saved,
+        cursor: 0,
+    }
+}
+
+/// Sends an event to the whole chart.
+pub(crate) fn send(code: &LoadedCode, m: &mut MachineState, top: Frame, event: u32) -> Move
+    requires ready { IsReady code.now m.old }
+    requires place { top.place < 2 ^ 30 }
+    requires event { event < 2 ^ 32 - 3 }
+    ensures did { Did (act (program_in code.now) (Some (instrs.Send event))
+        (world_of m.old) (now_of m.old) m.old.result (seen top) (below m.old)) result m.new }
+    ensures stays { Stays m.old m.new }
+{
+    if m.depth >= code.bounds.depth {
+        return Move::Faults(Fault::Depth);
+    }
+    if !pay(code.bounds, m) {
+        return Move::Faults(Fault::Steps);
+    }
+    Move::Goes(receive(code, m, top, event, code.react))
+}
+
+/// Sends an event to a state, where that is active.
+pub(crate) fn send_to(
+    code: &LoadedCode,
+    m: &mut MachineState,
+    top: Frame,
+    event: u32,
+    s: u32,
+    proc: u32,
+) -> Move
+    requires ready { IsReady code.now m.old }
+    requires place { top.place < 2 ^ 30 }
+    requires event { event < 2 ^ 32 - 3 }
+    requires state { s < state_count code.now.shape }
+    ensures did { Did (act (program_in code.now) (Some (instrs.SendTo event s proc))
+        (world_of m.old) (now_of m.old) m.old.result (seen top) (below m.old)) result m.new }
+    ensures stays { Stays m.old m.new }
+{
+    if m.depth >= code.bounds.depth {
+        return Move::Faults(Fault::Depth);
+    }
+    if !pay(code.bounds, m) {
+        return Move::Faults(Fault::Steps);
+    }
+    if !m.marks.on(s) {
+        return Move::Goes(top.next());
+    }
+    Move::Goes(receive(code, m, top, event, proc))
+}

@@ -1,0 +1,56 @@
+//! What a run changes.
+ghost use Rattle.std.specs.Prelude.{◌≡◌, ◌+◌, ◌≤◌, true};
+ghost use Rattle.run_work.specs.Changes.{paid_in};
+ghost use Rattle.code_machine.specs.States.{world_of, Paid};
+
+use crate::frames::Frame;
+use actions::Vals;
+use active_config::Marks;
+use flow_base::{Bounds, Fault};
+use frame_stack::FrameStack;
+
+/// Everything that a run changes, but for the top frame.
+#[derive(Drop)]
+pub(crate) struct MachineState {
+    /// The active states.
+    pub marks: Marks,
+    /// The values of the data.
+    pub vals: Vals,
+    /// The events that were put out.
+    pub outputs: Vec<u32>,
+    /// The steps that are used.
+    pub used: u32,
+    /// The current event: 0 for the start, 1 for a tick, and the number of an event and 2.
+    pub event: u32,
+    /// How deep the current event was sent.
+    pub depth: u32,
+    /// The last result.
+    pub result: u32,
+    /// The frames below the top one.
+    pub stack: FrameStack,
+}
+
+/// What an instruction did.
+#[derive(Clone, Copy)]
+pub(crate) enum Move {
+    /// The run goes on with this top frame.
+    Goes(Frame),
+    /// No frame is left.
+    Ends,
+    /// The run has this fault.
+    Faults(Fault),
+}
+
+/// Pays one step, or finds that none is left.
+#[tactic(auto, unfolding(run_work::specs::Changes::paid_in))]
+pub(crate) fn pay(bounds: Bounds, m: &mut MachineState) -> bool
+    ensures paid { Paid (paid_in bounds (world_of m.old)) result m.old m.new }
+    ensures used { result ≡ true → (m.new.used ≡ m.old.used + 1) × (m.new.used ≤ bounds.steps) }
+{
+    if m.used < bounds.steps {
+        m.used += 1;
+        true
+    } else {
+        false
+    }
+}

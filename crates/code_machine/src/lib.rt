@@ -14,5 +14,6 @@ mod loaded;
 mod marking;
 mod notes;
 mod obeying;
+mod running;
 mod sends;
 mod state;

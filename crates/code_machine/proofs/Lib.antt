@@ -1,6 +1,8 @@
 pub mod Assigned
+pub mod EngineLemmas
 pub mod Noted
 pub mod Obeyed
 pub mod Steps
+pub mod TreeLemmas
 pub mod Typed
 pub mod Words

@@ -1,2 +1,4 @@
 pub mod Frames
 pub mod States
+pub mod Engine
+pub mod EngineLaws

@@ -9,11 +9,15 @@
 mod calls;
 mod conditions;
 mod data;
+mod engine;
 mod frames;
 mod loaded;
+mod making;
 mod marking;
 mod notes;
 mod obeying;
 mod running;
 mod sends;
 mod state;
+
+pub use engine::Machine;

@@ -1,0 +1,165 @@
+//! The engine that runs code.
+ghost use Rattle.std.specs.Prelude.{◌≡◌};
+ghost use Rattle.actions.specs.Names.{Names};
+ghost use Rattle.code_counts.specs.Moments.{IsEvent};
+ghost use Rattle.code_machine.specs.Engine.{halted};
+ghost use Rattle.code_machine.specs.Frames.{event_of, IsSmall};
+
+use crate::loaded::LoadedCode;
+use crate::making::{load, new_state};
+use crate::running::process;
+use crate::state::MachineState;
+use actions::{Engine, Event, Halt, Value, View, store};
+use code_form::Code;
+use flow_base::{Bounds, Fault, Memory};
+use std::alloc::Global;
+use std::marker::Model;
+
+/// How far the run of a machine is.
+#[derive(Clone, Copy)]
+enum Phase {
+    /// Before the start.
+    Fresh,
+    /// Between two events.
+    Running,
+    /// Its run has ended.
+    Over,
+}
+
+impl Phase {
+    ghost use Rattle.std.specs.Prelude.{◌≡◌};
+    ghost use Rattle.actions.specs.Engines.{stage_after};
+    ghost use Rattle.code_machine.specs.Engine.{stage_of};
+
+    /// The phase after an answer.
+    fn after(answer: &Result<(), Halt>) -> Phase
+        ensures { stage_of result ≡ stage_after answer.now }
+    {
+        match answer {
+            Ok(()) => Phase::Running,
+            Err(_) => Phase::Over,
+        }
+    }
+}
+
+/// A fault ends the run.
+fn halting(answer: Result<(), Fault>) -> Result<(), Halt>
+    ensures { result ≡ halted answer }
+{
+    match answer {
+        Ok(()) => Ok(()),
+        Err(fault) => Err(Halt::Fault(fault)),
+    }
+}
+
+/// The number of an event as the machine keeps it.
+fn number_of(event: Event) -> u32
+    requires { IsSmall event }
+    ensures { event_of result ≡ event }
+{
+    match event {
+        Event::Start => 0,
+        Event::Tick => 1,
+        Event::Named(e) => e + 2,
+    }
+}
+
+/// Runs well-formed code. Once it is made it takes no memory.
+#[derive(Drop)]
+pub struct Machine {
+    code: LoadedCode,
+    state: MachineState,
+    phase: Phase,
+}
+
+impl Model for Machine {
+    ghost use Rattle.std.specs.Coded.{codes};
+    ghost use Rattle.actions.specs.contracts.expr.Expr as e;
+    ghost use Rattle.code_machine.specs.Engine.{stage_of, EngineState, IsMachine};
+    ghost use Rattle.code_machine.specs.States.{world_of};
+
+    ghost Value = { EngineState };
+
+    ghost coded = { Prim.hlevel (codes, e.the_row.coded) };
+
+    ghost view = { λ r. record { code = r.code; world = world_of r.state; stage = stage_of r.phase } };
+
+    ghost invariant = { λ r. IsMachine r.code r.state (stage_of r.phase) };
+}
+
+impl Machine {
+    ghost use Rattle.std.specs.Prelude.{IfOk};
+    ghost use Rattle.code_form.specs.Code.{code_of};
+    ghost use Rattle.code_machine.specs.Engine.{IsFresh};
+
+    /// A machine before its start. It has all memory that its events will need.
+    pub fn make(alloc: Global, code: Code, bounds: Bounds) -> Result<Machine, Memory>
+        ensures { IfOk result (IsFresh (code_of code) bounds) }
+    {
+        let height = code.height();
+        let code = load(alloc, code, bounds)?;
+        let state = new_state(alloc, &code, height)?;
+        Ok(Machine {
+            code,
+            state,
+            phase: Phase::Fresh,
+        })
+    }
+}
+
+impl Engine for Machine {
+    ghost use Rattle.std.specs.Prelude.{◌≡◌, true};
+    ghost use Rattle.code_machine.specs.Engine.{Program, program_of, Starts, Reacts};
+    ghost use Rattle.code_machine.specs.EngineLaws as laws;
+
+    ghost Program = { Program };
+
+    ghost tree = { λ p. p.code.tree };
+
+    ghost declared = { λ p. p.code.names };
+
+    ghost Starts = { Starts };
+
+    ghost Reacts = { Reacts };
+
+    ghost never_wants_memory = { true };
+
+    ghost program = { program_of };
+
+    ghost world = { λ r. r.world };
+
+    ghost stage = { λ r. r.stage };
+
+    fn start(&mut self) -> Result<(), Halt> {
+        let proc = self.code.start;
+        let end = halting(process(&self.code, &mut self.state, proc, 0));
+        self.phase = Phase::after(&end);
+        end
+    }
+
+    fn set_input(&mut self, datum: u32, value: Value) {
+        store(&mut self.state.vals, datum, value);
+    }
+
+    fn react(&mut self, event: Event) -> Result<(), Halt> {
+        let proc = self.code.react;
+        let number = number_of(event);
+        let end = halting(process(&self.code, &mut self.state, proc, number));
+        self.phase = Phase::after(&end);
+        end
+    }
+
+    fn view(&self) -> View<'_> {
+        View {
+            shape: &self.code.shape,
+            marks: &self.state.marks,
+            vals: &self.state.vals,
+            names: &self.code.names,
+            outputs: &self.state.outputs,
+        }
+    }
+
+    ghost one_start = { laws.one_start };
+
+    ghost one_reaction = { laws.one_reaction };
+}

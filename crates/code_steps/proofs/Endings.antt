@@ -1,6 +1,7 @@
 -- Where runs end, and that they have one ending.
 use Rattle.std.proofs.Common.{◌≡◌, ℕ, zero, suc, ◌+◌, ◌≤◌, [], Option, Some, None, ap, ◌∙◌, arith}
 use Rattle.flow_base.specs.declared.fault.Fault.{Fault}
+use Rattle.actions.specs.Runs.{Moment}
 use Rattle.actions.specs.World.{World}
 use Rattle.code_form.specs.Machine.{Program, Machine, Next, Goes, Stops, Over, and_then, act_on, step, run}
 use Rattle.code_form.specs.Reactions.{Leads}
@@ -42,3 +43,11 @@ reached_leads {C = C} {m' = m'} h e =
 pub falls_leads : {C : Program} {m : Machine} {w : World} {x : Fault} → Falls C m w x
     → Leads C m (record { world = w; fault = Some x })
 falls_leads h = record { steps = h.by.0; ends = h.by.1 }
+
+-- a run leads to one moment
+pub one_end : {C : Program} {m : Machine} {x y : Moment} → Leads C m x → Leads C m y → x ≡ y
+one_end {C = C} {m = m} {x = x} {y = y} a b =
+    let e = one_ending C a.steps b.steps m x.world y.world x.fault y.fault a.ends b.ends in
+    let w = e.0 in
+    let f = e.1 in
+    ap (λ v. record { world = v; fault = x.fault }) w ∙ ap (λ v. record { world = y.world; fault = v }) f

@@ -1,6 +1,6 @@
 -- What each instruction does to a run, a lemma for each.
-use Rattle.std.proofs.Common.{◌≡◌, ℕ, suc, Bool, true, false, List, ◌∷◌, length, Option, Some, None}
-use Rattle.std.proofs.Common.{Result, Ok, Err, refl, ap, ◌∙◌}
+use Rattle.std.proofs.Common.{◌≡◌, ℕ, suc, Bool, true, false, List, ◌∷◌, length, Option, Some, None, Result, Ok, Err}
+use Rattle.std.proofs.Common.{refl, ap, ◌∙◌}
 use Rattle.std.specs.Prelude.{nat_le, if◌then◌else◌}
 use Rattle.flow_base.specs.declared.fault.Fault.{Fault}
 use Rattle.flow_base.specs.declared.fault.Fault.TheVariants as faults
@@ -11,9 +11,10 @@ use Rattle.run_work.specs.Changes.{paid_in, assigned_in, mark_in, clear_in, keep
 use Rattle.run_work.specs.Work.{Run, then_do, choose, fault, change_or_fault, Now}
 use Rattle.code_form.specs.Code.{fetch}
 use Rattle.code_form.specs.Instrs.{Cond, Instr}
-use Rattle.code_form.specs.Instrs as instrs
 use Rattle.code_form.specs.Machine.{Program, Frame, Machine, machine, fresh, next, past, Goes, Stops, holds, if_ok}
-use Rattle.code_form.specs.Machine.{test_next, returned, noted, later, sent, if_deep, play_next, act, step, and_then, run}
+use Rattle.code_form.specs.Machine.{test_next, returned, noted, later, sent, if_deep, play_next, act, step, and_then}
+use Rattle.code_form.specs.Machine.{run}
+use Rattle.code_form.specs.Instrs as instrs
 use Rattle.code_steps.specs.Reach.{Reaches, Falls, Aim, Meets}
 use Rattle.code_steps.proofs.Joins.{meets_on, meets_fall}
 

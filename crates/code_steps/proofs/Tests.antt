@@ -8,8 +8,8 @@ use Rattle.actions.specs.World.{World}
 use Rattle.run_work.specs.Changes.{truth_of}
 use Rattle.run_work.specs.Work.{Now, is_event}
 use Rattle.code_form.specs.Code.{fetch}
-use Rattle.code_form.specs.Instrs as instrs
 use Rattle.code_form.specs.Machine.{Program, Frame, machine, next, past, holds}
+use Rattle.code_form.specs.Instrs as instrs
 use Rattle.code_steps.specs.Reach.{Reaches, Falls}
 use Rattle.code_steps.proofs.Steps.{go_unless_true, go_unless_false, fall_unless}
 

@@ -1,0 +1,15 @@
+pub mod Known
+pub mod Validity
+pub mod Pieces
+pub mod Exits
+pub mod Enters
+pub mod Plays
+pub mod Takes
+pub mod Processes
+pub mod Blocks
+pub mod Whole
+pub mod Noted
+pub mod Searching
+pub mod Searches
+pub mod Lists
+pub mod Runs

@@ -1,0 +1,10 @@
+pub mod CutLemmas
+pub mod NumberLemmas
+pub mod BehindLemmas
+pub mod WordLemmas
+pub mod ScaleLemmas
+pub mod NameLemmas
+pub mod NewlineLemmas
+pub mod LineLemmas
+pub mod AtomLemmas
+pub mod ExprLemmas

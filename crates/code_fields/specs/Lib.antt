@@ -1,0 +1,6 @@
+pub mod Cuts
+pub mod Spelling
+pub mod Scales
+pub mod Fields
+pub mod Expressions
+pub mod Views

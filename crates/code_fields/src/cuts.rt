@@ -1,0 +1,60 @@
+//! A text cut at a byte.
+ghost use Rattle.std.specs.Prelude.{◌≡◌, ◌<◌, length, nat_eq, IfSome, option_map};
+ghost use Rattle.std.specs.List.{position};
+ghost use Rattle.code_fields.specs.Cuts as spec;
+ghost use Rattle.code_fields.specs.Views as views;
+
+/// What stands before a byte and after it.
+#[derive(Clone, Copy, Debug)]
+pub struct Parts<'a> {
+    /// What stands before it.
+    pub front: &'a [u8],
+    /// What stands after it.
+    pub rest: &'a [u8],
+}
+
+/// The first word of a text.
+#[derive(Clone, Copy, Debug)]
+pub struct Field<'a> {
+    /// The word, up to the first space.
+    pub word: &'a [u8],
+    /// What stands after that space, if there is one.
+    pub rest: Option<&'a [u8]>,
+}
+
+/// Cuts a text at the first such byte.
+pub fn cut_at(text: &[u8], byte: u8) -> Option<Parts<'_>>
+    ensures parts { option_map views.parts_of result ≡ spec.parts_at byte text.now }
+    ensures shorter { IfSome result (λ parts. length parts.rest.now < length text.now) }
+{
+    let place = place_of(text, byte)?;
+    Some(Parts {
+        front: &text[..place],
+        rest: &text[place + 1..],
+    })
+}
+
+/// The place of the first such byte.
+fn place_of(text: &[u8], byte: u8) -> Option<usize>
+    ensures place { result ≡ position (λ b. nat_eq b byte) text.now }
+    ensures within { IfSome result (λ n. n < length text.now) }
+{
+    text.iter().position(|other| *other == byte)
+}
+
+/// The first word of a text, and what stands after the space behind it.
+#[tactic(auto, unfolding(crate::specs::Cuts::field_of))]
+pub fn field_of(text: &[u8]) -> Field<'_>
+    ensures { views.field_of result ≡ spec.field_of text.now }
+{
+    match cut_at(text, b' ') {
+        None => Field {
+            word: text,
+            rest: None,
+        },
+        Some(parts) => Field {
+            word: parts.front,
+            rest: Some(parts.rest),
+        },
+    }
+}

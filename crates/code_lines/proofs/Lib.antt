@@ -1,0 +1,4 @@
+pub mod WordLemmas
+pub mod CondLemmas
+pub mod InstrLemmas
+pub mod StateLemmas

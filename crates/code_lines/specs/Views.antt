@@ -1,0 +1,7 @@
+-- What contracts see of the values of the reader.
+use Rattle.code_form.specs.declared.code.RawState.{RawState}
+use Rattle.code_lines.specs.declared.states.StateParts.{StateParts}
+
+-- a state with the bytes of its name
+abbrev pub state_of : StateParts → RawState
+state_of s = record { parent = s.parent; comp = s.comp; name = s.name.now }

@@ -1,5 +1,3 @@
-pub mod Reckoned
-pub mod Measures
 pub mod Sound
 pub mod Numbers
 pub mod Used

@@ -12,7 +12,8 @@ use Rattle.code_form.specs.Code.{Code}
 use Rattle.code_form.specs.Measures.{heights, works}
 use Rattle.code_form.specs.Sound.{AreProcs}
 use Rattle.code_form.specs.Tables.{IsTable}
-use Rattle.code_form.specs.WellFormed.{first_of, unless, fault_at, first_over, too_many, starts_known, known_of, procs_fault, later_fault}
+use Rattle.code_form.specs.WellFormed.{first_of, unless, fault_at, first_over, too_many, starts_known, known_of}
+use Rattle.code_form.specs.WellFormed.{procs_fault, later_fault}
 use Rattle.code_form.specs.WellFormed.{IsCode, IsFirstFault, TooMany, BadTable, Later, IsCause}
 use Rattle.code_form.proofs.Accepted.{passes, first_none, unless_none, procs_right}
 use Rattle.code_form.proofs.Greatest.{fails}
@@ -22,6 +23,7 @@ found_first : (o later : Option CodeFault) (fault : CodeFault) → o ≡ Some fa
 found_first None later fault h = absurd (cc h)
 found_first (Some x) later fault h = h
 
+-- where there is none the later one is first
 none_first : (o later : Option CodeFault) → o ≡ None → first_of o later ≡ later
 none_first None later h = refl
 none_first (Some x) later h = absurd (cc h)
@@ -43,7 +45,8 @@ module _ (k : Code) where
 
     module _ (procs : procs_fault (known_of k) 0 k.procedures.procs ≡ None) where
       -- then of the heights
-      pub fault_of_heights : (fault : CodeFault) → first_over HEIGHT_LIMIT kinds.TooHigh 0 (heights k.procedures.procs) ≡ Some fault
+      pub fault_of_heights : (fault : CodeFault)
+          → first_over HEIGHT_LIMIT kinds.TooHigh 0 (heights k.procedures.procs) ≡ Some fault
           → later_fault k ≡ Some fault
       unfolding later_fault
       fault_of_heights fault h =
@@ -53,7 +56,8 @@ module _ (k : Code) where
 
       module _ (high : first_over HEIGHT_LIMIT kinds.TooHigh 0 (heights k.procedures.procs) ≡ None) where
         -- then of the works
-        pub fault_of_works : (o : Option CodeFault) → first_over WORK_LIMIT kinds.TooMuchWork 0 (works k.procedures.procs) ≡ o
+        pub fault_of_works : (o : Option CodeFault)
+            → first_over WORK_LIMIT kinds.TooMuchWork 0 (works k.procedures.procs) ≡ o
             → later_fault k ≡ o
         unfolding later_fault
         fault_of_works o h =
@@ -62,7 +66,8 @@ module _ (k : Code) where
             ∙ none_first (first_over HEIGHT_LIMIT kinds.TooHigh 0 (heights k.procedures.procs)) _ high ∙ h
 
 -- an end of one of these is the cause
-pub cause_by : (k : Code) (found : Option CodeFault) (end : CodeEnd) → too_many k.procedures.procs ≡ false → IsTable k.tree k.names
+pub cause_by : (k : Code) (found : Option CodeFault) (end : CodeEnd) → too_many k.procedures.procs ≡ false
+    → IsTable k.tree k.names
     → ((fault : CodeFault) → found ≡ Some fault → later_fault k ≡ Some fault) → IsEndOf found end → IsCause k end
 cause_by k found (ends.Fault fault) few table first h = Later fault few table (first fault h)
 cause_by k found ends.Memory few table first h = tt
@@ -74,6 +79,7 @@ both_ways : (b : Bool) → b ≡ true → b ≡ false → ⊥
 both_ways true t f = absurd (cc f)
 both_ways false t f = absurd (cc t)
 
+-- two first faults are the same
 pub one_first_fault : (k : Code) (f g : CodeFault) → IsFirstFault k f → IsFirstFault k g → f ≡ g
 one_first_fault k _ _ (TooMany h) (TooMany h') = refl
 one_first_fault k _ _ (TooMany h) (BadTable few bad) = absurd (both_ways _ h few)
@@ -85,6 +91,7 @@ one_first_fault k f _ (Later _ few table e) (TooMany h) = absurd (both_ways _ h 
 one_first_fault k f _ (Later _ few table e) (BadTable few' bad) = absurd (bad table)
 one_first_fault k f g (Later _ few table e) (Later _ few' table' e') = cc (e, e')
 
+-- well-formed code has none
 pub no_first_fault : (k : Code) (f : CodeFault) → IsCode k → IsFirstFault k f → ⊥
 no_first_fault k _ code (TooMany h) = both_ways _ h code.few
 no_first_fault k _ code (BadTable few bad) = bad code.table
@@ -98,12 +105,14 @@ only_memory k ends.Memory code cause = refl
 -- ---- what well-formed code keeps
 
 module _ (k : Code) (code : IsCode k) where
+  -- nothing is wrong after the start and the reaction
   after_starts : first_of (procs_fault (known_of k) 0 k.procedures.procs)
       (first_of (first_over HEIGHT_LIMIT kinds.TooHigh 0 (heights k.procedures.procs))
       (first_over WORK_LIMIT kinds.TooMuchWork 0 (works k.procedures.procs))) ≡ None
   unfolding later_fault
   after_starts = (first_none (unless (starts_known k.procedures) kinds.BadNumber 0 0) _ code.sound).1
 
+  -- both numbers are there
   pub both_known : starts_known k.procedures ≡ true
   unfolding later_fault
   both_known = unless_none (starts_known k.procedures) kinds.BadNumber 0 0
@@ -113,6 +122,7 @@ module _ (k : Code) (code : IsCode k) where
   pub start_known : k.procedures.start < length k.procedures.procs
   start_known = ltb-true _ _ (and_parts (nat_lt k.procedures.start (length k.procedures.procs)) _ both_known).0
 
+  -- and that of a reaction is
   pub react_known : k.procedures.react < length k.procedures.procs
   react_known = ltb-true _ _ (and_parts (nat_lt k.procedures.start (length k.procedures.procs)) _ both_known).1
 

@@ -1,18 +1,25 @@
 -- Where every procedure keeps to what is asked of it, and heights and works to their limits, code has no fault.
-use Rattle.std.proofs.Common.{◌≡◌, ℕ, zero, suc, ◌+◌, ◌<◌, ◌≤◌, Bool, true, false, List, [], ◌∷◌, ◌++◌, length, Option, Some, None, refl, ap, ◌∙◌, subst, arith, length-append}
+use Rattle.std.proofs.Common.{◌≡◌, ℕ, zero, suc, ◌+◌, ◌<◌, ◌≤◌, Bool, true, false, List, [], ◌∷◌, ◌++◌, length}
+use Rattle.std.proofs.Common.{Option, Some, None, refl, ap, ◌∙◌, subst, arith, length-append}
 use Rattle.std.specs.Prelude.{slice_get, slice_index, nat_lt, not, ◌&&◌}
 use Rattle.std.proofs.lemmas.Bool.{ltb-true}
 use Rattle.std.proofs.lemmas.Bool.Decides.{nat_tests}
 use Rattle.active_config.specs.Tree.{state_count}
-use Rattle.code_form.specs.Instrs.{On, Bare, OnHome, BareHome, Current, Result as ResultIs, Test, Last, Instr, Assign, Emit, Mark, Clear, Keep, Unless, Skip, Call, Visit, Send, SendTo, Play, Home, Begin, Pass, Ret}
+use Rattle.code_form.specs.Instrs.{On, Bare, OnHome, BareHome, Current, Result as ResultIs, Test, Last, Instr}
+use Rattle.code_form.specs.Instrs.{Assign, Emit, Mark, Clear, Keep, Unless, Skip, Call, Visit, Send, SendTo, Play}
+use Rattle.code_form.specs.Instrs.{Home, Begin, Pass, Ret}
 use Rattle.code_form.specs.declared.fault.CodeKind.{CodeKind}
 use Rattle.code_form.specs.declared.fault.CodeKind.TheVariants as kinds
 use Rattle.code_form.specs.declared.fault.CodeFault.{CodeFault}
 use Rattle.code_form.specs.WellFormed.{Known, with_procs}
-use Rattle.code_form.specs.WellFormed.{first_of, unless, note_known, expr_known, cond_known, cond_typed, cond_keeps, instr_known, skips_within, calls_lower, instr_typed, last_returns, instr_keeps, instr_fault, instrs_fault, proc_fault, procs_fault, first_over}
+use Rattle.code_form.specs.WellFormed.{first_of, unless, note_known, expr_known, cond_known, cond_typed, cond_keeps}
+use Rattle.code_form.specs.WellFormed.{instr_known, skips_within, calls_lower, instr_typed, last_returns}
+use Rattle.code_form.specs.WellFormed.{instr_keeps, instr_fault, instrs_fault, proc_fault, procs_fault, first_over}
 use Rattle.code_form.specs.Sound.{CallsBelow, IsSound, AreSound, EndsInRet, IsProc, AreProcs}
 
-pub passes : (b : Bool) (kind : CodeKind) (p i : ℕ) (later : Option CodeFault) → b ≡ true → first_of (unless b kind p i) later ≡ later
+-- a test that holds passes on to what comes later
+pub passes : (b : Bool) (kind : CodeKind) (p i : ℕ) (later : Option CodeFault) → b ≡ true
+    → first_of (unless b kind p i) later ≡ later
 passes true kind p i later h = refl
 passes false kind p i later h = cc
 
@@ -33,6 +40,7 @@ no_instr_fault K p i x rest h e =
 sound_alone : (K : Known) (p behind : ℕ) (x : Instr) → IsSound K p (behind + 0) x → IsSound K p behind x
 sound_alone K p behind x h = let n : behind + 0 ≡ behind = omega arith in subst (λ k. IsSound K p k x) n h
 
+-- and back
 sound_with_none : (K : Known) (p behind : ℕ) (x : Instr) → IsSound K p behind x → IsSound K p (behind + 0) x
 sound_with_none K p behind x h = let n : behind ≡ behind + 0 = omega arith in subst (λ k. IsSound K p k x) n h
 
@@ -51,22 +59,28 @@ no_instrs_fault K p i x (y ∷ rest) h e =
     none_first (instr_fault K p i x (y ∷ rest)) _ (no_instr_fault K p i x (y ∷ rest) (sound_alone K p (length (y ∷ rest)) x h.0) refl)
     ∙ no_instrs_fault K p (i + 1) y rest h.1 e
 
+-- a sound procedure has no fault
 pub no_proc_fault : (K : Known) (p : ℕ) (is : List Instr) → IsProc K p is → proc_fault K p is ≡ None
 unfolding proc_fault
 no_proc_fault K p [] h = absurd h.ends
 no_proc_fault K p (x ∷ is) h = no_instrs_fault K p 0 x is h.sound h.ends
 
+-- sound procedures have none
 pub no_procs_fault : (K : Known) (p : ℕ) (ps : List (List Instr)) → AreProcs K p ps → procs_fault K p ps ≡ None
 unfolding procs_fault
 no_procs_fault K p [] h = refl
 no_procs_fault K p (is ∷ ps) h =
     let n : suc p ≡ p + 1 = omega arith in
-    ap (λ o. first_of o (procs_fault K (p + 1) ps)) (no_proc_fault K p is h.0) ∙ no_procs_fault K (p + 1) ps (subst (λ k. AreProcs K k ps) n h.1)
+    ap (λ o. first_of o (procs_fault K (p + 1) ps)) (no_proc_fault K p is h.0)
+    ∙ no_procs_fault K (p + 1) ps (subst (λ k. AreProcs K k ps) n h.1)
 
+-- a number within the limit
 not_over : (limit n : ℕ) → n ≤ limit → not (nat_lt limit n) ≡ true
 not_over limit n h = grind arith
 
-pub none_over : (limit : ℕ) (kind : CodeKind) (p : ℕ) (ns : List ℕ) → ((i : ℕ) → slice_index ns i ≤ limit) → first_over limit kind p ns ≡ None
+-- numbers of which none is over the limit have no fault
+pub none_over : (limit : ℕ) (kind : CodeKind) (p : ℕ) (ns : List ℕ) → ((i : ℕ) → slice_index ns i ≤ limit)
+    → first_over limit kind p ns ≡ None
 unfolding first_over
 none_over limit kind p [] h = refl
 none_over limit kind p (n ∷ ns) h =
@@ -74,26 +88,34 @@ none_over limit kind p (n ∷ ns) h =
 
 -- ---- what stays where procedures are appended
 
+-- two tests that hold together
 pub both_true : (a b : Bool) → a ≡ true → b ≡ true → (a && b) ≡ true
 both_true true b h k = k
 both_true false b h k = cc
 
+-- the first of two tests that hold together
 pub first_true : (a b : Bool) → (a && b) ≡ true → a ≡ true
 first_true true b h = refl
 first_true false b h = cc
 
+-- the second of them
 pub second_true : (a b : Bool) → (a && b) ≡ true → b ≡ true
 second_true true b h = h
 second_true false b h = cc
 
+-- a number below another is below a greater one
 lt_more : (q n m : ℕ) → n ≤ m → nat_lt q n ≡ true → nat_lt q m ≡ true
 lt_more q n m le h = let k : q < n = ltb-true q n h in let k' : q < m = omega arith in grind (arith, nat_tests)
 
-note_more : (K : Known) (n : ℕ) (tag : Option ℕ) → K.procs ≤ n → note_known K tag ≡ true → note_known (with_procs K n) tag ≡ true
+-- a note stays known
+note_more : (K : Known) (n : ℕ) (tag : Option ℕ) → K.procs ≤ n → note_known K tag ≡ true
+    → note_known (with_procs K n) tag ≡ true
 note_more K n None le h = refl
 note_more K n (Some p) le h = lt_more p K.procs n le h
 
-known_more : (K : Known) (n : ℕ) (x : Instr) → K.procs ≤ n → instr_known K x ≡ true → instr_known (with_procs K n) x ≡ true
+-- what an instruction names stays known
+known_more : (K : Known) (n : ℕ) (x : Instr) → K.procs ≤ n → instr_known K x ≡ true
+    → instr_known (with_procs K n) x ≡ true
 unfolding instr_known expr_known cond_known
 known_more K n (Call p tag) le h =
     both_true (nat_lt p n) (note_known (with_procs K n) tag) (lt_more p K.procs n le (first_true (nat_lt p K.procs) (note_known K tag) h)) (note_more K n tag le (second_true (nat_lt p K.procs) (note_known K tag) h))
@@ -125,6 +147,7 @@ known_more K n Begin le h = h
 known_more K n Pass le h = h
 known_more K n (Ret r) le h = h
 
+-- its types stay right
 typed_more : (K : Known) (n : ℕ) (x : Instr) → instr_typed K x ≡ true → instr_typed (with_procs K n) x ≡ true
 unfolding instr_typed cond_typed
 typed_more K n (Call p tag) h = h
@@ -151,6 +174,7 @@ typed_more K n Begin h = h
 typed_more K n Pass h = h
 typed_more K n (Ret r) h = h
 
+-- it keeps what it kept
 keeps_more : (K : Known) (n : ℕ) (x : Instr) → instr_keeps K x ≡ true → instr_keeps (with_procs K n) x ≡ true
 unfolding instr_keeps cond_keeps
 keeps_more K n (Call p tag) h = h
@@ -177,7 +201,9 @@ keeps_more K n Begin h = h
 keeps_more K n Pass h = h
 keeps_more K n (Ret r) h = h
 
-sound_more : (K : Known) (n p behind : ℕ) (is : List Instr) → K.procs ≤ n → AreSound K p behind is → AreSound (with_procs K n) p behind is
+-- sound instructions stay sound
+sound_more : (K : Known) (n p behind : ℕ) (is : List Instr) → K.procs ≤ n → AreSound K p behind is
+    → AreSound (with_procs K n) p behind is
 sound_more K n p behind [] le h = tt
 sound_more K n p behind (x ∷ is) le h =
     (record { known = known_more K n x le h.0.known; within = h.0.within; lower = h.0.lower; typed = typed_more K n x h.0.typed; keeps = keeps_more K n x h.0.keeps }, sound_more K n p behind is le h.1)
@@ -186,42 +212,54 @@ sound_more K n p behind (x ∷ is) le h =
 pub proc_more : (K : Known) (n p : ℕ) (is : List Instr) → K.procs ≤ n → IsProc K p is → IsProc (with_procs K n) p is
 proc_more K n p is le h = record { sound = sound_more K n p 0 is le h.sound; ends = h.ends }
 
-pub procs_more : (K : Known) (n p : ℕ) (ps : List (List Instr)) → K.procs ≤ n → AreProcs K p ps → AreProcs (with_procs K n) p ps
+-- and so do procedures
+pub procs_more : (K : Known) (n p : ℕ) (ps : List (List Instr)) → K.procs ≤ n → AreProcs K p ps
+    → AreProcs (with_procs K n) p ps
 procs_more K n p [] le h = tt
 procs_more K n p (is ∷ ps) le h = (proc_more K n p is le h.0, procs_more K n (suc p) ps le h.1)
 
-pub procs_append : (K : Known) (p : ℕ) (ps qs : List (List Instr)) → AreProcs K p ps → AreProcs K (p + length ps) qs → AreProcs K p (ps ++ qs)
+-- sound procedures behind sound ones
+pub procs_append : (K : Known) (p : ℕ) (ps qs : List (List Instr)) → AreProcs K p ps
+    → AreProcs K (p + length ps) qs → AreProcs K p (ps ++ qs)
 procs_append K p [] qs h k = let n : p + length {A = List Instr} [] ≡ p = omega arith in subst (λ i. AreProcs K i qs) n k
 procs_append K p (is ∷ ps) qs h k = let n : p + suc (length ps) ≡ suc p + length ps = omega arith in (h.0, procs_append K (suc p) ps qs h.1 (subst (λ i. AreProcs K i qs) n k))
 
-pub procs_at : (K : Known) (p : ℕ) (ps : List (List Instr)) (k : ℕ) (is : List Instr) → AreProcs K p ps → slice_get ps k ≡ Some is → IsProc K (p + k) is
+-- each of them is sound
+pub procs_at : (K : Known) (p : ℕ) (ps : List (List Instr)) (k : ℕ) (is : List Instr) → AreProcs K p ps
+    → slice_get ps k ≡ Some is → IsProc K (p + k) is
 procs_at K p [] k is h e = absurd (cc e)
 procs_at K p (js ∷ ps) zero is h e = let q : js ≡ is = cc e in let n : p ≡ p + 0 = omega arith in subst (λ i. IsProc K i is) n (subst (λ l. IsProc K p l) q h.0)
 procs_at K p (js ∷ ps) (suc k) is h e = let n : suc p + k ≡ p + suc k = omega arith in subst (λ i. IsProc K i is) n (procs_at K (suc p) ps k is h.1 e)
 
 -- ---- lists of sound instructions
 
-pub sound_append : (K : Known) (p behind : ℕ) (xs ys : List Instr) → AreSound K p (length ys + behind) xs → AreSound K p behind ys → AreSound K p behind (xs ++ ys)
+-- sound instructions behind sound ones
+pub sound_append : (K : Known) (p behind : ℕ) (xs ys : List Instr) → AreSound K p (length ys + behind) xs
+    → AreSound K p behind ys → AreSound K p behind (xs ++ ys)
 sound_append K p behind [] ys h k = k
 sound_append K p behind (x ∷ xs) ys h k =
     let n : length xs + (length ys + behind) ≡ length (xs ++ ys) + behind = omega (arith, length-append xs ys) in
     (subst (λ m. IsSound K p m x) n h.0, sound_append K p behind xs ys h.1 k)
 
+-- what ends in a return does so behind others
 pub ends_append : (xs : List Instr) (y : Instr) (ys : List Instr) → EndsInRet (y ∷ ys) → EndsInRet (xs ++ y ∷ ys)
 ends_append [] y ys h = h
 ends_append (x ∷ []) y ys h = h
 ends_append (x ∷ (x' ∷ xs)) y ys h = ends_append (x' ∷ xs) y ys h
 
+-- the calls of sound instructions go lower
 pub sound_calls : (K : Known) (p behind : ℕ) (is : List Instr) → AreSound K p behind is → CallsBelow p is
 sound_calls K p behind [] h = tt
 sound_calls K p behind (x ∷ is) h = (h.0.lower, sound_calls K p behind is h.1)
 
 -- ---- and the other way round: what has no fault is right
 
+-- where there is no first of two faults there is neither
 pub first_none : (o later : Option CodeFault) → first_of o later ≡ None → (o ≡ None) × (later ≡ None)
 first_none None later h = (refl, h)
 first_none (Some f) later h = absurd (cc h)
 
+-- a test without a fault holds
 pub unless_none : (b : Bool) (kind : CodeKind) (p i : ℕ) → unless b kind p i ≡ None → b ≡ true
 unless_none true kind p i h = refl
 unless_none false kind p i h = absurd (cc h)
@@ -264,6 +302,7 @@ instrs_right K p i x (y ∷ is) h =
     let rest = instrs_right K p (i + 1) y is both.1 in
     ((sound_with_none K p (length (y ∷ is)) x here.0, rest.0), rest.1)
 
+-- a procedure without a fault is sound
 pub proc_right : (K : Known) (p : ℕ) (is : List Instr) → proc_fault K p is ≡ None → IsProc K p is
 unfolding proc_fault
 proc_right K p [] h = absurd (cc h)

@@ -1,5 +1,6 @@
 -- How the tests of acceptance go over procedures as the code has them.
-use Rattle.std.proofs.Common.{◌≡◌, ℕ, zero, suc, ◌+◌, ◌-◌, ◌<◌, ◌≤◌, ◌||◌, Bool, true, false, List, [], ◌∷◌, length, drop, get_or, Option, Some, None, is_some, refl, sym, ap, ◌∙◌, arith}
+use Rattle.std.proofs.Common.{◌≡◌, ℕ, zero, suc, ◌+◌, ◌-◌, ◌<◌, ◌≤◌, ◌||◌, Bool, true, false, List, [], ◌∷◌, length}
+use Rattle.std.proofs.Common.{drop, get_or, Option, Some, None, is_some, refl, sym, ap, ◌∙◌, arith}
 use Rattle.std.specs.Prelude.{nat_lt}
 use Rattle.std.specs.List.{list_any}
 use Rattle.std.proofs.lemmas.Bool.Decides.{nat_tests}
@@ -15,7 +16,8 @@ use Rattle.code_form.specs.Acceptance.{procs_of}
 use Rattle.code_form.specs.Code.{instr_of, instrs_of, tree_of_states}
 use Rattle.code_form.specs.Instrs as code
 use Rattle.code_form.specs.declared.fault.CodeKind.TheVariants as kinds
-use Rattle.code_form.specs.WellFormed.{Known, first_of, fault_at, unless, instr_known, skips_within, calls_lower, instr_typed, is_ret, last_returns, instr_keeps}
+use Rattle.code_form.specs.WellFormed.{Known, first_of, fault_at, unless, instr_known, skips_within, calls_lower}
+use Rattle.code_form.specs.WellFormed.{instr_typed, is_ret, last_returns, instr_keeps}
 use Rattle.code_form.specs.WellFormed.{instr_fault, instrs_fault, proc_fault, procs_fault, too_many}
 use Rattle.code_form.proofs.Accepted.{passes}
 use Rattle.code_form.proofs.Greatest.{fails}
@@ -35,10 +37,12 @@ too_long xs few =
     sym (ap (λ b. b || list_any (λ (is : List code.Instr). nat_lt INSTR_LIMIT (length is)) (procs_of xs)) short
     ∙ lengths xs)
   where
-    one : (x : Seq Instr) → nat_lt INSTR_LIMIT (length (instrs_of (items_of x))) ≡ nat_lt INSTR_LIMIT (length (items_of x))
+    one : (x : Seq Instr)
+        → nat_lt INSTR_LIMIT (length (instrs_of (items_of x))) ≡ nat_lt INSTR_LIMIT (length (items_of x))
     one x = ap (nat_lt INSTR_LIMIT) (length-map (items_of x) instr_of)
 
-    lengths : (xs : List (Seq Instr)) → list_any (λ (is : List code.Instr). nat_lt INSTR_LIMIT (length is)) (procs_of xs)
+    lengths : (xs : List (Seq Instr))
+        → list_any (λ (is : List code.Instr). nat_lt INSTR_LIMIT (length is)) (procs_of xs)
         ≡ list_any (λ (x : Seq Instr). nat_lt INSTR_LIMIT (length (items_of x))) xs
     lengths [] = refl
     lengths (x ∷ xs) =
@@ -96,21 +100,26 @@ first_of-none (Some fault) later h = absurd (cc h)
 -- ---- the first fault of one instruction, by the tests that hold before the one that fails
 
 module _ (K : Known) (p i : ℕ) (x : code.Instr) (rest : List code.Instr) where
+  -- the test of what it names fails
   pub at_known : instr_known K x ≡ false → fault_at kinds.BadNumber p i ≡ instr_fault K p i x rest
   unfolding instr_fault
   at_known h = sym (fails (instr_known K x) kinds.BadNumber p i _ h)
 
   module _ (known : instr_known K x ≡ true) where
+    -- that of its skip
     pub at_within : skips_within (length rest) x ≡ false → fault_at kinds.SkipOut p i ≡ instr_fault K p i x rest
     unfolding instr_fault
     at_within h = sym (passes _ _ p i _ known ∙ fails (skips_within (length rest) x) kinds.SkipOut p i _ h)
 
     module _ (within : skips_within (length rest) x ≡ true) where
+      -- that of its call
       pub at_lower : calls_lower p x ≡ false → fault_at kinds.CallNotLower p i ≡ instr_fault K p i x rest
       unfolding instr_fault
-      at_lower h = sym (passes _ _ p i _ known ∙ passes _ _ p i _ within ∙ fails (calls_lower p x) kinds.CallNotLower p i _ h)
+      at_lower h = sym (passes _ _ p i _ known ∙ passes _ _ p i _ within
+          ∙ fails (calls_lower p x) kinds.CallNotLower p i _ h)
 
       module _ (lower : calls_lower p x ≡ true) where
+        -- that of its types
         pub at_typed : instr_typed K x ≡ false → fault_at kinds.CodeTypes p i ≡ instr_fault K p i x rest
         unfolding instr_fault
         at_typed h =
@@ -118,6 +127,7 @@ module _ (K : Known) (p i : ℕ) (x : code.Instr) (rest : List code.Instr) where
             ∙ fails (instr_typed K x) kinds.CodeTypes p i _ h)
 
         module _ (typed : instr_typed K x ≡ true) where
+          -- that of the return
           pub at_last : last_returns x rest ≡ false → fault_at kinds.NoRet p i ≡ instr_fault K p i x rest
           unfolding instr_fault
           at_last h =
@@ -134,16 +144,19 @@ module _ (K : Known) (p i : ℕ) (x : code.Instr) (rest : List code.Instr) where
               ∙ passes _ _ p i _ last)
 
 -- one that stands before others needn't return
-pub before_others : (x : code.Instr) (rest : List code.Instr) (n : ℕ) → length rest ≡ n → 0 < n → nat_lt 0 n ≡ last_returns x rest
+pub before_others : (x : code.Instr) (rest : List code.Instr) (n : ℕ) → length rest ≡ n → 0 < n
+    → nat_lt 0 n ≡ last_returns x rest
 before_others x [] n e lt = absurd (omega arith)
 before_others x (y ∷ rest) n e lt = let above : nat_lt 0 n ≡ true = grind (arith, nat_tests) in above
 
+-- the last one has to
 pub alone : (x : code.Instr) (rest : List code.Instr) (n : ℕ) → length rest ≡ n → n ≤ 0 → is_ret x ≡ last_returns x rest
 alone x [] n e le = refl
 alone x (y ∷ rest) n e le = absurd (omega arith)
 
 -- a procedure without instructions
-pub empty_proc : (K : Known) (p : ℕ) (xs : List Instr) → length xs ≡ 0 → fault_at kinds.NoRet p 0 ≡ proc_fault K p (instrs_of xs)
+pub empty_proc : (K : Known) (p : ℕ) (xs : List Instr) → length xs ≡ 0
+    → fault_at kinds.NoRet p 0 ≡ proc_fault K p (instrs_of xs)
 unfolding proc_fault
 empty_proc K p [] e = refl
 empty_proc K p (x ∷ xs) e = absurd (omega arith)
@@ -162,6 +175,7 @@ unfolding instrs_fault
 no_instrs_left K p xs i le =
     ap (instrs_fault K p i) (drop_past (instrs_of xs) i (omega (arith, length-map xs instr_of)))
 
+-- nor a procedure
 pub no_procs_left : (K : Known) (xs : List (Seq Instr)) (p : ℕ) → length xs ≤ p
     → procs_fault K p (drop p (procs_of xs)) ≡ None
 unfolding procs_fault

@@ -1,5 +1,6 @@
 -- The greatest of numbers, and the first one over a limit.
-use Rattle.std.proofs.Common.{◌≡◌, ℕ, zero, suc, ◌+◌, ◌<◌, ◌≤◌, max, List, [], ◌∷◌, ◌++◌, length, Option, None, refl, sym, ap, ◌∙◌, arith}
+use Rattle.std.proofs.Common.{◌≡◌, ℕ, zero, suc, ◌+◌, ◌<◌, ◌≤◌, max, List, [], ◌∷◌, ◌++◌, length, Option, None, refl}
+use Rattle.std.proofs.Common.{sym, ap, ◌∙◌, arith}
 use Rattle.std.specs.Prelude.{slice_index, nat_lt, not, Bool, true, false}
 use Rattle.std.proofs.lemmas.Bool.Decides.{nat_tests}
 use Rattle.code_form.specs.declared.fault.CodeKind.{CodeKind}
@@ -34,6 +35,7 @@ pub fails : (good : Bool) (kind : CodeKind) (p i : ℕ) (later : Option CodeFaul
 fails true kind p i later h = absurd (cc h)
 fails false kind p i later h = refl
 
+-- a number within it
 within_here : (limit n : ℕ) → n ≤ limit → not (nat_lt limit n) ≡ true
 within_here limit n h = grind (arith, nat_tests)
 

@@ -1,5 +1,6 @@
 -- How heights and works are reckoned, procedure by procedure.
-use Rattle.std.proofs.Common.{◌≡◌, ℕ, zero, suc, ◌+◌, ◌*◌, ◌<◌, ◌≤◌, max, List, [], ◌∷◌, ◌++◌, length, drop, get_or, None, refl, sym, ap, ◌∙◌, subst, arith, length-append}
+use Rattle.std.proofs.Common.{◌≡◌, ℕ, zero, suc, ◌+◌, ◌*◌, ◌<◌, ◌≤◌, max, List, [], ◌∷◌, ◌++◌, length, drop, get_or}
+use Rattle.std.proofs.Common.{None, refl, sym, ap, ◌∙◌, subst, arith, length-append}
 use Rattle.std.specs.Prelude.{slice_index, reverse}
 use Rattle.std.proofs.lemmas.List.{reverse-append, length-map}
 use Rattle.code_form.specs.declared.fault.CodeKind.{CodeKind}
@@ -24,13 +25,15 @@ height_step h xs i x m lt is =
     ap (λ l. max m (height_by h l)) (drop_map_at instr_of xs i x lt is) ∙ omega arith
 
 -- the numbers of the first i procedures: the rest goes on from them, and none is over the limit
-pub record Counted (F : (ℕ → ℕ) → List code.Instr → ℕ) (limit i so_far : ℕ) (ns : List ℕ) (ps : List (List code.Instr)) : Type 0 where
+pub record Counted (F : (ℕ → ℕ) → List code.Instr
+    → ℕ) (limit i so_far : ℕ) (ns : List ℕ) (ps : List (List code.Instr)) : Type 0 where
   pub rest : reckon F ns (drop i ps) ≡ reckon F [] ps
   pub most : so_far ≡ greatest ns
   pub within : greatest ns ≤ limit
   pub size : length ns ≡ i
 
 module _ (F : (ℕ → ℕ) → List code.Instr → ℕ) (limit : ℕ) (ps : List (List code.Instr)) where
+  -- before the first one
   pub counted_none : Counted F limit 0 0 [] ps
   counted_none = record { rest = refl; most = refl; within = omega arith; size = refl }
 
@@ -47,7 +50,8 @@ module _ (F : (ℕ → ℕ) → List code.Instr → ℕ) (limit : ℕ) (ps : Lis
   }
 
   -- one that is over the limit is the first such procedure
-  pub counted_over : (kind : CodeKind) (i most h : ℕ) (ns : List ℕ) (is : List code.Instr) → Counted F limit i most ns ps
+  pub counted_over : (kind : CodeKind) (i most h : ℕ) (ns : List ℕ) (is : List code.Instr)
+      → Counted F limit i most ns ps
       → drop i ps ≡ is ∷ drop (i + 1) ps → h ≡ F (slice_index ns) is → limit < h
       → first_over limit kind 0 (reckon F [] ps) ≡ fault_at kind i 0
   counted_over kind i most h ns is c e here over =
@@ -63,10 +67,12 @@ module _ (F : (ℕ → ℕ) → List code.Instr → ℕ) (limit : ℕ) (ps : Lis
   unfolding reckon
   counted_all i most ns c le = sym c.rest ∙ ap (reckon F ns) (drop_past ps i le)
 
+  -- so the greatest is theirs
   pub counted_greatest : (i most : ℕ) (ns : List ℕ) → Counted F limit i most ns ps → length ps ≤ i
       → most ≡ greatest (reckon F [] ps)
   counted_greatest i most ns c le = c.most ∙ ap greatest (sym (counted_all i most ns c le))
 
+  -- and none is over the limit
   pub counted_within : (kind : CodeKind) (i most : ℕ) (ns : List ℕ) → Counted F limit i most ns ps → length ps ≤ i
       → first_over limit kind 0 (reckon F [] ps) ≡ None
   counted_within kind i most ns c le =
@@ -80,6 +86,7 @@ pub record LeftFrom (w : ℕ → ℕ) (xs : List Instr) (place : ℕ) (ls : List
   pub bounded : (over : ℕ) → slice_index (reverse ls) over ≤ length ls * (WORK_LIMIT + 1)
   pub size : length ls + place ≡ length xs
 
+-- behind the last instruction
 pub left_none : (w : ℕ → ℕ) (xs : List Instr) (place : ℕ) → place ≡ length xs → LeftFrom w xs place []
 unfolding lefts
 left_none w xs place e = record {
@@ -113,7 +120,8 @@ left_more w xs place x left ls h lt is here le =
     at (suc over) rs left n m e le b = omega (arith, b over)
 
 -- where no instruction is left the height is that so far
-pub height_end : (h : ℕ → ℕ) (xs : List Instr) (i m : ℕ) → length xs ≤ i → m ≡ max m (height_by h (drop i (instrs_of xs)))
+pub height_end : (h : ℕ → ℕ) (xs : List Instr) (i m : ℕ) → length xs ≤ i
+    → m ≡ max m (height_by h (drop i (instrs_of xs)))
 unfolding height_by
 height_end h xs i m le =
     let none : height_by h (drop i (instrs_of xs)) ≡ 0 =
@@ -131,5 +139,6 @@ pub proc_at : (xs : List (Seq Instr)) (i : ℕ) (x : Seq Instr) → i < length x
     → drop i (procs_of xs) ≡ instrs_of (items_of x) ∷ drop (i + 1) (procs_of xs)
 proc_at xs i x lt is = drop_map_at (λ (x : Seq Instr). instrs_of (items_of x)) xs i x lt is
 
+-- there are as many procedures as lists
 pub procs_counted : (xs : List (Seq Instr)) (i : ℕ) → length xs ≤ i → length (procs_of xs) ≤ i
 procs_counted xs i le = omega (arith, length-map xs (λ (x : Seq Instr). instrs_of (items_of x)))

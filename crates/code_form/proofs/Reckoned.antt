@@ -1,5 +1,6 @@
 -- Numbers that are reckoned from the first procedure on: what is appended changes none, and bounds are proved procedure by procedure.
-use Rattle.std.proofs.Common.{◌≡◌, ℕ, zero, suc, ◌+◌, ◌<◌, ◌≤◌, List, [], ◌∷◌, ◌++◌, length, Some, refl, sym, ap, ◌∙◌, subst, arith, append_assoc, length-append}
+use Rattle.std.proofs.Common.{◌≡◌, ℕ, zero, suc, ◌+◌, ◌<◌, ◌≤◌, List, [], ◌∷◌, ◌++◌, length, Some, refl, sym, ap}
+use Rattle.std.proofs.Common.{◌∙◌, subst, arith, append_assoc, length-append}
 use Rattle.std.specs.Prelude.{slice_get, slice_index}
 use Rattle.std.proofs.Math.Seq.{get_or-append_seam}
 use Rattle.std.proofs.lemmas.List.{append-nil}
@@ -10,15 +11,18 @@ use Rattle.code_form.specs.Sound.{CallsBelow}
 -- a number of a procedure by those of the procedures that it calls: greater ones give no less, and only those that it calls count
 pub record IsMeasure (F : (ℕ → ℕ) → List Instr → ℕ) : Type 0 where
   pub grows : (f g : ℕ → ℕ) (is : List Instr) → ((p : ℕ) → f p ≤ g p) → F f is ≤ F g is
-  pub agrees : (f g : ℕ → ℕ) (n : ℕ) (is : List Instr) → CallsBelow n is → ((p : ℕ) → p < n → f p ≡ g p) → F f is ≡ F g is
+  pub agrees : (f g : ℕ → ℕ) (n : ℕ) (is : List Instr) → CallsBelow n is → ((p : ℕ) → p < n → f p ≡ g p)
+      → F f is ≡ F g is
 
 -- ---- lists
 
+-- numbers at the front stay where they are
 pub at_front : (ns ms : List ℕ) (p : ℕ) → p < length ns → slice_index (ns ++ ms) p ≡ slice_index ns p
 at_front [] ms p h = absurd (omega arith)
 at_front (x ∷ ns) ms zero h = refl
 at_front (x ∷ ns) ms (suc p) h = at_front ns ms p (omega arith)
 
+-- and numbers behind them make none less
 pub at_most_front : (ns ms : List ℕ) (p : ℕ) → slice_index ns p ≤ slice_index (ns ++ ms) p
 at_most_front [] ms p = omega arith
 at_most_front (x ∷ ns) ms zero = omega arith
@@ -30,6 +34,7 @@ module _ (F : (ℕ → ℕ) → List Instr → ℕ) where
   later ns [] = []
   later ns (is ∷ ps) = F (slice_index ns) is ∷ later (ns ++ F (slice_index ns) is ∷ []) ps
 
+  -- the numbers that were there come first
   reckon_later : (ps : List (List Instr)) (ns : List ℕ) → reckon F ns ps ≡ ns ++ later ns ps
   unfolding reckon later
   reckon_later [] ns = sym (append-nil ns)
@@ -43,22 +48,27 @@ module _ (F : (ℕ → ℕ) → List Instr → ℕ) where
   reckon_append [] qs ns = refl
   reckon_append (is ∷ ps) qs ns = reckon_append ps qs (ns ++ F (slice_index ns) is ∷ [])
 
+  -- there is a number for each procedure
   pub reckon_length : (ps : List (List Instr)) (ns : List ℕ) → length (reckon F ns ps) ≡ length ns + length ps
   unfolding reckon
   reckon_length [] ns = omega arith
   reckon_length (is ∷ ps) ns = omega (arith, reckon_length ps (ns ++ F (slice_index ns) is ∷ []), length-append ns (F (slice_index ns) is ∷ []))
 
   -- numbers that were there stay
-  pub reckon_keeps : (ps : List (List Instr)) (ns : List ℕ) (p : ℕ) → p < length ns → slice_index (reckon F ns ps) p ≡ slice_index ns p
+  pub reckon_keeps : (ps : List (List Instr)) (ns : List ℕ) (p : ℕ) → p < length ns
+      → slice_index (reckon F ns ps) p ≡ slice_index ns p
   reckon_keeps ps ns p h = ap (λ l. slice_index l p) (reckon_later ps ns) ∙ at_front ns (later ns ps) p h
 
+  -- no number that was there is greater
   pub reckon_above : (ps : List (List Instr)) (ns : List ℕ) (p : ℕ) → slice_index ns p ≤ slice_index (reckon F ns ps) p
   reckon_above ps ns p = subst (λ l. slice_index ns p ≤ slice_index l p) (sym (reckon_later ps ns)) (at_most_front ns (later ns ps) p)
 
   -- the number of the procedure that comes next
-  pub reckon_here : (ns : List ℕ) (is : List Instr) (ps : List (List Instr)) → slice_index (reckon F ns (is ∷ ps)) (length ns) ≡ F (slice_index ns) is
+  pub reckon_here : (ns : List ℕ) (is : List Instr) (ps : List (List Instr))
+      → slice_index (reckon F ns (is ∷ ps)) (length ns) ≡ F (slice_index ns) is
   unfolding later
-  reckon_here ns is ps = ap (λ l. slice_index l (length ns)) (reckon_later (is ∷ ps) ns) ∙ get_or-append_seam ns (F (slice_index ns) is) (later (ns ++ F (slice_index ns) is ∷ []) ps) 0
+  reckon_here ns is ps = ap (λ l. slice_index l (length ns)) (reckon_later (is ∷ ps) ns)
+      ∙ get_or-append_seam ns (F (slice_index ns) is) (later (ns ++ F (slice_index ns) is ∷ []) ps) 0
 
   -- the numbers that were there, that of the procedure that comes next, and others
   pub reckon_split : (ns : List ℕ) (is : List Instr) (ps : List (List Instr))
@@ -67,11 +77,14 @@ module _ (F : (ℕ → ℕ) → List Instr → ℕ) where
   reckon_split ns is ps = (later (ns ++ F (slice_index ns) is ∷ []) ps, reckon_later (is ∷ ps) ns)
 
   module _ (measure : IsMeasure F) where
+    -- one more number
     one_longer : (ns : List ℕ) (x : ℕ) → length (ns ++ x ∷ []) ≡ suc (length ns)
     one_longer ns x = omega (arith, length-append ns (x ∷ []))
 
     -- no procedure has more than its instructions give with the numbers of all
-    pub reckon_at_most : (ps : List (List Instr)) (ns : List ℕ) (k : ℕ) (is : List Instr) → slice_get ps k ≡ Some is → slice_index (reckon F ns ps) (length ns + k) ≤ F (slice_index (reckon F ns ps)) is
+    pub reckon_at_most : (ps : List (List Instr)) (ns : List ℕ) (k : ℕ) (is : List Instr)
+        → slice_get ps k ≡ Some is
+        → slice_index (reckon F ns ps) (length ns + k) ≤ F (slice_index (reckon F ns ps)) is
     unfolding reckon
     reckon_at_most [] ns k is e = absurd (cc e)
     reckon_at_most (js ∷ ps) ns zero is e =
@@ -86,7 +99,9 @@ module _ (F : (ℕ → ℕ) → List Instr → ℕ) where
         subst (λ i. slice_index (reckon F (ns ++ x ∷ []) ps) i ≤ F (slice_index (reckon F (ns ++ x ∷ []) ps)) is) n (reckon_at_most ps (ns ++ x ∷ []) k is e)
 
     -- where its calls go lower, it has exactly that
-    pub reckon_is : (ps : List (List Instr)) (ns : List ℕ) (k : ℕ) (is : List Instr) → slice_get ps k ≡ Some is → CallsBelow (length ns + k) is → slice_index (reckon F ns ps) (length ns + k) ≡ F (slice_index (reckon F ns ps)) is
+    pub reckon_is : (ps : List (List Instr)) (ns : List ℕ) (k : ℕ) (is : List Instr) → slice_get ps k ≡ Some is
+        → CallsBelow (length ns + k) is
+        → slice_index (reckon F ns ps) (length ns + k) ≡ F (slice_index (reckon F ns ps)) is
     unfolding reckon
     reckon_is [] ns k is e low = absurd (cc e)
     reckon_is (js ∷ ps) ns zero is e low =
@@ -102,7 +117,9 @@ module _ (F : (ℕ → ℕ) → List Instr → ℕ) where
         subst (λ i. slice_index (reckon F (ns ++ x ∷ []) ps) i ≡ F (slice_index (reckon F (ns ++ x ∷ []) ps)) is) n (reckon_is ps (ns ++ x ∷ []) k is e (subst (λ i. CallsBelow i is) (sym n) low))
 
     -- bounds that each procedure keeps by those of the procedures that it calls are bounds
-    pub reckon_bounded : (b : ℕ → ℕ) (ps : List (List Instr)) (ns : List ℕ) → ((p : ℕ) → slice_index ns p ≤ b p) → ((k : ℕ) (is : List Instr) → slice_get ps k ≡ Some is → F b is ≤ b (length ns + k)) → (p : ℕ) → slice_index (reckon F ns ps) p ≤ b p
+    pub reckon_bounded : (b : ℕ → ℕ) (ps : List (List Instr)) (ns : List ℕ) → ((p : ℕ) → slice_index ns p ≤ b p)
+        → ((k : ℕ) (is : List Instr) → slice_get ps k ≡ Some is → F b is ≤ b (length ns + k)) → (p : ℕ)
+        → slice_index (reckon F ns ps) p ≤ b p
     unfolding reckon
     reckon_bounded b [] ns old each p = old p
     reckon_bounded b (is ∷ ps) ns old each p =
@@ -114,7 +131,8 @@ module _ (F : (ℕ → ℕ) → List Instr → ℕ) where
         let n : length ns + suc k ≡ length (ns ++ x ∷ []) + k = omega (arith, one_longer ns x) in
         subst (λ i. F b js ≤ b i) n (each (suc k) js e)) p
       where
-        with_last : (ms : List ℕ) (y : ℕ) (c : ℕ → ℕ) → ((p : ℕ) → slice_index ms p ≤ c p) → y ≤ c (length ms) → (p : ℕ) → slice_index (ms ++ y ∷ []) p ≤ c p
+        with_last : (ms : List ℕ) (y : ℕ) (c : ℕ → ℕ) → ((p : ℕ) → slice_index ms p ≤ c p) → y ≤ c (length ms)
+            → (p : ℕ) → slice_index (ms ++ y ∷ []) p ≤ c p
         with_last [] y c low h zero = h
         with_last [] y c low h (suc p) = omega arith
         with_last (m ∷ ms) y c low h zero = low 0

@@ -1,5 +1,7 @@
 -- What is tested of the tables, as lists of the code have it.
-use Rattle.std.proofs.Common.{◌≡◌, ◌≢◌, ℕ, suc, ◌+◌, ◌<◌, ◌≤◌, ◌||◌, ◌&&◌, not, Bool, true, false, cond, ℤ, List, [], ◌∷◌, length, map, drop, get_or, Option, Some, None, is_some, refl, sym, ap, ◌∙◌, subst, arith}
+use Rattle.std.proofs.Common.{◌≡◌, ◌≢◌, ℕ, suc, ◌+◌, ◌<◌, ◌≤◌, ◌||◌, ◌&&◌, not, Bool, true, false, cond, ℤ, List, []}
+use Rattle.std.proofs.Common.{◌∷◌, length, map, drop, get_or, Option, Some, None, is_some, refl, sym, ap, ◌∙◌, subst}
+use Rattle.std.proofs.Common.{arith}
 use Rattle.std.specs.Prelude.{IsSomeAnd, is_none, slice_index_or, unwrap_or, Result, Ok, Err, IfOk, OnOk}
 use Rattle.std.specs.List.{list_all}
 use Rattle.std.proofs.lemmas.Bool.{and_parts}
@@ -16,12 +18,14 @@ use Rattle.actions.proofs.SizeLemmas.{floored_at_own}
 use Rattle.actions.specs.declared.names.EventDecl.{EventDecl}
 use Rattle.actions.specs.declared.names.Var.{Var}
 use Rattle.code_form.specs.declared.code.RawState.{RawState}
-use Rattle.code_form.specs.Acceptance.{has_parents, parent_or_0, comp_written, has_twin, has_no_twins, names_var, names_event, vars_differ, events_differ}
+use Rattle.code_form.specs.Acceptance.{has_parents, parent_or_0, comp_written, has_twin, has_no_twins, names_var}
+use Rattle.code_form.specs.Acceptance.{names_event, vars_differ, events_differ}
 use Rattle.code_form.specs.Code.{tree_of_states}
 use Rattle.code_form.proofs.ListLemmas.{drop_at}
 
 -- ---- first values
 
+-- something where the test holds
 some_if : (b : Bool) (m : ℤ) → is_some (cond b (Some m) None) ≡ b
 some_if true m = refl
 some_if false m = refl
@@ -43,11 +47,13 @@ pub events_differ-drop : (xs : List EventDecl) (i : ℕ) (x : EventDecl) → i <
     → events_differ (drop i xs) ≡ (not (names_event x.name (drop (i + 1) xs)) && events_differ (drop (i + 1) xs))
 events_differ-drop xs i x lt is = ap events_differ (drop_at xs i x lt is)
 
+-- the same for the data
 pub vars_differ-drop : (es : List EventDecl) (xs : List Var) (i : ℕ) (x : Var) → i < length xs → x ≡ get_or xs i x
     → vars_differ (drop i xs) es
     ≡ (not (names_var x.name (drop (i + 1) xs) || names_event x.name es) && vars_differ (drop (i + 1) xs) es)
 vars_differ-drop es xs i x lt is = ap (λ l. vars_differ l es) (drop_at xs i x lt is)
 
+-- and for the states
 pub no_twins-drop : (xs : List RawState) (i : ℕ) (x : RawState) → i < length xs → x ≡ get_or xs i x
     → has_no_twins (drop i xs) ≡ (not (has_twin x (drop (i + 1) xs)) && has_no_twins (drop (i + 1) xs))
 no_twins-drop xs i x lt is = ap has_no_twins (drop_at xs i x lt is)
@@ -57,6 +63,7 @@ pub decides_false : (twin rest whole : Bool) → whole ≡ (not twin && rest) �
 decides_false true rest whole e t = e
 decides_false false rest whole e t = absurd (cc t)
 
+-- and one that holds leaves the rest
 pub decides_rest : (twin rest whole : Bool) → whole ≡ (not twin && rest) → twin ≡ false → whole ≡ rest
 decides_rest true rest whole e t = absurd (cc t)
 decides_rest false rest whole e t = e
@@ -68,10 +75,12 @@ some_parent : (o : Option ℕ) → is_some o ≡ true → o ≡ Some (unwrap_or 
 some_parent None h = absurd (cc h)
 some_parent (Some p) h = refl
 
+-- and one that is not
 no_parent : (o : Option ℕ) → is_none o ≡ true → o ≡ None
 no_parent None h = refl
 no_parent (Some p) h = absurd (cc h)
 
+-- parents that are there are the numbers
 parents_some : (states : List RawState) → list_all (λ (s : RawState). is_some s.parent) states ≡ true
     → map (λ (s : RawState). s.parent) states ≡ map Some (map parent_or_0 states)
 parents_some [] h = refl
@@ -95,10 +104,12 @@ tree_written (s ∷ rest) h =
     tree_with : List (Option ℕ) → List Comp → Tree
     tree_with ps cs = record { parents = ps; comps = cs }
 
+-- what is known of a parent is of one that is there
 some_of : (o : Option ℕ) (P : ℕ → Type 0) → IsSomeAnd o P → is_some o ≡ true
 some_of None P h = absurd h
 some_of (Some p) P h = refl
 
+-- each of the states has one
 all_some : (rest : List RawState)
     → ((s : ℕ) → s < length rest → is_some (slice_index_or (map (λ (s : RawState). s.parent) rest) s None) ≡ true)
     → list_all (λ (s : RawState). is_some s.parent) rest ≡ true
@@ -107,6 +118,7 @@ all_some (x ∷ rest) h =
     ap (λ b. b && list_all (λ (s : RawState). is_some s.parent) rest) (h 0 (omega arith))
     ∙ all_some rest (λ s lt. h (suc s) (omega arith))
 
+-- no parent
 none_none : (o : Option ℕ) → o ≡ None → is_none o ≡ true
 none_none None h = refl
 none_none (Some p) h = absurd (cc h)
@@ -134,6 +146,7 @@ pub depth_step : (t : Tree) (s p d : ℕ) → IsTree t → s < state_count t →
 depth_step t s p d h lt e =
     let up = ap length (ancestors-step t (state_count t) h.pre_order s p lt e) in omega (arith, up)
 
+-- a parent stands before the state
 pub parent_below : (t : Tree) (s p : ℕ) → IsTree t → s < state_count t → parent_of t s ≡ Some p → p < s
 parent_below t s p h lt e = parent_lt t (state_count t) h.pre_order s p lt e
 
@@ -161,6 +174,7 @@ tree_by : (states : List RawState) (parents : List ℕ) (comps : List Comp) → 
 tree_by states parents comps h p c =
     ap (λ l. tree_of l comps) p ∙ ap (tree_of (map parent_or_0 states)) c ∙ tree_written states h
 
+-- so a shape is that of the states
 pub shape_ok : {E : Type 0} (states : List RawState) (parents : List ℕ) (comps : List Comp) (r : Result Tree E)
     → has_parents states ≡ true → parents ≡ map parent_or_0 states → comps ≡ map comp_written states
     → IfOk r (λ shape. shape ≡ tree_of parents comps) → OnOk r (IsTree (tree_of parents comps))
@@ -169,6 +183,7 @@ shape_ok states parents comps (Ok t) h p c e tree =
     (e ∙ tree_by states parents comps h p c, subst IsTree (sym e) tree)
 shape_ok states parents comps (Err x) h p c e tree = tt
 
+-- and without a shape the states are no tree
 pub shape_err : (states : List RawState) (parents : List ℕ) (comps : List Comp)
     → has_parents states ≡ true → parents ≡ map parent_or_0 states → comps ≡ map comp_written states
     → ¬ IsTree (tree_of parents comps) → ¬ IsTree (tree_of_states states)

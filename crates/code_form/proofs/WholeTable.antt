@@ -1,5 +1,6 @@
 -- What is declared is a table where all its tests hold.
-use Rattle.std.proofs.Common.{◌≡◌, ℕ, ◌≤◌, ◌||◌, ◌&&◌, not, Bool, true, false, cond, List, [], ◌∷◌, ◌++◌, length, map, Option, Some, None, is_some, refl, sym, ap, ◌∙◌, subst, arith}
+use Rattle.std.proofs.Common.{◌≡◌, ℕ, ◌≤◌, ◌||◌, ◌&&◌, not, Bool, true, false, cond, List, [], ◌∷◌, ◌++◌, length}
+use Rattle.std.proofs.Common.{map, Option, Some, None, is_some, refl, sym, ap, ◌∙◌, subst, arith}
 use Rattle.std.specs.Prelude.{◌↔◌, IsTrue, IfOk, Result, Ok, Err, nat_le, bytes_eq}
 use Rattle.std.specs.List.{list_all, AllByRecursion}
 use Rattle.std.proofs.lemmas.Bool.{and_parts}
@@ -20,7 +21,8 @@ use Rattle.state_tree.specs.declared.limits.TheConstants.{STATE_LIMIT, VARIABLE_
 use Rattle.state_tree.specs.Valid.{HasFlagMode}
 use Rattle.code_form.specs.declared.code.RawCode.{RawCode}
 use Rattle.code_form.specs.declared.code.RawState.{RawState}
-use Rattle.code_form.specs.Acceptance.{IsShallow, AreStates, are_few, are_names, names_var, names_event, vars_differ, events_differ}
+use Rattle.code_form.specs.Acceptance.{IsShallow, AreStates, are_few, are_names, names_var, names_event, vars_differ}
+use Rattle.code_form.specs.Acceptance.{events_differ}
 use Rattle.code_form.specs.Acceptance.{is_flag_mode, has_value, is_declared, has_no_twins, has_parents}
 use Rattle.code_form.specs.Code.{code_of, tree_of_states}
 use Rattle.code_form.specs.Tables.{IsTable}
@@ -31,6 +33,7 @@ use Rattle.code_form.proofs.SiblingLemmas.{siblings_differ, no_twins}
 
 -- ---- the states, with two tests
 
+-- in a tree that is not too deep the names of siblings decide
 pub states_are : (states : List RawState) (t : Tree) (twins : Bool) → (t ≡ tree_of_states states) × IsTree t
     → IsShallow t → twins ≡ has_no_twins states → IsTrue twins ↔ AreStates states
 states_are states t twins is shallow e = (
@@ -42,6 +45,7 @@ states_are states t twins is shallow e = (
   λ (h : AreStates states). e ∙ no_twins states h.tree h.siblings,
 )
 
+-- one that is too deep has no right states
 pub states_deep : (states : List RawState) (t : Tree) → (t ≡ tree_of_states states) × IsTree t → (IsShallow t → ⊥)
     → IsTrue false ↔ AreStates states
 states_deep states t is deep = false_where (λ (h : AreStates states). deep (subst IsShallow (sym is.0) h.depth))
@@ -57,28 +61,35 @@ no_states states h =
 
 -- ---- the whole table
 
+-- a test of a limit
 le_of : (a b : ℕ) → nat_le a b ≡ true → a ≤ b
 le_of a b h = grind (arith, nat_tests)
 
+-- and back
 le_test : (a b : ℕ) → a ≤ b → nat_le a b ≡ true
 le_test a b h = grind (arith, nat_tests)
 
+-- two tests that hold together
 both_true : (a b : Bool) → a ≡ true → b ≡ true → (a && b) ≡ true
 both_true true b h k = k
 both_true false b h k = absurd (cc h)
 
+-- a place counted on from one more name is there where the place is
 some_after : (o : Option ℕ) → is_some (after o) ≡ is_some o
 some_after None = refl
 some_after (Some n) = refl
 
+-- the first name is the one, or the rest has it
 found : (same : Bool) (o : Option ℕ) (t : Bool) → is_some o ≡ t → is_some (cond same (Some 0) (after o)) ≡ (same || t)
 found true o t h = refl
 found false o t h = some_after o ∙ h
 
+-- three tests of which one holds
 or_assoc : (a b c : Bool) → (a || (b || c)) ≡ ((a || b) || c)
 or_assoc true b c = refl
 or_assoc false b c = refl
 
+-- three tests that all hold
 and_assoc : (a b c : Bool) → (a && (b && c)) ≡ ((a && b) && c)
 and_assoc true b c = refl
 and_assoc false b c = refl
@@ -93,12 +104,14 @@ names_index name (v ∷ vs) es =
     found (bytes_eq v.name name) _ _ (names_index name vs es)
     ∙ or_assoc (bytes_eq v.name name) (names_var name vs) (names_event name es)
 
+-- names of events differ by pairs
 events_distinct : (es : List EventDecl) → are_distinct (map (λ (e : EventDecl). e.name) es) ≡ events_differ es
 events_distinct [] = refl
 events_distinct (e ∷ es) =
     ap (λ b. not b && are_distinct (map (λ (e : EventDecl). e.name) es)) (names_index e.name [] es)
     ∙ ap (λ b. not (names_event e.name es) && b) (events_distinct es)
 
+-- names of data and events differ by pairs
 names_distinct : (vs : List Var) (es : List EventDecl)
     → are_distinct (map (λ (v : Var). v.name) vs ++ map (λ (e : EventDecl). e.name) es) ≡ (vars_differ vs es && events_differ es)
 names_distinct [] es = events_distinct es
@@ -110,7 +123,8 @@ names_distinct (v ∷ vs) es =
 -- NAMEs of the data and the events in one list
 all_append : (xs ys : List (List ℕ)) → list_all is_name (xs ++ ys) ≡ (list_all is_name xs && list_all is_name ys)
 all_append [] ys = refl
-all_append (x ∷ xs) ys = ap (λ b. is_name x && b) (all_append xs ys) ∙ and_assoc (is_name x) (list_all is_name xs) (list_all is_name ys)
+all_append (x ∷ xs) ys = ap (λ b. is_name x && b) (all_append xs ys)
+    ∙ and_assoc (is_name x) (list_all is_name xs) (list_all is_name ys)
 
 -- first values and modes
 value_of : (sort : Sort) (mode : Mode) → is_flag_mode sort mode ≡ true → sort ≡ Flag → mode ≡ Saturate
@@ -119,12 +133,14 @@ value_of Flag Wrap h e = absurd (cc h)
 value_of Flag Error h e = absurd (cc h)
 value_of (Number scale) mode h e = absurd (cc e)
 
+-- and back
 mode_of : (sort : Sort) (mode : Mode) → (sort ≡ Flag → mode ≡ Saturate) → is_flag_mode sort mode ≡ true
 mode_of Flag Saturate h = refl
 mode_of Flag Wrap h = absurd (let e = h refl in cc e)
 mode_of Flag Error h = absurd (let e = h refl in cc e)
 mode_of (Number scale) mode h = refl
 
+-- first values and modes, one by one
 inits_of : (vars : List Var) → list_all has_value vars ≡ true
     → AllByRecursion (λ v. IsTrue (is_mantissa_of v.sort v.init)) vars × AllByRecursion HasFlagMode vars
 inits_of [] h = (tt, tt)
@@ -134,6 +150,7 @@ inits_of (v ∷ vs) h =
     let rest = inits_of vs both.1 in
     ((here.0, rest.0), (value_of v.sort v.mode here.1, rest.1))
 
+-- and back
 values_of : (vars : List Var) → AllByRecursion (λ v. IsTrue (is_mantissa_of v.sort v.init)) vars
     → AllByRecursion HasFlagMode vars → list_all has_value vars ≡ true
 values_of [] h k = refl
@@ -207,11 +224,13 @@ no_table raw h =
     differ true t h = absurd (cc h)
     differ false t h = absurd (cc t)
 
+-- where it is declared the states decide
 pub table_by_states : (raw : RawCode) (b : Bool) → is_declared raw ≡ true → IsTrue b ↔ AreStates (items_of raw.states)
     → IsTrue b ↔ IsTable (code_of raw).tree (code_of raw).names
 table_by_states raw b h s =
     (λ e. table_is raw h (s.0 e), λ (a : IsTable (code_of raw).tree (code_of raw).names). s.1 (table_states raw a))
 
+-- the same for what a call gives
 pub table_result : {E : Type 0} (raw : RawCode) (r : Result Bool E) → is_declared raw ≡ true
     → IfOk r (λ b. IsTrue b ↔ AreStates (items_of raw.states))
     → IfOk r (λ b. IsTrue b ↔ IsTable (code_of raw).tree (code_of raw).names)

@@ -1,0 +1,9 @@
+pub mod CutLemmas
+pub mod TextLemmas
+pub mod LoopLemmas
+pub mod StepLemmas
+pub mod PartLemmas
+pub mod CodeLemmas
+pub mod NewlineLemmas
+pub mod OutcomeLemmas
+pub mod SpellableLemmas

@@ -1,0 +1,6 @@
+pub mod Lines
+pub mod Written
+pub mod Spelling
+pub mod Reading
+pub mod Form
+pub mod Views

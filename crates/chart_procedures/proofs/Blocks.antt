@@ -131,14 +131,20 @@ module _ (c : Chart) (b : Bounds) (k : Procedures) (N : Numbers) (valid : IsVali
     block_runs [] i h t w ok e r = meets_end (record { number = 1; good = e }) (go_ret h.0)
     block_runs (Assign v x ∷ rest) i h t w ok e r =
         let one : Meets C (machine w now r (at i ∷ fs)) (Behind (i + 1)) (statement c b p life (Assign v x) now w) =
-        go_assign h.0 (λ u m. meets_end (record { number = r; good = ap (lives c.tree life)
-        (kept w (assigned_keeps v x w) m) ∙ e }) here) in
+        go_assign h.0 (λ u m. meets_end (record {
+          number = r;
+          good = ap (lives c.tree life)
+              (kept w (assigned_keeps v x w) m) ∙ e;
+        }) here) in
         then_meets_with (keeping (statement_finishes c valid.tree b (Consistent c) (consistent_closed c b) p keep life
         (Assign v x) now w ok)) one (λ a u y ok'. rest_runs rest (i + 1) h.1 t a u ok' y)
     block_runs (Emit x ∷ rest) i h t w ok e r =
         let one : Meets C (machine w now r (at i ∷ fs)) (Behind (i + 1)) (statement c b p life (Emit x) now w) =
-        go_emit h.0 (λ u m. meets_end (record { number = r; good = ap (lives c.tree life) (kept w (paid_keeps b w) m)
-        ∙ e }) here) in
+        go_emit h.0 (λ u m. meets_end (record {
+          number = r;
+          good = ap (lives c.tree life) (kept w (paid_keeps b w) m)
+              ∙ e;
+        }) here) in
         then_meets_with (keeping (statement_finishes c valid.tree b (Consistent c) (consistent_closed c b) p keep life
         (Emit x) now w ok)) one (λ a u y ok'. rest_runs rest (i + 1) h.1 t a u ok' y)
     block_runs (Send x ∷ rest) i h t w ok e r =

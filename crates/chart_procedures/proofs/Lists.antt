@@ -57,8 +57,10 @@ module _ (c : Chart) (valid : IsValid c) (b : Bounds) (k : Procedures) (N : Numb
   parts_do s kind J p block = record {
     guard = λ q e h. guard_does (program c b k) q e h;
     condition =
-        λ q ss h. record { by = λ w ok l now r tag base fs. block.by
-        (life_of s kind) ss q 0 h.code h.targets w ok l now r tag base fs };
+        λ q ss h. record {
+          by = λ w ok l now r tag base fs. block.by
+              (life_of s kind) ss q 0 h.code h.targets w ok l now r tag base fs;
+        };
   }
 
   -- a search's results aren't 0

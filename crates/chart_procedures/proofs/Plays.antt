@@ -120,5 +120,7 @@ module _ (c : Chart) (b : Bounds) (k : Procedures) (N : Numbers) (valid : IsVali
   -- the contract of `Play`
   pub does_play : DoesPlay C N (rules c b p)
   does_play =
-      record { by = λ f fs has lt actions cursor notes w ok bare now r. plays_by f fs has lt now actions
-      (pending (later cursor (suc f.base)) (f ∷ fs)) cursor refl notes w ok bare r }
+      record {
+        by = λ f fs has lt actions cursor notes w ok bare now r. plays_by f fs has lt now actions
+            (pending (later cursor (suc f.base)) (f ∷ fs)) cursor refl notes w ok bare r;
+      }

@@ -261,5 +261,7 @@ module _ (c : Chart) (b : Bounds) (k : Procedures) (N : Numbers) (valid : IsVali
   -- the contract of processing regions
   pub does_process_each : DoesProcessEach C N (rules c b p)
   does_process_each =
-      record { by = λ xs q i h all w ok now r tag base home saved fs. regions_run now q tag base home saved fs xs i h
-      all w ok r }
+      record {
+        by = λ xs q i h all w ok now r tag base home saved fs. regions_run now q tag base home saved fs xs i h
+            all w ok r;
+      }

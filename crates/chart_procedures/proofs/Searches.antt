@@ -254,8 +254,11 @@ module _ (c : Chart) (b : Bounds) (k : Procedures) (P : Meaning) (S : Search) (r
         let part = (does.condition q (s ∷ ss) is).by w ok l R.now r None R.base (frame (i + 1) ∷ R.below) in
         meets_on (go_call h.0) (then_meets_with (keeping (keep.block life (s ∷ ss) R.now w ok))
         (subst (λ h. Meets C (machine w R.now r (running q 0 None R.base h None ∷ frame (i + 1) ∷ R.below))
-        (record { Facts = λ a v. Answer (λ a v x. Tells a (lives c.tree life v.marks)) a v; stands =
-        λ a v y. machine v R.now y.number (frame (i + 1) ∷ R.below) }) (p.block life (s ∷ ss) R.now w))
+        (record {
+          Facts = λ a v. Answer (λ a v x. Tells a (lives c.tree life v.marks)) a v;
+          stands =
+              λ a v y. machine v R.now y.number (frame (i + 1) ∷ R.below);
+        }) (p.block life (s ∷ ss) R.now w))
         (home_is S.state S.kind) part)
         (λ a v y ok'. ended t tag (i + 1) rest act to h.1 others' a v y.number ok' y.good))
 
@@ -281,11 +284,17 @@ module _ (c : Chart) (b : Bounds) (k : Procedures) (P : Meaning) (S : Search) (r
         → (w : World) (a : Bool) (v : World) → v.marks ≡ w.marks
         → Arrives C (machine v R.now (flag_number a) (frame i ∷ R.below)) (Tested w n j) a v
     judged body i n j h e f w true v same =
-        record { facts = record { number = 1; same = same }; reached = subst
-        (λ x. Reaches C (stand v 1 i) (stand v 1 x)) f (yes_result h.0 refl) }
+        record {
+          facts = record { number = 1; same = same };
+          reached = subst
+              (λ x. Reaches C (stand v 1 i) (stand v 1 x)) f (yes_result h.0 refl);
+        }
     judged body i n j h e f w false v same =
-        record { facts = record { number = 0; same = same }; reached = subst
-        (λ x. Reaches C (stand v 0 i) (stand v 0 x)) e (no_result h.0 refl) }
+        record {
+          facts = record { number = 0; same = same };
+          reached = subst
+              (λ x. Reaches C (stand v 0 i) (stand v 0 x)) e (no_result h.0 refl);
+        }
 
     -- the guard, if there is one
     guards : (g : Option Expr) (gp : Option ℕ) (body : List Instr) (i n j : ℕ) → GuardBy P.guard g gp
@@ -378,5 +387,7 @@ lists c tree b k P S results qs_of junctions zero parts = record { by = λ ts qs
 lists c tree b k P S results qs_of junctions (suc n) parts =
     let keep = upto_keep c tree b (Consistent c) (consistent_closed c b) n in
     let low = lists c tree b k P S results qs_of junctions n (λ m lt. parts m (omega arith)) in
-    record { by = λ ts qs R i each h w ok l r. list_runs c b k P S results qs_of junctions (upto c b n) keep
-    (parts n (omega arith)) (idle_upto c b n) low R ts qs i each h w ok l r }
+    record {
+      by = λ ts qs R i each h w ok l r. list_runs c b k P S results qs_of junctions (upto c b n) keep
+          (parts n (omega arith)) (idle_upto c b n) low R ts qs i each h w ok l r;
+    }

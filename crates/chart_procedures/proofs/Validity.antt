@@ -218,11 +218,11 @@ module _ (c : Chart) (valid : IsValid c) (k : Procedures) (N : Numbers) (M : Lis
           (λ j e. comes j (record { trans = t; within = (0, omega arith, refl); leads = e }));
     },
     each_by ts (other_parts qs) or are.1 well.1
-    (λ j l. comes j (record {
-      trans = l.trans;
-      within = (suc l.within.0, omega (arith, l.within.1), l.within.2);
-      leads = l.leads;
-    })) h.1,
+        (λ j l. comes j (record {
+          trans = l.trans;
+          within = (suc l.within.0, omega (arith, l.within.1), l.within.2);
+          leads = l.leads;
+        })) h.1,
   )
 
   -- the procedures of a list that is met

@@ -26,14 +26,20 @@ IsHead k F (Some x) = (k ≤ x.0) × (x.0 < length F) × (pending k F ≡ x.1 �
 head_this : (k : ℕ) (f : Frame) (fs : List Frame) (n : Option ℕ) → f.note ≡ n → k ≤ length fs → (o : Option (ℕ × ℕ))
     → IsHead k fs o → IsHead k (f ∷ fs) (or_this o (length fs) n)
 head_this k f fs n e h (Some x) y =
-    let rest : suc x.0 ≤ length fs = y.1 in
-    (y.0, omega (arith, y.1), pending_at k f fs h ∙ ap (λ l. l ++ with_note f.note []) y.2 ∙ ap (λ l. x.1 ∷ l)
-    (sym (pending_at (suc x.0) f fs rest)))
+    let rest : suc x.0 ≤ length fs = y.1 in (
+      y.0,
+      omega (arith, y.1),
+      pending_at k f fs h ∙ ap (λ l. l ++ with_note f.note []) y.2 ∙ ap (λ l. x.1 ∷ l)
+          (sym (pending_at (suc x.0) f fs rest)),
+    )
 head_this k f fs None e h None y =
     pending_at k f fs h ∙ ap (λ l. l ++ with_note f.note []) y ∙ ap (λ m. with_note m []) e
-head_this k f fs (Some p) e h None y =
-    (h, omega arith, pending_at k f fs h ∙ ap (λ l. l ++ with_note f.note []) y ∙ ap (λ m. with_note m []) e ∙ ap
-    (λ l. p ∷ l) (sym (pending_past (suc (length fs)) f fs (omega arith))))
+head_this k f fs (Some p) e h None y = (
+  h,
+  omega arith,
+  pending_at k f fs h ∙ ap (λ l. l ++ with_note f.note []) y ∙ ap (λ m. with_note m []) e ∙ ap
+      (λ l. p ∷ l) (sym (pending_past (suc (length fs)) f fs (omega arith))),
+)
 
 -- the same, whether the top frame counts or not
 head_if : (k : ℕ) (f : Frame) (fs : List Frame) (b : Bool) → nat_lt (length fs) k ≡ b → IsHead k fs (noted k fs)

@@ -1,6 +1,7 @@
 pub mod CutLemmas
 pub mod TextLemmas
 pub mod LoopLemmas
+pub mod FaultLemmas
 pub mod StepLemmas
 pub mod PartLemmas
 pub mod CodeLemmas

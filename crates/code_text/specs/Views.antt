@@ -1,8 +1,11 @@
 -- What contracts see of the values of the reader.
-use Rattle.std.specs.Prelude.{◌≡◌, ◌≢◌, Bool, true, false, map, Option, Some, None, Result, Ok, Err}
+use Rattle.std.specs.Prelude.{◌≡◌, ◌≢◌, ℕ, List, Bool, true, false, map, Option, Some, None, Result, Ok, Err}
 use Rattle.flow_base.specs.Lists.{items_of}
-use Rattle.code_form.specs.Code.{instr_of, instrs_of}
-use Rattle.code_text.specs.Reading.{Partial, Procs}
+use Rattle.code_form.specs.declared.code.RawCode.{RawCode}
+use Rattle.code_form.specs.Code.{code_of, instr_of, instrs_of}
+use Rattle.code_form.specs.WellFormed.{IsCode}
+use Rattle.code_text.specs.Reading.{Partial, Procs, spelled, IsCause}
+use Rattle.code_text.specs.Written.{written_of}
 use Rattle.code_text.specs.declared.fault.CodeTextFault.{CodeTextFault}
 use Rattle.code_text.specs.declared.fault.CodeTextFault.TheVariants as faults
 use Rattle.code_text.specs.declared.counts.Procs.{Procs as ProcsRead}
@@ -37,3 +40,8 @@ abbrev pub Answers : {X Y : Type 0} → (X → Y)
     → Result X CodeTextFault → Result Y CodeTextFault → Type 0
 Answers view (Ok x) outcome = outcome ≡ Ok (view x)
 Answers view (Err fault) outcome = fault ≢ faults.Memory → outcome ≡ Err fault
+
+-- what reading a text as code may answer: the well-formed code that it spells, or why it isn't read
+abbrev pub IsAnswer : List ℕ → Result RawCode CodeTextFault → Type 0
+IsAnswer text (Ok raw) = (spelled text ≡ Ok (written_of raw)) × IsCode (code_of raw)
+IsAnswer text (Err fault) = IsCause text fault

@@ -1,17 +1,57 @@
 //! Code from its text.
-ghost use Rattle.std.specs.Prelude.{◌≡◌, ◌<◌, [], length, IfSome, MatchOption};
+ghost use Rattle.std.specs.Prelude.{◌≡◌, ◌<◌, ◌≤◌, [], length, IfSome, IfOk, IfErr, Ok};
+ghost use Rattle.std.specs.Prelude.{MatchOption, MatchResult};
+ghost use Rattle.code_form.specs.Code.{code_of};
+ghost use Rattle.code_form.specs.WellFormed.{IsCode};
+ghost use Rattle.code_lines.specs.declared.format.Format as declared;
 ghost use Rattle.code_text.specs.Lines.{cut_of, line_then};
 ghost use Rattle.code_text.specs.Reading as spec;
-ghost use Rattle.code_text.specs.Views.{partial_of, Answers};
-ghost use Rattle.code_text.specs.Written.{written_of};
+ghost use Rattle.code_text.specs.Spelling.{code_text, IsSpellable};
+ghost use Rattle.code_text.specs.Views.{partial_of, Answers, IsAnswer};
+ghost use Rattle.code_text.specs.Written.{Written, written_of, code_written};
 
 use crate::fault::CodeTextFault;
 use crate::limits::TEXT_LIMIT;
 use crate::partial::Partial;
 use crate::refusal::{is_whole, refusal};
 use code_fields::{Parts, cut_at};
-use code_form::RawCode;
+use code_form::{Code, CodeEnd, RawCode, accept};
 use std::alloc::Global;
+
+/// The code that a text spells in one of the formats, if it is well formed.
+pub fn read_code(alloc: Global, text: &[u8]) -> Result<Code, CodeTextFault>
+    // What is read is spelled so, each byte of it, and well formed.
+    ensures read { IfOk result (λ code.
+        (format : declared.Format) × (text.now ≡ code_text format (written_of code))) }
+    ensures formed { IfOk result (λ code. IsCode (code_of code)) }
+    // What is spelled so and well formed is read, unless memory runs out.
+    ensures only { (format : declared.Format) (w : Written) → IsSpellable format w
+        → IsCode (code_written w) → text.now ≡ code_text format w → length text.now ≤ TEXT_LIMIT
+        → MatchResult result (λ code. written_of code ≡ w) (λ fault. fault ≡ CodeTextFault.Memory) }
+    // Each fault but `Memory` is the one of the text, or the first of its code.
+    ensures refused { IfErr result (λ fault. spec.IsCause text.now fault) }
+{
+    read_formed(alloc, text)
+}
+
+/// What reading the text gives.
+fn read_formed(alloc: Global, text: &[u8]) -> Result<Code, CodeTextFault>
+    ensures { IsAnswer text.now result }
+{
+    let raw = match read_raw(alloc, text) {
+        Ok(raw) => raw,
+        Err(fault) => return Err(fault),
+    };
+    match accept(alloc, raw) {
+        Ok(code) => {
+            // What a `Code` keeps tells that it is well formed.
+            let _raw = code.raw();
+            Ok(code)
+        }
+        Err(CodeEnd::Fault(fault)) => Err(CodeTextFault::Form(fault)),
+        Err(CodeEnd::Memory) => Err(CodeTextFault::Memory),
+    }
+}
 
 /// The code that a text spells, well formed or not. The text is read once, from its first line on,
 /// and a count in it takes no memory by itself.

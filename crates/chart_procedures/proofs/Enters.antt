@@ -129,7 +129,7 @@ module _ (c : Chart) (b : Bounds) (k : Procedures) (N : Numbers) (valid : IsVali
     abbrev on_s : ℕ → Frame
     on_s i = running (N.enter s d) i tag base s None
 
-    -- from the entry action on, and from the mark on
+    -- the work from the entry action on
     abbrev active_work : Work (Unit {0})
     active_work =
         p.block (Bare s) (node c s).entry now >>= (λ a. if_done a tt (enter_inside c p s d now (comp_of c.tree s)))

@@ -106,7 +106,7 @@ module _ (c : Chart) (b : Bounds) (k : Procedures) (N : Numbers) (valid : IsVali
     abbrev on_s : ℕ → Frame
     on_s i = running (N.exit s) i tag base s None
 
-    -- behind the exit action: the mark goes where it was done
+    -- behind the exit action: where all of it was run, the state becomes inactive
     cleared : (a : End) (w : World) (r : ℕ) → Tells a (is_bare c.tree s w.marks)
         → Meets C (machine w now r (on_s 9 ∷ fs)) (returns now fs Any)
         (if_done a tt (if_bare c.tree s (change (set_mark s false))) w)

@@ -24,7 +24,7 @@ one_note A [] (Some q) h = absurd h
 one_note A (s ∷ ss) None h = absurd h
 one_note A (s ∷ ss) (Some q) h = (h, tt)
 
--- and that of one transition more
+-- the notes with one transition more
 pub more_notes : (A : ℕ → List Stmt → Type 0) (ss : List Stmt) (tag : Option ℕ) (ps : List ℕ)
     (actions : List (List Stmt)) → PartBy A ss tag → NotesBy A ps actions → NotesBy A (with_note tag ps) (ss ∷ actions)
 more_notes A [] None [] actions h n = n
@@ -33,13 +33,15 @@ more_notes A [] (Some q) ps actions h n = absurd h
 more_notes A (s ∷ ss) None ps actions h n = absurd h
 more_notes A (s ∷ ss) (Some q) ps actions h n = (h, n)
 
--- frames put onto others, with the one on top: their notes in order
+-- ---- frames that are put on others
+
+-- above the frames nothing is pending
 pending_none : (i : ℕ) (fs : List Frame) → length fs ≤ i → pending i fs ≡ []
 unfolding pending
 pending_none i [] h = refl
 pending_none i (f ∷ fs) h = pending_past i f fs h
 
--- frames that are put on others add their notes in order
+-- frames that are put on others, with one on top, add their notes in order
 put_on : (f : Frame) (gs fs : List Frame) (i : ℕ) (ps : List ℕ) → i ≤ length fs → pending i fs ≡ ps
     → pending i (f ∷ onto gs fs) ≡ ps ++ notes_of gs (with_note f.note [])
 put_on f [] fs i ps h e = pending_at i f fs h ∙ ap (λ l. l ++ with_note f.note []) e
@@ -52,7 +54,7 @@ put_on f (g ∷ gs) fs i ps h e =
     regroup xs None ys = ap (λ l. l ++ ys) (append-nil xs)
     regroup xs (Some q) ys = append_assoc xs (q ∷ []) ys
 
--- the notes above the frames below
+-- so these are the notes above the frames below
 pub pending_onto : (f : Frame) (gs fs : List Frame)
     → pending (length fs) (f ∷ onto gs fs) ≡ notes_of gs (with_note f.note [])
 pending_onto f gs fs = put_on f gs fs (length fs) [] (omega arith) (pending_none (length fs) fs (omega arith))

@@ -1,4 +1,4 @@
--- Play: the noted actions one after another, each one step.
+-- `Play`: the noted actions one after another, each one step.
 use Rattle.std.proofs.Common.{◌≡◌, ℕ, suc, ◌≤◌, ◌<◌, true, List, [], ◌∷◌, length, Option, Some, None, refl, sym, ap}
 use Rattle.std.proofs.Common.{◌∙◌, subst, arith}
 use Rattle.std.specs.Prelude.{if◌then◌else◌}
@@ -34,11 +34,11 @@ noted_aimed : (k cursor : ℕ) (f : Frame) (fs : List Frame) → noted k (aimed 
 unfolding noted
 noted_aimed k cursor f fs = refl
 
--- the later of two numbers is the greater
+-- the later of two numbers is the first, where the second isn't greater
 later_same : (x y : ℕ) → y ≤ x → later x y ≡ x
 later_same x y h = ap (λ t. if t then y else x) (le-ltb x y h)
 
--- it is at least the second
+-- the later of two numbers is at least the second
 later_from : (x y : ℕ) → y ≤ later x y
 later_from x y = grind (arith, nat_tests)
 
@@ -50,11 +50,11 @@ module _ (c : Chart) (b : Bounds) (k : Procedures) (N : Numbers) (valid : IsVali
 
   module _ (f : Frame) (fs : List Frame) (has : fetch k f.proc f.place ≡ Some instrs.Play)
       (lt : f.home < state_count c.tree) (now : Now) where
-    -- where Play looks from, with this cursor
+    -- from which frame `Play` looks, with this cursor
     abbrev from : ℕ → ℕ
     from cursor = later cursor (suc f.base)
 
-    -- nothing is noted any more
+    -- no note is left
     none : (cursor r : ℕ) (w : World) → is_bare c.tree f.home w.marks ≡ true → (o : Option (ℕ × ℕ))
         → noted (from cursor) (f ∷ fs) ≡ o → IsHead (from cursor) (f ∷ fs) o → pending (from cursor) (f ∷ fs) ≡ []
         → Meets C (machine w now r (aimed f cursor ∷ fs)) (behind c.tree f fs now) (play_rule c b p f.home [] now w)

@@ -36,19 +36,19 @@ use Rattle.chart_procedures.specs.Compiled.{Compiled}
 use Rattle.chart_procedures.proofs.Pieces.{keeping}
 use Rattle.chart_procedures.proofs.Validity.{during_targets}
 
--- results of different answers are different: tests of numbers don't compute at variables
+-- the results of two firings that lead out are the same where their homes are
 out_out : (x s : ℕ) → (suc (suc (suc x)) == suc (suc (suc s))) ≡ (x == s)
 out_out x s = grind (arith, nat_tests)
 
--- a way out is no stay
+-- the result of a firing that leads out isn't 1
 out_stay : (x : ℕ) → (suc (suc (suc x)) == 1) ≡ false
 out_stay x = grind (arith, nat_tests)
 
--- nor an end
+-- nor 2
 out_end : (x : ℕ) → (suc (suc (suc x)) == 2) ≡ false
 out_end x = grind (arith, nat_tests)
 
--- a stay is no way out
+-- and 1 isn't the result of one
 stay_out : (s : ℕ) → (1 == suc (suc (suc s))) ≡ false
 stay_out s = grind (arith, nat_tests)
 
@@ -73,7 +73,7 @@ module _ (c : Chart) (b : Bounds) (k : Procedures) (N : Numbers) (valid : IsVali
 
     -- ---- the active child of an OR
 
-    -- behind the call of the child of s: the way out of s ends there
+    -- behind the call of a child of s: a firing with s as its home ends there
     out_of : (i s x : ℕ) (xs : List ℕ) → HasAt k q i (active_child_code N s (x ∷ xs)) → (a : Went) (w : World)
         → Meets C (machine w now (went_result a) (at (i + 1 + 1) ∷ fs)) ReturnAim (from_child s a w)
     out_of i s x xs h Stay w =

@@ -104,7 +104,7 @@ module _ (c : Chart) (b : Bounds) (k : Procedures) (P : Meaning) (S : Search) (r
     Rest i rest =
         (w : World) → Consistent c w → Alive w → (r : ℕ) → Meets C (stand w r i) SearchAim (p.search life rest R.now w)
 
-    -- the rest from a place with another name
+    -- the rest, from a place that is written in another way
     moved : (i j : ℕ) (rest : List Trans) → i ≡ j → Rest j rest → Rest i rest
     moved i j rest e = subst (λ n. Rest n rest) (sym e)
 
@@ -330,7 +330,7 @@ module _ (c : Chart) (b : Bounds) (k : Procedures) (P : Meaning) (S : Search) (r
     behind_guard (Some q) body i n j h e f =
         let same : i + 1 + 1 ≡ n = omega arith in subst (λ x. HasAt k R.proc x body) same h.1.1
 
-    -- and behind both tests
+    -- the same behind both tests
     behind_tests : (ev gp : Option ℕ) (body : List Instr) (i n j : ℕ)
         → HasAt k R.proc i (event_code ev (guarded_code gp body))
         → i + length (event_code ev (guarded_code gp body)) ≡ j → n + length body ≡ j → HasAt k R.proc n body

@@ -80,7 +80,7 @@ module _ (c : Chart) (b : Bounds) (k : Procedures) (N : Numbers) (valid : IsVali
     abbrev on_s : ℕ → Frame
     on_s i = running (N.arrive s d) i tag base s None
 
-    -- behind Play: g is what the rules do then
+    -- behind `Play`: g is what the rules do then
     behind_play : (g : Work (Unit {0}))
         → ((w : World) (r cursor : ℕ) → Consistent c w → is_bare c.tree s w.marks ≡ true → Meets C
         (machine w now r (aimed (on_s 5) cursor ∷ fs)) (returns now fs Any) (g w))
@@ -91,7 +91,7 @@ module _ (c : Chart) (b : Bounds) (k : Procedures) (N : Numbers) (valid : IsVali
     behind_play g rest Cut w r cursor ok e =
         let h = (K.arrive s d path).1.1 in done 1 (on_to (no_bare_home h.0 e) (go_ret h.1.1.0))
 
-    -- the notes run where the home is bare, and then what g is
+    -- the notes run where the home is bare, and then g
     arrive_by : (g : Work (Unit {0}))
         → ((w : World) (r cursor : ℕ) → Consistent c w → is_bare c.tree s w.marks ≡ true → Meets C
         (machine w now r (aimed (on_s 5) cursor ∷ fs)) (returns now fs Any) (g w))

@@ -1,4 +1,4 @@
--- The induction on the height, and what a start and a reaction of the code come to.
+-- The induction on the height: each kind at a height from all kinds at every lower one.
 use Rattle.std.proofs.Common.{◌≡◌, ℕ, zero, suc, ◌<◌, subst, arith, ⊎_elim}
 use Rattle.std.proofs.lemmas.Bool.{cases_lt}
 use Rattle.flow_base.specs.declared.bounds.Bounds.{Bounds}

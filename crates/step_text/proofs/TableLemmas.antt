@@ -2,30 +2,30 @@
 use Rattle.std.proofs.Common.{◌≡◌, ℕ, suc, ◌+◌, List, [], ◌∷◌, ◌++◌, ◌<◌, take, get_or, length, Option, Some, None, Bool, true, false, cond, refl, sym, ap, subst, ◌∙◌, arith}
 use Rattle.std.proofs.lemmas.List.{take_more, length-take-le}
 use Rattle.std.proofs.lemmas.Bool.Decides.{nat_tests}
-use Rattle.std.specs.Prelude.{is_some, nat_eq, nat_lt, IfSome}
-use Rattle.std.specs.Global.{Vec}
+use Rattle.std.specs.Prelude.{is_some, nat_eq, nat_lt, IfSome, String, string_bytes, IsUtf8}
+use Rattle.std.specs.Global.{Global}
 use Rattle.std.specs.Str.{bytes_eq}
 use Rattle.std.specs.List.{position, position_or_len}
 use Rattle.std.specs.Cmp.Lexicographic.{pointwise, bytes_decides, nat_list_eq_equiv}
 use Rattle.std.specs.HashMap.{HashMap, get_by, UpdatesBy}
 use Rattle.std.specs.Map.{lookup, IsKeyTest, AreApart, KeepsOthers}
-use Rattle.step_text.specs.NameTables.{Numbered, numbered, number_in, or_else, number_after}
+use Rattle.step_text.specs.NameTables.{Numbered, numbered, number_in, or_else, number_after, HasTexts}
 
 turned : (p q : List ℕ) → bytes_eq p q ≡ bytes_eq q p
 turned p q = nat_list_eq_equiv.symm p q
 
 -- a look-up in what is numbered is one in the map
-pub number_in-numbered : (entries : List (Vec ℕ × ℕ)) (name : List ℕ) → number_in (numbered entries) name ≡ lookup (λ k. bytes_eq name k.items) entries
+pub number_in-numbered : (entries : List (String Global × ℕ)) (name : List ℕ) → number_in (numbered entries) name ≡ lookup (λ k. bytes_eq name (string_bytes k)) entries
 number_in-numbered [] name = refl
 number_in-numbered (e ∷ entries) name =
-    ap (λ b. cond b (Some e.1) (number_in (numbered entries) name)) (turned e.0.items name)
-    ∙ ap (λ o. cond (bytes_eq name e.0.items) (Some e.1) o) (number_in-numbered entries name)
+    ap (λ b. cond b (Some e.1) (number_in (numbered entries) name)) (turned (string_bytes e.0) name)
+    ∙ ap (λ o. cond (bytes_eq name (string_bytes e.0)) (Some e.1) o) (number_in-numbered entries name)
 
-abbrev eq_keys : Vec ℕ → Vec ℕ → Bool
-eq_keys x y = pointwise nat_eq x.items y.items
+abbrev eq_keys : String Global → String Global → Bool
+eq_keys x y = pointwise nat_eq (string_bytes x) (string_bytes y)
 
-others_stay : (test : Vec ℕ → Bool) (old new : List (Vec ℕ × ℕ)) → KeepsOthers eq_keys test old new
-    → (other : Vec ℕ → Bool) → IsKeyTest eq_keys other → AreApart test other → lookup other new ≡ lookup other old
+others_stay : (test : String Global → Bool) (old new : List (String Global × ℕ)) → KeepsOthers eq_keys test old new
+    → (other : String Global → Bool) → IsKeyTest eq_keys other → AreApart test other → lookup other new ≡ lookup other old
 unfolding KeepsOthers
 others_stay test old new h = h
 
@@ -33,23 +33,23 @@ apart : (bs cs ks : List ℕ) → bytes_eq bs cs ≡ false → bytes_eq bs ks �
 apart bs cs ks n y = nat_list_eq_equiv.symm cs ks ∙ sym (nat_list_eq_equiv.congr bs ks cs y) ∙ n
 
 -- a map after a number was put at a name
-pub lookup_after : {S : Type 0} (m n : HashMap (Vec ℕ) ℕ S) (kept name : List ℕ) (w : Option ℕ)
-    → UpdatesBy eq_keys (λ k. bytes_eq kept k.items) m n w
-    → lookup (λ k. bytes_eq name k.items) n.entries ≡ cond (bytes_eq kept name) w (lookup (λ k. bytes_eq name k.items) m.entries)
+pub lookup_after : {S : Type 0} (m n : HashMap (String Global) ℕ S) (kept name : List ℕ) (w : Option ℕ)
+    → UpdatesBy eq_keys (λ k. bytes_eq kept (string_bytes k)) m n w
+    → lookup (λ k. bytes_eq name (string_bytes k)) n.entries ≡ cond (bytes_eq kept name) w (lookup (λ k. bytes_eq name (string_bytes k)) m.entries)
 lookup_after m n kept name w h = go (bytes_eq kept name) refl
   where
-    go : (b : Bool) → bytes_eq kept name ≡ b → lookup (λ k. bytes_eq name k.items) n.entries ≡ cond b w (lookup (λ k. bytes_eq name k.items) m.entries)
-    go true e = subst (λ l. lookup (λ k. bytes_eq l k.items) n.entries ≡ w) ((bytes_decides kept name).0 e) h.1
-    go false e = others_stay _ _ _ h.3 (λ k. bytes_eq name k.items) (λ x y. nat_list_eq_equiv.congr name x.items y.items) (λ k. apart kept name k.items e)
+    go : (b : Bool) → bytes_eq kept name ≡ b → lookup (λ k. bytes_eq name (string_bytes k)) n.entries ≡ cond b w (lookup (λ k. bytes_eq name (string_bytes k)) m.entries)
+    go true e = subst (λ l. lookup (λ k. bytes_eq l (string_bytes k)) n.entries ≡ w) ((bytes_decides kept name).0 e) h.1
+    go false e = others_stay _ _ _ h.3 (λ k. bytes_eq name (string_bytes k)) (λ x y. nat_list_eq_equiv.congr name (string_bytes x) (string_bytes y)) (λ k. apart kept name (string_bytes k) e)
 
 -- a name that had no number has the number that was put
-pub puts_new : {S : Type 0} (m n : HashMap (Vec ℕ) ℕ S) (kept : List ℕ) (number : ℕ) → get_by (λ k. bytes_eq kept k.items) m ≡ None
-    → UpdatesBy eq_keys (λ k. bytes_eq kept k.items) m n (Some number)
+pub puts_new : {S : Type 0} (m n : HashMap (String Global) ℕ S) (kept : List ℕ) (number : ℕ) → get_by (λ k. bytes_eq kept (string_bytes k)) m ≡ None
+    → UpdatesBy eq_keys (λ k. bytes_eq kept (string_bytes k)) m n (Some number)
     → (name : List ℕ) → number_in (numbered n.entries) name ≡ number_after (numbered m.entries) kept number name
 puts_new m n kept number none h name = number_in-numbered n.entries name ∙ lookup_after m n kept name (Some number) h ∙ go (bytes_eq kept name) refl
   where
     old : List ℕ → Option ℕ
-    old q = lookup (λ k. bytes_eq q k.items) m.entries
+    old q = lookup (λ k. bytes_eq q (string_bytes k)) m.entries
 
     go : (b : Bool) → bytes_eq kept name ≡ b → cond (bytes_eq kept name) (Some number) (old name) ≡ or_else (number_in (numbered m.entries) name) (cond (bytes_eq kept name) (Some number) None)
     go true e =
@@ -69,6 +69,15 @@ keeps_old table kept number some name = go (number_in table name) (bytes_eq kept
     go (Some x) b e f = refl
     go None false e f = refl
     go None true e f = absurd (some (ap (number_in table) ((bytes_decides kept name).0 f) ∙ e))
+
+-- a table of texts has texts after a text more was kept
+pub texts_after : (old new : List Numbered) (kept : List ℕ) (number : ℕ) → HasTexts old → IsUtf8 kept
+    → ((name : List ℕ) → number_in new name ≡ number_after old kept number name) → HasTexts new
+texts_after old new kept number texts text after name other = after name ∙ go (bytes_eq kept name) refl
+  where
+    go : (b : Bool) → bytes_eq kept name ≡ b → number_after old kept number name ≡ None
+    go true e = absurd (other (subst IsUtf8 ((bytes_decides kept name).0 e) text))
+    go false e = rw (e, texts name other) refl
 
 abbrev later : Option ℕ → Option ℕ
 later None = None

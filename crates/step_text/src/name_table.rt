@@ -14,16 +14,18 @@ use std::marker::Model;
 /// Names with their numbers. A look-up takes about as long among many names as among few.
 #[derive(Debug, Drop)]
 pub(crate) struct NameTable {
-    numbers: HashMap<Vec<u8>, usize>,
+    numbers: HashMap<String, usize>,
 }
 
 impl Model for NameTable {
     ghost use Rattle.std.specs.Prelude.{List};
-    ghost use Rattle.step_text.specs.NameTables.{Numbered, numbered};
+    ghost use Rattle.step_text.specs.NameTables.{Numbered, numbered, HasTexts};
 
     ghost Value = { List Numbered };
 
     ghost view = { λ t. numbered t.numbers.entries };
+
+    ghost invariant = { λ t. HasTexts (numbered t.numbers.entries) };
 }
 
 impl NameTable {
@@ -43,18 +45,21 @@ impl NameTable {
     pub fn number(&self, name: &[u8]) -> Option<usize>
         ensures { result ≡ number_in self.now name.now }
     {
-        self.numbers.get(name).copied()
+        match str::from_utf8(name) {
+            Ok(name) => self.numbers.get(name).copied(),
+            Err(_) => None,
+        }
     }
 
     /// Keeps the number of a name, unless the table has the name already.
-    pub fn keep(&mut self, alloc: Global, name: &[u8], number: usize) -> Result<(), AllocError>
+    pub fn keep(&mut self, alloc: Global, name: &str, number: usize) -> Result<(), AllocError>
         ensures { OnOk result ((q : List ℕ)
             → number_in self.new q ≡ number_after self.old name.now number q) }
     {
         if self.numbers.contains_key(name) {
             return Ok(());
         }
-        let key = Vec::from_slice(alloc, name)?;
+        let key = String::from_str(alloc, name)?;
         match self.numbers.insert(key, number) {
             Ok(_) => Ok(()),
             Err(_) => Err(AllocError),
@@ -69,7 +74,7 @@ pub(crate) fn number_events(alloc: Global, events: &[EventDecl]) -> Result<NameT
 {
     let mut table = NameTable::new(alloc);
     'events: for (number, event) in events.iter().enumerate() {
-        table.keep(alloc, event.name.text().as_bytes(), number)?;
+        table.keep(alloc, event.name.text(), number)?;
     }
     Ok(table)
 }
@@ -81,7 +86,7 @@ pub(crate) fn number_data(alloc: Global, vars: &[Var]) -> Result<NameTable, Allo
 {
     let mut table = NameTable::new(alloc);
     'data: for (number, var) in vars.iter().enumerate() {
-        table.keep(alloc, var.name.text().as_bytes(), number)?;
+        table.keep(alloc, var.name.text(), number)?;
     }
     Ok(table)
 }

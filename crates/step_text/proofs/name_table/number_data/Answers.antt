@@ -10,7 +10,7 @@ pub data-preserved : goal.data-preserved
 data-preserved c = λ name.
     let x = c.index-vars-number.result in
     let n = c.data.number in
-    let text : c.as_bytes.result.now ≡ x.name = search rules in
+    let text : c.text.result.now ≡ x.name = search rules in
     c.in_ok-keep.ensures name ∙ ap (λ kept. number_after c.data.table kept n name) text
     ∙ ap (λ o. or_else o (cond (bytes_eq x.name name) (Some n) None)) (c.data.invariant name)
     ∙ sym (position_more (λ (v : Var). bytes_eq v.name name) c.args.vars.now n x c.data-test.true c.index-vars-number.is)

@@ -10,7 +10,7 @@ pub events-preserved : goal.events-preserved
 events-preserved c = λ name.
     let x = c.index-events-number.result in
     let n = c.events.number in
-    let text : c.as_bytes.result.now ≡ x.name = search rules in
+    let text : c.text.result.now ≡ x.name = search rules in
     c.in_ok-keep.ensures name ∙ ap (λ kept. number_after c.events.table kept n name) text
     ∙ ap (λ o. or_else o (cond (bytes_eq x.name name) (Some n) None)) (c.events.invariant name)
     ∙ sym (position_more (λ (e : EventDecl). bytes_eq e.name name) c.args.events.now n x c.events-test.true c.index-events-number.is)

@@ -1,9 +1,10 @@
 use Rattle.std.proofs.Common.{◌≡◌, sym, ap, ◌∙◌, None}
 use Rattle.std.specs.Option.{is_some}
+use Rattle.std.specs.Prelude.{string_bytes, IsUtf8}
 use Rattle.std.specs.HashMap.{get_by}
 use Rattle.std.specs.Str.{bytes_eq}
 use Rattle.step_text.specs.NameTables.{number_in, number_after, numbered}
-use Rattle.step_text.proofs.TableLemmas.{number_in-numbered, keeps_old, puts_new, is_absent}
+use Rattle.step_text.proofs.TableLemmas.{number_in-numbered, keeps_old, puts_new, texts_after, is_absent}
 use Rattle.step_text.proofs.name_table.NameTable.keep.Goals as goal
 use Rattle.step_text.proofs.name_table.NameTable.keep.Goals.{in-Ok, in-Err}
 
@@ -16,14 +17,29 @@ returns-then-contains_key c = keeps_old c.args.self.now c.args.name.now c.args.n
 
 pub returns : goal.returns
 returns c =
-    let kept = c.in_ok-key.key.items in
-    let items : kept ≡ c.args.name.now = c.in_ok-key.ensures.items in
+    let kept = (string_bytes c.in_ok-key.key) in
+    let items : kept ≡ c.args.name.now = c.in_ok-key.ensures.ok in
     let absent = is_absent _ (sym c.contains_key.ensures ∙ c.if-contains_key.false) in
-    let none : get_by (λ k. bytes_eq kept k.items) c.self.inside.numbers ≡ None = rw items absent in
+    let none : get_by (λ k. bytes_eq kept (string_bytes k)) c.self.inside.numbers ≡ None = rw items absent in
     elim c.match-insert.branch [
       | in-Ok w ↦ rw w.result-is (λ q.
           puts_new c.self.inside.numbers c.insert.new.self kept c.args.number none w.in-Ok.ensures.updates q
           ∙ ap (λ name. number_after (numbered c.self.inside.numbers.entries) name c.args.number q) items
           ∙ ap (λ table. number_after table c.args.name.now c.args.number q) c.self.view_is)
       | in-Err w ↦ rw w.result-is tt
+    ]
+
+-- the names are still texts
+pub invariant_of-self : goal.invariant_of-self
+invariant_of-self c =
+    let old = c.self.inside.numbers in
+    let kept = string_bytes c.in_ok-key.key in
+    let items : kept ≡ c.args.name.now = c.in_ok-key.ensures.ok in
+    let absent = is_absent _ (sym c.contains_key.ensures ∙ c.if-contains_key.false) in
+    let none : get_by (λ k. bytes_eq kept (string_bytes k)) old ≡ None = rw items absent in
+    let text : IsUtf8 kept = rw items c.utf8.name in
+    elim c.match-insert.branch [
+      | in-Ok w ↦ texts_after (numbered old.entries) (numbered c.insert.new.self.entries) kept c.args.number c.self.invariant text
+          (puts_new old c.insert.new.self kept c.args.number none w.in-Ok.ensures.updates)
+      | in-Err w ↦ λ name other. ap (λ entries. number_in (numbered entries) name) w.in-Err.ensures.err ∙ c.self.invariant name other
     ]

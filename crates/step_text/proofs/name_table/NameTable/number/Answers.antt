@@ -3,7 +3,11 @@ use Rattle.step_text.proofs.TableLemmas.{number_in-numbered}
 use Rattle.step_text.specs.NameTables.{number_in}
 use Rattle.step_text.proofs.name_table.NameTable.number.Goals as goal
 
-pub returns : goal.returns
-returns c =
-    c.copied.ensures ∙ c.get.ensures.value ∙ sym (number_in-numbered c.self.inside.numbers.entries c.args.name.now)
-    ∙ ap (λ table. number_in table c.args.name.now) c.self.view_is
+pub returns-in-Ok : goal.returns-in-Ok
+returns-in-Ok c =
+    c.copied.ensures ∙ c.get.ensures.value ∙ sym (number_in-numbered c.self.inside.numbers.entries c.in-Ok.name.now)
+    ∙ ap (λ table. number_in table c.in-Ok.name.now) c.self.view_is ∙ ap (number_in c.args.self.now) c.in-Ok.ensures.cases.0
+
+pub returns-in-Err : goal.returns-in-Err
+returns-in-Err c =
+    sym (ap (λ table. number_in table c.args.name.now) (sym c.self.view_is) ∙ c.self.invariant c.args.name.now c.in-Err.ensures.cases.0)

@@ -4,5 +4,4 @@ pub mod Noted
 pub mod Obeyed
 pub mod Steps
 pub mod TreeLemmas
-pub mod Typed
 pub mod Words

@@ -7,9 +7,15 @@ use Rattle.code_machine.proofs.notes.play_note.Goals as goal
 
 pub returns-clause-did : goal.returns-clause-did
 returns-clause-did c =
-    let m = c.args.m.now in let new = c.pay.new.m in let f = c.args.top in let paid = c.if-not-pay.ensures.paid in let same = sym paid.1 in
+    let m = c.args.m.now in let new = c.pay.new.m in let f = c.args.top in let p = c.args.note in
+    let paid = c.if-not-pay.ensures.paid in let same = sym paid.1 in
     let base : suc (length (below m)) ≡ c.len.result + 1 = omega (arith, calls_length m.stack.frames, c.len.ensures) in
     let cursor : suc c.args.at ≡ c.args.at + 1 = omega arith in
-    ap (λ o. if_ok o (world_of m) (λ v. Goes (machine v (now_of m) m.result (fresh c.args.note None (suc (length (below m))) f.home None ∷ record (seen f) { cursor = suc c.args.at } ∷ below m)))) paid.0
-    ∙ (λ j. Goes (machine (world_of new) (now_of (same j)) (same j).result (record { proc = c.args.note; place = 0; note = None; base = base j; home = f.home; saved = None; cursor = 0 } ∷ record (seen f) { cursor = cursor j } ∷ calls_of (same j).stack.frames)))
-    ∙ ap (λ fs. Goes (machine (world_of new) (now_of new) new.result (record { proc = c.args.note; place = 0; note = None; base = c.len.result + 1; home = f.home; saved = None; cursor = 0 } ∷ fs))) (sym c.push_frame.ensures.frames)
+    ap (λ o. if_ok o (world_of m) (λ v. Goes (machine v (now_of m) m.result
+    (fresh p None (suc (length (below m))) f.home None ∷ record (seen f) { cursor = suc c.args.at } ∷ below m))))
+    paid.0
+    ∙ (λ j. Goes (machine (world_of new) (now_of (same j)) (same j).result
+    (fresh p None (base j) f.home None ∷ record (seen f) { cursor = cursor j } ∷ calls_of (same j).stack.frames)))
+    ∙ ap (λ fs. Goes (machine (world_of new) (now_of new) new.result
+    (fresh p None (c.len.result + 1) f.home None ∷ fs)))
+    (sym c.push_frame.ensures.frames)

@@ -1,0 +1,35 @@
+-- How `exec` ends.
+use Rattle.std.specs.Prelude.{◌≡◌, ℕ, true, List}
+use Rattle.flow_base.specs.declared.bounds.Bounds.{Bounds}
+use Rattle.command_files.specs.Call.{Call}
+use Rattle.command_files.specs.Reading.{Unread}
+use Rattle.trace_command.specs.FileRuns.{FileRan}
+use Rattle.trace_command.specs.Trace.{Behaviour}
+use Rattle.code_form.specs.Code.{Code, code_of}
+use Rattle.code_form.specs.Reactions.{Starts, Reacts}
+use Rattle.code_form.specs.declared.code.RawCode.{RawCode}
+use Rattle.code_text.specs.declared.limits.TheConstants.{TEXT_LIMIT}
+use Rattle.code_commands.specs.declared.exec.ExecEnd.{ExecEnd}
+use Rattle.code_commands.specs.declared.exec.ExecEnd.TheVariants as ends
+use Rattle.code_commands.specs.CodeText.{IsCodeText, RefusesCode}
+
+-- how code behaves on the machine, where each event has these bounds; no memory is wanted once the machine is made
+abbrev pub by_code : Code → Bounds → Behaviour
+by_code k bounds = record {
+  starts = Starts k bounds;
+  reacts = Reacts k bounds;
+  tree = k.tree;
+  names = k.names;
+  never_wants_memory = true;
+}
+
+-- how code behaves that was written so
+abbrev pub runs_by_code : RawCode → Bounds → Behaviour
+runs_by_code raw bounds = by_code (code_of raw) bounds
+
+-- How `exec` ends, and when. Where nothing comes of the code's file, the event file isn't read and nothing is written.
+abbrev pub ExecEnds : Call → List ℕ → List ℕ → ExecEnd → Type 0
+ExecEnds call first second (ends.NoCode end) =
+    Unread TEXT_LIMIT RefusesCode call.sources_before call.sources_after first end
+    × (call.output_after ≡ call.output_before)
+ExecEnds call first second (ends.Ran end) = FileRan IsCodeText runs_by_code call first second end

@@ -11,14 +11,14 @@ use Rattle.trace_command.specs.declared.run.TraceEnd.{TraceEnd}
 use Rattle.trace_command.specs.declared.run.TraceEnd.TheVariants as traces
 use Rattle.checked_commands.specs.declared.rules.RulesEnd.{RulesEnd}
 use Rattle.checked_commands.specs.declared.rules.RulesEnd.TheVariants as rules_ends
-use Rattle.code_command.specs.declared.exec.ExecEnd.{ExecEnd}
-use Rattle.code_command.specs.declared.exec.ExecEnd.TheVariants as execs
-use Rattle.code_command.specs.declared.run.RunEnd.TheVariants as runs
+use Rattle.code_text.specs.declared.fault.CodeTextFault.{CodeTextFault}
+use Rattle.code_commands.specs.declared.exec.ExecEnd.{ExecEnd}
+use Rattle.code_commands.specs.declared.exec.ExecEnd.TheVariants as execs
 use Rattle.chart_files.specs.declared.refusal.Refusal.{Refusal}
 use Rattle.chart_command.specs.declared.ending.Ending.{Ending}
 use Rattle.chart_command.specs.declared.ending.Ending.TheVariants as endings
-use Rattle.chart_command.specs.Ending.{of_chart_file, of_text, of_trace, of_rules, of_exec, status_of}
-use Rattle.chart_command.specs.Words.{Command, Check, Fmt, Rules, Compile, Exec}
+use Rattle.chart_command.specs.Ending.{of_chart_file, of_text, of_trace, of_rules, of_code_file, of_exec, of_upgrade, status_of}
+use Rattle.chart_command.specs.Words.{Command, Check, Fmt, Rules, Compile, Exec, Upgrade}
 use Rattle.chart_command.specs.Answer.{Ends}
 
 -- a chart file of which nothing comes ends no call so
@@ -49,17 +49,22 @@ rules : (end : RulesEnd) → endings.Usage ≡ of_rules end → ⊥
 rules (rules_ends.NoChart end) e = file end e
 rules (rules_ends.Ran end) e = trace end e
 
+-- nor does a code file of which nothing comes
+code_file : (end : FileEnd CodeTextFault) → endings.Usage ≡ of_code_file end → ⊥
+code_file (files.Refused fault) e = absurd cc
+code_file files.Read e = absurd cc
+code_file files.Memory e = absurd cc
+
 -- nor does `exec`
 exec : (end : ExecEnd) → endings.Usage ≡ of_exec end → ⊥
-exec (execs.NoCode (files.Refused fault)) e = absurd cc
-exec (execs.NoCode files.Read) e = absurd cc
-exec (execs.NoCode files.Memory) e = absurd cc
-exec (execs.NoEvents (files.Refused long)) e = absurd cc
-exec (execs.NoEvents files.Read) e = absurd cc
-exec (execs.NoEvents files.Memory) e = absurd cc
-exec (execs.Ran runs.Done) e = absurd cc
-exec (execs.Ran (runs.Line number fault)) e = absurd cc
-exec (execs.Ran runs.Write) e = absurd cc
+exec (execs.NoCode end) e = code_file end e
+exec (execs.Ran end) e = trace end e
+
+-- nor does `upgrade`
+upgrade : (end : TextEnd CodeTextFault) → endings.Usage ≡ of_upgrade end → ⊥
+upgrade texts.Done e = absurd cc
+upgrade (texts.Unread end) e = code_file end e
+upgrade texts.Write e = absurd cc
 
 -- the status Usage is that of one ending
 usage_ending : (ending : Ending) → status_of ending ≡ statuses.Usage → ending ≡ endings.Usage
@@ -67,7 +72,6 @@ usage_ending endings.Done e = absurd cc
 usage_ending (endings.Chart refusal) e = absurd cc
 usage_ending (endings.Code fault) e = absurd cc
 usage_ending (endings.Line number fault) e = absurd cc
-usage_ending (endings.FlatLine number fault) e = absurd cc
 usage_ending endings.TooManyLines e = absurd cc
 usage_ending endings.FileTooLong e = absurd cc
 usage_ending (endings.Fault index word) e = absurd cc
@@ -83,6 +87,7 @@ never (Fmt first) call h = text h.end h.ending_is
 never (Rules first second) call h = rules h.end h.ending_is
 never (Compile first) call h = text h.end h.ending_is
 never (Exec first second) call h = exec h.end h.ending_is
+never (Upgrade first) call h = upgrade h.end h.ending_is
 
 pub usage_only : (command : Option Command) (call : Call) (ending : Ending) → Ends command call ending
     → (status_of ending ≡ statuses.Usage) ↔ (command ≡ None)

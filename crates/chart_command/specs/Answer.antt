@@ -6,11 +6,12 @@ use Rattle.flow_base.specs.declared.status.Status.{Status}
 use Rattle.command_files.specs.Call.{Output, Call, OthersStay}
 use Rattle.checked_commands.specs.Check.{CheckEnds}
 use Rattle.checked_commands.specs.Rules.{RulesEnds}
-use Rattle.code_command.specs.Exec.{ExecEnds}
+use Rattle.code_commands.specs.Exec.{ExecEnds}
+use Rattle.code_commands.specs.Upgrade.{UpgradeEnds}
 use Rattle.chart_command.specs.declared.ending.Ending.{Ending}
 use Rattle.chart_command.specs.declared.ending.Ending.TheVariants as endings
-use Rattle.chart_command.specs.Ending.{of_text, of_rules, of_exec, status_of, line_of}
-use Rattle.chart_command.specs.Words.{Command, Check, Fmt, Rules, Compile, Exec, files_of}
+use Rattle.chart_command.specs.Ending.{of_text, of_rules, of_exec, of_upgrade, status_of, line_of}
+use Rattle.chart_command.specs.Words.{Command, Check, Fmt, Rules, Compile, Exec, Upgrade, files_of}
 use Rattle.chart_command.specs.Fmt.{FmtEnds}
 use Rattle.chart_command.specs.Compile.{CompileEnds}
 
@@ -34,6 +35,7 @@ Ends (Some (Fmt first)) call ending = EndsAs of_text (FmtEnds call first) ending
 Ends (Some (Rules first second)) call ending = EndsAs of_rules (RulesEnds call first second) ending
 Ends (Some (Compile first)) call ending = EndsAs of_text (CompileEnds call first) ending
 Ends (Some (Exec first second)) call ending = EndsAs of_exec (ExecEnds call first second) ending
+Ends (Some (Upgrade first)) call ending = EndsAs of_upgrade (UpgradeEnds call first) ending
 
 -- the answer: the call ends in one way, which fixes its status and, where no write of it fails, its line
 -- on standard error; files that the words don't name keep what they have left

@@ -5,17 +5,17 @@ use Rattle.flat_syntax.specs.FlatText.{IsFlat}
 use Rattle.flat_code.specs.Program.{Program}
 use Rattle.flat_compile.specs.Same.{Same}
 use Rattle.chart_tree.specs.declared.limits.TheConstants.{CHART_TEXT_LIMIT}
-use Rattle.code_command.specs.CodeText.{IsCodeText}
 use Rattle.command_files.specs.declared.text.TextEnd.{TextEnd}
 use Rattle.command_files.specs.Call.{Call}
 use Rattle.command_files.specs.Texts.{TextEnds}
 use Rattle.chart_files.specs.declared.refusal.Refusal.{Refusal}
+use Rattle.chart_command.specs.FlatCode.{IsFlatCodeText}
 use Rattle.chart_command.specs.Refusals.{RefusesFlat}
 
--- the text of code that is well formed, can be read, and behaves as the chart
+-- the text of flat code that is well formed, can be read, and behaves as the chart
 pub record IsCompiled (c : Chart) (code : List ℕ) : Type 0 where
   pub program : Program
-  pub spelled : IsCodeText code program
+  pub spelled : IsFlatCodeText code program
   pub same : Same c program
 
 -- the text is that of a flat chart, which is compiled to this code

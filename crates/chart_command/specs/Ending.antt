@@ -5,9 +5,8 @@ use Rattle.flow_base.specs.declared.status.Status.TheVariants as statuses
 use Rattle.token_grammar.specs.declared.token.Span.{Span}
 use Rattle.chart_tree.specs.declared.fault.FormKind.{FormKind}
 use Rattle.chart_tree.specs.Form.{form_number, form_name}
-use Rattle.flat_code_text.specs.Form.{fault_text}
-use Rattle.flat_lines.specs.Events.{line_fault_text}
-use Rattle.flat_lines.specs.declared.events.LineFault.TheVariants as flat_faults
+use Rattle.code_text.specs.Form.{fault_text}
+use Rattle.code_text.specs.declared.fault.CodeTextFault.{CodeTextFault}
 use Rattle.step_text.specs.Faults.{line_fault_number, line_fault_name}
 use Rattle.step_text.specs.declared.fault.LineFault.{LineFault}
 use Rattle.command_files.specs.declared.file.FileEnd.{FileEnd}
@@ -18,9 +17,8 @@ use Rattle.trace_command.specs.declared.run.TraceEnd.{TraceEnd}
 use Rattle.trace_command.specs.declared.run.TraceEnd.TheVariants as traces
 use Rattle.checked_commands.specs.declared.rules.RulesEnd.{RulesEnd}
 use Rattle.checked_commands.specs.declared.rules.RulesEnd.TheVariants as rules
-use Rattle.code_command.specs.declared.exec.ExecEnd.{ExecEnd}
-use Rattle.code_command.specs.declared.exec.ExecEnd.TheVariants as execs
-use Rattle.code_command.specs.declared.run.RunEnd.TheVariants as runs
+use Rattle.code_commands.specs.declared.exec.ExecEnd.{ExecEnd}
+use Rattle.code_commands.specs.declared.exec.ExecEnd.TheVariants as execs
 use Rattle.chart_files.specs.declared.refusal.Refusal.{Refusal}
 use Rattle.chart_command.specs.declared.ending.Ending.{Ending}
 use Rattle.chart_command.specs.declared.ending.Ending.TheVariants as endings
@@ -55,17 +53,22 @@ abbrev pub of_rules : RulesEnd → Ending
 of_rules (rules.NoChart end) = of_chart_file end
 of_rules (rules.Ran end) = of_trace end
 
--- of `exec`; an event file that is too long is refused as its line 0
+-- where nothing comes of a code file
+abbrev pub of_code_file : FileEnd CodeTextFault → Ending
+of_code_file (files.Refused fault) = endings.Code fault
+of_code_file files.Read = endings.Read
+of_code_file files.Memory = endings.Memory
+
+-- of `exec`
 abbrev pub of_exec : ExecEnd → Ending
-of_exec (execs.NoCode (files.Refused fault)) = endings.Code fault
-of_exec (execs.NoCode files.Read) = endings.Read
-of_exec (execs.NoCode files.Memory) = endings.Memory
-of_exec (execs.NoEvents (files.Refused long)) = endings.FlatLine 0 flat_faults.NotBuilt
-of_exec (execs.NoEvents files.Read) = endings.Read
-of_exec (execs.NoEvents files.Memory) = endings.Memory
-of_exec (execs.Ran runs.Done) = endings.Done
-of_exec (execs.Ran (runs.Line number fault)) = endings.FlatLine number fault
-of_exec (execs.Ran runs.Write) = endings.Write
+of_exec (execs.NoCode end) = of_code_file end
+of_exec (execs.Ran end) = of_trace end
+
+-- of `upgrade`
+abbrev pub of_upgrade : TextEnd CodeTextFault → Ending
+of_upgrade texts.Done = endings.Done
+of_upgrade (texts.Unread end) = of_code_file end
+of_upgrade texts.Write = endings.Write
 
 -- ---- status and line
 
@@ -75,7 +78,6 @@ status_of endings.Done = statuses.Ok
 status_of (endings.Chart refusal) = statuses.Refused
 status_of (endings.Code fault) = statuses.Refused
 status_of (endings.Line number fault) = statuses.Refused
-status_of (endings.FlatLine number fault) = statuses.Refused
 status_of endings.TooManyLines = statuses.Refused
 status_of endings.FileTooLong = statuses.Refused
 status_of (endings.Fault index word) = statuses.RunFault
@@ -102,12 +104,11 @@ line_of endings.Done = []
 line_of (endings.Chart refusal) = place_text refusal.at ++ kind_text refusal.kind ++ codes "\n"
 line_of (endings.Code fault) = fault_text fault ++ codes "\n"
 line_of (endings.Line number fault) = codes "event " ++ decimal number ++ codes ": " ++ event_fault_text fault ++ codes "\n"
-line_of (endings.FlatLine number fault) = codes "event " ++ decimal number ++ codes ": " ++ line_fault_text fault ++ codes "\n"
 line_of endings.TooManyLines = codes "event: 5 TooManyLines\n"
 line_of endings.FileTooLong = codes "event: 6 FileTooLong\n"
 line_of (endings.Fault index word) = codes "run " ++ decimal index ++ codes ": " ++ word ++ codes "\n"
 line_of endings.Usage =
-    codes "usage: flowc check CHART, fmt CHART, rules CHART EVENTS, compile CHART, exec CODE EVENTS, run CHART EVENTS, selftest N; --depth D, --steps S\n"
+    codes "usage: flowc check CHART, fmt CHART, rules CHART EVENTS, compile CHART, exec CODE EVENTS, run CHART EVENTS, upgrade CODE, selftest N; --depth D, --steps S\n"
 line_of endings.Read = codes "read fault\n"
 line_of endings.Write = codes "write fault\n"
 line_of endings.Memory = codes "out of memory\n"

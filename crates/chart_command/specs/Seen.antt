@@ -10,3 +10,4 @@ command_seen (commands.Fmt first) = words.Fmt first.now
 command_seen (commands.Rules first second) = words.Rules first.now second.now
 command_seen (commands.Compile first) = words.Compile first.now
 command_seen (commands.Exec first second) = words.Exec first.now second.now
+command_seen (commands.Upgrade first) = words.Upgrade first.now

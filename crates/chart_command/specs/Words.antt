@@ -15,6 +15,8 @@ pub data Command : Type 0 where
   Compile : List ℕ → Command
   -- `exec CODE EVENTS`
   Exec : List ℕ → List ℕ → Command
+  -- `upgrade CODE`
+  Upgrade : List ℕ → Command
 
 -- a word that may name a file doesn't begin with `-`; the empty word may
 abbrev pub is_file : List ℕ → Bool
@@ -41,7 +43,8 @@ command_named name files =
     if bytes_eq name (codes "fmt") then with_one Fmt files else
     if bytes_eq name (codes "rules") then with_two Rules files else
     if bytes_eq name (codes "compile") then with_one Compile files else
-    if bytes_eq name (codes "exec") then with_two Exec files else None
+    if bytes_eq name (codes "exec") then with_two Exec files else
+    if bytes_eq name (codes "upgrade") then with_one Upgrade files else None
 
 -- the first word names the command, the others its files
 abbrev pub command_of_texts : List (List ℕ) → Option Command
@@ -59,6 +62,7 @@ files_named (Fmt first) = first ∷ []
 files_named (Rules first second) = first ∷ second ∷ []
 files_named (Compile first) = first ∷ []
 files_named (Exec first second) = first ∷ second ∷ []
+files_named (Upgrade first) = first ∷ []
 
 -- the files that the words name, none where they are none of the program's
 abbrev pub files_of : Option Command → List (List ℕ)

@@ -10,7 +10,7 @@ use crate::fmt::format_chart;
 use crate::report::report;
 use crate::words::{Command, command_from};
 use checked_commands::{check_chart, run_chart};
-use code_command::exec_code;
+use code_commands::{exec_code, upgrade_code};
 use flow_base::{Inputs, Sink, Status};
 use std::alloc::Global;
 
@@ -23,7 +23,8 @@ use std::alloc::Global;
 /// the accepted chart of the first file by the rules over the events of the second and writes the
 /// trace. `compile CHART` writes the text of code that behaves as the flat chart of the file.
 /// `exec CODE EVENTS` runs the code of the first file over the events of the second and writes the
-/// trace. All other words are refused as Usage.
+/// trace. `upgrade CODE` writes the text of format 2 of the code of the file. All other words are
+/// refused as Usage.
 pub fn chart_main<I: Inputs, O: Sink, E: Sink>(
     alloc: Global,
     words: &[String],
@@ -58,6 +59,7 @@ fn call<I: Inputs, O: Sink>(alloc: Global, words: &[String], inputs: &mut I, out
         Some(Command::Exec(code, events)) => {
             Ending::from(exec_code(alloc, code, events, inputs, out))
         }
+        Some(Command::Upgrade(code)) => Ending::from(upgrade_code(alloc, code, inputs, out)),
         None => Ending::Usage,
     }
 }

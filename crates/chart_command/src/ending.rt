@@ -4,9 +4,9 @@ ghost use Rattle.chart_command.specs.Ending as spec;
 
 use chart_files::Refusal;
 use checked_commands::RulesEnd;
-use code_command::{ExecEnd, RunEnd};
+use code_commands::ExecEnd;
+use code_text::CodeTextFault;
 use command_files::{FileEnd, TextEnd};
-use flat_code_text::CodeTextFault;
 use flow_base::Status;
 use step_text::LineFault;
 use trace_command::{FaultWord, TraceEnd};
@@ -22,9 +22,6 @@ pub enum Ending {
     Code(CodeTextFault),
     /// The event file is refused at that line, counted from 1.
     Line(u64, LineFault),
-    /// The event file of flat code is refused at that line, counted from 1; 0 where the whole file is
-    /// refused, since it is too long.
-    FlatLine(u64, flat_lines::LineFault),
     /// The event file has more events than it may.
     TooManyLines,
     /// The event file has more bytes than it may.
@@ -51,7 +48,6 @@ impl Ending {
             Ending::Chart(_)
             | Ending::Code(_)
             | Ending::Line(_, _)
-            | Ending::FlatLine(_, _)
             | Ending::TooManyLines
             | Ending::FileTooLong => Status::Refused,
             Ending::Fault(_, _) => Status::RunFault,
@@ -127,6 +123,21 @@ impl From<RulesEnd> for Ending {
     }
 }
 
+impl From<FileEnd<CodeTextFault>> for Ending {
+    ghost use Rattle.std.specs.Prelude.{◌≡◌};
+    ghost use Rattle.chart_command.specs.Ending.{of_code_file};
+
+    ghost from_gives = { λ end ending. ending ≡ of_code_file end };
+
+    fn from(end: FileEnd<CodeTextFault>) -> Ending {
+        match end {
+            FileEnd::Refused(fault) => Ending::Code(fault),
+            FileEnd::Read => Ending::Read,
+            FileEnd::Memory => Ending::Memory,
+        }
+    }
+}
+
 impl From<ExecEnd> for Ending {
     ghost use Rattle.std.specs.Prelude.{◌≡◌};
     ghost use Rattle.chart_command.specs.Ending.{of_exec};
@@ -135,15 +146,23 @@ impl From<ExecEnd> for Ending {
 
     fn from(end: ExecEnd) -> Ending {
         match end {
-            ExecEnd::NoCode(FileEnd::Refused(fault)) => Ending::Code(fault),
-            ExecEnd::NoEvents(FileEnd::Refused(_)) => {
-                Ending::FlatLine(0, flat_lines::LineFault::NotBuilt)
-            }
-            ExecEnd::NoCode(FileEnd::Read) | ExecEnd::NoEvents(FileEnd::Read) => Ending::Read,
-            ExecEnd::NoCode(FileEnd::Memory) | ExecEnd::NoEvents(FileEnd::Memory) => Ending::Memory,
-            ExecEnd::Ran(RunEnd::Done) => Ending::Done,
-            ExecEnd::Ran(RunEnd::Line(number, fault)) => Ending::FlatLine(number, fault),
-            ExecEnd::Ran(RunEnd::Write) => Ending::Write,
+            ExecEnd::NoCode(end) => Ending::from(end),
+            ExecEnd::Ran(end) => Ending::from(end),
+        }
+    }
+}
+
+impl From<TextEnd<CodeTextFault>> for Ending {
+    ghost use Rattle.std.specs.Prelude.{◌≡◌};
+    ghost use Rattle.chart_command.specs.Ending.{of_upgrade};
+
+    ghost from_gives = { λ end ending. ending ≡ of_upgrade end };
+
+    fn from(end: TextEnd<CodeTextFault>) -> Ending {
+        match end {
+            TextEnd::Done => Ending::Done,
+            TextEnd::Unread(end) => Ending::from(end),
+            TextEnd::Write => Ending::Write,
         }
     }
 }

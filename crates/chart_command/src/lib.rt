@@ -3,8 +3,8 @@
 //! The public call is `chart_main`, and its one main clause is `Answer` of `specs/Answer.antt`. Read
 //! `specs/Words.antt` first, then `specs/Call.antt`, `specs/Reading.antt` and `specs/Texts.antt` of
 //! `command_files`, then a command: `specs/Fmt.antt`, `specs/Compile.antt`, `specs/Check.antt` and
-//! `specs/Rules.antt` of `checked_commands`, or `specs/Exec.antt` of `code_command`; and last
-//! `specs/Ending.antt` and `specs/Answer.antt`.
+//! `specs/Rules.antt` of `checked_commands`, or `specs/Exec.antt` and `specs/Upgrade.antt` of
+//! `code_commands`; and last `specs/Ending.antt` and `specs/Answer.antt`.
 #![tactic(auto)]
 
 mod command;

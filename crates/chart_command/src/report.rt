@@ -92,10 +92,6 @@ pub fn report<E: Sink>(err: &mut E, ending: &Ending) -> Result<(), Failed>
             write_event_fault(err, *fault)?;
             write_all(err, b"\n")
         }
-        Ending::FlatLine(number, fault) => {
-            write_head(err, "event ", *number)?;
-            write_line(err, fault.text().as_str())
-        }
         Ending::TooManyLines => write_all(err, b"event: 5 TooManyLines\n"),
         Ending::FileTooLong => write_all(err, b"event: 6 FileTooLong\n"),
         Ending::Fault(index, word) => {
@@ -110,4 +106,4 @@ pub fn report<E: Sink>(err: &mut E, ending: &Ending) -> Result<(), Failed>
 }
 
 const USAGE: &str =
-    "usage: flowc check CHART, fmt CHART, rules CHART EVENTS, compile CHART, exec CODE EVENTS, run CHART EVENTS, selftest N; --depth D, --steps S\n";
+    "usage: flowc check CHART, fmt CHART, rules CHART EVENTS, compile CHART, exec CODE EVENTS, run CHART EVENTS, upgrade CODE, selftest N; --depth D, --steps S\n";

@@ -16,6 +16,8 @@ pub enum Command<'a> {
     Compile(&'a str),
     /// `exec CODE EVENTS`
     Exec(&'a str, &'a str),
+    /// `upgrade CODE`
+    Upgrade(&'a str),
 }
 
 /// Whether a word may name a file.
@@ -50,6 +52,7 @@ fn with_one<'a>(name: &str, first: &'a str) -> Option<Command<'a>>
         "check" => Some(Command::Check(first)),
         "fmt" => Some(Command::Fmt(first)),
         "compile" => Some(Command::Compile(first)),
+        "upgrade" => Some(Command::Upgrade(first)),
         _ => None,
     }
 }

@@ -55,3 +55,13 @@ returns-in-Some-Exec-clause-ends g c =
     Ends command (call_of g.I.Inputs g.O.Sink c.args.inputs.now c.exec_code.new.inputs c.args.out.now c.exec_code.new.out) c.from-in-Some-Exec.result)
     (ap (λ (command : Command). Some (command_seen command)) (sym asked.field-0-is) ∙ asked.ensures)
     (record { end = c.exec_code.result; ends = c.exec_code.ensures.ends; ending_is = c.from-in-Some-Exec.ensures })
+
+-- the words ask for `upgrade`
+pub returns-in-Some-Upgrade-clause-ends : goal.returns-in-Some-Upgrade-clause-ends
+returns-in-Some-Upgrade-clause-ends g c =
+    let asked = c.in-Some-Upgrade in
+    subst
+    (λ (command : Option words.Command).
+    Ends command (call_of g.I.Inputs g.O.Sink c.args.inputs.now c.upgrade_code.new.inputs c.args.out.now c.upgrade_code.new.out) c.from-in-Some-Upgrade.result)
+    (ap (λ (command : Command). Some (command_seen command)) (sym asked.field-0-is) ∙ asked.ensures)
+    (record { end = c.upgrade_code.result; ends = c.upgrade_code.ensures.ends; ending_is = c.from-in-Some-Upgrade.ensures })

@@ -1,4 +1,0 @@
-pub mod LineLemmas
-pub mod NameLemmas
-pub mod EventLemmas
-pub mod TraceLemmas

@@ -3,6 +3,7 @@ r"""Event files and trace lines by bytes and exact numbers alone.
 
     python3 checks/event_files.py < checks/event_table.txt
     python3 checks/event_files.py --check < checks/event_table.txt
+    python3 checks/event_files.py --against PROGRAM < checks/event_table.txt
 
 An event file is a text of lines. A line ends after byte 10, and the last line may lack that byte. A byte 13 directly before
 the end of a line is dropped, one such byte and no more. Tokens are separated by spaces and tabs. A line without a token, or
@@ -48,7 +49,10 @@ The parts of a block in a table (the form of tables is in tables.py) are
 The answer has a line for each event, `line NUMBER EVENT` with NAME=MANTISSA for each input that the line names, in the order
 of the declarations, where the mantissa of a flag is `true` or `false`. Of over 40 events only the first 20 and the last 20
 are written, with `and so on` between. Then comes `stop` with `end`, `L: N Kind`, `5 TooManyLines` or `6 FileTooLong`, where
-L is the number of the line. Then come the trace lines of the worlds. A block without a file has no `stop`."""
+L is the number of the line. Then come the trace lines of the worlds. A block without a file has no `stop`.
+
+With `--against PROGRAM` nothing is answered. For each file PROGRAM runs a code that declares the same and does nothing, and
+what it writes is compared with the trace that follows from the file. Only differences are written."""
 import re
 import sys
 from collections import deque, namedtuple
@@ -285,8 +289,49 @@ def answer(block, declared):
     return answers + [world_text(declared, rest) for rest in block.values('world')]
 
 
+# ---- a program's trace of a code that does nothing
+
+def idle_code(declared):
+    lines_of_code = ['flowcode 2', 'states %d' % len(declared.states)] + [de.state_text(s) for s in declared.states]
+    lines_of_code += ['data %d' % len(declared.data)] + [de.datum_text(d) for d in declared.data]
+    lines_of_code += ['events %d' % len(declared.events)] + [de.event_text(e) for e in declared.events]
+    lines_of_code += ['procs 1 0 0', 'p 1', 'ret 0', 'end']
+    return ''.join(line + '\n' for line in lines_of_code).encode()
+
+
+def idle_run(declared, data):
+    """What is written on standard output and on standard error, and the status, for a code that does nothing."""
+    values, index = declared.first_values(), 0
+    out = [trace_line(declared, 0, 'start', [], values, [], 'ok')]
+    for item in reactions(declared, data):
+        if isinstance(item, Stop):
+            break
+        index += 1
+        for v, value in item.inputs.items():
+            values[v] = value
+        out.append(trace_line(declared, index, item.event, [], values, [], 'ok'))
+    error = '' if item == END else 'event%s%s\n' % (': ' if item.line is None else ' ', item.text)
+    return ''.join(line + '\n' for line in out), error, 0 if item == END else 1
+
+
+def compare(block, declared, program):
+    import programs
+    data = file_of(block)
+    if data is None:
+        return []
+    got = programs.run(program, ['exec', 'code', 'events'], {'code': idle_code(declared), 'events': data})
+    return programs.differences(block.name, idle_run(declared, data), got)
+
+
 def main(words):
     earlier = Blocks()
+    if words[:1] == ['--against'] and len(words) == 2:
+        wrong = 0
+        for block in tables.blocks(sys.stdin):
+            differences = compare(block, earlier.declared(block), words[1])
+            wrong += bool(differences)
+            sys.stdout.write(''.join(line + '\n' for line in differences))
+        return 1 if wrong else 0
     if words not in ([], ['--check']):
         sys.exit(__doc__)
     return tables.answer_table(sys.stdin, lambda block: answer(block, earlier.declared(block)), bool(words))

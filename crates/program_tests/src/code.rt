@@ -1,4 +1,4 @@
-//! Code texts that the program writes, and that it refuses.
+//! Code texts that the program writes, runs and upgrades, and that it refuses.
 use crate::rows::{START, check};
 use crate::setup::{CODE, LAMP, files, words};
 use chart_command::chart_main;
@@ -32,20 +32,87 @@ fn refused_code(rt: HostRuntime) -> Result<(), Fail> {
     let cases = [
         ("flowcode 1\n", "flowcode 7\n", "code: 4 Version\n"),
         ("procs 2 0 1\n", "procs 2 0 01\n", "code 9: 1 BadLine\n"),
-        ("clear 1\n", "call 1 -\n", "code 17: 7 NotBuilt\n"),
+        ("clear 1\n", "keep 1\n", "code 17: 1 BadLine\n"),
+        (
+            "clear 1\n",
+            "call 1 -\n",
+            "code: 6 Form 3 CallNotLower 1.2\n",
+        ),
         ("mark 2\n", "mark 3\n", "code: 6 Form 1 BadNumber 1.3\n"),
         ("end\n", "", "code: 2 Truncated\n"),
         ("end\n", "end\nend\n", "code 25: 3 Trailing\n"),
     ];
     for (old, new, err) in cases {
         let text = CODE.replace(alloc, old, new)?;
-        check(
-            &rt,
-            "exec c e",
-            text.as_str(),
-            "GO\n",
-            (Status::Refused, "", err),
-        )?;
+        for line in ["exec c e", "upgrade c"] {
+            check(&rt, line, text.as_str(), "GO\n", (Status::Refused, "", err))?;
+        }
     }
     Ok(())
+}
+
+#[test]
+fn upgraded_code(rt: HostRuntime) -> Result<(), Fail> {
+    let alloc = rt.alloc();
+    let second = CODE.replace(alloc, "flowcode 1\n", "flowcode 2\n")?;
+    let want = second.as_str();
+    check(&rt, "upgrade c", CODE, "", (Status::Ok, want, ""))?;
+    check(&rt, "upgrade c", want, "", (Status::Ok, want, ""))?;
+    let trace = "0 start [Off] - - ok\n1 GO [On] - - ok\n";
+    check(&rt, "exec c e", want, "GO\n", (Status::Ok, trace, ""))
+}
+
+/// Code with an input, a local datum and an output event. Each event adds the input to the datum
+/// and puts the output out where the sum is over 2.
+const COUNTER: &str = "\
+    flowcode 2\n\
+    states 1\n\
+    s - leaf Counter\n\
+    data 2\n\
+    d input sfix8_En1 saturate 0 x\n\
+    d local sfix8_En1 error 1 sum\n\
+    events 2\n\
+    e input ADD\n\
+    e output BIG\n\
+    procs 2 0 1\n\
+    p 2\n\
+    mark 0\n\
+    ret 0\n\
+    p 4\n\
+    set 1 + d1 d0\n\
+    unless 1 expr > d1 #2:0\n\
+    emit 1\n\
+    ret 0\n\
+    end\n";
+
+#[test]
+fn data_and_outputs(rt: HostRuntime) -> Result<(), Fail> {
+    let events = "ADD x=1.5\nADD\ntick x=0\n";
+    let trace = "0 start [] x=0,sum=0.5 - ok\n\
+        1 ADD [] x=1.5,sum=2 - ok\n\
+        2 ADD [] x=1.5,sum=3.5 BIG ok\n\
+        3 tick [] x=0,sum=3.5 BIG ok\n";
+    check(&rt, "exec c e", COUNTER, events, (Status::Ok, trace, ""))?;
+    let events = "ADD x=63\nADD\nADD\n";
+    let trace = "0 start [] x=0,sum=0.5 - ok\n\
+        1 ADD [] x=63,sum=63.5 BIG ok\n\
+        2 ADD [] x=63,sum=63.5 - overflow sum\n";
+    check(
+        &rt,
+        "exec c e",
+        COUNTER,
+        events,
+        (Status::RunFault, trace, "run 2: overflow sum\n"),
+    )?;
+    check(
+        &rt,
+        "exec c e",
+        COUNTER,
+        "ADD x=0.25\n",
+        (
+            Status::Refused,
+            "0 start [] x=0,sum=0.5 - ok\n",
+            "event 1: 6 BadValue\n",
+        ),
+    )
 }

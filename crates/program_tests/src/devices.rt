@@ -59,14 +59,14 @@ fn check(
 fn failing_devices(rt: HostRuntime) -> Result<(), Fail> {
     let start = "0 start [Off] - - ok\n";
     let given = "0 start [Off] - - ok\n1 GO [On] - - ok\n2 GO [Off] - - ok\n";
-    // `exec` reads the event file whole before anything is written, `rules` line by line.
-    for (line, text, out) in [("rules c e", LAMP, given), ("exec c e", CODE, "")] {
+    // Both read the event file line by line.
+    for (line, text) in [("rules c e", LAMP), ("exec c e", CODE)] {
         check(
             &rt,
             line,
             text,
             (&[3], &[], &[]),
-            (Status::Read, out, "read fault\n"),
+            (Status::Read, given, "read fault\n"),
         )?;
         check(
             &rt,
@@ -97,11 +97,17 @@ fn failing_devices(rt: HostRuntime) -> Result<(), Fail> {
 #[test]
 fn failing_writes_of_a_text(rt: HostRuntime) -> Result<(), Fail> {
     // The text is made whole before anything is written, in one piece.
-    for line in ["check c", "compile c", "fmt c"] {
+    let cases = [
+        ("check c", LAMP),
+        ("compile c", LAMP),
+        ("fmt c", LAMP),
+        ("upgrade c", CODE),
+    ];
+    for (line, text) in cases {
         check(
             &rt,
             line,
-            LAMP,
+            text,
             (&[], &[1], &[]),
             (Status::Write, "", "write fault\n"),
         )?;

@@ -44,24 +44,34 @@ fn event_files(rt: HostRuntime) -> Result<(), Fail> {
             "",
         ),
         (
+            "\n# GO\n GO\r\n",
+            Status::Ok,
+            "0 start [Off] - - ok\n1 GO [On] - - ok\n",
+            "",
+        ),
+        (
             "GO\nNO\nGO\n",
             Status::Refused,
             "0 start [Off] - - ok\n1 GO [On] - - ok\n",
             "event 2: 2 UnknownEvent\n",
+        ),
+        (
+            "state\n",
+            Status::Refused,
+            START,
+            "event 1: 2 UnknownEvent\n",
+        ),
+        (
+            "\ntick x=1\n",
+            Status::Refused,
+            START,
+            "event 2: 4 UnknownInput\n",
         ),
     ];
     for (events, status, out, err) in cases {
         for (line, text) in [("rules c e", LAMP), ("exec c e", CODE)] {
             check(&rt, line, text, events, (status, out, err))?;
         }
-    }
-    // Flat code takes lines of one name, without spaces.
-    for (events, err) in [
-        ("\n", "event 1: 7 NotBuilt\n"),
-        ("GO\r\n", "event 1: 7 NotBuilt\n"),
-        ("state\n", "event 1: 7 NotBuilt\n"),
-    ] {
-        check(&rt, "exec c e", CODE, events, (Status::Refused, START, err))?;
     }
     Ok(())
 }
@@ -84,7 +94,7 @@ fn chart_texts(rt: HostRuntime) -> Result<(), Fail> {
 }
 
 const USAGE: &str =
-    "usage: flowc check CHART, fmt CHART, rules CHART EVENTS, compile CHART, exec CODE EVENTS, run CHART EVENTS, selftest N; --depth D, --steps S\n";
+    "usage: flowc check CHART, fmt CHART, rules CHART EVENTS, compile CHART, exec CODE EVENTS, run CHART EVENTS, upgrade CODE, selftest N; --depth D, --steps S\n";
 
 #[test]
 fn other_words(rt: HostRuntime) -> Result<(), Fail> {
@@ -109,6 +119,9 @@ fn other_words(rt: HostRuntime) -> Result<(), Fail> {
         "exec c",
         "exec c -",
         "exec c e e",
+        "upgrade",
+        "upgrade -c",
+        "upgrade c e",
     ] {
         check(&rt, line, LAMP, "", (Status::Usage, "", USAGE))?;
     }

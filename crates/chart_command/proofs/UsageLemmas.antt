@@ -1,5 +1,5 @@
 -- A call ends as Usage only where the words are none of the program's.
-use Rattle.std.proofs.Common.{◌≡◌, Option, Some, None, refl, ap, sym, subst, ◌∙◌}
+use Rattle.std.proofs.Common.{◌≡◌, Option, Some, None, refl, ap, subst}
 use Rattle.std.specs.Prelude.{◌↔◌}
 use Rattle.flow_base.specs.declared.status.Status.TheVariants as statuses
 use Rattle.command_files.specs.declared.file.FileEnd.{FileEnd}

@@ -1,0 +1,17 @@
+pub mod Sums
+pub mod Segments
+pub mod EachFrom
+pub mod EndsLemmas
+pub mod Found
+pub mod Weights
+pub mod Spreads
+pub mod ReachedLemmas
+pub mod Sizes
+pub mod Count
+pub mod Pairs
+pub mod Regions
+pub mod StateStands
+pub mod PartStands
+pub mod ListStands
+pub mod Whole
+pub mod Every

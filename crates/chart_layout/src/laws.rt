@@ -1,0 +1,63 @@
+//! What holds of the layout of a chart and of its code.
+ghost use Rattle.std.specs.Prelude.{◌≡◌, ◌↔◌, ◌<◌, ◌≤◌, ◌+◌, ◌-◌, ◌*◌, ℕ, List, length};
+ghost use Rattle.flow_base.specs.declared.bounds.Bounds.{Bounds};
+ghost use Rattle.active_config.specs.Shape.{IsEnd};
+ghost use Rattle.active_config.specs.Tree.{Tree, IsTree, state_count};
+ghost use Rattle.actions.specs.Runs.{EventWithInputs, Moment};
+ghost use Rattle.state_tree.specs.Chart.{Chart, Trans};
+ghost use Rattle.state_tree.specs.Reached.{ChartPairs};
+ghost use Rattle.state_tree.specs.Valid.{IsValid, AreTrans};
+ghost use Rattle.sos_rules.specs.Reactions.{RulesRun};
+ghost use Rattle.code_form.specs.Reactions.{CodeRun};
+ghost use Rattle.chart_procedures.specs.Compiled.{Compiled, ListsCompiled};
+ghost use Rattle.chart_layout.specs.Bodies.{procedures_of, code_of_chart};
+ghost use Rattle.chart_layout.specs.Ends.{end_of};
+ghost use Rattle.chart_layout.specs.Keys.{layout};
+ghost use Rattle.chart_layout.specs.Places.{numbers, list_numbers, total, parts_total};
+ghost use Rattle.chart_layout.specs.Places.{below_total, reached_total};
+ghost use Rattle.chart_layout.specs.ReachedJunctions.{reached, AreReached};
+
+/// The states strictly below a state are those that follow it, up to its end, and no other number is
+/// its end.
+pub fn states_below_a_state_follow_it()
+    ensures end { (t : Tree) (s : ℕ) → IsTree t → s < state_count t → IsEnd t s (end_of t s) }
+    ensures only { (t : Tree) (s e : ℕ) → IsTree t → s < state_count t → IsEnd t s e
+        → e ≡ end_of t s }
+{}
+
+/// The listed junctions of a list are those that are reached from it, each once, and each is a
+/// junction of the chart.
+pub fn reached_junctions_are_listed()
+    ensures { (c : Chart) (list : List Trans) → IsValid c → AreTrans c list
+        → AreReached c list (reached c list) }
+{}
+
+/// There are as many procedures as arithmetic says: the end mark, thirteen for each state, one for
+/// each part of a transition, three for each state below another, and one for each junction that is
+/// reached from a list, of which a valid chart has no more than it has pairs of a list and a
+/// transition. Those that process states come last, the last state first.
+pub fn the_count_of_procedures()
+    ensures listed { (c : Chart) → length (layout c) ≡ total c }
+    ensures count { (c : Chart) → length (procedures_of c).procs ≡ total c }
+    ensures sum { (c : Chart) → total c ≡ 1 + 13 * state_count c.tree + parts_total c
+        + 3 * below_total c + reached_total c }
+    ensures pairs { (c : Chart) (count : ℕ) → IsValid c → ChartPairs c count
+        → reached_total c ≤ count }
+    ensures process { (c : Chart) (s : ℕ) → s < state_count c.tree
+        → (numbers c).process s ≡ total c - 1 - s }
+{}
+
+/// In the procedures of a valid chart each stands at its number.
+pub fn each_procedure_stands_at_its_number()
+    ensures states { (c : Chart) → IsValid c → Compiled c (procedures_of c) (numbers c) }
+    ensures lists { (c : Chart) → IsValid c
+        → ListsCompiled c (procedures_of c) (numbers c) (list_numbers c) }
+{}
+
+/// The code of a valid chart has the runs of the chart and no others: for all bounds, events with
+/// inputs and moments.
+pub fn the_code_of_a_chart_runs_as_the_rules()
+    ensures { (c : Chart) → IsValid c
+        → (b : Bounds) (events : List EventWithInputs) (moments : List Moment)
+        → RulesRun c b events moments ↔ CodeRun (code_of_chart c) b events moments }
+{}

@@ -1,0 +1,14 @@
+pub mod Instructions
+pub mod Expressions
+pub mod Conditions
+pub mod Children
+pub mod SoundBlocks
+pub mod SoundStates
+pub mod SoundLists
+pub mod StateLengths
+pub mod ListLengths
+pub mod StateHeights
+pub mod ListHeights
+pub mod EnterWorks
+pub mod StateWorks
+pub mod ListWorks

@@ -1,0 +1,5 @@
+pub mod Calls
+pub mod Sound
+pub mod Lengths
+pub mod Heights
+pub mod Works

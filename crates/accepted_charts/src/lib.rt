@@ -7,11 +7,14 @@ ghost use Rattle.std.specs.Prelude.{◌≡◌, IfOk, IfErr};
 ghost use Rattle.state_tree.specs.Kept.{chart_of};
 ghost use Rattle.accepted_charts.specs.Accepted.{IsAccepted, Refuses, IsFaultOf};
 
+mod laws;
+
 use chart_check::check;
 use chart_reader::read_chart;
 use chart_scope::resolve;
 use chart_tree::FormFault;
 use flow_base::Memory;
+pub use laws::a_text_has_one_answer;
 use state_tree::Chart;
 use std::alloc::Global;
 

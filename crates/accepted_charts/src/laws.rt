@@ -1,0 +1,17 @@
+//! A text is the text of one chart, or it has one first fault, and never both.
+ghost use Rattle.std.specs.Prelude.{◌≡◌, ℕ, List};
+ghost use Rattle.token_grammar.specs.declared.token.Span.{Span};
+ghost use Rattle.chart_tree.specs.declared.fault.FormKind.{FormKind};
+ghost use Rattle.state_tree.specs.Chart.{Chart};
+ghost use Rattle.accepted_charts.specs.Accepted.{IsAccepted, IsFirstFault};
+
+/// A text is accepted as at most one chart, it has at most one first fault, and a text that is
+/// accepted has none.
+pub fn a_text_has_one_answer()
+    ensures chart { (text : List ℕ) (c d : Chart) → IsAccepted text c → IsAccepted text d → c ≡ d }
+    ensures fault { (text : List ℕ) (kind other : FormKind) (at there : Span)
+        → IsFirstFault text kind at → IsFirstFault text other there
+        → (kind ≡ other) × (at ≡ there) }
+    ensures apart { (text : List ℕ) (c : Chart) (kind : FormKind) (at : Span)
+        → IsAccepted text c → IsFirstFault text kind at → ⊥ }
+{}

@@ -1,0 +1,10 @@
+pub mod Order
+pub mod StateCalls
+pub mod PartNumbers
+pub mod ListCalls
+pub mod Procs
+pub mod Tables
+pub mod ListSums
+pub mod PartCounts
+pub mod Lengths
+pub mod Few

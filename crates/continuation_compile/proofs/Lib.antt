@@ -1,0 +1,5 @@
+pub mod Spreads
+pub mod TableTurns
+pub mod EndTurns
+pub mod Limits
+pub mod SearchTurns

@@ -1,0 +1,30 @@
+use Rattle.std.proofs.Common.{◌≡◌, ◌+◌, ◌∙◌, length, refl, ap, arith}
+use Rattle.flow_base.specs.Lists.{items_of}
+use Rattle.state_tree.specs.Chart.{list_of}
+use Rattle.state_tree.specs.Kept.{chart_of}
+use Rattle.chart_layout.specs.Places.{reached_count}
+use Rattle.chart_layout.specs.ReachedJunctions.{reached}
+use Rattle.continuation_compile.proofs.Limits.{reached_count_low}
+use Rattle.continuation_compile.proofs.TableTurns.{table_more}
+use Rattle.continuation_compile.proofs.counts.reached_counts.Goals as goal
+
+pub overflow_cast-items : goal.overflow_cast-items
+unfolding reached_count
+overflow_cast-items c =
+    let chart = chart_of c.args.chart.now in
+    omega (
+      arith,
+      ap (λ xs. length xs) (c.items.ensures ∙ c.in_ok-found.ensures.reached ∙ ap (reached chart) c.list.ensures.list),
+      reached_count_low chart c.shape.ensures.valid c.loop-s.s c.args.kind,
+    )
+
+pub loop-s-preserved : goal.loop-s-preserved
+unfolding reached_count
+loop-s-preserved c =
+    let chart = chart_of c.args.chart.now in
+    let s = c.loop-s.s in
+    let is =
+    ap (λ xs. length xs) (c.items.ensures ∙ c.in_ok-found.ensures.reached ∙ ap (reached chart) c.list.ensures.list) in
+    table_more (λ s. reached_count chart s c.args.kind) s (s + 1) 4096 (length c.items.result.now)
+    (items_of c.loop-s.counts) _ refl c.loop-s.invariant is
+    (omega (arith, is, reached_count_low chart c.shape.ensures.valid s c.args.kind)) c.in_ok-push.ensures.ok

@@ -1,0 +1,11 @@
+use Rattle.std.proofs.Common.{◌+◌, ◌*◌}
+use Rattle.flow_base.specs.Lists.{items_of}
+use Rattle.state_tree.specs.Kept.{chart_of}
+use Rattle.chart_layout.specs.Places.{reached_count}
+use Rattle.continuation_compile.specs.Tables.{IsTable}
+use Rattle.continuation_compile.proofs.counts.reached_counts.Given as goal
+
+-- those before the number are in the table
+abbrev pub invariant-loop-s : goal.invariant-loop-s
+invariant-loop-s l =
+    IsTable (λ s. reached_count (chart_of l.chart) s l.kind) l.s 4096 (items_of l.counts)

@@ -1,0 +1,43 @@
+use Rattle.std.proofs.Common.{◌+◌, arith}
+use Rattle.continuation_compile.specs.Drafts.{code_seen}
+use Rattle.continuation_compile.specs.Numberings.{chart_in}
+use Rattle.continuation_compile.specs.Searches.{search_seen}
+use Rattle.continuation_compile.proofs.SearchTurns.{dest_at, list_turn, list_done, size_turn, size_there}
+use Rattle.continuation_compile.proofs.searches.put_list.Goals as goal
+
+pub put_trans-requires-clause-dest : goal.put_trans-requires-clause-dest
+put_trans-requires-clause-dest c =
+    dest_at (chart_in c.args.numbering.now) c.args.list.now c.loop-t.t-index c.t-item.result c.requires.valid
+    (omega arith) c.t-item.is
+
+pub put_trans-requires-clause-low : goal.put_trans-requires-clause-low
+put_trans-requires-clause-low c = omega (arith, c.loop-t.invariant.number, c.requires.low)
+
+pub overflow_add-number : goal.overflow_add-number
+overflow_add-number c =
+    omega (
+      arith,
+      c.loop-t.invariant.number,
+      c.requires.low,
+      c.trans_size-number.ensures.size,
+      size_there c.args.list.now c.loop-t.t-index c.t-item.result (omega arith) c.t-item.is,
+    )
+
+pub loop-t-preserved : goal.loop-t-preserved
+loop-t-preserved c =
+    let S = search_seen (chart_in c.args.numbering.now) c.args.search.now in
+    record {
+      code =
+          list_turn S c.args.list.now c.loop-t.t-index c.loop-t.number c.trans_size-number.result c.t-item.result
+          (code_seen c.loop-t.code) _ _ (omega arith) c.t-item.is c.trans_size-number.ensures.size c.loop-t.invariant.code
+          c.in_ok-put_trans.ensures;
+      number =
+          size_turn c.args.list.now c.loop-t.t-index c.loop-t.number c.trans_size-number.result _ c.t-item.result (omega arith)
+          c.t-item.is c.trans_size-number.ensures.size c.loop-t.invariant.number;
+    }
+
+pub returns : goal.returns
+returns c =
+    let S = search_seen (chart_in c.args.numbering.now) c.args.search.now in
+    list_done S c.args.list.now c.loop-t.t-index c.loop-t.number (code_seen c.loop-t.code) _ _ (omega arith)
+    c.loop-t.invariant.code c.in_ok-put_return.ensures

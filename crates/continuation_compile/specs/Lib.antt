@@ -1,0 +1,4 @@
+pub mod Drafts
+pub mod Tables
+pub mod Numberings
+pub mod Searches

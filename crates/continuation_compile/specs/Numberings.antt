@@ -1,0 +1,34 @@
+-- What a numbering keeps.
+use Rattle.std.specs.Prelude.{ℕ, suc, ◌+◌, ◌*◌}
+use Rattle.flow_base.specs.Lists.{items_of}
+use Rattle.active_config.specs.Tree.{state_count}
+use Rattle.state_tree.specs.declared.parts.ListKind.TheVariants.{Outer, Default}
+use Rattle.state_tree.specs.Chart.{Chart, junction_count}
+use Rattle.state_tree.specs.Kept.{chart_of}
+use Rattle.state_tree.specs.Valid.{IsValid}
+use Rattle.chart_layout.specs.Ends.{below_count}
+use Rattle.chart_layout.specs.Orders.{sum_to}
+use Rattle.chart_layout.specs.Places.{reached_count, state_parts_size, junction_parts_size, group_size, lists_size}
+use Rattle.continuation_compile.specs.declared.numbering.Numbering.{Numbering}
+use Rattle.continuation_compile.specs.Tables.{IsTable}
+
+-- the chart that is numbered
+abbrev pub chart_in : Numbering → Chart
+chart_in n = chart_of n.chart.now
+
+-- how many states are below each state, how many junctions its outer and its default list reach, and, for each kind of
+-- procedures, how many there are of the states or junctions before each one
+pub record IsNumbering (n : Numbering) : Type 0 where
+  pub valid : IsValid (chart_in n)
+  pub below : IsTable (below_count (chart_in n).tree) (state_count (chart_in n).tree) 1024 (items_of n.below)
+  pub outer : IsTable (λ s. reached_count (chart_in n) s Outer) (state_count (chart_in n).tree) 4096 (items_of n.outer)
+  pub default : IsTable (λ s. reached_count (chart_in n) s Default) (state_count (chart_in n).tree) 4096
+      (items_of n.default)
+  pub parts : IsTable (sum_to (state_parts_size (chart_in n))) (suc (state_count (chart_in n).tree)) 536870912
+      (items_of n.parts)
+  pub junction_parts : IsTable (sum_to (junction_parts_size (chart_in n))) (suc (junction_count (chart_in n)))
+      536870912 (items_of n.junction_parts)
+  pub groups : IsTable (sum_to (group_size (chart_in n))) (suc (state_count (chart_in n).tree)) 536870912
+      (items_of n.groups)
+  pub lists : IsTable (sum_to (lists_size (chart_in n))) (suc (state_count (chart_in n).tree)) 536870912
+      (items_of n.lists)

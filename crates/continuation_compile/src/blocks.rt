@@ -1,0 +1,143 @@
+//! The code of guards and of actions.
+ghost use Rattle.std.specs.Prelude.{◌≡◌, ◌++◌, ◌∷◌, [], map, OnOk, IfOk};
+ghost use Rattle.flow_base.specs.Lists.{items_of};
+ghost use Rattle.actions.specs.Trees.{expr_of, stmt_of};
+ghost use Rattle.code_form.specs.Code.{cond_of};
+ghost use Rattle.state_tree.specs.Views.{block_seen, trans_seen, list_seen};
+ghost use Rattle.chart_procedures.specs.StateProcedures as templates;
+ghost use Rattle.chart_layout.specs.Places.{numbers};
+ghost use Rattle.chart_layout.specs.Keys as keys;
+ghost use Rattle.chart_layout.specs.Bodies.{body};
+ghost use Rattle.continuation_compile.specs.Drafts.{Stmts, code_seen, procs_of, test_of};
+ghost use Rattle.continuation_compile.specs.Numberings.{chart_in, IsNumbering};
+
+use crate::draft::{Draft, append, put, put_require, put_return};
+use crate::numbering::Numbering;
+use actions::{Expr, Stmt, copy_expr};
+use code_form::{Cond, Instr};
+use flow_base::{List, Memory};
+use state_tree::Trans;
+use std::alloc::Global;
+
+/// How long an action or a search goes on, for the state that is the home of the call.
+#[derive(Clone, Copy, Debug, PartialEq, Eq)]
+pub enum Lasting {
+    /// While the state is active.
+    On,
+    /// While the state is active and no child of it is.
+    Bare,
+}
+
+/// Its test.
+pub fn test(lasting: Lasting) -> Cond
+    ensures { cond_of result ≡ test_of lasting }
+{
+    match lasting {
+        Lasting::On => Cond::OnHome,
+        Lasting::Bare => Cond::BareHome,
+    }
+}
+
+/// Appends the code of a statement. Behind a send the life is tested.
+fn put_stmt(
+    alloc: Global,
+    code: &mut List<Instr>,
+    numbering: &Numbering<'_>,
+    lasting: Lasting,
+    stmt: &Stmt,
+) -> Result<(), Memory>
+    requires { IsNumbering numbering.now }
+    ensures { OnOk result ((rest : Stmts) →
+        code_seen code.new ++ templates.block_code (numbers (chart_in numbering.now)) (test_of lasting) rest
+        ≡ code_seen code.old ++ templates.block_code (numbers (chart_in numbering.now)) (test_of lasting)
+        (stmt_of stmt.now ∷ rest)) }
+{
+    match stmt {
+        Stmt::Assign(v, e) => put(code, Instr::Assign(*v, copy_expr(alloc, e)?)),
+        Stmt::Emit(e) => put(code, Instr::Emit(*e)),
+        Stmt::Send(e) => {
+            put(code, Instr::Send(*e))?;
+            put_require(code, test(lasting))
+        }
+        Stmt::SendTo(e, s) => {
+            put(code, Instr::SendTo(*e, *s, numbering.process(*s)))?;
+            put_require(code, test(lasting))
+        }
+    }
+}
+
+/// Appends the procedure of an action.
+pub fn append_block(
+    alloc: Global,
+    draft: &mut Draft,
+    numbering: &Numbering<'_>,
+    lasting: Lasting,
+    stmts: &[Stmt],
+) -> Result<(), Memory>
+    requires { IsNumbering numbering.now }
+    ensures { OnOk result (procs_of draft.new ≡ procs_of draft.old
+        ++ templates.block_code (numbers (chart_in numbering.now)) (test_of lasting) (block_seen stmts.now) ∷ []) }
+{
+    let mut code = List::of(Vec::new(alloc));
+    for stmt in stmts {
+        put_stmt(alloc, &mut code, numbering, lasting, stmt)?;
+    }
+    put_return(&mut code, 1)?;
+    append(draft, code)
+}
+
+/// Appends the procedure of a guard.
+pub fn append_guard(alloc: Global, draft: &mut Draft, guard: &Expr) -> Result<(), Memory>
+    ensures { OnOk result (procs_of draft.new ≡ procs_of draft.old ++ templates.guard_code (expr_of guard.now) ∷ []) }
+{
+    let mut code = List::of(Vec::new(alloc));
+    put(
+        &mut code,
+        Instr::Unless(1, Cond::Test(copy_expr(alloc, guard)?)),
+    )?;
+    put_return(&mut code, 1)?;
+    put_return(&mut code, 0)?;
+    append(draft, code)
+}
+
+/// Appends the procedures of the parts of a transition.
+fn append_trans_parts(
+    alloc: Global,
+    draft: &mut Draft,
+    numbering: &Numbering<'_>,
+    t: &Trans,
+) -> Result<(), Memory>
+    requires { IsNumbering numbering.now }
+    ensures { OnOk result (procs_of draft.new ≡ procs_of draft.old
+        ++ map (body (chart_in numbering.now)) (keys.trans_keys (trans_seen t.now))) }
+{
+    if let Some(guard) = &t.guard {
+        append_guard(alloc, draft, guard)?;
+    }
+    if !t.cond.items().is_empty() {
+        append_block(alloc, draft, numbering, Lasting::On, t.cond.items())?;
+        append_block(alloc, draft, numbering, Lasting::Bare, t.cond.items())?;
+    }
+    if !t.act.items().is_empty() {
+        append_block(alloc, draft, numbering, Lasting::Bare, t.act.items())?;
+    }
+    Ok(())
+}
+
+/// Appends the procedures of the parts of the transitions of a list.
+#[tactic(auto, unfolding(chart_layout::specs::Keys::parts_keys))]
+pub fn append_parts(
+    alloc: Global,
+    draft: &mut Draft,
+    numbering: &Numbering<'_>,
+    list: &[Trans],
+) -> Result<(), Memory>
+    requires { IsNumbering numbering.now }
+    ensures { OnOk result (procs_of draft.new ≡ procs_of draft.old
+        ++ map (body (chart_in numbering.now)) (keys.parts_keys (list_seen list.now))) }
+{
+    for t in list {
+        append_trans_parts(alloc, draft, numbering, t)?;
+    }
+    Ok(())
+}

@@ -1,0 +1,280 @@
+//! The numbers of the procedures of a chart.
+ghost use Rattle.std.specs.Prelude.{◌≡◌, ◌<◌, ◌≤◌, ◌+◌, ◌*◌, IfOk};
+ghost use Rattle.active_config.specs.Tree.{state_count};
+ghost use Rattle.state_tree.specs.Chart as charts;
+ghost use Rattle.state_tree.specs.Chart.{junction_count};
+ghost use Rattle.state_tree.specs.declared.parts.ListKind.TheVariants.{Outer, Default};
+ghost use Rattle.state_tree.specs.Kept.{chart_of};
+ghost use Rattle.chart_layout.specs.Ends as ends;
+ghost use Rattle.chart_layout.specs.Places as places;
+ghost use Rattle.continuation_compile.specs.Numberings.{chart_in, IsNumbering};
+
+use crate::counts::{
+    below_counts, group_sizes, junction_parts_sizes, list_parts_size, lists_sizes, reached_counts,
+    state_parts_sizes,
+};
+use crate::tables::{entry, sums_before};
+use flow_base::{List, Memory};
+use state_tree::{Chart, ListKind};
+use std::alloc::Global;
+
+/// A chart with its numbers, for each state or junction in a table.
+#[derive(Drop)]
+pub struct Numbering<'a> {
+    /// The chart.
+    pub chart: &'a Chart,
+    /// How many states are strictly below each state.
+    pub below: List<u32>,
+    /// How many junctions the outer list of each state reaches.
+    pub outer: List<u32>,
+    /// How many junctions the default list of each state reaches.
+    pub default: List<u32>,
+    /// How many procedures the parts of the transitions of the states before each state have.
+    pub parts: List<u32>,
+    /// How many procedures the parts of the transitions of the junctions before each one have.
+    pub junction_parts: List<u32>,
+    /// How many procedures there are for firings in the states before each state.
+    pub groups: List<u32>,
+    /// How many procedures there are for the outer and inner lists of the states before each state.
+    pub lists: List<u32>,
+}
+
+/// The numbering of a chart.
+pub fn number<'a>(alloc: Global, chart: &'a Chart) -> Result<Numbering<'a>, Memory>
+    ensures chart { IfOk result (λ n. chart_in n ≡ chart_of chart.now) }
+    ensures numbers { IfOk result (λ n. IsNumbering n) }
+{
+    let below = below_counts(alloc, chart.shape())?;
+    let outer = reached_counts(alloc, chart, ListKind::Outer)?;
+    let inner = reached_counts(alloc, chart, ListKind::Inner)?;
+    let default = reached_counts(alloc, chart, ListKind::Default)?;
+    let state_sizes = state_parts_sizes(alloc, chart)?;
+    let parts = sums_before(alloc, &state_sizes)?;
+    let junction_sizes = junction_parts_sizes(alloc, chart)?;
+    let junction_parts = sums_before(alloc, &junction_sizes)?;
+    let firing_sizes = group_sizes(alloc, &below, &default)?;
+    let groups = sums_before(alloc, &firing_sizes)?;
+    let list_sizes = lists_sizes(alloc, &outer, &inner)?;
+    let lists = sums_before(alloc, &list_sizes)?;
+    Ok(Numbering {
+        chart,
+        below,
+        outer,
+        default,
+        parts,
+        junction_parts,
+        groups,
+        lists,
+    })
+}
+
+impl<'a> Numbering<'a> {
+    /// How many states there are.
+    pub fn states(&self) -> u32
+        requires numbers { IsNumbering self.now }
+        ensures states { result ≡ state_count (chart_in self.now).tree }
+        ensures few { result ≤ 1024 }
+    {
+        self.chart.shape().len()
+    }
+
+    /// How many states are strictly below a state.
+    pub fn below(&self, state: u32) -> u32
+        requires numbers { IsNumbering self.now }
+        requires state { state < state_count (chart_in self.now).tree }
+        ensures below { result ≡ ends.below_count (chart_in self.now).tree state }
+        ensures low { result ≤ 1024 }
+    {
+        entry(&self.below, state)
+    }
+
+    /// How many junctions the outer list of a state reaches.
+    fn outer(&self, state: u32) -> u32
+        requires numbers { IsNumbering self.now }
+        requires state { state < state_count (chart_in self.now).tree }
+        ensures reached { result ≡ places.reached_count (chart_in self.now) state Outer }
+        ensures low { result ≤ 4096 }
+    {
+        entry(&self.outer, state)
+    }
+
+    /// How many junctions the default list of a state reaches.
+    fn default(&self, state: u32) -> u32
+        requires numbers { IsNumbering self.now }
+        requires state { state < state_count (chart_in self.now).tree }
+        ensures reached { result ≡ places.reached_count (chart_in self.now) state Default }
+        ensures low { result ≤ 4096 }
+    {
+        entry(&self.default, state)
+    }
+
+    /// The number of the first part of a transition of a state.
+    #[tactic(auto, unfolding(chart_layout::specs::Places::state_parts_start))]
+    fn state_parts_start(&self) -> u32
+        requires numbers { IsNumbering self.now }
+        ensures start { result ≡ places.state_parts_start (chart_in self.now) }
+        ensures low { result ≤ 4096 }
+    {
+        1 + self.states() * 3
+    }
+
+    /// The number of the first part of a transition of a junction.
+    fn junction_parts_start(&self) -> u32
+        requires numbers { IsNumbering self.now }
+        ensures start { result ≡ places.junction_parts_start (chart_in self.now) }
+        ensures low { result ≤ 536875008 }
+    {
+        self.state_parts_start() + entry(&self.parts, self.states())
+    }
+
+    /// The number of the first procedure for firings.
+    fn groups_start(&self) -> u32
+        requires numbers { IsNumbering self.now }
+        ensures start { result ≡ places.groups_start (chart_in self.now) }
+        ensures low { result ≤ 1073745920 }
+    {
+        self.junction_parts_start() + entry(&self.junction_parts, self.chart.junctions())
+    }
+
+    /// The number of the first procedure of outer and inner lists.
+    fn lists_start(&self) -> u32
+        requires numbers { IsNumbering self.now }
+        ensures start { result ≡ places.lists_start (chart_in self.now) }
+        ensures low { result ≤ 1610616832 }
+    {
+        self.groups_start() + entry(&self.groups, self.states())
+    }
+
+    /// The number of the first procedure that processes a state.
+    fn processes_start(&self) -> u32
+        requires numbers { IsNumbering self.now }
+        ensures start { result ≡ places.processes_start (chart_in self.now) }
+        ensures low { result ≤ 2147487744 }
+    {
+        self.lists_start() + entry(&self.lists, self.states())
+    }
+
+    /// The number of the first procedure for firings in a state.
+    pub fn group(&self, state: u32) -> u32
+        requires numbers { IsNumbering self.now }
+        requires state { state < state_count (chart_in self.now).tree }
+        ensures group { result ≡ places.group_at (chart_in self.now) state }
+        ensures low { result ≤ 1610616832 }
+    {
+        let before = entry(&self.groups, state + 1);
+        self.groups_start() + entry(&self.groups, self.states()).saturating_sub(before)
+    }
+
+    /// The number of the outer list of a state.
+    fn lists(&self, state: u32) -> u32
+        requires numbers { IsNumbering self.now }
+        requires state { state < state_count (chart_in self.now).tree }
+        ensures lists { result ≡ places.lists_at (chart_in self.now) state }
+        ensures low { result ≤ 2147487744 }
+    {
+        let before = entry(&self.lists, state + 1);
+        self.lists_start() + entry(&self.lists, self.states()).saturating_sub(before)
+    }
+
+    /// The number of the first part of a transition of a list of a state.
+    pub fn parts(&self, state: u32, kind: ListKind) -> u32
+        requires numbers { IsNumbering self.now }
+        requires state { state < state_count (chart_in self.now).tree }
+        ensures parts { result ≡ places.parts_at (chart_in self.now) state kind }
+        ensures low { result ≤ 1073745920 }
+    {
+        let first = self.state_parts_start() + entry(&self.parts, state);
+        match kind {
+            ListKind::Outer => first,
+            ListKind::Inner => first + list_parts_size(self.chart, state, ListKind::Outer),
+            ListKind::Default => {
+                first
+                    + list_parts_size(self.chart, state, ListKind::Outer)
+                    + list_parts_size(self.chart, state, ListKind::Inner)
+            }
+        }
+    }
+
+    /// The number of the first part of a transition of a junction.
+    pub fn parts_of_junction(&self, junction: u32) -> u32
+        requires numbers { IsNumbering self.now }
+        requires junction { junction < junction_count (chart_in self.now) }
+        ensures parts { result ≡ places.junction_parts_at (chart_in self.now) junction }
+        ensures low { result ≤ 1073745920 }
+    {
+        self.junction_parts_start() + entry(&self.junction_parts, junction)
+    }
+
+    /// The number of the procedure of a list.
+    pub fn list(&self, state: u32, kind: ListKind) -> u32
+        requires numbers { IsNumbering self.now }
+        requires state { state < state_count (chart_in self.now).tree }
+        ensures list { result ≡ places.list_at (chart_in self.now) state kind }
+        ensures low { result ≤ 2147500000 }
+    {
+        match kind {
+            ListKind::Outer => self.lists(state),
+            ListKind::Inner => self.lists(state) + 1 + self.outer(state),
+            ListKind::Default => self.group(state) + 2 + self.below(state),
+        }
+    }
+
+    /// The number of the procedure that enters a state by default.
+    #[tactic(auto, unfolding(chart_layout::specs::Places::numbers))]
+    pub fn defaults(&self, state: u32) -> u32
+        requires numbers { IsNumbering self.now }
+        requires state { state < state_count (chart_in self.now).tree }
+        ensures { result ≡ (places.numbers (chart_in self.now)).defaults state }
+    {
+        self.group(state) + 3 + self.below(state) + self.default(state)
+    }
+
+    /// The number of the procedure that arrives in a state on the way to another one.
+    #[tactic(auto, unfolding(chart_layout::specs::Places::numbers))]
+    pub fn arrive(&self, state: u32, dest: u32) -> u32
+        requires numbers { IsNumbering self.now }
+        requires state { state < state_count (chart_in self.now).tree }
+        requires dest { dest < state_count (chart_in self.now).tree }
+        ensures { result ≡ (places.numbers (chart_in self.now)).arrive state dest }
+    {
+        match dest.saturating_sub(state) {
+            0 => self.group(state) + 4 + self.below(state) + self.default(state),
+            more => self.group(state) + 1 + more,
+        }
+    }
+
+    /// The number of the procedure of a firing in a state to another one.
+    #[tactic(auto, unfolding(chart_layout::specs::Places::numbers))]
+    pub fn take(&self, state: u32, dest: u32) -> u32
+        requires numbers { IsNumbering self.now }
+        requires state { state < state_count (chart_in self.now).tree }
+        requires dest { dest < state_count (chart_in self.now).tree }
+        ensures { result ≡ (places.numbers (chart_in self.now)).take state dest }
+    {
+        self.group(state) + 5 + self.below(state) + self.default(state) + dest.saturating_sub(state)
+    }
+
+    /// The number of the procedure that enters a state on the way to another one.
+    #[tactic(auto, unfolding(chart_layout::specs::Places::numbers))]
+    pub fn enter(&self, state: u32, dest: u32) -> u32
+        requires numbers { IsNumbering self.now }
+        requires state { state < state_count (chart_in self.now).tree }
+        requires dest { dest < state_count (chart_in self.now).tree }
+        ensures { result ≡ (places.numbers (chart_in self.now)).enter state dest }
+    {
+        self.group(state)
+            + 6
+            + 2 * self.below(state)
+            + self.default(state)
+            + dest.saturating_sub(state)
+    }
+
+    /// The number of the procedure that processes a state.
+    #[tactic(auto, unfolding(chart_layout::specs::Places::numbers))]
+    pub fn process(&self, state: u32) -> u32
+        requires numbers { IsNumbering self.now }
+        ensures { result ≡ (places.numbers (chart_in self.now)).process state }
+    {
+        self.processes_start() + self.states().saturating_sub(state).saturating_sub(1)
+    }
+}

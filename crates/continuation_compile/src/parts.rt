@@ -1,0 +1,54 @@
+//! The numbers of the parts of a transition.
+ghost use Rattle.std.specs.Prelude.{◌≡◌, ◌≤◌, ◌+◌};
+ghost use Rattle.state_tree.specs.Views.{trans_seen};
+ghost use Rattle.chart_procedures.specs.Numbers.{condition_of};
+ghost use Rattle.chart_layout.specs.Places.{guard_count, trans_numbers};
+
+use state_tree::{ListKind, Trans};
+
+/// The number of its guard's procedure, where the first of its parts has the number `first`.
+pub fn guard_number(t: &Trans, first: u32) -> Option<u32>
+    ensures { result ≡ (trans_numbers first (trans_seen t.now)).guard }
+{
+    match t.guard {
+        Some(_) => Some(first),
+        None => None,
+    }
+}
+
+/// The number of the first part behind its guard.
+fn behind_guard(t: &Trans, first: u32) -> u32
+    requires { first ≤ 4294967000 }
+    ensures { result ≡ first + guard_count (trans_seen t.now).guard }
+{
+    match t.guard {
+        Some(_) => first + 1,
+        None => first,
+    }
+}
+
+/// The number of the procedure of its condition action for a kind of list.
+pub fn condition_number(t: &Trans, kind: ListKind, first: u32) -> Option<u32>
+    requires { first ≤ 4294967000 }
+    ensures { result ≡ condition_of kind (trans_numbers first (trans_seen t.now)) }
+{
+    if t.cond.items().is_empty() {
+        return None;
+    }
+    match kind {
+        ListKind::Outer | ListKind::Inner => Some(behind_guard(t, first)),
+        ListKind::Default => Some(behind_guard(t, first) + 1),
+    }
+}
+
+/// The number of the procedure of its transition action.
+pub fn action_number(t: &Trans, first: u32) -> Option<u32>
+    requires { first ≤ 4294967000 }
+    ensures { result ≡ (trans_numbers first (trans_seen t.now)).action }
+{
+    if t.act.items().is_empty() {
+        return None;
+    }
+    let conditions = if t.cond.items().is_empty() { 0 } else { 2 };
+    Some(behind_guard(t, first) + conditions)
+}

@@ -1,0 +1,88 @@
+//! The junctions that are reached from a list, in the order in which they are first met.
+ghost use Rattle.std.specs.Prelude.{◌≡◌, ◌<◌, ◌≤◌, ◌^◌, OnOk, IfOk, length};
+ghost use Rattle.std.specs.List.{AllByRecursion};
+ghost use Rattle.flow_base.specs.Lists.{items_of};
+ghost use Rattle.state_tree.specs.Chart.{junction_count};
+ghost use Rattle.state_tree.specs.Kept.{chart_of};
+ghost use Rattle.state_tree.specs.Valid.{AreTrans};
+ghost use Rattle.state_tree.specs.Views.{list_seen};
+ghost use Rattle.chart_layout.specs.ReachedJunctions as spec;
+
+use flow_base::{List, Memory};
+use state_tree::{Chart, Dest, Trans};
+use std::alloc::Global;
+
+/// Whether a number is in a list.
+#[tactic(auto, unfolding(chart_layout::specs::ReachedJunctions::has))]
+fn has(list: &[u32], number: u32) -> bool
+    ensures { result ≡ spec.has list.now number }
+{
+    for item in list {
+        if *item == number {
+            return true;
+        }
+    }
+    false
+}
+
+/// One number more, where it is new.
+fn meet_one(found: &mut List<u32>, number: u32) -> Result<(), Memory>
+    ensures { OnOk result (items_of found.new ≡ spec.meet_one (items_of found.old) number) }
+{
+    if has(found.items(), number) {
+        Ok(())
+    } else {
+        found.push(number)
+    }
+}
+
+/// The junctions to which a list leads, those that are new.
+#[tactic(auto, unfolding(chart_layout::specs::ReachedJunctions::meet, chart_layout::specs::ReachedJunctions::junctions_to))]
+fn meet_all(found: &mut List<u32>, list: &[Trans]) -> Result<(), Memory>
+    ensures { OnOk result (items_of found.new
+        ≡ spec.meet (items_of found.old) (spec.junctions_to (list_seen list.now))) }
+{
+    for t in list {
+        if let Dest::Junction(j) = t.dest {
+            meet_one(found, j)?;
+        }
+    }
+    Ok(())
+}
+
+/// The junctions that are reached from a list of a chart, breadth first.
+pub fn reached(alloc: Global, chart: &Chart, list: &[Trans]) -> Result<List<u32>, Memory>
+    requires { AreTrans (chart_of chart.now) (list_seen list.now) }
+    ensures reached { IfOk result (λ found. items_of found
+        ≡ spec.reached (chart_of chart.now) (list_seen list.now)) }
+    ensures within { IfOk result (λ found. AllByRecursion
+        (λ j. j < junction_count (chart_of chart.now)) (items_of found)) }
+{
+    let mut found = List::of(Vec::new(alloc));
+    meet_all(&mut found, list)?;
+    for i in 0..chart.junctions() as usize {
+        if i >= found.items().len() {
+            break;
+        }
+        let next = found.items()[i];
+        meet_all(&mut found, chart.junction(next))?;
+    }
+    Ok(found)
+}
+
+/// The place of a junction among those that were found.
+#[tactic(auto, unfolding(chart_layout::specs::ReachedJunctions::place_of))]
+pub fn place_of(found: &[u32], junction: u32) -> u32
+    requires { length found.now < 2 ^ 32 }
+    ensures place { result ≡ spec.place_of found.now junction }
+    ensures low { result ≤ length found.now }
+{
+    let mut place = 0;
+    for item in found {
+        if *item == junction {
+            return place;
+        }
+        place += 1;
+    }
+    place
+}

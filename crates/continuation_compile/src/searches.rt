@@ -1,0 +1,367 @@
+//! The code of lists of transitions, and of the junctions that are reached from them.
+ghost use Rattle.std.specs.Prelude.{◌≡◌, ◌<◌, ◌≤◌, ◌+◌, ◌++◌, ◌∷◌, [], map, length, OnOk};
+ghost use Rattle.std.specs.List.{AllByRecursion};
+ghost use Rattle.active_config.specs.Tree.{state_count};
+ghost use Rattle.state_tree.specs.Chart.{junction_count};
+ghost use Rattle.state_tree.specs.Valid.{AreTrans, IsDest};
+ghost use Rattle.state_tree.specs.Views.{list_seen, trans_seen};
+ghost use Rattle.chart_procedures.specs.ListProcedures as templates;
+ghost use Rattle.code_form.specs.Instrs as instrs;
+ghost use Rattle.chart_layout.specs.Places as places;
+ghost use Rattle.chart_layout.specs.Keys as keys;
+ghost use Rattle.chart_layout.specs.Bodies.{body};
+ghost use Rattle.continuation_compile.specs.Drafts.{Instrs, code_seen, procs_of, test_of};
+ghost use Rattle.continuation_compile.specs.Numberings.{chart_in, IsNumbering};
+ghost use Rattle.continuation_compile.specs.Searches.{IsSearch, search_seen, lasting_seen};
+
+use crate::blocks::{Lasting, test};
+use crate::draft::{Draft, append, put, put_call, put_require, put_return};
+use crate::numbering::Numbering;
+use crate::parts::{action_number, condition_number, guard_number};
+use crate::reached::{place_of, reached};
+use crate::sizes::trans_size;
+use code_form::{Cond, Instr};
+use flow_base::{List, Memory};
+use state_tree::{Dest, ListKind, Trans};
+use std::alloc::Global;
+
+/// A list of a state, with the number of its procedure and the junctions that are reached from it.
+#[derive(Clone, Copy)]
+pub struct Search<'a> {
+    /// The state.
+    pub state: u32,
+    /// The kind of the list.
+    pub kind: ListKind,
+    /// The number of the list's procedure.
+    pub first: u32,
+    /// The junctions, in the order of their procedures, which follow that of the list.
+    pub found: &'a [u32],
+}
+
+/// How long a search of a list goes on.
+fn lasting(kind: ListKind) -> Lasting
+    ensures { result ≡ lasting_seen kind }
+{
+    match kind {
+        ListKind::Outer | ListKind::Inner => Lasting::On,
+        ListKind::Default => Lasting::Bare,
+    }
+}
+
+/// The number of the procedure of a firing of a list.
+#[tactic(auto, unfolding(chart_layout::specs::Places::numbers))]
+fn fire(numbering: &Numbering<'_>, state: u32, kind: ListKind, dest: u32) -> u32
+    requires numbers { IsNumbering numbering.now }
+    requires state { state < state_count (chart_in numbering.now).tree }
+    requires dest { dest < state_count (chart_in numbering.now).tree }
+    ensures { result ≡ (templates.context_of (places.numbers (chart_in numbering.now))
+        (chart_in numbering.now).tree state kind).fire dest }
+{
+    match kind {
+        ListKind::Outer => numbering.take(numbering.chart.home(state, kind, dest), dest),
+        ListKind::Inner => numbering.take(state, dest),
+        ListKind::Default => numbering.arrive(state, dest),
+    }
+}
+
+/// What a search of a list returns behind a firing.
+fn fired(numbering: &Numbering<'_>, state: u32, kind: ListKind, dest: u32) -> u32
+    requires numbers { IsNumbering numbering.now }
+    requires state { state < state_count (chart_in numbering.now).tree }
+    requires dest { dest < state_count (chart_in numbering.now).tree }
+    ensures { result ≡ templates.fired_result (chart_in numbering.now).tree state kind dest }
+{
+    match kind {
+        ListKind::Outer => {
+            let _ = numbering.states();
+            3 + numbering.chart.home(state, kind, dest)
+        }
+        ListKind::Inner | ListKind::Default => 1,
+    }
+}
+
+/// Appends where a transition leads: a firing, or a visit of a junction.
+#[tactic(auto, unfolding(chart_layout::specs::Places::list_numbers))]
+fn put_dest(
+    code: &mut List<Instr>,
+    numbering: &Numbering<'_>,
+    search: &Search<'_>,
+    note: Option<u32>,
+    dest: Dest,
+) -> Result<(), Memory>
+    requires numbers { IsNumbering numbering.now }
+    requires search { IsSearch (chart_in numbering.now) search.now }
+    requires dest { IsDest (chart_in numbering.now) dest }
+    ensures { OnOk result (code_seen code.new ≡ code_seen code.old
+        ++ templates.dest_code (search_seen (chart_in numbering.now) search.now) note dest) }
+{
+    match dest {
+        Dest::State(d) => {
+            put(
+                code,
+                Instr::Call(fire(numbering, search.state, search.kind, d), note),
+            )?;
+            put_return(code, fired(numbering, search.state, search.kind, d))
+        }
+        Dest::Junction(j) => {
+            put(
+                code,
+                Instr::Visit(search.first + 1 + place_of(search.found, j), note),
+            )?;
+            put(code, Instr::Pass)
+        }
+    }
+}
+
+/// Appends the call of a condition action, behind which the life is tested.
+fn put_condition(
+    code: &mut List<Instr>,
+    lasting: Lasting,
+    number: Option<u32>,
+) -> Result<(), Memory>
+    ensures { OnOk result ((body : Instrs) → code_seen code.new ++ body
+        ≡ code_seen code.old ++ templates.condition_code (test_of lasting) number body) }
+{
+    if let Some(p) = number {
+        put_call(code, p)?;
+        put_require(code, test(lasting))?;
+    }
+    Ok(())
+}
+
+/// Appends the call of a guard, behind which the next instructions are passed over.
+fn put_guard(code: &mut List<Instr>, number: Option<u32>, over: u32) -> Result<(), Memory>
+    ensures { OnOk result ((body : Instrs) → length body ≡ over → code_seen code.new ++ body
+        ≡ code_seen code.old ++ templates.guarded_code number body) }
+{
+    if let Some(p) = number {
+        put_call(code, p)?;
+        put(code, Instr::Unless(over, Cond::Result(1)))?;
+    }
+    Ok(())
+}
+
+/// Appends the test of a trigger, behind which the next instructions are passed over.
+fn put_event(code: &mut List<Instr>, event: Option<u32>, over: u32) -> Result<(), Memory>
+    ensures { OnOk result ((body : Instrs) → length body ≡ over → code_seen code.new ++ body
+        ≡ code_seen code.old ++ templates.event_code event body) }
+{
+    if let Some(e) = event {
+        put(code, Instr::Unless(over, Cond::Current(e)))?;
+    }
+    Ok(())
+}
+
+/// How many instructions stand behind the tests of a transition.
+fn lead_length(condition: Option<u32>) -> u32
+    ensures length { (alive : instrs.Cond) (body : Instrs) → length body ≡ 2
+        → length (templates.condition_code alive condition body) ≡ result }
+    ensures low { result ≤ 6 }
+{
+    match condition {
+        Some(_) => 6,
+        None => 2,
+    }
+}
+
+/// How many instructions stand behind the trigger of a transition.
+fn guarded_length(guard: Option<u32>, lead: u32) -> u32
+    requires { lead ≤ 6 }
+    ensures { (body : Instrs) → length body ≡ lead
+        → length (templates.guarded_code guard body) ≡ result }
+{
+    match guard {
+        Some(_) => 2 + lead,
+        None => lead,
+    }
+}
+
+/// Appends a transition, the first of whose parts has the number `first`.
+fn put_trans(
+    code: &mut List<Instr>,
+    numbering: &Numbering<'_>,
+    search: &Search<'_>,
+    t: &Trans,
+    first: u32,
+) -> Result<(), Memory>
+    requires numbers { IsNumbering numbering.now }
+    requires search { IsSearch (chart_in numbering.now) search.now }
+    requires dest { IsDest (chart_in numbering.now) t.now.dest }
+    requires low { first ≤ 4294967000 }
+    ensures { OnOk result (code_seen code.new ≡ code_seen code.old
+        ++ templates.trans_code (search_seen (chart_in numbering.now) search.now) (trans_seen t.now)
+        (places.trans_numbers first (trans_seen t.now))) }
+{
+    let guard = guard_number(t, first);
+    let condition = condition_number(t, search.kind, first);
+    let action = action_number(t, first);
+    let lead = lead_length(condition);
+    let passed = guarded_length(guard, lead);
+    put_event(code, t.event, passed)?;
+    put_guard(code, guard, lead)?;
+    put_condition(code, lasting(search.kind), condition)?;
+    put_dest(code, numbering, search, action, t.dest)?;
+    Ok(())
+}
+
+/// Appends the code of a list, the first of whose parts has the number `first`.
+#[tactic(auto, unfolding(chart_layout::specs::Places::parts_numbers, chart_layout::specs::Places::parts_size))]
+fn put_list(
+    code: &mut List<Instr>,
+    numbering: &Numbering<'_>,
+    search: &Search<'_>,
+    list: &[Trans],
+    first: u32,
+) -> Result<(), Memory>
+    requires numbers { IsNumbering numbering.now }
+    requires search { IsSearch (chart_in numbering.now) search.now }
+    requires valid { AreTrans (chart_in numbering.now) (list_seen list.now) }
+    requires low { first + places.parts_size (list_seen list.now) ≤ 4294967000 }
+    ensures { OnOk result (code_seen code.new ≡ code_seen code.old
+        ++ templates.list_code (search_seen (chart_in numbering.now) search.now) (list_seen list.now)
+        (places.parts_numbers first (list_seen list.now))) }
+{
+    let mut number = first;
+    for t in list {
+        put_trans(code, numbering, search, t, number)?;
+        number += trans_size(t);
+    }
+    put_return(code, 0)?;
+    Ok(())
+}
+
+/// Appends the code of an empty junction: a search ends there, unless it is that of a default list.
+#[tactic(auto, unfolding(chart_layout::specs::Places::numbers))]
+fn put_empty(
+    code: &mut List<Instr>,
+    numbering: &Numbering<'_>,
+    search: &Search<'_>,
+) -> Result<(), Memory>
+    ensures { OnOk result (code_seen code.new ≡ code_seen code.old
+        ++ templates.empty_code (search_seen (chart_in numbering.now) search.now).end) }
+{
+    let _ = numbering;
+    match search.kind {
+        ListKind::Outer | ListKind::Inner => {
+            put_call(code, 0)?;
+            put(code, Instr::Pass)?;
+            put_return(code, 0)
+        }
+        ListKind::Default => put_return(code, 0),
+    }
+}
+
+/// Appends the code of a junction, the first of whose parts has the number `first`.
+fn put_junction(
+    code: &mut List<Instr>,
+    numbering: &Numbering<'_>,
+    search: &Search<'_>,
+    list: &[Trans],
+    first: u32,
+) -> Result<(), Memory>
+    requires numbers { IsNumbering numbering.now }
+    requires search { IsSearch (chart_in numbering.now) search.now }
+    requires valid { AreTrans (chart_in numbering.now) (list_seen list.now) }
+    requires low { first + places.parts_size (list_seen list.now) ≤ 4294967000 }
+    ensures { OnOk result (code_seen code.new ≡ code_seen code.old
+        ++ templates.junction_code (search_seen (chart_in numbering.now) search.now) (list_seen list.now)
+        (places.parts_numbers first (list_seen list.now))) }
+{
+    if list.is_empty() {
+        return put_empty(code, numbering, search);
+    }
+    put_list(code, numbering, search, list, first)
+}
+
+/// Appends the procedure of a junction that is reached from a list.
+#[tactic(auto, unfolding(chart_layout::specs::Places::list_numbers))]
+fn append_junction(
+    alloc: Global,
+    draft: &mut Draft,
+    numbering: &Numbering<'_>,
+    search: &Search<'_>,
+    junction: u32,
+) -> Result<(), Memory>
+    requires numbers { IsNumbering numbering.now }
+    requires search { IsSearch (chart_in numbering.now) search.now }
+    requires junction { junction < junction_count (chart_in numbering.now) }
+    ensures { OnOk result (procs_of draft.new ≡ procs_of draft.old
+        ++ body (chart_in numbering.now) (keys.JunctionOf search.now.state search.now.kind junction) ∷ []) }
+{
+    let list = numbering.chart.junction(junction);
+    let first = numbering.parts_of_junction(junction);
+    let mut code = List::of(Vec::new(alloc));
+    put_junction(&mut code, numbering, search, list, first)?;
+    append(draft, code)?;
+    Ok(())
+}
+
+/// Appends the procedures of the junctions that are reached from a list.
+fn append_junctions(
+    alloc: Global,
+    draft: &mut Draft,
+    numbering: &Numbering<'_>,
+    search: &Search<'_>,
+    found: &[u32],
+) -> Result<(), Memory>
+    requires numbers { IsNumbering numbering.now }
+    requires search { IsSearch (chart_in numbering.now) search.now }
+    requires within { AllByRecursion (λ j. j < junction_count (chart_in numbering.now)) found.now }
+    ensures { OnOk result (procs_of draft.new ≡ procs_of draft.old ++ map (body (chart_in numbering.now))
+        (map (λ j. keys.JunctionOf search.now.state search.now.kind j) found.now)) }
+{
+    for junction in found {
+        append_junction(alloc, draft, numbering, search, *junction)?;
+    }
+    Ok(())
+}
+
+/// Appends the procedure of a list.
+#[tactic(auto, unfolding(chart_layout::specs::Places::list_numbers))]
+fn append_first(
+    alloc: Global,
+    draft: &mut Draft,
+    numbering: &Numbering<'_>,
+    search: &Search<'_>,
+) -> Result<(), Memory>
+    requires numbers { IsNumbering numbering.now }
+    requires search { IsSearch (chart_in numbering.now) search.now }
+    ensures { OnOk result (procs_of draft.new ≡ procs_of draft.old
+        ++ body (chart_in numbering.now) (keys.ListOf search.now.state search.now.kind) ∷ []) }
+{
+    let list = numbering.chart.list(search.state, search.kind);
+    let first = numbering.parts(search.state, search.kind);
+    let mut code = List::of(Vec::new(alloc));
+    put(&mut code, Instr::Begin)?;
+    put_list(&mut code, numbering, search, list, first)?;
+    append(draft, code)?;
+    Ok(())
+}
+
+/// Appends the procedure of a list of a state, and those of the junctions that are reached from it.
+pub fn append_list(
+    alloc: Global,
+    draft: &mut Draft,
+    numbering: &Numbering<'_>,
+    state: u32,
+    kind: ListKind,
+) -> Result<(), Memory>
+    requires numbers { IsNumbering numbering.now }
+    requires state { state < state_count (chart_in numbering.now).tree }
+    ensures { OnOk result (procs_of draft.new ≡ procs_of draft.old
+        ++ map (body (chart_in numbering.now)) (keys.search_keys (chart_in numbering.now) state kind)) }
+{
+    let list = numbering.chart.list(state, kind);
+    let junctions = reached(alloc, numbering.chart, list)?;
+    let first = numbering.list(state, kind);
+    let found = junctions.items();
+    let search = Search {
+        state,
+        kind,
+        first,
+        found,
+    };
+    append_first(alloc, draft, numbering, &search)?;
+    append_junctions(alloc, draft, numbering, &search, found)?;
+    Ok(())
+}

@@ -1,0 +1,49 @@
+//! How many procedures the parts of transitions have, and how many states are below a state.
+ghost use Rattle.std.specs.Prelude.{◌≡◌, ◌<◌, ◌≤◌, ◌^◌};
+ghost use Rattle.active_config.specs.Tree.{state_count};
+ghost use Rattle.active_config.specs.Tree as trees;
+ghost use Rattle.state_tree.specs.Views.{list_seen, trans_seen};
+ghost use Rattle.chart_layout.specs.Ends as ends;
+ghost use Rattle.chart_layout.specs.Places as places;
+
+use active_config::Shape;
+use state_tree::Trans;
+
+/// How many procedures the parts of a transition have.
+#[tactic(auto, unfolding(chart_layout::specs::Places::trans_size))]
+pub fn trans_size(t: &Trans) -> u32
+    ensures size { result ≡ places.trans_size (trans_seen t.now) }
+    ensures few { result ≤ 4 }
+{
+    let guard = if t.guard.is_some() { 1 } else { 0 };
+    let condition = if t.cond.items().is_empty() { 0 } else { 2 };
+    let action = if t.act.items().is_empty() { 0 } else { 1 };
+    guard + condition + action
+}
+
+/// How many procedures the parts of the transitions of a list have.
+#[tactic(auto, unfolding(chart_layout::specs::Places::parts_size))]
+pub fn parts_size(list: &[Trans]) -> u32
+    requires { places.parts_size (list_seen list.now) < 2 ^ 32 }
+    ensures { result ≡ places.parts_size (list_seen list.now) }
+{
+    let mut size = 0;
+    for t in list {
+        size += trans_size(t);
+    }
+    size
+}
+
+/// How many states are strictly below a state.
+pub fn below_count(shape: &Shape, state: u32) -> u32
+    requires tree { trees.IsTree shape.now }
+    requires state { state < state_count shape.now }
+    ensures { result ≡ ends.below_count shape.now state }
+{
+    let count = shape.len();
+    let mut next = state + 1;
+    while next < count && shape.is_below(next, state) {
+        next += 1;
+    }
+    next - (state + 1)
+}

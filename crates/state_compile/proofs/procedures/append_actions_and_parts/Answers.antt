@@ -1,0 +1,17 @@
+use Rattle.std.proofs.Common.{◌++◌}
+use Rattle.chart_layout.specs.Bodies.{body}
+use Rattle.chart_layout.specs.Keys.{all_actions, all_state_parts, all_junction_parts}
+use Rattle.continuation_compile.specs.Drafts.{procs_of}
+use Rattle.continuation_compile.specs.Numberings.{chart_in}
+use Rattle.state_compile.proofs.Spans.{both}
+use Rattle.state_compile.proofs.procedures.append_actions_and_parts.Goals as goal
+
+pub returns : goal.returns
+returns c =
+    let chart = chart_in c.args.numbering.now in
+    let b = body chart in
+    both b (all_actions chart) (all_state_parts chart ++ all_junction_parts chart) (procs_of c.args.draft.now)
+    (procs_of c.append_actions.new.draft) _ c.in_ok-append_actions.ensures
+    (both b (all_state_parts chart) (all_junction_parts chart)
+    (procs_of c.append_actions.new.draft) (procs_of c.append_state_parts.new.draft) _
+    c.in_ok-append_state_parts.ensures c.in_ok-append_junction_parts.ensures)

@@ -1,0 +1,17 @@
+use Rattle.std.proofs.Common.{◌++◌}
+use Rattle.chart_layout.specs.Bodies.{body}
+use Rattle.chart_layout.specs.Keys.{all_groups, all_lists, all_processes}
+use Rattle.continuation_compile.specs.Drafts.{procs_of}
+use Rattle.continuation_compile.specs.Numberings.{chart_in}
+use Rattle.state_compile.proofs.Spans.{both}
+use Rattle.state_compile.proofs.procedures.append_reactions.Goals as goal
+
+pub returns : goal.returns
+returns c =
+    let chart = chart_in c.args.numbering.now in
+    let b = body chart in
+    both b (all_groups chart) (all_lists chart ++ all_processes chart) (procs_of c.args.draft.now)
+    (procs_of c.append_groups.new.draft) _ c.in_ok-append_groups.ensures
+    (both b (all_lists chart) (all_processes chart)
+    (procs_of c.append_groups.new.draft) (procs_of c.append_lists.new.draft) _
+    c.in_ok-append_lists.ensures c.in_ok-append_processes.ensures)

@@ -1,0 +1,82 @@
+//! All procedures of a chart.
+ghost use Rattle.std.specs.Prelude.{◌≡◌, ◌++◌, ◌∷◌, [], map, OnOk, IfOk};
+ghost use Rattle.flow_base.specs.Lists.{items_of};
+ghost use Rattle.code_form.specs.Code.{instrs_of};
+ghost use Rattle.chart_procedures.specs.StateProcedures as templates;
+ghost use Rattle.chart_layout.specs.Keys as keys;
+ghost use Rattle.chart_layout.specs.Bodies.{body};
+ghost use Rattle.continuation_compile.specs.Drafts.{procs_of};
+ghost use Rattle.continuation_compile.specs.Numberings.{chart_in, IsNumbering};
+
+use crate::groups::append_groups;
+use crate::regions::{
+    append_actions, append_junction_parts, append_lists, append_processes, append_state_parts,
+};
+use code_form::Instr;
+use continuation_compile::draft::{Draft, append, put_return};
+use continuation_compile::numbering::Numbering;
+use flow_base::{List, Memory};
+use std::alloc::Global;
+
+/// Appends the procedure to which a search of an outer or inner list goes at an empty junction.
+fn append_end_mark(alloc: Global, draft: &mut Draft) -> Result<(), Memory>
+    ensures { OnOk result (procs_of draft.new ≡ procs_of draft.old ++ templates.end_code ∷ []) }
+{
+    let mut code = List::of(Vec::new(alloc));
+    put_return(&mut code, 2)?;
+    append(draft, code)
+}
+
+/// Appends the procedures of all actions, and those of the parts of all transitions.
+fn append_actions_and_parts(
+    alloc: Global,
+    draft: &mut Draft,
+    numbering: &Numbering<'_>,
+) -> Result<(), Memory>
+    requires numbers { IsNumbering numbering.now }
+    ensures { OnOk result (procs_of draft.new ≡ procs_of draft.old
+        ++ map (body (chart_in numbering.now))
+        (keys.all_actions (chart_in numbering.now)
+        ++ (keys.all_state_parts (chart_in numbering.now)
+        ++ keys.all_junction_parts (chart_in numbering.now)))) }
+{
+    append_actions(alloc, draft, numbering)?;
+    append_state_parts(alloc, draft, numbering)?;
+    append_junction_parts(alloc, draft, numbering)?;
+    Ok(())
+}
+
+/// Appends the procedures that firings take, those of outer and inner lists, and those by which
+/// states are processed.
+fn append_reactions(
+    alloc: Global,
+    draft: &mut Draft,
+    numbering: &Numbering<'_>,
+) -> Result<(), Memory>
+    requires numbers { IsNumbering numbering.now }
+    ensures { OnOk result (procs_of draft.new ≡ procs_of draft.old
+        ++ map (body (chart_in numbering.now))
+        (keys.all_groups (chart_in numbering.now)
+        ++ (keys.all_lists (chart_in numbering.now)
+        ++ keys.all_processes (chart_in numbering.now)))) }
+{
+    append_groups(alloc, draft, numbering)?;
+    append_lists(alloc, draft, numbering)?;
+    append_processes(alloc, draft, numbering)?;
+    Ok(())
+}
+
+/// The procedures of a chart, in the order of the layout.
+pub fn procedures(alloc: Global, numbering: &Numbering<'_>) -> Result<List<List<Instr>>, Memory>
+    requires numbers { IsNumbering numbering.now }
+    ensures { IfOk result (λ procs. map (λ is. instrs_of (items_of is)) (items_of procs)
+        ≡ map (body (chart_in numbering.now)) (keys.layout (chart_in numbering.now))) }
+{
+    let mut draft = Draft {
+        procs: List::of(Vec::new(alloc)),
+    };
+    append_end_mark(alloc, &mut draft)?;
+    append_actions_and_parts(alloc, &mut draft, numbering)?;
+    append_reactions(alloc, &mut draft, numbering)?;
+    Ok(draft.procs)
+}

@@ -1,0 +1,155 @@
+//! The regions of the layout, each of them in the order of its procedures.
+ghost use Rattle.std.specs.Prelude.{◌≡◌, ◌<◌, ◌++◌, map, OnOk};
+ghost use Rattle.active_config.specs.Tree.{state_count};
+ghost use Rattle.chart_layout.specs.Bodies.{body};
+ghost use Rattle.chart_layout.specs.Keys as keys;
+ghost use Rattle.continuation_compile.specs.Drafts.{procs_of};
+ghost use Rattle.continuation_compile.specs.Numberings.{chart_in, IsNumbering};
+
+use crate::processes::append_process;
+use continuation_compile::blocks::{Lasting, append_block, append_parts};
+use continuation_compile::draft::Draft;
+use continuation_compile::numbering::Numbering;
+use continuation_compile::searches::append_list;
+use flow_base::Memory;
+use state_tree::{BlockKind, ListKind};
+use std::alloc::Global;
+
+/// Appends the procedures of the actions of a state.
+fn append_actions_of(
+    alloc: Global,
+    draft: &mut Draft,
+    numbering: &Numbering<'_>,
+    state: u32,
+) -> Result<(), Memory>
+    requires numbers { IsNumbering numbering.now }
+    requires state { state < state_count (chart_in numbering.now).tree }
+    ensures { OnOk result (procs_of draft.new ≡ procs_of draft.old
+        ++ map (body (chart_in numbering.now)) (keys.action_keys_of state)) }
+{
+    let entry = numbering.chart.block(state, BlockKind::Entry);
+    append_block(alloc, draft, numbering, Lasting::Bare, entry)?;
+    let during = numbering.chart.block(state, BlockKind::During);
+    append_block(alloc, draft, numbering, Lasting::On, during)?;
+    let exit = numbering.chart.block(state, BlockKind::Exit);
+    append_block(alloc, draft, numbering, Lasting::Bare, exit)
+}
+
+/// Appends the procedures of the actions of all states.
+pub fn append_actions(
+    alloc: Global,
+    draft: &mut Draft,
+    numbering: &Numbering<'_>,
+) -> Result<(), Memory>
+    requires numbers { IsNumbering numbering.now }
+    ensures { OnOk result (procs_of draft.new ≡ procs_of draft.old
+        ++ map (body (chart_in numbering.now)) (keys.all_actions (chart_in numbering.now))) }
+{
+    for state in 0..numbering.states() {
+        append_actions_of(alloc, draft, numbering, state)?;
+    }
+    Ok(())
+}
+
+/// Appends the procedures of the parts of the transitions of a state.
+#[tactic(auto, unfolding(chart_layout::specs::Keys::state_parts_keys))]
+fn append_parts_of_state(
+    alloc: Global,
+    draft: &mut Draft,
+    numbering: &Numbering<'_>,
+    state: u32,
+) -> Result<(), Memory>
+    requires numbers { IsNumbering numbering.now }
+    requires state { state < state_count (chart_in numbering.now).tree }
+    ensures { OnOk result (procs_of draft.new ≡ procs_of draft.old
+        ++ map (body (chart_in numbering.now)) (keys.state_parts_keys (chart_in numbering.now) state)) }
+{
+    let outer = numbering.chart.list(state, ListKind::Outer);
+    append_parts(alloc, draft, numbering, outer)?;
+    let inner = numbering.chart.list(state, ListKind::Inner);
+    append_parts(alloc, draft, numbering, inner)?;
+    let default = numbering.chart.list(state, ListKind::Default);
+    append_parts(alloc, draft, numbering, default)
+}
+
+/// Appends the procedures of the parts of the transitions of all states.
+pub fn append_state_parts(
+    alloc: Global,
+    draft: &mut Draft,
+    numbering: &Numbering<'_>,
+) -> Result<(), Memory>
+    requires numbers { IsNumbering numbering.now }
+    ensures { OnOk result (procs_of draft.new ≡ procs_of draft.old
+        ++ map (body (chart_in numbering.now)) (keys.all_state_parts (chart_in numbering.now))) }
+{
+    for state in 0..numbering.states() {
+        append_parts_of_state(alloc, draft, numbering, state)?;
+    }
+    Ok(())
+}
+
+/// Appends the procedures of the parts of the transitions of all junctions.
+pub fn append_junction_parts(
+    alloc: Global,
+    draft: &mut Draft,
+    numbering: &Numbering<'_>,
+) -> Result<(), Memory>
+    requires numbers { IsNumbering numbering.now }
+    ensures { OnOk result (procs_of draft.new ≡ procs_of draft.old
+        ++ map (body (chart_in numbering.now)) (keys.all_junction_parts (chart_in numbering.now))) }
+{
+    for junction in 0..numbering.chart.junctions() {
+        let list = numbering.chart.junction(junction);
+        append_parts(alloc, draft, numbering, list)?;
+    }
+    Ok(())
+}
+
+/// Appends the procedures of the outer and of the inner list of a state.
+#[tactic(auto, unfolding(chart_layout::specs::Keys::lists_keys))]
+fn append_lists_of(
+    alloc: Global,
+    draft: &mut Draft,
+    numbering: &Numbering<'_>,
+    state: u32,
+) -> Result<(), Memory>
+    requires numbers { IsNumbering numbering.now }
+    requires state { state < state_count (chart_in numbering.now).tree }
+    ensures { OnOk result (procs_of draft.new ≡ procs_of draft.old
+        ++ map (body (chart_in numbering.now)) (keys.lists_keys (chart_in numbering.now) state)) }
+{
+    append_list(alloc, draft, numbering, state, ListKind::Outer)?;
+    append_list(alloc, draft, numbering, state, ListKind::Inner)
+}
+
+/// Appends the procedures of the outer and inner lists of all states, the last state first.
+pub fn append_lists(
+    alloc: Global,
+    draft: &mut Draft,
+    numbering: &Numbering<'_>,
+) -> Result<(), Memory>
+    requires numbers { IsNumbering numbering.now }
+    ensures { OnOk result (procs_of draft.new ≡ procs_of draft.old
+        ++ map (body (chart_in numbering.now)) (keys.all_lists (chart_in numbering.now))) }
+{
+    for state in (0..numbering.states()).rev() {
+        append_lists_of(alloc, draft, numbering, state)?;
+    }
+    Ok(())
+}
+
+/// Appends the procedures by which all states are processed, the last state first.
+pub fn append_processes(
+    alloc: Global,
+    draft: &mut Draft,
+    numbering: &Numbering<'_>,
+) -> Result<(), Memory>
+    requires numbers { IsNumbering numbering.now }
+    ensures { OnOk result (procs_of draft.new ≡ procs_of draft.old
+        ++ map (body (chart_in numbering.now)) (keys.all_processes (chart_in numbering.now))) }
+{
+    for state in (0..numbering.states()).rev() {
+        append_process(alloc, draft, numbering, state)?;
+    }
+    Ok(())
+}

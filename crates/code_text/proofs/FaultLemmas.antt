@@ -82,8 +82,8 @@ cause_of-fault text faults.Memory h = tt
 
 -- what is read is spelled so
 pub answer_spelled : (text : List ℕ) (r : Result RawCode CodeTextFault) → IsAnswer text r
-    → IfOk r (λ raw. (format : Format) × (text ≡ code_text format (written_of raw)))
-answer_spelled text (Ok raw) h = let got = spelled-ok text (written_of raw) h.0 in (got.0, got.1)
+    → IfOk r (λ raw. (format : Format) × (text ≡ code_text format (written_of raw)) × IsSpellable format (written_of raw))
+answer_spelled text (Ok raw) h = spelled-ok text (written_of raw) h.0
 answer_spelled text (Err fault) h = tt
 
 -- and well formed

@@ -333,31 +333,39 @@ starts_few k h few =
     let react : k.react < length k.procs = ltb-true k.react (length k.procs) both.1 in
     (omega arith, omega arith)
 
--- well-formed code is spellable in format 2 where its numbers are those of a text
-spellable : (w : Written) → IsCode (code_written w) → AllByRecursion HasItsParent w.states
+-- what is written is spellable in format 2 where its tables are right, its procedures have no fault and aren't too many,
+-- and its numbers are those of a text
+pub right_spellable : (w : Written) → IsTable (code_written w).tree (code_written w).names
+    → too_many w.procedures.procs ≡ false → starts_known w.procedures ≡ true
+    → procs_fault (known_of (code_written w)) 0 w.procedures.procs ≡ None → AllByRecursion HasItsParent w.states
     → AllByRecursion (AllByRecursion HasNumbers) w.procedures.procs → IsSpellable formats.Two w
-unfolding later_fault
-spellable w code parents numbers =
+right_spellable w table few starts sound parents numbers =
     let k = code_written w in
-    let table = code.table in
-    let procs = few_procs w.procedures.procs code.few in
-    let first = neither _ _ code.sound in
-    let second = neither _ _ first.1 in
-    let starts = starts_few w.procedures (passed (starts_known w.procedures) _ 0 0 first.0) procs.0 in
+    let procs = few_procs w.procedures.procs few in
+    let first = starts_few w.procedures starts procs.0 in
     let vars = vars_fit w.vars (map (λ (e : EventDecl). e.name) w.events) table.names.declared table.inits table.flags in
-    let few = known_few k table in
+    let known = known_few k table in
     record {
       states = let small = states_few w.states table.states in omega (arith, small);
       vars = omega (arith, table.vars);
       events = omega (arith, table.events);
       procs = omega (arith, procs.0);
-      start = starts.0;
-      react = starts.1;
+      start = first.0;
+      react = first.1;
       are_states = tree_fits w.states table.tree table.names.states parents;
       are_vars = vars.0;
       are_events = events_fit w.events vars.1;
-      are_procs = procs_fit (known_of k) few 0 w.procedures.procs second.0 procs.1 numbers;
+      are_procs = procs_fit (known_of k) known 0 w.procedures.procs sound procs.1 numbers;
     }
+
+-- well-formed code is spellable in format 2 where its numbers are those of a text
+spellable : (w : Written) → IsCode (code_written w) → AllByRecursion HasItsParent w.states
+    → AllByRecursion (AllByRecursion HasNumbers) w.procedures.procs → IsSpellable formats.Two w
+unfolding later_fault
+spellable w code parents numbers =
+    let first = neither _ _ code.sound in
+    let second = neither _ _ first.1 in
+    right_spellable w code.table code.few (passed (starts_known w.procedures) _ 0 0 first.0) second.0 parents numbers
 
 -- so is what is kept as code
 pub code_spellable : (raw : RawCode) → IsCode (code_of raw) → AllByRecursion HasItsParent (written_of raw).states

@@ -22,7 +22,8 @@ use std::alloc::Global;
 pub fn read_code(alloc: Global, text: &[u8]) -> Result<Code, CodeTextFault>
     // What is read is spelled so, each byte of it, and well formed.
     ensures read { IfOk result (λ code.
-        (format : declared.Format) × (text.now ≡ code_text format (written_of code))) }
+        (format : declared.Format) × (text.now ≡ code_text format (written_of code))
+        × IsSpellable format (written_of code)) }
     ensures formed { IfOk result (λ code. IsCode (code_of code)) }
     // What is spelled so and well formed is read, unless memory runs out.
     ensures only { (format : declared.Format) (w : Written) → IsSpellable format w

@@ -1,0 +1,12 @@
+pub mod Procedures
+pub mod StateBodies
+pub mod ListBodies
+pub mod Parts
+pub mod ListPairs
+pub mod Groups
+pub mod AllProcedures
+pub mod Results
+pub mod ListResults
+pub mod SoundNumbers
+pub mod Spellable
+pub mod Whole

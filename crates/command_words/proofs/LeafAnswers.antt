@@ -1,0 +1,180 @@
+-- What the parse of a command answers.
+use Rattle.std.proofs.Common.{◌≡◌, ◌∙◌, ℕ, Bool, true, false, ◌&&◌, ◌^◌, ◌<◌, ◌≤◌, cond, refl, ap, ap₂, subst, arith}
+use Rattle.std.proofs.Common.{List, [], ◌∷◌, Option, Some, None, codes, option_map}
+use Rattle.std.specs.Prelude.{nat_le, option_and_then, slice_get, unwrap_or}
+use Rattle.std.specs.List.{find}
+use Rattle.clap.specs.Kinds.{Kinds}
+use Rattle.clap.specs.Faults.{level_fault}
+use Rattle.clap.specs.Simple.{rows_at}
+use Rattle.clap.specs.Walk.{Row, first_of, nothing_held, row_text}
+use Rattle.clap.specs.declared.builder.value_parser.ValueParser.{ValueParser}
+use Rattle.clap.specs.declared.builder.value_parser.ValueParser.TheVariants as parsers
+use Rattle.command_words.specs.Numbers.{Text, is_number_in, number_of}
+use Rattle.command_words.specs.Commands.{RunBounds, Command}
+use Rattle.command_words.specs.Options.{Bound, Depth, Steps, limit_of}
+use Rattle.command_words.specs.Reading.{Given, nothing, read_words}
+use Rattle.command_words.specs.Words.{bounds_of, with_one, with_two, with_number}
+use Rattle.command_words.specs.Found.{number_in, number_at, bounds_with, bounds_found, file_found, run_found}
+use Rattle.command_words.specs.Found.{number_found}
+use Rattle.command_words.proofs.NumberLemmas.{accepts_number, in_range, small_number}
+use Rattle.command_words.proofs.RowLemmas.{has, row}
+use Rattle.command_words.proofs.WordForms.{AreUtf8}
+use Rattle.command_words.proofs.LeafRules.{Leaf, shape_of_leaf}
+use Rattle.command_words.proofs.GivenRows.{Agrees, Holds, exactly}
+use Rattle.command_words.proofs.LeafClaims.{claims}
+
+-- ---- the level of a command
+
+-- before the first word no rows hold what is given
+nothing_read : (two : Bool) (p : ValueParser) → Holds two p [] nothing
+nothing_read two p = record {
+  first = refl;
+  second = refl;
+  depth = refl;
+  steps = refl;
+  fits = λ f e. absurd (cc);
+  room = refl;
+  depth_fits = λ v e. absurd (cc);
+  steps_fits = λ v e. absurd (cc);
+}
+
+-- the level of the parse below the command agrees with the definition
+pub level_agrees : (L : Leaf) (words : List Text) → AreUtf8 words
+    → Agrees L.two L.parser (option_and_then (exactly L.two L.parser) (read_words L.bounded None words nothing))
+    (level_fault (shape_of_leaf L) [] nothing_held words false []) (rows_at (shape_of_leaf L) words).1
+level_agrees L words u =
+    (claims L words u).idles nothing_held nothing
+    (record { settles = refl; holds = nothing_read L.two L.parser; fresh = refl })
+
+-- ---- what the rows stand for
+
+-- the text of an argument
+first_is : (id : Text) (q : ValueParser) (rows : List Row) (o : Option Text)
+    → find (has id) rows ≡ option_map (row id q) o → first_of id rows ≡ o
+first_is id q rows o e = ap (option_and_then (λ (r : Row). slice_get r.values 0)) e ∙ go o
+  where
+    go : (o : Option Text) → option_and_then (λ (r : Row). slice_get r.values 0) (option_map (row id q) o) ≡ o
+    go None = refl
+    go (Some v) = refl
+
+-- the number of an argument
+number_is : (id : Text) (least most : ℕ) (rows : List Row) (o : Option Text)
+    → find (has id) rows ≡ option_map (row id (parsers.Unsigned least most)) o
+    → ((v : Text) → o ≡ Some v → is_number_in 0 4294967295 v ≡ true) → number_at id rows ≡ option_map number_of o
+number_is id least most rows o e small =
+    ap (λ (x : Option Row). option_and_then number_in (option_and_then row_text x)) e ∙ go o small
+  where
+    go : (o : Option Text) → ((v : Text) → o ≡ Some v → is_number_in 0 4294967295 v ≡ true)
+        → option_and_then number_in (option_and_then row_text (option_map (row id (parsers.Unsigned least most)) o))
+        ≡ option_map number_of o
+    go None small = refl
+    go (Some v) small = ap (λ b. cond b (Some (number_of v)) None) (small v refl)
+
+-- a bound is in its range where the usual one is
+bound_in : (bound : Bound) (usual : ℕ) (o : Option Text) → (nat_le 1 usual && nat_le usual (limit_of bound)) ≡ true
+    → ((v : Text) → o ≡ Some v → is_number_in 1 (limit_of bound) v ≡ true)
+    → (nat_le 1 (unwrap_or (option_map number_of o) usual)
+    && nat_le (unwrap_or (option_map number_of o) usual) (limit_of bound)) ≡ true
+bound_in bound usual None e fits = e
+bound_in bound usual (Some v) e fits =
+    let ends = in_range 1 (limit_of bound) v (fits v refl) in
+    ap₂ (λ (a b : Bool). a && b) ends.0 ends.1
+
+-- the bounds of a run
+bounds_are : (two : Bool) (p : ValueParser) (rows : List Row) (given : Given) → Holds two p rows given
+    → bounds_found rows ≡ Some (bounds_of given)
+bounds_are two p rows given h =
+    let low : 32 ≤ 4294967295 = omega arith in
+    let high : 50000 ≤ 4294967295 = omega arith in
+    let depth =
+    number_is (codes "depth") 1 (limit_of Depth) rows given.depth h.depth
+    (λ v e. small_number 32 v low (h.depth_fits v e)) in
+    let steps =
+    number_is (codes "steps") 1 (limit_of Steps) rows given.steps h.steps
+    (λ v e. small_number 50000 v high (h.steps_fits v e)) in
+    ap₂ (λ (d s : Option ℕ). bounds_with (unwrap_or d 8) (unwrap_or s 10000)) depth steps
+    ∙ ap₂ (λ (a b : Bool). cond (a && b) (Some (bounds_of given)) None) (bound_in Depth 8 given.depth refl h.depth_fits)
+    (bound_in Steps 10000 given.steps refl h.steps_fits)
+
+-- ---- what each command answers
+
+-- the parse answers the command where there is one, and fails where there is none
+abbrev pub Answers : Option Command → Kinds → Option Command → Type 0
+Answers None kinds found = kinds ≡ [] → ⊥
+Answers (Some command) kinds found = (kinds ≡ []) × (found ≡ Some command)
+
+-- a command of one file
+pub file_answers : (command : Text → Command) (o : Option Given) (kinds : Kinds) (rows : List Row)
+    → Agrees false parsers.String (option_and_then (exactly false parsers.String) o) kinds rows
+    → Answers (option_and_then (λ given. with_one command given.files) o) kinds (file_found command rows)
+file_answers command None kinds rows a = a
+file_answers command (Some given) kinds rows a = go given.files a
+  where
+    go : (files : List Text)
+        → Agrees false parsers.String (exactly false parsers.String (record given { files = files })) kinds rows
+        → Answers (with_one command files) kinds (file_found command rows)
+    go [] a = a
+    go (f ∷ []) a = (a.0, ap (option_map command) (first_is (codes "first") parsers.String rows (Some f) a.1.first))
+    go (f ∷ g ∷ more) a = a
+
+-- a run
+pub run_answers : (command : Text → Text → RunBounds → Command) (o : Option Given) (kinds : Kinds) (rows : List Row)
+    → Agrees true parsers.String (option_and_then (exactly true parsers.String) o) kinds rows
+    → Answers
+    (option_and_then (λ given. with_two (λ first second. command first second (bounds_of given)) given.files) o)
+    kinds (run_found command rows)
+run_answers command None kinds rows a = a
+run_answers command (Some given) kinds rows a = go given.files a
+  where
+    found : Option Text → Option Text → Option RunBounds → Option Command
+    found first second bounds =
+        option_and_then (λ (files : Text × Text). option_map (command files.0 files.1) bounds)
+        (option_and_then (λ x. option_map (λ y. (x, y)) second) first)
+
+    go : (files : List Text)
+        → Agrees true parsers.String (exactly true parsers.String (record given { files = files })) kinds rows
+        → Answers (with_two (λ first second. command first second (bounds_of given)) files) kinds
+        (run_found command rows)
+    go [] a = a
+    go (f ∷ []) a = a
+    go (f ∷ g ∷ []) a = (
+      a.0,
+      λ i. found (first_is (codes "first") parsers.String rows (Some f) a.1.first i)
+          (first_is (codes "second") parsers.String rows (Some g) a.1.second i)
+          (bounds_are true parsers.String rows (record given { files = f ∷ g ∷ [] }) a.1 i),
+    )
+    go (f ∷ g ∷ h ∷ more) a = a
+
+-- a command of one number
+pub number_answers : (command : ℕ → Command) (o : Option Given) (kinds : Kinds) (rows : List Row)
+    → Agrees false (parsers.Unsigned 0 4294967295)
+    (option_and_then (exactly false (parsers.Unsigned 0 4294967295)) o) kinds rows
+    → Answers (option_and_then (λ given. with_number command given.files) o) kinds (number_found command rows)
+number_answers command None kinds rows a = a
+number_answers command (Some given) kinds rows a = go given.files a
+  where
+    small : 4294967295 < 2 ^ 64
+    small = omega arith
+
+    test : (f : Text) (b : Bool) → is_number_in 0 4294967295 f ≡ b
+        → Agrees false (parsers.Unsigned 0 4294967295) (cond b (Some (record given { files = f ∷ [] })) None) kinds rows
+        → Answers (cond b (Some (command (number_of f))) None) kinds (number_found command rows)
+    test f true e a = (
+      a.0,
+      ap (option_map command) (number_is (codes "first") 0 4294967295 rows (Some f) a.1.first
+          (λ v same. let is : f ≡ v = cc in subst (λ (x : Text). is_number_in 0 4294967295 x ≡ true) is e)),
+    )
+    test f false e a = a
+
+    go : (files : List Text)
+        → Agrees false (parsers.Unsigned 0 4294967295)
+        (exactly false (parsers.Unsigned 0 4294967295) (record given { files = files }))
+        kinds rows
+        → Answers (with_number command files) kinds (number_found command rows)
+    go [] a = a
+    go (f ∷ []) a = test f (is_number_in 0 4294967295 f) refl
+        (subst
+        (λ (b : Bool). Agrees false (parsers.Unsigned 0 4294967295)
+        (cond b (Some (record given { files = f ∷ [] })) None) kinds rows)
+        (accepts_number 0 4294967295 f small) a)
+    go (f ∷ g ∷ more) a = a

@@ -1,0 +1,15 @@
+pub mod NumberLemmas
+pub mod RowLemmas
+pub mod WordForms
+pub mod LeafRules
+pub mod GivenRows
+pub mod KeptFiles
+pub mod LeafWalk
+pub mod FileSteps
+pub mod ValueSteps
+pub mod LeafClaims
+pub mod Leaves
+pub mod LeafAnswers
+pub mod ProgramWalk
+pub mod Agreement
+pub mod Worked

@@ -1,0 +1,62 @@
+-- The command that the rows of a parse stand for: a row has the values of one argument.
+use Rattle.std.specs.Prelude.{ℕ, nat_le, ◌&&◌, List, Option, Some, None, option_map, option_and_then, unwrap_or}
+use Rattle.std.specs.Prelude.{if◌then◌else◌, codes}
+use Rattle.std.specs.Str.{bytes_eq}
+use Rattle.flow_base.specs.declared.bounds.TheConstants.{DEPTH_LIMIT, STEP_LIMIT}
+use Rattle.clap.specs.Words.{Row, first_of, one_of}
+use Rattle.command_words.specs.Numbers.{Text, is_number_in, number_of}
+use Rattle.command_words.specs.Commands.{RunBounds, Command, Check, Fmt, Rules, Compile, Exec, Run, Upgrade, Selftest}
+
+-- the number that a text denotes, if it is one of 32 bits
+abbrev pub number_in : Text → Option ℕ
+number_in text = if is_number_in 0 4294967295 text then Some (number_of text) else None
+
+-- the number of an argument
+abbrev pub number_at : Text → List Row → Option ℕ
+number_at id rows = option_and_then number_in (one_of id rows)
+
+-- the bounds with these numbers, or none where one is out of its range
+abbrev pub bounds_with : ℕ → ℕ → Option RunBounds
+bounds_with depth steps =
+    if (nat_le 1 depth && nat_le depth DEPTH_LIMIT) && (nat_le 1 steps && nat_le steps STEP_LIMIT)
+    then Some (record { depth = depth; steps = steps }) else None
+
+-- the bounds of a run, usually a depth of 8 and 10,000 steps
+abbrev pub bounds_found : List Row → Option RunBounds
+bounds_found rows =
+    bounds_with (unwrap_or (number_at (codes "depth") rows) 8) (unwrap_or (number_at (codes "steps") rows) 10000)
+
+-- the two files of a run
+abbrev pub files_found : List Row → Option (Text × Text)
+files_found rows = option_and_then (λ first. option_map (λ second. (first, second)) (first_of (codes "second") rows))
+    (first_of (codes "first") rows)
+
+-- a command of one file
+abbrev pub file_found : (Text → Command) → List Row → Option Command
+file_found command rows = option_map command (first_of (codes "first") rows)
+
+-- a command of two files and bounds
+abbrev pub run_found : (Text → Text → RunBounds → Command) → List Row → Option Command
+run_found command rows =
+    option_and_then (λ (files : Text × Text). option_map (command files.0 files.1) (bounds_found rows))
+    (files_found rows)
+
+-- a command of one number
+abbrev pub number_found : (ℕ → Command) → List Row → Option Command
+number_found command rows = option_map command (number_at (codes "first") rows)
+
+-- the command of that name with what its rows give
+abbrev pub found_named : Text → List Row → Option Command
+found_named name rows =
+    if bytes_eq (codes "check") name then file_found Check rows else
+    if bytes_eq (codes "fmt") name then file_found Fmt rows else
+    if bytes_eq (codes "rules") name then run_found Rules rows else
+    if bytes_eq (codes "compile") name then file_found Compile rows else
+    if bytes_eq (codes "exec") name then run_found Exec rows else
+    if bytes_eq (codes "run") name then run_found Run rows else
+    if bytes_eq (codes "upgrade") name then file_found Upgrade rows else
+    if bytes_eq (codes "selftest") name then number_found Selftest rows else None
+
+-- the command of a parse, from the name of its subcommand and from that one's rows
+abbrev pub command_found : Option (Text × List Row) → Option Command
+command_found = option_and_then (λ found. found_named found.0 found.1)

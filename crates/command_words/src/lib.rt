@@ -1,0 +1,15 @@
+//! What the words of the command line ask for, read with `clap`.
+//!
+//! The public call is `command_from`. Its clause says for every list of words which command it asks
+//! for, or that it is refused: read `specs/Words.antt`, and then `specs/Reading.antt` and
+//! `specs/Options.antt`, which don't speak of `clap`. `specs/Parser.antt` and `specs/Found.antt`
+//! are the parser as `clap` sees it and what its answers stand for.
+#![tactic(auto)]
+
+mod arguments;
+mod parser;
+#[cfg(test)]
+mod tests;
+mod words;
+
+pub use words::{Command, command_from};

@@ -1,0 +1,90 @@
+//! The parser of the words.
+ghost use Rattle.std.specs.Prelude.{◌≡◌, IfOk, false};
+ghost use Rattle.clap.specs.Words.{app_of, rule_of};
+ghost use Rattle.command_words.specs.Parser.{Builds, bare_app, program_app, file_rule, option_rule};
+ghost use Rattle.command_words.specs.Parser.{file_app, number_app, run_app};
+
+use clap::builder::ValueParser;
+use clap::{Arg, Command};
+use flow_base::{DEPTH_LIMIT, STEP_LIMIT};
+use std::alloc::{AllocError, Global};
+
+/// The parser of the program's words.
+pub fn program<'a>(alloc: Global) -> Result<Command<'a>, AllocError>
+    ensures { IfOk result (λ parser. app_of parser ≡ program_app) }
+{
+    let check = with_file(alloc, "check")?;
+    let fmt = with_file(alloc, "fmt")?;
+    let rules = with_run(alloc, "rules")?;
+    let compile = with_file(alloc, "compile")?;
+    let exec = with_run(alloc, "exec")?;
+    let run = with_run(alloc, "run")?;
+    let upgrade = with_file(alloc, "upgrade")?;
+    let selftest = with_number(alloc, "selftest")?;
+    bare(alloc)
+        .subcommand(check)?
+        .subcommand(fmt)?
+        .subcommand(rules)?
+        .subcommand(compile)?
+        .subcommand(exec)?
+        .subcommand(run)?
+        .subcommand(upgrade)?
+        .subcommand(selftest)
+}
+
+/// A program that has no help and no version, and wants a command.
+fn bare<'a>(alloc: Global) -> Command<'a>
+    ensures { app_of result ≡ bare_app }
+{
+    Command::new(alloc, "flowc")
+        .no_binary_name(true)
+        .disable_help_flag(true)
+        .disable_help_subcommand(true)
+        .subcommand_required(true)
+}
+
+/// A command of one file.
+fn with_file<'a>(alloc: Global, name: &'a str) -> Result<Command<'a>, AllocError>
+    ensures { IfOk result (Builds (file_app name.entry.now)) }
+{
+    Command::new(alloc, name).arg(file(alloc, "first"))
+}
+
+/// A command of two files, which takes bounds.
+fn with_run<'a>(alloc: Global, name: &'a str) -> Result<Command<'a>, AllocError>
+    ensures { IfOk result (Builds (run_app name.entry.now)) }
+{
+    Command::new(alloc, name)
+        .arg(file(alloc, "first"))?
+        .arg(file(alloc, "second"))?
+        .arg(bound(alloc, "depth", DEPTH_LIMIT))?
+        .arg(bound(alloc, "steps", STEP_LIMIT))
+}
+
+/// A command of one number of 32 bits.
+fn with_number<'a>(alloc: Global, name: &'a str) -> Result<Command<'a>, AllocError>
+    ensures { IfOk result (Builds (number_app name.entry.now)) }
+{
+    let number = file(alloc, "first").value_parser(ValueParser::unsigned(0, 4_294_967_295));
+    Command::new(alloc, name).arg(number)
+}
+
+/// A word in its place.
+fn file<'a>(alloc: Global, id: &'a str) -> Arg<'a>
+    ensures rule { rule_of result ≡ file_rule id.entry.now }
+    ensures local { result.global ≡ false }
+{
+    Arg::new(alloc, id).required(true)
+}
+
+/// The option `--NAME V`, where V is a number from 1 to `most`.
+///
+/// clap's parser of `u32` would take `-0`, which isn't a number here.
+fn bound<'a>(alloc: Global, name: &'a str, most: u32) -> Arg<'a>
+    ensures rule { rule_of result ≡ option_rule name.entry.now most }
+    ensures local { result.global ≡ false }
+{
+    Arg::new(alloc, name)
+        .long(name)
+        .value_parser(ValueParser::unsigned(1, u64::from(most)))
+}

@@ -5,11 +5,6 @@ use Rattle.chart_tree.specs.declared.fault.FormFault.TheVariants as faults
 use Rattle.chart_tree.specs.declared.fault.FormKind.TheVariants as forms
 use Rattle.chart_tree.specs.declared.limits.TheConstants.{CHART_TEXT_LIMIT}
 use Rattle.chart_reader.specs.Text as reader
-use Rattle.flat_syntax.specs.FlatText as flat
-
--- a text that is too long is no flat chart
-pub flat_too_long : (text : List ℕ) → CHART_TEXT_LIMIT < length text → flat.IsRefusal text (faults.At forms.TextTooLong begin)
-flat_too_long text h = inl (record { kind_is = refl; long = h; place = refl })
 
 -- a text that is too long is no chart text
 pub text_too_long : (text : List ℕ) → CHART_TEXT_LIMIT < length text → reader.IsRefusal text (faults.At forms.TextTooLong begin)

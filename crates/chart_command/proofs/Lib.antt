@@ -1,3 +1,2 @@
 pub mod ChartTextLemmas
-pub mod CodeTextLemmas
 pub mod UsageLemmas

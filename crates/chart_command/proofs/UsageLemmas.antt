@@ -1,7 +1,7 @@
 -- A call ends as Usage only where the words are none of the program's.
-use Rattle.std.proofs.Common.{◌≡◌, Option, Some, None, refl, ap, subst}
-use Rattle.std.specs.Prelude.{◌↔◌}
+use Rattle.std.proofs.Common.{◌≡◌, ◌⊎◌, ◌∙◌, Option, Some, None, inl, inr, refl, sym, ap, subst}
 use Rattle.flow_base.specs.declared.status.Status.TheVariants as statuses
+use Rattle.command_words.specs.Commands.{Command, Check, Fmt, Rules, Compile, Exec, Run, Upgrade, Selftest}
 use Rattle.command_files.specs.declared.file.FileEnd.{FileEnd}
 use Rattle.command_files.specs.declared.file.FileEnd.TheVariants as files
 use Rattle.command_files.specs.declared.text.TextEnd.{TextEnd}
@@ -14,12 +14,16 @@ use Rattle.checked_commands.specs.declared.rules.RulesEnd.TheVariants as rules_e
 use Rattle.code_text.specs.declared.fault.CodeTextFault.{CodeTextFault}
 use Rattle.code_commands.specs.declared.exec.ExecEnd.{ExecEnd}
 use Rattle.code_commands.specs.declared.exec.ExecEnd.TheVariants as execs
+use Rattle.run_command.specs.declared.run.RunEnd.{RunEnd}
+use Rattle.run_command.specs.declared.run.RunEnd.TheVariants as compiled_ends
+use Rattle.selftest_command.specs.declared.command.SelftestEnd.{SelftestEnd}
+use Rattle.selftest_command.specs.declared.command.SelftestEnd.TheVariants as cases
 use Rattle.chart_files.specs.declared.refusal.Refusal.{Refusal}
 use Rattle.chart_command.specs.declared.ending.Ending.{Ending}
 use Rattle.chart_command.specs.declared.ending.Ending.TheVariants as endings
-use Rattle.chart_command.specs.Ending.{of_chart_file, of_text, of_trace, of_rules, of_code_file, of_exec, of_upgrade, status_of}
-use Rattle.chart_command.specs.Words.{Command, Check, Fmt, Rules, Compile, Exec, Upgrade}
-use Rattle.chart_command.specs.Answer.{Ends}
+use Rattle.chart_command.specs.Ending.{of_chart_file, of_text, of_trace, of_rules, of_code_file, of_exec, of_run, of_upgrade}
+use Rattle.chart_command.specs.Ending.{of_selftest, status_of}
+use Rattle.chart_command.specs.Answer.{Ends, CallEnds}
 
 -- a chart file of which nothing comes ends no call so
 file : (end : FileEnd Refusal) → endings.Usage ≡ of_chart_file end → ⊥
@@ -60,11 +64,24 @@ exec : (end : ExecEnd) → endings.Usage ≡ of_exec end → ⊥
 exec (execs.NoCode end) e = code_file end e
 exec (execs.Ran end) e = trace end e
 
+-- nor does `run`
+compiled : (end : RunEnd) → endings.Usage ≡ of_run end → ⊥
+compiled (compiled_ends.NoChart end) e = file end e
+compiled (compiled_ends.Ran end) e = trace end e
+
 -- nor does `upgrade`
 upgrade : (end : TextEnd CodeTextFault) → endings.Usage ≡ of_upgrade end → ⊥
 upgrade texts.Done e = absurd cc
 upgrade (texts.Unread end) e = code_file end e
 upgrade texts.Write e = absurd cc
+
+-- nor does `selftest`
+case : (end : SelftestEnd) → endings.Usage ≡ of_selftest end → ⊥
+case cases.Done e = absurd cc
+case (cases.Fault index word) e = absurd cc
+case (cases.NoChart refusal) e = absurd cc
+case cases.Write e = absurd cc
+case cases.Memory e = absurd cc
 
 -- the status Usage is that of one ending
 usage_ending : (ending : Ending) → status_of ending ≡ statuses.Usage → ending ≡ endings.Usage
@@ -84,13 +101,24 @@ usage_ending endings.Memory e = absurd cc
 never : (command : Command) (call : Call) → Ends (Some command) call endings.Usage → ⊥
 never (Check first) call h = text h.end h.ending_is
 never (Fmt first) call h = text h.end h.ending_is
-never (Rules first second) call h = rules h.end h.ending_is
+never (Rules first second given) call h = rules h.end h.ending_is
 never (Compile first) call h = text h.end h.ending_is
-never (Exec first second) call h = exec h.end h.ending_is
+never (Exec first second given) call h = exec h.end h.ending_is
+never (Run first second given) call h = compiled h.end h.ending_is
 never (Upgrade first) call h = upgrade h.end h.ending_is
+never (Selftest number) call h = case h.end h.ending_is
 
-pub usage_only : (command : Option Command) (call : Call) (ending : Ending) → Ends command call ending
-    → (status_of ending ≡ statuses.Usage) ↔ (command ≡ None)
-usage_only None call ending h = (λ e. refl, λ e. ap status_of h.is_usage)
-usage_only (Some command) call ending h =
-    (λ e. absurd (never command call (subst (Ends (Some command) call) (usage_ending ending e) h)), λ e. absurd cc)
+-- a call ends as Usage only where its words ask for no command
+pub usage_only : (command : Option Command) (call : Call) (ending : Ending) → CallEnds command call ending
+    → status_of ending ≡ statuses.Usage → command ≡ None
+usage_only None call ending h e = refl
+usage_only (Some command) call ending (inl h) e =
+    absurd (never command call (subst (Ends (Some command) call) (usage_ending ending e) h))
+usage_only (Some command) call ending (inr m) e =
+    absurd (let bad = sym (ap status_of m.is_that) ∙ e in cc)
+
+-- where they ask for none it ends so, unless memory ran out
+pub no_command : (call : Call) (ending : Ending) → CallEnds None call ending
+    → (status_of ending ≡ statuses.Usage) ⊎ (status_of ending ≡ statuses.Memory)
+no_command call ending (inl h) = inl (ap status_of h.is_that)
+no_command call ending (inr m) = inr (ap status_of m.is_that)

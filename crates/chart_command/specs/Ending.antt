@@ -19,6 +19,10 @@ use Rattle.checked_commands.specs.declared.rules.RulesEnd.{RulesEnd}
 use Rattle.checked_commands.specs.declared.rules.RulesEnd.TheVariants as rules
 use Rattle.code_commands.specs.declared.exec.ExecEnd.{ExecEnd}
 use Rattle.code_commands.specs.declared.exec.ExecEnd.TheVariants as execs
+use Rattle.run_command.specs.declared.run.RunEnd.{RunEnd}
+use Rattle.run_command.specs.declared.run.RunEnd.TheVariants as compiled
+use Rattle.selftest_command.specs.declared.command.SelftestEnd.{SelftestEnd}
+use Rattle.selftest_command.specs.declared.command.SelftestEnd.TheVariants as cases
 use Rattle.chart_files.specs.declared.refusal.Refusal.{Refusal}
 use Rattle.chart_command.specs.declared.ending.Ending.{Ending}
 use Rattle.chart_command.specs.declared.ending.Ending.TheVariants as endings
@@ -64,11 +68,24 @@ abbrev pub of_exec : ExecEnd → Ending
 of_exec (execs.NoCode end) = of_code_file end
 of_exec (execs.Ran end) = of_trace end
 
+-- of `run`
+abbrev pub of_run : RunEnd → Ending
+of_run (compiled.NoChart end) = of_chart_file end
+of_run (compiled.Ran end) = of_trace end
+
 -- of `upgrade`
 abbrev pub of_upgrade : TextEnd CodeTextFault → Ending
 of_upgrade texts.Done = endings.Done
 of_upgrade (texts.Unread end) = of_code_file end
 of_upgrade texts.Write = endings.Write
+
+-- of `selftest`
+abbrev pub of_selftest : SelftestEnd → Ending
+of_selftest cases.Done = endings.Done
+of_selftest (cases.Fault index word) = endings.Fault index word
+of_selftest (cases.NoChart refusal) = endings.Chart refusal
+of_selftest cases.Write = endings.Write
+of_selftest cases.Memory = endings.Memory
 
 -- ---- status and line
 

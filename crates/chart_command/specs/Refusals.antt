@@ -1,14 +1,9 @@
 -- Which chart texts are refused, and for what.
 use Rattle.std.specs.Prelude.{ℕ, List}
 use Rattle.chart_reader.specs.Text as reader
-use Rattle.flat_syntax.specs.FlatText as flat
 use Rattle.chart_files.specs.declared.refusal.Refusal.{Refusal}
 use Rattle.chart_files.specs.Refusals.{RefusesBy}
 
 -- the text is no chart text, with that first fault
 abbrev pub RefusesChart : List ℕ → Refusal → Type 0
 RefusesChart = RefusesBy reader.IsRefusal
-
--- the text isn't the text of a flat chart, with that first fault
-abbrev pub RefusesFlat : List ℕ → Refusal → Type 0
-RefusesFlat = RefusesBy flat.IsRefusal

@@ -1,17 +1,21 @@
 //! The program.
-ghost use Rattle.std.specs.Prelude.{◌≡◌, ◌↔◌, None};
-ghost use Rattle.chart_command.specs.Words.{command_of, files_of};
+ghost use Rattle.std.specs.Prelude.{◌≡◌, ◌⊎◌, Some, None};
+ghost use Rattle.command_words.specs.Commands.{files_named, files_of};
+ghost use Rattle.command_words.specs.Seen.{command_seen};
+ghost use Rattle.command_words.specs.Words.{command_of};
 ghost use Rattle.command_files.specs.Call.{sources_of, output_of, call_of, OthersStay};
-ghost use Rattle.chart_command.specs.Answer.{Ends, Answer};
+ghost use Rattle.chart_command.specs.Answer.{Ends, CallEnds, Answer};
 
-use crate::compile::compile_chart;
 use crate::ending::Ending;
 use crate::fmt::format_chart;
 use crate::report::report;
-use crate::words::{Command, command_from};
 use checked_commands::{check_chart, run_chart};
 use code_commands::{exec_code, upgrade_code};
-use flow_base::{Inputs, Sink, Status};
+use command_words::{Command, command_from};
+use compile_command::compile_chart;
+use flow_base::{Inputs, Memory, Sink, Status};
+use run_command::run_compiled;
+use selftest_command::selftest;
 use std::alloc::Global;
 
 /// Does all that the program does: reads the files that the words name, writes the answer on
@@ -21,10 +25,13 @@ use std::alloc::Global;
 /// `check CHART` writes how many states, junctions, transitions and pairs the accepted chart of the
 /// file has. `fmt CHART` writes the canonical text of the chart of the file. `rules CHART EVENTS` runs
 /// the accepted chart of the first file by the rules over the events of the second and writes the
-/// trace. `compile CHART` writes the text of code that behaves as the flat chart of the file.
-/// `exec CODE EVENTS` runs the code of the first file over the events of the second and writes the
-/// trace. `upgrade CODE` writes the text of format 2 of the code of the file. All other words are
-/// refused as Usage.
+/// trace. `compile CHART` writes the text of the code of the accepted chart of the file, which runs as
+/// the chart. `exec CODE EVENTS` runs the code of the first file over the events of the second and writes the
+/// trace. `run CHART EVENTS` compiles the accepted chart of the first file and runs the text of its
+/// code as `exec` does. `upgrade CODE` writes the text of format 2 of the code of the file.
+/// `selftest N` runs generated case N by the rules and writes one line of counts. `rules`, `exec` and
+/// `run` take the bounds `--depth` and `--steps`. All other words are refused as Usage. Any words may
+/// end in Memory before anything is read.
 pub fn chart_main<I: Inputs, O: Sink, E: Sink>(
     alloc: Global,
     words: &[String],
@@ -32,7 +39,9 @@ pub fn chart_main<I: Inputs, O: Sink, E: Sink>(
     out: &mut O,
     err: &mut E,
 ) -> Status
-    ensures usage { (result ≡ Status.Usage) ↔ (command_of words.now ≡ None) }
+    ensures usage { result ≡ Status.Usage → command_of words.now ≡ None }
+    ensures no_command { command_of words.now ≡ None
+        → (result ≡ Status.Usage) ⊎ (result ≡ Status.Memory) }
     ensures answer { Answer (command_of words.now)
         (call_of I.Inputs O.Sink inputs.old inputs.new out.old out.new)
         (output_of E.Sink err.old) (output_of E.Sink err.new) result }
@@ -44,22 +53,44 @@ pub fn chart_main<I: Inputs, O: Sink, E: Sink>(
 
 /// Does what the words ask for.
 fn call<I: Inputs, O: Sink>(alloc: Global, words: &[String], inputs: &mut I, out: &mut O) -> Ending
-    ensures ends { Ends (command_of words.now)
+    ensures ends { CallEnds (command_of words.now)
         (call_of I.Inputs O.Sink inputs.old inputs.new out.old out.new) result }
     ensures others { OthersStay (files_of (command_of words.now))
         (sources_of I.Inputs inputs.old) (sources_of I.Inputs inputs.new) }
 {
-    match command_from(words) {
-        Some(Command::Check(chart)) => Ending::from(check_chart(alloc, chart, inputs, out)),
-        Some(Command::Fmt(chart)) => Ending::from(format_chart(alloc, chart, inputs, out)),
-        Some(Command::Rules(chart, events)) => {
-            Ending::from(run_chart(alloc, chart, events, inputs, out))
+    match command_from(alloc, words) {
+        Ok(Some(command)) => answer(alloc, command, inputs, out),
+        Ok(None) => Ending::Usage,
+        Err(Memory) => Ending::Memory,
+    }
+}
+
+/// Does what a command says.
+fn answer<I: Inputs, O: Sink>(
+    alloc: Global,
+    command: Command<'_>,
+    inputs: &mut I,
+    out: &mut O,
+) -> Ending
+    ensures ends { Ends (Some (command_seen command.entry))
+        (call_of I.Inputs O.Sink inputs.old inputs.new out.old out.new) result }
+    ensures others { OthersStay (files_named (command_seen command.entry))
+        (sources_of I.Inputs inputs.old) (sources_of I.Inputs inputs.new) }
+{
+    match command {
+        Command::Check(chart) => Ending::from(check_chart(alloc, chart, inputs, out)),
+        Command::Fmt(chart) => Ending::from(format_chart(alloc, chart, inputs, out)),
+        Command::Rules(chart, events, bounds) => {
+            Ending::from(run_chart(alloc, chart, events, bounds, inputs, out))
         }
-        Some(Command::Compile(chart)) => Ending::from(compile_chart(alloc, chart, inputs, out)),
-        Some(Command::Exec(code, events)) => {
-            Ending::from(exec_code(alloc, code, events, inputs, out))
+        Command::Compile(chart) => Ending::from(compile_chart(alloc, chart, inputs, out)),
+        Command::Exec(code, events, bounds) => {
+            Ending::from(exec_code(alloc, code, events, bounds, inputs, out))
         }
-        Some(Command::Upgrade(code)) => Ending::from(upgrade_code(alloc, code, inputs, out)),
-        None => Ending::Usage,
+        Command::Run(chart, events, bounds) => {
+            Ending::from(run_compiled(alloc, chart, events, bounds, inputs, out))
+        }
+        Command::Upgrade(code) => Ending::from(upgrade_code(alloc, code, inputs, out)),
+        Command::Selftest(number) => Ending::from(selftest(alloc, number, out)),
     }
 }

@@ -8,6 +8,8 @@ use code_commands::ExecEnd;
 use code_text::CodeTextFault;
 use command_files::{FileEnd, TextEnd};
 use flow_base::Status;
+use run_command::RunEnd;
+use selftest_command::SelftestEnd;
 use step_text::LineFault;
 use trace_command::{FaultWord, TraceEnd};
 
@@ -152,6 +154,20 @@ impl From<ExecEnd> for Ending {
     }
 }
 
+impl From<RunEnd> for Ending {
+    ghost use Rattle.std.specs.Prelude.{◌≡◌};
+    ghost use Rattle.chart_command.specs.Ending.{of_run};
+
+    ghost from_gives = { λ end ending. ending ≡ of_run end };
+
+    fn from(end: RunEnd) -> Ending {
+        match end {
+            RunEnd::NoChart(end) => Ending::from(end),
+            RunEnd::Ran(end) => Ending::from(end),
+        }
+    }
+}
+
 impl From<TextEnd<CodeTextFault>> for Ending {
     ghost use Rattle.std.specs.Prelude.{◌≡◌};
     ghost use Rattle.chart_command.specs.Ending.{of_upgrade};
@@ -163,6 +179,23 @@ impl From<TextEnd<CodeTextFault>> for Ending {
             TextEnd::Done => Ending::Done,
             TextEnd::Unread(end) => Ending::from(end),
             TextEnd::Write => Ending::Write,
+        }
+    }
+}
+
+impl From<SelftestEnd> for Ending {
+    ghost use Rattle.std.specs.Prelude.{◌≡◌};
+    ghost use Rattle.chart_command.specs.Ending.{of_selftest};
+
+    ghost from_gives = { λ end ending. ending ≡ of_selftest end };
+
+    fn from(end: SelftestEnd) -> Ending {
+        match end {
+            SelftestEnd::Done => Ending::Done,
+            SelftestEnd::Fault(index, word) => Ending::Fault(index, word),
+            SelftestEnd::NoChart(refusal) => Ending::Chart(refusal),
+            SelftestEnd::Write => Ending::Write,
+            SelftestEnd::Memory => Ending::Memory,
         }
     }
 }

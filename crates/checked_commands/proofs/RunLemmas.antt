@@ -10,7 +10,7 @@ use Rattle.accepted_charts.specs.Accepted.{IsAccepted, Refuses, OfText}
 use Rattle.command_files.specs.Call.{Sources, Call}
 use Rattle.command_files.specs.Reading.{Gives}
 use Rattle.trace_command.specs.declared.run.TraceEnd.{TraceEnd}
-use Rattle.trace_command.specs.FileRuns.{AreUsual, FileRan}
+use Rattle.trace_command.specs.FileRuns.{FileRan}
 use Rattle.trace_command.specs.Trace.{TraceEnds}
 use Rattle.trace_command.proofs.RunLemmas.{file_ran}
 use Rattle.checked_commands.specs.Rules.{by_rules}
@@ -21,10 +21,9 @@ too_long_refused text h = OfText (inl (record { kind_is = refl; long = h; place 
 
 -- the chart that the first file gives ran over the second
 pub ran : (call : Call) (first second : List ℕ) (between : Sources) (chart : Kept) (bounds : Bounds) (end : TraceEnd)
-    → AreUsual bounds
     → Gives (λ (text : List ℕ) (c : Kept). IsAccepted text (chart_of c)) call.sources_before between first chart
     → TraceEnds (by_rules (chart_of chart) bounds) (record call { sources_before = between }) second end
-    → FileRan IsAccepted by_rules call first second end
-ran call first second between chart bounds end usual given traced =
-    file_ran IsAccepted by_rules call first second between (chart_of chart) bounds end usual
+    → FileRan IsAccepted by_rules bounds call first second end
+ran call first second between chart bounds end given traced =
+    file_ran IsAccepted by_rules call first second between (chart_of chart) bounds end
     (record { text = given.text; read = given.read; means = given.means }) traced

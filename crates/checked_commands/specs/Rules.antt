@@ -23,9 +23,9 @@ by_rules c bounds = record {
   never_wants_memory = false;
 }
 
--- How `rules` ends, and when. Where nothing comes of the chart's file, the event file isn't read and nothing is written.
-abbrev pub RulesEnds : Call → List ℕ → List ℕ → RulesEnd → Type 0
-RulesEnds call first second (ends.NoChart end) =
+-- How `rules` ends with these bounds, and when. Where nothing comes of the chart's file, the event file isn't read and nothing is written.
+abbrev pub RulesEnds : Bounds → Call → List ℕ → List ℕ → RulesEnd → Type 0
+RulesEnds bounds call first second (ends.NoChart end) =
     Unread CHART_TEXT_LIMIT RefusesAccepted call.sources_before call.sources_after first end
     × (call.output_after ≡ call.output_before)
-RulesEnds call first second (ends.Ran end) = FileRan IsAccepted by_rules call first second end
+RulesEnds bounds call first second (ends.Ran end) = FileRan IsAccepted by_rules bounds call first second end

@@ -7,5 +7,6 @@ mod accepted_file;
 mod check;
 mod rules;
 
+pub use accepted_file::read_accepted;
 pub use check::check_chart;
 pub use rules::{RulesEnd, run_chart};

@@ -23,16 +23,17 @@ pub enum RulesEnd {
     Ran(TraceEnd),
 }
 
-/// Runs the chart of the first file by the rules over the events of the second, with the usual
-/// bounds, and writes the trace.
+/// Runs the chart of the first file by the rules over the events of the second, with these bounds,
+/// and writes the trace.
 pub fn run_chart<I: Inputs, O: Sink>(
     alloc: Global,
     first: &str,
     second: &str,
+    bounds: Bounds,
     inputs: &mut I,
     out: &mut O,
 ) -> RulesEnd
-    ensures ends { RulesEnds (call_of I.Inputs O.Sink inputs.old inputs.new out.old out.new)
+    ensures ends { RulesEnds bounds (call_of I.Inputs O.Sink inputs.old inputs.new out.old out.new)
         first.now second.now result }
     ensures others { OthersStay (first.now ∷ second.now ∷ [])
         (sources_of I.Inputs inputs.old) (sources_of I.Inputs inputs.new) }
@@ -41,7 +42,7 @@ pub fn run_chart<I: Inputs, O: Sink>(
         Ok(chart) => chart,
         Err(end) => return RulesEnd::NoChart(end),
     };
-    RulesEnd::Ran(run_rules(alloc, chart, Bounds::usual(), second, inputs, out))
+    RulesEnd::Ran(run_rules(alloc, chart, bounds, second, inputs, out))
 }
 
 /// Runs the chart by the rules, with these bounds, over the events of the file of that name, and

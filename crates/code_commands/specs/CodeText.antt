@@ -7,13 +7,14 @@ use Rattle.code_lines.specs.declared.format.Format.{Format}
 use Rattle.code_text.specs.declared.fault.CodeTextFault.{CodeTextFault}
 use Rattle.code_text.specs.declared.fault.CodeTextFault.TheVariants as faults
 use Rattle.code_text.specs.Reading.{IsCause}
-use Rattle.code_text.specs.Spelling.{code_text}
+use Rattle.code_text.specs.Spelling.{code_text, IsSpellable}
 use Rattle.code_text.specs.Written.{written_of}
 
 -- the text spells this code in one of the formats, each byte of it, and the code is well formed
 pub record IsCodeText (text : List ℕ) (raw : RawCode) : Type 0 where
   pub format : Format
   pub text_is : text ≡ code_text format (written_of raw)
+  pub spellable : IsSpellable format (written_of raw)
   pub well_formed : IsCode (code_of raw)
 
 -- the text isn't that of accepted code, and that is its first fault, or the first of the code that it spells

@@ -27,9 +27,9 @@ by_code k bounds = record {
 abbrev pub runs_by_code : RawCode → Bounds → Behaviour
 runs_by_code raw bounds = by_code (code_of raw) bounds
 
--- How `exec` ends, and when. Where nothing comes of the code's file, the event file isn't read and nothing is written.
-abbrev pub ExecEnds : Call → List ℕ → List ℕ → ExecEnd → Type 0
-ExecEnds call first second (ends.NoCode end) =
+-- How `exec` ends with these bounds, and when. Where nothing comes of the code's file, the event file isn't read and nothing is written.
+abbrev pub ExecEnds : Bounds → Call → List ℕ → List ℕ → ExecEnd → Type 0
+ExecEnds bounds call first second (ends.NoCode end) =
     Unread TEXT_LIMIT RefusesCode call.sources_before call.sources_after first end
     × (call.output_after ≡ call.output_before)
-ExecEnds call first second (ends.Ran end) = FileRan IsCodeText runs_by_code call first second end
+ExecEnds bounds call first second (ends.Ran end) = FileRan IsCodeText runs_by_code bounds call first second end

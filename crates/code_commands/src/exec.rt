@@ -23,16 +23,17 @@ pub enum ExecEnd {
     Ran(TraceEnd),
 }
 
-/// Runs the code of the first file on the machine over the events of the second, with the usual
-/// bounds, and writes the trace. All memory is taken before the first byte of the trace is written.
+/// Runs the code of the first file on the machine over the events of the second, with these bounds,
+/// and writes the trace. All memory is taken before the first byte of the trace is written.
 pub fn exec_code<I: Inputs, O: Sink>(
     alloc: Global,
     first: &str,
     second: &str,
+    bounds: Bounds,
     inputs: &mut I,
     out: &mut O,
 ) -> ExecEnd
-    ensures ends { ExecEnds (call_of I.Inputs O.Sink inputs.old inputs.new out.old out.new)
+    ensures ends { ExecEnds bounds (call_of I.Inputs O.Sink inputs.old inputs.new out.old out.new)
         first.now second.now result }
     ensures others { OthersStay (first.now ∷ second.now ∷ [])
         (sources_of I.Inputs inputs.old) (sources_of I.Inputs inputs.new) }
@@ -41,12 +42,12 @@ pub fn exec_code<I: Inputs, O: Sink>(
         Ok(code) => code,
         Err(end) => return ExecEnd::NoCode(end),
     };
-    ExecEnd::Ran(run_code(alloc, code, Bounds::usual(), second, inputs, out))
+    ExecEnd::Ran(run_code(alloc, code, bounds, second, inputs, out))
 }
 
 /// Runs code on the machine, with these bounds, over the events of the file of that name, and writes
 /// the trace.
-fn run_code<I: Inputs, O: Sink>(
+pub fn run_code<I: Inputs, O: Sink>(
     alloc: Global,
     code: Code,
     bounds: Bounds,

@@ -8,5 +8,5 @@ mod code_file;
 mod exec;
 mod upgrade;
 
-pub use exec::{ExecEnd, exec_code};
+pub use exec::{ExecEnd, exec_code, run_code};
 pub use upgrade::upgrade_code;

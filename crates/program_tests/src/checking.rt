@@ -49,7 +49,7 @@ fn refusals(rt: HostRuntime) -> Result<(), Fail> {
         ),
     ];
     for (chart, err) in cases {
-        for line in ["check c", "rules c e"] {
+        for line in ["check c", "rules c e", "compile c", "run c e"] {
             check(&rt, line, chart, "GO\n", (Status::Refused, "", err))?;
         }
     }

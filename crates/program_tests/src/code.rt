@@ -10,8 +10,8 @@ use std::test::Fail;
 fn compiled_chart(rt: HostRuntime) -> Result<(), Fail> {
     let alloc = rt.alloc();
     let mut inputs = files(alloc, LAMP, "", &[])?;
-    let mut out = MemSink::new(alloc, 4096, 5, Vec::new(alloc))?;
-    let mut err = MemSink::new(alloc, 4096, 5, Vec::new(alloc))?;
+    let mut out = MemSink::new(alloc, 16_384, 64, Vec::new(alloc))?;
+    let mut err = MemSink::new(alloc, 4096, 64, Vec::new(alloc))?;
     let words = words(alloc, "compile c")?;
     let status = chart_main(alloc, &words, &mut inputs, &mut out, &mut err);
     assert_eq!(rt; status, Status::Ok);

@@ -59,8 +59,8 @@ fn check(
 fn failing_devices(rt: HostRuntime) -> Result<(), Fail> {
     let start = "0 start [Off] - - ok\n";
     let given = "0 start [Off] - - ok\n1 GO [On] - - ok\n2 GO [Off] - - ok\n";
-    // Both read the event file line by line.
-    for (line, text) in [("rules c e", LAMP), ("exec c e", CODE)] {
+    // All read the event file line by line.
+    for (line, text) in [("rules c e", LAMP), ("exec c e", CODE), ("run c e", LAMP)] {
         check(
             &rt,
             line,

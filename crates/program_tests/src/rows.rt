@@ -2,6 +2,7 @@
 use crate::setup::{CODE, LAMP, files, words};
 use chart_command::chart_main;
 use flow_base::{MemSink, Status};
+use std::alloc::{AllocError, Global};
 use std::process::Abort;
 use std::test::Fail;
 
@@ -69,26 +70,9 @@ fn event_files(rt: HostRuntime) -> Result<(), Fail> {
         ),
     ];
     for (events, status, out, err) in cases {
-        for (line, text) in [("rules c e", LAMP), ("exec c e", CODE)] {
+        for (line, text) in [("rules c e", LAMP), ("exec c e", CODE), ("run c e", LAMP)] {
             check(&rt, line, text, events, (status, out, err))?;
         }
-    }
-    Ok(())
-}
-
-#[test]
-fn chart_texts(rt: HostRuntime) -> Result<(), Fail> {
-    let cases = [
-        ("chart Lamp or {", "chart 1:16: 3 Expected\n"),
-        ("chart Lamp and { }", "chart 1:12: 25 NotBuilt\n"),
-        ("", "chart 1:1: 3 Expected\n"),
-        (
-            "chart C or { default -> A;\n  state B { } }",
-            "chart 1:25: 25 NotBuilt\n",
-        ),
-    ];
-    for (chart, err) in cases {
-        check(&rt, "compile c", chart, "GO\n", (Status::Refused, "", err))?;
     }
     Ok(())
 }
@@ -100,28 +84,33 @@ const USAGE: &str =
 fn other_words(rt: HostRuntime) -> Result<(), Fail> {
     for line in [
         "",
-        "rules",
+        "rule c e",
         "rules c",
         "rules c e e",
-        "rule c e",
         "rules -c e",
-        "rules c -",
-        "check",
-        "check -c",
-        "check c e",
-        "run c e",
-        "compile",
-        "compile -c",
-        "compile c e",
-        "fmt",
-        "fmt -c",
-        "fmt c e",
-        "exec c",
-        "exec c -",
+        "rules --depth 33 c e",
+        "rules --depth 0 c e",
+        "rules --steps 50001 c e",
+        "rules --steps 9 --steps 9 c e",
+        "rules c e --depth",
+        "rules c e --depth -1",
+        "rules --dept 8 c e",
+        "--depth 8 rules c e",
+        "rules -- --depth 8 c e",
+        "run c",
         "exec c e e",
-        "upgrade",
-        "upgrade -c",
+        "check",
+        "check c e",
+        "check --depth 8 c",
+        "compile -c",
+        "fmt",
         "upgrade c e",
+        "selftest",
+        "selftest x",
+        "selftest -0",
+        "selftest 4294967296",
+        "help",
+        "--help",
     ] {
         check(&rt, line, LAMP, "", (Status::Usage, "", USAGE))?;
     }
@@ -135,4 +124,52 @@ fn other_words(rt: HostRuntime) -> Result<(), Fail> {
     )?;
     // One file in both places is given once.
     check(&rt, "rules c c", LAMP, "", (Status::Ok, START, ""))
+}
+
+/// Each tick sends an event under which the chart sends again, until sends nest too deep.
+const NEST: &str =
+    "chart C or { event local L; local n : int8; default -> A; state A { during { n = n + 1; send L; } } }";
+
+#[test]
+fn bounds(rt: HostRuntime) -> Result<(), Fail> {
+    let cases = [
+        ("c e", "0 start [A] n=0 - ok\n1 tick [A] n=9 - depth\n"),
+        (
+            "--depth 3 c e",
+            "0 start [A] n=0 - ok\n1 tick [A] n=4 - depth\n",
+        ),
+        (
+            "c --depth=+032 e",
+            "0 start [A] n=0 - ok\n1 tick [A] n=33 - depth\n",
+        ),
+        (
+            "--steps 2 c -- e",
+            "0 start [A] n=0 - ok\n1 tick [A] n=3 - steps\n",
+        ),
+    ];
+    for (options, out) in cases {
+        let line = if out.ends_with("steps\n") {
+            "run 1: steps\n"
+        } else {
+            "run 1: depth\n"
+        };
+        for command in ["rules ", "run "] {
+            let words = joined(rt.alloc(), command, options)?;
+            check(
+                &rt,
+                words.as_str(),
+                NEST,
+                "tick\n",
+                (Status::RunFault, out, line),
+            )?;
+        }
+    }
+    Ok(())
+}
+
+/// Two texts, one after the other.
+fn joined(alloc: Global, first: &str, second: &str) -> Result<String, AllocError> {
+    let mut text = String::from_str(alloc, first)?;
+    text.push_str(second)?;
+    Ok(text)
 }

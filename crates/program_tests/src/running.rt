@@ -1,4 +1,4 @@
-//! Charts of the whole language that run by the rules, with their traces.
+//! Charts of the whole language that run by the rules and as compiled code, with their traces.
 use crate::rows::check;
 use flow_base::Status;
 use std::alloc::{AllocError, Global};
@@ -22,18 +22,13 @@ const START: &str = "0 start [A] x=0,n=0 - ok\n";
 
 #[test]
 fn events_with_inputs(rt: HostRuntime) -> Result<(), Fail> {
-    check(
-        &rt,
-        "rules c e",
-        CHART,
-        "# idle\n\nGO x=1\r\nGO x=2.5\ntick\n  GO\n",
-        (
-            Status::Ok,
-            "0 start [A] x=0,n=0 - ok\n1 GO [A] x=1,n=0 - ok\n2 GO [B,B/P] x=2.5,n=2 - ok\n\
-             3 tick [B,B/Q] x=2.5,n=2 DONE ok\n4 GO [B,B/P] x=2.5,n=2 - ok\n",
-            "",
-        ),
-    )
+    let events = "# idle\n\nGO x=1\r\nGO x=2.5\ntick\n  GO\n";
+    let trace = "0 start [A] x=0,n=0 - ok\n1 GO [A] x=1,n=0 - ok\n2 GO [B,B/P] x=2.5,n=2 - ok\n\
+        3 tick [B,B/Q] x=2.5,n=2 DONE ok\n4 GO [B,B/P] x=2.5,n=2 - ok\n";
+    for line in ["rules c e", "run c e"] {
+        check(&rt, line, CHART, events, (Status::Ok, trace, ""))?;
+    }
+    Ok(())
 }
 
 #[test]
@@ -48,13 +43,9 @@ fn refused_lines(rt: HostRuntime) -> Result<(), Fail> {
         ("GO x=8\n", "event 1: 6 BadValue\n"),
     ];
     for (events, err) in cases {
-        check(
-            &rt,
-            "rules c e",
-            CHART,
-            events,
-            (Status::Refused, START, err),
-        )?;
+        for line in ["rules c e", "run c e"] {
+            check(&rt, line, CHART, events, (Status::Refused, START, err))?;
+        }
     }
     let long = line_of_spaces(rt.alloc(), 4097)?;
     check(
@@ -105,13 +96,9 @@ fn faults_of_runs(rt: HostRuntime) -> Result<(), Fail> {
         ),
     ];
     for (chart, events, out, err) in cases {
-        check(
-            &rt,
-            "rules c e",
-            chart,
-            events,
-            (Status::RunFault, out, err),
-        )?;
+        for line in ["rules c e", "run c e"] {
+            check(&rt, line, chart, events, (Status::RunFault, out, err))?;
+        }
     }
     Ok(())
 }

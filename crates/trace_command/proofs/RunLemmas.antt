@@ -14,7 +14,7 @@ use Rattle.command_files.specs.Reading.{ReadWhole, Gives}
 use Rattle.command_files.proofs.ReadingLemmas.{read_out-IsAtEnd}
 use Rattle.trace_command.specs.declared.run.TraceEnd.{TraceEnd}
 use Rattle.trace_command.specs.declared.run.TraceEnd.TheVariants as runs
-use Rattle.trace_command.specs.FileRuns.{AreUsual, FileRan}
+use Rattle.trace_command.specs.FileRuns.{FileRan}
 use Rattle.trace_command.specs.Trace.{Behaviour, TraceEnds, Driven, NotBegun, seen_of, end_of}
 
 -- after a run only the event file isn't as it was
@@ -53,17 +53,15 @@ first_end before between after first second text read kept end =
 
 -- what the first file means ran over the second
 pub file_ran : {P : Type 0} (Means : List ℕ → P → Type 0) (behaves : P → Bounds → Behaviour) (call : Call)
-    (first second : List ℕ) (between : Sources) (program : P) (bounds : Bounds) (end : TraceEnd) → AreUsual bounds
+    (first second : List ℕ) (between : Sources) (program : P) (bounds : Bounds) (end : TraceEnd)
     → Gives Means call.sources_before between first program
     → TraceEnds (behaves program bounds) (record call { sources_before = between }) second end
-    → FileRan Means behaves call first second end
-file_ran Means behaves call first second between program bounds end usual given traced =
+    → FileRan Means behaves bounds call first second end
+file_ran Means behaves call first second between program bounds end given traced =
     let b = behaves program bounds in
     let later : Call = record call { sources_before = between } in
     record {
       program = program;
-      bounds = bounds;
-      usual = usual;
       between = between;
       first_read = given;
       traces = traced;

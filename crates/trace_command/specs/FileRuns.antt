@@ -8,18 +8,11 @@ use Rattle.trace_command.specs.declared.run.TraceEnd.{TraceEnd}
 use Rattle.trace_command.specs.declared.run.TraceEnd.TheVariants as runs
 use Rattle.trace_command.specs.Trace.{Behaviour, TraceEnds}
 
--- the usual bounds: sends nest 8 deep, and an event has 10,000 steps
-pub record AreUsual (bounds : Bounds) : Type 0 where
-  pub depth : bounds.depth ≡ 8
-  pub steps : bounds.steps ≡ 10000
-
--- The first file was read whole, and what its text means ran over the events of the second, each event with the usual
--- bounds. Where the run ended well, nothing is left of either file.
-pub record FileRan {P : Type 0} (Means : List ℕ → P → Type 0) (behaves : P → Bounds → Behaviour) (call : Call)
-    (first second : List ℕ) (end : TraceEnd) : Type 0 where
+-- The first file was read whole, and what its text means ran over the events of the second, each event with these bounds.
+-- Where the run ended well, nothing is left of either file.
+pub record FileRan {P : Type 0} (Means : List ℕ → P → Type 0) (behaves : P → Bounds → Behaviour) (bounds : Bounds)
+    (call : Call) (first second : List ℕ) (end : TraceEnd) : Type 0 where
   pub program : P
-  pub bounds : Bounds
-  pub usual : AreUsual bounds
   pub between : Sources
   pub first_read : Gives Means call.sources_before between first program
   pub traces : TraceEnds (behaves program bounds) (record call { sources_before = between }) second end

@@ -8,8 +8,8 @@ use Rattle.checked_commands.proofs.rules.run_chart.Goals as goal
 pub returns-clause-ends : goal.returns-clause-ends
 returns-clause-ends g c =
     ran (call_of g.I.Inputs g.O.Sink c.args.inputs.now c.run_rules.new.inputs c.args.out.now c.run_rules.new.out) c.args.first.now c.args.second.now
-    (sources_of g.I.Inputs c.read_accepted.new.inputs) c.in-Ok.chart c.usual.result c.run_rules.result
-    (record { depth = c.usual.ensures.depth; steps = c.usual.ensures.steps }) c.in-Ok.ensures c.run_rules.ensures
+    (sources_of g.I.Inputs c.read_accepted.new.inputs) c.in-Ok.chart c.args.bounds c.run_rules.result
+    c.in-Ok.ensures c.run_rules.ensures
 
 pub returns-clause-others : goal.returns-clause-others
 returns-clause-others g c =

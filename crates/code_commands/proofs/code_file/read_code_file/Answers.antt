@@ -19,7 +19,12 @@ returns-in_err-text g c =
 pub returns-in-Ok : goal.returns-in-Ok
 returns-in-Ok g c =
     gives_of TEXT_LIMIT _ _ c.args.name.now c.in_ok-text.text c.in_ok-text.ensures IsCodeText c.in-Ok.code _ c.deref.ensures.value
-    (record { format = c.in-Ok.ensures.read.0; text_is = c.in-Ok.ensures.read.1; well_formed = c.in-Ok.ensures.formed })
+    (record {
+      format = c.in-Ok.ensures.read.0;
+      text_is = c.in-Ok.ensures.read.1;
+      spellable = c.in-Ok.ensures.read.2;
+      well_formed = c.in-Ok.ensures.formed;
+    })
 
 -- the text is refused
 pub returns : goal.returns

@@ -10,8 +10,8 @@ pub returns-clause-ends : goal.returns-clause-ends
 returns-clause-ends g c =
     file_ran IsCodeText runs_by_code
     (call_of g.I.Inputs g.O.Sink c.args.inputs.now c.run_code.new.inputs c.args.out.now c.run_code.new.out) c.args.first.now c.args.second.now
-    (sources_of g.I.Inputs c.read_code_file.new.inputs) c.in-Ok.code c.usual.result c.run_code.result
-    (record { depth = c.usual.ensures.depth; steps = c.usual.ensures.steps }) c.in-Ok.ensures c.run_code.ensures
+    (sources_of g.I.Inputs c.read_code_file.new.inputs) c.in-Ok.code c.args.bounds c.run_code.result
+    c.in-Ok.ensures c.run_code.ensures
 
 pub returns-clause-others : goal.returns-clause-others
 returns-clause-others g c =

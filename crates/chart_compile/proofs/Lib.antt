@@ -1,0 +1,4 @@
+pub mod Codes
+pub mod Copies
+pub mod WellFormed
+pub mod Compiled

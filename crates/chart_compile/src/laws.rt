@@ -1,0 +1,19 @@
+//! What holds of the code of every valid chart as a whole.
+ghost use Rattle.state_tree.specs.Chart.{Chart};
+ghost use Rattle.state_tree.specs.Valid.{IsValid};
+ghost use Rattle.code_form.specs.WellFormed.{IsCode};
+ghost use Rattle.chart_layout.specs.Bodies.{code_of_chart};
+
+use layout_heights::the_code_of_a_chart_is_low;
+use layout_soundness::the_code_of_a_chart_is_sound;
+use layout_works::the_code_of_a_chart_has_little_work;
+
+/// The code of a valid chart is well formed: it has few procedures and right tables, and no
+/// procedure of it has a fault, is too high or has too much work.
+pub fn the_code_of_a_chart_is_well_formed()
+    ensures { (c : Chart) → IsValid c → IsCode (code_of_chart c) }
+{
+    the_code_of_a_chart_is_sound();
+    the_code_of_a_chart_is_low();
+    the_code_of_a_chart_has_little_work();
+}

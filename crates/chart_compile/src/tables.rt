@@ -1,0 +1,39 @@
+//! The table of the states of a chart's code.
+ghost use Rattle.std.specs.Prelude.{◌≡◌, map, IfOk};
+ghost use Rattle.flow_base.specs.Lists.{items_of};
+ghost use Rattle.state_tree.specs.Kept.{chart_of};
+ghost use Rattle.code_form.specs.Code.{tree_of_states};
+
+use code_form::RawState;
+use flow_base::{List, Memory, Text};
+use state_tree::Chart;
+use std::alloc::Global;
+
+/// An equal text.
+fn copied(alloc: Global, text: &Text) -> Result<Text, Memory>
+    ensures { IfOk result (λ copy. copy ≡ text.now) }
+{
+    match String::from_str(alloc, text.text()) {
+        Ok(copy) => Ok(Text::of(copy)),
+        Err(_) => Err(Memory),
+    }
+}
+
+/// The states of a chart, each with its parent, its composition and its name.
+pub fn states(alloc: Global, chart: &Chart) -> Result<List<RawState>, Memory>
+    ensures tree { IfOk result (λ states. tree_of_states (items_of states) ≡ (chart_of chart.now).tree) }
+    ensures names { IfOk result (λ states. map (λ (s : RawState). s.name) (items_of states)
+        ≡ (chart_of chart.now).names.states) }
+{
+    let shape = chart.shape();
+    let names = chart.names().states.items();
+    let mut states = List::of(Vec::new(alloc));
+    for state in 0..shape.len() {
+        states.push(RawState {
+            parent: shape.parent(state),
+            comp: shape.comp(state),
+            name: copied(alloc, &names[state as usize])?,
+        })?;
+    }
+    Ok(states)
+}

@@ -1,5 +1,0 @@
-pub mod RunLemmas
-pub mod AcceptLemmas
-pub mod WellFormedLemmas
-pub mod CodeParts
-pub mod ReactionLemmas

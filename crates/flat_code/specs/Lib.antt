@@ -1,8 +1,0 @@
-pub mod Form
-pub mod Program
-pub mod WellFormed
-pub mod World
-pub mod Machine
-pub mod Sound
-pub mod Small
-pub mod Reaction

@@ -1,5 +1,0 @@
-use Rattle.flat_code_text.proofs.OutcomeLemmas.{code_text-apart}
-use Rattle.flat_code_text.proofs.laws.no_text_begins_another.Goals as goal
-
-pub returns : goal.returns
-returns c = code_text-apart

@@ -1,5 +1,0 @@
-use Rattle.flat_code_text.proofs.OutcomeLemmas.{spelled_program-ok}
-use Rattle.flat_code_text.proofs.laws.what_is_read_is_spelled_so.Goals as goal
-
-pub returns : goal.returns
-returns c = spelled_program-ok

@@ -1,9 +1,0 @@
-pub mod Places
-pub mod Worlds
-pub mod Runs
-pub mod Reaction
-pub mod Whole
-pub mod WellFormed
-pub mod SmallCode
-pub mod Emission
-pub mod Fits

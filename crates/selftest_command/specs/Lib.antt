@@ -1,0 +1,4 @@
+pub mod Newlines
+pub mod Measures
+pub mod Lines
+pub mod Selftest

@@ -133,7 +133,7 @@ LONGEST_FILE = 67108864
 MOST_EVENTS = 1000000
 LINE_FAULTS = {1: 'LineTooLong', 2: 'UnknownEvent', 3: 'NotInputEvent', 4: 'UnknownInput', 5: 'InputTwice', 6: 'BadValue'}
 USAGE = ('usage: flowc check CHART, fmt CHART, rules CHART EVENTS, compile CHART, exec CODE EVENTS, run CHART EVENTS, '
-         'upgrade CODE, bounds CHART, shrink CODE, net NET SCHEDULE, selftest N; --depth D, --steps S')
+         'upgrade CODE, selftest N; --depth D, --steps S')
 
 # What the rules tell apart. A run counts how often it met each of these.
 CASES = """

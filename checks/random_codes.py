@@ -524,7 +524,8 @@ def plant_table(rng, code):
 
 def plant_keep(rng, code):
     states = code.declared.states
-    wrong = [0] + [s for s in range(1, len(states)) if states[states[s].parent].comp == 'and'] * 2
+    ands = [s for s, state in enumerate(states) if state.comp == 'and']
+    wrong = [0] + [s for s in range(1, len(states)) if states[s].parent in ands] * 2    # the parent may not be there any more
     s = rng.choice(wrong)
     insert(rng, code, rng.choice([('keep', s), ('unless', 0, ('last', s))]))
 

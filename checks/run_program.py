@@ -3,15 +3,18 @@ r"""Answers tables by the built program, in the form in which chart_check.py and
 
     python3 checks/run_program.py PROGRAM check < texts | diff - answers
     python3 checks/run_program.py PROGRAM rules < runs | diff - answers
+    python3 checks/run_program.py PROGRAM compiled < runs
     python3 checks/run_program.py PROGRAM docs PAGE..
     python3 checks/run_program.py PROGRAM traces FOLDER
 
-`check` runs `PROGRAM check` on each text and prints its one line, from standard output or standard error. `rules` runs
-`PROGRAM rules` on each run of the table, whose first field is `-` for the usual bounds, and prints status, standard output
-and standard error. `docs` takes the rows `| TEXT | LINE |` of a page, in which both stand between backquotes and LINE is a
+`check` runs `PROGRAM check` on each text and prints its one line, from standard output or standard error. `rules`
+runs `PROGRAM rules` on each run of the table, whose first field has the bounds, depth and steps, or `-` for the usual
+ones, and prints status, standard output and standard error. `compiled` runs `PROGRAM rules`, `PROGRAM run`, and
+`PROGRAM exec` on the code that `PROGRAM compile` writes, on each run of the table, and prints those whose answers
+differ. `docs` takes the rows `| TEXT | LINE |` of a page, in which both stand between backquotes and LINE is a
 refusal of `check`, and prints each row that the program answers otherwise. `traces` takes the files NAME.chart,
-NAME.events and NAME.trace of a folder and prints the names of those whose trace differs. Both end with status 1 where
-anything was printed."""
+NAME.events and NAME.trace of a folder and prints the names of those of which `rules` or `run` writes another trace.
+Both end with status 1 where anything was printed."""
 import os
 import re
 import subprocess
@@ -31,12 +34,12 @@ class Program:
         self.path = os.path.abspath(path)
         self.files = [os.path.join(folder, name) for name in ('chart', 'events')]
 
-    def run(self, command, *contents):
+    def run(self, command, *contents, options=()):
         names = self.files[:len(contents)]
         for name, content in zip(names, contents):
             with open(name, 'wb') as file:
                 file.write(content)
-        return subprocess.run([self.path, command, *names], capture_output=True)
+        return subprocess.run([self.path, command, *options, *names], capture_output=True)
 
 
 def check_answer(program, text):
@@ -44,17 +47,46 @@ def check_answer(program, text):
     return (ran.stdout + ran.stderr).decode('latin-1').rstrip('\n')
 
 
-def rules_answer(program, text, events):
-    ran = program.run('rules', text, events)
+def options_of(bounds):
+    if bounds == '-':
+        return []
+    depth, steps = bounds.split(' ')
+    return ['--depth', depth, '--steps', steps]
+
+
+def answer_of(ran):
     out, error = (line_of(part.decode('latin-1')) for part in (ran.stdout, ran.stderr))
     return '%d\t%s\t%s' % (ran.returncode, out, error)
+
+
+def rules_answer(program, bounds, text, events):
+    return answer_of(program.run('rules', text, events, options=options_of(bounds)))
+
+
+def compiled_answers(program, bounds, text, events):
+    """What `run` answers, and what `exec` answers on what `compile` writes."""
+    options = options_of(bounds)
+    yield answer_of(program.run('run', text, events, options=options))
+    compiled = program.run('compile', text)
+    if compiled.returncode == 0:
+        yield answer_of(program.run('exec', compiled.stdout, events, options=options))
+    else:
+        yield answer_of(compiled)
+
+
+def wrong_compiled(program, runs):
+    for bounds, text, events in runs:
+        answer = rules_answer(program, bounds, tables.unescaped(text), tables.unescaped(events))
+        for other in compiled_answers(program, bounds, tables.unescaped(text), tables.unescaped(events)):
+            if other != answer:
+                yield '%s\t%s\t%s: %s instead of %s' % (bounds, text, events, other, answer)
 
 
 def doc_rows(page):
     with open(page, encoding='utf-8') as file:
         for line in file:
             found = re.fullmatch(r'\| `(chart .*)` \| `(chart [0-9]+:[0-9]+: .*|ok .*)` \|\n', line)
-            if found and '25 NotBuilt' not in found[2]:
+            if found:
                 yield found[1].replace('\\|', '|'), found[2]
 
 
@@ -71,12 +103,13 @@ def wrong_traces(program, folder):
         stem, end = os.path.splitext(os.path.join(folder, name))
         if end == '.chart':
             chart, events, trace = (open(stem + kind, 'rb').read() for kind in ('.chart', '.events', '.trace'))
-            if program.run('rules', chart, events).stdout != trace:
-                yield stem
+            for command in ('rules', 'run'):
+                if program.run(command, chart, events).stdout != trace:
+                    yield stem + ': ' + command
 
 
 def main(words):
-    if len(words) < 2 or words[1] not in ('check', 'rules', 'docs', 'traces'):
+    if len(words) < 2 or words[1] not in ('check', 'rules', 'compiled', 'docs', 'traces'):
         sys.stderr.write(__doc__ + '\n')
         return 2
     with tempfile.TemporaryDirectory() as folder:
@@ -87,7 +120,9 @@ def main(words):
             if words[1] == 'check':
                 print(check_answer(program, tables.unescaped(fields[0])))
             else:
-                print(rules_answer(program, tables.unescaped(fields[1]), tables.unescaped(fields[2])))
+                print(rules_answer(program, fields[0], tables.unescaped(fields[1]), tables.unescaped(fields[2])))
+        if words[1] == 'compiled':
+            wrong = list(wrong_compiled(program, (line.rstrip('\n').split('\t') for line in sys.stdin)))
         if words[1] == 'docs':
             wrong = list(wrong_docs(program, words[2:]))
         if words[1] == 'traces':

@@ -1,0 +1,120 @@
+#!/usr/bin/env python3
+"""Generated cases from the rules in words alone: `generated_cases.py chart N` writes the chart text of case N and
+`generated_cases.py events N` its event file. N is a number below 2 ** 32.
+
+A number s is N modulo 2 ** 31 at first. draw(k) sets s to (s * 1103515245 + 12345) modulo 2 ** 31 and gives s // 65536
+modulo k. Drawn are first the number of regions, 2 + draw(4), and the number of states of each region, 3 + draw(60); then for
+each region the two bounds and the state of its junction, and the four numbers of each of its states; then the two numbers of
+each of 20,000 event lines. Every line of both texts ends with byte 10.
+
+`generated_cases.py --against PROGRAM N ..` compares the line that `PROGRAM selftest N` writes with the counts that
+`PROGRAM check` and `PROGRAM rules` give for these two texts, and prints each that differs."""
+import os
+import subprocess
+import sys
+import tempfile
+
+EVENT_LINES = 20_000
+
+
+class Draws:
+    def __init__(self, number):
+        self.s = number % 2**31
+
+    def draw(self, k):
+        self.s = (self.s * 1103515245 + 12345) % 2**31
+        return self.s // 65536 % k
+
+
+def chart_of(draws):
+    """The lines of the chart: an AND of regions, each with a datum and a local event of its own. A state sends the local
+    event of the next region, and in the last region nothing."""
+    regions = 2 + draws.draw(4)
+    states = 3 + draws.draw(60)
+    lines = ["chart G and {"]
+    lines += [f"event input e{e};" for e in range(4)]
+    lines += [f"event local l{i};" for i in range(regions)]
+    lines += ["input x : int16;"]
+    lines += [f"local n{i} : int32 wrap;" for i in range(regions)]
+    for i in range(regions):
+        t = draws.draw(200)
+        u = draws.draw(states)
+        v = draws.draw(200)
+        lines.append(f"state r{i} or {{")
+        lines.append("default -> s0;")
+        lines.append(f"junction j {{ [x > {t}] -> s{u}; [x < {v}] -> @z; }}")
+        lines.append("junction z { }")
+        for k in range(states):
+            a = draws.draw(4)
+            b = draws.draw(states)
+            c = draws.draw(9)
+            d = draws.draw(states)
+            send = "" if i == regions - 1 else f" {{ send l{i + 1}; }}"
+            lines.append(f"state s{k} {{")
+            lines.append(f"entry {{ n{i} = n{i} + {c}; }}")
+            lines.append(f"outer e{a} {{ n{i} = n{i} + 1; }} -> @j;")
+            lines.append(f"outer e{(a + 1) % 4}{send} -> s{b};")
+            lines.append(f"outer l{i} / {{ n{i} = n{i} * 3; }} -> s{d};")
+            lines.append("}")
+        lines.append("}")
+    lines.append("}")
+    return lines
+
+
+def events_of(draws):
+    """The event lines: one of four events, or a tick, with a value of x from -100 to 99."""
+    lines = []
+    for _ in range(EVENT_LINES):
+        e = draws.draw(5)
+        y = draws.draw(200)
+        lines.append(f"{'tick' if e == 4 else f'e{e}'} x={y - 100}")
+    return lines
+
+
+def texts_of(number):
+    """Chart text and event file of a case."""
+    draws = Draws(number)
+    chart = chart_of(draws)
+    return tuple("".join(line + "\n" for line in lines).encode("ascii") for lines in (chart, events_of(draws)))
+
+
+def line_of(program, number, folder):
+    """The line of `selftest`, from what the commands `check` and `rules` of the program write of the two texts."""
+    names = [os.path.join(folder, name) for name in ("chart", "events")]
+    for name, text in zip(names, texts_of(number)):
+        with open(name, "wb") as file:
+            file.write(text)
+    counts = subprocess.run([program, "check", names[0]], capture_output=True, check=True).stdout.split()
+    trace = subprocess.run([program, "rules", *names], capture_output=True).stdout
+    lines = trace.decode("ascii").splitlines()
+    result = lines[-1].split(" ", 5)[5]
+    return f"selftest {number}: {int(counts[1])} states, {len(lines) - 1} events, {len(trace)} trace bytes, {result}\n"
+
+
+def differences(program, numbers):
+    with tempfile.TemporaryDirectory() as folder:
+        for number in numbers:
+            expected = line_of(program, number, folder)
+            written = subprocess.run([program, "selftest", str(number)], capture_output=True).stdout.decode("ascii")
+            if written != expected:
+                yield f"{written!r} instead of {expected!r}"
+
+
+def is_number(word):
+    return word.isdigit() and int(word) < 2**32
+
+
+def main(words):
+    if len(words) > 2 and words[0] == "--against" and all(map(is_number, words[2:])):
+        wrong = list(differences(os.path.abspath(words[1]), map(int, words[2:])))
+        for line in wrong:
+            print(line)
+        return 1 if wrong else 0
+    if len(words) != 2 or words[0] not in ("chart", "events") or not is_number(words[1]):
+        sys.exit(__doc__)
+    sys.stdout.buffer.write(texts_of(int(words[1]))[words[0] == "events"])
+    return 0
+
+
+if __name__ == "__main__":
+    sys.exit(main(sys.argv[1:]))

@@ -12,7 +12,7 @@ MIB = 1 << 20
 
 
 def chart(size):
-    """A flat chart of that many bytes: 64 events, 64 states, 1,024 transitions with names of 60 bytes, and blanks."""
+    """A chart of that many bytes: 64 events, 64 states, 1,024 transitions with names of 60 bytes, and blanks."""
     events = ['E%02d%s' % (i, 'e' * 57) for i in range(64)]
     states = ['S%02d%s' % (i, 's' * 57) for i in range(64)]
     lines = ['chart Bench or {'] + ['event input %s;' % e for e in events] + ['default -> %s;' % states[0]]

@@ -1,6 +1,7 @@
 //! Reads a chart text to the chart that may be run, or finds its first fault.
 //!
-//! Read `specs/Accepted.antt`: which texts are accepted, and which fault of another one is the first.
+//! Read `specs/Accepted.antt`: which texts are accepted, and which fault of another one is the
+//! first.
 #![tactic(auto)]
 
 ghost use Rattle.std.specs.Prelude.{◌≡◌, IfOk, IfErr};
@@ -20,9 +21,9 @@ use std::alloc::Global;
 
 /// The chart of a text that has no fault.
 ///
-/// A text that has one is refused with its first fault: TextTooLong, else the first fault of reading,
-/// else of names, else of types, else of structure, else of the number of pairs; in each pass by
-/// place, and at one place by number.
+/// A text that has one is refused with its first fault: TextTooLong, else the first fault of
+/// reading, else of names, else of types, else of structure, else of the number of pairs; in each
+/// pass by place, and at one place by number.
 pub fn accept_chart(alloc: Global, text: &[u8]) -> Result<Chart, FormFault>
     ensures accepted { IfOk result (λ c. IsAccepted text.now (chart_of c)) }
     ensures refused { IfErr result (Refuses text.now) }

@@ -58,7 +58,8 @@ pub fn children_stand_in_order()
 {}
 
 /// Marking a state that can be marked keeps marks consistent, and so do clearing a bare one and
-/// keeping a child of an OR. Marking and clearing change whether that state is active, and no other.
+/// keeping a child of an OR. Marking and clearing change whether that state is active, and no
+/// other.
 pub fn marks_stay_consistent()
     ensures mark { (t : Tree) (marks : Configuration) (s : ℕ) → IsConsistent t marks →
         IsTrue (can_mark t s marks) → IsConsistent t (with_mark s true marks) }

@@ -23,15 +23,15 @@ use std::alloc::Global;
 /// process ends.
 ///
 /// `check CHART` writes how many states, junctions, transitions and pairs the accepted chart of the
-/// file has. `fmt CHART` writes the canonical text of the chart of the file. `rules CHART EVENTS` runs
-/// the accepted chart of the first file by the rules over the events of the second and writes the
-/// trace. `compile CHART` writes the text of the code of the accepted chart of the file, which runs as
-/// the chart. `exec CODE EVENTS` runs the code of the first file over the events of the second and writes the
-/// trace. `run CHART EVENTS` compiles the accepted chart of the first file and runs the text of its
-/// code as `exec` does. `upgrade CODE` writes the text of format 2 of the code of the file.
-/// `selftest N` runs generated case N by the rules and writes one line of counts. `rules`, `exec` and
-/// `run` take the bounds `--depth` and `--steps`. All other words are refused as Usage. Any words may
-/// end in Memory before anything is read.
+/// file has. `fmt CHART` writes the canonical text of the chart of the file. `rules CHART EVENTS`
+/// runs the accepted chart of the first file by the rules over the events of the second and writes
+/// the trace. `compile CHART` writes the text of the code of the accepted chart of the file, which
+/// runs as the chart. `exec CODE EVENTS` runs the code of the first file over the events of the
+/// second and writes the trace. `run CHART EVENTS` compiles the accepted chart of the first file
+/// and runs the text of its code as `exec` does. `upgrade CODE` writes the text of format 2 of the
+/// code of the file. `selftest N` runs generated case N by the rules and writes one line of counts.
+/// `rules`, `exec` and `run` take the bounds `--depth` and `--steps`. All other words are refused
+/// as Usage. Any words may end in Memory before anything is read.
 pub fn chart_main<I: Inputs, O: Sink, E: Sink>(
     alloc: Global,
     words: &[String],

@@ -17,8 +17,8 @@ ghost use Rattle.chart_layout.specs.Places.{numbers, list_numbers, total, parts_
 ghost use Rattle.chart_layout.specs.Places.{below_total, reached_total};
 ghost use Rattle.chart_layout.specs.ReachedJunctions.{reached, AreReached};
 
-/// The states strictly below a state are those that follow it, up to its end, and no other number is
-/// its end.
+/// The states strictly below a state are those that follow it, up to its end, and no other number
+/// is its end.
 pub fn states_below_a_state_follow_it()
     ensures end { (t : Tree) (s : ℕ) → IsTree t → s < state_count t → IsEnd t s (end_of t s) }
     ensures only { (t : Tree) (s e : ℕ) → IsTree t → s < state_count t → IsEnd t s e

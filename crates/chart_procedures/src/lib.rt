@@ -2,10 +2,10 @@
 //!
 //! A chart has procedures for its states and for its lists. Read `specs/Numbers.antt`, which
 //! procedures there are; `specs/StateProcedures.antt` and `specs/ListProcedures.antt`, the
-//! instructions of each; `specs/Kinds.antt`, what each kind does; and `specs/Compiled.antt`, code in
-//! which the procedures of a chart stand at their numbers. The public calls are laws: in such code
-//! each procedure does its piece of work of the rules, and so the code has the runs of the chart.
-//! Nothing is said here of how the numbers are chosen.
+//! instructions of each; `specs/Kinds.antt`, what each kind does; and `specs/Compiled.antt`, code
+//! in which the procedures of a chart stand at their numbers. The public calls are laws: in such
+//! code each procedure does its piece of work of the rules, and so the code has the runs of the
+//! chart. Nothing is said here of how the numbers are chosen.
 #![tactic(auto)]
 
 mod laws;

@@ -106,9 +106,9 @@ fn without_comments<'a>(alloc: Global, tokens: &[Token<'a>]) -> Result<Vec<Token
 
 /// The chart that the text spells.
 ///
-/// A text of over `CHART_TEXT_LIMIT` bytes is `TextTooLong` at its first byte, before all else. Any other
-/// text that is no chart text is refused at its first token, byte or end that doesn't continue one
-/// within the limits, with the fault that it has there.
+/// A text of over `CHART_TEXT_LIMIT` bytes is `TextTooLong` at its first byte, before all else. Any
+/// other text that is no chart text is refused at its first token, byte or end that doesn't
+/// continue one within the limits, with the fault that it has there.
 pub fn read_chart(alloc: Global, text: &[u8]) -> Result<ChartText, FormFault>
     // What is read is the chart that the text spells.
     ensures found { IfOk result (λ c. Spells text.now (chart_of c)) }

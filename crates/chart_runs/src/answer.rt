@@ -7,9 +7,10 @@ use flow_base::Bounds;
 use std::alloc::Global;
 use table_texts::{Escaped, unescape};
 
-/// The answer to a line: of one field, a chart text, the line that `check` writes of it; of three fields, with
-/// a tab between two of them, the bounds of a run (`DEPTH STEPS`, or `-` for the usual ones), a chart
-/// text and an event file, the status, standard output and standard error of that run.
+/// The answer to a line: of one field, a chart text, the line that `check` writes of it; of three
+/// fields, with a tab between two of them, the bounds of a run (`DEPTH STEPS`, or `-` for the usual
+/// ones), a chart text and an event file, the status, standard output and standard error of that
+/// run.
 pub fn answer_line(alloc: Global, line: &str) -> Result<String, Refusal> {
     let Some((bounds, texts)) = line.split_once('\t') else {
         return check(alloc, text_of(alloc, line)?);

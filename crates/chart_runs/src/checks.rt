@@ -15,8 +15,8 @@ const PIECE_SIZE: usize = 4096;
 /// The most bytes of an answer.
 const LINE_LIMIT: usize = 200;
 
-/// The line that `check` writes of a chart text, on standard output or on standard error, and after it
-/// the first fault of the text where the line has another one.
+/// The line that `check` writes of a chart text, on standard output or on standard error, and after
+/// it the first fault of the text where the line has another one.
 pub fn check(alloc: Global, text: Vec<u8>) -> Result<String, Refusal> {
     let fault = match chart_fault(alloc, text.as_slice())? {
         Some(fault) => format!(in alloc; "{fault}")?,

@@ -1,6 +1,6 @@
 //! Answers a table of chart texts and of runs: one a line of standard input, one answer a line of
-//! standard output. `checks/chart_check.py` and `checks/chart_rules.py` work the same answers out from
-//! rules in words.
+//! standard output. `checks/chart_check.py` and `checks/chart_rules.py` work the same answers out
+//! from rules in words.
 #![tactic(auto)]
 
 mod answer;

@@ -61,12 +61,15 @@ path_place (name ∷ names) = name.at
 
 -- ---- names, each by its number; p has the scopes, and s is the state in which the name stands
 
+-- the name of an event or a datum
 abbrev pub declared_ref : Scopes → NameText → Ref
 declared_ref p name = record { number = meaning_number (meaning_of p name.text); at = name.at }
 
+-- the path of a state
 abbrev pub state_ref : Scopes → ℕ → Path → Ref
 state_ref p s path = record { number = state_or_zero (state_at p s path); at = path_place path }
 
+-- the name of a junction
 abbrev pub junction_ref : Scopes → ℕ → NameText → Ref
 junction_ref p s name = record { number = number_or_zero (junction_at p s name.text); at = name.at }
 

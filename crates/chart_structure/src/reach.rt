@@ -14,12 +14,13 @@ use std::alloc::{AllocError, Global};
 pub struct Reach {
     /// The junctions.
     pub found: Vec<u32>,
-    /// How many transitions stand in the list and in these junctions, or 2^64 - 1 where there are more.
+    /// How many transitions stand in the list and in these junctions, or 2^64 - 1 where there are
+    /// more.
     pub pairs: u64,
 }
 
-/// The junctions reached from a list, which get the mark, and how many transitions stand in the list
-/// and in them. No junction has the mark yet. Fails only where memory does.
+/// The junctions reached from a list, which get the mark, and how many transitions stand in the
+/// list and in them. No junction has the mark yet. Fails only where memory does.
 pub fn reached_from(
     alloc: Global,
     net: &Net,

@@ -43,7 +43,6 @@ form_number forms.InnerLeaves = 22
 form_number forms.CrossesRegions = 23
 form_number forms.TooManyPairs = 24
 form_number forms.HistoryUnwanted = 26
-form_number forms.NotBuilt = 25
 
 -- the name of a kind of fault
 abbrev pub form_name : FormKind → List ℕ
@@ -79,7 +78,6 @@ form_name forms.InnerLeaves = codes "InnerLeaves"
 form_name forms.CrossesRegions = codes "CrossesRegions"
 form_name forms.TooManyPairs = codes "TooManyPairs"
 form_name forms.HistoryUnwanted = codes "HistoryUnwanted"
-form_name forms.NotBuilt = codes "NotBuilt"
 
 -- a text that is too long is refused at its first byte, before all other faults
 pub record IsTooLong (text : List ℕ) (kind : FormKind) (at : Span) : Type 0 where

@@ -27,21 +27,22 @@ pub enum FormKind {
     NestTooDeep,
     /// One more of these things than the limit allows.
     TooMany(Thing),
-    /// An earlier event or datum, an earlier sibling state, or an earlier junction of the same state
-    /// has this name.
+    /// An earlier event or datum, an earlier sibling state, or an earlier junction of the same
+    /// state has this name.
     NameTwice,
     /// There is no such datum, event, junction or state.
     UnknownName,
     /// A datum where an event is wanted, or the reverse.
     WrongKind,
-    /// Operands that don't match the operator, a guard that isn't a flag, or a value of the other sort.
+    /// Operands that don't match the operator, a guard that isn't a flag, or a value of the other
+    /// sort.
     TypeClash,
     /// An expression of over 100 bits, or of over 64 bits after the point.
     TooWide,
     /// An assignment to an input.
     AssignsInput,
-    /// A trigger that is an output event, a `send` of an event that isn't local, or an `emit` of one
-    /// that isn't output.
+    /// A trigger that is an output event, a `send` of an event that isn't local, or an `emit` of
+    /// one that isn't output.
     EventKind,
     /// A first number that isn't a value of the type.
     InitRange,
@@ -51,8 +52,8 @@ pub enum FormKind {
     DefaultMissing,
     /// Default transitions in an AND or a leaf.
     DefaultUnwanted,
-    /// A default list, or a junction reached from one, doesn't end in a transition without event and
-    /// guard.
+    /// A default list, or a junction reached from one, doesn't end in a transition without event
+    /// and guard.
     DefaultOpen,
     /// From a default list a state is reached that isn't below its state.
     DefaultLeaves,
@@ -60,12 +61,11 @@ pub enum FormKind {
     InnerLeaves,
     /// From an outer or inner list a state is reached whose home isn't an OR.
     CrossesRegions,
-    /// Over 32,768 pairs of a list and a transition that stands in it or in a junction reached from it.
+    /// Over 32,768 pairs of a list and a transition that stands in it or in a junction reached from
+    /// it.
     TooManyPairs,
     /// The word `history` in an AND or a leaf.
     HistoryUnwanted,
-    /// A token, a byte or a name that can't stand at this place of a flat chart.
-    NotBuilt,
 }
 
 impl FormKind {
@@ -112,7 +112,6 @@ impl FormKind {
             FormKind::CrossesRegions => 23,
             FormKind::TooManyPairs => 24,
             FormKind::HistoryUnwanted => 26,
-            FormKind::NotBuilt => 25,
         }
     }
 
@@ -153,7 +152,6 @@ impl FormKind {
             FormKind::CrossesRegions => "CrossesRegions",
             FormKind::TooManyPairs => "TooManyPairs",
             FormKind::HistoryUnwanted => "HistoryUnwanted",
-            FormKind::NotBuilt => "NotBuilt",
         }
     }
 }

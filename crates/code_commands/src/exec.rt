@@ -45,8 +45,8 @@ pub fn exec_code<I: Inputs, O: Sink>(
     ExecEnd::Ran(run_code(alloc, code, bounds, second, inputs, out))
 }
 
-/// Runs code on the machine, with these bounds, over the events of the file of that name, and writes
-/// the trace.
+/// Runs code on the machine, with these bounds, over the events of the file of that name, and
+/// writes the trace.
 pub fn run_code<I: Inputs, O: Sink>(
     alloc: Global,
     code: Code,

@@ -74,10 +74,11 @@ Reader = ℕ → List ℕ → Option Front
 abbrev pub with_second : Op → Expr → Front → Front
 with_second op first second = record { expr = Bin op first second.expr; left = second.left; rest = second.rest }
 
--- with an operator before it
+-- with a minus before it
 abbrev pub negated : Front → Front
 negated first = record { expr = Neg first.expr; left = first.left; rest = first.rest }
 
+-- with a `!` before it
 abbrev pub denied : Front → Front
 denied first = record { expr = Not first.expr; left = first.left; rest = first.rest }
 

@@ -59,10 +59,11 @@ abbrev pub are_few : ℕ → ℕ → ℕ → Bool
 are_few states vars events =
     nat_le states STATE_LIMIT && (nat_le vars VARIABLE_LIMIT && nat_le events EVENT_LIMIT)
 
--- the name is that of one of the data, of one of the events
+-- the name is that of one of the data
 abbrev pub names_var : List ℕ → List Var → Bool
 names_var name vars = list_any (λ (v : Var). bytes_eq v.name name) vars
 
+-- the name is that of one of the events
 abbrev pub names_event : List ℕ → List EventDecl → Bool
 names_event name events = list_any (λ (e : EventDecl). bytes_eq e.name name) events
 
@@ -106,10 +107,11 @@ abbrev pub has_parents : List RawState → Bool
 has_parents [] = false
 has_parents (first ∷ rest) = is_none first.parent && list_all (λ (s : RawState). is_some s.parent) rest
 
--- the parent of a state, 0 where it has none, and how it is composed
+-- the parent of a state, 0 where it has none
 abbrev pub parent_or_0 : RawState → ℕ
 parent_or_0 s = unwrap_or s.parent 0
 
+-- how a state is composed
 abbrev pub comp_written : RawState → Comp
 comp_written s = s.comp
 

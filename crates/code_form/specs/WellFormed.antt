@@ -57,16 +57,19 @@ unless good kind p i = if good then None else fault_at kind p i
 
 -- ---- BadNumber: what an instruction names is there
 
--- a state, a datum, an event, a procedure
+-- the state is there
 abbrev pub is_state : Known → ℕ → Bool
 is_state K s = nat_lt s (state_count K.tree)
 
+-- the datum is there
 abbrev pub is_datum : Known → ℕ → Bool
 is_datum K v = nat_lt v (length K.names.vars)
 
+-- the event is there
 abbrev pub is_event : Known → ℕ → Bool
 is_event K e = nat_lt e (length K.names.events)
 
+-- the procedure is there
 abbrev pub is_proc : Known → ℕ → Bool
 is_proc K p = nat_lt p K.procs
 
@@ -196,17 +199,19 @@ abbrev pub takes : Var → Sorted → Bool
 takes v (Ok given) = is_assigned v.kind && is_fine (assignment_fault v.sort given)
 takes v (Err fault) = false
 
--- an output event, a local event, and an event that can be current
+-- an output event
 abbrev pub is_output : EventKind → Bool
 is_output event_kinds.Input = false
 is_output event_kinds.Local = false
 is_output event_kinds.Output = true
 
+-- a local event
 abbrev pub is_local : EventKind → Bool
 is_local event_kinds.Input = false
 is_local event_kinds.Local = true
 is_local event_kinds.Output = false
 
+-- an event that can be current
 abbrev pub is_trigger : EventKind → Bool
 is_trigger event_kinds.Input = true
 is_trigger event_kinds.Local = true

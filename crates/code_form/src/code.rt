@@ -16,7 +16,8 @@ pub struct RawState {
     pub name: Text,
 }
 
-/// Code as it is written. States, data, events and procedures are numbered from 0, each in its list.
+/// Code as it is written. States, data, events and procedures are numbered from 0, each in its
+/// list.
 #[derive(Debug, Drop)]
 pub struct RawCode {
     /// The states in pre-order, the root first.

@@ -17,9 +17,9 @@ pub enum CodeKind {
     /// A `Call` to a procedure whose number isn't lower than that of its own procedure.
     CallNotLower,
     /// An expression without a sort, with over 64 operators, or with a literal whose mantissa is
-    /// negative or at least 2^99 or whose fraction is over 32; a `Test` that is no flag; an `Assign`
-    /// to an input, of the other sort or too wide; an `Emit` of an event that is no output event, a
-    /// `Send` or `SendTo` of one that is no local event, a `Current` of an output event.
+    /// negative or at least 2^99 or whose fraction is over 32; a `Test` that is no flag; an
+    /// `Assign` to an input, of the other sort or too wide; an `Emit` of an event that is no output
+    /// event, a `Send` or `SendTo` of one that is no local event, a `Current` of an output event.
     CodeTypes,
     /// A procedure has a height over `HEIGHT_LIMIT`.
     TooHigh,

@@ -1,4 +1,5 @@
-//! Instructions. Procedures, states, data and events are numbers of the code's lists, counted from 0.
+//! Instructions. Procedures, states, data and events are numbers of the code's lists, counted from
+//! 0.
 use actions::Expr;
 
 /// What `Unless` tests. The home is a state that each call in progress has.
@@ -43,8 +44,8 @@ pub enum Instr {
     Unless(u32, Cond),
     /// Passes over that number of instructions.
     Skip(u32),
-    /// Calls a procedure, the first number. The call has the base and the home of its caller, and the
-    /// second number, if there is one, as its note: a procedure for `Play`.
+    /// Calls a procedure, the first number. The call has the base and the home of its caller, and
+    /// the second number, if there is one, as its note: a procedure for `Play`.
     Call(u32, Option<u32>),
     /// Pays one step, and then as `Call`.
     Visit(u32, Option<u32>),
@@ -52,8 +53,9 @@ pub enum Instr {
     /// and calls the procedure of a reaction, with the root as its home and itself as its base.
     /// Where no depth is left that is a fault of the run.
     Send(u32),
-    /// Sends an event, the first number, to a state, the second: as `Send`, but where the state isn't
-    /// active after the step is paid nothing is called, and else the procedure, the third number.
+    /// Sends an event, the first number, to a state, the second: as `Send`, but where the state
+    /// isn't active after the step is paid nothing is called, and else the procedure, the third
+    /// number.
     SendTo(u32, u32, u32),
     /// Runs the notes of the calls above the base in the order of the calls, each where the home is
     /// bare, and pays one step for each.

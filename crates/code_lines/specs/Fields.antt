@@ -121,10 +121,11 @@ set_with v text = option_map (λ x. Assign v x) (expr_of text)
 abbrev pub unless_with : ℕ → List ℕ → Option Instr
 unless_with k text = option_map (λ c. Unless k c) (cond_of text)
 
--- a `call` and a `visit` from their note on
+-- a `call` from its note on
 abbrev pub call_with : ℕ → List ℕ → Option Instr
 call_with p text = option_map (λ tag. Call p tag) (note_of text)
 
+-- a `visit` from its note on
 abbrev pub visit_with : ℕ → List ℕ → Option Instr
 visit_with p text = option_map (λ tag. Visit p tag) (note_of text)
 

@@ -10,9 +10,9 @@ ghost use Rattle.code_form.specs.Machine.{Program, Frame, Machine, noted};
 ghost use Rattle.code_form.specs.Reactions.{Leads};
 ghost use Rattle.code_steps.specs.Reach.{Reaches, Falls, Meets, leaves, Any, HasAt, pending};
 
-/// Where code leads to a state without frames its run ends there without a fault, and where it leads
-/// to a fault the run ends with it. So where code meets a piece of work, and no frame is left at its
-/// end, the run of the code ends as the work does.
+/// Where code leads to a state without frames its run ends there without a fault, and where it
+/// leads to a fault the run ends with it. So where code meets a piece of work, and no frame is left
+/// at its end, the run of the code ends as the work does.
 pub fn code_that_meets_work_ends_as_it()
     ensures no_frame { (C : Program) (m m' : Machine) → Reaches C m m' → m'.frames ≡ []
         → Leads C m (record { world = m'.world; fault = None }) }

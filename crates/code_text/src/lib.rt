@@ -1,8 +1,8 @@
 //! The text of code, in two formats: printed and read exactly.
 //!
 //! Read `specs/Spelling.antt` first, the one spelling of code in each format, and then
-//! `specs/Reading.antt`, which line can stand where and which fault is the first. What one line says
-//! is in the crates below, `code_lines` and `code_fields`.
+//! `specs/Reading.antt`, which line can stand where and which fault is the first. What one line
+//! says is in the crates below, `code_lines` and `code_fields`.
 #![tactic(auto)]
 
 mod counts;

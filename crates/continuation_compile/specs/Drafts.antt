@@ -10,14 +10,15 @@ use Rattle.continuation_compile.specs.declared.blocks.Lasting.{Lasting}
 use Rattle.continuation_compile.specs.declared.blocks.Lasting.TheVariants.{On, Bare}
 use Rattle.continuation_compile.specs.declared.draft.Draft.{Draft}
 
--- statements, and instructions
+-- the statements of a block
 abbrev pub Stmts : Type 0
 Stmts = List Stmt
 
+-- the instructions of a procedure
 abbrev pub Instrs : Type 0
 Instrs = List Instr
 
--- the instructions of a procedure
+-- the instructions of a procedure, as values of the definitions
 abbrev pub code_seen : Listed DeclaredInstr → List Instr
 code_seen code = instrs_of (items_of code)
 

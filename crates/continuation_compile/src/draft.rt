@@ -55,7 +55,8 @@ pub fn put_require(code: &mut List<Instr>, cond: Cond) -> Result<(), Memory>
     put_return(code, 1)
 }
 
-/// Appends a test: what follows is for where the condition doesn't hold, else the procedure returns.
+/// Appends a test: what follows is for where the condition doesn't hold, else the procedure
+/// returns.
 pub fn put_refuse(code: &mut List<Instr>, cond: Cond) -> Result<(), Memory>
     ensures { OnOk result (code_seen code.new
         ≡ code_seen code.old ++ templates.refuse (cond_of cond) []) }

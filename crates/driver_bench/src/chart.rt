@@ -8,8 +8,8 @@ use std::alloc::{AllocError, Global};
 /// The bytes that all names have after their first one.
 const MIDDLE: &str = "abcdefghijklmnopqrstuvwxyzabcdefghijklmnopqrstuvwxyzabcdef";
 
-/// What a chart declares that has `count` input events, and as many flags that are inputs. Each name
-/// has 63 bytes where the count is at most 10,000, and names differ in their last bytes alone.
+/// What a chart declares that has `count` input events, and as many flags that are inputs. Each
+/// name has 63 bytes where the count is at most 10,000, and names differ in their last bytes alone.
 pub fn wide_chart(alloc: Global, count: u32) -> Result<Names, Refusal> {
     let mut events = Vec::new(alloc);
     let mut vars = Vec::new(alloc);

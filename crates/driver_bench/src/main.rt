@@ -1,6 +1,6 @@
-//! Runs over a file what `bench/driver.py` measures: `drive FILE` drives the engine of `sample_engine`
-//! over its event lines and writes the trace, `copy FILE` copies its bytes, and `lines COUNT FILE`
-//! reads its event lines for a chart with that many events and data.
+//! Runs over a file what `bench/driver.py` measures: `drive FILE` drives the engine of
+//! `sample_engine` over its event lines and writes the trace, `copy FILE` copies its bytes, and
+//! `lines COUNT FILE` reads its event lines for a chart with that many events and data.
 #![tactic(auto)]
 
 mod chart;

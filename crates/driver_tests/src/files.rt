@@ -90,8 +90,8 @@ fn files_are_answered(rt: HostRuntime) -> Result<(), Fail> {
     Ok(())
 }
 
-/// A run over that text, in pieces of that size, has that answer, and that trace after the line with
-/// index 0.
+/// A run over that text, in pieces of that size, has that answer, and that trace after the line
+/// with index 0.
 fn shows(
     rt: &impl Abort,
     alloc: Global,

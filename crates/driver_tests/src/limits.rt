@@ -7,7 +7,8 @@ use std::test::Fail;
 use step_driver::DriveEnd;
 use step_text::LineFault;
 
-/// A file of `GO` and then a second line of that many bytes, all of them `byte`, and `tail` after it.
+/// A file of `GO` and then a second line of that many bytes, all of them `byte`, and `tail` after
+/// it.
 fn text(alloc: Global, byte: u8, count: usize, tail: &str) -> Result<Vec<u8>, AllocError> {
     let mut bytes = Vec::from_slice(alloc, b"GO\n")?;
     for _place in 0..count {

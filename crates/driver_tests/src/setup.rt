@@ -9,8 +9,8 @@ use std::alloc::Global;
 use step_driver::{DriveEnd, drive};
 use step_text::{InputVals, LineReader};
 
-/// Runs the sample chart, whose event `GO` puts out `DONE` twice, over the file `events`. Its numbers
-/// have that scale.
+/// Runs the sample chart, whose event `GO` puts out `DONE` twice, over the file `events`. Its
+/// numbers have that scale.
 pub fn run<I: Inputs, O: Sink>(
     alloc: Global,
     scale: Scale,

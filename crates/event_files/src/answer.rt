@@ -7,8 +7,8 @@ use crate::worlds::answer_world;
 use std::alloc::Global;
 use table_texts::unescape;
 
-/// The answer to the case of a line: its declarations, each with a tab after it, and then `file` with
-/// the text of an event file, or `world` with what a trace line tells besides the values.
+/// The answer to the case of a line: its declarations, each with a tab after it, and then `file`
+/// with the text of an event file, or `world` with what a trace line tells besides the values.
 pub fn answer_line(alloc: Global, line: &str) -> Result<String, Refusal> {
     let Some((declarations, question)) = line.rsplit_once('\t') else {
         return Err(Refusal::NotACase);

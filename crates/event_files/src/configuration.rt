@@ -9,8 +9,8 @@ use crate::words::read_number;
 use active_config::{Comp, Marks, Shape};
 use std::alloc::Global;
 
-/// The marks after the states of a list, with commas between them, were marked one after another. The
-/// list is `-` where no state is active.
+/// The marks after the states of a list, with commas between them, were marked one after another.
+/// The list is `-` where no state is active.
 pub fn read_marks(alloc: Global, shape: &Shape, list: &str) -> Result<Marks, Refusal>
     ensures { IfOk result (λ marks. IsConsistent shape.now marks) }
 {
@@ -28,8 +28,8 @@ pub fn read_marks(alloc: Global, shape: &Shape, list: &str) -> Result<Marks, Ref
     Ok(marks)
 }
 
-/// Whether a state can be marked: it isn't active, its parent is or it has none, and a parent that is
-/// an OR has no active child.
+/// Whether a state can be marked: it isn't active, its parent is or it has none, and a parent that
+/// is an OR has no active child.
 fn can_mark(shape: &Shape, marks: &Marks, state: u32) -> bool
     requires state { state < state_count shape.now }
     requires consistent { IsConsistent shape.now marks.now }

@@ -46,8 +46,8 @@ impl fmt::Display for Stop {
     }
 }
 
-/// The events of a file, each as `line NUMBER EVENT` with `NAME=MANTISSA` for each input that the line
-/// names, and then `stop` and how the file stops, with a tab between two of them.
+/// The events of a file, each as `line NUMBER EVENT` with `NAME=MANTISSA` for each input that the
+/// line names, and then `stop` and how the file stops, with a tab between two of them.
 pub fn answer_file(alloc: Global, names: &Names, text: Vec<u8>) -> Result<String, Refusal>
     requires vars { length (names_of names.now).vars < 2 ^ 32 }
     requires events { length (names_of names.now).events < 2 ^ 32 }

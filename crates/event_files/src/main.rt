@@ -1,5 +1,5 @@
-//! Answers a table of event files and of worlds: one case a line of standard input, one answer a line
-//! of standard output. `checks/event_lines.py` works the same answers out from rules in words.
+//! Answers a table of event files and of worlds: one case a line of standard input, one answer a
+//! line of standard output. `checks/event_lines.py` works the same answers out from rules in words.
 #![tactic(auto)]
 
 mod answer;

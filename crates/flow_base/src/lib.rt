@@ -1,11 +1,11 @@
 //! What most other crates use: texts and lists, of whose bytes and items contracts speak, the
 //! bounds and the faults of a run, the status of the program, and the sources and sinks of bytes.
 //!
-//! Read `specs/Causes.antt` and `specs/Bytes.antt` first: they say what a source and a sink promise.
+//! Read `specs/Causes.antt` and `specs/Bytes.antt` first: they say what a source and a sink
+//! promise.
 #![tactic(auto)]
 
 mod bounds;
-mod event;
 mod fault;
 mod inputs;
 mod list;
@@ -25,7 +25,6 @@ mod text;
 mod whole;
 
 pub use bounds::{Bounds, DEPTH_LIMIT, STEP_LIMIT};
-pub use event::FlatEvent;
 pub use fault::Fault;
 pub use inputs::{Failed, Inputs};
 pub use list::List;

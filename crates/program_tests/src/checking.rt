@@ -12,8 +12,8 @@ fn counts(rt: HostRuntime) -> Result<(), Fail> {
             "chart C and { state A { } state B { } }",
             "ok 3 states 0 junctions 0 transitions 0 pairs\n",
         ),
-        // The list of A and the list of the root both reach j, whose two transitions make a pair with
-        // each of them.
+        // The list of A and the list of the root both reach j, whose two transitions make a pair
+        // with each of them.
         (
             "chart C or { inner -> @j; default -> A; junction j { [true] -> A; -> B; }\
              state A { outer -> @j; } state B { } }",

@@ -28,13 +28,15 @@ IfThere has (Some x) = has x
 
 -- ---- numbers in range
 
--- an event, a datum, a state or a junction of that number is there
+-- an event of that number is there
 abbrev pub IsEvent : Resolved → Ref → Type 0
 IsEvent r e = e.number < length r.names.events
 
+-- a datum of that number is there
 abbrev pub IsDatum : Resolved → Ref → Type 0
 IsDatum r v = v.number < length r.names.vars
 
+-- a state of that number is there
 abbrev pub IsState : Resolved → Ref → Type 0
 IsState r s = s.number < state_count r.tree
 

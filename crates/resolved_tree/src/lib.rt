@@ -1,9 +1,9 @@
 //! A resolved chart: a chart text in which each name and path is replaced by its number.
 //!
 //! The states stand in one list in pre-order, and the junctions in the order in which their names
-//! stand in the text. Read `specs/Resolved.antt` first, then `specs/Plain.antt`, the chart for which
-//! a resolved chart stands, and `specs/Promise.antt`, what holds of every resolved chart that comes
-//! from a chart text.
+//! stand in the text. Read `specs/Resolved.antt` first, then `specs/Plain.antt`, the chart for
+//! which a resolved chart stands, and `specs/Promise.antt`, what holds of every resolved chart that
+//! comes from a chart text.
 #![tactic(auto)]
 
 mod laws;

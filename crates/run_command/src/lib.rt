@@ -1,7 +1,7 @@
 //! The command `run`, for charts that are accepted.
 //!
-//! Read `specs/Run.antt`. The law says that `exec` writes of compiled code what the rules say of its
-//! chart.
+//! Read `specs/Run.antt`. The law says that `exec` writes of compiled code what the rules say of
+//! its chart.
 #![tactic(auto)]
 
 mod laws;

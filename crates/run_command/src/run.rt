@@ -28,9 +28,9 @@ pub enum RunEnd {
     Ran(TraceEnd),
 }
 
-/// Compiles the chart of the first file, prints its code, reads the printed text again, runs that on
-/// the machine over the events of the second file, with these bounds, and writes the trace. All memory
-/// is taken before the first byte of the trace is written.
+/// Compiles the chart of the first file, prints its code, reads the printed text again, runs that
+/// on the machine over the events of the second file, with these bounds, and writes the trace. All
+/// memory is taken before the first byte of the trace is written.
 pub fn run_compiled<I: Inputs, O: Sink>(
     alloc: Global,
     first: &str,
@@ -51,8 +51,8 @@ pub fn run_compiled<I: Inputs, O: Sink>(
     RunEnd::Ran(run_printed(alloc, &chart, bounds, second, inputs, out))
 }
 
-/// Runs the printed code of a chart, with these bounds, over the events of the file of that name, and
-/// writes the trace.
+/// Runs the printed code of a chart, with these bounds, over the events of the file of that name,
+/// and writes the trace.
 pub fn run_printed<I: Inputs, O: Sink>(
     alloc: Global,
     chart: &Chart,

@@ -36,8 +36,8 @@ pub(crate) struct Measures {
 /// The greatest number of bytes that one read gives.
 const PIECE_SIZE: usize = 4_096;
 
-/// Runs a chart over the events of a text, each with these bounds, and measures the run: as code that
-/// is printed and read again, and by the rules. Both runs have the same measures.
+/// Runs a chart over the events of a text, each with these bounds, and measures the run: as code
+/// that is printed and read again, and by the rules. Both runs have the same measures.
 pub(crate) fn measured(
     alloc: Global,
     chart: Chart,

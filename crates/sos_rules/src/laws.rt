@@ -27,8 +27,8 @@ pub fn one_result()
         → HasOne (λ (m : Moment). Reacts c b w e m.world m.fault) }
 {}
 
-/// After the start the active states are consistent and the root is active, and an event keeps this;
-/// both also where the outcome is a fault.
+/// After the start the active states are consistent and the root is active, and an event keeps
+/// this; both also where the outcome is a fault.
 pub fn stays_consistent()
     ensures start { (c : Chart) (b : Bounds) (w : World) (f : Option Fault) → IsValid c
         → Starts c b w f → IsRunning c w }

@@ -163,8 +163,8 @@ impl Chart {
         self.shape().prev_sibling(state)
     }
 
-    /// Where a child of an AND is entered on the way to `dest`: at `dest`, where that is the child or
-    /// below it, else at the child itself.
+    /// Where a child of an AND is entered on the way to `dest`: at `dest`, where that is the child
+    /// or below it, else at the child itself.
     pub fn path_in(&self, child: u32, dest: u32) -> u32
         requires child { child < state_count (chart_of self.now).tree }
         requires dest { dest < state_count (chart_of self.now).tree }

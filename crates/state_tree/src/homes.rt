@@ -43,8 +43,8 @@ fn common_above(shape: &Shape, state: u32, dest: u32) -> Option<u32>
     None
 }
 
-/// The home of a firing of an outer transition: the lowest state that is strictly above both, or the
-/// root where there is none.
+/// The home of a firing of an outer transition: the lowest state that is strictly above both, or
+/// the root where there is none.
 #[tactic(auto, using(crate::proofs::Walks::tree_some), unfolding(crate::specs::Homes::common_above))]
 pub fn outer_home(shape: &Shape, state: u32, dest: u32) -> u32
     requires tree { trees.IsTree shape.now }

@@ -42,8 +42,8 @@ pub enum DriveEnd {
 }
 
 /// Runs an engine over the events of a file: it starts the engine, and then takes line by line. The
-/// line of the trace for the start, and for each event, is written before the next line of the file is
-/// asked for.
+/// line of the trace for the start, and for each event, is written before the next line of the file
+/// is asked for.
 ///
 /// After `Read`, the trace of the events in the whole lines that were given has been written; after
 /// `Write` a front of the trace, and after `Memory` whole lines of it. After every other answer the

@@ -10,6 +10,7 @@ pub record Held : Type 0 where
   pub bytes : List ℕ
   pub failed : Bool
 
+-- nothing is to be written, and no write failed
 abbrev pub nothing_held : Held
 nothing_held = record { bytes = []; failed = false }
 
@@ -35,6 +36,7 @@ abbrev pub WrittenAt : Bool → Option (List ℕ) → Option (List ℕ) → ℕ 
 WrittenAt false before after f f' text held = Passed before after f f' text held
 WrittenAt true before after f f' text held = CutOff before after f f' text
 
+-- what became of a text, some of which may still be held
 abbrev pub Written : Option (List ℕ) → Option (List ℕ) → ℕ → ℕ → List ℕ → Held → Type 0
 Written before after f f' text held = WrittenAt held.failed before after f f' text held.bytes
 

@@ -44,7 +44,8 @@ pub(crate) enum Cut {
     End,
 }
 
-/// What `held` bytes begin with, of which the first line has `length`, after `at` bytes of the file.
+/// What `held` bytes begin with, of which the first line has `length`, after `at` bytes of the
+/// file.
 pub(crate) fn cut_at(at: u64, length: usize, held: usize) -> Cut
     requires at { at ≤ FILE_LIMIT + 1 }
     requires length { length ≤ held }

@@ -20,8 +20,8 @@ use actions::{Event, EventKind, Names};
 /// Reads a line of an event file: its event, with the values that it names in `vals`, whatever was
 /// there before.
 ///
-/// None where the line is skipped: it has no token, or its first token begins with `#`. There and at a
-/// fault `vals` is empty afterwards. It takes no memory.
+/// None where the line is skipped: it has no token, or its first token begins with `#`. There and
+/// at a fault `vals` is empty afterwards. It takes no memory.
 pub fn event_line(
     names: &Names,
     line: &[u8],

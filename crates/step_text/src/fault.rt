@@ -4,8 +4,8 @@ ghost use Rattle.step_text.specs.Faults as spec;
 
 use thiserror::Error;
 
-/// Why a line of an event file is refused: `LineTooLong` before all others, and then the first fault
-/// by tokens from the left, at one token in this order.
+/// Why a line of an event file is refused: `LineTooLong` before all others, and then the first
+/// fault by tokens from the left, at one token in this order.
 #[derive(Clone, Copy, Debug, PartialEq, Eq, Error)]
 pub enum LineFault {
     /// The line has over `LINE_LIMIT` bytes before its newline.

@@ -12,12 +12,13 @@ use std::marker::Model;
 /// The most data that a line names whose numbers are kept.
 const NAMED_LIMIT: usize = 16;
 
-/// The values that one line of an event file names, one for each datum that it names. Beside them it
-/// keeps the numbers of the names of the chart that it was made for.
+/// The values that one line of an event file names, one for each datum that it names. Beside them
+/// it keeps the numbers of the names of the chart that it was made for.
 #[derive(Debug, Drop)]
 pub struct InputVals {
     values: Vec<Option<Value>>,
-    /// The first `count` of these are the numbers of the data that have a value, unless there are more.
+    /// The first `count` of these are the numbers of the data that have a value, unless there are
+    /// more.
     named: [usize; NAMED_LIMIT],
     count: usize,
     /// Whether a datum may have a value whose number isn't kept.

@@ -37,8 +37,8 @@ pub enum LineEnd {
     /// A read failed.
     #[error("read fault")]
     Read,
-    /// The line has over `LINE_LIMIT` bytes before its newline, and the first byte too many is earlier
-    /// than the first byte that the file has no room for.
+    /// The line has over `LINE_LIMIT` bytes before its newline, and the first byte too many is
+    /// earlier than the first byte that the file has no room for.
     #[error("the line is too long")]
     TooLong,
     /// The line, its newline included, holds byte `FILE_LIMIT` + 1 of the file.
@@ -120,9 +120,9 @@ impl LineReader {
 
     /// Takes the next line, and answers true; at the end of the file it answers false.
     ///
-    /// It reads only where the bytes at hand don't tell what comes next, so never while a whole line is
-    /// at hand. It takes no memory. After an error the reader can't be used for another line; `number`
-    /// is then the number of the line that is too long.
+    /// It reads only where the bytes at hand don't tell what comes next, so never while a whole
+    /// line is at hand. It takes no memory. After an error the reader can't be used for another
+    /// line; `number` is then the number of the line that is too long.
     pub fn next_line<I: Inputs>(&mut self, inputs: &mut I, name: &str) -> Result<bool, LineEnd>
         requires { self.old.failed ≡ false }
         ensures next { next.Nexts self.old self.new
@@ -131,7 +131,8 @@ impl LineReader {
             (I.left inputs.old name.now) (I.left inputs.new name.now) result }
         ensures others { OthersKept name.now (I.left inputs.old) (I.left inputs.new) }
 
-        // Read comes only where the count of that name rose, and every other answer leaves every count.
+        // Read comes only where the count of that name rose, and every other answer leaves every
+        // count.
         ensures counts { NoneFalls (I.faults inputs.old) (I.faults inputs.new) }
         ensures cause { next.HasReadCause name.now (I.faults inputs.old) (I.faults inputs.new) result }
     {

@@ -3,8 +3,8 @@ use crate::limits::PIECE_SIZE;
 use flow_base::{Failed, Sink, write_all};
 use std::marker::Model;
 
-/// The bytes of a line that are still to be written, and whether a write failed. After a failed write
-/// nothing more is written.
+/// The bytes of a line that are still to be written, and whether a write failed. After a failed
+/// write nothing more is written.
 #[derive(Drop)]
 pub(crate) struct Pieces {
     buffer: [u8; PIECE_SIZE],

@@ -16,8 +16,8 @@ use actions::{Event, Names, View};
 use flow_base::{Failed, Fault, Sink};
 use itoa::Buffer;
 
-/// Writes the line of a trace for the start or an event: its index, its word, the active states, the
-/// values, what was put out, and how it ended.
+/// Writes the line of a trace for the start or an event: its index, its word, the active states,
+/// the values, what was put out, and how it ended.
 ///
 /// The line goes out in pieces of `PIECE_SIZE` bytes and a rest. An error comes only where a write
 /// failed, and then a front of the line was written that isn't all of it. It takes no memory.

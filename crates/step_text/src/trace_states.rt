@@ -47,7 +47,8 @@ pub(crate) fn put_states<O: Sink>(
     }
 }
 
-/// Puts the path of a state, from the child of the root that it is or is below down to its own name.
+/// Puts the path of a state, from the child of the root that it is or is below down to its own
+/// name.
 fn put_path<O: Sink>(shape: &Shape, names: &Names, state: u32, pieces: &mut Pieces, out: &mut O)
     requires tree { IsTree shape.now }
     requires state { state < state_count shape.now }

@@ -8,8 +8,6 @@
 
 mod arguments;
 mod parser;
-#[cfg(test)]
-mod tests;
 mod words;
 
 pub use words::{Command, command_from};

@@ -91,6 +91,7 @@ fn other_words(rt: HostRuntime) -> Result<(), Fail> {
         "rules --depth 33 c e",
         "rules --depth 0 c e",
         "rules --steps 50001 c e",
+        "rules c e --steps 50001",
         "rules --steps 9 --steps 9 c e",
         "rules c e --depth",
         "rules c e --depth -1",

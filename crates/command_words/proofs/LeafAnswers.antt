@@ -9,8 +9,9 @@ use Rattle.clap.specs.Simple.{rows_at}
 use Rattle.clap.specs.Walk.{Row, first_of, nothing_held, row_text}
 use Rattle.clap.specs.declared.builder.value_parser.ValueParser.{ValueParser}
 use Rattle.clap.specs.declared.builder.value_parser.ValueParser.TheVariants as parsers
+use Rattle.command_words.specs.declared.words.TheConstants.{NUMBER_LIMIT}
 use Rattle.command_words.specs.Numbers.{Text, is_number_in, number_of}
-use Rattle.command_words.specs.Commands.{RunBounds, Command}
+use Rattle.command_words.specs.Commands.{RunBounds, usual_bounds, Command}
 use Rattle.command_words.specs.Options.{Bound, Depth, Steps, limit_of}
 use Rattle.command_words.specs.Reading.{Given, nothing, read_words}
 use Rattle.command_words.specs.Words.{bounds_of, with_one, with_two, with_number}
@@ -60,11 +61,11 @@ first_is id q rows o e = ap (option_and_then (λ (r : Row). slice_get r.values 0
 -- the number of an argument
 number_is : (id : Text) (least most : ℕ) (rows : List Row) (o : Option Text)
     → find (has id) rows ≡ option_map (row id (parsers.Unsigned least most)) o
-    → ((v : Text) → o ≡ Some v → is_number_in 0 4294967295 v ≡ true) → number_at id rows ≡ option_map number_of o
+    → ((v : Text) → o ≡ Some v → is_number_in 0 NUMBER_LIMIT v ≡ true) → number_at id rows ≡ option_map number_of o
 number_is id least most rows o e small =
     ap (λ (x : Option Row). option_and_then number_in (option_and_then row_text x)) e ∙ go o small
   where
-    go : (o : Option Text) → ((v : Text) → o ≡ Some v → is_number_in 0 4294967295 v ≡ true)
+    go : (o : Option Text) → ((v : Text) → o ≡ Some v → is_number_in 0 NUMBER_LIMIT v ≡ true)
         → option_and_then number_in (option_and_then row_text (option_map (row id (parsers.Unsigned least most)) o))
         ≡ option_map number_of o
     go None small = refl
@@ -84,17 +85,18 @@ bound_in bound usual (Some v) e fits =
 bounds_are : (two : Bool) (p : ValueParser) (rows : List Row) (given : Given) → Holds two p rows given
     → bounds_found rows ≡ Some (bounds_of given)
 bounds_are two p rows given h =
-    let low : 32 ≤ 4294967295 = omega arith in
-    let high : 50000 ≤ 4294967295 = omega arith in
+    let low : 32 ≤ NUMBER_LIMIT = omega arith in
+    let high : 50000 ≤ NUMBER_LIMIT = omega arith in
     let depth =
     number_is (codes "depth") 1 (limit_of Depth) rows given.depth h.depth
     (λ v e. small_number 32 v low (h.depth_fits v e)) in
     let steps =
     number_is (codes "steps") 1 (limit_of Steps) rows given.steps h.steps
     (λ v e. small_number 50000 v high (h.steps_fits v e)) in
-    ap₂ (λ (d s : Option ℕ). bounds_with (unwrap_or d 8) (unwrap_or s 10000)) depth steps
-    ∙ ap₂ (λ (a b : Bool). cond (a && b) (Some (bounds_of given)) None) (bound_in Depth 8 given.depth refl h.depth_fits)
-    (bound_in Steps 10000 given.steps refl h.steps_fits)
+    ap₂ (λ (d s : Option ℕ). bounds_with (unwrap_or d usual_bounds.depth) (unwrap_or s usual_bounds.steps)) depth steps
+    ∙ ap₂ (λ (a b : Bool). cond (a && b) (Some (bounds_of given)) None)
+    (bound_in Depth usual_bounds.depth given.depth refl h.depth_fits)
+    (bound_in Steps usual_bounds.steps given.steps refl h.steps_fits)
 
 -- ---- what each command answers
 
@@ -147,34 +149,34 @@ run_answers command (Some given) kinds rows a = go given.files a
 
 -- a command of one number
 pub number_answers : (command : ℕ → Command) (o : Option Given) (kinds : Kinds) (rows : List Row)
-    → Agrees false (parsers.Unsigned 0 4294967295)
-    (option_and_then (exactly false (parsers.Unsigned 0 4294967295)) o) kinds rows
+    → Agrees false (parsers.Unsigned 0 NUMBER_LIMIT)
+    (option_and_then (exactly false (parsers.Unsigned 0 NUMBER_LIMIT)) o) kinds rows
     → Answers (option_and_then (λ given. with_number command given.files) o) kinds (number_found command rows)
 number_answers command None kinds rows a = a
 number_answers command (Some given) kinds rows a = go given.files a
   where
-    small : 4294967295 < 2 ^ 64
+    small : NUMBER_LIMIT < 2 ^ 64
     small = omega arith
 
-    test : (f : Text) (b : Bool) → is_number_in 0 4294967295 f ≡ b
-        → Agrees false (parsers.Unsigned 0 4294967295) (cond b (Some (record given { files = f ∷ [] })) None) kinds rows
+    test : (f : Text) (b : Bool) → is_number_in 0 NUMBER_LIMIT f ≡ b
+        → Agrees false (parsers.Unsigned 0 NUMBER_LIMIT) (cond b (Some (record given { files = f ∷ [] })) None) kinds rows
         → Answers (cond b (Some (command (number_of f))) None) kinds (number_found command rows)
     test f true e a = (
       a.0,
-      ap (option_map command) (number_is (codes "first") 0 4294967295 rows (Some f) a.1.first
-          (λ v same. let is : f ≡ v = cc in subst (λ (x : Text). is_number_in 0 4294967295 x ≡ true) is e)),
+      ap (option_map command) (number_is (codes "first") 0 NUMBER_LIMIT rows (Some f) a.1.first
+          (λ v same. let is : f ≡ v = cc in subst (λ (x : Text). is_number_in 0 NUMBER_LIMIT x ≡ true) is e)),
     )
     test f false e a = a
 
     go : (files : List Text)
-        → Agrees false (parsers.Unsigned 0 4294967295)
-        (exactly false (parsers.Unsigned 0 4294967295) (record given { files = files }))
+        → Agrees false (parsers.Unsigned 0 NUMBER_LIMIT)
+        (exactly false (parsers.Unsigned 0 NUMBER_LIMIT) (record given { files = files }))
         kinds rows
         → Answers (with_number command files) kinds (number_found command rows)
     go [] a = a
-    go (f ∷ []) a = test f (is_number_in 0 4294967295 f) refl
+    go (f ∷ []) a = test f (is_number_in 0 NUMBER_LIMIT f) refl
         (subst
-        (λ (b : Bool). Agrees false (parsers.Unsigned 0 4294967295)
+        (λ (b : Bool). Agrees false (parsers.Unsigned 0 NUMBER_LIMIT)
         (cond b (Some (record given { files = f ∷ [] })) None) kinds rows)
-        (accepts_number 0 4294967295 f small) a)
+        (accepts_number 0 NUMBER_LIMIT f small) a)
     go (f ∷ g ∷ more) a = a

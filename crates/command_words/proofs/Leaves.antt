@@ -9,6 +9,7 @@ use Rattle.clap.specs.Takes.{is_given}
 use Rattle.clap.specs.Walk.{Row, Rule, arg_by_id, has_row, takes_several, with_default}
 use Rattle.clap.specs.declared.builder.value_parser.ValueParser.{ValueParser}
 use Rattle.clap.specs.declared.builder.value_parser.ValueParser.TheVariants as parsers
+use Rattle.command_words.specs.declared.words.TheConstants.{NUMBER_LIMIT}
 use Rattle.command_words.specs.Numbers.{Text}
 use Rattle.command_words.specs.Options.{Bound, Depth, Steps}
 use Rattle.command_words.proofs.RowLemmas.{one_rule}
@@ -92,11 +93,11 @@ file_leaf name = record {
 abbrev pub number_leaf : Text → Leaf
 number_leaf name = record {
   name = name;
-  rules = first_rule (parsers.Unsigned 0 4294967295) ∷ [];
+  rules = first_rule (parsers.Unsigned 0 NUMBER_LIMIT) ∷ [];
   two = false;
-  parser = parsers.Unsigned 0 4294967295;
+  parser = parsers.Unsigned 0 NUMBER_LIMIT;
   bounded = false;
-  is_leaf = one_leaf (parsers.Unsigned 0 4294967295);
+  is_leaf = one_leaf (parsers.Unsigned 0 NUMBER_LIMIT);
 }
 
 -- ---- two files and bounds

@@ -9,6 +9,7 @@ use Rattle.std.proofs.lemmas.Bool.{leb-true, le-leb, lt-ltb, ltb-true}
 use Rattle.clap.specs.ValueTests.{accepts}
 use Rattle.clap.specs.Words.{ReadsOne}
 use Rattle.clap.specs.declared.builder.value_parser.ValueParser.TheVariants as parsers
+use Rattle.command_words.specs.declared.words.TheConstants.{NUMBER_LIMIT}
 use Rattle.command_words.specs.Numbers.{Text, is_number, is_number_in, number_of}
 use Rattle.command_words.specs.Options.{Bound, Depth, Steps, limit_of, begins_with_hyphen}
 
@@ -57,14 +58,14 @@ pub in_range : (least most : ℕ) (text : Text) → is_number_in least most text
 in_range least most text e = both (nat_le least (number_of text)) _ (both (is_number text) _ e).1
 
 -- 32 bits hold the number of a smaller range
-pub small_number : (most : ℕ) (text : Text) → most ≤ 4294967295 → is_number_in 1 most text ≡ true
-    → is_number_in 0 4294967295 text ≡ true
+pub small_number : (most : ℕ) (text : Text) → most ≤ NUMBER_LIMIT → is_number_in 1 most text ≡ true
+    → is_number_in 0 NUMBER_LIMIT text ≡ true
 small_number most text small e =
     let parts = both (is_number text) _ e in
     let ends = in_range 1 most text e in
-    let below : number_of text ≤ 4294967295 = omega (arith, leb-true (number_of text) most ends.1) in
+    let below : number_of text ≤ NUMBER_LIMIT = omega (arith, leb-true (number_of text) most ends.1) in
     let above : 0 ≤ number_of text = omega arith in
-    rw (parts.0, le-leb 0 (number_of text) above, le-leb (number_of text) 4294967295 below) refl
+    rw (parts.0, le-leb 0 (number_of text) above, le-leb (number_of text) NUMBER_LIMIT below) refl
 
 -- no number begins with a hyphen
 pub hyphen_no_number : (least most : ℕ) (word : Text) → begins_with_hyphen word ≡ true
@@ -91,35 +92,35 @@ digits_from (d ∷ ds) e =
 
 -- a numeral below 2 ^ 32 is a number of 32 bits
 passes : (text : Text) → IsNumeral 10 (without_leading_plus text) → number_of text < 2 ^ 32
-    → is_number_in 0 4294967295 text ≡ true
+    → is_number_in 0 NUMBER_LIMIT text ≡ true
 passes text numeral small =
     let above : 0 ≤ number_of text = omega arith in
-    let below : number_of text ≤ 4294967295 = omega arith in
+    let below : number_of text ≤ NUMBER_LIMIT = omega arith in
     rw (
       lt-ltb 0 (length (without_leading_plus text)) numeral.0,
       digits_pass (without_leading_plus text) numeral.1,
       le-leb 0 (number_of text) above,
-      le-leb (number_of text) 4294967295 below,
+      le-leb (number_of text) NUMBER_LIMIT below,
     ) refl
 
 -- a number of 32 bits is a numeral below 2 ^ 32
-numeral_of : (text : Text) → is_number_in 0 4294967295 text ≡ true
+numeral_of : (text : Text) → is_number_in 0 NUMBER_LIMIT text ≡ true
     → IsNumeral 10 (without_leading_plus text) × (number_of text < 2 ^ 32)
 numeral_of text e =
     let parts = both (is_number text) _ e in
     let digits = both (nat_lt 0 (length (without_leading_plus text))) _ parts.0 in
-    let ends = in_range 0 4294967295 text e in
-    let small : number_of text < 2 ^ 32 = omega (arith, leb-true (number_of text) 4294967295 ends.1) in
+    let ends = in_range 0 NUMBER_LIMIT text e in
+    let small : number_of text < 2 ^ 32 = omega (arith, leb-true (number_of text) NUMBER_LIMIT ends.1) in
     ((ltb-true _ _ digits.0, digits_from (without_leading_plus text) digits.1), small)
 
 module _ {E : Type 0} (A B : Text → Result ℕ E → Type 0) where
   -- what is read is the number of 32 bits that the text denotes, if there is one
   pub reads : (text : Text) (r : Option ℕ)
       → ReadsOne (λ bs (x : Result ℕ E). ParsesUnsigned 32 10 bs x × A bs x × B bs x) text r
-      → r ≡ cond (is_number_in 0 4294967295 text) (Some (number_of text)) None
+      → r ≡ cond (is_number_in 0 NUMBER_LIMIT text) (Some (number_of text)) None
   reads text (Some n) h = rw (passes text h.0.0.0 h.0.0.1) (ap Some h.0.1)
-  reads text None h = go (is_number_in 0 4294967295 text) refl
+  reads text None h = go (is_number_in 0 NUMBER_LIMIT text) refl
     where
-      go : (b : Bool) → is_number_in 0 4294967295 text ≡ b → None ≡ cond b (Some (number_of text)) None
+      go : (b : Bool) → is_number_in 0 NUMBER_LIMIT text ≡ b → None ≡ cond b (Some (number_of text)) None
       go true e = absurd (h.1.0 (numeral_of text e))
       go false e = refl

@@ -7,6 +7,10 @@ pub record RunBounds : Type 0 where
   pub depth : ℕ
   pub steps : ℕ
 
+-- the usual bounds, which are those of `Bounds::usual` of `flow_base` and of `CaseRun` of `selftest_command`
+abbrev pub usual_bounds : RunBounds
+usual_bounds = record { depth = 8; steps = 10000 }
+
 -- a command with its files, and with its bounds or its number
 pub data Command : Type 0 where
   -- `check CHART`

@@ -4,12 +4,14 @@ use Rattle.std.specs.Prelude.{if◌then◌else◌, codes}
 use Rattle.std.specs.Str.{bytes_eq}
 use Rattle.flow_base.specs.declared.bounds.TheConstants.{DEPTH_LIMIT, STEP_LIMIT}
 use Rattle.clap.specs.Words.{Row, first_of, one_of}
+use Rattle.command_words.specs.declared.words.TheConstants.{NUMBER_LIMIT}
 use Rattle.command_words.specs.Numbers.{Text, is_number_in, number_of}
-use Rattle.command_words.specs.Commands.{RunBounds, Command, Check, Fmt, Rules, Compile, Exec, Run, Upgrade, Selftest}
+use Rattle.command_words.specs.Commands.{RunBounds, usual_bounds}
+use Rattle.command_words.specs.Commands.{Command, Check, Fmt, Rules, Compile, Exec, Run, Upgrade, Selftest}
 
 -- the number that a text denotes, if it is one of 32 bits
 abbrev pub number_in : Text → Option ℕ
-number_in text = if is_number_in 0 4294967295 text then Some (number_of text) else None
+number_in text = if is_number_in 0 NUMBER_LIMIT text then Some (number_of text) else None
 
 -- the number of an argument
 abbrev pub number_at : Text → List Row → Option ℕ
@@ -21,10 +23,11 @@ bounds_with depth steps =
     if (nat_le 1 depth && nat_le depth DEPTH_LIMIT) && (nat_le 1 steps && nat_le steps STEP_LIMIT)
     then Some (record { depth = depth; steps = steps }) else None
 
--- the bounds of a run, usually a depth of 8 and 10,000 steps
+-- the bounds of a run, the usual ones where they aren't given
 abbrev pub bounds_found : List Row → Option RunBounds
 bounds_found rows =
-    bounds_with (unwrap_or (number_at (codes "depth") rows) 8) (unwrap_or (number_at (codes "steps") rows) 10000)
+    bounds_with (unwrap_or (number_at (codes "depth") rows) usual_bounds.depth)
+    (unwrap_or (number_at (codes "steps") rows) usual_bounds.steps)
 
 -- the two files of a run
 abbrev pub files_found : List Row → Option (Text × Text)

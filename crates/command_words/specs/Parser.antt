@@ -5,15 +5,16 @@ use Rattle.clap.specs.Words.{App, Rule, app_of, new_app, new_rule, with_rule, wi
 use Rattle.clap.specs.declared.builder.command.Command.{Command}
 use Rattle.clap.specs.declared.builder.command.Command.TheViews.{out-Command}
 use Rattle.clap.specs.declared.builder.value_parser.ValueParser.TheVariants as parsers
+use Rattle.command_words.specs.declared.words.TheConstants.{NUMBER_LIMIT}
 use Rattle.command_words.specs.Numbers.{Text}
 
 -- an argument without a name, which must be given; its value may be any text
 abbrev pub file_rule : Text → Rule
 file_rule id = record (new_rule id) { required = true }
 
--- such an argument whose value is a number
+-- such an argument whose value is a number of 32 bits
 abbrev pub number_rule : Text → Rule
-number_rule id = record (file_rule id) { parser = Some (parsers.Unsigned 0 4294967295) }
+number_rule id = record (file_rule id) { parser = Some (parsers.Unsigned 0 NUMBER_LIMIT) }
 
 -- an option of that name whose value is a number from 1 to `most`
 abbrev pub option_rule : Text → ℕ → Rule

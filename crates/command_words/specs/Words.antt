@@ -3,15 +3,17 @@ use Rattle.std.specs.Prelude.{ℕ, true, false, List, [], ◌∷◌, map, Option
 use Rattle.std.specs.Prelude.{unwrap_or, String, string_bytes, if◌then◌else◌, codes}
 use Rattle.std.specs.declared.alloc.Global.{Global}
 use Rattle.std.specs.Str.{bytes_eq}
+use Rattle.command_words.specs.declared.words.TheConstants.{NUMBER_LIMIT}
 use Rattle.command_words.specs.Numbers.{Text, is_number_in, number_of}
-use Rattle.command_words.specs.Commands.{RunBounds, Command, Check, Fmt, Rules, Compile, Exec, Run, Upgrade, Selftest}
+use Rattle.command_words.specs.Commands.{RunBounds, usual_bounds}
+use Rattle.command_words.specs.Commands.{Command, Check, Fmt, Rules, Compile, Exec, Run, Upgrade, Selftest}
 use Rattle.command_words.specs.Reading.{Given, nothing, read_words}
 
--- the bounds that the options set, usually a depth of 8 and 10,000 steps
+-- the bounds that the options set, and the usual ones where they don't
 abbrev pub bounds_of : Given → RunBounds
 bounds_of given = record {
-  depth = unwrap_or (option_map number_of given.depth) 8;
-  steps = unwrap_or (option_map number_of given.steps) 10000;
+  depth = unwrap_or (option_map number_of given.depth) usual_bounds.depth;
+  steps = unwrap_or (option_map number_of given.steps) usual_bounds.steps;
 }
 
 -- a command of exactly one file
@@ -27,11 +29,11 @@ with_two command (first ∷ []) = None
 with_two command (first ∷ second ∷ []) = Some (command first second)
 with_two command (first ∷ second ∷ third ∷ rest) = None
 
--- a command of exactly one number, up to 4,294,967,295
+-- a command of exactly one number, up to the greatest of 32 bits
 abbrev pub with_number : (ℕ → Command) → List Text → Option Command
 with_number command [] = None
 with_number command (number ∷ []) =
-    if is_number_in 0 4294967295 number then Some (command (number_of number)) else None
+    if is_number_in 0 NUMBER_LIMIT number then Some (command (number_of number)) else None
 with_number command (number ∷ second ∷ rest) = None
 
 -- a command of one file, which takes no options

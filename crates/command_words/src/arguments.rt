@@ -8,24 +8,26 @@ use clap::ArgMatches;
 use flow_base::Bounds;
 
 /// The two files of a run.
-pub fn files_in<'a>(given: &ArgMatches<'a>) -> Option<(&'a str, &'a str)>
+pub(crate) fn files_in<'a>(given: &ArgMatches<'a>) -> Option<(&'a str, &'a str)>
     ensures { option_map (λ files. (files.0.now, files.1.now)) result
         ≡ files_found (rows_of (found_of given.now)) }
 {
     Some((text_in(given, "first")?, text_in(given, "second")?))
 }
 
-/// The bounds of a run. The parser has refused numbers out of their range.
-pub fn bounds_in(given: &ArgMatches<'_>) -> Option<Bounds>
+/// The bounds of a run, the usual ones where no option sets them. The parser has refused numbers out
+/// of their range.
+pub(crate) fn bounds_in(given: &ArgMatches<'_>) -> Option<Bounds>
     ensures { option_map bounds_seen result ≡ bounds_found (rows_of (found_of given.now)) }
 {
-    let depth = number_in(given, "depth").unwrap_or(8);
-    let steps = number_in(given, "steps").unwrap_or(10_000);
+    let usual = Bounds::usual();
+    let depth = number_in(given, "depth").unwrap_or(usual.depth);
+    let steps = number_in(given, "steps").unwrap_or(usual.steps);
     Bounds::make(depth, steps)
 }
 
 /// The text of an argument.
-pub fn text_in<'a>(given: &ArgMatches<'a>, id: &str) -> Option<&'a str>
+pub(crate) fn text_in<'a>(given: &ArgMatches<'a>, id: &str) -> Option<&'a str>
     ensures { option_map (λ text. text.now) result
         ≡ first_of id.now (rows_of (found_of given.now)) }
 {
@@ -33,7 +35,7 @@ pub fn text_in<'a>(given: &ArgMatches<'a>, id: &str) -> Option<&'a str>
 }
 
 /// The number of an argument.
-pub fn number_in(given: &ArgMatches<'_>, id: &str) -> Option<u32>
+pub(crate) fn number_in(given: &ArgMatches<'_>, id: &str) -> Option<u32>
     ensures { result ≡ number_at id.now (rows_of (found_of given.now)) }
 {
     given.get_one::<u32>(id)

@@ -4,13 +4,14 @@ ghost use Rattle.clap.specs.Words.{app_of, rule_of};
 ghost use Rattle.command_words.specs.Parser.{Builds, bare_app, program_app, file_rule, option_rule};
 ghost use Rattle.command_words.specs.Parser.{file_app, number_app, run_app};
 
+use crate::words::NUMBER_LIMIT;
 use clap::builder::ValueParser;
 use clap::{Arg, Command};
 use flow_base::{DEPTH_LIMIT, STEP_LIMIT};
 use std::alloc::{AllocError, Global};
 
 /// The parser of the program's words.
-pub fn program<'a>(alloc: Global) -> Result<Command<'a>, AllocError>
+pub(crate) fn program<'a>(alloc: Global) -> Result<Command<'a>, AllocError>
     ensures { IfOk result (λ parser. app_of parser ≡ program_app) }
 {
     let check = with_file(alloc, "check")?;
@@ -61,11 +62,11 @@ fn with_run<'a>(alloc: Global, name: &'a str) -> Result<Command<'a>, AllocError>
         .arg(bound(alloc, "steps", STEP_LIMIT))
 }
 
-/// A command of one number of 32 bits.
+/// A command of one number, up to `NUMBER_LIMIT`.
 fn with_number<'a>(alloc: Global, name: &'a str) -> Result<Command<'a>, AllocError>
     ensures { IfOk result (Builds (number_app name.entry.now)) }
 {
-    let number = file(alloc, "first").value_parser(ValueParser::unsigned(0, 4_294_967_295));
+    let number = file(alloc, "first").value_parser(ValueParser::unsigned(0, u64::from(NUMBER_LIMIT)));
     Command::new(alloc, name).arg(number)
 }
 

@@ -12,6 +12,9 @@ use clap::error::ErrorKind;
 use flow_base::{Bounds, Memory};
 use std::alloc::Global;
 
+/// The greatest number that a word may give: the greatest of 32 bits.
+pub(crate) const NUMBER_LIMIT: u32 = 4_294_967_295;
+
 /// A command with its files, and with its bounds or its number.
 #[derive(Clone, Copy, Debug, PartialEq, Eq)]
 pub enum Command<'a> {

@@ -1,5 +1,5 @@
 //! A run over the events of a text, of which the counts of its trace are kept and how it ended.
-ghost use Rattle.std.specs.Prelude.{◌≡◌, ◌≢◌, ◌≤◌, [], Some, IfOk, OnOk, true};
+ghost use Rattle.std.specs.Prelude.{◌≡◌, ◌≢◌, ◌≤◌, ◌↔◌, [], Some, IfOk, OnOk, IsTrue, true};
 ghost use Rattle.state_tree.specs.Kept.{chart_of};
 ghost use Rattle.command_files.specs.Call.{call_of};
 ghost use Rattle.trace_command.specs.Trace.{TraceEnds};
@@ -156,7 +156,7 @@ fn fault_of(end: TraceEnd) -> Result<Option<EndFault>, Memory>
 
 /// Whether two runs have the same measures.
 fn are_same(one: &Measures, other: &Measures) -> bool
-    ensures { one.now ≡ other.now → result ≡ true }
+    ensures { IsTrue result ↔ (one.now ≡ other.now) }
 {
     one.events == other.events
         && one.trace_bytes == other.trace_bytes
@@ -165,7 +165,7 @@ fn are_same(one: &Measures, other: &Measures) -> bool
 
 /// Whether two runs ended in the same fault.
 fn have_same_fault(one: &Option<EndFault>, other: &Option<EndFault>) -> bool
-    ensures { one.now ≡ other.now → result ≡ true }
+    ensures { IsTrue result ↔ (one.now ≡ other.now) }
 {
     match (one, other) {
         (None, None) => true,

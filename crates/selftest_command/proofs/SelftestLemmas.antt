@@ -15,7 +15,7 @@ use Rattle.selftest_command.specs.declared.measure.EndFault.{EndFault}
 use Rattle.selftest_command.specs.declared.measure.Measures.{Measures}
 use Rattle.selftest_command.specs.Lines.{line_text, result_of, line_of_measures}
 use Rattle.selftest_command.specs.Measures.{HasMeasures, shown_fault}
-use Rattle.selftest_command.specs.Selftest.{CaseRun, case_events, last_result, line_of_run, RanAnd, IsFaultAt, end_of}
+use Rattle.selftest_command.specs.Selftest.{CaseRun, case_events, line_of_run, RanAnd, IsFaultAt, end_of}
 use Rattle.selftest_command.specs.Selftest.{SelftestEnds}
 
 -- ---- the line, put piece by piece
@@ -84,11 +84,6 @@ run_of n states c bounds m h =
       runs = h.has.runs;
     }
 
--- its result
-result_shown : (names : Names) (fault : Option RunFault) → result_of (shown_fault names fault) ≡ last_result names fault
-result_shown names None = refl
-result_shown names (Some f) = refl
-
 -- its line
 line_is : (n states : ℕ) (c : Chart) (bounds : Bounds) (m : Measures) (h : IsMeasured n states c bounds m)
     → line_of_measures n states m ≡ line_of_run n (run_of n states c bounds m h)
@@ -100,7 +95,7 @@ line_is n states c bounds m h =
     ∙ ap (λ (x : ℕ). line_text n (state_count c.tree) x m.trace_bytes (result_of m.fault)) h.has.events
     ∙ ap (λ (x : ℕ). line_text n (state_count c.tree) count x (result_of m.fault)) h.has.trace_bytes
     ∙ ap (λ (x : List ℕ). line_text n (state_count c.tree) count bytes x)
-    (ap result_of h.has.fault ∙ result_shown c.names (run_fault 0 moments))
+    (ap result_of h.has.fault)
 
 -- a run that is shown without a fault has none
 none_shown : (names : Names) (fault : Option RunFault) → shown_fault names fault ≡ None → fault ≡ None

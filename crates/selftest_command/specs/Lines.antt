@@ -9,7 +9,7 @@ line_text n states events bytes result =
     codes "selftest " ++ decimal n ++ codes ": " ++ decimal states ++ codes " states, " ++ decimal events
     ++ codes " events, " ++ decimal bytes ++ codes " trace bytes, " ++ result ++ codes "\n"
 
--- the result of a run, by the fault that ended it
+-- the result in the last line of a trace, by the fault that ended the run
 abbrev pub result_of : Option EndFault → List ℕ
 result_of None = codes "ok"
 result_of (Some fault) = fault.word

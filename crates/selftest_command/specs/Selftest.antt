@@ -14,7 +14,8 @@ use Rattle.command_files.specs.Call.{Output}
 use Rattle.command_files.specs.Writing.{Wrote, WroteFront}
 use Rattle.checked_commands.specs.Refusals.{RefusesAccepted}
 use Rattle.chart_gen.specs.Cases.{chart_text, events_text}
-use Rattle.selftest_command.specs.Lines.{line_text}
+use Rattle.selftest_command.specs.Lines.{line_text, result_of}
+use Rattle.selftest_command.specs.Measures.{shown_fault}
 use Rattle.selftest_command.specs.declared.command.SelftestEnd.{SelftestEnd}
 use Rattle.selftest_command.specs.declared.measure.EndFault.{EndFault}
 use Rattle.selftest_command.specs.declared.command.SelftestEnd.TheVariants as ends
@@ -33,18 +34,13 @@ pub record CaseRun (n : ℕ) : Type 0 where
   pub moments : List Moment
   pub runs : RulesRun chart bounds (case_events chart.names n) moments
 
--- the result in the last line of a trace, by the fault that ended the run
-abbrev pub last_result : Names → Option RunFault → List ℕ
-last_result names None = result_word names None
-last_result names (Some f) = result_word names (Some f.fault)
-
 -- The line of a run: the states with the root, the moments after the start, the length of the trace and the result
 -- in its last line.
 abbrev pub line_of_run : (n : ℕ) → CaseRun n → List ℕ
 line_of_run n run =
     line_text n (state_count run.chart.tree) (length run.moments - 1)
     (length (trace run.chart.tree run.chart.names (case_events run.chart.names n) run.moments))
-    (last_result run.chart.names (run_fault 0 run.moments))
+    (result_of (shown_fault run.chart.names (run_fault 0 run.moments)))
 
 -- a run of the case ended so, and its line was written as said
 pub record RanAnd (n : ℕ) (Ended : Names → Option RunFault → Type 0) (Written : Output → Output → List ℕ → Type 0)

@@ -37,9 +37,9 @@ pub fn compile_raw(alloc: Global, chart: &Chart) -> Result<RawCode, Memory>
 /// The code of a chart, well formed, which runs as the chart does. `Memory` only where memory was
 /// refused.
 ///
-/// It has at most 80 S + P + 2 B + T + 8 procedures, no height over 200, and no work over
-/// 400 (S + 1) (I + 1), for S states, P pairs of a list and a transition, B actions that aren't
-/// empty, T transitions and I items.
+/// It has at most 80 S + P + 2 B + T + 8 procedures, no height over `5 * STATE_DEPTH_LIMIT + 7`,
+/// which is 87, and no work over 400 (S + 1) (I + 1), for S states, P pairs of a list and a
+/// transition, B actions that aren't empty, T transitions and I items.
 pub fn compile(alloc: Global, chart: &Chart) -> Result<Code, Memory>
     ensures code { IfOk result (λ code. code_of code ≡ code_of_chart (chart_of chart.now)) }
     ensures runs { IfOk result (λ code. RunsAs (chart_of chart.now) (code_of code)) }

@@ -42,10 +42,10 @@ module _ (c : Chart) (valid : IsValid c) where
   by_depth p =
       omega (arith, at_number p, at_most c (height_bound c.tree) (5 * STATE_DEPTH_LIMIT + 7) (bound_most c.tree) p)
 
-  -- the greatest is within the limit
-  pub greatest_low : greatest hs ≤ HEIGHT_LIMIT
-  greatest_low = omega (arith, greatest_most (5 * STATE_DEPTH_LIMIT + 7) hs by_depth)
+  -- so neither is the greatest
+  pub greatest_low : greatest hs ≤ 5 * STATE_DEPTH_LIMIT + 7
+  greatest_low = greatest_most (5 * STATE_DEPTH_LIMIT + 7) hs by_depth
 
-  -- so no procedure is too high
+  -- which is within the limit, so no procedure is too high
   pub none_too_high : first_over HEIGHT_LIMIT kinds.TooHigh 0 hs ≡ None
-  none_too_high = none_over_greatest HEIGHT_LIMIT kinds.TooHigh 0 hs greatest_low
+  none_too_high = none_over_greatest HEIGHT_LIMIT kinds.TooHigh 0 hs (omega (arith, greatest_low))

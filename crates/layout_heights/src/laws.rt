@@ -21,7 +21,7 @@ pub fn the_code_of_a_chart_is_low()
     ensures bounded { (c : Chart) (p : ℕ) → IsValid c
         → slice_index (heights (code_of_chart c).procedures.procs) p ≤ 5 * STATE_DEPTH_LIMIT + 7 }
     ensures greatest { (c : Chart) → IsValid c
-        → greatest (heights (code_of_chart c).procedures.procs) ≤ HEIGHT_LIMIT }
+        → greatest (heights (code_of_chart c).procedures.procs) ≤ 5 * STATE_DEPTH_LIMIT + 7 }
     ensures none_over { (c : Chart) → IsValid c
         → first_over HEIGHT_LIMIT kinds.TooHigh 0 (heights (code_of_chart c).procedures.procs)
         ≡ None }

@@ -16,7 +16,7 @@ use state_tree::Chart;
 use std::alloc::Global;
 
 /// The code of a chart, before it is accepted. `Memory` only where memory was refused.
-pub fn compile_raw(alloc: Global, chart: &Chart) -> Result<RawCode, Memory>
+fn compile_raw(alloc: Global, chart: &Chart) -> Result<RawCode, Memory>
     ensures code { IfOk result (λ raw. code_of raw ≡ code_of_chart (chart_of chart.now)) }
 {
     let numbering = number(alloc, chart)?;

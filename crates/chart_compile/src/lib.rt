@@ -8,5 +8,5 @@ mod compiler;
 mod laws;
 mod tables;
 
-pub use compiler::{compile, compile_raw};
+pub use compiler::compile;
 pub use laws::the_code_of_a_chart_is_well_formed;

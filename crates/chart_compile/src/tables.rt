@@ -20,8 +20,9 @@ fn copied(alloc: Global, text: &Text) -> Result<Text, Memory>
 }
 
 /// The states of a chart, each with its parent, its composition and its name.
-pub fn states(alloc: Global, chart: &Chart) -> Result<List<RawState>, Memory>
-    ensures tree { IfOk result (λ states. tree_of_states (items_of states) ≡ (chart_of chart.now).tree) }
+pub(crate) fn states(alloc: Global, chart: &Chart) -> Result<List<RawState>, Memory>
+    ensures tree { IfOk result (λ states.
+        tree_of_states (items_of states) ≡ (chart_of chart.now).tree) }
     ensures names { IfOk result (λ states. map (λ (s : RawState). s.name) (items_of states)
         ≡ (chart_of chart.now).names.states) }
 {

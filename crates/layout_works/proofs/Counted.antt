@@ -1,6 +1,6 @@
 -- The works of actions, tests and states by the counts of the chart.
 use Rattle.std.proofs.Common.{◌≡◌, ℕ, zero, suc, ◌+◌, ◌*◌, ◌≤◌, List, [], ◌∷◌, length, refl, sym, ap, ◌∙◌, arith}
-use Rattle.std.proofs.Common.{suc-mul}
+use Rattle.std.proofs.Common.{suc-mul, mul-le-mul_left}
 use Rattle.std.specs.List.{AllByRecursion, sum_by}
 use Rattle.std.proofs.lemmas.List.Sums.{sum_by-cons}
 use Rattle.active_config.specs.Tree.{state_count, children_of}
@@ -17,17 +17,17 @@ use Rattle.layout_works.proofs.Sums.{at_most_sum, sum_places}
 
 -- ---- products
 
--- a product grows with its second factor
-times_le : (s a b : ℕ) → a ≤ b → s * a ≤ s * b
-times_le s a b h = grind arith
-
 -- a number that is taken out of a product
 times_out : (s i k : ℕ) → s * (k * i) ≡ k * (s * i)
 times_out s i k = grind arith
 
+-- two firings
+twice : (f i : ℕ) → f ≤ 39 * suc i → 2 * f ≤ 78 * suc i
+twice f i h = omega (arith, h)
+
 -- two firings for each state
 pub firings_le : (s f i : ℕ) → f ≤ 39 * suc i → s * (2 * f) ≤ 78 * (s * suc i)
-firings_le s f i h = omega (arith, times_le s (2 * f) (78 * suc i) (omega (arith, h)), times_out s (suc i) 78)
+firings_le s f i h = omega (arith, mul-le-mul_left s (twice f i h), times_out s (suc i) 78)
 
 -- what is asked for
 pub product_is : (s i : ℕ) → 400 * suc s * suc i ≡ 400 * (s * suc i) + 400 * suc i

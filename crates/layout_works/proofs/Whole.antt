@@ -1,6 +1,6 @@
 -- The works of the procedures of the code of a valid chart.
 use Rattle.std.proofs.Common.{◌≡◌, ℕ, suc, ◌+◌, ◌*◌, ◌≤◌, List, [], ◌∷◌, ◌++◌, length, Option, Some}
-use Rattle.std.proofs.Common.{None, refl, arith}
+use Rattle.std.proofs.Common.{None, refl, arith, mul-le-mul_left}
 use Rattle.std.specs.Prelude.{slice_get, slice_index}
 use Rattle.active_config.specs.Tree.{state_count}
 use Rattle.actions.specs.Exprs.{Expr, Stmt}
@@ -38,17 +38,13 @@ greatest_within : (m : ℕ) (ns : List ℕ) → ((p : ℕ) → slice_index ns p 
 greatest_within m [] h = omega arith
 greatest_within m (n ∷ ns) h = omega (arith, h 0, greatest_within m ns (λ p. h (suc p)))
 
--- a product grows with its second factor
-times_le : (a s t : ℕ) → s ≤ t → a * s ≤ a * t
-times_le a s t h = grind arith
-
 -- a factor of the product
 product_with : (a s : ℕ) → 400 * suc s * a ≡ 400 * (a * s) + 400 * a
 product_with a s = grind arith
 
 -- what is asked for is within the limit of code
 limit_holds : (s i : ℕ) → s ≤ 1024 → i ≤ 20000 → 400 * suc s * suc i ≤ 10000000000
-limit_holds s i few items = omega (arith, few, items, times_le (suc i) s 1024 few, product_with (suc i) s)
+limit_holds s i few items = omega (arith, few, items, mul-le-mul_left (suc i) few, product_with (suc i) s)
 
 module _ (c : Chart) (valid : IsValid c) where
   -- the bounds of the numbers

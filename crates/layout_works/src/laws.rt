@@ -28,5 +28,6 @@ pub fn the_code_of_a_chart_has_little_work()
         → greatest (works (code_of_chart c).procedures.procs)
         ≤ 400 * suc (state_count c.tree) * suc (item_count c) }
     ensures none_over { (c : Chart) → IsValid c
-        → first_over WORK_LIMIT kinds.TooMuchWork 0 (works (code_of_chart c).procedures.procs) ≡ None }
+        → first_over WORK_LIMIT kinds.TooMuchWork 0 (works (code_of_chart c).procedures.procs)
+        ≡ None }
 {}

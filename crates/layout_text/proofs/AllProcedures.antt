@@ -1,5 +1,5 @@
 -- The bytes of all procedures of a chart.
-use Rattle.std.proofs.Common.{◌≡◌, ℕ, zero, suc, ◌+◌, ◌*◌, ◌<◌, ◌≤◌, arith}
+use Rattle.std.proofs.Common.{◌≡◌, ℕ, suc, ◌+◌, ◌*◌, ◌<◌, ◌≤◌, arith, mul-le-mul_left, mul-le-mul_right}
 use Rattle.active_config.specs.Tree.{state_count}
 use Rattle.state_tree.specs.Chart.{Chart}
 use Rattle.state_tree.specs.Counts.{item_count}
@@ -12,28 +12,15 @@ use Rattle.chart_layout.proofs.EndsLemmas.{end_is, end_after}
 use Rattle.chart_layout.proofs.Sizes.{from_lists, from_groups, from_junction_parts, from_state_parts, from_actions}
 use Rattle.chart_layout.proofs.Sums.{sum_to_times}
 use Rattle.tree_sums.proofs.Counts.{children_count, below_counts_most}
+use Rattle.tree_sums.proofs.SumLemmas.{sum_to_most}
 use Rattle.layout_text.proofs.Groups.{kids, under, entering, all_groups_size}
 use Rattle.layout_text.proofs.ListPairs.{pairs_few, reached_few}
 use Rattle.layout_text.proofs.Parts.{all_parts_size}
 use Rattle.layout_text.proofs.Procedures.{keys_limit, keys_more, keys_append}
 
--- a sum of numbers that are no less is no less
-sum_to_most : (f g : ℕ → ℕ) (n : ℕ) → ((i : ℕ) → i < n → f i ≤ g i) → sum_to f n ≤ sum_to g n
-unfolding sum_to
-sum_to_most f g zero h = omega arith
-sum_to_most f g (suc n) h = omega (arith, h n (omega arith), sum_to_most f g n (λ i lt. h i (omega arith)))
-
--- a greater factor on the left
-times_right : (a b k : ℕ) → a ≤ b → a * k ≤ b * k
-times_right a b k h = grind arith
-
--- a greater factor on the right
-times_left : (s a b : ℕ) → a ≤ b → s * a ≤ s * b
-times_left s a b h = grind arith
-
 -- the square of at most 1,024
 square : (s : ℕ) → s ≤ 1024 → s * s ≤ 1048576
-square s h = omega (arith, times_left s s 1024 h)
+square s h = omega (arith, mul-le-mul_left s h)
 
 module _ (c : Chart) (valid : IsValid c) where
   abbrev m : ℕ
@@ -59,9 +46,9 @@ module _ (c : Chart) (valid : IsValid c) where
       omega (
         arith,
         sum_to_most (entering c valid) (λ s. m * kids c valid s) m
-            (λ s lt. times_right (suc (under c valid s)) m (kids c valid s) (under_within s lt)),
+            (λ s lt. mul-le-mul_right (kids c valid s) (under_within s lt)),
         sum_to_times m (kids c valid) m,
-        times_left m (sum_to (kids c valid) m) m few,
+        mul-le-mul_left m few,
       )
 
   -- all procedures, by what there is of each kind

@@ -38,8 +38,8 @@ fn read_compiled<I: Inputs>(
     inputs: &mut I,
     name: &str,
 ) -> Result<String, FileEnd<Refusal>>
-    ensures { FileGives CHART_TEXT_LIMIT (λ text compiled. Compiles text (string_bytes compiled)) RefusesAccepted
-        (sources_of I.Inputs inputs.old) (sources_of I.Inputs inputs.new) name.now result }
+    ensures { FileGives CHART_TEXT_LIMIT (λ text compiled. Compiles text (string_bytes compiled))
+        RefusesAccepted (sources_of I.Inputs inputs.old) (sources_of I.Inputs inputs.new) name.now result }
 {
     let chart = read_accepted(alloc, inputs, name)?;
     match compiled_text(alloc, &chart) {

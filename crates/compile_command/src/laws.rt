@@ -14,6 +14,6 @@ ghost use Rattle.compile_command.specs.Compile.{IsCompiled};
 pub fn what_compile_writes_is_read()
     ensures read { (c : Chart) (text : List ℕ) (compiled : IsCompiled c text)
         → (IsCodeText text compiled.raw) × (spelled text ≡ Ok (written_of compiled.raw)) }
-    ensures only { (c : Chart) (text : List ℕ) (raw : RawCode) → IsCompiled c text → IsCodeText text raw
-        → code_of raw ≡ code_of_chart c }
+    ensures only { (c : Chart) (text : List ℕ) (raw : RawCode) → IsCompiled c text
+        → IsCodeText text raw → code_of raw ≡ code_of_chart c }
 {}

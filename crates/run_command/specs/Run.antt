@@ -24,8 +24,8 @@ by_compiled c bounds = record {
   never_wants_memory = true;
 }
 
--- How `run` ends with these bounds, and when: as `rules` does, but for want of memory, which comes only before the first
--- byte of the trace. Where nothing comes of the chart's file, the event file isn't read and nothing is written.
+-- How `run` ends with these bounds, and when: as `rules` does, but for want of memory, which comes only before the
+-- first byte of the trace. Where nothing comes of the chart's file, the event file isn't read and nothing is written.
 abbrev pub RunEnds : Bounds → Call → List ℕ → List ℕ → RunEnd → Type 0
 RunEnds bounds call first second (ends.NoChart end) =
     Unread CHART_TEXT_LIMIT RefusesAccepted call.sources_before call.sources_after first end

@@ -13,7 +13,7 @@ ghost use Rattle.run_command.specs.Run.{by_compiled};
 /// Over every event file, with all bounds, the code of a valid chart is traced as the chart is by
 /// the rules: the same bytes, and the same ending.
 pub fn compiled_code_is_traced_as_its_chart()
-    ensures { (c : Chart) (bounds : Bounds) (call : Call) (second : List ℕ) (end : TraceEnd) → IsValid c
-        → TraceEnds (by_code (code_of_chart c) bounds) call second end
+    ensures { (c : Chart) (bounds : Bounds) (call : Call) (second : List ℕ) (end : TraceEnd)
+        → IsValid c → TraceEnds (by_code (code_of_chart c) bounds) call second end
         ↔ TraceEnds (by_compiled c bounds) call second end }
 {}

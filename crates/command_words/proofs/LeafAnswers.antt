@@ -159,7 +159,8 @@ number_answers command (Some given) kinds rows a = go given.files a
     small = omega arith
 
     test : (f : Text) (b : Bool) → is_number_in 0 NUMBER_LIMIT f ≡ b
-        → Agrees false (parsers.Unsigned 0 NUMBER_LIMIT) (cond b (Some (record given { files = f ∷ [] })) None) kinds rows
+        → Agrees false (parsers.Unsigned 0 NUMBER_LIMIT)
+        (cond b (Some (record given { files = f ∷ [] })) None) kinds rows
         → Answers (cond b (Some (command (number_of f))) None) kinds (number_found command rows)
     test f true e a = (
       a.0,

@@ -15,8 +15,8 @@ pub(crate) fn files_in<'a>(given: &ArgMatches<'a>) -> Option<(&'a str, &'a str)>
     Some((text_in(given, "first")?, text_in(given, "second")?))
 }
 
-/// The bounds of a run, the usual ones where no option sets them. The parser has refused numbers out
-/// of their range.
+/// The bounds of a run, the usual ones where no option sets them. The parser has refused numbers
+/// out of their range.
 pub(crate) fn bounds_in(given: &ArgMatches<'_>) -> Option<Bounds>
     ensures { option_map bounds_seen result ≡ bounds_found (rows_of (found_of given.now)) }
 {

@@ -66,7 +66,10 @@ fn with_run<'a>(alloc: Global, name: &'a str) -> Result<Command<'a>, AllocError>
 fn with_number<'a>(alloc: Global, name: &'a str) -> Result<Command<'a>, AllocError>
     ensures { IfOk result (Builds (number_app name.entry.now)) }
 {
-    let number = file(alloc, "first").value_parser(ValueParser::unsigned(0, u64::from(NUMBER_LIMIT)));
+    let number = file(alloc, "first").value_parser(ValueParser::unsigned(
+        0,
+        u64::from(NUMBER_LIMIT),
+    ));
     Command::new(alloc, name).arg(number)
 }
 

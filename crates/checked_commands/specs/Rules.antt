@@ -23,7 +23,8 @@ by_rules c bounds = record {
   never_wants_memory = false;
 }
 
--- How `rules` ends with these bounds, and when. Where nothing comes of the chart's file, the event file isn't read and nothing is written.
+-- How `rules` ends with these bounds, and when. Where nothing comes of the chart's file, the event file isn't read and
+-- nothing is written.
 abbrev pub RulesEnds : Bounds → Call → List ℕ → List ℕ → RulesEnd → Type 0
 RulesEnds bounds call first second (ends.NoChart end) =
     Unread CHART_TEXT_LIMIT RefusesAccepted call.sources_before call.sources_after first end

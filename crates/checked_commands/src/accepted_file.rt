@@ -19,8 +19,8 @@ pub fn read_accepted<I: Inputs>(
     inputs: &mut I,
     name: &str,
 ) -> Result<Chart, FileEnd<Refusal>>
-    ensures { FileGives CHART_TEXT_LIMIT (λ text chart. IsAccepted text (chart_of chart)) RefusesAccepted
-        (sources_of I.Inputs inputs.old) (sources_of I.Inputs inputs.new) name.now result }
+    ensures { FileGives CHART_TEXT_LIMIT (λ text chart. IsAccepted text (chart_of chart))
+        RefusesAccepted (sources_of I.Inputs inputs.old) (sources_of I.Inputs inputs.new) name.now result }
 {
     let text = read_text(alloc, inputs, name, CHART_TEXT_LIMIT, TOO_LONG)?;
     match accept_chart(alloc, &text) {

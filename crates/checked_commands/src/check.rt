@@ -40,8 +40,8 @@ fn read_counts<I: Inputs>(
     inputs: &mut I,
     name: &str,
 ) -> Result<String, FileEnd<Refusal>>
-    ensures { FileGives CHART_TEXT_LIMIT (λ text line. HasCounts text (string_bytes line)) RefusesAccepted
-        (sources_of I.Inputs inputs.old) (sources_of I.Inputs inputs.new) name.now result }
+    ensures { FileGives CHART_TEXT_LIMIT (λ text line. HasCounts text (string_bytes line))
+        RefusesAccepted (sources_of I.Inputs inputs.old) (sources_of I.Inputs inputs.new) name.now result }
 {
     let chart = read_accepted(alloc, inputs, name)?;
     match counted(alloc, &chart) {

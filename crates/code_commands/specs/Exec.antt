@@ -27,7 +27,8 @@ by_code k bounds = record {
 abbrev pub runs_by_code : RawCode → Bounds → Behaviour
 runs_by_code raw bounds = by_code (code_of raw) bounds
 
--- How `exec` ends with these bounds, and when. Where nothing comes of the code's file, the event file isn't read and nothing is written.
+-- How `exec` ends with these bounds, and when. Where nothing comes of the code's file, the event file isn't read and
+-- nothing is written.
 abbrev pub ExecEnds : Bounds → Call → List ℕ → List ℕ → ExecEnd → Type 0
 ExecEnds bounds call first second (ends.NoCode end) =
     Unread TEXT_LIMIT RefusesCode call.sources_before call.sources_after first end

@@ -34,8 +34,8 @@ fn read_upgraded<I: Inputs>(
     inputs: &mut I,
     name: &str,
 ) -> Result<String, FileEnd<CodeTextFault>>
-    ensures { FileGives TEXT_LIMIT (λ text upgraded. IsUpgraded text (string_bytes upgraded)) RefusesCode
-        (sources_of I.Inputs inputs.old) (sources_of I.Inputs inputs.new) name.now result }
+    ensures { FileGives TEXT_LIMIT (λ text upgraded. IsUpgraded text (string_bytes upgraded))
+        RefusesCode (sources_of I.Inputs inputs.old) (sources_of I.Inputs inputs.new) name.now result }
 {
     let code = read_code_file(alloc, inputs, name)?;
     match print_code(alloc, &code) {

@@ -29,9 +29,9 @@ use std::alloc::Global;
 /// runs as the chart. `exec CODE EVENTS` runs the code of the first file over the events of the
 /// second and writes the trace. `run CHART EVENTS` compiles the accepted chart of the first file
 /// and runs the text of its code as `exec` does. `upgrade CODE` writes the text of format 2 of the
-/// code of the file. `selftest N` runs generated case N by the rules and writes one line of counts.
-/// `rules`, `exec` and `run` take the bounds `--depth` and `--steps`. All other words are refused
-/// as Usage. Any words may end in Memory before anything is read.
+/// code of the file. `selftest N` runs generated case N by the rules and as printed code, and
+/// writes one line of counts. `rules`, `exec` and `run` take the bounds `--depth` and `--steps`.
+/// All other words are refused as Usage. Any words may end in Memory before anything is read.
 pub fn chart_main<I: Inputs, O: Sink, E: Sink>(
     alloc: Global,
     words: &[String],

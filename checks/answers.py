@@ -1,0 +1,322 @@
+#!/usr/bin/env python3
+r"""Provokes each answer of a built program, and says which answers there are.
+
+    python3 checks/answers.py --against PROGRAM < checks/answer_table.txt
+    python3 checks/answers.py --against PROGRAM --large < checks/answer_table.txt
+
+A block of the table has files, lists of words, and the whole answer to each of these lists: the status, what is written on
+standard output and on standard error, and which of the files are opened. The form of a table is that of tables.py. Parts:
+
+    words WORD ..           A run with these words. '' is the empty word, and a TEXT stands for the bytes of a word.
+    file NAME TEXT          The file has these bytes.
+    more NAME N TEXT        The file goes on with TEXT, N times.
+    sample NAME PATH        The file is that of the repository.
+    code NAME BLOCK         The file is the code text of that block of code_table.txt.
+    bytes NAME N            The file has N bytes, zeros behind those that were given.
+    compiled NAME           For `exec` the file is the code that `compile` writes of it, and for `upgrade` too.
+    folder NAME             A folder.
+    link NAME TARGET        A symbolic link.
+    out DEVICE, error DEVICE   Where standard output or standard error goes: `full` is a device without room, `closed` is no
+                            file, `input` is open for reading alone, and `gone` is a pipe that nobody reads any more.
+    memory N                The process may have N bytes of memory. Where the program can't even begin with so much, as one
+                            that was built with a sanitizer, the block is passed over, and that is said.
+    large                   The block takes over a second or much memory, and is run with `--large` alone.
+
+An answer has the lines `status N`, `error TEXT` for each line of standard error, `out TEXT` for each line of standard output,
+or `out N lines, N bytes` and the last line where there are more than 12, `unended TEXT` for a line without its byte 10, and
+`opens NAME ..`, or `opens none`.
+
+`problem` says of any call whether its answer is one of those that the causes below allow; failing_devices.py and soak.py ask
+it of each call.
+
+    status 0    The whole answer was written. Nothing is on standard error.
+    status 1    A chart, a code text or an event file is refused. Of a refused chart or code nothing is on standard output; of
+                an event file the trace of the lines before.
+    status 2    The words ask for no command. Nothing is on standard output.
+    status 3    The run has a fault, which the last line of the trace has too; `selftest` writes its line.
+    status 4    A file couldn't be read. A front of the answer was written: nothing by a command that has no event file.
+    status 5    Standard output couldn't be written. A front of the answer was written, and not all of it.
+    status 6    Memory ran out. Nothing was written but by `rules`, which may have written a front of the trace."""
+import ctypes
+import os
+import re
+import resource
+import select
+import struct
+import subprocess
+import sys
+import tempfile
+
+import chart_syntax as syntax
+import code_acceptance as ca
+import code_machine as cm
+import code_text as ct
+import event_files as ev
+import tables
+
+HERE = os.path.dirname(os.path.abspath(__file__))
+ROOT = os.path.dirname(HERE)
+MOST_SHOWN = 12
+LONGEST = 600
+WITH_TRACE = ('rules', 'exec', 'run')
+WITH_CHART = ('check', 'fmt', 'rules', 'compile', 'run')
+WITH_CODE = ('exec', 'upgrade')
+COMMANDS = (*WITH_CHART, *WITH_CODE, 'selftest')
+
+# ---- which answers there are
+
+CHART_LINES = '|'.join('%d %s' % (number, kind) for number, kind in syntax.KINDS.items() if number != 8)
+CHART_LINE = re.compile('chart [1-9][0-9]*:[1-9][0-9]*: (%s|8 TooMany (%s))\n'
+                        % (CHART_LINES, '|'.join(syntax.WITH_HISTORY.limits)))
+FORMS = '|'.join('%d %s' % each for each in ca.KINDS.items())
+CODE_LINE = re.compile(r'code [1-9][0-9]*: (1 BadLine|3 Trailing)\n'
+                       r'|code: (2 Truncated|4 Version|5 TextTooLong|6 Form (%s) [0-9]+\.[0-9]+)\n' % FORMS)
+EVENT_LINE = re.compile('event [1-9][0-9]*: (%s)\n|event: (5 TooManyLines|6 FileTooLong)\n'
+                        % '|'.join('%d %s' % each for each in ev.LINE_FAULTS.items()))
+RUN_LINE = re.compile('run (0|[1-9][0-9]*): (depth|steps|zero|overflow [A-Za-z_][A-Za-z0-9_]*)\n')
+USAGE = ('usage: flowc check CHART, fmt CHART, rules CHART EVENTS, compile CHART, exec CODE EVENTS, run CHART EVENTS, '
+         'upgrade CODE, selftest N; --depth D, --steps S\n')
+LINES = {0: '', 2: USAGE, 4: 'read fault\n', 5: 'write fault\n', 6: 'out of memory\n'}
+
+
+def ends_ok(out):
+    """Whether that are whole lines of a trace, the last of which has no fault."""
+    return out.startswith('0 start ') and out.endswith(' ok\n')
+
+
+def refusal_problem(command, out, error):
+    if command in WITH_TRACE and EVENT_LINE.fullmatch(error):
+        return None if ends_ok(out) else 'an event file is refused behind something else than the trace of the lines before'
+    known = (command in WITH_CHART and CHART_LINE.fullmatch(error) or command in WITH_CODE and CODE_LINE.fullmatch(error))
+    if not known:
+        return 'status 1 has a line on standard error that tells no refusal'
+    return 'a refused text leaves something on standard output' if out else None
+
+
+def fault_problem(command, out, error):
+    found = RUN_LINE.fullmatch(error)
+    if not found or command not in (*WITH_TRACE, 'selftest'):
+        return 'status 3 has a line on standard error that tells no fault of a run'
+    last = out.split('\n')[-2] if out.endswith('\n') else ''
+    told = last.endswith(' ' + found[2]) and (command == 'selftest' or last.startswith(found[1] + ' '))
+    return None if told else 'the last line of the trace has another fault than standard error'
+
+
+def problem(command, out, error, status):
+    """Why this is no answer of the command, or none. `command` is None where the words ask for none."""
+    if status not in range(7):
+        return 'the status %s is that of no answer' % status
+    if status in LINES and error != LINES[status]:
+        return 'status %d has another line on standard error than its own' % status
+    if (command is None) != (status == 2) and status != 6:
+        return 'the usage line and status 2 belong to the words that ask for no command'
+    if status == 1:
+        return refusal_problem(command, out, error)
+    if status == 3:
+        return fault_problem(command, out, error)
+    if status == 0 and (not out.endswith('\n') or command in WITH_TRACE and not ends_ok(out)):
+        return 'the answer of status 0 is not whole'
+    if status == 4 and out and not (command in WITH_TRACE and ends_ok(out)):
+        return 'something else than whole lines of a trace stands before a read fault'
+    if status in (2, 6) and out and command != 'rules':
+        return 'something was written at status %d' % status
+    return None
+
+
+# ---- which files are opened
+
+class Opened:
+    """Tells which files of a folder are opened from now on, by the notices of the system."""
+    IN_OPEN, IN_ISDIR = 0x20, 0x40000000
+
+    def __init__(self, folder):
+        libc = ctypes.CDLL(None, use_errno=True)
+        self.notices = libc.inotify_init()
+        if self.notices < 0 or libc.inotify_add_watch(self.notices, os.fsencode(folder), self.IN_OPEN) < 0:
+            raise SystemExit('the system gives no notice of opened files')
+
+    def names(self):
+        """The names in the order in which they were opened, each once. Ends the notices."""
+        found = []
+        while select.select([self.notices], [], [], 0)[0]:
+            data, at = os.read(self.notices, 65536), 0
+            while at < len(data):
+                _, _, _, length = struct.unpack_from('iIII', data, at)
+                name = os.fsdecode(data[at + 16:at + 16 + length].rstrip(b'\0'))
+                found += [name] if name and name not in found else []
+                at += 16 + length
+        os.close(self.notices)
+        return found
+
+
+# ---- one run
+
+def gone_pipe():
+    end, device = os.pipe()
+    os.close(end)
+    return device
+
+
+DEVICES = {'full': lambda: os.open('/dev/full', os.O_WRONLY), 'input': lambda: os.open('/dev/null', os.O_RDONLY),
+           'gone': gone_pipe, 'closed': lambda: os.open('/dev/null', os.O_WRONLY)}
+
+
+def call(program, words, folder, devices=None, memory=None, seconds=LONGEST, before=None):
+    """Standard output, standard error and status of a call in a folder. `devices` has a word of DEVICES for the descriptors 1
+    and 2 where they go elsewhere; `before` is called in the new process."""
+    devices = devices or {}
+    opened = {number: DEVICES[device]() for number, device in devices.items()}
+
+    def prepare():
+        for number, device in devices.items():
+            if device == 'closed':
+                os.close(number)
+        if memory is not None:
+            resource.setrlimit(resource.RLIMIT_AS, (memory, memory))
+        if before is not None:
+            before()
+
+    needed = memory is not None or before is not None or 'closed' in devices.values()
+    try:
+        done = subprocess.run([program, *words], cwd=folder, stdin=subprocess.DEVNULL, stdout=opened.get(1, subprocess.PIPE),
+                              stderr=opened.get(2, subprocess.PIPE), timeout=seconds, preexec_fn=prepare if needed else None)
+    except subprocess.TimeoutExpired:
+        return '', '', 'no end in %d seconds' % seconds
+    finally:
+        for device in opened.values():
+            os.close(device)
+    return (done.stdout or b'').decode('latin-1'), (done.stderr or b'').decode('latin-1'), done.returncode
+
+
+def words_of(rest):
+    return [b'' if word == "''" else tables.unescaped(word) for word in rest.split(' ')] if rest else []
+
+
+def split_name(rest):
+    name, _, more = rest.partition(' ')
+    return name, more
+
+
+class Files:
+    """The files of a block, in a folder."""
+
+    def __init__(self, block, folder, codes):
+        self.folder, self.compiled = folder, block.values('compiled')
+        for word, rest in block.parts:
+            name, more = split_name(rest)
+            path = os.path.join(folder, name)
+            if word == 'folder':
+                os.mkdir(path)
+            elif word == 'link':
+                os.symlink(more, path)
+            elif word == 'bytes':
+                with open(path, 'ab') as file:
+                    file.truncate(int(more))
+            elif word in ('file', 'more', 'sample', 'code'):
+                with open(path, 'ab') as file:
+                    file.write(self.content(word, more, codes))
+        self.charts = {name: self.read(name) for name in self.compiled}
+
+    @staticmethod
+    def content(word, more, codes):
+        if word == 'more':
+            return tables.times(more)
+        if word == 'code':
+            return codes[more]
+        if word == 'sample':
+            with open(os.path.join(ROOT, more), 'rb') as file:
+                return file.read()
+        return tables.unescaped(more)
+
+    def read(self, name):
+        with open(os.path.join(self.folder, name), 'rb') as file:
+            return file.read()
+
+    def prepare(self, program, command):
+        """Makes code of the charts where the command wants code."""
+        for name, chart in self.charts.items():
+            code = chart
+            if command in WITH_CODE:
+                with open(os.path.join(self.folder, 'chart'), 'wb') as file:
+                    file.write(chart)
+                code = call(program, [b'compile', b'chart'], self.folder)[0].encode('latin-1')
+            with open(os.path.join(self.folder, name), 'wb') as file:
+                file.write(code)
+
+
+def lines_of(word, text):
+    whole, _, rest = text.rpartition('\n')
+    lines = whole.split('\n') if '\n' in text else []
+    shown = lines
+    if len(lines) > MOST_SHOWN:
+        shown = ['%d lines, %d bytes' % (len(lines), len(text)), lines[-1]]
+    return ['%s %s' % (word, line) for line in shown] + (['unended ' + rest] if rest else [])
+
+
+def answer(program, words, files, devices, memory):
+    """The lines of the answer of a run."""
+    command = os.fsdecode(words[0]) if words else ''
+    files.prepare(program, command)
+    opened = Opened(files.folder)
+    out, error, status = call(program, words, files.folder, devices, memory)
+    names = opened.names()
+    lines = ['status %s' % status] + lines_of('error', error) + lines_of('out', out)
+    found = None
+    if not devices:
+        asked = command if command in COMMANDS and 'status 2' not in lines else None
+        found = problem(asked, out, error, status)
+    return lines + ['opens ' + (' '.join(names) or 'none')] + (['problem: ' + found] if found else [])
+
+
+def begins(program, memory):
+    """Whether the program can begin with so much memory."""
+    with tempfile.TemporaryDirectory() as folder:
+        return call(program, [], folder, memory=memory)[1:] == (USAGE, 2)
+
+
+class Table:
+    def __init__(self, program, large):
+        self.program, self.large = os.path.abspath(program), large
+        self.blocks = self.runs = self.left = self.wrong = 0
+        texts = cm.Texts()
+        with open(os.path.join(HERE, 'code_table.txt')) as table:
+            self.codes = {block.name: texts.code(block) for block in tables.blocks(table)}
+
+    def block(self, block):
+        memory = block.values('memory')
+        memory = int(memory[0]) if memory else None
+        if any(word == 'large' for word, _ in block.parts) and not self.large:
+            self.left += 1
+            return
+        if memory is not None and not begins(self.program, memory):
+            print('block %s: passed over, since the program takes more memory to begin' % block.name)
+            self.left += 1
+            return
+        self.blocks += 1
+        devices = {number: block.values(word)[0] for word, number in (('out', 1), ('error', 2)) if block.values(word)}
+        with tempfile.TemporaryDirectory(dir='/dev/shm' if os.path.isdir('/dev/shm') else None) as folder:
+            files = Files(block, folder, self.codes)
+            for rest in block.values('words'):
+                self.runs += 1
+                got = answer(self.program, words_of(rest), files, devices, memory)
+                if got != block.expected:
+                    self.wrong += 1
+                    print('block %s: words %s' % (block.name, rest))
+                    print(''.join('  by hand   %s\n' % line for line in block.expected if line not in got)
+                          + ''.join('  answered  %s\n' % line for line in got if line not in block.expected), end='')
+
+
+def main(words):
+    large = '--large' in words
+    words = [word for word in words if word != '--large']
+    if len(words) != 2 or words[0] != '--against':
+        sys.exit(__doc__)
+    table = Table(words[1], large)
+    for block in tables.blocks(sys.stdin):
+        table.block(block)
+    print('%d blocks, %d runs, %d of them differ; %d blocks left out' % (table.blocks, table.runs, table.wrong, table.left))
+    return 1 if table.wrong else 0
+
+
+if __name__ == '__main__':
+    sys.exit(main(sys.argv[1:]))

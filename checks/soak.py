@@ -1,0 +1,421 @@
+#!/usr/bin/env python3
+r"""Runs random cases through all commands of a built program for a given time, and compares the answers with each other.
+
+    python3 checks/soak.py --against PROGRAM [--minutes T] [--seed S] [--first M] [--cases N] [--longest L] [--keep FOLDER]
+
+T is 60 where nothing is said. A case follows from the seed and its own number alone, so that `--first M --cases 1` runs case M
+again. It is one of these:
+
+    chart           A random chart with event files and bounds, as in random_compiled.py: `rules`, `run`, and `exec` of what
+                    `compile` writes must have the same answer, and `upgrade` must leave that code as it is.
+    code            A random code, often with a fault, and an event file, as in random_codes.py: `exec` and `upgrade` must refuse
+                    it alike, and `exec` must have the same answer for what `upgrade` writes.
+    hostile chart   The bytes of a chart are changed, cut, doubled or mixed with others: `check`, `fmt`, `compile`, `rules` and
+                    `run` must refuse it alike; where it is accepted, `fmt` must give a text that `fmt` leaves as it is and that
+                    has the same counts, code of the same traces, and the traces are compared as above.
+    hostile code    The same of a code text.
+    hostile events  The same of an event file.
+    words           A random list of words: the usage line comes exactly where they ask for no command, by the readers of words
+                    of chart_rules.py and code_machine.py; all else has the answer of the same words in the plainest form.
+
+For one case in ten, of charts one in twenty, the references chart_check.py, chart_rules.py, code_text.py and code_machine.py
+must answer alike. Each answer of each call must be one that answers.py allows. A call may use L seconds of processor time, 60
+where nothing is said, and so much memory: what the program takes to begin, 64 MiB, 400 bytes for each byte of a chart and 64 for
+each byte of a code text, and for `exec` and `run` room for the frames of its bounds, (steps + 1) * (height + 1) * 32 bytes, where
+the height is 200 or 87. A program that can't begin with 1 GiB, such as one built with a sanitizer, runs without that limit.
+
+A line is written for each difference, whose files are kept in FOLDER, and at the end a summary. The status is 1 where anything
+differed."""
+import os
+import random
+import resource
+import signal
+import subprocess
+import sys
+import tempfile
+import threading
+import time
+from collections import Counter
+
+import answers
+import chart_check as check
+import chart_rules as rules
+import chart_syntax as syntax
+import code_acceptance as ca
+import code_machine as cm
+import code_text as ct
+import random_charts
+import random_codes
+import random_compiled
+from programs import differences
+
+KINDS = {'chart': 6, 'code': 4, 'hostile chart': 4, 'hostile code': 3, 'hostile events': 3, 'words': 3}
+ONE_IN = 10
+MIB = 1 << 20
+CHART_HEIGHT = 87
+ODD_BYTES = b'\0\n\r\t #/{}[]()@=-+*<>!&|;:,.q\x7f\x80\xff09azAZ_'
+
+
+# ---- the program under limits
+
+class Measured(random_compiled.Program):
+    """The program under limits. It counts calls, statuses, time and memory, and what is no answer at all."""
+
+    def __init__(self, path, folder, longest):
+        super().__init__(path, folder)
+        self.longest = longest
+        self.least = 64 * MIB if answers.begins(self.path, 1 << 30) else None
+        self.calls, self.seconds, self.memory, self.bad = Counter(), Counter(), Counter(), []
+        self.nothing_fails = True
+
+    def size(self, name):
+        try:
+            return os.path.getsize(os.path.join(self.folder, name))
+        except OSError:
+            return 0
+
+    def most_memory(self, command, names, options):
+        """How much memory a call may have."""
+        first = self.size(names[0]) if names else 0
+        most = self.least + 64 * MIB + first * (64 if command in answers.WITH_CODE else 400)
+        if command in ('exec', 'run'):
+            steps = int(options[options.index('--steps') + 1]) if '--steps' in options else rules.USUAL_STEPS
+            most += (steps + 1) * ((ca.MOST_HEIGHT if command == 'exec' else CHART_HEIGHT) + 1) * 32
+        return most
+
+    def run(self, command, *names, options=()):
+        words = [command, *options, *(os.path.join(self.folder, name) for name in names)]
+        memory = self.most_memory(command, names, options) if self.least is not None else None
+        return self.call(words, memory, command)
+
+    def call(self, words, memory, command):
+        """Standard output, standard error and status of a call. `command` is None where the words ask for none."""
+        def limit():
+            resource.setrlimit(resource.RLIMIT_CPU, (self.longest, self.longest + 1))
+            if memory is not None:
+                resource.setrlimit(resource.RLIMIT_AS, (memory, memory))
+
+        names = [os.path.join(self.folder, name) for name in ('standard output', 'standard error')]
+        with open(names[0], 'wb') as out, open(names[1], 'wb') as error:
+            process = subprocess.Popen([self.path, *words], stdin=subprocess.DEVNULL, stdout=out, stderr=error, cwd=self.folder,
+                                       preexec_fn=limit)
+            late = threading.Timer(10 * self.longest, os.kill, (process.pid, signal.SIGKILL))
+            late.start()
+            _, ended, used = os.wait4(process.pid, 0)
+            late.cancel()
+            process.returncode = status = os.waitstatus_to_exitcode(ended)
+        texts = []
+        for name in names:
+            with open(name, 'rb') as file:
+                texts.append(file.read().decode('latin-1'))
+        self.count(command or 'no command', status, used)
+        found = answers.problem(command, *texts, status)
+        if status in (4, 5, 6) and command is not None and found is None and self.nothing_fails:
+            found = 'status %d where nothing failed' % status
+        if found:
+            self.bad.append('%s: %s' % (' '.join(map(repr, words)), found))
+        return (*texts, status)
+
+    def count(self, command, status, used):
+        self.calls[command, status] += 1
+        self.seconds[command] = max(self.seconds[command], used.ru_utime + used.ru_stime)
+        self.memory[command] = max(self.memory[command], used.ru_maxrss)
+
+
+# ---- hostile bytes
+
+def changed_once(choices, data, other):
+    at = choices.randint(0, len(data))
+    to = min(len(data), at + choices.choice([1, 1, 1, 2, 3, 8, 40, 400]))
+    kind = choices.randrange(9)
+    if kind == 0:
+        return data[:at] + bytes([choices.choice(ODD_BYTES)]) + data[at:]
+    if kind == 1:
+        return data[:at] + bytes([choices.choice(ODD_BYTES)]) + data[at + 1:]
+    if kind == 2:
+        return data[:at] + data[to:]
+    if kind == 3:
+        return data[:at] + data[at:to] * choices.choice([2, 2, 3, 100]) + data[to:]
+    if kind == 4:
+        return data[:at] if choices.random() < 0.5 else data[at:]
+    if kind == 5:
+        start = choices.randint(0, len(other))
+        return data[:at] + other[start:start + choices.choice([1, 5, 30, 300])] + data[to:]
+    if kind == 6:
+        return data[:at] + choices.randbytes(choices.choice([1, 1, 4, 60])) + data[at:]
+    if kind == 7:
+        lines = data.split(b'\n')
+        one, two = choices.randrange(len(lines)), choices.randrange(len(lines))
+        lines[one], lines[two] = lines[two], lines[one]
+        return b'\n'.join(lines)
+    return data[:at] + bytes([data[at] ^ 1 << choices.randrange(8)]) + data[at + 1:] if at < len(data) else data
+
+
+def changed(choices, data, other):
+    if choices.random() < 0.02:
+        return choices.choice([b'', choices.randbytes(choices.choice([1, 10, 1000, 100000])), other,
+                               bytes([choices.choice(ODD_BYTES)]) * choices.choice([1, 4096, 4097, 70000])])
+    for _ in range(choices.choice([1, 1, 1, 2, 3, 10])):
+        data = changed_once(choices, data, other)
+    return data
+
+
+# ---- words
+
+def pieces_of_words(choices):
+    numbers = ['0', '1', '3', '8', '32', '33', '50000', '50001', '+5', '-5', '007', '', 'x', '1e3', '٣', '99999999999999999999']
+    number = choices.choice(numbers)
+    return choices.choice([['c'], ['c'], ['k'], ['e'], ['e'], ['e'], ['nothing'], [''], ['-'], ['--'], ['--depth', number],
+                           ['--depth=' + number], ['--steps', number], ['--steps=' + number], ['--depth'], ['--steps='],
+                           ['-x'], ['--help'], ['\udcff'], ['--depths', number]])
+
+
+def random_words(choices):
+    words = [choices.choice([*answers.COMMANDS, *answers.WITH_TRACE * 4, '', 'Rules', '--', 'c'])]
+    for _ in range(choices.choice([0, 1, 1, 2, 2, 2, 3, 3, 4])):
+        words += pieces_of_words(choices)
+    return words
+
+
+def asked(words):
+    """The command that the words ask for, as its words in the plainest form, or none."""
+    if any('\udc80' <= letter <= '\udcff' for word in words for letter in word) or not words or words[0] not in answers.COMMANDS:
+        return None
+    command, *rest = words
+    if command in answers.WITH_TRACE:
+        found = rules.words_of(rest)
+        if found != cm.words_of(rest):
+            raise SystemExit('chart_rules.py and code_machine.py read these words otherwise: %r' % rest)
+        return found and [command, '--depth', str(found[1]), '--steps', str(found[2]), '--', *found[0]]
+    files, ended = [], False
+    for word in rest:
+        if not ended and word == '--':
+            ended = True
+        elif not ended and word.startswith('-') and word != '-':
+            return None
+        else:
+            files.append(word)
+    if len(files) != 1:
+        return None
+    if command == 'selftest' and not rules.re.fullmatch(r'\+?0*[0-9]{1,10}', files[0], rules.re.ASCII):
+        return None
+    if command == 'selftest' and int(files[0]) >= 1 << 32:
+        return None
+    return [command, '--', *files]
+
+
+# ---- the cases
+
+class Soak:
+    def __init__(self, program, seed, keep):
+        self.program, self.seed = program, seed
+        self.comparison = random_compiled.Comparison(program, seed, 2, keep)
+        self.kinds, self.found, self.bad = Counter(), Counter(), 0
+
+    def case(self, number):
+        choices = random.Random('soak %s %d' % (self.seed, number))
+        kind = choices.choices(list(KINDS), list(KINDS.values()))[0]
+        self.kinds[kind] += 1
+        name = 'case %d, %s' % (number, kind)
+        getattr(self, kind.replace(' ', '_') + '_case')(name, number, choices)
+        bad, self.program.bad = self.program.bad, []
+        self.bad += len(bad)
+        for line in bad:
+            print('%s: %s' % (name, line), flush=True)
+
+    def differ(self, name, lines, **contents):
+        self.comparison.differ(name, lines, **contents)
+
+    def text(self, choices):
+        """A random chart, mostly an accepted one, and its event file."""
+        maker = random_charts.Maker(choices, True)
+        chart = maker.chart()
+        if choices.random() < 0.1:
+            random_charts.Changer(choices, maker, chart).change()
+        text = random_charts.Writer(choices).chart(chart)
+        try:
+            events = random_charts.event_file(choices, check.check_chart(text))
+        except syntax.Fault:
+            events = 'tick\n'
+        return text.encode('latin-1'), events.encode('latin-1')
+
+    def chart_case(self, name, number, choices):
+        self.comparison.chart(number, 2)
+
+    def code_case(self, name, number, choices):
+        made = random_codes.Case('soak %s' % self.seed, number)
+        self.code_answers(name, number, made.text, made.events, made.depth, max(1, min(made.steps, 2000)))
+
+    def code_answers(self, name, number, code, events, depth, steps):
+        """Compares what `exec` and `upgrade` answer."""
+        for each, data in (('code', code), ('events', events)):
+            self.program.write(each, data)
+        options = ['--depth', str(depth), '--steps', str(steps)]
+        ran = self.program.run('exec', 'code', 'events', options=options)
+        upgraded = self.program.run('upgrade', 'code')
+        refused = ran[1] if answers.CODE_LINE.fullmatch(ran[1]) else ''
+        lines = differences(name + ' upgrade', (upgraded[0], refused, 1 if refused else 0), upgraded)
+        self.found['code texts refused' if refused else 'code texts accepted'] += 1
+        if not refused:
+            self.program.write('code 2', upgraded[0].encode('latin-1'))
+            lines += differences(name + ' exec of what upgrade writes', ran,
+                                 self.program.run('exec', 'code 2', 'events', options=options))
+            lines += differences(name + ' upgrade twice', upgraded, self.program.run('upgrade', 'code 2'))
+        if number % ONE_IN == 0:
+            self.found['codes compared with code_text.py and code_machine.py'] += 1
+            lines += differences(name + ' code_text.py', ct.upgrade(code), upgraded)
+            try:
+                _, _, work = ct.read_code(code)
+            except ct.Refused:
+                work = 0
+            if (work + 1) * steps <= 100 * random_codes.MOST_MOVES:
+                lines += differences(name + ' code_machine.py', cm.execute(code, events, depth, steps)[:3], ran)
+        self.differ(name, lines, code=code, events=events)
+
+    def hostile_chart_case(self, name, number, choices):
+        (text, events), (other, _) = self.text(choices), self.text(choices)
+        self.chart_answers(name, number, changed(choices, text, other), events, choices)
+
+    def chart_answers(self, name, number, text, events, choices):
+        """Compares what all commands answer of a chart."""
+        program = self.program
+        program.write('chart', text)
+        program.write('events', events)
+        checked, formatted = program.run('check', 'chart'), program.run('fmt', 'chart')
+        lines = []
+        with_references = number % ONE_IN == 0
+        if with_references:
+            self.found['charts compared with chart_check.py'] += 1
+            try:
+                expected = check.counts_text(check.check_chart(text.decode('latin-1'))) + '\n', '', 0
+            except syntax.Fault as fault:
+                expected = '', fault.written(text.decode('latin-1')) + '\n', 1
+            lines += differences(name + ' chart_check.py', expected, checked)
+        self.found['hostile charts accepted' if checked[2] == 0 else 'hostile charts refused'] += 1
+        reader = checked[2] == 1 and int(checked[1].split(' ')[2]) <= 8
+        lines += differences(name + ' fmt', checked if reader else (formatted[0], '', 0), formatted)
+        if formatted[2] == 0:
+            program.write('formatted', formatted[0].encode('latin-1'))
+            lines += differences(name + ' fmt twice', formatted, program.run('fmt', 'formatted'))
+        if checked[2]:
+            for command, *more in (('compile',), ('rules', 'events'), ('run', 'events')):
+                lines += differences('%s %s' % (name, command), checked, program.run(command, 'chart', *more))
+        else:
+            lines += differences(name + ' check of the canonical text', checked, program.run('check', 'formatted'))
+            lines += self.trace_lines(name, text, events, random_compiled.bounds_of(choices), with_references)
+        self.differ(name, lines, chart=text, events=events)
+
+    def trace_lines(self, name, text, events, bounds, with_references):
+        """Differences of the traces of an accepted chart."""
+        program = self.program
+        options = ['--depth', str(bounds[0]), '--steps', str(bounds[1])]
+        program.write('events', events)
+        ran = program.run('rules', 'chart', 'events', options=options)
+        self.found['traces of hostile texts with status %s' % ran[2]] += 1
+        lines = differences(name + ' run', ran, program.run('run', 'chart', 'events', options=options))
+        code = program.run('compile', 'chart')
+        program.write('code', code[0].encode('latin-1'))
+        lines += differences(name + ' compile', (code[0], '', 0), code)
+        lines += differences(name + ' exec', ran, program.run('exec', 'code', 'events', options=options))
+        if os.path.exists(os.path.join(program.folder, 'formatted')):
+            lines += differences(name + ' run of the canonical text', ran,
+                                 program.run('run', 'formatted', 'events', options=options))
+        if with_references and bounds[1] <= rules.USUAL_STEPS:
+            self.found['traces compared with chart_rules.py'] += 1
+            told = rules.run_rules(text.decode('latin-1'), events, *bounds)
+            lines += differences(name + ' chart_rules.py', (told.out, told.error, told.status), ran)
+        return lines
+
+    def hostile_code_case(self, name, number, choices):
+        if choices.random() < 0.5:
+            code, events = random_codes.Case('soak %s' % self.seed, number), None
+            code, events = code.text, code.events
+        else:
+            text, events = self.text(choices)
+            self.program.write('chart', text)
+            code = self.program.run('compile', 'chart')[0].encode('latin-1')
+        other = random_codes.Case('soak other %s' % self.seed, number % 900).text
+        self.code_answers(name, number, changed(choices, code, other), events, choices.choice([1, 8, 32]),
+                          choices.choice([1, 20, 300]))
+
+    def hostile_events_case(self, name, number, choices):
+        text, events = self.text(choices)
+        _, other = self.text(choices)
+        self.program.write('chart', text)
+        if self.program.run('check', 'chart')[2]:
+            return self.chart_answers(name, number, text, events, choices)
+        formatted = os.path.join(self.program.folder, 'formatted')
+        if os.path.exists(formatted):
+            os.unlink(formatted)
+        events = changed(choices, events, other)
+        self.differ(name, self.trace_lines(name, text, events, random_compiled.bounds_of(choices), number % ONE_IN == 0),
+                    chart=text, events=events)
+
+    def words_case(self, name, number, choices):
+        door = {kind: os.path.join(answers.ROOT, 'examples/compiled/door.' + kind) for kind in ('chart', 'code', 'events')}
+        for file, kind in (('c', 'chart'), ('k', 'code'), ('e', 'events')):
+            with open(door[kind], 'rb') as sample:
+                self.program.write(file, sample.read())
+        for _ in range(10):
+            words = random_words(choices)
+            plain = asked(words)
+            self.found['lists of words that ask for ' + (plain[0] if plain else 'no command')] += 1
+            if plain and plain[0] == 'selftest':
+                continue
+            memory = None if self.program.least is None else self.program.least + 512 * MIB
+            self.program.nothing_fails = False
+            command = plain[0] if plain else None
+            got = self.program.call([os.fsencode(word.encode('utf-8', 'surrogateescape')) for word in words], memory, command)
+            if plain:
+                self.differ(name, differences('%s %r' % (name, words), self.program.call(plain, memory, command), got))
+            self.program.nothing_fails = True
+
+    # ---- the summary
+
+    def print_summary(self, cases, began):
+        program = self.program
+        print('\nsoak with seed %s: %d cases in %.0f minutes, %d calls of the program'
+              % (self.seed, cases, (time.time() - began) / 60, sum(program.calls.values())))
+        for title, counts in (('cases', self.kinds), ('met', self.found)):
+            print('\n%s' % title)
+            for what in sorted(counts):
+                print('%9d  %s' % (counts[what], what))
+        self.comparison.print_counts()
+        print('\n%-12s %8s  %-44s %12s %12s' % ('command', 'calls', 'of each status', 'most seconds', 'most memory'))
+        for command in sorted(program.seconds):
+            statuses = {status: count for (each, status), count in program.calls.items() if each == command}
+            print('%-12s %8d  %-44s %10.2f s %8.0f MiB' % (
+                command, sum(statuses.values()), ', '.join('%s: %d' % each for each in sorted(statuses.items(), key=str)),
+                program.seconds[command], program.memory[command] / 1024))
+        print('memory was limited' if program.least is not None else 'memory was not limited: the program takes over 1 GiB to begin')
+        own = resource.getrusage(resource.RUSAGE_SELF).ru_maxrss / 1024
+        print('a process begins with the memory of this one, %.0f MiB, so less is not seen' % own)
+        print('%d differences, %d answers that are none' % (self.comparison.wrong, self.bad))
+
+
+def main(words):
+    options = {'--against': '', '--minutes': '60', '--seed': '1', '--first': '0', '--cases': '0', '--longest': '60',
+               '--keep': 'differences'}
+    words = list(words)
+    while words:
+        word = words.pop(0)
+        if word not in options or not words:
+            sys.exit(__doc__)
+        options[word] = words.pop(0)
+    if not options['--against']:
+        sys.exit(__doc__)
+    began, first, most = time.time(), int(options['--first']), int(options['--cases'])
+    print('seed %s, from case %d on' % (options['--seed'], first), flush=True)
+    with tempfile.TemporaryDirectory(dir='/dev/shm' if os.path.isdir('/dev/shm') else None) as folder:
+        program = Measured(options['--against'], folder, int(options['--longest']))
+        soak, number = Soak(program, options['--seed'], options['--keep']), first
+        while time.time() - began < 60 * float(options['--minutes']) and not (most and number - first >= most):
+            soak.case(number)
+            number += 1
+        soak.print_summary(number - first, began)
+    print('the next case is %d' % number)
+    return 1 if soak.comparison.wrong or soak.bad else 0
+
+
+if __name__ == '__main__':
+    sys.exit(rules.with_deep_calls(lambda: main(sys.argv[1:])))

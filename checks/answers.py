@@ -268,6 +268,13 @@ def answer(program, words, files, devices, memory):
     return lines + ['opens ' + (' '.join(names) or 'none')] + (['problem: ' + found] if found else [])
 
 
+def code_texts():
+    """The code texts of the blocks of code_table.txt, by name."""
+    texts = cm.Texts()
+    with open(os.path.join(HERE, 'code_table.txt')) as table:
+        return {block.name: texts.code(block) for block in tables.blocks(table)}
+
+
 def begins(program, memory):
     """Whether the program can begin with so much memory."""
     with tempfile.TemporaryDirectory() as folder:
@@ -278,9 +285,7 @@ class Table:
     def __init__(self, program, large):
         self.program, self.large = os.path.abspath(program), large
         self.blocks = self.runs = self.left = self.wrong = 0
-        texts = cm.Texts()
-        with open(os.path.join(HERE, 'code_table.txt')) as table:
-            self.codes = {block.name: texts.code(block) for block in tables.blocks(table)}
+        self.codes = code_texts()
 
     def block(self, block):
         memory = block.values('memory')

@@ -15,8 +15,8 @@ PART is one of these; all are tried where none is named:
                 removed or lengthened while they are read; few files may be open.
     stack       The stack of the process is smaller and smaller.
 
-At most N of the calls of one kind are tried in a scene, 400 where nothing is said, from the first to the last at even distances;
-`--most 0` means all. With `--selftest` that command is a scene too, which takes long.
+At most N of the calls of one kind are tried in a scene, 400 where nothing is said, from the first to the last at even
+distances; `--most 0` means all. With `--selftest` that command is a scene too, which takes long.
 
 Right is the answer of the same command where nothing fails. Each answer must be one that answers.py allows, what is on standard
 output must be a front of what is right, and more: see `Judge`. A line is written for each answer that is wrong, then a table
@@ -155,9 +155,11 @@ def scenes(program, with_selftest):
             Scene('upgrade refused', ['upgrade', 'c'], {'c': compiled(program, door)[:-7]})]
     for command in answers.WITH_TRACE:
         for name, chart, events in (('', watch, watch_events), (' of the door', door, door_events),
-                                    (' with a bad line', door, b'PUSH\nPUSH locked=2\n'), (' with a fault', fault, b'tick\n' * 9)):
+                                    (' with a bad line', door, b'PUSH\nPUSH locked=2\n'),
+                                    (' with a fault', fault, b'tick\n' * 9)):
             text = compiled(program, chart) if command == 'exec' else chart
             made.append(Scene(command + name, [command, 'c', 'e'], {'c': text, 'e': events}))
+    made.append(most_frames())
     if with_selftest:
         made.append(Scene('selftest', ['selftest', '0'], {}))
     return made
@@ -265,14 +267,17 @@ class Library:
 def failing_calls(program, judge, made, most):
     with tempfile.TemporaryDirectory() as folder:
         library = Library(folder)
+        place = Place(made[0])
+        answer, counts = library.call(program, place)
+        if answer != place.call(program) or not counts[MEMORY]:
+            print('calls: passed over, since the program brings its own requests for memory')
+            return
         for scene in made:
             place = Place(scene)
             right = place.call(program)
             answer, counts = library.call(program, place)
             if not judge.check(scene.name, 'nothing', scene.words[0], right, answer, None):
                 continue
-            if not counts[MEMORY] and scene.files:
-                print('%s: the library sees no request for memory; the program brings its own' % scene.name)
             failing_calls_of(program, judge, scene, place, library, right, counts, most)
             print('%s: %s' % (scene.name, ', '.join('%d of %s' % each for each in zip(counts, KINDS))), flush=True)
 
@@ -336,7 +341,8 @@ def little_memory(program, judge, made, most):
         right = place.call(program)
         while steps < 2000:
             answer = place.call(program, memory=memory)
-            judge.check('%s: memory of %d bytes' % (scene.name, memory), 'little memory', scene.words[0], right, answer, 'memory')
+            name = '%s: memory of %d bytes' % (scene.name, memory)
+            judge.check(name, 'little memory', scene.words[0], right, answer, 'memory')
             if answer == right:
                 break
             memory, steps = memory + (4096 if steps < 64 else memory // 64), steps + 1
@@ -397,9 +403,11 @@ def failing_streams(program, judge, made, most):
         for device in answers.DEVICES:
             if right[0]:
                 answer = place.call(program, devices={1: device})
-                judge.check('%s: output %s' % (scene.name, device), 'standard output ' + device, command, right, answer, 'write')
+                name = '%s: standard output %s' % (scene.name, device)
+                judge.check(name, 'standard output ' + device, command, right, answer, 'write')
             answer = place.call(program, devices={2: device})
-            judge.check('%s: error %s' % (scene.name, device), 'standard error ' + device, command, right, answer, None, True)
+            name = '%s: standard error %s' % (scene.name, device)
+            judge.check(name, 'standard error ' + device, command, right, answer, None, True)
         for size in chosen(len(right[0]), most and most // 8):
             answer = cut_output(place, program, size - 1, True)
             if answer[0] != right[0][:size - 1] or answer[1:] != ('write fault\n', 5):
@@ -412,8 +420,8 @@ def failing_streams(program, judge, made, most):
         right = place.call(program)
         for size in (0, 1, 20, 512, 4096, 100000):
             answer = left_output(place, program, size)
-            judge.check('%s: the reader goes after %d bytes' % (place.scene.name, size), 'a reader that goes away', command, right,
-                        answer, 'write')
+            name = '%s: the reader goes after %d bytes' % (place.scene.name, size)
+            judge.check(name, 'a reader that goes away', command, right, answer, 'write')
 
 
 # ---- files
@@ -558,6 +566,12 @@ def failing_files(program, judge, made, most):
 
 # ---- the stack
 
+def most_frames():
+    """Code of the greatest height under the greatest bounds, so with the most room for frames."""
+    return Scene('exec with the most frames', ['exec', '--depth', '32', '--steps', '50000', 'c', 'e'],
+                 {'c': answers.code_texts()['height_200'], 'e': b'tick\n'})
+
+
 def deep_scenes(program):
     """Charts whose parts stand as deep in each other, and lead as far to each other, as they may."""
     number = b'(' * 64 + b'1' + b')' * 64
@@ -567,11 +581,18 @@ def deep_scenes(program):
     sends = b'chart C { event local L; local n : int8; default -> A; state A { during { n = n + 1; send L; } } }'
     made = []
     for name, chart in (('deep states', nest), ('a long chain', chain), ('nested sends', sends)):
-        made += [Scene('fmt of ' + name, ['fmt', 'c'], {'c': chart}), Scene('compile of ' + name, ['compile', 'c'], {'c': chart})]
+        made += [Scene('%s of %s' % (command, name), [command, 'c'], {'c': chart}) for command in ('fmt', 'compile')]
         for command in answers.WITH_TRACE:
             text = compiled(program, chart) if command == 'exec' else chart
             made.append(Scene('%s of %s' % (command, name), [command, '--depth', '32', '--steps', '50000', 'c', 'e'],
                               {'c': text, 'e': b'tick\ntick\n'}))
+    front = b'chart C { default -> A; state A { during { n = '
+    for name, text in (('parentheses', front + b'(' * 1000000), ('signs', front + b'- ' * 500000), ('braces', b'{' * 1000000),
+                       ('states', b'chart C { ' + b'state A { ' * 99999), ('comments', b'chart C { ' + b'//\n' * 300000)):
+        made += [Scene('%s of many %s' % (command, name), [command, 'c'], {'c': text}) for command in ('check', 'fmt')]
+    head = answers.code_texts()['lamp'].split(b'unless')[0]
+    for name, text in (('operators', head + b'unless 7 expr' + b' !' * 999999), ('fields', head + b'1 ' * 999999 + b'\n')):
+        made.append(Scene('upgrade of many ' + name, ['upgrade', 'c'], {'c': text}))
     return made
 
 

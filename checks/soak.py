@@ -20,9 +20,9 @@ again. It is one of these:
 
 For one case in ten, of charts one in twenty, the references chart_check.py, chart_rules.py, code_text.py and code_machine.py
 must answer alike. Each answer of each call must be one that answers.py allows. A call may use L seconds of processor time, 60
-where nothing is said, and so much memory: what the program takes to begin, 64 MiB, 400 bytes for each byte of a chart and 64 for
-each byte of a code text, and for `exec` and `run` room for the frames of its bounds, (steps + 1) * (height + 1) * 32 bytes, where
-the height is 200 or 87. A program that can't begin with 1 GiB, such as one built with a sanitizer, runs without that limit.
+where nothing is said, and so much memory: 32 MiB, 400 bytes for each byte of a chart and 64 for each byte of a code text, and
+for `exec` and `run` room for the frames of its bounds, (steps + 1) * (height + 1) * 32 bytes, where the height is 200 or 87. A
+program that can't begin with 1 GiB, such as one built with a sanitizer, runs without that limit.
 
 A line is written for each difference, whose files are kept in FOLDER, and at the end a summary. The status is 1 where anything
 differed."""
@@ -64,7 +64,7 @@ class Measured(random_compiled.Program):
     def __init__(self, path, folder, longest):
         super().__init__(path, folder)
         self.longest = longest
-        self.least = 64 * MIB if answers.begins(self.path, 1 << 30) else None
+        self.limited = answers.begins(self.path, 1 << 30)
         self.calls, self.seconds, self.memory, self.bad = Counter(), Counter(), Counter(), []
         self.nothing_fails = True
 
@@ -77,7 +77,7 @@ class Measured(random_compiled.Program):
     def most_memory(self, command, names, options):
         """How much memory a call may have."""
         first = self.size(names[0]) if names else 0
-        most = self.least + 64 * MIB + first * (64 if command in answers.WITH_CODE else 400)
+        most = 32 * MIB + first * (64 if command in answers.WITH_CODE else 400)
         if command in ('exec', 'run'):
             steps = int(options[options.index('--steps') + 1]) if '--steps' in options else rules.USUAL_STEPS
             most += (steps + 1) * ((ca.MOST_HEIGHT if command == 'exec' else CHART_HEIGHT) + 1) * 32
@@ -85,7 +85,7 @@ class Measured(random_compiled.Program):
 
     def run(self, command, *names, options=()):
         words = [command, *options, *(os.path.join(self.folder, name) for name in names)]
-        memory = self.most_memory(command, names, options) if self.least is not None else None
+        memory = self.most_memory(command, names, options) if self.limited else None
         return self.call(words, memory, command)
 
     def call(self, words, memory, command):
@@ -179,7 +179,9 @@ def random_words(choices):
 
 def asked(words):
     """The command that the words ask for, as its words in the plainest form, or none."""
-    if any('\udc80' <= letter <= '\udcff' for word in words for letter in word) or not words or words[0] not in answers.COMMANDS:
+    if any('\udc80' <= letter <= '\udcff' for word in words for letter in word):
+        return None
+    if not words or words[0] not in answers.COMMANDS:
         return None
     command, *rest = words
     if command in answers.WITH_TRACE:
@@ -362,7 +364,7 @@ class Soak:
             self.found['lists of words that ask for ' + (plain[0] if plain else 'no command')] += 1
             if plain and plain[0] == 'selftest':
                 continue
-            memory = None if self.program.least is None else self.program.least + 512 * MIB
+            memory = 512 * MIB if self.program.limited else None
             self.program.nothing_fails = False
             command = plain[0] if plain else None
             got = self.program.call([os.fsencode(word.encode('utf-8', 'surrogateescape')) for word in words], memory, command)
@@ -387,7 +389,7 @@ class Soak:
             print('%-12s %8d  %-44s %10.2f s %8.0f MiB' % (
                 command, sum(statuses.values()), ', '.join('%s: %d' % each for each in sorted(statuses.items(), key=str)),
                 program.seconds[command], program.memory[command] / 1024))
-        print('memory was limited' if program.least is not None else 'memory was not limited: the program takes over 1 GiB to begin')
+        print('memory was limited' if program.limited else 'memory was not limited: over 1 GiB is wanted to begin')
         own = resource.getrusage(resource.RUSAGE_SELF).ru_maxrss / 1024
         print('a process begins with the memory of this one, %.0f MiB, so less is not seen' % own)
         print('%d differences, %d answers that are none' % (self.comparison.wrong, self.bad))

@@ -26,35 +26,54 @@ class Draws:
         return self.s // 65536 % k
 
 
-def chart_of(draws):
-    """The lines of the chart: an AND of regions, each with a datum and a local event of its own. A state sends the local
-    event of the next region, and in the last region nothing."""
+class Region:
+    """The draws of a region: the bounds and the state of its junction, and four numbers for each of its states."""
+    def __init__(self, draws, states):
+        self.above = draws.draw(200)
+        self.first = draws.draw(states)
+        self.below = draws.draw(200)
+        self.states = [State(draws, states) for _ in range(states)]
+
+
+class State:
+    """The draws of a state: the event that leads to the junction, the state to which the next event leads, what entering
+    the state adds, and the state to which the event of the region leads."""
+    def __init__(self, draws, states):
+        self.event = draws.draw(4)
+        self.other = draws.draw(states)
+        self.step = draws.draw(9)
+        self.heard = draws.draw(states)
+
+    def next_event(self):
+        return (self.event + 1) % 4
+
+
+def regions_of(draws):
     regions = 2 + draws.draw(4)
     states = 3 + draws.draw(60)
+    return [Region(draws, states) for _ in range(regions)]
+
+
+def chart_of(regions):
+    """The lines of the chart: an AND of regions, each with a datum and a local event of its own. A state sends the local
+    event of the next region, and in the last region nothing."""
     lines = ["chart G and {"]
     lines += [f"event input e{e};" for e in range(4)]
-    lines += [f"event local l{i};" for i in range(regions)]
+    lines += [f"event local l{i};" for i in range(len(regions))]
     lines += ["input x : int16;"]
-    lines += [f"local n{i} : int32 wrap;" for i in range(regions)]
-    for i in range(regions):
-        t = draws.draw(200)
-        u = draws.draw(states)
-        v = draws.draw(200)
+    lines += [f"local n{i} : int32 wrap;" for i in range(len(regions))]
+    for i, region in enumerate(regions):
         lines.append(f"state r{i} or {{")
         lines.append("default -> s0;")
-        lines.append(f"junction j {{ [x > {t}] -> s{u}; [x < {v}] -> @z; }}")
+        lines.append(f"junction j {{ [x > {region.above}] -> s{region.first}; [x < {region.below}] -> @z; }}")
         lines.append("junction z { }")
-        for k in range(states):
-            a = draws.draw(4)
-            b = draws.draw(states)
-            c = draws.draw(9)
-            d = draws.draw(states)
-            send = "" if i == regions - 1 else f" {{ send l{i + 1}; }}"
+        for k, state in enumerate(region.states):
+            send = "" if i == len(regions) - 1 else f" {{ send l{i + 1}; }}"
             lines.append(f"state s{k} {{")
-            lines.append(f"entry {{ n{i} = n{i} + {c}; }}")
-            lines.append(f"outer e{a} {{ n{i} = n{i} + 1; }} -> @j;")
-            lines.append(f"outer e{(a + 1) % 4}{send} -> s{b};")
-            lines.append(f"outer l{i} / {{ n{i} = n{i} * 3; }} -> s{d};")
+            lines.append(f"entry {{ n{i} = n{i} + {state.step}; }}")
+            lines.append(f"outer e{state.event} {{ n{i} = n{i} + 1; }} -> @j;")
+            lines.append(f"outer e{state.next_event()}{send} -> s{state.other};")
+            lines.append(f"outer l{i} / {{ n{i} = n{i} * 3; }} -> s{state.heard};")
             lines.append("}")
         lines.append("}")
     lines.append("}")
@@ -74,7 +93,7 @@ def events_of(draws):
 def texts_of(number):
     """Chart text and event file of a case."""
     draws = Draws(number)
-    chart = chart_of(draws)
+    chart = chart_of(regions_of(draws))
     return tuple("".join(line + "\n" for line in lines).encode("ascii") for lines in (chart, events_of(draws)))
 
 

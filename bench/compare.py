@@ -1,0 +1,242 @@
+#!/usr/bin/env python3
+"""Compares `flowc rules` and `flowc exec` on the generated case 0 with a switch in C, Boost.Statechart and Qt SCXML.
+
+    bench/compare.py [BIN] [--functions]    BIN is a built program; without it, crates/flowc/out/flowc after `rt run` there
+
+All of them run the 20,000 events and must write the same trace, byte for byte, before anything is measured; a difference is an
+error. Instructions are counted by valgrind's tool callgrind over the first 5,000 events, less those of a run without events.
+The time is the least processor time of five runs over the event file ten times, less that without events. What isn't installed
+is skipped, and a line says so. With --functions it prints too how the instructions of `exec` and of `rules` are
+distributed. It works in a temporary folder, and is no test of speed: no ratio is an error."""
+import collections
+import os
+import re
+import resource
+import shutil
+import subprocess
+import sys
+import tempfile
+
+import generated
+from machines import boost_statechart, qt_scxml, switch_in_c
+
+HERE = os.path.dirname(os.path.abspath(__file__))
+BUILT = os.path.join(HERE, '..', 'crates', 'flowc', 'out', 'flowc')
+MACHINES = os.path.join(HERE, 'machines')
+COUNTED, TIMES, RUNS, SHOWN = 5_000, 10, 5, 24
+
+OTHERS = {'C switch': 'C', 'Boost.Statechart': 'Boost', 'Qt SCXML, C++': 'Qt, C++', 'Qt SCXML, ECMAScript': 'Qt, ECMA'}
+
+
+class Skipped(Exception):
+    """Why a program can't be built here."""
+
+
+def need(command):
+    if not shutil.which(command):
+        raise Skipped('%s is not installed' % command)
+
+
+def write(folder, name, text):
+    with open(os.path.join(folder, name), 'w') as file:
+        file.write(text)
+
+
+def output(words, folder):
+    return subprocess.run(words, cwd=folder, check=True, stdout=subprocess.PIPE).stdout
+
+
+def build_switch(regions, folder):
+    need('gcc')
+    write(folder, 'switch.c', switch_in_c.source(regions))
+    output(['gcc', '-O2', '-I', MACHINES, 'switch.c', '-o', 'switch'], folder)
+    return ['./switch']
+
+
+def build_silent(folder):
+    """The program in C without a machine: it reads the events, and writes lines of the same form."""
+    need('gcc')
+    write(folder, 'silent.c', switch_in_c.silent())
+    output(['gcc', '-O2', '-I', MACHINES, 'silent.c', '-o', 'silent'], folder)
+    return ['./silent']
+
+
+def build_boost(regions, folder):
+    need('g++')
+    header = '#include <boost/statechart/state_machine.hpp>\n'
+    if subprocess.run(['g++', '-E', '-x', 'c++', '-'], input=header.encode(), capture_output=True).returncode != 0:
+        raise Skipped('Boost.Statechart is not installed (libboost1.81-dev, or libboost-dev)')
+    write(folder, 'boost.cpp', boost_statechart.source(regions))
+    output(['g++', '-O2', '-DNDEBUG', '-I', MACHINES, 'boost.cpp', '-o', 'boost'], folder)
+    return ['./boost']
+
+
+def build_qt(regions, folder, data):
+    for command in ('g++', 'pkg-config'):
+        need(command)
+    if subprocess.run(['pkg-config', '--exists', 'Qt6Scxml', 'Qt6Core']).returncode != 0:
+        raise Skipped('Qt SCXML is not installed (qt6-scxml-dev)')
+    asked = lambda *words: output(['pkg-config', *words], folder).decode().split()
+    tools = asked('--variable=libexecdir', 'Qt6Core')[0]
+    inside = os.path.join(folder, data.__name__)
+    os.mkdir(inside)
+    write(inside, 'machine.scxml', qt_scxml.document(regions, data))
+    write(inside, 'qt.cpp', qt_scxml.program(regions, data))
+    output([os.path.join(tools, 'qscxmlc'), 'machine.scxml'], inside)
+    sources = ['qt.cpp', 'machine.cpp']
+    if data.header is not None:
+        write(inside, 'case_data.h', data.header)
+        output([os.path.join(tools, 'moc'), 'case_data.h', '-o', 'case_data.cpp'], inside)
+        sources.append('case_data.cpp')
+    output(['g++', '-O2', '-DNDEBUG', '-DQT_NO_DEBUG', '-fPIC', '-I', '.', '-I', MACHINES,
+            *asked('--cflags', 'Qt6Scxml', 'Qt6Core'), *sources, '-o', 'qt', *asked('--libs', 'Qt6Scxml', 'Qt6Core')], inside)
+    return [os.path.join(inside, 'qt')]
+
+
+def silent_code(code):
+    """The code with a reaction that does nothing, so that only events are read and lines written."""
+    lines = code.split('\n')
+    at = next(i for i, line in enumerate(lines) if line.startswith('procs '))
+    react = int(lines[at].split()[3])
+    at += 1
+    for _ in range(react):
+        at += 1 + int(lines[at].split()[1])
+    return '\n'.join(lines[:at] + ['p 1', 'ret 1'] + lines[at + 1 + int(lines[at].split()[1]):])
+
+
+def counted(words, folder, file):
+    """The machine instructions of a run, and those of each function; None without callgrind."""
+    if not shutil.which('valgrind'):
+        return None
+    kept = os.path.join(folder, 'counts')
+    subprocess.run(['valgrind', '--tool=callgrind', '--callgrind-out-file=' + kept, *words, file], cwd=folder, check=True,
+                   stdout=subprocess.DEVNULL, stderr=subprocess.DEVNULL)
+    names, counts, function, is_call = {}, collections.Counter(), None, False
+    with open(kept) as lines:
+        for line in lines:
+            named = re.match(r'(c?)fn=(\(\d+\))(?: (.*))?$', line)
+            if named:
+                names.setdefault(named[2], re.sub(r"::<#.*|'\d+$", '', named[3] or ''))
+                function = function if named[1] else named[2]
+            elif line.startswith('calls='):
+                is_call = True
+            elif line[0] in '0123456789+-*':
+                if not is_call:
+                    counts[function] += int(line.split()[-1])
+                is_call = False
+    by_name = collections.Counter()
+    for function, count in counts.items():
+        by_name[names[function]] += count
+    return by_name
+
+
+def instructions(words, folder):
+    """The instructions an event of each function; None without callgrind."""
+    whole, none = counted(words, folder, 'front'), counted(words, folder, 'none')
+    if whole is None:
+        return None
+    return {name: (whole[name] - none[name]) / COUNTED for name in whole}
+
+
+def processor_time(words, folder, file):
+    before = resource.getrusage(resource.RUSAGE_CHILDREN)
+    subprocess.run([*words, file], cwd=folder, check=True, stdout=subprocess.DEVNULL)
+    after = resource.getrusage(resource.RUSAGE_CHILDREN)
+    return after.ru_utime + after.ru_stime - before.ru_utime - before.ru_stime
+
+
+def times(programs, folder):
+    """The seconds an event of each program. The programs take turns, so that a busy moment meets them all."""
+    least = collections.defaultdict(lambda: float('inf'))
+    for _ in range(RUNS):
+        for name, words in programs.items():
+            for file in ('many', 'none'):
+                least[name, file] = min(least[name, file], processor_time(words, folder, file))
+    return {name: (least[name, 'many'] - least[name, 'none']) / (TIMES * generated.EVENTS) for name in programs}
+
+
+def all_programs(program, folder):
+    """The programs, each with the words that begin its command; those that can't be built are named and left out."""
+    regions = generated.regions(0)
+    code = output([program, 'compile', '0.chart'], folder).decode()
+    write(folder, 'code', code)
+    write(folder, 'silent.code', silent_code(code))
+    programs = {'rules': [program, 'rules', '0.chart'], 'exec': [program, 'exec', 'code']}
+    builds = {
+        'C switch': build_switch,
+        'Boost.Statechart': build_boost,
+        'Qt SCXML, C++': lambda *given: build_qt(*given, qt_scxml.Cpp),
+        'Qt SCXML, ECMAScript': lambda *given: build_qt(*given, qt_scxml.EcmaScript),
+    }
+    for name, build in builds.items():
+        try:
+            programs[name] = build(regions, folder)
+        except Skipped as why:
+            print('%s is skipped: %s' % (name, why))
+    return programs
+
+
+def compare_traces(programs, folder):
+    for file in ('events', 'many'):
+        expected = output([*programs['rules'], file], folder)
+        for name, words in programs.items():
+            if output([*words, file], folder) != expected:
+                sys.exit('the trace of %s differs from that of rules' % name)
+    print('the traces of %s agree' % ', '.join(programs))
+
+
+def prepare(folder):
+    generated.main(['0', folder])
+    with open(os.path.join(folder, '0.events')) as file:
+        events = file.readlines()
+    for name, lines in (('events', events), ('front', events[:COUNTED]), ('many', events * TIMES), ('none', [])):
+        write(folder, name, ''.join(lines))
+
+
+def shown(value, form, scale=1):
+    return '-' if value is None else form % (value * scale)
+
+
+def print_rows(rows):
+    """A row for each program, with its ratios to those of the others that are there."""
+    compared = [(name, short) for name, short in OTHERS.items() if name in rows]
+    line = '%-28s' + ' %14s' * (1 + len(compared))
+    for place, title, form, scale in ((0, 'instructions an event', '%.0f', 1), (1, 'ns an event', '%.0f', 10 ** 9)):
+        print()
+        print(line % (title, '', *('to ' + short for _, short in compared)))
+        for name, row in rows.items():
+            ratios = [None if row[place] is None else row[place] / rows[other][place] for other, _ in compared]
+            print(line % (name, shown(row[place], form, scale), *(shown(ratio, '%.2f') for ratio in ratios)))
+
+
+def print_functions(name, functions):
+    print()
+    print('%s: instructions an event by function' % name)
+    for function, count in sorted(functions.items(), key=lambda item: -item[1])[:SHOWN]:
+        print('%10.1f  %s' % (count, function))
+
+
+def main(program, is_by_function):
+    with tempfile.TemporaryDirectory() as folder:
+        prepare(folder)
+        programs = all_programs(program, folder)
+        compare_traces(programs, folder)
+        measured = dict(programs)
+        measured['exec, no machine'] = [program, 'exec', 'silent.code']
+        if 'C switch' in programs:
+            measured['C, no machine'] = build_silent(folder)
+        functions = {name: instructions(words, folder) for name, words in measured.items()}
+        seconds = times(measured, folder)
+        print_rows({name: (functions[name] and sum(functions[name].values()), seconds[name]) for name in measured})
+        for name in ('exec', 'rules') if is_by_function and functions['exec'] else ():
+            print_functions(name, functions[name])
+
+
+if __name__ == '__main__':
+    given = [word for word in sys.argv[1:] if word != '--functions']
+    if len(given) > 1 or any(word.startswith('-') for word in given):
+        sys.exit(__doc__)
+    chosen = os.path.abspath(given[0] if given else BUILT)
+    if not os.access(chosen, os.X_OK):
+        sys.exit('%s is not there: build it by `rt run` in crates/flowc' % chosen)
+    main(chosen, '--functions' in sys.argv)

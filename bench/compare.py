@@ -182,7 +182,7 @@ def compare_traces(programs, folder):
         for name, words in programs.items():
             if output([*words, file], folder) != expected:
                 sys.exit('the trace of %s differs from that of rules' % name)
-    print('the traces of %s agree' % ', '.join(programs))
+    print('the traces agree: %s' % '; '.join(programs))
 
 
 def prepare(folder):
@@ -206,7 +206,7 @@ def print_rows(rows):
         print(line % (title, '', *('to ' + short for _, short in compared)))
         for name, row in rows.items():
             ratios = [None if row[place] is None else row[place] / rows[other][place] for other, _ in compared]
-            print(line % (name, shown(row[place], form, scale), *(shown(ratio, '%.2f') for ratio in ratios)))
+            print(line % (name, shown(row[place], form, scale), *(shown(ratio, '%.3g') for ratio in ratios)))
 
 
 def print_functions(name, functions):

@@ -1,15 +1,16 @@
 """The chart of a generated case as SCXML for Qt, and the C++ that runs it.
 
 `qscxmlc` compiles the document, with one of two data models: that of C++, where actions and guards become C++ functions, which
-is the fastest that Qt has, and ECMAScript, the usual one. SCXML gives an event to all regions at once and queues what is raised
-meanwhile. So each region has events of its own, and an event of the chart is submitted once for each region. A broadcast is an
-internal event by `<raise>`: it is processed before the next external event, and so before the next region has its turn, as in
-the chart. A condition action that counts before a guard stands in two transitions, one with the guard and one without."""
+is the fastest that Qt has, and ECMAScript, the usual one. SCXML gives an event to all regions at once and queues what is
+raised meanwhile. So each region has events of its own, and an event of the chart is submitted once for each region. A
+broadcast is an internal event by `<raise>`: it is processed before the next external event, and so before the next region has
+its turn, as in the chart. A condition action that counts before a guard stands in two transitions, one with the guard and one
+without."""
 
 MAIN = '''#include <QtCore/QCoreApplication>
 #include <QtScxml/QScxmlDataModel>
 #include "machine.h"
-
+{include}
 enum {{ REGIONS = {regions}, STATES = {states} }};
 #include "driver.h"
 
@@ -144,10 +145,11 @@ static void show(void) {
 
 def state_lines(data, i, region, k, state, is_last):
     counted, count = f'event="r{i}.e{state.event}"', data.count(i)
+    guard = f'cond="{data.input} &gt; {region.above}"'
     sent = '' if is_last else f'<raise event="l{i + 1}"/>'
     yield f'   <state id="r{i}_s{k}">'
     yield f'    <onentry>{data.enter(i, k, state.step)}</onentry>'
-    yield f'    <transition {counted} cond="{data.input} &gt; {region.above}" target="r{i}_s{region.first}">{count}</transition>'
+    yield f'    <transition {counted} {guard} target="r{i}_s{region.first}">{count}</transition>'
     yield f'    <transition {counted}>{count}</transition>'
     yield f'    <transition event="r{i}.e{state.next_event()}" target="r{i}_s{state.other}">{sent}</transition>'
     yield f'    <transition event="l{i}" target="r{i}_s{state.heard}">{data.triple(i)}</transition>'
@@ -169,5 +171,6 @@ def document(regions, data):
 
 def program(regions, data):
     """The C++ source of the program that runs the compiled document."""
-    made = MAIN.format(regions=len(regions), states=len(regions[0].states), actions=data.actions, model=data.model)
-    return made if data.header is None else made.replace('#include "machine.h"\n', '#include "machine.h"\n#include "case_data.h"\n')
+    include = '' if data.header is None else '#include "case_data.h"\n'
+    return MAIN.format(regions=len(regions), states=len(regions[0].states), include=include, actions=data.actions,
+                       model=data.model)

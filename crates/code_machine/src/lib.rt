@@ -2,8 +2,9 @@
 //!
 //! `Machine` is an engine whose starts and reactions are those of `code_form`. Read
 //! `specs/Frames.antt` and `specs/States.antt` first: what the fields of the machine stand for, and
-//! what each instruction does. The top frame is a value that the loop hands on; the frames below it
-//! lie on a stack whose room is reserved once, and so is the room for the events that are put out.
+//! what each instruction does. The top frame is a value of the loop, which each instruction changes
+//! in place; the frames below it lie on a stack whose room is reserved once, and so is the room for
+//! the events that are put out.
 #![tactic(auto)]
 
 mod calls;

@@ -25,6 +25,7 @@ ghost use Rattle.code_machine.specs.States.{
   below,
   Did,
   Stays,
+  StaysIn,
   IsReady,
 };
 
@@ -35,6 +36,7 @@ use flow_base::Fault;
 
 /// The lowest frame from this number on that has a note, the top frame among them: its number, and
 /// the note.
+#[inline(always)]
 fn find_from(m: &MachineState, top: Frame, from: usize) -> Option<(u32, u32)>
     requires calls { AreCalls m.now.stack.frames }
     requires small { length m.now.stack.frames < 2 ^ 32 }
@@ -54,27 +56,24 @@ fn find_from(m: &MachineState, top: Frame, from: usize) -> Option<(u32, u32)>
 }
 
 /// Pays one step and runs a note, that of a frame with this number.
-fn play_note(code: &LoadedCode, m: &mut MachineState, top: Frame, at: u32, note: u32) -> Move
+#[inline(always)]
+fn play_note(code: &LoadedCode, m: &mut MachineState, top: &mut Frame, at: u32, note: u32) -> Move
     requires ready { IsReady code.now m.old }
     requires at { at ≤ length m.old.stack.frames }
     ensures did { Did (if_ok (paid_in code.now.bounds (world_of m.old)) (world_of m.old)
         (λ v. Goes (machine v (now_of m.old) m.old.result
-        (fresh note None (suc (length (below m.old))) top.home None ∷
-        record (seen top) { cursor = suc at } ∷ below m.old)))) result m.new }
+        (fresh note None (suc (length (below m.old))) top.old.home None ∷
+        record (seen top.old) { cursor = suc at } ∷ below m.old)))) result m.new top.new }
     ensures stays { Stays m.old m.new }
+    ensures proc { StaysIn result top.old.proc top.new.proc }
 {
     let base = m.stack.len() as u32 + 1;
     if !pay(code.bounds, m) {
         return Move::Faults(Fault::Steps);
     }
-    push_frame(
-        &mut m.stack,
-        Frame {
-            cursor: at + 1,
-            ..top
-        },
-    );
-    Move::Goes(Frame {
+    top.cursor = at + 1;
+    push_frame(&mut m.stack, *top);
+    *top = Frame {
         proc: note,
         place: 0,
         note: 0,
@@ -82,28 +81,36 @@ fn play_note(code: &LoadedCode, m: &mut MachineState, top: Frame, at: u32, note:
         home: top.home,
         saved: 0,
         cursor: 0,
-    })
+    };
+    Move::Turns
 }
 
 /// Runs the next note above the base, where the home is bare; goes on where none is left.
-pub(crate) fn play(code: &LoadedCode, m: &mut MachineState, top: Frame) -> Move
+#[inline(always)]
+pub(crate) fn play(code: &LoadedCode, m: &mut MachineState, top: &mut Frame) -> Move
     requires ready { IsReady code.now m.old }
-    requires place { top.place < 2 ^ 30 }
-    requires home { top.home < state_count code.now.shape }
+    requires place { top.old.place < 2 ^ 30 }
+    requires home { top.old.home < state_count code.now.shape }
     ensures did { Did (act (program_in code.now) (Some instrs.Play)
-        (world_of m.old) (now_of m.old) m.old.result (seen top) (below m.old)) result m.new }
+        (world_of m.old) (now_of m.old) m.old.result (seen top.old) (below m.old))
+        result m.new top.new }
     ensures stays { Stays m.old m.new }
+    ensures proc { StaysIn result top.old.proc top.new.proc }
 {
     let first = top.base as usize + 1;
     let cursor = top.cursor as usize;
     let from = if cursor < first { first } else { cursor };
-    match find_from(m, top, from) {
-        None => Move::Goes(top.next()),
+    match find_from(m, *top, from) {
+        None => {
+            top.advance();
+            Move::Goes
+        }
         Some((at, note)) => {
             if m.marks.bare(&code.shape, top.home) {
                 play_note(code, m, top, at, note)
             } else {
-                Move::Goes(top.next())
+                top.advance();
+                Move::Goes
             }
         }
     }

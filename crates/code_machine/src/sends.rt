@@ -12,6 +12,7 @@ ghost use Rattle.code_machine.specs.States.{
   below,
   Did,
   Stays,
+  StaysIn,
   IsReady,
 };
 
@@ -21,25 +22,27 @@ use crate::state::{MachineState, Move, pay};
 use flow_base::Fault;
 
 /// Makes an event current one level deeper, and calls the procedure that hears it.
-fn receive(code: &LoadedCode, m: &mut MachineState, top: Frame, event: u32, proc: u32) -> Frame
+#[inline(always)]
+fn receive(code: &LoadedCode, m: &mut MachineState, top: &mut Frame, event: u32, proc: u32)
     requires ready { IsReady code.now m.old }
-    requires place { top.place < 2 ^ 30 }
+    requires place { top.old.place < 2 ^ 30 }
     requires depth { m.old.depth < 32 }
     requires event { event < 2 ^ 32 - 3 }
     ensures world { (world_of m.new ≡ world_of m.old) × (m.new.result ≡ m.old.result) }
     ensures now { now_of m.new ≡ deeper event (now_of m.old) }
-    ensures frames { (seen result ∷ below m.new) ≡
+    ensures frames { (seen top.new ∷ below m.new) ≡
         (fresh proc None (suc (length (below m.old))) 0 (Some (now_of m.old).event) ∷
-        next (seen top) ∷ below m.old) }
+        next (seen top.old) ∷ below m.old) }
     ensures stays { Stays m.old m.new }
 {
     let _ = code;
     let saved = m.event + 1;
-    push_frame(&mut m.stack, top.next());
+    top.advance();
+    push_frame(&mut m.stack, *top);
     let base = m.stack.len() as u32;
     m.event = event + 2;
     m.depth += 1;
-    Frame {
+    *top = Frame {
         proc,
         place: 0,
         note: 0,
@@ -47,17 +50,20 @@ fn receive(code: &LoadedCode, m: &mut MachineState, top: Frame, event: u32, proc
         home: 0,
         saved,
         cursor: 0,
-    }
+    };
 }
 
 /// Sends an event to the whole chart.
-pub(crate) fn send(code: &LoadedCode, m: &mut MachineState, top: Frame, event: u32) -> Move
+#[inline(always)]
+pub(crate) fn send(code: &LoadedCode, m: &mut MachineState, top: &mut Frame, event: u32) -> Move
     requires ready { IsReady code.now m.old }
-    requires place { top.place < 2 ^ 30 }
+    requires place { top.old.place < 2 ^ 30 }
     requires event { event < 2 ^ 32 - 3 }
     ensures did { Did (act (program_in code.now) (Some (instrs.Send event))
-        (world_of m.old) (now_of m.old) m.old.result (seen top) (below m.old)) result m.new }
+        (world_of m.old) (now_of m.old) m.old.result (seen top.old) (below m.old))
+        result m.new top.new }
     ensures stays { Stays m.old m.new }
+    ensures proc { StaysIn result top.old.proc top.new.proc }
 {
     if m.depth >= code.bounds.depth {
         return Move::Faults(Fault::Depth);
@@ -65,25 +71,29 @@ pub(crate) fn send(code: &LoadedCode, m: &mut MachineState, top: Frame, event: u
     if !pay(code.bounds, m) {
         return Move::Faults(Fault::Steps);
     }
-    Move::Goes(receive(code, m, top, event, code.react))
+    receive(code, m, top, event, code.react);
+    Move::Turns
 }
 
 /// Sends an event to a state, where that is active.
+#[inline(always)]
 pub(crate) fn send_to(
     code: &LoadedCode,
     m: &mut MachineState,
-    top: Frame,
+    top: &mut Frame,
     event: u32,
     s: u32,
     proc: u32,
 ) -> Move
     requires ready { IsReady code.now m.old }
-    requires place { top.place < 2 ^ 30 }
+    requires place { top.old.place < 2 ^ 30 }
     requires event { event < 2 ^ 32 - 3 }
     requires state { s < state_count code.now.shape }
     ensures did { Did (act (program_in code.now) (Some (instrs.SendTo event s proc))
-        (world_of m.old) (now_of m.old) m.old.result (seen top) (below m.old)) result m.new }
+        (world_of m.old) (now_of m.old) m.old.result (seen top.old) (below m.old))
+        result m.new top.new }
     ensures stays { Stays m.old m.new }
+    ensures proc { StaysIn result top.old.proc top.new.proc }
 {
     if m.depth >= code.bounds.depth {
         return Move::Faults(Fault::Depth);
@@ -92,7 +102,9 @@ pub(crate) fn send_to(
         return Move::Faults(Fault::Steps);
     }
     if !m.marks.on(s) {
-        return Move::Goes(top.next());
+        top.advance();
+        return Move::Goes;
     }
-    Move::Goes(receive(code, m, top, event, proc))
+    receive(code, m, top, event, proc);
+    Move::Turns
 }

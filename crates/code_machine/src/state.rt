@@ -3,7 +3,6 @@ ghost use Rattle.std.specs.Prelude.{◌≡◌, ◌+◌, ◌≤◌, true};
 ghost use Rattle.run_work.specs.Changes.{paid_in};
 ghost use Rattle.code_machine.specs.States.{world_of, Paid};
 
-use crate::frames::Frame;
 use actions::Vals;
 use active_config::Marks;
 use flow_base::{Bounds, Fault};
@@ -33,8 +32,10 @@ pub(crate) struct MachineState {
 /// What an instruction did.
 #[derive(Clone, Copy)]
 pub(crate) enum Move {
-    /// The run goes on with this top frame.
-    Goes(Frame),
+    /// The run goes on in the same procedure.
+    Goes,
+    /// The run goes on with another frame on top.
+    Turns,
     /// No frame is left.
     Ends,
     /// The run has this fault.
@@ -43,6 +44,7 @@ pub(crate) enum Move {
 
 /// Pays one step, or finds that none is left.
 #[tactic(auto, unfolding(run_work::specs::Changes::paid_in))]
+#[inline(always)]
 pub(crate) fn pay(bounds: Bounds, m: &mut MachineState) -> bool
     ensures paid { Paid (paid_in bounds (world_of m.old)) result m.old m.new }
     ensures used { result ≡ true → (m.new.used ≡ m.old.used + 1) × (m.new.used ≤ bounds.steps) }

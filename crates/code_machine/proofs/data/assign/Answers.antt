@@ -38,16 +38,16 @@ returns-in-Ok-assign-clause-did c =
     let m = c.args.m.now in let e = expr_of c.args.value.now in
     let w : World = record (world_of m) { vals = c.assign.new.vals } in
     assign_kept c.args.v e (world_of m)
-    (λ v. Goes (machine v (now_of m) m.result (next (seen c.args.top) ∷ below m))) c.in-Ok.given c.assign.new.vals
+    (λ v. Goes (machine v (now_of m) m.result (next (seen c.args.top.now) ∷ below m))) c.in-Ok.given c.assign.new.vals
     (sym c.in-Ok.ensures.value) c.in-Ok-assign.ensures.assigned
-    ∙ ap (λ f. Goes (machine w (now_of m) m.result (seen f ∷ below m))) (sym c.next.ensures)
+    ∙ ap (λ f. Goes (machine w (now_of m) m.result (seen f ∷ below m))) (sym c.advance.ensures)
 
 pub returns-in-Err-assign-clause-did : goal.returns-in-Err-assign-clause-did
 returns-in-Err-assign-clause-did c =
     let m = c.args.m.now in let e = expr_of c.args.value.now in
     assign_no_room c.args.v e (world_of m)
-    (λ v. Goes (machine v (now_of m) m.result (next (seen c.args.top) ∷ below m))) c.in-Ok.given c.in-Err-assign.fault
-    (sym c.in-Ok.ensures.value) c.in-Err-assign.ensures.overflow
+    (λ v. Goes (machine v (now_of m) m.result (next (seen c.args.top.now) ∷ below m))) c.in-Ok.given
+    c.in-Err-assign.fault (sym c.in-Ok.ensures.value) c.in-Err-assign.ensures.overflow
     ∙ ap (λ (l : List Datum). Stops (record (world_of m) { vals = l }) (Some c.in-Err-assign.fault))
     (sym c.in-Err-assign.ensures.kept)
 
@@ -55,5 +55,5 @@ pub returns-in-Err-clause-did : goal.returns-in-Err-clause-did
 returns-in-Err-clause-did c =
     let m = c.args.m.now in
     assign_no_value c.args.v (expr_of c.args.value.now) (world_of m)
-    (λ v. Goes (machine v (now_of m) m.result (next (seen c.args.top) ∷ below m))) c.in-Err.fault
+    (λ v. Goes (machine v (now_of m) m.result (next (seen c.args.top.now) ∷ below m))) c.in-Err.fault
     (sym c.in-Err.ensures.value)

@@ -7,7 +7,7 @@ use Rattle.code_machine.proofs.notes.play_note.Goals as goal
 
 pub returns-clause-did : goal.returns-clause-did
 returns-clause-did c =
-    let m = c.args.m.now in let new = c.pay.new.m in let f = c.args.top in let p = c.args.note in
+    let m = c.args.m.now in let new = c.pay.new.m in let f = c.args.top.now in let p = c.args.note in
     let paid = c.if-not-pay.ensures.paid in let same = sym paid.1 in
     let base : suc (length (below m)) ≡ c.len.result + 1 = omega (arith, calls_length m.stack.frames, c.len.ensures) in
     let cursor : suc c.args.at ≡ c.args.at + 1 = omega arith in

@@ -8,7 +8,7 @@ pub returns-clause-frames : goal.returns-clause-frames
 returns-clause-frames c =
     let m = c.args.m.now in
     let s : m.event + 1 ≡ suc m.event = omega arith in
-    let fs = c.push_frame.ensures.frames ∙ ap (λ f. seen f ∷ below m) c.next.ensures in
+    let fs = c.push_frame.ensures.frames ∙ ap (λ f. seen f ∷ below m) c.advance.ensures in
     let b : c.len-base.result ≡ suc (length (below m)) =
     c.len-base.ensures ∙ sym (calls_length c.push_frame.new.stack.frames) ∙ ap length c.push_frame.ensures.frames in
     λ j. record {

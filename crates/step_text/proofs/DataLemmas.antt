@@ -1,7 +1,10 @@
 -- The data with their values, one by one.
-use Rattle.std.proofs.Common.{◌≡◌, ℕ, zero, suc, ◌<◌, false, nat_eq, List, [], ◌∷◌, ◌++◌, length, get_or, refl, sym, ap, ◌∙◌, arith}
-use Rattle.std.specs.Prelude.{codes, slice_index_or}
+use Rattle.std.proofs.Common.{◌≡◌, ℕ, zero, suc, ◌<◌, false, nat_eq, List, [], ◌∷◌, ◌++◌, length, get_or, refl, sym, ap, ◌∙◌, arith, append-nil}
+use Rattle.std.proofs.Math.Nat.{div-one, mod-one}
+use Rattle.std.specs.Prelude.{ℤ, pos, negsuc, ◌%◌, ◌==◌, codes, decimal, slice_index_or, if◌then◌else◌}
+use Rattle.std.specs.Fmt.{signed_decimal}
 use Rattle.std.proofs.lemmas.List.{length-map}
+use Rattle.fixed_point.specs.Text.{decimal_text, fraction_digits}
 use Rattle.actions.specs.Data.{Datum, datum, no_datum, value_of_datum}
 use Rattle.actions.specs.Names.{Names}
 use Rattle.actions.specs.World.{Declaration, of_data, of_names}
@@ -44,3 +47,17 @@ pub some_texts : (vars : List Var) (vals : List Datum) (items : List Var) → le
     → false ≡ nat_eq (length (value_texts vars vals)) 0
 some_texts vars vals items same are some =
     some ∙ ap (λ m. nat_eq m 0) (sym (texts_count vars vals same ∙ ap (λ (z : List Var). length z) are))
+
+-- ---- the text of an integer
+
+-- a number without a fraction has the digits of an integer
+pub integer_text : (m : ℤ) → decimal_text m 0 ≡ signed_decimal m
+unfolding decimal_text
+integer_text (pos n) =
+    ap (λ (z : ℕ). decimal z ++ (if n % 1 == 0 then [] else 46 ∷ fraction_digits n 0)) (div-one n)
+    ∙ ap (λ (z : ℕ). decimal n ++ (if z == 0 then [] else 46 ∷ fraction_digits n 0)) (mod-one n)
+    ∙ append-nil (decimal n)
+integer_text (negsuc n) =
+    ap (λ (z : ℕ). 45 ∷ (decimal z ++ (if suc n % 1 == 0 then [] else 46 ∷ fraction_digits (suc n) 0))) (div-one (suc n))
+    ∙ ap (λ (z : ℕ). 45 ∷ (decimal (suc n) ++ (if z == 0 then [] else 46 ∷ fraction_digits (suc n) 0))) (mod-one (suc n))
+    ∙ ap (λ (z : List ℕ). 45 ∷ z) (append-nil (decimal (suc n)))

@@ -1,6 +1,6 @@
 -- Texts that are put one after the other.
-use Rattle.std.proofs.Common.{◌≡◌, ℕ, List, [], ◌++◌, sym, ap, ◌∙◌, subst, append_assoc, append-nil}
-use Rattle.std.specs.Prelude.{Option}
+use Rattle.std.proofs.Common.{◌≡◌, ℕ, List, [], ◌∷◌, ◌++◌, sym, ap, ◌∙◌, subst, append_assoc, append-nil}
+use Rattle.std.specs.Prelude.{Option, codes}
 use Rattle.step_text.specs.Pieces.{Held, Written, Puts}
 
 -- nothing is put
@@ -19,3 +19,9 @@ pub puts_same : (b0 b1 : Option (List ℕ)) (f0 f1 : ℕ) (h0 h1 : Held) (text o
     → Puts b0 b1 f0 f1 h0 h1 other
 puts_same b0 b1 f0 f1 h0 h1 text other p is = λ w f all h.
     subst (λ (z : List ℕ). Written w b1 f f1 (all ++ z) h1) (sym is) (p w f all h)
+
+-- the parts of a trace line, put one after the other, make the line
+pub line_parts : (all index word states vals outputs result : List ℕ)
+    → (((((((((((all ++ (index ++ codes " " ++ word)) ++ 32 ∷ []) ++ 91 ∷ []) ++ states) ++ 93 ∷ []) ++ 32 ∷ []) ++ vals) ++ 32 ∷ []) ++ outputs) ++ 32 ∷ []) ++ result) ++ 10 ∷ []
+    ≡ all ++ (index ++ codes " " ++ word ++ codes " [" ++ states ++ codes "] " ++ vals ++ codes " " ++ outputs ++ codes " " ++ result ++ codes "\n")
+line_parts all index word states vals outputs result = simp append_assoc

@@ -13,9 +13,10 @@ ghost use Rattle.actions.specs.Runs.{AreInputValues};
 
 use crate::fault::LineFault;
 use crate::input_vals::InputVals;
+use crate::limits::FEW_NAMES;
 use crate::tokens::next_token;
 use crate::values::give;
-use actions::{Event, EventKind, Names};
+use actions::{Event, EventDecl, EventKind, Names};
 
 /// Reads a line of an event file: its event, with the values that it names in `vals`, whatever was
 /// there before.
@@ -121,5 +122,23 @@ fn place_of_event(names: &Names, vals: &InputVals, name: &[u8]) -> Option<usize>
     ensures place { result ≡ position (λ (e : DeclShown). bytes_eq e.name name.now) (names_of names.now).events }
     ensures within { IfSome result (λ n. n < length (names_of names.now).events) }
 {
-    vals.event_number(name)
+    let events = names.events.items();
+    if events.len() > FEW_NAMES {
+        return vals.event_number(name);
+    }
+    first_event(events, name)
+}
+
+/// The place of the first event of that name, by one after the other.
+fn first_event(events: &[EventDecl], name: &[u8]) -> Option<usize>
+    ensures { result ≡ position (λ (e : DeclShown). bytes_eq e.name name.now) events.now }
+{
+    events.iter().position(|event| is_event(event, name))
+}
+
+/// Whether an event has that name.
+fn is_event(event: &EventDecl, name: &[u8]) -> bool
+    ensures { result ≡ bytes_eq event.now.name name.now }
+{
+    event.name.text().as_bytes() == name
 }

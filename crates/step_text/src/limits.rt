@@ -14,3 +14,6 @@ pub const BUFFER_SIZE: usize = 8192;
 
 /// The most bytes of a trace line that are written at once.
 pub const PIECE_SIZE: usize = 512;
+
+/// The most names that are compared one by one, where a table takes longer.
+pub(crate) const FEW_NAMES: usize = 8;

@@ -90,15 +90,28 @@ impl Pieces {
             self.old self.new text.now }
     {
         for byte in text {
-            self.put_byte(*byte, out);
+            self.put_one(*byte, out);
         }
     }
 
     /// Puts a byte after what is there.
-    fn put_byte<O: Sink>(&mut self, byte: u8, out: &mut O)
-        ensures { (w : Option (List ℕ)) (f : ℕ) (all : List ℕ)
-            → Written w (O.wrote out.old) f (O.faults out.old) all self.old
-            → Written w (O.wrote out.new) f (O.faults out.new) (all ++ byte ∷ []) self.new }
+    #[inline(always)]
+    pub fn put_byte<O: Sink>(&mut self, byte: u8, out: &mut O)
+        ensures { Puts (O.wrote out.old) (O.wrote out.new) (O.faults out.old) (O.faults out.new)
+            self.old self.new (byte ∷ []) }
+    {
+        if self.has_room(1) {
+            self.keep(&[byte]);
+        } else {
+            self.put_one(byte, out);
+        }
+    }
+
+    /// Puts a byte for which there may be no room.
+    #[inline(never)]
+    fn put_one<O: Sink>(&mut self, byte: u8, out: &mut O)
+        ensures { Puts (O.wrote out.old) (O.wrote out.new) (O.faults out.old) (O.faults out.new)
+            self.old self.new (byte ∷ []) }
     {
         self.make_room(out);
         self.keep(&[byte]);
@@ -131,9 +144,9 @@ impl Pieces {
     }
 
     /// Writes the rest.
-    pub fn finish<O: Sink>(mut self, out: &mut O) -> Result<(), Failed>
+    pub fn finish<O: Sink>(&mut self, out: &mut O) -> Result<(), Failed>
         ensures { (w : Option (List ℕ)) (f : ℕ) (all : List ℕ)
-            → Written w (O.wrote out.old) f (O.faults out.old) all self
+            → Written w (O.wrote out.old) f (O.faults out.old) all self.old
             → Ends w (O.wrote out.new) f (O.faults out.new) all result }
     {
         self.flush(out);

@@ -61,15 +61,17 @@ fn put_line<O: Sink>(
         (spec.trace_line view.now.shape.now (names_of view.now.names.now) (spec.world_of view.now) index event fault) }
 {
     put_head(index, event_word(view.names, event), pieces, out);
-    pieces.put(b" [", out);
+    pieces.put_byte(b' ', out);
+    pieces.put_byte(b'[', out);
     put_states(view.shape, view.names, view.marks, pieces, out);
-    pieces.put(b"] ", out);
+    pieces.put_byte(b']', out);
+    pieces.put_byte(b' ', out);
     put_data(view.names, view.vals, pieces, out);
-    pieces.put(b" ", out);
+    pieces.put_byte(b' ', out);
     put_outputs(view.names, view.outputs, pieces, out);
-    pieces.put(b" ", out);
+    pieces.put_byte(b' ', out);
     put_result(view.names, fault, pieces, out);
-    pieces.put(b"\n", out);
+    pieces.put_byte(b'\n', out);
 }
 
 /// Puts the index and the word of an event.
@@ -79,6 +81,6 @@ fn put_head<O: Sink>(index: u64, event: &str, pieces: &mut Pieces, out: &mut O)
 {
     let mut digits = Buffer::new();
     pieces.put(digits.format(index).as_bytes(), out);
-    pieces.put(b" ", out);
+    pieces.put_byte(b' ', out);
     pieces.put(event.as_bytes(), out);
 }

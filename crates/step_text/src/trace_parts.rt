@@ -9,6 +9,7 @@ ghost use Rattle.std.specs.Prelude.{
   length,
   map,
 };
+ghost use Rattle.std.specs.Fmt.{signed_decimal};
 ghost use Rattle.std.specs.List.{AllByRecursion};
 ghost use Rattle.actions.specs.Engines.{IsFaultOf};
 ghost use Rattle.actions.specs.Names.{names_of};
@@ -23,8 +24,9 @@ ghost use Rattle.step_text.specs.TraceParts.{
 
 use crate::pieces::Pieces;
 use actions::{Event, Names, Vals, Value};
-use fixed_point::write_decimal;
+use fixed_point::{Num, write_decimal};
 use flow_base::{Fault, Sink};
+use itoa::Buffer;
 
 /// The word of an event.
 pub(crate) fn event_word<'a>(names: &'a Names, event: Event) -> &'a str
@@ -65,7 +67,7 @@ pub(crate) fn put_separator<O: Sink>(
         pieces.old pieces.new (separator_before separator is_first) }
 {
     if !is_first {
-        pieces.put(&[separator], out);
+        pieces.put_byte(separator, out);
     }
 }
 
@@ -93,7 +95,7 @@ pub(crate) fn put_data<O: Sink>(names: &Names, vals: &Vals, pieces: &mut Pieces,
 {
     let vars = names.vars.items();
     if vars.is_empty() {
-        pieces.put(b"-", out);
+        pieces.put_byte(b'-', out);
         return;
     }
     for (index, var) in vars.iter().enumerate() {
@@ -114,7 +116,7 @@ fn put_datum<O: Sink>(is_first: bool, name: &str, value: Value, pieces: &mut Pie
         pieces.old pieces.new (item 44 is_first (name.now ++ codes "=" ++ spec.value_text value)) }
 {
     put_item(b',', is_first, name.as_bytes(), pieces, out);
-    pieces.put(b"=", out);
+    pieces.put_byte(b'=', out);
     put_value(value, pieces, out);
 }
 
@@ -127,12 +129,32 @@ fn put_value<O: Sink>(value: Value, pieces: &mut Pieces, out: &mut O)
     match value {
         Value::Flag(true) => pieces.put(b"true", out),
         Value::Flag(false) => pieces.put(b"false", out),
-        Value::Number(number) => {
-            let mut buf = [0; 128];
-            let len = write_decimal(number.mantissa, number.frac, &mut buf);
-            pieces.put(&buf[..len], out);
-        }
+        Value::Number(number) => put_number(number, pieces, out),
     }
+}
+
+/// Puts a number.
+fn put_number<O: Sink>(number: Num, pieces: &mut Pieces, out: &mut O)
+    requires { CanBeWritten (Value.Number number) }
+    ensures { Puts (O.wrote out.old) (O.wrote out.new) (O.faults out.old) (O.faults out.new)
+        pieces.old pieces.new (spec.value_text (Value.Number number)) }
+{
+    if number.frac == 0 {
+        put_integer(number.mantissa, pieces, out);
+        return;
+    }
+    let mut buf = [0; 128];
+    let len = write_decimal(number.mantissa, number.frac, &mut buf);
+    pieces.put(&buf[..len], out);
+}
+
+/// Puts an integer.
+fn put_integer<O: Sink>(number: i128, pieces: &mut Pieces, out: &mut O)
+    ensures { Puts (O.wrote out.old) (O.wrote out.new) (O.faults out.old) (O.faults out.new)
+        pieces.old pieces.new (signed_decimal number) }
+{
+    let mut digits = Buffer::new();
+    pieces.put(digits.format(number).as_bytes(), out);
 }
 
 /// Puts the names of the events that were put out.
@@ -142,7 +164,7 @@ pub(crate) fn put_outputs<O: Sink>(names: &Names, outputs: &[u32], pieces: &mut 
         pieces.old pieces.new (spec.listed (map (spec.event_name (names_of names.now)) outputs.now)) }
 {
     if outputs.is_empty() {
-        pieces.put(b"-", out);
+        pieces.put_byte(b'-', out);
         return;
     }
     for (index, number) in outputs.iter().enumerate() {

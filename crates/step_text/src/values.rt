@@ -13,7 +13,8 @@ ghost use Rattle.actions.specs.Runs.{AreInputValues};
 
 use crate::fault::LineFault;
 use crate::input_vals::InputVals;
-use actions::{Names, Sort, Value, VarKind};
+use crate::limits::FEW_NAMES;
+use actions::{Names, Sort, Value, Var, VarKind};
 use fixed_point::{Num, Scale, exact, read_decimal};
 use memchr::memchr;
 
@@ -72,7 +73,25 @@ fn place_of_var(names: &Names, vals: &InputVals, name: &[u8]) -> Option<usize>
     ensures place { result ≡ position (λ (v : VarShown). bytes_eq v.name name.now) (names_of names.now).vars }
     ensures within { IfSome result (λ n. n < length (names_of names.now).vars) }
 {
-    vals.datum_number(name)
+    let vars = names.vars.items();
+    if vars.len() > FEW_NAMES {
+        return vals.datum_number(name);
+    }
+    first_var(vars, name)
+}
+
+/// The place of the first datum of that name, by one after the other.
+fn first_var(vars: &[Var], name: &[u8]) -> Option<usize>
+    ensures { result ≡ position (λ (v : VarShown). bytes_eq v.name name.now) vars.now }
+{
+    vars.iter().position(|var| is_var(var, name))
+}
+
+/// Whether a datum has that name.
+fn is_var(var: &Var, name: &[u8]) -> bool
+    ensures { result ≡ bytes_eq var.now.name name.now }
+{
+    var.name.text().as_bytes() == name
 }
 
 /// The value of a sort that a text spells.

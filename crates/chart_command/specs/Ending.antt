@@ -120,7 +120,8 @@ abbrev pub line_of : Ending → List ℕ
 line_of endings.Done = []
 line_of (endings.Chart refusal) = place_text refusal.at ++ kind_text refusal.kind ++ codes "\n"
 line_of (endings.Code fault) = fault_text fault ++ codes "\n"
-line_of (endings.Line number fault) = codes "event " ++ decimal number ++ codes ": " ++ event_fault_text fault ++ codes "\n"
+line_of (endings.Line number fault) =
+    codes "event " ++ decimal number ++ codes ": " ++ event_fault_text fault ++ codes "\n"
 line_of endings.TooManyLines = codes "event: 5 TooManyLines\n"
 line_of endings.FileTooLong = codes "event: 6 FileTooLong\n"
 line_of (endings.Fault index word) = codes "run " ++ decimal index ++ codes ": " ++ word ++ codes "\n"

@@ -35,8 +35,8 @@ fn read_formatted<I: Inputs>(
     inputs: &mut I,
     name: &str,
 ) -> Result<String, FileEnd<Refusal>>
-    ensures { FileGives CHART_TEXT_LIMIT (λ text canonical. IsFormatted text (string_bytes canonical)) RefusesChart
-        (sources_of I.Inputs inputs.old) (sources_of I.Inputs inputs.new) name.now result }
+    ensures { FileGives CHART_TEXT_LIMIT (λ text canonical. IsFormatted text (string_bytes canonical))
+        RefusesChart (sources_of I.Inputs inputs.old) (sources_of I.Inputs inputs.new) name.now result }
 {
     let text = read_text(alloc, inputs, name, CHART_TEXT_LIMIT, TOO_LONG)?;
     match format_text(alloc, &text) {

@@ -66,7 +66,8 @@ fn write_head<E: Sink>(err: &mut E, word: &str, number: u64) -> Result<(), Faile
 
 /// Writes number and name of a fault of an event line.
 fn write_event_fault<E: Sink>(err: &mut E, fault: LineFault) -> Result<(), Failed>
-    ensures ok { OnOk result (E.wrote err.new ≡ append_known (E.wrote err.old) (event_fault_text fault)) }
+    ensures ok { OnOk result
+        (E.wrote err.new ≡ append_known (E.wrote err.old) (event_fault_text fault)) }
     ensures cause { HasCause (E.faults err.old) (E.faults err.new) result }
 {
     write_number(err, u64::from(fault.number()))?;
@@ -76,7 +77,8 @@ fn write_event_fault<E: Sink>(err: &mut E, fault: LineFault) -> Result<(), Faile
 
 /// Writes the line of an ending on standard error. Takes no memory.
 pub fn report<E: Sink>(err: &mut E, ending: &Ending) -> Result<(), Failed>
-    ensures ok { OnOk result (E.wrote err.new ≡ append_known (E.wrote err.old) (line_of ending.now)) }
+    ensures ok { OnOk result
+        (E.wrote err.new ≡ append_known (E.wrote err.old) (line_of ending.now)) }
     ensures cause { HasCause (E.faults err.old) (E.faults err.new) result }
 {
     match ending {

@@ -1,5 +1,5 @@
 -- What compiled code keeps.
-use Rattle.std.specs.Prelude.{◌≡◌, ◌↔◌, ◌≤◌, ◌+◌, ◌*◌, ℕ, suc, List, length}
+use Rattle.std.specs.Prelude.{◌↔◌, ◌≤◌, ◌+◌, ◌*◌, ℕ, suc, List, length}
 use Rattle.flow_base.specs.declared.bounds.Bounds.{Bounds}
 use Rattle.active_config.specs.Tree.{state_count}
 use Rattle.actions.specs.Runs.{EventWithInputs, Moment}

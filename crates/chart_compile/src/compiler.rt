@@ -9,9 +9,9 @@ use crate::laws::the_code_of_a_chart_is_well_formed;
 use crate::tables::states;
 use actions::copy_names;
 use code_form::{Code, CodeEnd, RawCode, accept};
-use continuation_compile::numbering::number;
+use continuation_compile::number;
 use flow_base::Memory;
-use state_compile::procedures::procedures;
+use state_compile::procedures;
 use state_tree::Chart;
 use std::alloc::Global;
 

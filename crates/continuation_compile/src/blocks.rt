@@ -29,7 +29,7 @@ pub enum Lasting {
 }
 
 /// Its test.
-pub fn test(lasting: Lasting) -> Cond
+pub(crate) fn test(lasting: Lasting) -> Cond
     ensures { cond_of result ≡ test_of lasting }
 {
     match lasting {
@@ -48,8 +48,10 @@ fn put_stmt(
 ) -> Result<(), Memory>
     requires { IsNumbering numbering.now }
     ensures { OnOk result ((rest : Stmts) →
-        code_seen code.new ++ templates.block_code (numbers (chart_in numbering.now)) (test_of lasting) rest
-        ≡ code_seen code.old ++ templates.block_code (numbers (chart_in numbering.now)) (test_of lasting)
+        code_seen code.new
+        ++ templates.block_code (numbers (chart_in numbering.now)) (test_of lasting) rest
+        ≡ code_seen code.old
+        ++ templates.block_code (numbers (chart_in numbering.now)) (test_of lasting)
         (stmt_of stmt.now ∷ rest)) }
 {
     match stmt {
@@ -76,7 +78,8 @@ pub fn append_block(
 ) -> Result<(), Memory>
     requires { IsNumbering numbering.now }
     ensures { OnOk result (procs_of draft.new ≡ procs_of draft.old
-        ++ templates.block_code (numbers (chart_in numbering.now)) (test_of lasting) (block_seen stmts.now) ∷ []) }
+        ++ templates.block_code (numbers (chart_in numbering.now)) (test_of lasting)
+        (block_seen stmts.now) ∷ []) }
 {
     let mut code = List::of(Vec::new(alloc));
     for stmt in stmts {
@@ -87,8 +90,9 @@ pub fn append_block(
 }
 
 /// Appends the procedure of a guard.
-pub fn append_guard(alloc: Global, draft: &mut Draft, guard: &Expr) -> Result<(), Memory>
-    ensures { OnOk result (procs_of draft.new ≡ procs_of draft.old ++ templates.guard_code (expr_of guard.now) ∷ []) }
+fn append_guard(alloc: Global, draft: &mut Draft, guard: &Expr) -> Result<(), Memory>
+    ensures { OnOk result (procs_of draft.new
+        ≡ procs_of draft.old ++ templates.guard_code (expr_of guard.now) ∷ []) }
 {
     let mut code = List::of(Vec::new(alloc));
     put(

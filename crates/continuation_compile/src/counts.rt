@@ -17,11 +17,11 @@ use state_tree::{Chart, ListKind};
 use std::alloc::Global;
 
 /// How many states are strictly below each state.
-pub fn below_counts(alloc: Global, shape: &Shape) -> Result<List<u32>, Memory>
+pub(crate) fn below_counts(alloc: Global, shape: &Shape) -> Result<List<u32>, Memory>
     requires tree { IsTree shape.now }
     requires few { state_count shape.now ≤ 1024 }
-    ensures { IfOk result (λ counts. IsTable (ends.below_count shape.now) (state_count shape.now) 1024
-        (items_of counts)) }
+    ensures { IfOk result (λ counts.
+        IsTable (ends.below_count shape.now) (state_count shape.now) 1024 (items_of counts)) }
 {
     let mut counts = List::of(Vec::new(alloc));
     for s in 0..shape.len() {
@@ -31,7 +31,11 @@ pub fn below_counts(alloc: Global, shape: &Shape) -> Result<List<u32>, Memory>
 }
 
 /// How many junctions the list of this kind of each state reaches.
-pub fn reached_counts(alloc: Global, chart: &Chart, kind: ListKind) -> Result<List<u32>, Memory>
+pub(crate) fn reached_counts(
+    alloc: Global,
+    chart: &Chart,
+    kind: ListKind,
+) -> Result<List<u32>, Memory>
     ensures { IfOk result (λ counts. IsTable (λ s. places.reached_count (chart_of chart.now) s kind)
         (state_count (chart_of chart.now).tree) 4096 (items_of counts)) }
 {
@@ -44,7 +48,7 @@ pub fn reached_counts(alloc: Global, chart: &Chart, kind: ListKind) -> Result<Li
 }
 
 /// How many procedures the parts of the transitions of a list of a state have.
-pub fn list_parts_size(chart: &Chart, state: u32, kind: ListKind) -> u32
+pub(crate) fn list_parts_size(chart: &Chart, state: u32, kind: ListKind) -> u32
     requires { state < state_count (chart_of chart.now).tree }
     ensures size { result ≡ places.parts_size
         (Rattle.state_tree.specs.Chart.list_of (chart_of chart.now) state kind) }
@@ -67,7 +71,7 @@ fn state_parts_size(chart: &Chart, state: u32) -> u32
 }
 
 /// How many procedures the parts of the transitions of each state have.
-pub fn state_parts_sizes(alloc: Global, chart: &Chart) -> Result<List<u32>, Memory>
+pub(crate) fn state_parts_sizes(alloc: Global, chart: &Chart) -> Result<List<u32>, Memory>
     ensures { IfOk result (λ sizes. IsTable (places.state_parts_size (chart_of chart.now))
         (state_count (chart_of chart.now).tree) 131072 (items_of sizes)) }
 {
@@ -90,7 +94,7 @@ fn junction_parts_size(chart: &Chart, junction: u32) -> u32
 }
 
 /// How many procedures the parts of the transitions of each junction have.
-pub fn junction_parts_sizes(alloc: Global, chart: &Chart) -> Result<List<u32>, Memory>
+pub(crate) fn junction_parts_sizes(alloc: Global, chart: &Chart) -> Result<List<u32>, Memory>
     ensures { IfOk result (λ sizes. IsTable (places.junction_parts_size (chart_of chart.now))
         (junction_count (chart_of chart.now)) 131072 (items_of sizes)) }
 {
@@ -103,7 +107,7 @@ pub fn junction_parts_sizes(alloc: Global, chart: &Chart) -> Result<List<u32>, M
 
 /// How many procedures there are for firings in each state, from how many states are below it and
 /// how many junctions its default list reaches.
-pub fn group_sizes(
+pub(crate) fn group_sizes(
     alloc: Global,
     below: &List<u32>,
     default: &List<u32>,
@@ -113,7 +117,8 @@ pub fn group_sizes(
     requires below { AreLow 1024 (items_of below.now) }
     requires default { AreLow 4096 (items_of default.now) }
     ensures { IfOk result (λ sizes. IsTable (λ s. 3 * slice_index_or (items_of below.now) s 0 + 7
-        + slice_index_or (items_of default.now) s 0) (length (items_of below.now)) 131072 (items_of sizes)) }
+        + slice_index_or (items_of default.now) s 0) (length (items_of below.now)) 131072
+        (items_of sizes)) }
 {
     let mut sizes = List::of(Vec::new(alloc));
     for s in 0..below.items().len() as u32 {
@@ -124,13 +129,18 @@ pub fn group_sizes(
 
 /// How many procedures there are for the outer and the inner list of each state, from how many
 /// junctions these reach.
-pub fn lists_sizes(alloc: Global, outer: &List<u32>, inner: &List<u32>) -> Result<List<u32>, Memory>
+pub(crate) fn lists_sizes(
+    alloc: Global,
+    outer: &List<u32>,
+    inner: &List<u32>,
+) -> Result<List<u32>, Memory>
     requires same { length (items_of outer.now) ≡ length (items_of inner.now) }
     requires few { length (items_of outer.now) ≤ 1024 }
     requires outer { AreLow 4096 (items_of outer.now) }
     requires inner { AreLow 4096 (items_of inner.now) }
     ensures { IfOk result (λ sizes. IsTable (λ s. 2 + slice_index_or (items_of outer.now) s 0
-        + slice_index_or (items_of inner.now) s 0) (length (items_of outer.now)) 131072 (items_of sizes)) }
+        + slice_index_or (items_of inner.now) s 0) (length (items_of outer.now)) 131072
+        (items_of sizes)) }
 {
     let mut sizes = List::of(Vec::new(alloc));
     for s in 0..outer.items().len() as u32 {

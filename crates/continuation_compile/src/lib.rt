@@ -5,12 +5,19 @@
 //! words of `chart_procedures` and `chart_layout`.
 #![tactic(auto)]
 
-pub mod blocks;
-pub mod counts;
-pub mod draft;
-pub mod numbering;
-pub mod parts;
-pub mod reached;
-pub mod searches;
-pub mod sizes;
-pub mod tables;
+mod blocks;
+mod counts;
+mod draft;
+mod numbering;
+mod parts;
+mod reached;
+mod searches;
+mod sizes;
+mod tables;
+
+pub use blocks::{Lasting, append_block, append_parts};
+pub use draft::{
+    Draft, append, put, put_call, put_refuse, put_require, put_return, put_unless_found,
+};
+pub use numbering::{Numbering, number};
+pub use searches::append_list;

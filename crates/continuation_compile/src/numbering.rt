@@ -196,7 +196,7 @@ impl<'a> Numbering<'a> {
     }
 
     /// The number of the first part of a transition of a junction.
-    pub fn parts_of_junction(&self, junction: u32) -> u32
+    pub(crate) fn parts_of_junction(&self, junction: u32) -> u32
         requires numbers { IsNumbering self.now }
         requires junction { junction < junction_count (chart_in self.now) }
         ensures parts { result ≡ places.junction_parts_at (chart_in self.now) junction }

@@ -7,7 +7,7 @@ ghost use Rattle.chart_layout.specs.Places.{guard_count, trans_numbers};
 use state_tree::{ListKind, Trans};
 
 /// The number of its guard's procedure, where the first of its parts has the number `first`.
-pub fn guard_number(t: &Trans, first: u32) -> Option<u32>
+pub(crate) fn guard_number(t: &Trans, first: u32) -> Option<u32>
     ensures { result ≡ (trans_numbers first (trans_seen t.now)).guard }
 {
     match t.guard {
@@ -28,7 +28,7 @@ fn behind_guard(t: &Trans, first: u32) -> u32
 }
 
 /// The number of the procedure of its condition action for a kind of list.
-pub fn condition_number(t: &Trans, kind: ListKind, first: u32) -> Option<u32>
+pub(crate) fn condition_number(t: &Trans, kind: ListKind, first: u32) -> Option<u32>
     requires { first ≤ 4294967000 }
     ensures { result ≡ condition_of kind (trans_numbers first (trans_seen t.now)) }
 {
@@ -42,7 +42,7 @@ pub fn condition_number(t: &Trans, kind: ListKind, first: u32) -> Option<u32>
 }
 
 /// The number of the procedure of its transition action.
-pub fn action_number(t: &Trans, first: u32) -> Option<u32>
+pub(crate) fn action_number(t: &Trans, first: u32) -> Option<u32>
     requires { first ≤ 4294967000 }
     ensures { result ≡ (trans_numbers first (trans_seen t.now)).action }
 {

@@ -51,7 +51,7 @@ fn meet_all(found: &mut List<u32>, list: &[Trans]) -> Result<(), Memory>
 }
 
 /// The junctions that are reached from a list of a chart, breadth first.
-pub fn reached(alloc: Global, chart: &Chart, list: &[Trans]) -> Result<List<u32>, Memory>
+pub(crate) fn reached(alloc: Global, chart: &Chart, list: &[Trans]) -> Result<List<u32>, Memory>
     requires { AreTrans (chart_of chart.now) (list_seen list.now) }
     ensures reached { IfOk result (λ found. items_of found
         ≡ spec.reached (chart_of chart.now) (list_seen list.now)) }
@@ -72,7 +72,7 @@ pub fn reached(alloc: Global, chart: &Chart, list: &[Trans]) -> Result<List<u32>
 
 /// The place of a junction among those that were found.
 #[tactic(auto, unfolding(chart_layout::specs::ReachedJunctions::place_of))]
-pub fn place_of(found: &[u32], junction: u32) -> u32
+pub(crate) fn place_of(found: &[u32], junction: u32) -> u32
     requires { length found.now < 2 ^ 32 }
     ensures place { result ≡ spec.place_of found.now junction }
     ensures low { result ≤ length found.now }

@@ -27,15 +27,15 @@ use std::alloc::Global;
 
 /// A list of a state, with the number of its procedure and the junctions that are reached from it.
 #[derive(Clone, Copy)]
-pub struct Search<'a> {
+struct Search<'a> {
     /// The state.
-    pub state: u32,
+    state: u32,
     /// The kind of the list.
-    pub kind: ListKind,
+    kind: ListKind,
     /// The number of the list's procedure.
-    pub first: u32,
+    first: u32,
     /// The junctions, in the order of their procedures, which follow that of the list.
-    pub found: &'a [u32],
+    found: &'a [u32],
 }
 
 /// How long a search of a list goes on.
@@ -218,8 +218,8 @@ fn put_list(
     requires valid { AreTrans (chart_in numbering.now) (list_seen list.now) }
     requires low { first + places.parts_size (list_seen list.now) ≤ 4294967000 }
     ensures { OnOk result (code_seen code.new ≡ code_seen code.old
-        ++ templates.list_code (search_seen (chart_in numbering.now) search.now) (list_seen list.now)
-        (places.parts_numbers first (list_seen list.now))) }
+        ++ templates.list_code (search_seen (chart_in numbering.now) search.now)
+        (list_seen list.now) (places.parts_numbers first (list_seen list.now))) }
 {
     let mut number = first;
     for t in list {
@@ -264,8 +264,8 @@ fn put_junction(
     requires valid { AreTrans (chart_in numbering.now) (list_seen list.now) }
     requires low { first + places.parts_size (list_seen list.now) ≤ 4294967000 }
     ensures { OnOk result (code_seen code.new ≡ code_seen code.old
-        ++ templates.junction_code (search_seen (chart_in numbering.now) search.now) (list_seen list.now)
-        (places.parts_numbers first (list_seen list.now))) }
+        ++ templates.junction_code (search_seen (chart_in numbering.now) search.now)
+        (list_seen list.now) (places.parts_numbers first (list_seen list.now))) }
 {
     if list.is_empty() {
         return put_empty(code, numbering, search);
@@ -286,7 +286,8 @@ fn append_junction(
     requires search { IsSearch (chart_in numbering.now) search.now }
     requires junction { junction < junction_count (chart_in numbering.now) }
     ensures { OnOk result (procs_of draft.new ≡ procs_of draft.old
-        ++ body (chart_in numbering.now) (keys.JunctionOf search.now.state search.now.kind junction) ∷ []) }
+        ++ body (chart_in numbering.now)
+        (keys.JunctionOf search.now.state search.now.kind junction) ∷ []) }
 {
     let list = numbering.chart.junction(junction);
     let first = numbering.parts_of_junction(junction);
@@ -307,7 +308,8 @@ fn append_junctions(
     requires numbers { IsNumbering numbering.now }
     requires search { IsSearch (chart_in numbering.now) search.now }
     requires within { AllByRecursion (λ j. j < junction_count (chart_in numbering.now)) found.now }
-    ensures { OnOk result (procs_of draft.new ≡ procs_of draft.old ++ map (body (chart_in numbering.now))
+    ensures { OnOk result (procs_of draft.new ≡ procs_of draft.old
+        ++ map (body (chart_in numbering.now))
         (map (λ j. keys.JunctionOf search.now.state search.now.kind j) found.now)) }
 {
     for junction in found {
@@ -349,7 +351,8 @@ pub fn append_list(
     requires numbers { IsNumbering numbering.now }
     requires state { state < state_count (chart_in numbering.now).tree }
     ensures { OnOk result (procs_of draft.new ≡ procs_of draft.old
-        ++ map (body (chart_in numbering.now)) (keys.search_keys (chart_in numbering.now) state kind)) }
+        ++ map (body (chart_in numbering.now))
+        (keys.search_keys (chart_in numbering.now) state kind)) }
 {
     let list = numbering.chart.list(state, kind);
     let junctions = reached(alloc, numbering.chart, list)?;

@@ -11,7 +11,7 @@ use state_tree::Trans;
 
 /// How many procedures the parts of a transition have.
 #[tactic(auto, unfolding(chart_layout::specs::Places::trans_size))]
-pub fn trans_size(t: &Trans) -> u32
+pub(crate) fn trans_size(t: &Trans) -> u32
     ensures size { result ≡ places.trans_size (trans_seen t.now) }
     ensures few { result ≤ 4 }
 {
@@ -23,7 +23,7 @@ pub fn trans_size(t: &Trans) -> u32
 
 /// How many procedures the parts of the transitions of a list have.
 #[tactic(auto, unfolding(chart_layout::specs::Places::parts_size))]
-pub fn parts_size(list: &[Trans]) -> u32
+pub(crate) fn parts_size(list: &[Trans]) -> u32
     requires { places.parts_size (list_seen list.now) < 2 ^ 32 }
     ensures { result ≡ places.parts_size (list_seen list.now) }
 {
@@ -35,7 +35,7 @@ pub fn parts_size(list: &[Trans]) -> u32
 }
 
 /// How many states are strictly below a state.
-pub fn below_count(shape: &Shape, state: u32) -> u32
+pub(crate) fn below_count(shape: &Shape, state: u32) -> u32
     requires tree { trees.IsTree shape.now }
     requires state { state < state_count shape.now }
     ensures { result ≡ ends.below_count shape.now state }

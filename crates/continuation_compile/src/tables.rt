@@ -8,7 +8,7 @@ use flow_base::{List, Memory};
 use std::alloc::Global;
 
 /// The number at a place of a table.
-pub fn entry(table: &List<u32>, place: u32) -> u32
+pub(crate) fn entry(table: &List<u32>, place: u32) -> u32
     requires { place < length (items_of table.now) }
     ensures { result ≡ slice_index_or (items_of table.now) place 0 }
 {
@@ -16,7 +16,7 @@ pub fn entry(table: &List<u32>, place: u32) -> u32
 }
 
 /// For each place, and for the end, the sum of the numbers before it.
-pub fn sums_before(alloc: Global, counts: &List<u32>) -> Result<List<u32>, Memory>
+pub(crate) fn sums_before(alloc: Global, counts: &List<u32>) -> Result<List<u32>, Memory>
     requires few { length (items_of counts.now) ≤ 4096 }
     requires low { AreLow 131072 (items_of counts.now) }
     ensures { IfOk result (λ sums. (f : ℕ → ℕ) →

@@ -9,11 +9,12 @@ use flow_base::{List, Memory};
 use std::alloc::Global;
 
 /// The children of a state, in order.
-pub fn children(alloc: Global, shape: &Shape, state: u32) -> Result<List<u32>, Memory>
+pub(crate) fn children(alloc: Global, shape: &Shape, state: u32) -> Result<List<u32>, Memory>
     requires tree { IsTree shape.now }
     requires state { state < state_count shape.now }
     ensures children { IfOk result (λ list. items_of list ≡ children_of shape.now state) }
-    ensures within { IfOk result (λ list. AllByRecursion (λ x. x < state_count shape.now) (items_of list)) }
+    ensures within { IfOk result (λ list.
+        AllByRecursion (λ x. x < state_count shape.now) (items_of list)) }
 {
     let mut list = List::of(Vec::new(alloc));
     let mut next = shape.first_child(state);

@@ -17,10 +17,9 @@ use crate::children::children;
 use crate::firings::put_toward;
 use active_config::Comp;
 use code_form::{Cond, Instr};
-use continuation_compile::draft::{
-    Draft, append, put, put_call, put_refuse, put_require, put_return,
+use continuation_compile::{
+    Draft, Numbering, append, put, put_call, put_refuse, put_require, put_return,
 };
-use continuation_compile::numbering::Numbering;
 use flow_base::{List, Memory};
 use state_tree::ListKind;
 use std::alloc::Global;
@@ -212,7 +211,7 @@ fn put_entry(
 }
 
 /// Appends the procedure by which a state is entered on the way to another one.
-pub fn append_enter(
+pub(crate) fn append_enter(
     alloc: Global,
     draft: &mut Draft,
     numbering: &Numbering<'_>,
@@ -267,7 +266,7 @@ fn put_search(code: &mut List<Instr>, numbering: &Numbering<'_>, state: u32) -> 
 }
 
 /// Appends the procedure by which a state is entered by default.
-pub fn append_defaults(
+pub(crate) fn append_defaults(
     alloc: Global,
     draft: &mut Draft,
     numbering: &Numbering<'_>,

@@ -13,8 +13,7 @@ ghost use Rattle.continuation_compile.specs.Numberings.{chart_in, IsNumbering};
 use crate::children::children;
 use active_config::Comp;
 use code_form::{Cond, Instr};
-use continuation_compile::draft::{Draft, append, put, put_call, put_require, put_return};
-use continuation_compile::numbering::Numbering;
+use continuation_compile::{Draft, Numbering, append, put, put_call, put_require, put_return};
 use flow_base::{List, Memory};
 use std::alloc::Global;
 
@@ -108,8 +107,8 @@ fn put_leave(
     requires children { states.now ≡ children_of (chart_in numbering.now).tree state }
     requires within { AllByRecursion (λ x. x < state_count (chart_in numbering.now).tree) states.now }
     ensures { OnOk result (code_seen code.new ≡ code_seen code.old
-        ++ templates.leave_code (numbers (chart_in numbering.now)) (chart_in numbering.now).tree state
-        (comp_of (chart_in numbering.now).tree state)) }
+        ++ templates.leave_code (numbers (chart_in numbering.now)) (chart_in numbering.now).tree
+        state (comp_of (chart_in numbering.now).tree state)) }
 {
     match numbering.chart.comp(state) {
         Comp::Leaf => put_return(code, 1),
@@ -119,7 +118,7 @@ fn put_leave(
 }
 
 /// Appends the procedure by which the children of a state are left.
-pub fn append_leave(
+pub(crate) fn append_leave(
     alloc: Global,
     draft: &mut Draft,
     numbering: &Numbering<'_>,
@@ -181,7 +180,7 @@ fn put_exit(code: &mut List<Instr>, numbering: &Numbering<'_>, state: u32) -> Re
 }
 
 /// Appends the procedure by which a state is left.
-pub fn append_exit(
+pub(crate) fn append_exit(
     alloc: Global,
     draft: &mut Draft,
     numbering: &Numbering<'_>,

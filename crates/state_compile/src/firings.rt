@@ -8,14 +8,13 @@ ghost use Rattle.continuation_compile.specs.Drafts.{code_seen, procs_of};
 ghost use Rattle.continuation_compile.specs.Numberings.{chart_in, IsNumbering};
 
 use code_form::{Cond, Instr};
-use continuation_compile::draft::{Draft, append, put, put_call, put_require, put_return};
-use continuation_compile::numbering::Numbering;
+use continuation_compile::{Draft, Numbering, append, put, put_call, put_require, put_return};
 use flow_base::{List, Memory};
 use std::alloc::Global;
 
 /// Appends how a state is entered on the way to another one: by default where the way ends at it,
 /// else by the child towards the other one.
-pub fn put_toward(
+pub(crate) fn put_toward(
     code: &mut List<Instr>,
     numbering: &Numbering<'_>,
     state: u32,
@@ -42,7 +41,7 @@ pub fn put_toward(
 }
 
 /// Appends the procedure of the rest of a firing, once the active child of its home is left.
-pub fn append_arrive(
+pub(crate) fn append_arrive(
     alloc: Global,
     draft: &mut Draft,
     numbering: &Numbering<'_>,
@@ -53,7 +52,8 @@ pub fn append_arrive(
     requires state { state < state_count (chart_in numbering.now).tree }
     requires dest { dest < state_count (chart_in numbering.now).tree }
     ensures { OnOk result (procs_of draft.new ≡ procs_of draft.old
-        ++ templates.arrive_code (numbers (chart_in numbering.now)) (chart_in numbering.now).tree state dest ∷ []) }
+        ++ templates.arrive_code (numbers (chart_in numbering.now)) (chart_in numbering.now).tree
+        state dest ∷ []) }
 {
     let mut code = List::of(Vec::new(alloc));
     put(&mut code, Instr::Home(state))?;
@@ -65,7 +65,7 @@ pub fn append_arrive(
 
 /// Appends the procedure of a firing with this home.
 #[tactic(auto, unfolding(chart_layout::specs::Places::numbers))]
-pub fn append_take(
+pub(crate) fn append_take(
     alloc: Global,
     draft: &mut Draft,
     numbering: &Numbering<'_>,

@@ -12,9 +12,7 @@ ghost use Rattle.continuation_compile.specs.Numberings.{chart_in, IsNumbering};
 use crate::entries::{append_defaults, append_enter};
 use crate::exits::{append_exit, append_leave};
 use crate::firings::{append_arrive, append_take};
-use continuation_compile::draft::Draft;
-use continuation_compile::numbering::Numbering;
-use continuation_compile::searches::append_list;
+use continuation_compile::{Draft, Numbering, append_list};
 use flow_base::Memory;
 use state_tree::ListKind;
 use std::alloc::Global;
@@ -148,7 +146,7 @@ fn append_taking(
 }
 
 /// Appends the procedures that firings take in a state, with its default list.
-pub fn append_group(
+pub(crate) fn append_group(
     alloc: Global,
     draft: &mut Draft,
     numbering: &Numbering<'_>,
@@ -166,7 +164,7 @@ pub fn append_group(
 }
 
 /// Appends the procedures that firings take in all states, the last state first.
-pub fn append_groups(
+pub(crate) fn append_groups(
     alloc: Global,
     draft: &mut Draft,
     numbering: &Numbering<'_>,

@@ -3,11 +3,13 @@
 //! Each call says what it appends, in the words of `chart_procedures` and `chart_layout`.
 #![tactic(auto)]
 
-pub mod children;
-pub mod entries;
-pub mod exits;
-pub mod firings;
-pub mod groups;
-pub mod procedures;
-pub mod processes;
-pub mod regions;
+mod children;
+mod entries;
+mod exits;
+mod firings;
+mod groups;
+mod procedures;
+mod processes;
+mod regions;
+
+pub use procedures::procedures;

@@ -13,8 +13,7 @@ use crate::regions::{
     append_actions, append_junction_parts, append_lists, append_processes, append_state_parts,
 };
 use code_form::Instr;
-use continuation_compile::draft::{Draft, append, put_return};
-use continuation_compile::numbering::Numbering;
+use continuation_compile::{Draft, Numbering, append, put_return};
 use flow_base::{List, Memory};
 use std::alloc::Global;
 

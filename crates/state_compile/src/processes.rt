@@ -14,10 +14,9 @@ ghost use Rattle.continuation_compile.specs.Numberings.{chart_in, IsNumbering};
 use crate::children::children;
 use active_config::Comp;
 use code_form::{Cond, Instr};
-use continuation_compile::draft::{
-    Draft, append, put, put_call, put_require, put_return, put_unless_found,
+use continuation_compile::{
+    Draft, Numbering, append, put, put_call, put_require, put_return, put_unless_found,
 };
-use continuation_compile::numbering::Numbering;
 use flow_base::{List, Memory};
 use state_tree::ListKind;
 use std::alloc::Global;
@@ -137,8 +136,8 @@ fn put_children(
     requires state { state < state_count (chart_in numbering.now).tree }
     requires children { states.now ≡ children_of (chart_in numbering.now).tree state }
     ensures { OnOk result (code_seen code.new ≡ code_seen code.old
-        ++ templates.children_code (numbers (chart_in numbering.now)) (chart_in numbering.now).tree state
-        (comp_of (chart_in numbering.now).tree state)) }
+        ++ templates.children_code (numbers (chart_in numbering.now)) (chart_in numbering.now).tree
+        state (comp_of (chart_in numbering.now).tree state)) }
 {
     match numbering.chart.comp(state) {
         Comp::Leaf => put_return(code, 1),
@@ -152,7 +151,8 @@ fn put_outer(code: &mut List<Instr>, numbering: &Numbering<'_>, state: u32) -> R
     requires numbers { IsNumbering numbering.now }
     requires state { state < state_count (chart_in numbering.now).tree }
     ensures { OnOk result (code_seen code.new ≡ code_seen code.old
-        ++ instrs.Home state ∷ templates.call ((numbers (chart_in numbering.now)).search state kinds.Outer)
+        ++ instrs.Home state
+        ∷ templates.call ((numbers (chart_in numbering.now)).search state kinds.Outer)
         ∷ templates.unless_found []) }
 {
     put(code, Instr::Home(state))?;
@@ -187,7 +187,8 @@ fn put_process(
     requires state { state < state_count (chart_in numbering.now).tree }
     requires children { states.now ≡ children_of (chart_in numbering.now).tree state }
     ensures { OnOk result (code_seen code.new ≡ code_seen code.old
-        ++ templates.process_code (numbers (chart_in numbering.now)) (chart_in numbering.now).tree state) }
+        ++ templates.process_code (numbers (chart_in numbering.now)) (chart_in numbering.now).tree
+        state) }
 {
     put_outer(code, numbering, state)?;
     put_inner(code, numbering, state)?;
@@ -196,7 +197,7 @@ fn put_process(
 }
 
 /// Appends the procedure by which a state is processed.
-pub fn append_process(
+pub(crate) fn append_process(
     alloc: Global,
     draft: &mut Draft,
     numbering: &Numbering<'_>,

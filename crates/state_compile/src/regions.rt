@@ -7,10 +7,7 @@ ghost use Rattle.continuation_compile.specs.Drafts.{procs_of};
 ghost use Rattle.continuation_compile.specs.Numberings.{chart_in, IsNumbering};
 
 use crate::processes::append_process;
-use continuation_compile::blocks::{Lasting, append_block, append_parts};
-use continuation_compile::draft::Draft;
-use continuation_compile::numbering::Numbering;
-use continuation_compile::searches::append_list;
+use continuation_compile::{Draft, Lasting, Numbering, append_block, append_list, append_parts};
 use flow_base::Memory;
 use state_tree::{BlockKind, ListKind};
 use std::alloc::Global;
@@ -36,7 +33,7 @@ fn append_actions_of(
 }
 
 /// Appends the procedures of the actions of all states.
-pub fn append_actions(
+pub(crate) fn append_actions(
     alloc: Global,
     draft: &mut Draft,
     numbering: &Numbering<'_>,
@@ -62,7 +59,8 @@ fn append_parts_of_state(
     requires numbers { IsNumbering numbering.now }
     requires state { state < state_count (chart_in numbering.now).tree }
     ensures { OnOk result (procs_of draft.new ≡ procs_of draft.old
-        ++ map (body (chart_in numbering.now)) (keys.state_parts_keys (chart_in numbering.now) state)) }
+        ++ map (body (chart_in numbering.now))
+        (keys.state_parts_keys (chart_in numbering.now) state)) }
 {
     let outer = numbering.chart.list(state, ListKind::Outer);
     append_parts(alloc, draft, numbering, outer)?;
@@ -73,7 +71,7 @@ fn append_parts_of_state(
 }
 
 /// Appends the procedures of the parts of the transitions of all states.
-pub fn append_state_parts(
+pub(crate) fn append_state_parts(
     alloc: Global,
     draft: &mut Draft,
     numbering: &Numbering<'_>,
@@ -89,7 +87,7 @@ pub fn append_state_parts(
 }
 
 /// Appends the procedures of the parts of the transitions of all junctions.
-pub fn append_junction_parts(
+pub(crate) fn append_junction_parts(
     alloc: Global,
     draft: &mut Draft,
     numbering: &Numbering<'_>,
@@ -123,7 +121,7 @@ fn append_lists_of(
 }
 
 /// Appends the procedures of the outer and inner lists of all states, the last state first.
-pub fn append_lists(
+pub(crate) fn append_lists(
     alloc: Global,
     draft: &mut Draft,
     numbering: &Numbering<'_>,
@@ -139,7 +137,7 @@ pub fn append_lists(
 }
 
 /// Appends the procedures by which all states are processed, the last state first.
-pub fn append_processes(
+pub(crate) fn append_processes(
     alloc: Global,
     draft: &mut Draft,
     numbering: &Numbering<'_>,

@@ -8,8 +8,8 @@ mod entries;
 mod exits;
 mod firings;
 mod groups;
-mod procedures;
 mod processes;
 mod regions;
+mod whole_chart;
 
-pub use procedures::procedures;
+pub use whole_chart::procedures;

@@ -4,7 +4,7 @@ use Rattle.chart_layout.specs.Keys.{all_actions, all_state_parts, all_junction_p
 use Rattle.continuation_compile.specs.Drafts.{procs_of}
 use Rattle.continuation_compile.specs.Numberings.{chart_in}
 use Rattle.state_compile.proofs.Spans.{both}
-use Rattle.state_compile.proofs.procedures.append_actions_and_parts.Goals as goal
+use Rattle.state_compile.proofs.whole_chart.append_actions_and_parts.Goals as goal
 
 pub returns : goal.returns
 returns c =

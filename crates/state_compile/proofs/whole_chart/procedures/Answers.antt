@@ -7,7 +7,7 @@ use Rattle.chart_layout.specs.Keys.{all_lists, all_processes}
 use Rattle.continuation_compile.specs.Drafts.{procs_of}
 use Rattle.continuation_compile.specs.Numberings.{chart_in}
 use Rattle.state_compile.proofs.Spans.{all_regions}
-use Rattle.state_compile.proofs.procedures.procedures.Goals as goal
+use Rattle.state_compile.proofs.whole_chart.procedures.Goals as goal
 
 pub returns : goal.returns
 unfolding layout

@@ -34,6 +34,7 @@ import time
 from collections import Counter, namedtuple
 
 import answers
+from programs import parser
 
 SECONDS = 120
 LIBRARY = r'''
@@ -620,23 +621,17 @@ PARTS = {'calls': failing_calls, 'memory': little_memory, 'streams': failing_str
 
 
 def main(words):
-    options = {'--against': '', '--part': '', '--most': '400'}
-    words, with_selftest = list(words), False
-    while words:
-        word = words.pop(0)
-        if word == '--selftest':
-            with_selftest = True
-        elif word in options and words:
-            options[word] = words.pop(0)
-        else:
-            sys.exit(__doc__)
-    if not options['--against'] or options['--part'] not in ('', *PARTS):
-        sys.exit(__doc__)
-    program, judge = os.path.abspath(options['--against']), Judge()
-    made = scenes(program, with_selftest)
+    reader = parser(__doc__)
+    reader.add_argument('--against', metavar='PROGRAM', required=True)
+    reader.add_argument('--part', choices=PARTS)
+    reader.add_argument('--most', type=int, default=400)
+    reader.add_argument('--selftest', action='store_true')
+    options = reader.parse_args(words)
+    program, judge = os.path.abspath(options.against), Judge()
+    made = scenes(program, options.selftest)
     for name, part in PARTS.items():
-        if options['--part'] in ('', name):
-            part(program, judge, made, int(options['--most']))
+        if options.part in (None, name):
+            part(program, judge, made, options.most)
     judge.print_counts()
     return 1 if judge.wrong else 0
 

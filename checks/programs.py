@@ -1,7 +1,21 @@
-"""Runs a program on files in a folder of its own, and compares what it writes with what is expected."""
+"""What the scripts that run a built program share: their words, running it in a folder of its own, comparing what it writes with
+what is expected, and printing counts."""
+import argparse
 import os
 import subprocess
 import tempfile
+
+
+def parser(usage):
+    """A reader of words that tells the docstring of the script where help is asked for."""
+    return argparse.ArgumentParser(description=usage, formatter_class=argparse.RawDescriptionHelpFormatter, allow_abbrev=False)
+
+
+def print_counts(title, counts):
+    """A title, and a line for each count."""
+    print('\n%s' % title)
+    for what in sorted(counts):
+        print('%9d  %s' % (counts[what], what))
 
 
 def run(program, words, files, seconds=600):

@@ -27,6 +27,7 @@ import code_text as ct
 import declarations as de
 import event_files as ev
 import tables
+from programs import parser
 
 MOST_MOVES = 20000          # for one event of a random code
 
@@ -728,38 +729,31 @@ EXPECTED = (['instruction ' + word for word in ct.INSTRUCTIONS]
 
 
 def main(words):
-    options = {'--seed': '1', '--cases': '1000', '--first': '0', '--against': ''}
-    table = False
-    words = list(words)
-    while words:
-        word = words.pop(0)
-        if word == '--table':
-            table = True
-        elif word in options and words:
-            options[word] = words.pop(0)
-        else:
-            sys.exit(__doc__)
-    first, count = int(options['--first']), int(options['--cases'])
+    reader = parser(__doc__)
+    reader.add_argument('--seed', default='1')
+    reader.add_argument('--cases', type=int, default=1000)
+    reader.add_argument('--first', type=int, default=0)
+    what = reader.add_mutually_exclusive_group()
+    what.add_argument('--table', action='store_true')
+    what.add_argument('--against', metavar='PROGRAM')
+    options = reader.parse_args(words)
     met = Counter()
     wrong = 0
-    for number in range(first, first + count):
-        case = Case(options['--seed'], number)
-        if table:
-            examine(case, met)
+    for number in range(options.first, options.first + options.cases):
+        case = Case(options.seed, number)
+        examine(case, met)
+        if options.table:
             print('\n'.join(case.table()))
-        elif options['--against']:
-            examine(case, met)
-            lines = cm.compare('case_%d' % number, options['--against'], case.text, case.events, case.depth, case.steps)
+        elif options.against:
+            lines = cm.compare('case_%d' % number, options.against, case.text, case.events, case.depth, case.steps)
             if lines:
                 wrong += 1
                 print('\n'.join(lines + (case.table() if len(case.text) < 20000 else ['(the text is long)'])))
-        else:
-            examine(case, met)
-    if not table:
+    if not options.table:
         for name in sorted(set(met) | set(EXPECTED)):
             print('%9d  %s' % (met[name], name))
         missing = [name for name in EXPECTED if not met[name]]
-        print('%d cases, %d of %d kinds not met' % (count, len(missing), len(EXPECTED)))
+        print('%d cases, %d of %d kinds not met' % (options.cases, len(missing), len(EXPECTED)))
     return 1 if wrong else 0
 
 

@@ -30,7 +30,7 @@ import chart_syntax as syntax
 import code_machine
 import code_text
 import random_charts
-from programs import differences
+from programs import differences, parser, print_counts
 
 USUAL_FILES = 4
 USUAL_BOUNDS = (rules.USUAL_DEPTH, rules.USUAL_STEPS)
@@ -224,10 +224,8 @@ class Comparison:
         return where.partition(' ')[2] + ' ' + what
 
     def print_counts(self):
-        for title, counts in (('charts', self.charts), ('cases', self.cases)):
-            print('\n%s' % title)
-            for what in sorted(counts):
-                print('%9d  %s' % (counts[what], what))
+        print_counts('charts', self.charts)
+        print_counts('cases', self.cases)
         missing = [each for each in rules.CASES if not self.met[each]]
         print('\ncases of the rules that chart_rules.py met: %d of %d' % (len(rules.CASES) - len(missing), len(rules.CASES)))
         print(''.join('       no  %s\n' % each for each in missing), end='')
@@ -235,23 +233,21 @@ class Comparison:
 
 
 def main(words):
-    options = {'--seed': '1', '--cases': '1000', '--first': '0', '--files': str(USUAL_FILES), '--against': '',
-               '--keep': 'differences'}
-    words = list(words)
-    while words:
-        word = words.pop(0)
-        if word not in options or not words:
-            sys.exit(__doc__)
-        options[word] = words.pop(0)
-    if not options['--against']:
-        sys.exit(__doc__)
-    count, number = int(options['--cases']), int(options['--first'])
-    print('seed %s, from chart %d on' % (options['--seed'], number), flush=True)
+    reader = parser(__doc__)
+    reader.add_argument('--against', metavar='PROGRAM', required=True)
+    reader.add_argument('--seed', default='1')
+    reader.add_argument('--cases', type=int, default=1000)
+    reader.add_argument('--files', type=int, default=USUAL_FILES)
+    reader.add_argument('--first', type=int, default=0)
+    reader.add_argument('--keep', metavar='FOLDER', default='differences')
+    options = reader.parse_args(words)
+    number = options.first
+    print('seed %s, from chart %d on' % (options.seed, number), flush=True)
     with tempfile.TemporaryDirectory(dir='/dev/shm' if os.path.isdir('/dev/shm') else None) as folder:
-        program = Program(options['--against'], folder)
-        comparison = Comparison(program, options['--seed'], int(options['--files']), options['--keep'])
-        while comparison.cases['all'] < count:
-            comparison.chart(number, count - comparison.cases['all'])
+        program = Program(options.against, folder)
+        comparison = Comparison(program, options.seed, options.files, options.keep)
+        while comparison.cases['all'] < options.cases:
+            comparison.chart(number, options.cases - comparison.cases['all'])
             number += 1
     comparison.print_counts()
     print('the next chart is %d' % number)

@@ -47,7 +47,7 @@ import code_text as ct
 import random_charts
 import random_codes
 import random_compiled
-from programs import differences
+from programs import differences, parser, print_counts
 
 KINDS = {'chart': 6, 'code': 4, 'hostile chart': 4, 'hostile code': 3, 'hostile events': 3, 'words': 3}
 ONE_IN = 10
@@ -378,10 +378,8 @@ class Soak:
         program = self.program
         print('\nsoak with seed %s: %d cases in %.0f minutes, %d calls of the program'
               % (self.seed, cases, (time.time() - began) / 60, sum(program.calls.values())))
-        for title, counts in (('cases', self.kinds), ('met', self.found)):
-            print('\n%s' % title)
-            for what in sorted(counts):
-                print('%9d  %s' % (counts[what], what))
+        print_counts('cases', self.kinds)
+        print_counts('met', self.found)
         self.comparison.print_counts()
         print('\n%-12s %8s  %-44s %12s %12s' % ('command', 'calls', 'of each status', 'most seconds', 'most memory'))
         for command in sorted(program.seconds):
@@ -396,22 +394,21 @@ class Soak:
 
 
 def main(words):
-    options = {'--against': '', '--minutes': '60', '--seed': '1', '--first': '0', '--cases': '0', '--longest': '60',
-               '--keep': 'differences'}
-    words = list(words)
-    while words:
-        word = words.pop(0)
-        if word not in options or not words:
-            sys.exit(__doc__)
-        options[word] = words.pop(0)
-    if not options['--against']:
-        sys.exit(__doc__)
-    began, first, most = time.time(), int(options['--first']), int(options['--cases'])
-    print('seed %s, from case %d on' % (options['--seed'], first), flush=True)
+    reader = parser(__doc__)
+    reader.add_argument('--against', metavar='PROGRAM', required=True)
+    reader.add_argument('--minutes', type=float, default=60)
+    reader.add_argument('--seed', default='1')
+    reader.add_argument('--first', type=int, default=0)
+    reader.add_argument('--cases', type=int, default=0)
+    reader.add_argument('--longest', type=int, default=60)
+    reader.add_argument('--keep', metavar='FOLDER', default='differences')
+    options = reader.parse_args(words)
+    began, first, most = time.time(), options.first, options.cases
+    print('seed %s, from case %d on' % (options.seed, first), flush=True)
     with tempfile.TemporaryDirectory(dir='/dev/shm' if os.path.isdir('/dev/shm') else None) as folder:
-        program = Measured(options['--against'], folder, int(options['--longest']))
-        soak, number = Soak(program, options['--seed'], options['--keep']), first
-        while time.time() - began < 60 * float(options['--minutes']) and not (most and number - first >= most):
+        program = Measured(options.against, folder, options.longest)
+        soak, number = Soak(program, options.seed, options.keep), first
+        while time.time() - began < 60 * options.minutes and not (most and number - first >= most):
             soak.case(number)
             number += 1
         soak.print_summary(number - first, began)

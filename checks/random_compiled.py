@@ -1,7 +1,7 @@
 #!/usr/bin/env python3
 r"""Compares the commands of a built program with each other on random charts and event files.
 
-    python3 checks/random_compiled.py --seed S --cases N --against PROGRAM [--files K] [--first M] [--keep FOLDER]
+    python3 checks/random_compiled.py --seed S --cases N --against PROGRAM [--files K] [--plain] [--first M] [--keep FOLDER]
 
 A case is an accepted chart with an event file and bounds, which are the usual ones in half of the cases. `rules CHART EVENTS`,
 `run CHART EVENTS`, and `exec CODE EVENTS` with the CODE that `compile CHART` writes must give the same status, standard output
@@ -9,7 +9,7 @@ and standard error. `upgrade CODE` must write CODE. A status that none of these 
 is a difference too, and so is a command that doesn't end in time. Where a chart is refused, `check`, `rules`, `run` and
 `compile` must tell the fault that chart_check.py tells. For one chart in twenty the code is also read and printed by
 code_text.py, and the traces are compared with those of code_machine.py, which runs the code, and of chart_rules.py, which runs
-the chart.
+the chart. With `--plain` the charts have neither junctions nor sends, which are taken out of those that were made.
 
 A chart has K event files, 4 where nothing is said, or fewer where its start ends with a fault. Charts are made by
 random_charts.py; one in ten is changed, so that it is mostly refused. A chart, its event files and the bounds follow from the
@@ -111,7 +111,32 @@ def features_of(chart):
                     found.add('a directed send')
             elif isinstance(statement, check.Emit):
                 found.add('an emit')
+    if not chart.junctions and not any(each.startswith('a send in') for each in found):
+        found.add('no junction and no send')
     return found
+
+
+def without_sends(block):
+    return [statement for statement in block if not isinstance(statement, syntax.Send)]
+
+
+def without_junctions(state, kind):
+    """The transitions of a list that lead to states, without sends; a default list ends with one that is always taken."""
+    kept = [each._replace(condition=without_sends(each.condition), action=without_sends(each.action))
+            for each in state.transitions[kind] if isinstance(each.destination, syntax.ToState)]
+    if kind == 'default' and len(kept) < len(state.transitions[kind]):
+        path = [state.states[0].name]
+        kept.append(syntax.Transition(random_charts.NOWHERE, None, None, [], [], syntax.ToState(path)))
+    return kept
+
+
+def make_plain(state):
+    """Takes all junctions and sends out of a state and those below it."""
+    state.junctions.clear()
+    state.blocks = {kind: without_sends(block) for kind, block in state.blocks.items()}
+    state.transitions = {kind: without_junctions(state, kind) for kind in state.transitions}
+    for each in state.states:
+        make_plain(each)
 
 
 def bounds_of(choices):
@@ -125,8 +150,8 @@ def bounds_of(choices):
 # ---- one chart
 
 class Comparison:
-    def __init__(self, program, seed, files, keep):
-        self.program, self.seed, self.files, self.keep = program, seed, files, keep
+    def __init__(self, program, seed, files, keep, plain=False):
+        self.program, self.seed, self.files, self.keep, self.plain = program, seed, files, keep, plain
         self.charts, self.cases, self.met = Counter(), Counter(), Counter()
         self.wrong = 0
 
@@ -146,7 +171,9 @@ class Comparison:
         choices = random.Random('compiled %s %d' % (self.seed, number))
         maker = random_charts.Maker(choices, True)
         made = maker.chart()
-        if choices.random() < 0.1:
+        if self.plain:
+            make_plain(made.root)
+        elif choices.random() < 0.1:
             random_charts.Changer(choices, maker, made).change()
         text = random_charts.Writer(choices).chart(made)
         self.program.write('chart', text.encode('latin-1'))
@@ -238,6 +265,7 @@ def main(words):
     reader.add_argument('--seed', default='1')
     reader.add_argument('--cases', type=int, default=1000)
     reader.add_argument('--files', type=int, default=USUAL_FILES)
+    reader.add_argument('--plain', action='store_true')
     reader.add_argument('--first', type=int, default=0)
     reader.add_argument('--keep', metavar='FOLDER', default='differences')
     options = reader.parse_args(words)
@@ -245,7 +273,7 @@ def main(words):
     print('seed %s, from chart %d on' % (options.seed, number), flush=True)
     with tempfile.TemporaryDirectory(dir='/dev/shm' if os.path.isdir('/dev/shm') else None) as folder:
         program = Program(options.against, folder)
-        comparison = Comparison(program, options.seed, options.files, options.keep)
+        comparison = Comparison(program, options.seed, options.files, options.keep, options.plain)
         while comparison.cases['all'] < options.cases:
             comparison.chart(number, options.cases - comparison.cases['all'])
             number += 1

@@ -1,5 +1,7 @@
+pub mod Answered
 pub mod Assigned
 pub mod EngineLemmas
+pub mod Missed
 pub mod Noted
 pub mod Obeyed
 pub mod Steps

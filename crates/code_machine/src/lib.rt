@@ -4,7 +4,9 @@
 //! `specs/Frames.antt` and `specs/States.antt` first: what the fields of the machine stand for, and
 //! what each instruction does. The top frame is a value of the loop, which each instruction changes
 //! in place; the frames below it lie on a stack whose room is reserved once, and so is the room for
-//! the events that are put out.
+//! the events that are put out. Where a run takes many steps that change little, they are done at
+//! once: a call of a procedure that does nothing but return pushes no frame, and tests of states
+//! that aren't active are passed over one behind the other.
 #![tactic(auto)]
 
 mod calls;
@@ -17,6 +19,7 @@ mod making;
 mod marking;
 mod notes;
 mod obeying;
+mod passing;
 mod running;
 mod sends;
 mod state;

@@ -16,7 +16,7 @@ ghost use Rattle.std.specs.Prelude.{
 ghost use Rattle.active_config.specs.Tree.{state_count};
 ghost use Rattle.run_work.specs.Changes.{paid_in};
 ghost use Rattle.code_form.specs.Instrs as instrs;
-ghost use Rattle.code_form.specs.Machine.{act, fresh, if_ok, machine, noted, Goes};
+ghost use Rattle.code_form.specs.Machine.{act, fresh, if_ok, later, machine, noted, Goes};
 ghost use Rattle.code_machine.specs.Frames.{seen, AreCalls};
 ghost use Rattle.code_machine.specs.States.{
   program_in,
@@ -29,6 +29,7 @@ ghost use Rattle.code_machine.specs.States.{
   IsReady,
 };
 
+use crate::conditions::is_bare;
 use crate::frames::{Frame, find_note, push_frame};
 use crate::loaded::LoadedCode;
 use crate::state::{MachineState, Move, pay};
@@ -65,7 +66,7 @@ fn play_note(code: &LoadedCode, m: &mut MachineState, top: &mut Frame, at: u32, 
         (fresh note None (suc (length (below m.old))) top.old.home None ∷
         record (seen top.old) { cursor = suc at } ∷ below m.old)))) result m.new top.new }
     ensures stays { Stays m.old m.new }
-    ensures proc { StaysIn result top.old.proc top.new.proc }
+    ensures proc { StaysIn result top.old top.new }
 {
     let base = m.stack.len() as u32 + 1;
     if !pay(code.bounds, m) {
@@ -85,6 +86,22 @@ fn play_note(code: &LoadedCode, m: &mut MachineState, top: &mut Frame, at: u32, 
     Move::Turns
 }
 
+/// The note that comes next above the base, with the number of its frame.
+#[inline(never)]
+fn next_note(m: &MachineState, top: Frame) -> Option<(u32, u32)>
+    requires calls { AreCalls m.now.stack.frames }
+    requires small { length m.now.stack.frames < 2 ^ 32 }
+    ensures note { MatchOption result
+        (noted (later top.cursor (suc top.base)) (seen top ∷ below m.now) ≡ None)
+        (λ x. noted (later top.cursor (suc top.base)) (seen top ∷ below m.now) ≡ Some (x.0, x.1)) }
+    ensures within { IfSome result (λ x. x.0 ≤ length m.now.stack.frames) }
+{
+    let first = top.base as usize + 1;
+    let cursor = top.cursor as usize;
+    let from = if cursor < first { first } else { cursor };
+    find_from(m, top, from)
+}
+
 /// Runs the next note above the base, where the home is bare; goes on where none is left.
 #[inline(always)]
 pub(crate) fn play(code: &LoadedCode, m: &mut MachineState, top: &mut Frame) -> Move
@@ -95,18 +112,15 @@ pub(crate) fn play(code: &LoadedCode, m: &mut MachineState, top: &mut Frame) -> 
         (world_of m.old) (now_of m.old) m.old.result (seen top.old) (below m.old))
         result m.new top.new }
     ensures stays { Stays m.old m.new }
-    ensures proc { StaysIn result top.old.proc top.new.proc }
+    ensures proc { StaysIn result top.old top.new }
 {
-    let first = top.base as usize + 1;
-    let cursor = top.cursor as usize;
-    let from = if cursor < first { first } else { cursor };
-    match find_from(m, *top, from) {
+    match next_note(m, *top) {
         None => {
             top.advance();
             Move::Goes
         }
         Some((at, note)) => {
-            if m.marks.bare(&code.shape, top.home) {
+            if is_bare(code, m, top.home) {
                 play_note(code, m, top, at, note)
             } else {
                 top.advance();

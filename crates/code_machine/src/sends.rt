@@ -63,7 +63,7 @@ pub(crate) fn send(code: &LoadedCode, m: &mut MachineState, top: &mut Frame, eve
         (world_of m.old) (now_of m.old) m.old.result (seen top.old) (below m.old))
         result m.new top.new }
     ensures stays { Stays m.old m.new }
-    ensures proc { StaysIn result top.old.proc top.new.proc }
+    ensures proc { StaysIn result top.old top.new }
 {
     if m.depth >= code.bounds.depth {
         return Move::Faults(Fault::Depth);
@@ -93,7 +93,7 @@ pub(crate) fn send_to(
         (world_of m.old) (now_of m.old) m.old.result (seen top.old) (below m.old))
         result m.new top.new }
     ensures stays { Stays m.old m.new }
-    ensures proc { StaysIn result top.old.proc top.new.proc }
+    ensures proc { StaysIn result top.old top.new }
 {
     if m.depth >= code.bounds.depth {
         return Move::Faults(Fault::Depth);

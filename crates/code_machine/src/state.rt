@@ -32,8 +32,10 @@ pub(crate) struct MachineState {
 /// What an instruction did.
 #[derive(Clone, Copy)]
 pub(crate) enum Move {
-    /// The run goes on in the same procedure.
+    /// The run goes on at the next place.
     Goes,
+    /// The run goes on at the next place past that number of instructions.
+    Passes(u32),
     /// The run goes on with another frame on top.
     Turns,
     /// No frame is left.

@@ -21,6 +21,7 @@ module _ (c : Chart) (text : List ℕ) (compiled : IsCompiled c text) where
     text_is = compiled.text_is;
     spellable = compiled.spellable;
     well_formed = compiled.well_formed;
+    short = compiled.short;
   }
 
   -- and is read as that code

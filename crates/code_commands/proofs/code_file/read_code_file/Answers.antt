@@ -1,4 +1,4 @@
-use Rattle.std.proofs.Common.{◌≢◌, arith, rules}
+use Rattle.std.proofs.Common.{◌≢◌, ◌≤◌, ◌∙◌, ℕ, List, length, arith, rules, subst, sym}
 use Rattle.std.proofs.lemmas.Grind.{common_steps}
 use Rattle.std.proofs.lemmas.Result.{err_from_is_err_and}
 use Rattle.code_text.specs.declared.fault.CodeTextFault.TheVariants as faults
@@ -18,12 +18,14 @@ returns-in_err-text g c =
 -- the text is that of accepted code
 pub returns-in-Ok : goal.returns-in-Ok
 returns-in-Ok g c =
+    let read = c.in_ok-text.ensures.means in
     gives_of TEXT_LIMIT _ _ c.args.name.now c.in_ok-text.text c.in_ok-text.ensures IsCodeText c.in-Ok.code _ c.deref.ensures.value
     (record {
       format = c.in-Ok.ensures.read.0;
       text_is = c.in-Ok.ensures.read.1;
       spellable = c.in-Ok.ensures.read.2;
       well_formed = c.in-Ok.ensures.formed;
+      short = subst (λ (t : List ℕ). length t ≤ TEXT_LIMIT) (sym (c.deref.ensures.value ∙ read.bytes_are)) read.short;
     })
 
 -- the text is refused

@@ -1,5 +1,5 @@
 -- Files that are read, and what is left of them.
-use Rattle.std.proofs.Common.{◌≡◌, ℕ, ◌+◌, ◌<◌, List, [], ◌∷◌, ◌++◌, Option, Some, None, Result, Ok, Err}
+use Rattle.std.proofs.Common.{◌≡◌, ℕ, ◌+◌, ◌<◌, ◌≤◌, List, [], ◌∷◌, ◌++◌, Option, Some, None, Result, Ok, Err}
 use Rattle.std.proofs.Common.{length, replicate, refl, sym, ap, subst, ◌∙◌, append-nil, arith, inl, inr}
 use Rattle.std.specs.Prelude.{IfSome, Vec}
 use Rattle.std.specs.declared.alloc.Global.{Global}
@@ -12,7 +12,7 @@ use Rattle.flow_base.specs.Causes.{OthersKept}
 use Rattle.command_files.specs.declared.file.FileEnd.{FileEnd}
 use Rattle.command_files.specs.declared.file.FileEnd.TheVariants as ends
 use Rattle.command_files.specs.Call.{Sources, OthersStay}
-use Rattle.command_files.specs.Reading.{IsTold, read_out, ReadWhole, IsRefused, Whole, TooLong, Unread, Gives, FileGives, IsTextOf}
+use Rattle.command_files.specs.Reading.{IsTold, read_out, ReadWhole, Whole, TooLong, Unread, Gives, FileGives, IsTextOf}
 
 -- a text of that file that passes the limit
 pub record LongText (told : Option (List ℕ)) (limit : ℕ) : Type 0 where
@@ -45,6 +45,24 @@ left_whole (Some t) (Some rest) text whole end = ap Some end
 pub read_out-IsAtEnd : (left : Option (List ℕ)) → IsAtEnd (read_out left)
 read_out-IsAtEnd None = tt
 read_out-IsAtEnd (Some t) = refl
+
+-- all of a file that was read to its end was taken
+all_taken : (told : Option (List ℕ)) (text : List ℕ) → IsTold told text → told ≡ prepend_known text (read_out told)
+all_taken None text is = refl
+all_taken (Some t) text is = ap Some (sym (append-nil text ∙ is))
+
+-- where memory runs out after a file within its limit was read whole, the file gives nothing
+pub ran_out_after : {R : Type 0} (limit : ℕ) (Refuses : List ℕ → R → Type 0) (before after : Sources) (name text : List ℕ)
+    → ReadWhole before after name text → length text ≤ limit → Unread limit Refuses before after name ends.Memory
+ran_out_after limit Refuses before after name text read short = record {
+  taken = record {
+    taken = text;
+    few = omega (arith, short);
+    bytes = rw read.at_end (all_taken (before.left name) text read.is_told);
+  };
+  others = read.others;
+  quiet = read.quiet;
+}
 
 -- a refusal for one reason is a refusal for another, where each text that has the first has the second
 pub refused_so : {R : Type 0} (limit : ℕ) (P Q : List ℕ → R → Type 0) (before after : Sources) (name : List ℕ) (end : FileEnd R)
@@ -114,4 +132,4 @@ module _ (limit : ℕ) (before after : Sources) (name : List ℕ) (bytes : Vec �
 
   -- where memory runs out after that, the file gives nothing
   pub ran_out : {R : Type 0} (Refuses : List ℕ → R → Type 0) → Unread limit Refuses before after name ends.Memory
-  ran_out Refuses = record { others = given.read.others; quiet = given.read.quiet }
+  ran_out Refuses = ran_out_after limit Refuses before after name given.text given.read given.means.short

@@ -32,14 +32,17 @@ pub record ReadPast (limit : ℕ) (before after : Sources) (name text : List ℕ
   pub others : OthersKept name before.left after.left
   pub quiet : AllStay before.faults after.faults
 
--- a read of the file failed, and no other file was read; the reads that failed are counted
-pub record ReadFailed (before after : Sources) (name : List ℕ) : Type 0 where
+-- a read of the file failed; at most one byte past the limit was read, and no other file; the reads that failed are
+-- counted
+pub record ReadFailed (limit : ℕ) (before after : Sources) (name : List ℕ) : Type 0 where
+  pub taken : TakesAtMost (limit + 1) (before.left name) (after.left name)
   pub cause : Rose (before.faults name) (after.faults name)
   pub counts : NoneFalls before.faults after.faults
   pub others : OthersKept name before.left after.left
 
--- memory ran out; no other file was read, and no read failed
-pub record RanOut (before after : Sources) (name : List ℕ) : Type 0 where
+-- memory ran out; at most one byte past the limit was read, and no other file, and no read failed
+pub record RanOut (limit : ℕ) (before after : Sources) (name : List ℕ) : Type 0 where
+  pub taken : TakesAtMost (limit + 1) (before.left name) (after.left name)
   pub others : OthersKept name before.left after.left
   pub quiet : AllStay before.faults after.faults
 
@@ -54,8 +57,8 @@ pub data IsRefused {R : Type 0} (limit : ℕ) (Refuses : List ℕ → R → Type
 -- why nothing comes of a file whose text may have at most `limit` bytes
 abbrev pub Unread : {R : Type 0} → ℕ → (List ℕ → R → Type 0) → Sources → Sources → List ℕ → FileEnd R → Type 0
 Unread limit Refuses before after name (ends.Refused why) = IsRefused limit Refuses before after name why
-Unread limit Refuses before after name ends.Read = ReadFailed before after name
-Unread limit Refuses before after name ends.Memory = RanOut before after name
+Unread limit Refuses before after name ends.Read = ReadFailed limit before after name
+Unread limit Refuses before after name ends.Memory = RanOut limit before after name
 
 -- the file's whole text has this meaning
 pub record Gives {T : Type 0} (Means : List ℕ → T → Type 0) (before after : Sources) (name : List ℕ)

@@ -1,4 +1,7 @@
 use Rattle.std.proofs.lemmas.Result.{err_from_is_err_and}
+use Rattle.code_text.specs.declared.limits.TheConstants.{TEXT_LIMIT}
+use Rattle.command_files.proofs.ReadingLemmas.{ran_out_after}
+use Rattle.code_commands.specs.CodeText.{RefusesCode}
 use Rattle.code_commands.proofs.upgrade.read_upgraded.Goals as goal
 
 -- nothing comes of the file
@@ -20,4 +23,5 @@ returns-in-Ok g c =
 -- memory runs out
 pub returns : goal.returns
 returns g c =
-    let read = c.in_ok-code.ensures.read in record { others = read.others; quiet = read.quiet }
+    let given = c.in_ok-code.ensures in
+    ran_out_after TEXT_LIMIT RefusesCode _ _ c.args.name.now given.text given.read given.means.short

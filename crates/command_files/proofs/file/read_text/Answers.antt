@@ -21,6 +21,7 @@ returns-in-Err-TooLong g c =
 pub returns-in-Err-Memory : goal.returns-in-Err-Memory
 returns-in-Err-Memory g c =
     record {
+      taken = c.in-Err-Memory.ensures.bounded;
       others = c.in-Err-Memory.ensures.others;
       quiet = c.in-Err-Memory.ensures.quiet (λ e. let is = c.in-Err-Memory.field-0-is in cc);
     }

@@ -1,5 +1,8 @@
 use Rattle.std.proofs.lemmas.Result.{err_from_is_err_and}
+use Rattle.chart_tree.specs.declared.limits.TheConstants.{CHART_TEXT_LIMIT}
 use Rattle.state_tree.specs.Kept.{chart_of}
+use Rattle.command_files.proofs.ReadingLemmas.{ran_out_after}
+use Rattle.checked_commands.specs.Refusals.{RefusesAccepted}
 use Rattle.compile_command.proofs.compile.read_compiled.Goals as goal
 
 -- nothing comes of the file
@@ -25,4 +28,5 @@ returns-in-Ok g c =
 -- memory runs out
 pub returns : goal.returns
 returns g c =
-    let read = c.in_ok-chart.ensures.read in record { others = read.others; quiet = read.quiet }
+    let given = c.in_ok-chart.ensures in
+    ran_out_after CHART_TEXT_LIMIT RefusesAccepted _ _ c.args.name.now given.text given.read given.means.read.spells.short

@@ -1,5 +1,5 @@
 -- How a command ends that writes a text made of a file, from how the file was read and how the text was written.
-use Rattle.std.proofs.Common.{◌≡◌, ℕ, List, Result, Ok, Err, sym, subst}
+use Rattle.std.proofs.Common.{ℕ, List, Result, Ok, Err, sym, subst}
 use Rattle.std.specs.Prelude.{String, string_bytes}
 use Rattle.std.specs.declared.alloc.Global.{Global}
 use Rattle.command_files.specs.declared.file.FileEnd.{FileEnd}

@@ -1,5 +1,4 @@
 //! A file that is read whole.
-ghost use Rattle.std.specs.Prelude.{◌≡◌};
 ghost use Rattle.command_files.specs.Call.{sources_of};
 ghost use Rattle.command_files.specs.Reading.{FileGives, IsTextOf, RefusesLong};
 

@@ -1,5 +1,5 @@
 //! The command `compile`.
-ghost use Rattle.std.specs.Prelude.{◌≡◌, ◌∷◌, [], IfOk, string_bytes};
+ghost use Rattle.std.specs.Prelude.{◌∷◌, [], IfOk, string_bytes};
 ghost use Rattle.chart_tree.specs.declared.limits.TheConstants.{CHART_TEXT_LIMIT};
 ghost use Rattle.state_tree.specs.Kept.{chart_of};
 ghost use Rattle.command_files.specs.Call.{sources_of, call_of, OthersStay};

@@ -1,5 +1,5 @@
 //! What `exec` writes of compiled code.
-ghost use Rattle.std.specs.Prelude.{◌≡◌, ◌↔◌, ℕ, List};
+ghost use Rattle.std.specs.Prelude.{◌↔◌, ℕ, List};
 ghost use Rattle.flow_base.specs.declared.bounds.Bounds.{Bounds};
 ghost use Rattle.state_tree.specs.Chart.{Chart};
 ghost use Rattle.state_tree.specs.Valid.{IsValid};

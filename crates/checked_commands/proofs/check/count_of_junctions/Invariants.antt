@@ -1,4 +1,4 @@
-use Rattle.std.proofs.Common.{◌≡◌, ℕ, ◌-◌, ◌≤◌, List, length, take}
+use Rattle.std.proofs.Common.{◌≡◌, ◌-◌, ◌≤◌, List, length, take}
 use Rattle.std.specs.Prelude.{sum_by}
 use Rattle.state_tree.specs.Chart.{Trans, junction_count}
 use Rattle.state_tree.specs.Kept.{chart_of}

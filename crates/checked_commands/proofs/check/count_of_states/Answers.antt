@@ -1,4 +1,4 @@
-use Rattle.std.proofs.Common.{arith, ℕ, ◌<◌}
+use Rattle.std.proofs.Common.{arith, ◌<◌}
 use Rattle.active_config.specs.Tree.{state_count}
 use Rattle.state_tree.specs.Kept.{chart_of}
 use Rattle.checked_commands.proofs.Counts.{state_more, states_counted}

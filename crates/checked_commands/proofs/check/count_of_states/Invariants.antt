@@ -1,4 +1,4 @@
-use Rattle.std.proofs.Common.{◌≡◌, ℕ, ◌-◌, ◌≤◌, take}
+use Rattle.std.proofs.Common.{◌≡◌, ◌-◌, ◌≤◌, take}
 use Rattle.std.specs.Prelude.{sum_by}
 use Rattle.active_config.specs.Tree.{state_count}
 use Rattle.state_tree.specs.Counts.{node_transitions}

@@ -1,4 +1,4 @@
-use Rattle.std.proofs.Common.{ap, sym, subst, refl}
+use Rattle.std.proofs.Common.{sym, subst}
 use Rattle.command_files.specs.Call.{call_of}
 use Rattle.state_tree.specs.Kept.{chart_of}
 use Rattle.sos_interpreter.specs.Engine.{EngineState}

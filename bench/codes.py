@@ -59,7 +59,7 @@ def repeated(kind, size):
     lines, in_one = TEXTS[kind]()
     length = sum(len(each) + 1 for each in lines) + (0 if in_one else len('p %d\n' % len(lines)))
     times = size // length
-    return text([lines * times + ['ret 0']] if in_one else [lines] * times, ['0'])
+    return text([lines * times + ['ret 0']] if in_one else [lines] * times, ['n'])
 
 
 # ---- loops: each gives the procedures, and how many instructions of code an event takes

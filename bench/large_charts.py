@@ -5,15 +5,19 @@
     bench/large_charts.py BIN       BIN is the path of a built program, with a slash
 
 The second form prints the rows of that table. A row has the states, junctions, transitions and pairs that `check` counts, the
-bytes of the code, and the seconds of processor time and the peak memory of `compile`, of `exec` and `rules` over an event file
-of three lines, and of `upgrade`. It says where the traces of `exec` and `rules` differ, or the code and what `upgrade` makes of
+bytes of the code with its height and work, by checks/code_text.py, and the seconds of processor time and the peak memory of
+`compile`, of `exec` and `rules` over an event file of three lines, and of `upgrade`. It says where the traces of `exec` and `rules` differ, or the code and what `upgrade` makes of
 it. It makes its files in a temporary folder, and is no test: it has no limit of its own."""
 import filecmp
+import multiprocessing
 import os
 import re
 import subprocess
 import sys
 import tempfile
+
+sys.path.append(os.path.join(os.path.dirname(os.path.abspath(__file__)), os.pardir, 'checks'))
+import code_text
 
 STATES, JUNCTIONS, DEPTH, BYTES = 1024, 4096, 16, 1048576
 EVENTS = 'GO\ntick\nGO\n'
@@ -240,6 +244,14 @@ def measure(words, folder, output=os.devnull):
         return usage.ru_utime + usage.ru_stime, usage.ru_maxrss / 1024, os.waitstatus_to_exitcode(status)
 
 
+def measures(name):
+    """The bytes of a code, its height and its work."""
+    with open(name, 'rb') as file:
+        text = file.read()
+    _, height, work = code_text.read_code(text)
+    return ['{:,}'.format(each) for each in (len(text), height, work)]
+
+
 def row(program, kind, folder):
     """A row of the table, with the status of each command that doesn't end with 0."""
     with open(os.path.join(folder, 'chart'), 'w') as file:
@@ -250,7 +262,8 @@ def row(program, kind, folder):
                           (['rules', 'chart', 'events'], 'told'), (['upgrade', 'code'], 'upgraded')):
         seconds, peak, status = measure([program, *words], folder, output)
         if words[0] == 'compile':
-            columns.append('{:,}'.format(os.path.getsize(os.path.join(folder, output))))
+            with multiprocessing.Pool(1) as pool:                   # so that this process stays small
+                columns += pool.apply(measures, (os.path.join(folder, output),))
         columns.append('%.2f s, %.0f MiB' % (seconds, peak) + (', status %d' % status if status else ''))
     for one, other in (('trace', 'told'), ('code', 'upgraded')):
         if not filecmp.cmp(os.path.join(folder, one), os.path.join(folder, other), shallow=False):

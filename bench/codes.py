@@ -92,7 +92,7 @@ def sums():
 
 
 def mixed():
-    """Two thirds of what runs are tests, a sixth calls and a sixth returns, as it is about so in the code of charts."""
+    """Two thirds of what runs are tests, a sixth calls and a sixth returns, about as in charts."""
     below = ['unless 0 on 1', 'unless 0 event 0', 'ret 0']
     return turning(['unless 1 on 1', 'call 1 -', 'unless 1 bare 0', 'call 1 -'] * 5, 30, [below])
 

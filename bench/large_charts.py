@@ -6,8 +6,8 @@
 
 The second form prints the rows of that table. A row has the states, junctions, transitions and pairs that `check` counts, the
 bytes of the code with its height and work, by checks/code_text.py, and the seconds of processor time and the peak memory of
-`compile`, of `exec` and `rules` over an event file of three lines, and of `upgrade`. It says where the traces of `exec` and `rules` differ, or the code and what `upgrade` makes of
-it. It makes its files in a temporary folder, and is no test: it has no limit of its own."""
+`compile`, of `exec` and `rules` over an event file of three lines, and of `upgrade`. It says where the traces of `exec` and
+`rules` differ, or the code and what `upgrade` makes of it. It makes its files in a temporary folder, and is no test: it has no limit of its own."""
 import filecmp
 import multiprocessing
 import os

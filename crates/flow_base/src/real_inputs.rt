@@ -1,7 +1,8 @@
 //! Files of the system that are read by name.
 ghost use Rattle.std.specs.Prelude.{◌≡◌, ◌<◌, ℕ, List, Option, None, Bool, false};
-ghost use Rattle.std.specs.Prelude.{IfSome, OnErr, is_some, vec_len, refl};
+ghost use Rattle.std.specs.Prelude.{IfSome, OnErr, is_some, vec_len, slice_get, string_bytes, refl};
 ghost use Rattle.std.specs.Io.{ReadsAtMost};
+ghost use Rattle.std.specs.Io.KnownBytes.{ReadConsumes};
 
 use crate::inputs::{Failed, Inputs};
 use std::alloc::Global;
@@ -41,6 +42,25 @@ enum Source<F> {
     Missing,
 }
 
+/// Reads the next bytes of a file to the front of the buffer, 4,096 at most.
+///
+/// A read of the system that fails may have written into its buffer, so it gets one of its own.
+fn read_piece<F: Read>(file: &mut F, buf: &mut [u8]) -> Result<usize, Failed>
+    ensures bound { ReadsAtMost result buf.new }
+    ensures kept { OnErr result (buf.new ≡ buf.old) }
+
+    // A file whose bytes are known gives its next ones, and none for a fault.
+    ensures bytes { ReadConsumes (F.remaining file.old) (F.remaining file.new) result buf.new }
+{
+    let mut piece = [0u8; PIECE_SIZE];
+    let most = buf.len().min(PIECE_SIZE);
+    let Ok(count) = file.read(&mut piece[..most]) else {
+        return Err(Failed);
+    };
+    buf[..count].copy_from_slice(&piece[..count]);
+    Ok(count)
+}
+
 impl<F: Read + Drop> RealFile<F> {
     fn read(&mut self, buf: &mut [u8]) -> Result<usize, Failed>
         ensures bound { ReadsAtMost result buf.new }
@@ -48,15 +68,10 @@ impl<F: Read + Drop> RealFile<F> {
     {
         match &mut self.source {
             Source::Open(file) => {
-                // A read of the system that fails may have written into its buffer, so it gets one
-                // of its own.
-                let mut piece = [0u8; PIECE_SIZE];
-                let most = buf.len().min(PIECE_SIZE);
-                let Ok(count) = file.read(&mut piece[..most]) else {
+                let Ok(count) = read_piece(file, buf) else {
                     return Err(Failed);
                 };
-                buf[..count].copy_from_slice(&piece[..count]);
-                if count == 0 && most > 0 {
+                if count == 0 && !buf.is_empty() {
                     self.source = Source::Ended;
                 }
                 Ok(count)
@@ -81,11 +96,16 @@ impl<R: Files> RealInputs<R> {
     }
 
     fn index_of(&self, name: &str) -> Option<usize>
-        ensures { IfSome result (λ index. index < vec_len self.now.files) }
+        ensures there { IfSome result (λ index. index < vec_len self.now.files) }
+        ensures named { IfSome result (λ index. IfSome (slice_get self.now.files.items index)
+            (λ file. string_bytes file.name ≡ name.now)) }
     {
-        self.files
-            .iter()
-            .position(|file| file.name.as_str() == name)
+        for (index, file) in self.files.iter().enumerate() {
+            if file.name.as_str() == name {
+                return Some(index);
+            }
+        }
+        None
     }
 
     fn open(&mut self, name: &str) -> Result<(), Failed>

@@ -1,5 +1,8 @@
 //! A sink over a writer of std.
 ghost use Rattle.std.specs.Prelude.{◌≡◌, ℕ, List, Option, None, Bool, false, is_some, refl};
+ghost use Rattle.std.specs.Io.{WritesAtMost};
+ghost use Rattle.std.specs.Io.KnownBytes.{WriteAppends};
+ghost use Rattle.flow_base.specs.Bytes.{TakesSome};
 
 use crate::inputs::Failed;
 use crate::sink::Sink;
@@ -22,6 +25,22 @@ impl<W: Write> RealSink<W> {
     {
         RealSink { writer, failed: 0 }
     }
+
+    /// Hands the piece to the writer, which takes a front of it or refuses it.
+    fn hand_on(&mut self, piece: &[u8]) -> Result<usize, Failed>
+        ensures bound { WritesAtMost result piece.now }
+        ensures some { TakesSome piece.now result }
+        ensures count { self.new.failed ≡ self.old.failed }
+
+        // A writer whose bytes are known has those that it took behind those before.
+        ensures bytes { WriteAppends (W.contents self.old.writer) (W.contents self.new.writer)
+            result piece.now }
+    {
+        match self.writer.write(piece) {
+            Ok(count) if count > 0 || piece.is_empty() => Ok(count),
+            _ => Err(Failed),
+        }
+    }
 }
 
 impl<W: Write> Sink for RealSink<W> {
@@ -32,9 +51,9 @@ impl<W: Write> Sink for RealSink<W> {
     ghost faults = { λ sink. sink.failed };
 
     fn write(&mut self, piece: &[u8]) -> Result<usize, Failed> {
-        match self.writer.write(piece) {
-            Ok(count) if count > 0 || piece.is_empty() => Ok(count),
-            _ => {
+        match self.hand_on(piece) {
+            Ok(count) => Ok(count),
+            Err(Failed) => {
                 self.failed = self.failed.saturating_add(1);
                 Err(Failed)
             }

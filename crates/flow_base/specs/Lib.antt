@@ -7,3 +7,4 @@ pub mod Bounds
 pub mod Counts
 pub mod MemoryFiles
 pub mod MemorySinks
+pub mod RealFiles

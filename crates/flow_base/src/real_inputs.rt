@@ -3,6 +3,7 @@ ghost use Rattle.std.specs.Prelude.{◌≡◌, ◌<◌, ℕ, List, Option, None,
 ghost use Rattle.std.specs.Prelude.{IfSome, OnErr, is_some, vec_len, slice_get, string_bytes, refl};
 ghost use Rattle.std.specs.Io.{ReadsAtMost};
 ghost use Rattle.std.specs.Io.KnownBytes.{ReadConsumes};
+ghost use Rattle.flow_base.specs.RealFiles.{source_left};
 
 use crate::inputs::{Failed, Inputs};
 use std::alloc::Global;
@@ -65,6 +66,9 @@ impl<F: Read + Drop> RealFile<F> {
     fn read(&mut self, buf: &mut [u8]) -> Result<usize, Failed>
         ensures bound { ReadsAtMost result buf.new }
         ensures kept { OnErr result (buf.new ≡ buf.old) }
+        ensures bytes { ReadConsumes (source_left F.remaining self.old.source)
+            (source_left F.remaining self.new.source) result buf.new }
+        ensures name { self.new.name ≡ self.old.name }
     {
         match &mut self.source {
             Source::Open(file) => {

@@ -1,5 +1,5 @@
 //! The command `fmt`.
-ghost use Rattle.std.specs.Prelude.{◌≡◌, ◌∷◌, [], string_bytes};
+ghost use Rattle.std.specs.Prelude.{◌∷◌, [], string_bytes};
 ghost use Rattle.chart_format.specs.Text.{IsFormatted};
 ghost use Rattle.command_files.specs.Call.{sources_of, call_of, OthersStay};
 ghost use Rattle.command_files.specs.Reading.{FileGives};

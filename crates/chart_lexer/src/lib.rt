@@ -17,6 +17,3 @@ pub use front::Stop;
 pub use laws::{a_name_is_cut_as_one, what_is_cut_as_a_name_is_one};
 pub use lexer::{Lexed, lex};
 pub use words::{NAME_LIMIT, is_name, name_text};
-
-#[cfg(test)]
-mod tests;

@@ -1,5 +1,5 @@
 -- How large the numbers of a valid chart are.
-use Rattle.std.proofs.Common.{◌≡◌, ℕ, zero, suc, ◌+◌, ◌*◌, ◌<◌, ◌≤◌, List, [], ◌∷◌, length, Option, Some, None, refl}
+use Rattle.std.proofs.Common.{◌≡◌, ℕ, zero, suc, ◌*◌, ◌<◌, ◌≤◌, List, [], ◌∷◌, length, Option, Some, None, refl}
 use Rattle.std.proofs.Common.{arith, sum_by}
 use Rattle.std.specs.Prelude.{slice_index_or}
 use Rattle.std.proofs.lemmas.List.Sums.{sum_by-cons}
@@ -8,9 +8,9 @@ use Rattle.actions.specs.Exprs.{Expr, Stmt}
 use Rattle.state_tree.specs.declared.parts.ListKind.{ListKind}
 use Rattle.state_tree.specs.declared.parts.ListKind.TheVariants.{Outer, Inner, Default}
 use Rattle.state_tree.specs.Chart.{Chart, Node, Trans, node, no_node, node_list, list_of, junction, junction_count}
-use Rattle.state_tree.specs.Counts.{node_transitions, transition_count}
+use Rattle.state_tree.specs.Counts.{node_transitions}
 use Rattle.state_tree.specs.Valid.{IsValid, AreTrans}
-use Rattle.chart_layout.specs.Ends.{end_of, below_count}
+use Rattle.chart_layout.specs.Ends.{below_count}
 use Rattle.chart_layout.specs.Places.{guard_count, block_count, trans_size, parts_size, reached_count}
 use Rattle.chart_layout.specs.ReachedJunctions.{reached}
 use Rattle.chart_layout.proofs.EndsLemmas.{end_is}

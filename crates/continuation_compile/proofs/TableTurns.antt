@@ -4,7 +4,6 @@ use Rattle.std.proofs.Common.{arith, inl, inr, length-append, subst}
 use Rattle.std.specs.Prelude.{slice_index_or}
 use Rattle.std.proofs.lemmas.Bool.{cases_lt}
 use Rattle.chart_layout.specs.Orders.{sum_to}
-use Rattle.chart_layout.proofs.Sums.{sum_next}
 use Rattle.continuation_compile.specs.Tables.{IsTable, AreLow}
 
 -- what stands in a list stands in it with one more behind it

@@ -1,5 +1,5 @@
 -- What a numbering keeps.
-use Rattle.std.specs.Prelude.{ℕ, suc, ◌+◌, ◌*◌}
+use Rattle.std.specs.Prelude.{suc}
 use Rattle.flow_base.specs.Lists.{items_of}
 use Rattle.active_config.specs.Tree.{state_count}
 use Rattle.state_tree.specs.declared.parts.ListKind.TheVariants.{Outer, Default}

@@ -1,6 +1,5 @@
 //! The code of guards and of actions.
-ghost use Rattle.std.specs.Prelude.{◌≡◌, ◌++◌, ◌∷◌, [], map, OnOk, IfOk};
-ghost use Rattle.flow_base.specs.Lists.{items_of};
+ghost use Rattle.std.specs.Prelude.{◌≡◌, ◌++◌, ◌∷◌, [], map, OnOk};
 ghost use Rattle.actions.specs.Trees.{expr_of, stmt_of};
 ghost use Rattle.code_form.specs.Code.{cond_of};
 ghost use Rattle.state_tree.specs.Views.{block_seen, trans_seen, list_seen};

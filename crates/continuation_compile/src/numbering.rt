@@ -1,7 +1,6 @@
 //! The numbers of the procedures of a chart.
 ghost use Rattle.std.specs.Prelude.{◌≡◌, ◌<◌, ◌≤◌, ◌+◌, ◌*◌, IfOk};
 ghost use Rattle.active_config.specs.Tree.{state_count};
-ghost use Rattle.state_tree.specs.Chart as charts;
 ghost use Rattle.state_tree.specs.Chart.{junction_count};
 ghost use Rattle.state_tree.specs.declared.parts.ListKind.TheVariants.{Outer, Default};
 ghost use Rattle.state_tree.specs.Kept.{chart_of};

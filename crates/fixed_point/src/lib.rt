@@ -13,8 +13,6 @@ mod quotient;
 mod reading;
 mod rounding;
 mod scale;
-#[cfg(test)]
-mod tests;
 mod writing;
 
 pub use arithmetic::{add, compare, mul, neg, sub};

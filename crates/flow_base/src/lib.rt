@@ -19,8 +19,6 @@ mod sink;
 mod status;
 mod sure_inputs;
 mod sure_sink;
-#[cfg(test)]
-mod tests;
 mod text;
 mod whole;
 

@@ -11,9 +11,6 @@ use std::fs;
 use std::io::Read;
 use std::rt::Files;
 
-#[cfg(test)]
-mod tests;
-
 /// The most bytes that one read gives.
 const PIECE_SIZE: usize = 4_096;
 

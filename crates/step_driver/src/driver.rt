@@ -1,7 +1,7 @@
 //! A run over an event file that comes in pieces.
-ghost use Rattle.std.specs.Prelude.{◌≡◌, ◌≢◌, ◌<◌, ◌≤◌, ◌^◌, length, true, false, IsTrue, Err};
+ghost use Rattle.std.specs.Prelude.{◌≡◌, ◌≢◌, ◌<◌, ◌^◌, length, false, IsTrue, Err};
 ghost use Rattle.flow_base.specs.Causes.{OthersKept, NoneFalls};
-ghost use Rattle.actions.specs.Engines.{Fresh, Running};
+ghost use Rattle.actions.specs.Engines.{Fresh};
 ghost use Rattle.step_text.specs.LineValues.{IsMadeFor};
 ghost use Rattle.step_text.specs.Reading.{unused};
 ghost use Rattle.step_driver.specs.Causes as causes;

@@ -1,5 +1,5 @@
 //! The start, and the event that a line says.
-ghost use Rattle.std.specs.Prelude.{◌≡◌, ◌≢◌, ◌<◌, ◌≤◌, ◌^◌, ◌+◌, length, true, false, IsTrue, Err, OnOk, replicate, None};
+ghost use Rattle.std.specs.Prelude.{◌≡◌, ◌≢◌, ◌<◌, ◌≤◌, ◌^◌, ◌+◌, length, false, IsTrue, Err, OnOk, None};
 ghost use Rattle.actions.specs.Engines.{Fresh, Running, CanReactTo, IsFaultOf, fault_of};
 ghost use Rattle.actions.specs.declared.event.Event.TheVariants.{Start as AtStart};
 ghost use Rattle.step_text.specs.EventLines.{event_of_line};

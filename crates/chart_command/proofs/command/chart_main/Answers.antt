@@ -1,4 +1,4 @@
-use Rattle.std.proofs.Common.{◌⊎◌, Option, subst}
+use Rattle.std.proofs.Common.{Option, subst}
 use Rattle.command_files.specs.Call.{Call, call_of}
 use Rattle.command_words.specs.Commands.{Command}
 use Rattle.chart_command.specs.Answer.{CallEnds}

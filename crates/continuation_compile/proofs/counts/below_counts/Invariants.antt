@@ -1,4 +1,3 @@
-use Rattle.std.proofs.Common.{◌+◌, ◌*◌}
 use Rattle.flow_base.specs.Lists.{items_of}
 use Rattle.chart_layout.specs.Ends.{below_count}
 use Rattle.continuation_compile.specs.Tables.{IsTable}

@@ -1,4 +1,4 @@
-use Rattle.std.proofs.Common.{◌+◌, ◌*◌}
+use Rattle.std.proofs.Common.{◌+◌}
 use Rattle.std.specs.Prelude.{slice_index_or}
 use Rattle.flow_base.specs.Lists.{items_of}
 use Rattle.continuation_compile.specs.Tables.{IsTable}

@@ -1,4 +1,3 @@
-use Rattle.std.proofs.Common.{◌+◌, ◌*◌}
 use Rattle.flow_base.specs.Lists.{items_of}
 use Rattle.state_tree.specs.Kept.{chart_of}
 use Rattle.chart_layout.specs.Places.{reached_count}

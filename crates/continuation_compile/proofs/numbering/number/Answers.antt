@@ -1,4 +1,4 @@
-use Rattle.std.proofs.Common.{◌≡◌, ◌+◌, ◌*◌, subst, arith}
+use Rattle.std.proofs.Common.{◌+◌, ◌*◌, subst, arith}
 use Rattle.std.specs.Prelude.{slice_index_or}
 use Rattle.flow_base.specs.Lists.{items_of}
 use Rattle.active_config.specs.Tree.{state_count}

@@ -1,12 +1,11 @@
-use Rattle.std.proofs.Common.{◌≡◌, ◌<◌, ◌∙◌, ◌-◌, length, [], ℕ, Some, ap, sym, arith}
-use Rattle.std.specs.Prelude.{slice_get, slice_index_or}
+use Rattle.std.proofs.Common.{◌<◌, ◌∙◌, ◌-◌, length, [], ℕ, ap, arith}
 use Rattle.flow_base.specs.Lists.{items_of}
 use Rattle.state_tree.specs.Chart.{junction, junction_count}
 use Rattle.state_tree.specs.Kept.{chart_of}
 use Rattle.state_tree.specs.Views.{list_seen}
-use Rattle.chart_layout.specs.ReachedJunctions.{reached, spread, meet, junctions_to}
+use Rattle.chart_layout.specs.ReachedJunctions.{reached, meet, junctions_to}
 use Rattle.continuation_compile.proofs.Spreads.{get_in, spread_start, spread_turn, spread_over, spread_none, met_below}
-use Rattle.continuation_compile.proofs.Spreads.{targets_below, all_below_at}
+use Rattle.continuation_compile.proofs.Spreads.{targets_below}
 use Rattle.continuation_compile.proofs.reached.reached.Goals as goal
 use Rattle.continuation_compile.proofs.reached.reached.Goals.{else-loop-i-test, then-loop-i-test+then-i-items}
 

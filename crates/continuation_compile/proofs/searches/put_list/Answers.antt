@@ -1,4 +1,4 @@
-use Rattle.std.proofs.Common.{◌+◌, arith}
+use Rattle.std.proofs.Common.{arith}
 use Rattle.continuation_compile.specs.Drafts.{code_seen}
 use Rattle.continuation_compile.specs.Numberings.{chart_in}
 use Rattle.continuation_compile.specs.Searches.{search_seen}

@@ -1,4 +1,4 @@
-use Rattle.std.proofs.Common.{◌≡◌, ◌∙◌, ◌++◌, ap}
+use Rattle.std.proofs.Common.{◌∙◌, ◌++◌, ap}
 use Rattle.state_tree.specs.Views.{trans_seen}
 use Rattle.chart_procedures.specs.ListProcedures.{condition_code}
 use Rattle.chart_layout.specs.Places.{trans_numbers}

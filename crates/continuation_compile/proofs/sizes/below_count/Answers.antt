@@ -1,6 +1,5 @@
-use Rattle.std.proofs.Common.{◌<◌, ◌∙◌, sym, arith}
-use Rattle.active_config.specs.Tree.{state_count}
-use Rattle.chart_layout.specs.Ends.{end_of, below_count}
+use Rattle.std.proofs.Common.{◌∙◌, sym, arith}
+use Rattle.chart_layout.specs.Ends.{below_count}
 use Rattle.chart_layout.proofs.EndsLemmas.{end_is}
 use Rattle.continuation_compile.proofs.EndTurns.{below_before, other_behind}
 use Rattle.continuation_compile.proofs.sizes.below_count.Goals as goal

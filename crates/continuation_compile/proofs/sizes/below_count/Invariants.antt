@@ -1,5 +1,4 @@
 use Rattle.std.proofs.Common.{◌<◌, ◌≤◌, ◌-◌}
-use Rattle.active_config.specs.Tree.{state_count}
 use Rattle.chart_layout.specs.Ends.{end_of}
 use Rattle.continuation_compile.proofs.sizes.below_count.Given as goal
 

@@ -1,7 +1,7 @@
 //! Tests of what no contract says: that calls succeed, and what the file system gives and takes.
 ghost use Rattle.std.specs.Prelude.{◌<◌};
 
-use crate::{
+use flow_base::{
     Bounds, Failed, Inputs, List, MemFile, MemInputs, MemSink, ReadEnd, RealInputs, RealSink, Sink,
     SureInputs, SureSink, Text, read_whole, write_all,
 };

@@ -1,7 +1,7 @@
 //! Texts and what they are cut into, worked by hand.
 ghost use Rattle.std.specs.Prelude.{◌<◌, ◌^◌, length};
 
-use super::{is_name, lex};
+use chart_lexer::{is_name, lex};
 use std::alloc::{AllocError, Global};
 use std::fmt::Write;
 use std::test::Fail;

@@ -2,7 +2,10 @@
 ghost use Rattle.std.specs.Prelude.{◌≡◌, ◌≤◌, ◌^◌, ◌*ℤ◌, pos, IsTrue, unsigned_abs};
 ghost use Rattle.fixed_point.specs.Numbers.{scaled, CanAlign, CanDivide};
 
-use super::*;
+use fixed_point::{
+    FRACTION_LIMIT, MAGNITUDE_LIMIT, Mode, Num, NumFault, Overflow, Scale, TEXT_LIMIT, Zero, add,
+    compare, div, exact, fit, mul, neg, read_decimal, sub, write_decimal,
+};
 use std::cmp::Ordering;
 
 /// 2 to the 99.

@@ -1,2 +1,0 @@
-pub mod MantissaLemmas
-pub mod MarkLemmas

@@ -52,7 +52,8 @@ are written, with `and so on` between. Then comes `stop` with `end`, `L: N Kind`
 L is the number of the line. Then come the trace lines of the worlds. A block without a file has no `stop`.
 
 With `--against PROGRAM` nothing is answered. For each file PROGRAM runs a code that declares the same and does nothing, and
-what it writes is compared with the trace that follows from the file. Only differences are written."""
+what it writes is compared with the trace that follows from the file. A world whose result is `ok`, whose index is at most 20
+and which a code can reach is reached by one, and its trace line is compared. Only differences are written."""
 import re
 import sys
 from collections import deque, namedtuple
@@ -262,16 +263,21 @@ def reaction_text(declared, reaction):
     return ' '.join(words)
 
 
-def world_text(declared, rest):
+def world_of(rest):
+    """The parts of a world: its index, event, result, active states, mantissas and outputs."""
     index, event, result, active, values, outputs = rest.split(' ')
 
     def numbers(text):
         return [] if text == '-' else [int(n) for n in text.split(',')]
+    return int(index), event, result, numbers(active), numbers(values), numbers(outputs)
+
+
+def world_text(declared, rest):
+    index, event, result, active, values, outputs = world_of(rest)
     if result.startswith('overflow:'):
         result = 'overflow ' + declared.data[int(result[9:])].name
-    shown = [bool(m) if d.scale is None else d.scale.value(m) for d, m in zip(declared.data, numbers(values))]
-    return trace_line(declared, int(index), event if event in ('start', 'tick') else int(event), numbers(active), shown,
-                      numbers(outputs), result)
+    shown = [bool(m) if d.scale is None else d.scale.value(m) for d, m in zip(declared.data, values)]
+    return trace_line(declared, index, event if event in ('start', 'tick') else int(event), active, shown, outputs, result)
 
 
 def answer(block, declared):
@@ -289,14 +295,17 @@ def answer(block, declared):
     return answers + [world_text(declared, rest) for rest in block.values('world')]
 
 
-# ---- a program's trace of a code that does nothing
+# ---- a program's traces: of a code that does nothing, and of one that reaches a world
 
-def idle_code(declared):
+def code_of(declared, procs):
+    """The code with these procedures, of which the first is that of the start and the last that of a reaction."""
     lines_of_code = ['flowcode 2', 'states %d' % len(declared.states)] + [de.state_text(s) for s in declared.states]
     lines_of_code += ['data %d' % len(declared.data)] + [de.datum_text(d) for d in declared.data]
     lines_of_code += ['events %d' % len(declared.events)] + [de.event_text(e) for e in declared.events]
-    lines_of_code += ['procs 1 0 0', 'p 1', 'ret 0', 'end']
-    return ''.join(line + '\n' for line in lines_of_code).encode()
+    lines_of_code += ['procs %d 0 %d' % (len(procs), len(procs) - 1)]
+    for instructions in procs:
+        lines_of_code += ['p %d' % len(instructions)] + instructions
+    return ''.join(line + '\n' for line in lines_of_code + ['end']).encode()
 
 
 def idle_run(declared, data):
@@ -314,13 +323,44 @@ def idle_run(declared, data):
     return ''.join(line + '\n' for line in out), error, 0 if item == END else 1
 
 
+def in_order(declared, active):
+    """The active states, each behind its parent, and None where marks can't reach them."""
+    parents = [declared.states[s].parent for s in active]
+    single = [p for p in parents if p is not None and declared.states[p].comp == 'or']
+    if len(set(single)) < len(single) or any(p is not None and p not in active for p in parents):
+        return None
+    return sorted(active)
+
+
+def world_run(declared, rest):
+    """The code that reaches a world, the event file for it, and its trace line; None where no code or file of these does."""
+    index, event, result, active, values, outputs = world_of(rest)
+    marks = in_order(declared, active)
+    kinds = {'tick': 'input'} if index else {'start': 'input'}
+    kinds.update((str(e), declared.events[e].kind) for e in range(len(declared.events) if index else 0))
+    if result != 'ok' or index > 20 or marks is None or kinds.get(event) != 'input':
+        return None
+    if any(declared.events[e].kind != 'output' for e in outputs):
+        return None
+    shown = de.Declarations(declared.states, [d._replace(init=m) for d, m in zip(declared.data, values)], declared.events)
+    reached = ['mark %d' % s for s in marks] + ['emit %d' % e for e in outputs] + ['ret 0']
+    name = event if event in ('start', 'tick') else declared.events[int(event)].name
+    return code_of(shown, [reached] if index == 0 else [['ret 0'], reached]), (name + '\n').encode() * index
+
+
 def compare(block, declared, program):
     import programs
-    data = file_of(block)
-    if data is None:
-        return []
-    got = programs.run(program, ['exec', 'code', 'events'], {'code': idle_code(declared), 'events': data})
-    return programs.differences(block.name, idle_run(declared, data), got)
+    found, data = [], file_of(block)
+    if data is not None:
+        got = programs.run(program, ['exec', 'code', 'events'], {'code': code_of(declared, [['ret 0']]), 'events': data})
+        found += programs.differences(block.name, idle_run(declared, data), got)
+    for rest in block.values('world'):
+        made = world_run(declared, rest)
+        if made is not None:
+            out, error, status = programs.run(program, ['exec', 'code', 'events'], dict(zip(('code', 'events'), made)))
+            last = ''.join(out.splitlines(True)[-1:])
+            found += programs.differences(block.name, (world_text(declared, rest) + '\n', '', 0), (last, error, status))
+    return found
 
 
 def main(words):

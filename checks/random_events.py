@@ -1,9 +1,7 @@
 #!/usr/bin/env python3
-r"""Writes random cases for event_lines.py and for the program of crates/event_files.
+r"""Writes random blocks for event_files.py.
 
-    python3 checks/random_events.py --seed 1 --first 0 --cases 1000 > CASES
-    PROGRAM < CASES > ANSWERS
-    python3 checks/event_lines.py < CASES | diff - ANSWERS
+    python3 checks/random_events.py --seed 1 --first 0 --cases 1000 | python3 checks/event_files.py --against PROGRAM
 
 must print nothing. One case in ten is a world, and the others are event files: values at the ends of scales and just past
 them, numbers of 36 and of 37 digits, byte 13 and byte 0 anywhere, comments, blanks, lines of 4,096 and of 4,097 bytes, tokens
@@ -14,7 +12,6 @@ from random import Random
 
 import declarations as de
 import event_files as ev
-import event_lines
 import tables
 
 NAMES = ('x y X y1 y_ xy GO G GOO go STOP e f0 start ticks tic TICK truE q true1 input1 Root z').split() + ['a' * 62, 'a' * 63]
@@ -201,16 +198,17 @@ def random_world(rng, declared):
     event = rng.choice(['start', 'tick'] + list(range(len(declared.events))))
     result = rng.choice(['ok', 'ok', 'depth', 'steps', 'zero'] + ['overflow:%d' % v for v in range(len(declared.data))])
     outputs = [rng.randrange(len(declared.events)) for _ in range(rng.choice([0, 1, 2, 5]))] if declared.events else []
-    index = rng.choice([0, 1, 9, 10, 999999, 1000000, 2 ** 64 - 1])
-    return 'world %d %s %s %s %s' % (index, event, result, listed(active_states(rng, declared.states)), listed(outputs))
+    index = rng.choice([0, 1, 2, 9, 10, 20])
+    values = listed([datum.init for datum in declared.data])
+    return 'world %d %s %s %s %s %s' % (index, event, result, listed(active_states(rng, declared.states)), values, listed(outputs))
 
 
-def random_case(seed, number):
+def random_block(seed, number):
     rng = Random('%s %d' % (seed, number))
     declared = random_declarations(rng)
-    if rng.random() < 0.1:
-        return event_lines.case(declared, random_world(rng, declared))
-    return event_lines.case(declared, 'file ' + tables.escaped(random_file(rng, declared)))
+    what = random_world(rng, declared) if rng.random() < 0.1 else 'bytes ' + tables.escaped(random_file(rng, declared))
+    lines = [de.state_text(s) for s in declared.states] + [de.datum_text(d) for d in declared.data]
+    return '\n'.join(['block case%d' % number] + lines + [de.event_text(e) for e in declared.events] + [what])
 
 
 def main():
@@ -220,7 +218,7 @@ def main():
     parser.add_argument('--cases', type=int, default=1000)
     options = parser.parse_args()
     for number in range(options.first, options.first + options.cases):
-        print(random_case(options.seed, number))
+        print(random_block(options.seed, number))
 
 
 if __name__ == '__main__':

@@ -34,8 +34,8 @@ pub(crate) struct MachineState {
 pub(crate) enum Move {
     /// The run goes on at the next place.
     Goes,
-    /// The run goes on at the next place past that number of instructions.
-    Passes(u32),
+    /// The run goes on past some instructions.
+    Passes,
     /// The run goes on with another frame on top.
     Turns,
     /// No frame is left.

@@ -1,8 +1,9 @@
 -- Why texts aren't read as code.
 use Rattle.std.proofs.Common.{◌≡◌, ℕ, ◌+◌, ◌≤◌, Bool, true, false, ◌&&◌, not, nat_eq, nat_lt, List, [], ◌∷◌, length, Option, Some, None}
-use Rattle.std.proofs.Common.{Result, Ok, Err, refl, sym, ap, ◌∙◌, subst}
+use Rattle.std.proofs.Common.{Result, Ok, Err, refl, sym, ap, ◌∙◌, subst, arith}
 use Rattle.std.specs.Prelude.{if◌then◌else◌, codes, IfOk, MatchResult}
 use Rattle.std.specs.List.{starts_with}
+use Rattle.std.proofs.lemmas.Bool.Decides.{nat_tests}
 use Rattle.code_form.specs.declared.code.RawCode.{RawCode}
 use Rattle.code_form.specs.declared.fault.CodeFault.{CodeFault}
 use Rattle.code_form.specs.Code.{code_of}
@@ -79,6 +80,25 @@ cause_of-fault text faults.Version h = h (λ same. absurd cc)
 cause_of-fault text faults.TextTooLong h = h (λ same. absurd cc)
 cause_of-fault text (faults.Form f) h = absurd (spelled-form text f (h (λ same. absurd cc)))
 cause_of-fault text faults.Memory h = tt
+
+-- a text over the limit spells no code
+spelled_short : (text : List ℕ) (w : Written) → spelled text ≡ Ok w → length text ≤ TEXT_LIMIT
+spelled_short text w e = by_length (nat_lt TEXT_LIMIT (length text)) refl e
+  where
+    not_over : (a b : ℕ) → nat_lt a b ≡ false → b ≤ a
+    not_over a b h = grind (arith, nat_tests)
+
+    by_length : (long : Bool) → nat_lt TEXT_LIMIT (length text) ≡ long
+        → (if long then Err faults.TextTooLong else outcome_from nothing_read 1 (cut_of text).lines (cut_of text).rest) ≡ Ok w
+        → length text ≤ TEXT_LIMIT
+    by_length true long g = absurd cc
+    by_length false short g = not_over TEXT_LIMIT (length text) short
+
+-- so what is read keeps to it
+pub answer_short : (text : List ℕ) (r : Result RawCode CodeTextFault) → IsAnswer text r
+    → IfOk r (λ raw. length text ≤ TEXT_LIMIT)
+answer_short text (Ok raw) h = spelled_short text (written_of raw) h.0
+answer_short text (Err fault) h = tt
 
 -- what is read is spelled so
 pub answer_spelled : (text : List ℕ) (r : Result RawCode CodeTextFault) → IsAnswer text r

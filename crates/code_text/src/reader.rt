@@ -25,6 +25,7 @@ pub fn read_code(alloc: Global, text: &[u8]) -> Result<Code, CodeTextFault>
         (format : declared.Format) × (text.now ≡ code_text format (written_of code))
         × IsSpellable format (written_of code)) }
     ensures formed { IfOk result (λ code. IsCode (code_of code)) }
+    ensures short { IfOk result (λ code. length text.now ≤ TEXT_LIMIT) }
     // What is spelled so and well formed is read, unless memory runs out.
     ensures only { (format : declared.Format) (w : Written) → IsSpellable format w
         → IsCode (code_written w) → text.now ≡ code_text format w → length text.now ≤ TEXT_LIMIT

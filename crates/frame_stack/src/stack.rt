@@ -168,6 +168,7 @@ impl FrameStack {
     /// their slots, and room that is there stays. Refused for want of memory, it gives back what it
     /// took, and frames and spare are as before.
     pub fn reserve(&mut self, n: usize) -> Result<(), Memory>
+        ensures there { n ≤ self.old.spare → IsOk result × (self.new ≡ self.old) }
         ensures frames { self.new.frames ≡ self.old.frames }
         ensures spare { IsOk result → n ≤ self.new.spare }
         ensures kept { self.old.spare ≤ self.new.spare }

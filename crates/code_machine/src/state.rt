@@ -36,6 +36,8 @@ pub(crate) enum Move {
     Goes,
     /// The run goes on past some instructions.
     Passes,
+    /// A procedure is to be called, with a note or none.
+    Calls(u32, Option<u32>),
     /// The run goes on with another frame on top.
     Turns,
     /// No frame is left.

@@ -1,7 +1,7 @@
 -- A text that goes out in pieces.
-use Rattle.std.proofs.Common.{◌≡◌, ℕ, ◌+◌, ◌≤◌, Bool, true, false, List, [], ◌++◌, length, take, Option, Some, None, Result, Ok, Err, refl, sym, ap, ◌∙◌, arith, append_assoc, append-nil, length-append}
+use Rattle.std.proofs.Common.{◌≡◌, ℕ, ◌+◌, ◌≤◌, Bool, true, false, List, [], ◌++◌, length, take, drop, Option, Some, None, Result, Ok, Err, refl, sym, ap, ◌∙◌, arith, append_assoc, append-nil, length-append}
 use Rattle.std.specs.Io.KnownBytes.{append_known}
-use Rattle.std.proofs.lemmas.List.{take-append-le}
+use Rattle.std.proofs.lemmas.List.{take-append-le, take-append-drop, take_at, length-take-le}
 use Rattle.std.proofs.Math.Seq.{take-append-add}
 use Rattle.flow_base.specs.Bytes.{AppendsProperFront}
 use Rattle.flow_base.specs.Causes.{Rose}
@@ -63,10 +63,34 @@ kept_at : (w w1 : Option (List ℕ)) (f f1 : ℕ) (text more : List ℕ) (held :
 kept_at w w1 f f1 text more held true e h = let p = rw e at h in rw e (cut_more w w1 f f1 text more p)
 kept_at w w1 f f1 text more held false e h = let p = rw e at h in rw e (pushed w w1 f f1 text held.bytes more p)
 
--- a text more is kept, unless a write failed
+-- a text more is kept
 pub written_kept : (w w1 : Option (List ℕ)) (f f1 : ℕ) (text more : List ℕ) (held new : Held) → new ≡ kept held more
     → Written w w1 f f1 text held → Written w w1 f f1 (text ++ more) new
 written_kept w w1 f f1 text more held new is h = rw is (kept_at w w1 f f1 text more held held.failed refl h)
+
+-- after a failed write a text more is left out
+pub written_failed : (w w1 : Option (List ℕ)) (f f1 : ℕ) (text more : List ℕ) (held : Held) → held.failed ≡ true
+    → Written w w1 f f1 text held → Written w w1 f f1 (text ++ more) held
+written_failed w w1 f f1 text more held e h = let c = rw e at h in rw e (cut_more w w1 f f1 text more c)
+
+-- two texts are kept one after the other
+pub kept_both : (h0 h1 h2 : Held) (first second text : List ℕ) → h1 ≡ kept h0 first → h2 ≡ kept h1 second → text ≡ first ++ second
+    → h2 ≡ kept h0 text
+kept_both h0 h1 h2 first second text p q is =
+    q ∙ ap (λ (h : Held). kept h second) p
+    ∙ ap (λ (z : List ℕ). record { bytes = z; failed = h0.failed }) (append_assoc h0.bytes first second ∙ ap (λ (z : List ℕ). h0.bytes ++ z) (sym is))
+
+-- digits that are written behind what is kept are kept
+pub digits_kept : (old new digits rest : List ℕ) (len start : ℕ) → len ≤ length old → start ≡ len → drop start new ≡ digits ++ rest
+    → take start new ≡ take start old → take (len + length digits) new ≡ take len old ++ digits
+digits_kept old new digits rest len start within at behind before =
+    ap (take (len + length digits))
+    (sym (take-append-drop start new)
+    ∙ ap (λ (z : List ℕ). z ++ drop start new) (before ∙ ap (λ n. take n old) at)
+    ∙ ap (λ (z : List ℕ). take len old ++ z) behind
+    ∙ sym (append_assoc (take len old) digits rest))
+    ∙ take_at (take len old ++ digits) rest (len + length digits)
+    (length-append (take len old) digits ∙ ap (λ n. n + length digits) (length-take-le len old within))
 
 -- no write failed so far
 pub passed : (w w1 : Option (List ℕ)) (f f1 : ℕ) (text : List ℕ) (held : Held) → held.failed ≡ false → Written w w1 f f1 text held

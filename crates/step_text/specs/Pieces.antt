@@ -1,5 +1,5 @@
 -- A line that goes out in pieces: what is written and what is kept make the text so far.
-use Rattle.std.specs.Prelude.{◌≡◌, ℕ, ◌≤◌, Bool, true, false, List, [], ◌++◌, if◌then◌else◌, Option, Result, Ok, Err}
+use Rattle.std.specs.Prelude.{◌≡◌, ℕ, ◌≤◌, Bool, true, false, List, [], ◌++◌, Option, Result, Ok, Err}
 use Rattle.std.specs.Io.KnownBytes.{append_known}
 use Rattle.flow_base.specs.Bytes.{AppendsProperFront}
 use Rattle.flow_base.specs.Causes.{Rose}
@@ -14,9 +14,9 @@ pub record Held : Type 0 where
 abbrev pub nothing_held : Held
 nothing_held = record { bytes = []; failed = false }
 
--- a text more is kept, unless a write failed
+-- a text more is kept
 abbrev pub kept : Held → List ℕ → Held
-kept held more = if held.failed then held else record held { bytes = held.bytes ++ more }
+kept held more = record held { bytes = held.bytes ++ more }
 
 -- the text is what was written and then what is kept, and no write failed
 pub record Passed (before after : Option (List ℕ)) (f f' : ℕ) (text held : List ℕ) : Type 0 where

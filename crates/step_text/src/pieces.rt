@@ -1,10 +1,13 @@
 //! Lines that go out in pieces.
+ghost use Rattle.std.specs.Prelude.{◌≡◌, length, decimal};
+
 use crate::limits::PIECE_SIZE;
 use flow_base::{Failed, Sink, write_all};
+use itoa::{Buffer, write_digits};
 use std::marker::Model;
 
 /// The bytes of a line that are still to be written, and whether a write failed. After a failed
-/// write nothing more is written.
+/// write nothing more is written, and there is room for no more.
 #[derive(Drop)]
 pub(crate) struct Pieces {
     buffer: [u8; PIECE_SIZE],
@@ -13,7 +16,7 @@ pub(crate) struct Pieces {
 }
 
 impl Model for Pieces {
-    ghost use Rattle.std.specs.Prelude.{take, ◌≤◌};
+    ghost use Rattle.std.specs.Prelude.{take, ◌≤◌, ◌≡◌, true};
     ghost use Rattle.step_text.specs.Pieces.{Held};
     ghost use Rattle.step_text.specs.declared.limits.TheConstants.{PIECE_SIZE};
 
@@ -21,11 +24,11 @@ impl Model for Pieces {
 
     ghost view = { λ p. record { bytes = take p.len p.buffer; failed = p.failed } };
 
-    ghost invariant = { λ p. p.len ≤ PIECE_SIZE };
+    ghost invariant = { λ p. (p.len ≤ PIECE_SIZE) × (p.failed ≡ true → p.len ≡ PIECE_SIZE) };
 }
 
 impl Pieces {
-    ghost use Rattle.std.specs.Prelude.{◌≡◌, ◌++◌, ◌∷◌, [], ◌+◌, ◌<◌, ◌≤◌, ℕ, List, Option, length, false, IsTrue};
+    ghost use Rattle.std.specs.Prelude.{◌≡◌, ◌++◌, ◌∷◌, [], ◌+◌, ◌<◌, ◌≤◌, ℕ, List, Option, length, decimal, false, IsTrue};
     ghost use Rattle.step_text.specs.Pieces.{Written, Puts, Ends, nothing_held, kept};
 
     /// No bytes.
@@ -46,7 +49,7 @@ impl Pieces {
         self.len == PIECE_SIZE
     }
 
-    /// Whether there is room for a text of that length.
+    /// Whether there is room for that many bytes.
     #[inline(always)]
     fn has_room(&self, count: usize) -> bool
         ensures { IsTrue result → length self.now.bytes + count ≤ PIECE_SIZE }
@@ -66,7 +69,10 @@ impl Pieces {
         }
         match write_all(out, &self.buffer[..self.len]) {
             Ok(()) => self.len = 0,
-            Err(_) => self.failed = true,
+            Err(_) => {
+                self.failed = true;
+                self.len = PIECE_SIZE;
+            }
         }
     }
 
@@ -84,6 +90,7 @@ impl Pieces {
     }
 
     /// Puts a text for which there may be no room, byte by byte.
+    #[cold]
     #[inline(never)]
     fn put_bytes<O: Sink>(&mut self, text: &[u8], out: &mut O)
         ensures { Puts (O.wrote out.old) (O.wrote out.new) (O.faults out.old) (O.faults out.new)
@@ -101,20 +108,54 @@ impl Pieces {
             self.old self.new (byte ∷ []) }
     {
         if self.has_room(1) {
-            self.keep(&[byte]);
+            self.keep_byte(byte);
         } else {
             self.put_one(byte, out);
         }
     }
 
+    /// Puts a byte and then a text after what is there.
+    #[inline(always)]
+    pub fn put_led<O: Sink>(&mut self, byte: u8, text: &[u8], out: &mut O)
+        ensures { Puts (O.wrote out.old) (O.wrote out.new) (O.faults out.old) (O.faults out.new)
+            self.old self.new (byte ∷ text.now) }
+    {
+        if self.has_room(text.len() + 1) {
+            self.keep_byte(byte);
+            self.keep(text);
+        } else {
+            self.put_one(byte, out);
+            self.put_bytes(text, out);
+        }
+    }
+
+    /// Puts the digits of a whole number after what is there.
+    #[inline(always)]
+    pub fn put_digits<O: Sink>(&mut self, number: u64, out: &mut O)
+        ensures { Puts (O.wrote out.old) (O.wrote out.new) (O.faults out.old) (O.faults out.new)
+            self.old self.new (decimal number) }
+    {
+        let count = digit_count(number);
+        if self.has_room(count) {
+            self.keep_digits(number, count);
+        } else {
+            let mut digits = Buffer::new();
+            self.put_bytes(digits.format(number).as_bytes(), out);
+        }
+    }
+
     /// Puts a byte for which there may be no room.
+    #[cold]
     #[inline(never)]
     fn put_one<O: Sink>(&mut self, byte: u8, out: &mut O)
         ensures { Puts (O.wrote out.old) (O.wrote out.new) (O.faults out.old) (O.faults out.new)
             self.old self.new (byte ∷ []) }
     {
         self.make_room(out);
-        self.keep(&[byte]);
+        if self.failed {
+            return;
+        }
+        self.keep_byte(byte);
     }
 
     /// Makes room for a byte.
@@ -129,17 +170,64 @@ impl Pieces {
         }
     }
 
-    /// Keeps a text, for which there is room unless a write failed.
+    /// Keeps a text for which there is room.
     #[inline(always)]
     fn keep(&mut self, text: &[u8])
-        requires { self.old.failed ≡ false → length self.old.bytes + length text.now ≤ PIECE_SIZE }
+        requires { length self.old.bytes + length text.now ≤ PIECE_SIZE }
         ensures { self.new ≡ kept self.old text.now }
     {
-        if self.failed {
-            return;
+        match text {
+            [first] => self.keep_byte(*first),
+            [first, second] => self.keep_two(*first, *second),
+            [first, second, third] => {
+                self.keep_two(*first, *second);
+                self.keep_byte(*third);
+            }
+            _ => self.keep_all(text),
         }
+    }
+
+    /// Keeps a byte for which there is room.
+    #[inline(always)]
+    fn keep_byte(&mut self, byte: u8)
+        requires { length self.old.bytes < PIECE_SIZE }
+        ensures { self.new ≡ kept self.old (byte ∷ []) }
+    {
+        let at = self.len;
+        self.buffer[at] = byte;
+        self.len = at + 1;
+    }
+
+    /// Keeps two bytes for which there is room.
+    #[inline(always)]
+    fn keep_two(&mut self, first: u8, second: u8)
+        requires { length self.old.bytes + 2 ≤ PIECE_SIZE }
+        ensures { self.new ≡ kept self.old (first ∷ second ∷ []) }
+    {
+        self.keep_byte(first);
+        self.keep_byte(second);
+    }
+
+    /// Keeps a text for which there is room, however long it is.
+    #[inline(always)]
+    fn keep_all(&mut self, text: &[u8])
+        requires { length self.old.bytes + length text.now ≤ PIECE_SIZE }
+        ensures { self.new ≡ kept self.old text.now }
+    {
         let end = self.len + text.len();
         self.buffer[self.len..end].copy_from_slice(text);
+        self.len = end;
+    }
+
+    /// Keeps the digits of a whole number, whose count is given, and for which there is room.
+    #[inline(always)]
+    fn keep_digits(&mut self, number: u64, count: usize)
+        requires count { count ≡ length (decimal number) }
+        requires room { length self.old.bytes + count ≤ PIECE_SIZE }
+        ensures { self.new ≡ kept self.old (decimal number) }
+    {
+        let end = self.len + count;
+        write_digits(number, &mut self.buffer, end);
         self.len = end;
     }
 
@@ -152,4 +240,27 @@ impl Pieces {
         self.flush(out);
         if self.failed { Err(Failed) } else { Ok(()) }
     }
+}
+
+/// How many digits a whole number has.
+#[inline(always)]
+fn digit_count(number: u64) -> usize
+    ensures { result ≡ length (decimal number) }
+{
+    let mut left = number;
+    let mut behind = 0;
+    'fours: while left >= 10_000 {
+        left /= 10_000;
+        behind += 4;
+    }
+    if left < 10 {
+        return behind + 1;
+    }
+    if left < 100 {
+        return behind + 2;
+    }
+    if left < 1000 {
+        return behind + 3;
+    }
+    behind + 4
 }

@@ -14,7 +14,6 @@ use crate::trace_parts::{event_word, put_data, put_outputs, put_result};
 use crate::trace_states::put_states;
 use actions::{Event, Names, View};
 use flow_base::{Failed, Fault, Sink};
-use itoa::Buffer;
 
 /// Writes the line of a trace for the start or an event: its index, its word, the active states,
 /// the values, what was put out, and how it ended.
@@ -61,11 +60,9 @@ fn put_line<O: Sink>(
         (spec.trace_line view.now.shape.now (names_of view.now.names.now) (spec.world_of view.now) index event fault) }
 {
     put_head(index, event_word(view.names, event), pieces, out);
-    pieces.put_byte(b' ', out);
-    pieces.put_byte(b'[', out);
+    pieces.put(b" [", out);
     put_states(view.shape, view.names, view.marks, pieces, out);
-    pieces.put_byte(b']', out);
-    pieces.put_byte(b' ', out);
+    pieces.put(b"] ", out);
     put_data(view.names, view.vals, pieces, out);
     pieces.put_byte(b' ', out);
     put_outputs(view.names, view.outputs, pieces, out);
@@ -79,8 +76,6 @@ fn put_head<O: Sink>(index: u64, event: &str, pieces: &mut Pieces, out: &mut O)
     ensures { Puts (O.wrote out.old) (O.wrote out.new) (O.faults out.old) (O.faults out.new)
         pieces.old pieces.new (decimal index ++ codes " " ++ event.now) }
 {
-    let mut digits = Buffer::new();
-    pieces.put(digits.format(index).as_bytes(), out);
-    pieces.put_byte(b' ', out);
-    pieces.put(event.as_bytes(), out);
+    pieces.put_digits(index, out);
+    pieces.put_led(b' ', event.as_bytes(), out);
 }

@@ -11,6 +11,7 @@ ghost use Rattle.std.specs.Prelude.{
 };
 ghost use Rattle.std.specs.Fmt.{signed_decimal};
 ghost use Rattle.std.specs.List.{AllByRecursion};
+ghost use Rattle.fixed_point.specs.Text.{sign_of};
 ghost use Rattle.actions.specs.Engines.{IsFaultOf};
 ghost use Rattle.actions.specs.Names.{names_of};
 ghost use Rattle.actions.specs.World.{of_data, of_names};
@@ -72,6 +73,7 @@ pub(crate) fn put_separator<O: Sink>(
 }
 
 /// Puts the next text of those between which a separator stands.
+#[inline(always)]
 pub(crate) fn put_item<O: Sink>(
     separator: u8,
     is_first: bool,
@@ -82,8 +84,11 @@ pub(crate) fn put_item<O: Sink>(
     ensures { Puts (O.wrote out.old) (O.wrote out.new) (O.faults out.old) (O.faults out.new)
         pieces.old pieces.new (item separator is_first text.now) }
 {
-    put_separator(separator, is_first, pieces, out);
-    pieces.put(text, out);
+    if is_first {
+        pieces.put(text, out);
+    } else {
+        pieces.put_led(separator, text, out);
+    }
 }
 
 /// Puts each datum with its value.
@@ -150,6 +155,32 @@ fn put_number<O: Sink>(number: Num, pieces: &mut Pieces, out: &mut O)
 
 /// Puts an integer.
 fn put_integer<O: Sink>(number: i128, pieces: &mut Pieces, out: &mut O)
+    ensures { Puts (O.wrote out.old) (O.wrote out.new) (O.faults out.old) (O.faults out.new)
+        pieces.old pieces.new (signed_decimal number) }
+{
+    let magnitude = number.unsigned_abs();
+    if magnitude > u64::MAX as u128 {
+        put_wide(number, pieces, out);
+        return;
+    }
+    put_sign(number, pieces, out);
+    pieces.put_digits(magnitude as u64, out);
+}
+
+/// Puts a minus sign where a number is negative.
+fn put_sign<O: Sink>(number: i128, pieces: &mut Pieces, out: &mut O)
+    ensures { Puts (O.wrote out.old) (O.wrote out.new) (O.faults out.old) (O.faults out.new)
+        pieces.old pieces.new (sign_of number) }
+{
+    if number < 0 {
+        pieces.put_byte(b'-', out);
+    }
+}
+
+/// Puts an integer of any size.
+#[cold]
+#[inline(never)]
+fn put_wide<O: Sink>(number: i128, pieces: &mut Pieces, out: &mut O)
     ensures { Puts (O.wrote out.old) (O.wrote out.new) (O.faults out.old) (O.faults out.new)
         pieces.old pieces.new (signed_decimal number) }
 {

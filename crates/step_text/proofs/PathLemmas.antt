@@ -1,5 +1,5 @@
 -- The path of a state, name by name from the root down.
-use Rattle.std.proofs.Common.{◌≡◌, ◌≢◌, ℕ, zero, suc, ◌+◌, ◌-◌, ◌≤◌, ◌<◌, true, nat_eq, List, [], ◌∷◌, ◌++◌, length, map, drop, reverse, Some, None, refl, sym, ap, ◌∙◌, arith}
+use Rattle.std.proofs.Common.{◌≡◌, ◌≢◌, ℕ, zero, suc, ◌+◌, ◌-◌, ◌≤◌, ◌<◌, Bool, true, false, nat_eq, List, [], ◌∷◌, ◌++◌, length, map, drop, reverse, Some, None, refl, sym, ap, ◌∙◌, arith}
 use Rattle.std.specs.List.{join_with_byte}
 use Rattle.std.proofs.lemmas.Bool.Decides.{nat_tests}
 use Rattle.std.proofs.lemmas.List.{map-append, length-map, reverse-append, length-reverse}
@@ -87,3 +87,16 @@ path_of-child t n s p name tree e named =
     ∙ ap (λ (all : List ℕ). join_with_byte 47 (map (state_name n) all)) (drop_first up s (omega arith))
     ∙ ap (join_with_byte 47) (map-append (state_name n) (drop 1 up) (s ∷ []) ∙ ap (λ (z : List ℕ). front ++ z ∷ []) (sym named))
     ∙ joined_next 47 front name (nat_eq p 0) first
+
+-- the path of a child of the root is its name
+pub path_of-first : (t : Tree) (n : Names) (s : ℕ) (name : List ℕ) → IsTree t → parent_of t s ≡ Some 0 → name ≡ state_name n s
+    → spec.path_of t n s ≡ name
+path_of-first t n s name tree e named =
+    path_of-child t n s 0 name tree e named ∙ ap (λ (z : List ℕ). z ++ name) (sym (path_of-root t n tree))
+
+-- the path of a child of another state goes on after a slash
+pub path_of-next : (t : Tree) (n : Names) (s p : ℕ) (name : List ℕ) → IsTree t → parent_of t s ≡ Some p → 0 < p → name ≡ state_name n s
+    → spec.path_of t n s ≡ spec.path_of t n p ++ (47 ∷ name)
+path_of-next t n s p name tree e below named =
+    let after : nat_eq p 0 ≡ false = grind (arith, nat_tests) in
+    path_of-child t n s p name tree e named ∙ ap (λ (b : Bool). spec.path_of t n p ++ item 47 b name) after

@@ -73,13 +73,6 @@ pub written_failed : (w w1 : Option (List ℕ)) (f f1 : ℕ) (text more : List �
     → Written w w1 f f1 text held → Written w w1 f f1 (text ++ more) held
 written_failed w w1 f f1 text more held e h = let c = rw e at h in rw e (cut_more w w1 f f1 text more c)
 
--- two texts are kept one after the other
-pub kept_both : (h0 h1 h2 : Held) (first second text : List ℕ) → h1 ≡ kept h0 first → h2 ≡ kept h1 second → text ≡ first ++ second
-    → h2 ≡ kept h0 text
-kept_both h0 h1 h2 first second text p q is =
-    q ∙ ap (λ (h : Held). kept h second) p
-    ∙ ap (λ (z : List ℕ). record { bytes = z; failed = h0.failed }) (append_assoc h0.bytes first second ∙ ap (λ (z : List ℕ). h0.bytes ++ z) (sym is))
-
 -- digits that are written behind what is kept are kept
 pub digits_kept : (old new digits rest : List ℕ) (len start : ℕ) → len ≤ length old → start ≡ len → drop start new ≡ digits ++ rest
     → take start new ≡ take start old → take (len + length digits) new ≡ take len old ++ digits

@@ -28,7 +28,7 @@ impl Model for Pieces {
 }
 
 impl Pieces {
-    ghost use Rattle.std.specs.Prelude.{◌≡◌, ◌++◌, ◌∷◌, [], ◌+◌, ◌<◌, ◌≤◌, ℕ, List, Option, length, decimal, false, IsTrue};
+    ghost use Rattle.std.specs.Prelude.{◌≡◌, ◌++◌, ◌∷◌, [], ◌+◌, ◌^◌, ◌<◌, ◌≤◌, ℕ, List, Option, length, decimal, false, IsTrue};
     ghost use Rattle.step_text.specs.Pieces.{Written, Puts, Ends, nothing_held, kept};
 
     /// No bytes.
@@ -52,9 +52,10 @@ impl Pieces {
     /// Whether there is room for that many bytes.
     #[inline(always)]
     fn has_room(&self, count: usize) -> bool
+        requires { count ≤ 2 ^ 63 }
         ensures { IsTrue result → length self.now.bytes + count ≤ PIECE_SIZE }
     {
-        count <= PIECE_SIZE - self.len
+        self.len + count <= PIECE_SIZE
     }
 
     /// Writes what is kept.

@@ -74,13 +74,7 @@ pub(crate) fn put_separator<O: Sink>(
 
 /// Puts the next text of those between which a separator stands.
 #[inline(always)]
-pub(crate) fn put_item<O: Sink>(
-    separator: u8,
-    is_first: bool,
-    text: &[u8],
-    pieces: &mut Pieces,
-    out: &mut O,
-)
+fn put_item<O: Sink>(separator: u8, is_first: bool, text: &[u8], pieces: &mut Pieces, out: &mut O)
     ensures { Puts (O.wrote out.old) (O.wrote out.new) (O.faults out.old) (O.faults out.new)
         pieces.old pieces.new (item separator is_first text.now) }
 {

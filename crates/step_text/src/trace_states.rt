@@ -14,7 +14,7 @@ ghost use Rattle.step_text.specs.Pieces.{Puts};
 ghost use Rattle.step_text.specs.Trace as spec;
 
 use crate::pieces::Pieces;
-use crate::trace_parts::{put_item, put_separator};
+use crate::trace_parts::put_separator;
 use actions::Names;
 use active_config::{Marks, Shape};
 use flow_base::Sink;
@@ -47,25 +47,23 @@ pub(crate) fn put_states<O: Sink>(
     }
 }
 
-/// Puts the path of a state, from the child of the root that it is or is below down to its own
-/// name.
+/// Puts the path of a state but the root, from the child of the root that it is or is below down
+/// to its own name.
 fn put_path<O: Sink>(shape: &Shape, names: &Names, state: u32, pieces: &mut Pieces, out: &mut O)
     requires tree { IsTree shape.now }
     requires state { state < state_count shape.now }
+    requires below { 0 < state }
     requires names { length (names_of names.now).states ≡ state_count shape.now }
     ensures { Puts (O.wrote out.old) (O.wrote out.new) (O.faults out.old) (O.faults out.new)
         pieces.old pieces.new (spec.path_of shape.now (names_of names.now) state) }
 {
-    let mut last = 0;
+    let first = child_toward(shape, 0, state);
+    pieces.put(state_name(names, first), out);
+    let mut last = first;
     'names: while last != state {
         let next = child_toward(shape, last, state);
-        put_item(
-            b'/',
-            last == 0,
-            state_name(names, next).as_bytes(),
-            pieces,
-            out,
-        );
+        let name = state_name(names, next);
+        pieces.put_led(b'/', name, out);
         last = next;
     }
 }
@@ -91,9 +89,9 @@ fn child_toward(shape: &Shape, above: u32, state: u32) -> u32
 }
 
 /// The name of a state.
-fn state_name(names: &Names, number: u32) -> &str
+fn state_name(names: &Names, number: u32) -> &[u8]
     requires { number < length (names_of names.now).states }
     ensures { result.now ≡ spec.state_name (names_of names.now) number }
 {
-    names.states.items()[number as usize].text()
+    names.states.items()[number as usize].text().as_bytes()
 }

@@ -1,4 +1,4 @@
-use Rattle.std.proofs.Common.{◌≡◌, ◌≤◌, ◌-◌, true}
+use Rattle.std.proofs.Common.{◌≡◌, ◌≤◌, ◌<◌, ◌-◌, true}
 use Rattle.active_config.specs.Tree.{is_at_or_below}
 use Rattle.actions.specs.Names.{names_of}
 use Rattle.step_text.specs.Pieces.{Puts}
@@ -10,6 +10,7 @@ abbrev pub invariant-names : goal.invariant-names
 invariant-names g l = record {
   puts : Puts (g.O.Sink.wrote l.fn.out) (g.O.Sink.wrote l.out) (g.O.Sink.faults l.fn.out) (g.O.Sink.faults l.out) l.fn.pieces l.pieces
       (path_of l.shape (names_of l.names) l.last);
+  below : 0 < l.last;
   above : is_at_or_below l.shape l.state l.last ≡ true;
   within : l.last ≤ l.state;
 }

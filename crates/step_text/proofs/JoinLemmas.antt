@@ -4,7 +4,7 @@ use Rattle.std.proofs.lemmas.Bool.Decides.{nat_tests}
 use Rattle.std.specs.List.{join_with_byte}
 use Rattle.std.proofs.lemmas.List.{take_more, length-take-le, take_all}
 use Rattle.step_text.specs.Trace.{listed}
-use Rattle.step_text.specs.TraceParts.{item}
+use Rattle.step_text.specs.TraceParts.{item, separator_before}
 
 joined_after : (b : ℕ) (y x : List ℕ) (ys : List (List ℕ)) → join_with_byte b ((y ∷ ys) ++ x ∷ []) ≡ join_with_byte b (y ∷ ys) ++ (b ∷ x)
 joined_after b y x [] = refl
@@ -14,6 +14,11 @@ joined_after b y x (z ∷ ys) =
 item_after : (b : ℕ) (x : List ℕ) (first : Bool) → first ≡ false → item b first x ≡ b ∷ x
 item_after b x true e = absurd (cc)
 item_after b x false e = refl
+
+-- a text of which more is put is put on
+pub item_more : (b : ℕ) (first : Bool) (text front rest : List ℕ) → text ≡ front ++ rest → item b first text ≡ item b first front ++ rest
+item_more b first text front rest is =
+    ap (λ (z : List ℕ). item b first z) is ∙ sym (append_assoc (separator_before b first) front rest)
 
 -- one text more
 pub joined_next : (b : ℕ) (xs : List (List ℕ)) (x : List ℕ) (first : Bool) → first ≡ nat_eq (length xs) 0

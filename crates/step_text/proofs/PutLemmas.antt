@@ -22,6 +22,6 @@ puts_same b0 b1 f0 f1 h0 h1 text other p is = λ w f all h.
 
 -- the parts of a trace line, put one after the other, make the line
 pub line_parts : (all index word states vals outputs result : List ℕ)
-    → (((((((((all ++ (index ++ codes " " ++ word)) ++ codes " [") ++ states) ++ codes "] ") ++ vals) ++ 32 ∷ []) ++ outputs) ++ 32 ∷ []) ++ result) ++ 10 ∷ []
+    → ((((((((all ++ (index ++ codes " " ++ word)) ++ codes " [") ++ states) ++ codes "] ") ++ vals) ++ 32 ∷ []) ++ outputs) ++ 32 ∷ []) ++ (result ++ codes "\n")
     ≡ all ++ (index ++ codes " " ++ word ++ codes " [" ++ states ++ codes "] " ++ vals ++ codes " " ++ outputs ++ codes " " ++ result ++ codes "\n")
 line_parts all index word states vals outputs result = simp append_assoc

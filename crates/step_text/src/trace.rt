@@ -68,7 +68,6 @@ fn put_line<O: Sink>(
     put_outputs(view.names, view.outputs, pieces, out);
     pieces.put_byte(b' ', out);
     put_result(view.names, fault, pieces, out);
-    pieces.put_byte(b'\n', out);
 }
 
 /// Puts the index and the word of an event.

@@ -17,11 +17,7 @@ ghost use Rattle.actions.specs.Names.{names_of};
 ghost use Rattle.actions.specs.World.{of_data, of_names};
 ghost use Rattle.step_text.specs.Pieces.{Puts};
 ghost use Rattle.step_text.specs.Trace as spec;
-ghost use Rattle.step_text.specs.TraceParts.{
-  separator_before,
-  item,
-  CanBeWritten,
-};
+ghost use Rattle.step_text.specs.TraceParts.{item, CanBeWritten};
 
 use crate::pieces::Pieces;
 use actions::{Event, Names, Vals, Value};
@@ -57,24 +53,15 @@ fn datum_name(names: &Names, number: u32) -> &str
     names.vars.items()[number as usize].name.text()
 }
 
-/// Puts a separator, unless the first text comes next.
-pub(crate) fn put_separator<O: Sink>(
+/// Puts the next text of those between which a separator stands.
+#[inline(always)]
+pub(crate) fn put_item<O: Sink>(
     separator: u8,
     is_first: bool,
+    text: &[u8],
     pieces: &mut Pieces,
     out: &mut O,
 )
-    ensures { Puts (O.wrote out.old) (O.wrote out.new) (O.faults out.old) (O.faults out.new)
-        pieces.old pieces.new (separator_before separator is_first) }
-{
-    if !is_first {
-        pieces.put_byte(separator, out);
-    }
-}
-
-/// Puts the next text of those between which a separator stands.
-#[inline(always)]
-fn put_item<O: Sink>(separator: u8, is_first: bool, text: &[u8], pieces: &mut Pieces, out: &mut O)
     ensures { Puts (O.wrote out.old) (O.wrote out.new) (O.faults out.old) (O.faults out.new)
         pieces.old pieces.new (item separator is_first text.now) }
 {
@@ -198,7 +185,7 @@ pub(crate) fn put_outputs<O: Sink>(names: &Names, outputs: &[u32], pieces: &mut 
     }
 }
 
-/// Puts how an event ended.
+/// Puts how an event ended, which ends the line.
 pub(crate) fn put_result<O: Sink>(
     names: &Names,
     fault: Option<Fault>,
@@ -207,16 +194,17 @@ pub(crate) fn put_result<O: Sink>(
 )
     requires { IsFaultOf (names_of names.now) fault }
     ensures { Puts (O.wrote out.old) (O.wrote out.new) (O.faults out.old) (O.faults out.new)
-        pieces.old pieces.new (spec.result_word (names_of names.now) fault) }
+        pieces.old pieces.new (spec.result_word (names_of names.now) fault ++ codes "\n") }
 {
     match fault {
-        None => pieces.put(b"ok", out),
-        Some(Fault::Depth) => pieces.put(b"depth", out),
-        Some(Fault::Steps) => pieces.put(b"steps", out),
-        Some(Fault::Zero) => pieces.put(b"zero", out),
+        None => pieces.put(b"ok\n", out),
+        Some(Fault::Depth) => pieces.put(b"depth\n", out),
+        Some(Fault::Steps) => pieces.put(b"steps\n", out),
+        Some(Fault::Zero) => pieces.put(b"zero\n", out),
         Some(Fault::Overflow(datum)) => {
             pieces.put(b"overflow ", out);
             pieces.put(datum_name(names, datum).as_bytes(), out);
+            pieces.put_byte(b'\n', out);
         }
     }
 }

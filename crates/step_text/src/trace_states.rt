@@ -12,9 +12,10 @@ ghost use Rattle.active_config.specs.Tree.{
 ghost use Rattle.actions.specs.Names.{names_of};
 ghost use Rattle.step_text.specs.Pieces.{Puts};
 ghost use Rattle.step_text.specs.Trace as spec;
+ghost use Rattle.step_text.specs.TraceParts.{item};
 
 use crate::pieces::Pieces;
-use crate::trace_parts::put_separator;
+use crate::trace_parts::put_item;
 use actions::Names;
 use active_config::{Marks, Shape};
 use flow_base::Sink;
@@ -40,25 +41,31 @@ pub(crate) fn put_states<O: Sink>(
         let Some(state) = marks.next_on(from) else {
             return;
         };
-        put_separator(b',', is_first, pieces, out);
-        put_path(shape, names, state, pieces, out);
+        put_path(shape, names, state, is_first, pieces, out);
         is_first = false;
         from = state + 1;
     }
 }
 
-/// Puts the path of a state but the root, from the child of the root that it is or is below down
-/// to its own name.
-fn put_path<O: Sink>(shape: &Shape, names: &Names, state: u32, pieces: &mut Pieces, out: &mut O)
+/// Puts the path of a state but the root, after a comma unless it is the first path. It goes from
+/// the child of the root that the state is or is below down to the state's own name.
+fn put_path<O: Sink>(
+    shape: &Shape,
+    names: &Names,
+    state: u32,
+    is_first: bool,
+    pieces: &mut Pieces,
+    out: &mut O,
+)
     requires tree { IsTree shape.now }
     requires state { state < state_count shape.now }
     requires below { 0 < state }
     requires names { length (names_of names.now).states ≡ state_count shape.now }
     ensures { Puts (O.wrote out.old) (O.wrote out.new) (O.faults out.old) (O.faults out.new)
-        pieces.old pieces.new (spec.path_of shape.now (names_of names.now) state) }
+        pieces.old pieces.new (item 44 is_first (spec.path_of shape.now (names_of names.now) state)) }
 {
     let first = child_toward(shape, 0, state);
-    pieces.put(state_name(names, first), out);
+    put_item(b',', is_first, state_name(names, first), pieces, out);
     let mut last = first;
     'names: while last != state {
         let next = child_toward(shape, last, state);

@@ -24,7 +24,6 @@ returns g c = λ w f all h.
     let h7 = c.put_outputs.ensures w f _ h6 in
     let h8 = c.put_byte-2.ensures w f _ h7 in
     let h9 = c.put_result.ensures w f _ h8 in
-    let h10 = c.put_byte-3.ensures w f _ h9 in
-    subst (λ (z : List ℕ). Written w (g.O.Sink.wrote c.put_byte-3.new.out) f (g.O.Sink.faults c.put_byte-3.new.out) z c.put_byte-3.new.self)
+    subst (λ (z : List ℕ). Written w (g.O.Sink.wrote c.put_result.new.out) f (g.O.Sink.faults c.put_result.new.out) z c.put_result.new.pieces)
     (line_parts all (decimal c.args.index) (event_word n c.args.event) (join_with_byte 44 (map (path_of tree n) (active_states tree view.marks.now)))
-    (listed (value_texts n.vars view.vals.now)) (listed (map (event_name n) view.outputs.now)) (result_word n c.args.fault)) h10
+    (listed (value_texts n.vars view.vals.now)) (listed (map (event_name n) view.outputs.now)) (result_word n c.args.fault)) h9

@@ -1,4 +1,4 @@
-use Rattle.std.proofs.Common.{ap, map, refl, arith}
+use Rattle.std.proofs.Common.{ap, map, arith}
 use Rattle.std.specs.List.{join_with_byte}
 use Rattle.active_config.specs.Tree.{state_count}
 use Rattle.actions.specs.Names.{names_of}
@@ -25,8 +25,7 @@ states-preserved g c =
       low = omega arith;
       high = omega (arith, within.1, c.requires.marks, c.len-states.ensures.count);
       first = first_more c.args.marks.now c.states.from c.in-Some.state kept.low within.0 found.on found.first;
-      puts = puts_both _ _ _ _ _ _ _ _ _ _ _ _ kept.puts
-          (puts_both _ _ _ _ _ _ _ _ _ _ _ _ c.put_separator.ensures c.put_path.ensures refl)
+      puts = puts_both _ _ _ _ _ _ _ _ _ _ _ _ kept.puts c.put_path.ensures
           (states_more c.args.marks.now c.states.from c.in-Some.state kept.low within.0 found.on found.first
           c.args.shape.now (names_of c.args.names.now) c.states.is_first kept.first);
     }

@@ -177,12 +177,12 @@ impl Pieces {
         requires { length self.old.bytes + length text.now ≤ PIECE_SIZE }
         ensures { self.new ≡ kept self.old text.now }
     {
-        match text {
-            [first] => self.keep_byte(*first),
-            [first, second] => self.keep_two(*first, *second),
-            [first, second, third] => {
-                self.keep_two(*first, *second);
-                self.keep_byte(*third);
+        match text.len() {
+            1 => self.keep_byte(text[0]),
+            2 => self.keep_two(text[0], text[1]),
+            3 => {
+                self.keep_two(text[0], text[1]);
+                self.keep_byte(text[2]);
             }
             _ => self.keep_all(text),
         }

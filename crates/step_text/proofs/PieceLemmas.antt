@@ -1,5 +1,5 @@
 -- A text that goes out in pieces.
-use Rattle.std.proofs.Common.{◌≡◌, ℕ, ◌+◌, ◌≤◌, Bool, true, false, List, [], ◌++◌, length, take, drop, Option, Some, None, Result, Ok, Err, refl, sym, ap, ◌∙◌, arith, append_assoc, append-nil, length-append}
+use Rattle.std.proofs.Common.{◌≡◌, ℕ, ◌+◌, ◌≤◌, Bool, true, false, List, [], ◌∷◌, ◌++◌, length, take, drop, Option, Some, None, Result, Ok, Err, refl, sym, ap, ◌∙◌, arith, append_assoc, append-nil, length-append}
 use Rattle.std.specs.Io.KnownBytes.{append_known}
 use Rattle.std.proofs.lemmas.List.{take-append-le, take-append-drop, take_at, length-take-le}
 use Rattle.std.proofs.Math.Seq.{take-append-add}
@@ -84,6 +84,10 @@ digits_kept old new digits rest len start within at behind before =
     ∙ sym (append_assoc (take len old) digits rest))
     ∙ take_at (take len old ++ digits) rest (len + length digits)
     (length-append (take len old) digits ∙ ap (λ n. n + length digits) (length-take-le len old within))
+
+-- two bytes that are the same
+pub two_bytes : (a b c d : ℕ) → a ≡ c → b ≡ d → a ∷ b ∷ [] ≡ c ∷ d ∷ []
+two_bytes a b c d first second = rw (first, second) refl
 
 -- no write failed so far
 pub passed : (w w1 : Option (List ℕ)) (f f1 : ℕ) (text : List ℕ) (held : Held) → held.failed ≡ false → Written w w1 f f1 text held

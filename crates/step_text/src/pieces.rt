@@ -136,6 +136,15 @@ impl Pieces {
         ensures { Puts (O.wrote out.old) (O.wrote out.new) (O.faults out.old) (O.faults out.new)
             self.old self.new (decimal number) }
     {
+        if number < 10 {
+            self.put_byte(b'0' + number as u8, out);
+            return;
+        }
+        if number < 100 {
+            let (tens, ones) = (number / 10, number % 10);
+            self.put(&[b'0' + tens as u8, b'0' + ones as u8], out);
+            return;
+        }
         let count = digit_count(number);
         if self.has_room(count) {
             self.keep_digits(number, count);

@@ -88,6 +88,7 @@ pub fn drive<G: Engine, I: Inputs, O: Sink>(
 }
 
 /// Takes the next line of the file.
+#[inline(always)]
 fn next_line<I: Inputs>(
     inputs: &mut I,
     name: &str,

@@ -4,6 +4,7 @@ pub mod Windows
 pub mod Taking
 pub mod NextLemmas
 pub mod TokenLemmas
+pub mod ShortLemmas
 pub mod ValueLemmas
 pub mod NamedLemmas
 pub mod TableLemmas

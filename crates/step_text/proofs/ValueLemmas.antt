@@ -1,17 +1,22 @@
 -- The values of a line, token by token.
-use Rattle.std.proofs.Common.{◌≡◌, ℕ, zero, suc, ◌+◌, ◌<◌, ℤ, Bool, true, false, cond, ◌&&◌, nat_eq, List, [], ◌∷◌, length, replicate, take, drop, get_or, Option, Some, None, Result, Ok, Err, refl, sym, ap, ◌∙◌, subst, arith}
-use Rattle.std.specs.Prelude.{IsTrue, slice_set, slice_index, is_some, slice_get}
-use Rattle.std.specs.List.{position}
+use Rattle.std.proofs.Common.{◌≡◌, ℕ, zero, suc, ◌+◌, ◌<◌, ℤ, Bool, true, false, cond, ◌&&◌, nat_eq, List, [], ◌∷◌, length, replicate, take, drop, get_or, Option, Some, None, Result, Ok, Err, refl, sym, ap, ◌∙◌, subst, arith, length-set}
+use Rattle.std.specs.Prelude.{IsTrue, IfSome, slice_set, slice_index, is_some, slice_get}
+use Rattle.std.specs.List.{position, list_any}
+use Rattle.std.specs.Option.{option_map}
 use Rattle.std.specs.Str.{bytes_eq}
 use Rattle.std.proofs.lemmas.Option.{slice_get-get_or}
-use Rattle.actions.specs.Data.{IsValueOf}
+use Rattle.actions.specs.Data.{IsValueOf, value_at}
+use Rattle.actions.specs.declared.names.Sort.TheVariants as sorts
+use Rattle.actions.proofs.StoredLemmas.{IsValueOf-value_at}
 use Rattle.actions.specs.declared.names.Var.{Var}
 use Rattle.actions.specs.declared.names.VarKind.{VarKind}
 use Rattle.actions.specs.declared.names.VarKind.TheVariants as kinds
 use Rattle.step_text.specs.declared.fault.LineFault.TheVariants as faults
 use Rattle.fixed_point.specs.declared.num.Num.{Num}
 use Rattle.fixed_point.specs.declared.scale.Scale.{Scale}
+use Rattle.fixed_point.specs.declared.reading.NumFault.{NumFault}
 use Rattle.fixed_point.specs.Numbers.{floored, is_whole}
+use Rattle.fixed_point.specs.Reading.{number_read}
 use Rattle.fixed_point.specs.Scales.{exact_mantissa, is_in_range}
 use Rattle.actions.specs.Engines.{IsInputValue}
 use Rattle.actions.specs.Names.{Names}
@@ -21,8 +26,10 @@ use Rattle.step_text.specs.declared.fault.LineFault.{LineFault}
 use Rattle.std.proofs.lemmas.Bool.Decides.{nat_tests}
 use Rattle.step_text.proofs.TokenLemmas.{word, tokens_at_once}
 use Rattle.step_text.specs.EventLines.{is_blank, tokens_of, event_of_line, event_of_tokens, event_of, with_tokens}
-use Rattle.step_text.specs.InputValues.{and_then, all_given, given, no_inputs, given_at, given_by_name, given_to, with_input, value_of_text, is_input}
+use Rattle.step_text.specs.InputValues.{and_then, all_given, given, no_inputs, given_at, given_by_name, given_to, with_input, value_of_text, value_at_scale, number_value, mantissa_at_scale, mantissa_of_text, is_input}
 use Rattle.actions.specs.Runs.{AreInputValues}
+use Rattle.step_text.specs.LineParts.{Gave, Kept}
+use Rattle.step_text.specs.LineValues.{LineValues, IsMadeFor}
 
 in_range_at : (whole within : Bool) (floor m : ℤ) (scale : Scale) → is_in_range scale floor ≡ within
     → Some m ≡ cond (whole && within) (Some floor) None → IsTrue (is_in_range scale m)
@@ -35,6 +42,31 @@ in_range_at false false floor m scale e is = absurd (cc)
 pub exact-in_range : (a : Num) (scale : Scale) (m : ℤ) → Some m ≡ exact_mantissa a scale → IsTrue (is_in_range scale m)
 unfolding exact_mantissa
 exact-in_range a scale m is = in_range_at (is_whole a scale.frac) (is_in_range scale (floored a scale.frac)) (floored a scale.frac) m scale refl is
+
+-- the mantissa that a text spells is in range
+mantissa-in_range : (q : Bool) (scale : Scale) (r : Result Num NumFault) (m : ℤ)
+    → Some m ≡ cond q None (mantissa_at_scale scale r) → IsTrue (is_in_range scale m)
+mantissa-in_range true scale r m is = absurd (cc)
+mantissa-in_range false scale (Ok a) m is = exact-in_range a scale m is
+mantissa-in_range false scale (Err fault) m is = absurd (cc)
+
+-- and the value is that of the mantissa
+value_by_mantissa : (q : Bool) (scale : Scale) (r : Result Num NumFault)
+    → cond q None (value_at_scale scale r) ≡ option_map (value_at (sorts.Number scale)) (cond q None (mantissa_at_scale scale r))
+value_by_mantissa true scale r = refl
+value_by_mantissa false scale (Ok a) = refl
+value_by_mantissa false scale (Err fault) = refl
+
+pub number_value-is : (scale : Scale) (text : List ℕ) (o : Option ℤ) → o ≡ mantissa_of_text scale text
+    → option_map (value_at (sorts.Number scale)) o ≡ number_value scale text
+number_value-is scale text o is =
+    ap (option_map (value_at (sorts.Number scale))) is
+    ∙ sym (value_by_mantissa (list_any (λ b. nat_eq b 113) text) scale (number_read text))
+
+pub number_value-sort : (scale : Scale) (text : List ℕ) (m : ℤ) → Some m ≡ mantissa_of_text scale text
+    → IsValueOf (sorts.Number scale) (value_at (sorts.Number scale) m)
+number_value-sort scale text m is =
+    IsValueOf-value_at (sorts.Number scale) m (mantissa-in_range (list_any (λ b. nat_eq b 113) text) scale (number_read text) m is)
 
 -- no values are values of inputs
 pub no_values : (n : Names) (k m : ℕ) → AreInputValues n k (replicate m None)
@@ -149,7 +181,35 @@ input-kind kinds.Input e = refl
 input-kind kinds.Output e = absurd (cc)
 input-kind kinds.Local e = absurd (cc)
 
-pub gives_input : (n : Names) (token : List ℕ) (k v : ℕ) (decl : Var) (value : Value) → Names-datum n token k v decl
+gives_input : (n : Names) (token : List ℕ) (k v : ℕ) (decl : Var) (value : Value) → Names-datum n token k v decl
     → is_input decl.kind ≡ true → IsValueOf decl.sort value → IsInputValue n v value
 gives_input n token k v decl value d kind is =
     (decl, slice_get-get_or n.vars v decl d.within ∙ ap Some (sym d.is), input-kind decl.kind kind, is)
+
+-- ---- what is kept of the value
+
+-- it is what the token gives
+pub kept_gives : (n : Names) (old new : LineValues) (token : List ℕ) (k v : ℕ) (decl : Var) (o : Option Value) (result : Result (Unit {0}) LineFault)
+    → Names-datum n token k v decl → is_input decl.kind ≡ true → is_some (get_or old.values v None) ≡ false
+    → o ≡ value_of_text decl.sort (drop (k + 1) token) → Kept old o v new result → Gave n old.values token new.values result
+kept_gives n old new token k v decl None result d kind named value kept =
+    rw kept.0 (gives_value n old.values token k v decl None d kind named value)
+kept_gives n old new token k v decl (Some x) result d kind named value kept =
+    rw (kept.0, kept.1) (gives_value n old.values token k v decl (Some x) d kind named value)
+
+-- it is made for the same chart
+pub kept_made : (n : Names) (old new : LineValues) (v : ℕ) (o : Option Value) (result : Result (Unit {0}) LineFault)
+    → Kept old o v new result → IsMadeFor n old → IsMadeFor n new
+kept_made n old new v None result kept made = rw kept.1 made
+kept_made n old new v (Some x) result kept made =
+    rw kept.1 (record { room = length-set old.values v (Some x) ∙ made.room; events = made.events; vars = made.vars })
+
+-- it is a value of its input
+pub kept_inputs : (n : Names) (old new : LineValues) (token : List ℕ) (k v : ℕ) (decl : Var) (o : Option Value) (result : Result (Unit {0}) LineFault)
+    → Names-datum n token k v decl → is_input decl.kind ≡ true → IfSome o (IsValueOf decl.sort) → IsMadeFor n old
+    → Kept old o v new result → AreInputValues n 0 old.values → AreInputValues n 0 new.values
+kept_inputs n old new token k v decl None result d kind sort made kept all = rw kept.1 all
+kept_inputs n old new token k v decl (Some x) result d kind sort made kept all =
+    let z : 0 + v ≡ v = omega arith in
+    let input = gives_input n token k v decl x d kind sort in
+    rw kept.1 (one_value n 0 v old.values x (omega (arith, d.within, made.room)) all (rw z input))

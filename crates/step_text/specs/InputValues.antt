@@ -1,5 +1,5 @@
 -- The values that the tokens `NAME=VALUE` of an event line give to inputs.
-use Rattle.std.specs.Prelude.{ℕ, ◌+◌, nat_eq, Bool, true, false, List, [], ◌∷◌, length, take, drop, replicate, codes, Option, Some, None, is_some, Result, Ok, Err, if◌then◌else◌, slice_get, slice_set, slice_index_or}
+use Rattle.std.specs.Prelude.{ℕ, ℤ, ◌+◌, nat_eq, Bool, true, false, List, [], ◌∷◌, length, take, drop, replicate, codes, Option, Some, None, is_some, Result, Ok, Err, if◌then◌else◌, slice_get, slice_set, slice_index_or}
 use Rattle.std.specs.List.{list_any, position}
 use Rattle.std.specs.Option.{option_map}
 use Rattle.std.specs.Str.{bytes_eq}
@@ -46,6 +46,16 @@ value_at_scale scale (Err fault) = None
 abbrev pub number_value : Scale → List ℕ → Option Value
 number_value scale text =
     if list_any (λ b. nat_eq b 113) text then None else value_at_scale scale (number_read text)
+
+-- the mantissa of the value of the scale that a number equals
+abbrev pub mantissa_at_scale : Scale → Result Num NumFault → Option ℤ
+mantissa_at_scale scale (Ok num) = exact_mantissa num scale
+mantissa_at_scale scale (Err fault) = None
+
+-- the mantissa of the value of the scale that a text spells
+abbrev pub mantissa_of_text : Scale → List ℕ → Option ℤ
+mantissa_of_text scale text =
+    if list_any (λ b. nat_eq b 113) text then None else mantissa_at_scale scale (number_read text)
 
 -- the value of a sort that a text spells
 abbrev pub value_of_text : Sort → List ℕ → Option Value

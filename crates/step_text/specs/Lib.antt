@@ -2,6 +2,7 @@ pub mod Lines
 pub mod Limits
 pub mod Faults
 pub mod InputValues
+pub mod ShortNumbers
 pub mod NameTables
 pub mod LineValues
 pub mod EventLines

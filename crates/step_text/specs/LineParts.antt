@@ -1,10 +1,12 @@
 -- What the parts of the reader of an event line answer.
-use Rattle.std.specs.Prelude.{◌≡◌, List, ℕ, Option, Some, None, Result, Ok, Err}
+use Rattle.std.specs.Prelude.{◌≡◌, List, ℕ, Option, Some, None, Result, Ok, Err, slice_set}
 use Rattle.actions.specs.Names.{Names}
 use Rattle.actions.specs.declared.event.Event.{Event}
 use Rattle.actions.specs.declared.expr.Value.{Value}
 use Rattle.step_text.specs.declared.fault.LineFault.{LineFault}
+use Rattle.step_text.specs.declared.fault.LineFault.TheVariants as faults
 use Rattle.step_text.specs.InputValues.{given, all_given}
+use Rattle.step_text.specs.LineValues.{LineValues}
 use Rattle.actions.specs.Runs.{EventWithInputs, CanBeGiven}
 
 -- what the inputs are given after one token, or its fault
@@ -23,3 +25,8 @@ Says n said new (Ok None) = said ≡ Ok None
 Says n said new (Ok (Some event)) =
     (said ≡ Ok (Some (record { event = event; inputs = new }))) × CanBeGiven n (record { event = event; inputs = new })
 Says n said new (Err fault) = said ≡ Err fault
+
+-- the value was kept for the datum of that number, if there is one
+abbrev pub Kept : LineValues → Option Value → ℕ → LineValues → Result (Unit {0}) LineFault → Type 0
+Kept old None v new result = (result ≡ Err faults.BadValue) × (new ≡ old)
+Kept old (Some value) v new result = (result ≡ Ok tt) × (new ≡ record old { values = slice_set old.values v (Some value) })

@@ -12,6 +12,7 @@ mod limits;
 mod line_reader;
 mod name_table;
 mod pieces;
+mod short_numbers;
 mod tokens;
 mod trace;
 mod trace_parts;

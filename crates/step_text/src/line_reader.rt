@@ -123,6 +123,7 @@ impl LineReader {
     /// It reads only where the bytes at hand don't tell what comes next, so never while a whole
     /// line is at hand. It takes no memory. After an error the reader can't be used for another
     /// line; `number` is then the number of the line that is too long.
+    #[inline(always)]
     pub fn next_line<I: Inputs>(&mut self, inputs: &mut I, name: &str) -> Result<bool, LineEnd>
         requires { self.old.failed ≡ false }
         ensures next { next.Nexts self.old self.new
@@ -148,6 +149,7 @@ impl LineReader {
     }
 
     /// The length of the line that the bytes at hand begin with, its newline not counted.
+    #[inline(always)]
     fn plain_length(&self) -> usize
         ensures length { result ≡ line_length self.now.pending }
         ensures within { result ≤ length self.now.pending }
@@ -156,6 +158,7 @@ impl LineReader {
     }
 
     /// Whether the bytes at hand, whose first line has that length, tell what comes next.
+    #[inline(always)]
     fn is_ready(&self, plain_length: usize) -> bool
         requires { plain_length ≡ line_length self.now.pending }
         ensures { result ≡ spec.is_ready self.now }
@@ -165,6 +168,8 @@ impl LineReader {
     }
 
     /// Reads the next piece after the bytes at hand. No bytes are the end of the file.
+    #[cold]
+    #[inline(never)]
     fn read_more<I: Inputs>(&mut self, inputs: &mut I, name: &str) -> Result<(), Failed>
         requires wanted { spec.is_ready self.old ≡ false }
         ensures read { OnOk result (spec.ReadsMore self.old self.new
@@ -189,6 +194,7 @@ impl LineReader {
     }
 
     /// Takes the line of that length that the bytes at hand begin with.
+    #[inline(always)]
     fn take_line(&mut self, plain_length: usize) -> Result<bool, LineEnd>
         requires length { plain_length ≡ line_length self.old.pending }
         requires within { plain_length ≤ length self.old.pending }

@@ -3,8 +3,6 @@ ghost use Rattle.std.specs.Prelude.{◌≡◌, ◌∷◌, [], ◌<◌, length, n
 ghost use Rattle.std.specs.List.{position};
 ghost use Rattle.step_text.specs.EventLines.{is_blank, tokens_of};
 
-use memchr::memchr2;
-
 /// A text cut after its first token.
 #[derive(Clone, Copy, Debug)]
 pub(crate) struct TokenCut<'a> {
@@ -35,13 +33,13 @@ pub(crate) fn next_token(text: &[u8]) -> Option<TokenCut<'_>>
     }
 }
 
-/// The place of the first space or tab.
-#[inline(never)]
+/// The place of the first space or tab. Tokens are short, so that a search of many bytes at once
+/// takes longer.
 fn first_blank(text: &[u8]) -> Option<usize>
     ensures place { result ≡ position is_blank text.now }
     ensures within { IfSome result (λ n. n < length text.now) }
 {
-    memchr2(b' ', b'\t', text)
+    text.iter().position(|byte| is_blank(*byte))
 }
 
 /// The place of the first byte that is neither.
@@ -49,6 +47,12 @@ fn first_unblank(text: &[u8]) -> Option<usize>
     ensures place { result ≡ position (λ b. not (is_blank b)) text.now }
     ensures within { IfSome result (λ n. n < length text.now) }
 {
-    text.iter()
-        .position(|byte| !(*byte == b' ' || *byte == b'\t'))
+    text.iter().position(|byte| !is_blank(*byte))
+}
+
+/// Whether a byte is a space or a tab.
+fn is_blank(byte: u8) -> bool
+    ensures { result ≡ is_blank byte }
+{
+    byte == b' ' || byte == b'\t'
 }

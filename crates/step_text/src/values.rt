@@ -1,5 +1,5 @@
 //! What a token gives to an input.
-ghost use Rattle.std.specs.Prelude.{◌≡◌, ◌<◌, length, IfSome, OnOk, OnErr};
+ghost use Rattle.std.specs.Prelude.{◌≡◌, ◌<◌, length, IfSome};
 ghost use Rattle.std.specs.List.{position, list_any};
 ghost use Rattle.std.specs.Str.{bytes_eq};
 ghost use Rattle.std.specs.Prelude.{nat_eq};
@@ -7,21 +7,21 @@ ghost use Rattle.actions.specs.Data.{IsValueOf, value_at};
 ghost use Rattle.actions.specs.Names.{names_of};
 ghost use Rattle.actions.specs.declared.names.Var.{Var as VarShown};
 ghost use Rattle.step_text.specs.InputValues as spec;
-ghost use Rattle.step_text.specs.LineParts.{Gave};
+ghost use Rattle.step_text.specs.LineParts as parts;
 ghost use Rattle.step_text.specs.LineValues.{IsMadeFor};
 ghost use Rattle.actions.specs.Runs.{AreInputValues};
 
 use crate::fault::LineFault;
 use crate::input_vals::InputVals;
 use crate::limits::FEW_NAMES;
+use crate::short_numbers::{short_mantissa, short_value, split_sign};
 use actions::{Names, Sort, Value, Var, VarKind};
 use fixed_point::{Num, Scale, exact, read_decimal};
-use memchr::memchr;
 
 /// Keeps the value that a token `NAME=VALUE` gives an input.
 pub(crate) fn give(names: &Names, token: &[u8], vals: &mut InputVals) -> Result<(), LineFault>
     requires made { IsMadeFor (names_of names.now) vals.old }
-    ensures gave { Gave (names_of names.now) vals.old.values token.now vals.new.values result }
+    ensures gave { parts.Gave (names_of names.now) vals.old.values token.now vals.new.values result }
     ensures made { IsMadeFor (names_of names.now) vals.new }
     ensures values { AreInputValues (names_of names.now) 0 vals.old.values
         → AreInputValues (names_of names.now) 0 vals.new.values }
@@ -40,7 +40,36 @@ pub(crate) fn give(names: &Names, token: &[u8], vals: &mut InputVals) -> Result<
     if vals.is_named(place) {
         return Err(LineFault::InputTwice);
     }
-    match value_of_text(var.sort, &token[sign + 1..]) {
+    give_text(var.sort, &token[sign + 1..], place, vals)
+}
+
+/// Keeps the value of a sort that a text spells, for the datum of that number.
+fn give_text(
+    sort: Sort,
+    text: &[u8],
+    place: usize,
+    vals: &mut InputVals,
+) -> Result<(), LineFault>
+    requires place { place < length vals.old.values }
+    ensures kept { parts.Kept vals.old (spec.value_of_text sort text.now) place vals.new result }
+    ensures sort { IfSome (spec.value_of_text sort text.now) (IsValueOf sort) }
+{
+    match sort {
+        Sort::Flag => keep_value(flag_value(text), place, vals),
+        Sort::Number(scale) => keep_value(number_value(scale, text), place, vals),
+    }
+}
+
+/// Keeps a value, if there is one, for the datum of that number.
+fn keep_value(
+    value: Option<Value>,
+    place: usize,
+    vals: &mut InputVals,
+) -> Result<(), LineFault>
+    requires { place < length vals.old.values }
+    ensures { parts.Kept vals.old value place vals.new result }
+{
+    match value {
         Some(value) => {
             vals.keep(place, value);
             Ok(())
@@ -64,7 +93,7 @@ fn first_sign(token: &[u8]) -> Option<usize>
     ensures place { result ≡ position (λ b. nat_eq b 61) token.now }
     ensures within { IfSome result (λ n. n < length token.now) }
 {
-    memchr(b'=', token)
+    token.iter().position(|byte| *byte == b'=')
 }
 
 /// The place of the first datum of that name.
@@ -94,17 +123,6 @@ fn is_var(var: &Var, name: &[u8]) -> bool
     var.name.text().as_bytes() == name
 }
 
-/// The value of a sort that a text spells.
-fn value_of_text(sort: Sort, text: &[u8]) -> Option<Value>
-    ensures value { result ≡ spec.value_of_text sort text.now }
-    ensures sort { IfSome result (IsValueOf sort) }
-{
-    match sort {
-        Sort::Flag => flag_value(text),
-        Sort::Number(scale) => number_value(scale, text),
-    }
-}
-
 /// The flag that a text spells.
 fn flag_value(text: &[u8]) -> Option<Value>
     ensures value { result ≡ spec.flag_value text.now }
@@ -131,15 +149,34 @@ fn number_value(scale: Scale, text: &[u8]) -> Option<Value>
     ensures value { result ≡ spec.number_value scale text.now }
     ensures sort { IfSome result (IsValueOf (Sort.Number scale)) }
 {
+    match mantissa_of_text(scale, text) {
+        Some(mantissa) => Some(number_at(scale, mantissa)),
+        None => None,
+    }
+}
+
+/// The mantissa of that value.
+fn mantissa_of_text(scale: Scale, text: &[u8]) -> Option<i128>
+    ensures { result ≡ spec.mantissa_of_text scale text.now }
+{
+    let (negative, digits) = split_sign(text);
+    match short_value(digits) {
+        Some(magnitude) => short_mantissa(scale, negative, magnitude),
+        None => mantissa_of_decimal(scale, text),
+    }
+}
+
+/// The same, of any decimal text.
+#[inline(never)]
+fn mantissa_of_decimal(scale: Scale, text: &[u8]) -> Option<i128>
+    ensures { result ≡ spec.mantissa_of_text scale text.now }
+{
     if has_q(text) {
         return None;
     }
     match read_decimal(text) {
         Err(_) => None,
-        Ok(number) => match exact(number, scale) {
-            None => None,
-            Some(mantissa) => Some(number_at(scale, mantissa)),
-        },
+        Ok(number) => exact(number, scale),
     }
 }
 

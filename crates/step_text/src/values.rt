@@ -44,12 +44,7 @@ pub(crate) fn give(names: &Names, token: &[u8], vals: &mut InputVals) -> Result<
 }
 
 /// Keeps the value of a sort that a text spells, for the datum of that number.
-fn give_text(
-    sort: Sort,
-    text: &[u8],
-    place: usize,
-    vals: &mut InputVals,
-) -> Result<(), LineFault>
+fn give_text(sort: Sort, text: &[u8], place: usize, vals: &mut InputVals) -> Result<(), LineFault>
     requires place { place < length vals.old.values }
     ensures kept { parts.Kept vals.old (spec.value_of_text sort text.now) place vals.new result }
     ensures sort { IfSome (spec.value_of_text sort text.now) (IsValueOf sort) }
@@ -61,11 +56,7 @@ fn give_text(
 }
 
 /// Keeps a value, if there is one, for the datum of that number.
-fn keep_value(
-    value: Option<Value>,
-    place: usize,
-    vals: &mut InputVals,
-) -> Result<(), LineFault>
+fn keep_value(value: Option<Value>, place: usize, vals: &mut InputVals) -> Result<(), LineFault>
     requires { place < length vals.old.values }
     ensures { parts.Kept vals.old value place vals.new result }
 {

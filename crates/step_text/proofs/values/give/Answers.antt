@@ -1,4 +1,4 @@
-use Rattle.std.proofs.Common.{◌≡◌, ◌+◌, refl, sym, ◌∙◌, arith}
+use Rattle.std.proofs.Common.{◌+◌, refl, sym, ◌∙◌}
 use Rattle.flow_base.proofs.Pieces.{rest_is}
 use Rattle.actions.specs.Names.{names_of}
 use Rattle.step_text.proofs.ValueLemmas.{Names-datum, gives_no_input, gives_twice, kept_gives, kept_made, kept_inputs}

@@ -1,6 +1,8 @@
 pub mod Answered
 pub mod Assigned
 pub mod EngineLemmas
+pub mod JumpLemmas
+pub mod Jumped
 pub mod Missed
 pub mod Noted
 pub mod Obeyed

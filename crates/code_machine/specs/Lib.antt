@@ -1,4 +1,5 @@
 pub mod Frames
+pub mod Jumps
 pub mod States
 pub mod Engine
 pub mod EngineLaws

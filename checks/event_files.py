@@ -333,7 +333,7 @@ def in_order(declared, active):
 
 
 def world_run(declared, rest):
-    """The code that reaches a world, the event file for it, and its trace line; None where no code or file of these does."""
+    """A code that reaches a world, and the event file for it; None where none is made."""
     index, event, result, active, values, outputs = world_of(rest)
     marks = in_order(declared, active)
     kinds = {'tick': 'input'} if index else {'start': 'input'}

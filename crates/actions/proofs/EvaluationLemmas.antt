@@ -1,17 +1,18 @@
 -- What the values of an expression's parts are, where the expression has a sort.
-use Rattle.std.proofs.Common.{◌≡◌, ℕ, ◌^◌, ◌≤◌, List, Ok, Err, IsOk, is_ok, IfOk, unsigned_abs, refl, ap, subst}
+use Rattle.std.proofs.Common.{◌≡◌, ℕ, ◌^◌, ◌≤◌, true, false, List, Some, Ok, Err, IsOk, is_ok, IfOk, if◌then◌else◌, unsigned_abs, refl, sym, ap, ◌∙◌, subst}
 use Rattle.std.proofs.lemmas.Result.{IfOk-at_ok}
 use Rattle.fixed_point.specs.declared.num.Num.{Num}
 use Rattle.active_config.specs.Marks.{Configuration}
 use Rattle.actions.specs.declared.expr.Expr as declared
 use Rattle.actions.specs.declared.expr.Op.{Op}
+use Rattle.actions.specs.declared.expr.Op.TheVariants as ops
 use Rattle.actions.specs.declared.expr.Value.{Value}
 use Rattle.actions.specs.declared.expr.Value.TheVariants as values
 use Rattle.actions.specs.declared.sort.ExprSort.{ExprSort}
 use Rattle.actions.specs.declared.sort.ExprSort.TheVariants as kinds
-use Rattle.actions.specs.Exprs.{Expr, Lit, Read, Neg, Bin}
-use Rattle.actions.specs.Sorts.{Scope, Sorted, IsNarrow, with_sort, negative_sort, binary_sort, sort_of}
-use Rattle.actions.specs.Values.{HasSort, applied, number_of, scope_at}
+use Rattle.actions.specs.Exprs.{Expr, Lit, Flag, Read, Active, Neg, Not, Bin}
+use Rattle.actions.specs.Sorts.{Scope, Sorted, IsNarrow, with_sort, negative_sort, binary_sort, of_flags, sort_of}
+use Rattle.actions.specs.Values.{Valued, HasSort, with_value, applied, decides, number_of, leaf_value, value_of, scope_at}
 use Rattle.actions.specs.Data.{Datum, datum, IsValueAt}
 use Rattle.actions.specs.Trees.{expr_of}
 use Rattle.actions.specs.Operands.{AreOperands}
@@ -109,3 +110,51 @@ operator-has_sort c op e a b a' b' x y is left_read right_read left right sort h
     let sides = operator_sorts c op (expr_of a) (expr_of b) sort (subst (λ (z : Expr). sort_of c z ≡ Ok sort) whole has) in
     applied-has_sort op x y sides.left sides.right sort (IfOk-at_ok IsNarrow sides.left_is (sort_of-narrow c (expr_of a)))
     (IfOk-at_ok IsNarrow sides.right_is (sort_of-narrow c (expr_of b))) (left sides.left sides.left_is) (right sides.right sides.right_is) sides.given
+
+-- ---- an operator on two expressions without operands
+
+-- a value that such an expression has is the value of it
+leaf_value-is : (vals : List Datum) (marks : Configuration) (e : Expr) (x : Value) → leaf_value vals marks e ≡ Some x
+    → value_of vals marks e ≡ Ok x
+unfolding value_of
+leaf_value-is vals marks (Lit n) x is = cc
+leaf_value-is vals marks (Flag b) x is = cc
+leaf_value-is vals marks (Read v) x is = cc
+leaf_value-is vals marks (Active s) x is = cc
+leaf_value-is vals marks (Neg a) x is = cc
+leaf_value-is vals marks (Not a) x is = cc
+leaf_value-is vals marks (Bin op a b) x is = cc
+
+-- no operand of `&&` is a number
+no_number : (left right : ExprSort) (n : Num) → IsOk (of_flags left right) → HasSort left (values.Number n) → ⊥
+no_number kinds.Flag right n ok has = has
+no_number (kinds.Number frac size) kinds.Flag n ok has = cc
+no_number (kinds.Number frac size) (kinds.Number frac' size') n ok has = cc
+
+-- where the left side decides, it is what the operator gives
+applied-decided : (op : Op) (x y : Value) → AreOperands op x y
+    → (if decides op x then Ok x else applied op x y) ≡ applied op x y
+applied-decided ops.Or (values.Flag true) y are = refl
+applied-decided ops.Or (values.Flag false) y are = refl
+applied-decided ops.Or (values.Number n) y are = refl
+applied-decided ops.And (values.Flag true) y are = refl
+applied-decided ops.And (values.Flag false) y are = refl
+applied-decided ops.And (values.Number n) y are = absurd (no_number are.left_sort are.right_sort n are.applies are.left_has)
+applied-decided other x y are = refl
+
+-- the value of an operator on two expressions that are read as these
+pub operator_value : (vals : List Datum) (marks : Configuration) (op : Op) (e : Expr) (a b a' b' : declared.Expr)
+    (x y : Value) → e ≡ Bin op (expr_of a') (expr_of b') → a ≡ a' → b ≡ b' → leaf_value vals marks (expr_of a) ≡ Some x
+    → leaf_value vals marks (expr_of b) ≡ Some y → AreOperands op x y → applied op x y ≡ value_of vals marks e
+unfolding value_of
+operator_value vals marks op e a b a' b' x y is left_read right_read left right are =
+    let whole : e ≡ Bin op (expr_of a) (expr_of b) = rw (left_read, right_read) is in
+    let second = value_of vals marks (expr_of b) in
+    sym (
+    ap (value_of vals marks) whole
+    ∙ ap (λ (v : Valued). with_value v (λ l. if decides op l then Ok l else with_value second (applied op l)))
+    (leaf_value-is vals marks (expr_of a) x left)
+    ∙ ap (λ (v : Valued). if decides op x then Ok x else with_value v (applied op x))
+    (leaf_value-is vals marks (expr_of b) y right)
+    ∙ applied-decided op x y are
+    )

@@ -1,5 +1,5 @@
 -- What value an expression has: exact numbers, and operands from left to right.
-use Rattle.std.specs.Prelude.{◌≡◌, ◌^◌, ◌≤◌, pos, unsigned_abs, Bool, false, not, ◌&&◌, ◌||◌, List, map, Result, Ok, Err, if◌then◌else◌}
+use Rattle.std.specs.Prelude.{◌≡◌, ◌^◌, ◌≤◌, pos, unsigned_abs, Bool, false, not, ◌&&◌, ◌||◌, List, map, Option, Some, None, Result, Ok, Err, if◌then◌else◌}
 use Rattle.std.specs.declared.cmp.Ordering.{Ordering}
 use Rattle.std.specs.Ordering.{is_eq, is_lt, is_le, is_gt, is_ge}
 use Rattle.flow_base.specs.declared.fault.Fault.{Fault}
@@ -95,6 +95,16 @@ value_of vals marks (Neg a) = with_value (value_of vals marks a) (λ x. Ok (Numb
 value_of vals marks (Not a) = with_value (value_of vals marks a) (λ x. Ok (FlagValue (not (flag_of x))))
 value_of vals marks (Bin op a b) = with_value (value_of vals marks a) (λ left.
     if decides op left then Ok left else with_value (value_of vals marks b) (applied op left))
+
+-- the value of an expression without operands
+abbrev pub leaf_value : List Datum → Configuration → Expr → Option Value
+leaf_value vals marks (Lit n) = Some (Number n)
+leaf_value vals marks (Flag b) = Some (FlagValue b)
+leaf_value vals marks (Read v) = Some (value_of_datum (datum vals v))
+leaf_value vals marks (Active s) = Some (FlagValue (is_on s marks))
+leaf_value vals marks (Neg a) = None
+leaf_value vals marks (Not a) = None
+leaf_value vals marks (Bin op a b) = None
 
 -- what an expression may name where the data and the marks are these
 abbrev pub scope_at : List Datum → Configuration → Scope

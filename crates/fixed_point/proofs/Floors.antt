@@ -9,7 +9,7 @@ use Rattle.std.proofs.Math.Nat.{div-le_self, div-eq_of_lt, mod-eq_of_lt}
 use lib.Signed.{mag}
 use Rattle.fixed_point.specs.Numbers.{floor_by, floored, scaled, is_whole}
 use Rattle.fixed_point.specs.declared.num.Num.{Num}
-use Rattle.fixed_point.proofs.Powers.{product_negsuc, product_split, abs_positive, power-le}
+use Rattle.fixed_point.proofs.Powers.{product_negsuc, product_one, product_split, abs_positive, power-le}
 
 -- a shift is the floor by the power
 pub floor_by-power : (z : ℤ) (d : ℕ) → int_shr z d ≡ floor_by z (2 ^ d)
@@ -72,6 +72,12 @@ floored-raised a frac above =
     let d = frac - f in
     let parts : frac ≡ f + d = omega arith in
     ap (λ (x : ℕ). floor_by (a.mantissa *ℤ pos (2 ^ x)) (2 ^ f)) parts ∙ floor_by-raised a.mantissa f d
+
+-- at its own fraction it has its own mantissa
+pub scaled-own : (a : Num) (frac : ℕ) → frac ≡ a.frac → scaled a frac ≡ a.mantissa
+scaled-own a frac same =
+    let none : frac - a.frac ≡ 0 = omega arith in
+    ap (λ (x : ℕ). a.mantissa *ℤ pos (2 ^ x)) none ∙ product_one a.mantissa
 
 -- at a lower fraction it loses bits
 pub floored-dropped : (a : Num) (frac : ℕ) → frac ≤ a.frac → floored a frac ≡ floor_by a.mantissa (2 ^ (a.frac - frac))

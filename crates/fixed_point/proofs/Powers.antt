@@ -1,5 +1,5 @@
 -- Powers of two and of ten, and products with them.
-use Rattle.std.proofs.Common.{◌≡◌, ℕ, zero, suc, ◌+◌, ◌-◌, ◌*◌, ◌^◌, ◌<◌, ◌≤◌, ℤ, pos, negsuc, neg_ℤ, ◌*ℤ◌, unsigned_abs, FitsSigned, refl, ap, ⊎_elim, arith}
+use Rattle.std.proofs.Common.{◌≡◌, ℕ, zero, suc, ◌+◌, ◌-◌, ◌*◌, ◌^◌, ◌<◌, ◌≤◌, ℤ, pos, negsuc, neg_ℤ, ◌*ℤ◌, unsigned_abs, FitsSigned, refl, ap, ◌∙◌, ⊎_elim, arith}
 use Rattle.std.proofs.lemmas.Nat.{pow-add, pow_below, mul-le}
 use Rattle.std.proofs.Math.Nat.{one-le-pow, pow-le-pow_right}
 use Rattle.std.proofs.lemmas.Bool.{cases_lt}
@@ -22,6 +22,11 @@ pub product_negsuc : (a n : ℕ) → 0 < n → negsuc a *ℤ pos n ≡ negsuc (a
 product_negsuc a n some =
     let e : suc a * n ≡ suc (a * n + (n - 1)) = omega arith in
     ap (λ (x : ℕ). neg_ℤ (pos x)) e
+
+-- a product with 1 is the number
+pub product_one : (z : ℤ) → z *ℤ pos 1 ≡ z
+product_one (pos a) = let e : a * 1 ≡ a = omega arith in ap pos e
+product_one (negsuc a) = let e : a * 1 + (1 - 1) ≡ a = omega arith in product_negsuc a 1 (omega arith) ∙ ap negsuc e
 
 -- a product with a power is a product with both parts of it
 pub product_split : (a f d : ℕ) → a * 2 ^ (f + d) ≡ (a * 2 ^ d) * 2 ^ f

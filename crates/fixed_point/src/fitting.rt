@@ -41,6 +41,7 @@ fn wrapped(to: Scale, mantissa: i128) -> i128
 /// Brings the number to the scale: bits after its fraction are dropped by floor, or zero bits are
 /// added, and out of range the mode decides.
 #[tactic(auto, unfolding(crate::specs::Scales::fitted))]
+#[inline(always)]
 pub fn fit(a: Num, to: Scale, mode: Mode) -> Result<i128, Overflow>
     requires own { unsigned_abs a.mantissa ≤ MAGNITUDE_LIMIT }
     requires brought { unsigned_abs (spec.scaled a to.frac) ≤ MAGNITUDE_LIMIT }

@@ -7,6 +7,7 @@ use crate::num::Num;
 use crate::power::{power_of_two, unsigned_power};
 
 /// The mantissa of the same value at a fraction that is at least its own.
+#[inline(always)]
 pub(crate) fn scaled(a: Num, frac: u32) -> i128
     requires above { a.frac ≤ frac }
     requires most { frac ≤ FRACTION_LIMIT }
@@ -17,6 +18,7 @@ pub(crate) fn scaled(a: Num, frac: u32) -> i128
 }
 
 /// The mantissa without its last bits, rounded towards minus infinity.
+#[inline(always)]
 fn without_bits(mantissa: i128, bits: u32) -> i128
     requires { bits < 128 }
     ensures { result ≡ spec.floor_by mantissa (2 ^ bits) }
@@ -25,6 +27,7 @@ fn without_bits(mantissa: i128, bits: u32) -> i128
 }
 
 /// The mantissa at a fraction: bits after it are dropped by floor, or zero bits are added.
+#[inline(always)]
 pub(crate) fn floored(a: Num, frac: u32) -> i128
     requires frac { frac ≤ FRACTION_LIMIT }
     requires size { a.frac ≤ frac → unsigned_abs (spec.scaled a frac) ≤ MAGNITUDE_LIMIT }

@@ -3,6 +3,7 @@ ghost use Rattle.std.specs.Prelude.{◌≡◌, ◌<◌, ◌≤◌, ◌^◌, pos}
 ghost use Rattle.fixed_point.specs.declared.reading.TheConstants.{DIGIT_LIMIT};
 
 /// 2 to the exponent.
+#[inline(always)]
 pub(crate) fn power_of_two(exponent: u32) -> i128
     requires { exponent < 127 }
     ensures { result ≡ pos (2 ^ exponent) }
@@ -11,6 +12,7 @@ pub(crate) fn power_of_two(exponent: u32) -> i128
 }
 
 /// 2 to the exponent.
+#[inline(always)]
 pub(crate) fn unsigned_power(exponent: u32) -> u128
     requires { exponent < 128 }
     ensures { result ≡ 2 ^ exponent }

@@ -46,6 +46,7 @@ impl Scale {
     }
 
     /// The least mantissa.
+    #[inline(always)]
     pub(crate) fn least(self) -> i128
         ensures { result ≡ least self }
     {
@@ -57,6 +58,7 @@ impl Scale {
     }
 
     /// The greatest mantissa.
+    #[inline(always)]
     pub(crate) fn greatest(self) -> i128
         ensures { result ≡ greatest self }
     {
@@ -68,6 +70,7 @@ impl Scale {
     }
 
     /// Whether the mantissa is one of this scale.
+    #[inline(always)]
     pub(crate) fn is_in_range(self, mantissa: i128) -> bool
         ensures { result ≡ is_in_range self mantissa }
     {

@@ -1,5 +1,5 @@
 -- What the values of an expression's parts are, where the expression has a sort.
-use Rattle.std.proofs.Common.{◌≡◌, ℕ, ◌^◌, ◌≤◌, true, false, List, Some, Ok, Err, IsOk, is_ok, IfOk, if◌then◌else◌, unsigned_abs, refl, sym, ap, ◌∙◌, subst}
+use Rattle.std.proofs.Common.{◌≡◌, ℕ, ℤ, ◌^◌, ◌≤◌, true, false, List, Some, Ok, Err, IsOk, is_ok, IfOk, if◌then◌else◌, unsigned_abs, refl, sym, ap, ◌∙◌, subst}
 use Rattle.std.proofs.lemmas.Result.{IfOk-at_ok}
 use Rattle.fixed_point.specs.declared.num.Num.{Num}
 use Rattle.active_config.specs.Marks.{Configuration}
@@ -158,3 +158,24 @@ operator_value vals marks op e a b a' b' x y is left_read right_read left right 
     (leaf_value-is vals marks (expr_of b) y right)
     ∙ applied-decided op x y are
     )
+
+-- a number is read by its parts
+pub number_of_parts : (l : Value) (x : Num) (m : ℤ) → l ≡ values.Number x → m ≡ x.mantissa
+    → l ≡ values.Number (record { mantissa = m; frac = x.frac })
+number_of_parts l x m is e = is ∙ ap (λ (z : ℤ). values.Number (record { mantissa = z; frac = x.frac })) (sym e)
+
+-- operands that are read as these
+pub same_operands : (op : Op) (l r l' r' : Value) → l ≡ l' → r ≡ r' → AreOperands op l r → AreOperands op l' r'
+same_operands op l r l' r' left right are =
+    subst (λ (v : Value). AreOperands op l' v) right (subst (λ (v : Value). AreOperands op v r) left are)
+
+-- the operator gives the same for them
+pub same_applied : (op : Op) (l r l' r' : Value) → l ≡ l' → r ≡ r' → applied op l' r' ≡ applied op l r
+same_applied op l r l' r' left right =
+    sym (ap (λ (v : Value). applied op v r) left ∙ ap (λ (v : Value). applied op l' v) right)
+
+-- and so does its sort hold
+pub same_has_sort : (c : Scope) (e : Expr) (v given : Valued) → given ≡ v
+    → ((sort : ExprSort) → sort_of c e ≡ Ok sort → IfOk v (HasSort sort))
+    → (sort : ExprSort) → sort_of c e ≡ Ok sort → IfOk given (HasSort sort)
+same_has_sort c e v given same has sort is = subst (λ (w : Valued). IfOk w (HasSort sort)) (sym same) (has sort is)

@@ -1,4 +1,4 @@
-use Rattle.std.proofs.Common.{◌∙◌, Ok, FitsSigned, ap, sym, rules}
+use Rattle.std.proofs.Common.{◌≡◌, ◌∙◌, Ok, FitsSigned, ap, sym, rules}
 use Rattle.std.proofs.lemmas.Int.{to_z-of_z}
 use Rattle.std.specs.Int.{w128}
 use Rattle.actions.specs.declared.expr.Value.TheVariants as values
@@ -12,8 +12,10 @@ apply_to_numbers-requires c =
     let both = c.in-Some-Number-Some-Number in
     let fits_x : FitsSigned w128 both.x.mantissa = search rules in
     let fits_y : FitsSigned w128 both.y.mantissa = search rules in
-    let left = number_of_parts _ both.x _ both.t14-in-Number-1-is (to_z-of_z w128 both.x.mantissa fits_x) in
-    let right = number_of_parts _ both.y _ both.t17-in-Number-leaf-4-1-is (to_z-of_z w128 both.y.mantissa fits_y) in
+    let is_x : both.field-0-1 ≡ values.Number both.x = search rules in
+    let is_y : both.field-0-1' ≡ values.Number both.y = search rules in
+    let left = number_of_parts _ both.x _ is_x (to_z-of_z w128 both.x.mantissa fits_x) in
+    let right = number_of_parts _ both.y _ is_y (to_z-of_z w128 both.y.mantissa fits_y) in
     same_operands _ _ _ _ _ left right
     (operands (scope_at c.args.vals.now c.args.marks.now) _ _ _ _ _ _ _ _ (ap expr_of c.in-Bin.is) c.deref.ensures
     c.deref-in-Bin.ensures c.requires both.ensures.sort both.ensures'.sort)
@@ -23,8 +25,10 @@ returns-in-Some-Number-Some-Number-clause-value c =
     let both = c.in-Some-Number-Some-Number in
     let fits_x : FitsSigned w128 both.x.mantissa = search rules in
     let fits_y : FitsSigned w128 both.y.mantissa = search rules in
-    let left = number_of_parts _ both.x _ both.t14-in-Number-1-is (to_z-of_z w128 both.x.mantissa fits_x) in
-    let right = number_of_parts _ both.y _ both.t17-in-Number-leaf-4-1-is (to_z-of_z w128 both.y.mantissa fits_y) in
+    let is_x : both.field-0-1 ≡ values.Number both.x = search rules in
+    let is_y : both.field-0-1' ≡ values.Number both.y = search rules in
+    let left = number_of_parts _ both.x _ is_x (to_z-of_z w128 both.x.mantissa fits_x) in
+    let right = number_of_parts _ both.y _ is_y (to_z-of_z w128 both.y.mantissa fits_y) in
     let are = operands (scope_at c.args.vals.now c.args.marks.now) _ _ _ _ _ _ _ _ (ap expr_of c.in-Bin.is) c.deref.ensures
     c.deref-in-Bin.ensures c.requires both.ensures.sort both.ensures'.sort in
     c.apply_to_numbers.ensures ∙ same_applied _ _ _ _ _ left right
@@ -36,8 +40,10 @@ returns-in-Some-Number-Some-Number-clause-sort c =
     let both = c.in-Some-Number-Some-Number in
     let fits_x : FitsSigned w128 both.x.mantissa = search rules in
     let fits_y : FitsSigned w128 both.y.mantissa = search rules in
-    let left = number_of_parts _ both.x _ both.t14-in-Number-1-is (to_z-of_z w128 both.x.mantissa fits_x) in
-    let right = number_of_parts _ both.y _ both.t17-in-Number-leaf-4-1-is (to_z-of_z w128 both.y.mantissa fits_y) in
+    let is_x : both.field-0-1 ≡ values.Number both.x = search rules in
+    let is_y : both.field-0-1' ≡ values.Number both.y = search rules in
+    let left = number_of_parts _ both.x _ is_x (to_z-of_z w128 both.x.mantissa fits_x) in
+    let right = number_of_parts _ both.y _ is_y (to_z-of_z w128 both.y.mantissa fits_y) in
     same_has_sort (scope_at c.args.vals.now c.args.marks.now) _ _ _
     (c.apply_to_numbers.ensures ∙ same_applied _ _ _ _ _ left right)
     (operator-has_sort (scope_at c.args.vals.now c.args.marks.now) _ _ _ _ _ _ _ _ (ap expr_of c.in-Bin.is) c.deref.ensures
@@ -46,8 +52,8 @@ returns-in-Some-Number-Some-Number-clause-sort c =
 pub apply_to_flags-requires : goal.apply_to_flags-requires
 apply_to_flags-requires c =
     let both = c.in-Some-Flag-Some-Flag in
-    let left = both.t14-in-Flag-leaf-2-1-is in
-    let right = both.t17-in-Flag-this-2-1-is in
+    let left : both.field-0-1 ≡ values.Flag both.x = search rules in
+    let right : both.field-0-1' ≡ values.Flag both.y = search rules in
     same_operands _ _ _ _ _ left right
     (operands (scope_at c.args.vals.now c.args.marks.now) _ _ _ _ _ _ _ _ (ap expr_of c.in-Bin.is) c.deref.ensures
     c.deref-in-Bin.ensures c.requires both.ensures.sort both.ensures'.sort)
@@ -55,8 +61,8 @@ apply_to_flags-requires c =
 pub returns-in-Some-Flag-Some-Flag-clause-value : goal.returns-in-Some-Flag-Some-Flag-clause-value
 returns-in-Some-Flag-Some-Flag-clause-value c =
     let both = c.in-Some-Flag-Some-Flag in
-    let left = both.t14-in-Flag-leaf-2-1-is in
-    let right = both.t17-in-Flag-this-2-1-is in
+    let left : both.field-0-1 ≡ values.Flag both.x = search rules in
+    let right : both.field-0-1' ≡ values.Flag both.y = search rules in
     let are = operands (scope_at c.args.vals.now c.args.marks.now) _ _ _ _ _ _ _ _ (ap expr_of c.in-Bin.is) c.deref.ensures
     c.deref-in-Bin.ensures c.requires both.ensures.sort both.ensures'.sort in
     c.apply_to_flags.ensures ∙ same_applied _ _ _ _ _ left right
@@ -66,8 +72,8 @@ returns-in-Some-Flag-Some-Flag-clause-value c =
 pub returns-in-Some-Flag-Some-Flag-clause-sort : goal.returns-in-Some-Flag-Some-Flag-clause-sort
 returns-in-Some-Flag-Some-Flag-clause-sort c =
     let both = c.in-Some-Flag-Some-Flag in
-    let left = both.t14-in-Flag-leaf-2-1-is in
-    let right = both.t17-in-Flag-this-2-1-is in
+    let left : both.field-0-1 ≡ values.Flag both.x = search rules in
+    let right : both.field-0-1' ≡ values.Flag both.y = search rules in
     same_has_sort (scope_at c.args.vals.now c.args.marks.now) _ _ (Ok (values.Flag c.apply_to_flags.result))
     (c.apply_to_flags.ensures ∙ same_applied _ _ _ _ _ left right)
     (operator-has_sort (scope_at c.args.vals.now c.args.marks.now) _ _ _ _ _ _ _ _ (ap expr_of c.in-Bin.is) c.deref.ensures

@@ -33,6 +33,7 @@ record AreFew (text : List ℕ) : Type 0 where
   few : length text ≤ 9
   all : AreDigits text
 
+-- the test tells them
 few_parts : (text : List ℕ) → are_few_digits text ≡ true → AreFew text
 few_parts text e = record {
   some = some (length text) (prefix_len is_ascii_digit text) e;
@@ -94,6 +95,7 @@ number_by negative whole rest =
     (if starts_with 113 (rest_behind rest) then Some (value_of (drop 1 (rest_behind rest))) else None)
     else Err NotNumber
 
+-- this is how it is read
 number_read-by : (text : List ℕ) → number_read text ≡ number_by (is_negative text) (whole_digits text) (after_whole text)
 unfolding number_read number_by is_number_by
 number_read-by text = refl
@@ -104,6 +106,7 @@ exact_whole u =
     ap (λ (x : ℕ). if nat_lt x 33 then Some x else None)
     (first_from-here (is_exact u 0) 0 33 (test_true ((u * 1) % 1) (mod-one (u * 1))))
 
+-- its steps are the number
 whole_steps : (u : ℕ) → u < 10 ^ 9 → steps_within u 0 0 ≡ Some u
 whole_steps u fits =
     let same : u * 1 / 1 ≡ u = omega (arith, div-one (u * 1)) in
@@ -113,11 +116,13 @@ whole_steps u fits =
     below : (u : ℕ) → u < READ_LIMIT → nat_lt u READ_LIMIT ≡ true
     below u less = grind (arith, nat_tests)
 
+-- so it is a whole number
 number_of-whole : (negative : Bool) (u : ℕ) → u < 10 ^ 9 → number_of negative u 0 (exact_frac u 0) ≡ Ok (whole_number negative u)
 number_of-whole negative u fits =
     ap (λ (f : Option ℕ). number_of negative u 0 f) (exact_whole u)
     ∙ ap (λ (s : Option ℕ). signed_number negative 0 s) (whole_steps u fits)
 
+-- the number that few digits tell
 told_whole : (negative : Bool) (digits : List ℕ) → AreFew digits
     → number_told negative digits [] None ≡ Ok (whole_number negative (value_of digits))
 unfolding value_after
@@ -126,6 +131,7 @@ told_whole negative digits d =
     let fits : value_of digits < 10 ^ 9 = omega (arith, bounds.1, ten_power-le (length digits) 9 d.few) in
     number_told-is negative digits [] None (omega (arith, d.few)) ∙ number_of-whole negative (value_of digits) fits
 
+-- with nothing after them
 number_by-few : (negative : Bool) (digits : List ℕ) → AreFew digits
     → number_by negative digits [] ≡ Ok (whole_number negative (value_of digits))
 unfolding number_by is_number_by
@@ -136,6 +142,7 @@ number_by-few negative digits d =
     good : (n : ℕ) → 0 < n → (nat_lt 0 n && true && true) ≡ true
     good n some = grind (arith, nat_tests)
 
+-- the number that a text of few digits denotes
 number_read-few : (text : List ℕ) → AreFew (without 45 text)
     → number_read text ≡ Ok (whole_number (is_negative text) (value_of (without 45 text)))
 number_read-few text d =
@@ -150,6 +157,7 @@ number_read-few text d =
 
 -- ---- it has no q
 
+-- no digit is one
 no_q : (digits : List ℕ) → AreDigits digits → list_any (λ b. nat_eq b 113) digits ≡ false
 no_q [] all = refl
 no_q (d ∷ digits) all =
@@ -159,6 +167,7 @@ no_q (d ∷ digits) all =
     is_other : (d : ℕ) → is_ascii_digit d ≡ true → nat_eq d 113 ≡ false
     is_other d e = grind (arith, nat_tests)
 
+-- nor is a minus sign
 no_q-signed : (text : List ℕ) → AreDigits (without 45 text) → list_any (λ b. nat_eq b 113) text ≡ false
 no_q-signed [] all = refl
 no_q-signed (b ∷ text) all = by_sign (nat_eq b 45) refl all
@@ -170,6 +179,7 @@ no_q-signed (b ∷ text) all = by_sign (nat_eq b 45) refl all
 
 -- ---- the mantissa of a short text
 
+-- what a short number's digits are
 short_parts : (text : List ℕ) (n : ℕ) → Some n ≡ short_value text → AreFew text × (n ≡ value_of text)
 short_parts text n is = by_few (are_few_digits text) refl is
   where
@@ -232,6 +242,7 @@ pub short_steps : (n frac : ℕ) → n < 10 ^ 9 → frac ≤ 32 → n * 2 ^ frac
 short_steps n frac short within =
     omega (arith, mul-le n (2 ^ frac) (10 ^ 9) (2 ^ 32) (omega arith) (power-le frac 32 within))
 
+-- a sign goes through a product
 signed_times : (negative : Bool) (n m : ℕ) → signed negative n *ℤ pos m ≡ signed negative (n * m)
 signed_times false n m = refl
 signed_times true zero m = let none : 0 * m ≡ 0 = omega arith in rw none refl

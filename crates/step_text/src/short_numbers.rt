@@ -1,5 +1,5 @@
-//! Short whole numbers, which are read without a division.
-ghost use Rattle.std.specs.Prelude.{◌≡◌, ◌<◌, ◌^◌, if◌then◌else◌, ◌||◌, ◌&&◌, nat_eq, nat_le, nat_lt, ◌-◌, IfSome};
+//! Short whole numbers, which are read in 64 bits and without a division.
+ghost use Rattle.std.specs.Prelude.{◌≡◌, ◌<◌, ◌^◌, ◌-◌, if◌then◌else◌, IfSome};
 ghost use Rattle.fixed_point.specs.Reading.{starts_with, without};
 ghost use Rattle.fixed_point.specs.Scales.{exact_mantissa};
 ghost use Rattle.step_text.specs.ShortNumbers as spec;
@@ -8,6 +8,9 @@ use fixed_point::Scale;
 
 /// The most digits of a short number.
 const SHORT_LIMIT: usize = 9;
+
+/// The magnitude of a short number's mantissa is less than 2 to this, at each scale.
+const SHORT_BITS: u32 = 62;
 
 /// Whether the text begins with a minus sign, and what comes after it.
 pub(crate) fn split_sign(text: &[u8]) -> (bool, &[u8])
@@ -61,9 +64,6 @@ fn signed(negative: bool, steps: u64) -> i128
     let mantissa = i128::from(steps);
     if negative { -mantissa } else { mantissa }
 }
-
-/// A short number has fewer bits than this at each scale.
-const SHORT_BITS: u32 = 62;
 
 /// How many bits a mantissa of the scale has beside a sign bit.
 fn magnitude_bits(scale: Scale) -> u32

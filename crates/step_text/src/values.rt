@@ -19,6 +19,7 @@ use actions::{Names, Sort, Value, Var, VarKind};
 use fixed_point::{Num, Scale, exact, read_decimal};
 
 /// Keeps the value that a token `NAME=VALUE` gives an input.
+#[inline(never)]
 pub(crate) fn give(names: &Names, token: &[u8], vals: &mut InputVals) -> Result<(), LineFault>
     requires made { IsMadeFor (names_of names.now) vals.old }
     ensures gave { parts.Gave (names_of names.now) vals.old.values token.now vals.new.values result }

@@ -1,11 +1,7 @@
 -- Texts that are put one after the other.
-use Rattle.std.proofs.Common.{◌≡◌, ℕ, List, [], ◌∷◌, ◌++◌, sym, ap, ◌∙◌, subst, append_assoc, append-nil}
+use Rattle.std.proofs.Common.{◌≡◌, ℕ, List, [], ◌∷◌, ◌++◌, sym, ap, ◌∙◌, subst, append_assoc}
 use Rattle.std.specs.Prelude.{Option, codes}
 use Rattle.step_text.specs.Pieces.{Held, Written, Puts}
-
--- nothing is put
-pub puts_nothing : (before : Option (List ℕ)) (f : ℕ) (old : Held) → Puts before before f f old old []
-puts_nothing before f old = λ w f0 all h. subst (λ (z : List ℕ). Written w before f0 f z old) (sym (append-nil all)) h
 
 -- one text is put after another
 pub puts_both : (b0 b1 b2 : Option (List ℕ)) (f0 f1 f2 : ℕ) (h0 h1 h2 : Held) (first second text : List ℕ) → Puts b0 b1 f0 f1 h0 h1 first

@@ -130,7 +130,8 @@ impl Pieces {
         }
     }
 
-    /// Puts the digits of a whole number after what is there.
+    /// Puts the digits of a whole number after what is there. They are counted first, so that
+    /// they are written where they stay.
     #[inline(always)]
     pub fn put_digits<O: Sink>(&mut self, number: u64, out: &mut O)
         ensures { Puts (O.wrote out.old) (O.wrote out.new) (O.faults out.old) (O.faults out.new)
@@ -180,7 +181,8 @@ impl Pieces {
         }
     }
 
-    /// Keeps a text for which there is room.
+    /// Keeps a text for which there is room. A text of at most three bytes, as most names in a
+    /// trace have, takes fewer instructions byte by byte than as a copy of a slice.
     #[inline(always)]
     fn keep(&mut self, text: &[u8])
         requires { length self.old.bytes + length text.now ≤ PIECE_SIZE }

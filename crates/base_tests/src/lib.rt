@@ -1,11 +1,9 @@
-//! Tests of files, marks, numbers and tokens: what no contract says, worked by hand.
+//! Tests of files, marks and tokens: what no contract says, worked by hand.
 #![tactic(auto)]
 
 #[cfg(test)]
 mod files;
 #[cfg(test)]
 mod marks;
-#[cfg(test)]
-mod numbers;
 #[cfg(test)]
 mod tokens;

@@ -2,10 +2,12 @@ pub mod Answered
 pub mod Assigned
 pub mod EngineLemmas
 pub mod JumpLemmas
+pub mod OperationLemmas
 pub mod Jumped
-pub mod Missed
 pub mod Noted
 pub mod Obeyed
+pub mod Operated
 pub mod Steps
+pub mod Tested
 pub mod TreeLemmas
 pub mod Words

@@ -1,5 +1,6 @@
 pub mod Frames
 pub mod Jumps
+pub mod Operations
 pub mod States
 pub mod Engine
 pub mod EngineLaws

@@ -20,6 +20,7 @@ mod making;
 mod marking;
 mod notes;
 mod obeying;
+mod operations;
 mod passing;
 mod running;
 mod sends;

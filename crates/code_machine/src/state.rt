@@ -34,10 +34,6 @@ pub(crate) struct MachineState {
 pub(crate) enum Move {
     /// The run goes on at the next place.
     Goes,
-    /// The run goes on past some instructions.
-    Passes,
-    /// A procedure is to be called, with a note or none.
-    Calls(u32, Option<u32>),
     /// The run goes on with another frame on top.
     Turns,
     /// No frame is left.

@@ -1,4 +1,4 @@
-use Rattle.std.proofs.Common.{◌≡◌, ◌∙◌, Ok, FitsSigned, ap, sym, rules}
+use Rattle.std.proofs.Common.{◌≡◌, ◌∙◌, FitsSigned, ap, sym, rules}
 use Rattle.std.proofs.lemmas.Int.{to_z-of_z}
 use Rattle.std.specs.Int.{w128}
 use Rattle.actions.specs.declared.expr.Value.TheVariants as values
@@ -46,35 +46,5 @@ returns-in-Some-Number-Some-Number-clause-sort c =
     let right = number_of_parts _ both.y _ is_y (to_z-of_z w128 both.y.mantissa fits_y) in
     same_has_sort (scope_at c.args.vals.now c.args.marks.now) _ _ _
     (c.apply_to_numbers.ensures ∙ same_applied _ _ _ _ _ left right)
-    (operator-has_sort (scope_at c.args.vals.now c.args.marks.now) _ _ _ _ _ _ _ _ (ap expr_of c.in-Bin.is) c.deref.ensures
-    c.deref-in-Bin.ensures both.ensures.sort both.ensures'.sort)
-
-pub apply_to_flags-requires : goal.apply_to_flags-requires
-apply_to_flags-requires c =
-    let both = c.in-Some-Flag-Some-Flag in
-    let left : both.field-0-1 ≡ values.Flag both.x = search rules in
-    let right : both.field-0-1' ≡ values.Flag both.y = search rules in
-    same_operands _ _ _ _ _ left right
-    (operands (scope_at c.args.vals.now c.args.marks.now) _ _ _ _ _ _ _ _ (ap expr_of c.in-Bin.is) c.deref.ensures
-    c.deref-in-Bin.ensures c.requires both.ensures.sort both.ensures'.sort)
-
-pub returns-in-Some-Flag-Some-Flag-clause-value : goal.returns-in-Some-Flag-Some-Flag-clause-value
-returns-in-Some-Flag-Some-Flag-clause-value c =
-    let both = c.in-Some-Flag-Some-Flag in
-    let left : both.field-0-1 ≡ values.Flag both.x = search rules in
-    let right : both.field-0-1' ≡ values.Flag both.y = search rules in
-    let are = operands (scope_at c.args.vals.now c.args.marks.now) _ _ _ _ _ _ _ _ (ap expr_of c.in-Bin.is) c.deref.ensures
-    c.deref-in-Bin.ensures c.requires both.ensures.sort both.ensures'.sort in
-    c.apply_to_flags.ensures ∙ same_applied _ _ _ _ _ left right
-    ∙ operator_value c.args.vals.now c.args.marks.now _ _ _ _ _ _ _ _ (ap expr_of c.in-Bin.is)
-    c.deref.ensures c.deref-in-Bin.ensures (sym both.ensures.value) (sym both.ensures'.value) are
-
-pub returns-in-Some-Flag-Some-Flag-clause-sort : goal.returns-in-Some-Flag-Some-Flag-clause-sort
-returns-in-Some-Flag-Some-Flag-clause-sort c =
-    let both = c.in-Some-Flag-Some-Flag in
-    let left : both.field-0-1 ≡ values.Flag both.x = search rules in
-    let right : both.field-0-1' ≡ values.Flag both.y = search rules in
-    same_has_sort (scope_at c.args.vals.now c.args.marks.now) _ _ (Ok (values.Flag c.apply_to_flags.result))
-    (c.apply_to_flags.ensures ∙ same_applied _ _ _ _ _ left right)
     (operator-has_sort (scope_at c.args.vals.now c.args.marks.now) _ _ _ _ _ _ _ _ (ap expr_of c.in-Bin.is) c.deref.ensures
     c.deref-in-Bin.ensures both.ensures.sort both.ensures'.sort)

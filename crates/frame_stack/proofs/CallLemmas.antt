@@ -110,7 +110,7 @@ module _ {cs : List Chunk} {len n : ℕ} {v : Stack} (is : IsStack cs len n) (se
 
   -- a frame is pushed
   module _ (spare : 0 < v.spare) where
-    left : 0 < n
+    pub left : 0 < n
     left = omega (arith, spare, spare_is)
 
     next_inside : len < length ss + n
@@ -188,3 +188,7 @@ module _ {cs : List Chunk} {len n : ℕ} {v : Stack} (is : IsStack cs len n) (se
 -- the slots of the chunks can be counted
 pub slots_fit : {cs : List Chunk} {len n : ℕ} → IsStack cs len n → len + n ≡ length cs * 1024
 slots_fit {cs} {len} {n} is = omega (arith, total cs (slots_in (places cs)) n is.holds, is.counted)
+
+-- the same with another number of spare slots that is as great
+pub counted_again : {cs : List Chunk} {len n m : ℕ} → IsStack cs len n → n ≡ m → IsStack cs len m
+counted_again {cs} {len} {n} {m} is e = subst (λ k. IsStack cs len k) e is

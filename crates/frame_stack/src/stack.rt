@@ -38,11 +38,13 @@ const MOST_CHUNKS: usize = 0x4_0000_0000_0000;
 pub struct FrameStack {
     chunks: Vec<Chunk>,
     len: usize,
-    spare: usize,
+    /// How many slots there are in all.
+    room: usize,
     alloc: Global,
 }
 
 impl Model for FrameStack {
+    ghost use Rattle.std.specs.Prelude.{◌-◌, ◌≤◌};
     ghost use Rattle.frame_stack.specs.Stacks.{Stack, stack, stack_code};
     ghost use Rattle.frame_stack.specs.Chunks.{IsStack, stack_frames};
 
@@ -50,9 +52,9 @@ impl Model for FrameStack {
 
     ghost coded = { stack_code };
 
-    ghost view = { λ s. stack (stack_frames s.chunks.items) s.spare };
+    ghost view = { λ s. stack (stack_frames s.chunks.items) (s.room - s.len) };
 
-    ghost invariant = { λ s. IsStack s.chunks.items s.len s.spare };
+    ghost invariant = { λ s. IsStack s.chunks.items s.len (s.room - s.len) × (s.len ≤ s.room) };
 }
 
 /// Gives chunks without frames back.
@@ -97,7 +99,7 @@ impl FrameStack {
         FrameStack {
             chunks: Vec::new(alloc),
             len: 0,
-            spare: 0,
+            room: 0,
             alloc,
         }
     }
@@ -113,7 +115,7 @@ impl FrameStack {
     pub fn spare(&self) -> usize
         ensures { result ≡ self.now.spare }
     {
-        self.spare
+        self.room - self.len
     }
 
     /// Pushes a frame of these words, from 1 to 7. One more frame must fit (`spare`). It takes no
@@ -127,7 +129,6 @@ impl FrameStack {
         let place = self.len;
         self.chunks[place / CHUNK].fill(place % CHUNK, Slot::of(words));
         self.len += 1;
-        self.spare -= 1;
     }
 
     /// Takes the top frame away. There must be one. Its slot stays, so one more frame can be
@@ -140,7 +141,6 @@ impl FrameStack {
         let place = self.len - 1;
         self.chunks[place / CHUNK].empty(place % CHUNK);
         self.len = place;
-        self.spare += 1;
     }
 
     /// The words of the frame `i`, from 1 to 7. The bottom frame is 0, and `i` is below `len`.
@@ -174,10 +174,11 @@ impl FrameStack {
         ensures kept { self.old.spare ≤ self.new.spare }
         ensures refused { OnErr result (self.new ≡ self.old) }
     {
-        if n <= self.spare {
+        let spare = self.room - self.len;
+        if n <= spare {
             return Ok(());
         }
-        let wanted = (n - self.spare - 1) / CHUNK + 1;
+        let wanted = (n - spare - 1) / CHUNK + 1;
         if MOST_CHUNKS - self.chunks.len() < wanted {
             return Err(Memory);
         }
@@ -186,7 +187,7 @@ impl FrameStack {
         match self.chunks.append(&mut more) {
             Ok(()) => {
                 more.destroy_empty();
-                self.spare += wanted * CHUNK;
+                self.room += wanted * CHUNK;
                 Ok(())
             }
             Err(_) => {
@@ -203,7 +204,7 @@ impl FrameStack {
         let FrameStack {
             chunks,
             len: _,
-            spare: _,
+            room: _,
             alloc,
         } = self;
         give_all_back(alloc, chunks);

@@ -2,4 +2,4 @@ use Rattle.frame_stack.proofs.CallLemmas.{chunks_are_free}
 use Rattle.frame_stack.proofs.stack.FrameStack.free.Goals as goal
 
 pub give_all_back-requires : goal.give_all_back-requires
-give_all_back-requires c = chunks_are_free c.self.invariant c.self.view_is c.requires
+give_all_back-requires c = chunks_are_free c.self.invariant.0 c.self.view_is c.requires

@@ -14,11 +14,11 @@ pub(crate) struct Sizes {
 /// What is drawn for a region before its states.
 #[derive(Clone, Copy)]
 pub(crate) struct RegionDraws {
-    /// Where `x` is greater, the junction leads to the destination.
+    /// The junction leads to the destination where `x` is greater than this.
     pub(crate) over: u32,
     /// The number of a state.
     pub(crate) destination: u32,
-    /// Where `x` is smaller, and not greater than `over`, the junction leads to the other one.
+    /// Else it leads to the other one where `x` is smaller than this.
     pub(crate) under: u32,
 }
 
@@ -40,7 +40,7 @@ pub(crate) struct StateDraws {
 pub(crate) struct EventDraws {
     /// The number of an event, 4 for a tick.
     pub(crate) event: u32,
-    /// The value of `x`, and 100.
+    /// The value of `x` plus 100.
     pub(crate) input: u32,
 }
 

@@ -47,6 +47,16 @@ pub(crate) struct EventDraws {
 /// How many seeds there are.
 const SEEDS: u32 = 2_147_483_648;
 
+/// A seed is multiplied by this number at each draw, as in the example of `rand` in the C standard
+/// (ISO/IEC 9899:2011, 7.22.2.2), whose divisor below is used too.
+const MULTIPLIER: u64 = 1_103_515_245;
+
+/// This number is then added.
+const INCREMENT: u64 = 12_345;
+
+/// A seed divided by this number gives the number that is drawn.
+const DIVISOR: u32 = 65_536;
+
 /// The draws of a case, from a seed that each draw changes.
 #[derive(Drop)]
 pub(crate) struct Draws {
@@ -70,9 +80,9 @@ impl Draws {
         ensures below { result < k }
         ensures seed { self.new.seed ≡ spec.next self.old.seed }
     {
-        let next = u64::from(self.seed) * 1_103_515_245 + 12_345;
+        let next = u64::from(self.seed) * MULTIPLIER + INCREMENT;
         self.seed = (next % u64::from(SEEDS)) as u32;
-        self.seed / 65_536 % k
+        self.seed / DIVISOR % k
     }
 
     /// Draws the sizes of a chart.

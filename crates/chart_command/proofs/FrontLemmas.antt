@@ -1,0 +1,27 @@
+-- Proper prefixes of a text that is written piece by piece.
+use Rattle.std.proofs.Common.{◌≡◌, ℕ, ◌+◌, List, ◌++◌, length, take, Option, sym, ap, ◌∙◌, arith, length-append}
+use Rattle.std.specs.Io.KnownBytes.{append_known}
+use Rattle.std.proofs.lemmas.List.{take-append-le}
+use Rattle.std.proofs.Math.Seq.{take-append-add}
+use Rattle.flow_base.specs.Bytes.{AppendsProperFront}
+use Rattle.flow_base.proofs.Pieces.{append_known-append}
+
+-- a proper prefix of the first piece is one of the whole
+pub front_first : (wrote after : Option (List ℕ)) (text more : List ℕ) → AppendsProperFront wrote after text
+    → AppendsProperFront wrote after (text ++ more)
+front_first wrote after text more f = record {
+  count = f.count;
+  proper = omega (arith, f.proper, length-append text more);
+  bytes = f.bytes ∙ ap (append_known wrote) (sym (take-append-le f.count text more (omega (arith, f.proper))));
+}
+
+-- a proper prefix of the last piece, after the others, is one of the whole
+pub front_after : (wrote now after : Option (List ℕ)) (text more : List ℕ) → now ≡ append_known wrote text
+    → AppendsProperFront now after more → AppendsProperFront wrote after (text ++ more)
+front_after wrote now after text more is f = record {
+  count = length text + f.count;
+  proper = omega (arith, f.proper, length-append text more);
+  bytes = f.bytes ∙ ap (λ (z : Option (List ℕ)). append_known z (take f.count more)) is
+      ∙ append_known-append wrote text (take f.count more)
+      ∙ ap (append_known wrote) (sym (take-append-add text more f.count));
+}

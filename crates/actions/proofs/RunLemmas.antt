@@ -119,3 +119,38 @@ pub Runs-front : (start : StartRelation) (react : ReactionRelation) (events more
     (ms : List Moment) → Runs start react (events ++ more) ms → Runs start react events (take (suc (length events)) ms)
 Runs-front start react events more [] runs = absurd runs
 Runs-front start react events more (m ∷ ms) runs = (runs.0, GoesOn-front react m events more ms runs.1)
+
+-- ---- runs by two relations
+
+-- from a world of which something holds, what an event with inputs gives by the first relation it gives by the second too,
+-- and the same holds of the world after it
+abbrev pub GivesAlso : (World → Type 0) → ReactionRelation → ReactionRelation → Type 0
+GivesAlso P react react' = (given : EventWithInputs) (w w' : World) (f : Option Fault) → P w
+    → ReactsWithInputs react w given w' f → ReactsWithInputs react' w given w' f × P w'
+
+-- so what comes after a moment by the first comes after it by the second
+pub GoesOn-along : (P : World → Type 0) (react react' : ReactionRelation) → GivesAlso P react react' → (m : Moment)
+    (events : List EventWithInputs) (ms : List Moment) → P m.world → GoesOn react m events ms
+    → GoesOn react' m events ms
+GoesOn-along P react react' along m [] ms here goes = goes
+GoesOn-along P react react' along m (given ∷ events) ms here goes =
+    at m.fault (λ next. GoesOn-along P react react' along next events) goes
+  where
+    at : (f : Option Fault)
+        → ((next : Moment) (later : List Moment) → P next.world → GoesOn react next events later
+        → GoesOn react' next events later)
+        → UnlessFaulted f ms (Next react m.world given events ms)
+        → UnlessFaulted f ms (Next react' m.world given events ms)
+    at (Some fault) others none = none
+    at None others goes =
+        let next = along given m.world goes.0.world goes.0.fault here goes.3 in
+        (goes.0, goes.1, goes.2, next.0, others goes.0 goes.1 next.1 goes.4)
+
+-- and so a run by the first is a run by the second, where the starts agree too
+pub Runs-along : (P : World → Type 0) (start start' : StartRelation) (react react' : ReactionRelation)
+    → ((w : World) (f : Option Fault) → start w f → start' w f × P w) → GivesAlso P react react'
+    → (events : List EventWithInputs) (ms : List Moment) → Runs start react events ms → Runs start' react' events ms
+Runs-along P start start' react react' starts along events [] runs = absurd runs
+Runs-along P start start' react react' starts along events (m ∷ ms) runs =
+    let first = starts m.world m.fault runs.0 in
+    (first.0, GoesOn-along P react react' along m events ms first.1 runs.1)

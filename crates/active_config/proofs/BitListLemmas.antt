@@ -121,6 +121,10 @@ pub record Passed (v : List Bool) (from at : ℕ) : Type 0 where
   pub low : from ≤ at
   pub off : (x : ℕ) → from ≤ x → x < at → get_or v x false ≡ false
 
+-- at the start that is none
+pub passed_start : (v : List Bool) (from : ℕ) → Passed v from from
+passed_start v from = record { low = omega arith; off = λ x lo hi. absurd (omega arith) }
+
 -- at the end none of the flags is on
 pub passed_all : (v : List Bool) (from at end : ℕ) → Passed v from at → end ≤ at → None ≡ first_on from end v
 unfolding first_on

@@ -1,14 +1,15 @@
 -- Reading what may be nested, and an item where it may stand.
 use Rattle.std.proofs.Common.{◌≡◌, ℕ, zero, suc, ◌-◌, ◌<◌, true, false, List, [], ◌∷◌, Err, Some, refl, arith}
+use Rattle.token_grammar.specs.declared.token.Kind.TheVariants as kinds
 use Rattle.token_grammar.specs.declared.fault.Fault.TheVariants as faults
 use Rattle.token_grammar.specs.declared.fault.Thing.TheVariants as things
 use Rattle.token_grammar.specs.Token.{Lexeme}
-use Rattle.token_grammar.specs.Grammar.{Grammar, heads}
+use Rattle.token_grammar.specs.Grammar.{Grammar, heads, is}
 use Rattle.token_grammar.proofs.Good.{Set}
 use Rattle.token_grammar.proofs.Allowed.{refused_always}
 use Rattle.chart_grammar.specs.Limits.{Limits, Counts}
 use Rattle.chart_grammar.specs.Expressions.{nested_heads, plain, nested, unary}
-use Rattle.chart_grammar.specs.States.{beginning, state_over, state}
+use Rattle.chart_grammar.specs.States.{beginning, no_state, state_over, state}
 
 -- a token of the set is at hand
 pub beginning_read : {X : Type 0} (g : Grammar X) (set : Set) (s : List Lexeme) → heads set s ≡ true
@@ -42,6 +43,13 @@ unary_nested l (suc d) n s h p =
     rw (h, e) refl
 
 -- ---- states
+
+-- where no state may be nested, one more is refused
+pub state_stop : (l : Limits) (d : ℕ) (n : Counts) (s : List Lexeme) → heads (is kinds.State) s ≡ true → d ≡ 0
+    → (state l d n).reads s ≡ Err (faults.NestTooDeep, s)
+unfolding state no_state
+state_stop l zero n s h e = rw (refused_always (is kinds.State) (Some faults.NestTooDeep) s, h) refl
+state_stop l (suc d) n s h e = absurd (omega arith)
 
 -- where some may be nested, one more is read, with one less in it
 pub state_nested : (l : Limits) (d : ℕ) (n : Counts) (s : List Lexeme) → 0 < d

@@ -201,6 +201,11 @@ number_from-within names q o e =
 
 -- ---- up the tree
 
+-- a state that has the name ends the search
+pub nearest_found : (ds : List Declared) (q : List ℕ) (a : ℕ) (ss : List ℕ) (x : ℕ)
+    → declared_from 0 ds (Some a) q ≡ Some x → declared_in ds q (a ∷ ss) ≡ Some x
+nearest_found ds q a ss x e = ap (λ (o : Option ℕ). or_else o (declared_in ds q ss)) e
+
 -- a state that hasn't is passed over
 pub nearest_next : (t : Tree) → IsTree t → (ds : List Declared) (q : List ℕ) (a : ℕ) (next : Option ℕ)
     → declared_from 0 ds (Some a) q ≡ None → next ≡ parent_of t a

@@ -70,3 +70,10 @@ told_then n (Ok x) y r h e =
     let same : (record { value = values x.0; counts = counts_behind n x.0 }, x.1) ≡ (y, r) = cc in
     ap (λ (z : Counted (List _) × List Lexeme). h z.0 z.1) same
 told_then n (Err d) y r h e = absurd cc
+
+-- and so is what failed
+pub told_stops : {X Y : Type 0} (n : Counts) (err : ReadError) (read : Outcome (List (Counted X))) (r : List Lexeme)
+    (h : List (Counted X) → List Lexeme → Outcome Y) → Fails err r (told n read) → Fails err r (and_then read h)
+told_stops n errors.Memory read r h e = tt
+told_stops n (errors.Fault d) (Ok x) r h e = absurd cc
+told_stops n (errors.Fault d) (Err x) r h e = let same : x ≡ (d, r) = cc in ap (λ z. Err z) same

@@ -62,6 +62,14 @@ module _ (n : Net) (s : ℕ) (kind : ListKind) (list : List Arrow) (mark : ℕ) 
         min (length m + weight (has_mark marks mark) (size_of n) (junction_count n)) greatest_count) l);
   }
 
+  -- each found junction is there and reached
+  pub found_reached : (items : List ℕ) → items ≡ found → (i : ℕ) → i < length items
+      → Reached n (list_of n s kind) (get_or items i 0)
+  found_reached items e i lt =
+      subst (λ m. Reached n m (get_or items i 0)) l
+      (subst (λ (v : List ℕ). Reached n list (get_or v i 0)) (sym e)
+      (w.sound (get_or found i 0) (w.listed i (subst (λ (v : List ℕ). i < length v) e lt))))
+
 -- what was passed stays so
 pub kind_passed_still : (n : Net) (s : ℕ) (kind : ListKind) (r q : Option Found)
     → ((f : Found) → Passed r f → Passed q f) → KindPassed n s kind r → KindPassed n s kind q

@@ -1,6 +1,6 @@
 -- Marking the junctions that are reached from a list.
 use Rattle.std.proofs.Common.{◌≡◌, ◌≢◌, ℕ, zero, suc, ◌+◌, ◌≤◌, ◌<◌, List, [], ◌∷◌, ◌++◌, length, get_or, set, Some}
-use Rattle.std.proofs.Common.{Bool, true, false, refl, sym, ap, ◌∙◌, subst, arith, ⊎_elim, cond}
+use Rattle.std.proofs.Common.{None, Bool, true, false, refl, sym, ap, ◌∙◌, subst, arith, ⊎_elim, cond}
 use Rattle.std.specs.Prelude.{◌==◌, min, slice_get}
 use Rattle.std.proofs.lemmas.Bool.{cases_lt, cases_eq}
 use Rattle.std.proofs.lemmas.Bool.Decides.{nat_tests}
@@ -50,6 +50,18 @@ last_in xs j = (length xs, omega (arith, length-append xs (j ∷ [])), get_or-ap
 -- what is in a list stays in a longer one
 still_in : (xs : List ℕ) (j i : ℕ) → IsIn xs i → IsIn (xs ++ j ∷ []) i
 still_in xs j i h = (h.0, omega (arith, length-append xs (j ∷ []), h.1), get_or-append xs (j ∷ []) 0 h.0 h.1 ∙ h.2)
+
+-- one junction more
+pub grows_by_one : (mark : ℕ) (marks found : List ℕ) (j : ℕ) → j < length marks
+    → Grows mark marks (set marks j mark) found (found ++ j ∷ [])
+grows_by_one mark marks found j lt = record {
+  kept = λ i h. marked_still marks mark j i lt h;
+  grown = omega (arith, length-append found (j ∷ []));
+  same = λ i h. get_or-append found (j ∷ []) 0 i h;
+}
+
+pub grows_none : (mark : ℕ) (marks found : List ℕ) → Grows mark marks marks found found
+grows_none mark marks found = record { kept = λ i h. h; grown = omega arith; same = λ i h. refl }
 
 -- one growth after another is one
 pub grows_then : (mark : ℕ) (a b c x y z : List ℕ) → Grows mark a b x y → Grows mark b c y z → Grows mark a c x z

@@ -1,7 +1,7 @@
 -- The bytes of names.
-use Rattle.std.proofs.Common.{◌≡◌, ℕ, ◌<◌, ◌&&◌, true, eqb, List, length, get_or, arith}
+use Rattle.std.proofs.Common.{◌≡◌, ℕ, ◌<◌, ◌≤◌, ◌&&◌, true, eqb, leb, List, length, get_or, arith}
 use Rattle.std.specs.Str.{IsAscii}
-use Rattle.std.proofs.lemmas.Bool.{and_parts, eqb-true}
+use Rattle.std.proofs.lemmas.Bool.{and_parts, eqb-true, leb-true}
 use Rattle.std.proofs.lemmas.Bool.Decides.{nat_tests}
 use Rattle.std.proofs.lemmas.List.Sums.{prefix_len_passes}
 use Rattle.std.proofs.lemmas.Str.Ascii.{IsAscii-from_reads}
@@ -21,3 +21,9 @@ is_name-bytes w h k lt =
 -- a name is ASCII
 pub is_name-ascii : (w : List ℕ) → is_name w ≡ true → IsAscii w
 is_name-ascii w h = IsAscii-from_reads w (length w) (omega arith) (λ k lt. name_byte_ascii (get_or w k 0) (is_name-bytes w h k lt))
+
+-- a name has at most 63 bytes
+pub is_name-short : (w : List ℕ) → is_name w ≡ true → length w ≤ 63
+is_name-short w h =
+    let back = (and_parts (begins is_letter w && eqb (name_length w) (length w)) _ h).1 in
+    leb-true _ _ (and_parts (leb (length w) 63) _ back).0

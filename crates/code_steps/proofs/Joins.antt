@@ -1,8 +1,8 @@
 -- How stretches of a run go together, and with pieces of work.
-use Rattle.std.proofs.Common.{◌≡◌, Bool, true, false, refl, ◌∙◌}
+use Rattle.std.proofs.Common.{◌≡◌, ℕ, Bool, true, false, Option, Some, None, refl, ◌∙◌}
 use Rattle.flow_base.specs.declared.fault.Fault.{Fault}
 use Rattle.actions.specs.World.{World}
-use Rattle.run_work.specs.Work.{Run, Ended, Faulted, Unfinished, Work, then_do, choose}
+use Rattle.run_work.specs.Work.{Run, Ended, Faulted, Unfinished, Work, then_do, choose, if_some}
 use Rattle.code_form.specs.Machine.{Program, Machine}
 use Rattle.code_steps.specs.Reach.{Reaches, Falls, Aim, Arrives, Meets, MeetsBy}
 
@@ -100,3 +100,10 @@ pub choose_meets : {A : Type 0} {C : Program} {m : Machine} {H : Aim A} (b : Boo
     → (b ≡ true → Meets C m H (k w)) → (b ≡ false → Meets C m H (l w)) → Meets C m H (choose b k l w)
 choose_meets true k l w y n = y refl
 choose_meets false k l w y n = n refl
+
+-- a number or none
+pub if_some_meets : {A : Type 0} {C : Program} {m : Machine} {H : Aim A} (o : Option ℕ) (k : Work A) (f : ℕ → Work A)
+    (w : World) → (o ≡ None → Meets C m H (k w)) → ((x : ℕ) → o ≡ Some x → Meets C m H (f x w))
+    → Meets C m H (if_some o k f w)
+if_some_meets None k f w n s = n refl
+if_some_meets (Some x) k f w n s = s x refl

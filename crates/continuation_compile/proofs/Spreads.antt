@@ -89,3 +89,10 @@ targets_below c (t ∷ ts) a = at t.dest a.0.dest (targets_below c ts a.1)
         → AllByRecursion (λ j. j < junction_count c) (with_junction d (junctions_to ts))
     at (State s) i rest = rest
     at (Junction j) i rest = (i, rest)
+
+-- the item at a place has what all have
+pub all_below_at : (n : ℕ) (xs : List ℕ) (i d : ℕ) → AllByRecursion (λ x. x < n) xs → i < length xs
+    → slice_index_or xs i d < n
+all_below_at n [] i d a h = absurd (omega arith)
+all_below_at n (x ∷ xs) zero d a h = a.0
+all_below_at n (x ∷ xs) (suc i) d a h = all_below_at n xs i d a.1 (omega arith)

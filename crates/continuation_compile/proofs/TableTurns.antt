@@ -1,10 +1,10 @@
 -- How tables are made and read.
-use Rattle.std.proofs.Common.{◌≡◌, ℕ, zero, suc, ◌+◌, ◌<◌, ◌≤◌, List, [], ◌∷◌, ◌++◌, length, refl, sym, ap, ◌∙◌}
+use Rattle.std.proofs.Common.{◌≡◌, ℕ, zero, suc, ◌+◌, ◌*◌, ◌<◌, ◌≤◌, List, [], ◌∷◌, ◌++◌, length, refl, sym, ap, ◌∙◌}
 use Rattle.std.proofs.Common.{arith, inl, inr, length-append, subst}
 use Rattle.std.specs.Prelude.{slice_index_or}
 use Rattle.std.proofs.lemmas.Bool.{cases_lt}
 use Rattle.chart_layout.specs.Orders.{sum_to}
-use Rattle.continuation_compile.specs.Tables.{IsTable}
+use Rattle.continuation_compile.specs.Tables.{IsTable, AreLow}
 
 -- what stands in a list stands in it with one more behind it
 get_front : (xs : List ℕ) (x k : ℕ) → k < length xs → slice_index_or (xs ++ x ∷ []) k 0 ≡ slice_index_or xs k 0
@@ -41,6 +41,20 @@ table_more f n m b x xs new e t is small step = subst (λ l. IsTable f m b l) (s
     | inr le ↦ let here : n ≡ k = omega arith in omega (arith, ap f here)
   ];
 })
+
+-- the numbers of a table are low
+pub table_low : (f : ℕ → ℕ) (n b d : ℕ) (xs : List ℕ) → IsTable f n b xs → b ≤ d → AreLow d xs
+table_low f n b d xs t h k lt = let there : k < n = omega (arith, t.long) in omega (arith, t.each k there, t.low k there)
+
+-- a table with a greater bound
+pub table_within : (f : ℕ → ℕ) (n b d : ℕ) (xs : List ℕ) → IsTable f n b xs → b ≤ d → IsTable f n d xs
+table_within f n b d xs t h = record { long = t.long; each = t.each; low = λ k lt. omega (arith, t.low k lt) }
+
+-- sums of low numbers are low
+pub sums_low : (f : ℕ → ℕ) (n k : ℕ) → ((i : ℕ) → i < n → f i ≤ 131072) → k ≤ n → sum_to f k ≤ k * 131072
+unfolding sum_to
+sums_low f n zero low h = omega arith
+sums_low f n (suc k) low h = omega (arith, sums_low f n k low (omega arith), low k (omega arith))
 
 -- a table of other numbers that are the same
 pub table_same : (f g : ℕ → ℕ) (n b : ℕ) (xs : List ℕ) → ((k : ℕ) → k < n → f k ≡ g k) → IsTable f n b xs

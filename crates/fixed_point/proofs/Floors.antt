@@ -2,7 +2,7 @@
 use Rattle.std.proofs.Common.{◌≡◌, ℕ, ◌+◌, ◌-◌, ◌*◌, ◌/◌, ◌%◌, ◌^◌, ◌<◌, ◌≤◌, ℤ, pos, negsuc, ◌*ℤ◌, unsigned_abs, FitsSigned, min, nat_eq, true, false, refl, sym, ⊎_elim, ap, ◌∙◌, arith}
 use Rattle.std.proofs.lemmas.Nat.{pow_pos, pow-add, shr-shr, shl-shr, shr_high, div-mul-add, mod_low, mod-pow-add, mul-le}
 use Rattle.std.proofs.lemmas.Int.{unsigned_abs-mul}
-use Rattle.std.specs.Int.{w128, cast_unsigned}
+use Rattle.std.specs.Int.{int_shr, w128, cast_unsigned}
 use Rattle.std.proofs.lemmas.Bool.Decides.{nat_tests}
 use Rattle.std.proofs.lemmas.Bool.{cases_lt}
 use Rattle.std.proofs.Math.Nat.{div-le_self, div-eq_of_lt, mod-eq_of_lt}
@@ -10,6 +10,11 @@ use lib.Signed.{mag}
 use Rattle.fixed_point.specs.Numbers.{floor_by, floored, scaled, is_whole}
 use Rattle.fixed_point.specs.declared.num.Num.{Num}
 use Rattle.fixed_point.proofs.Powers.{product_negsuc, product_one, product_split, abs_positive, power-le}
+
+-- a shift is the floor by the power
+pub floor_by-power : (z : ℤ) (d : ℕ) → int_shr z d ≡ floor_by z (2 ^ d)
+floor_by-power (pos a) d = refl
+floor_by-power (negsuc a) d = refl
 
 -- what lies after the t bits of a goes with the d bits that are dropped
 quotient_dropped : (n a r t d : ℕ) → n ≡ a * 2 ^ t + r → r < 2 ^ t → n / 2 ^ (t + d) ≡ a / 2 ^ d

@@ -26,7 +26,7 @@ use Rattle.sos_rules.specs.Rules.{upto}
 use Rattle.sos_rules.specs.Searches.{is_enabled, at_dest, visit, after_junction, assign, pay, while_alive, statement}
 use Rattle.sos_rules.specs.Searches.{receives, receiver}
 use Rattle.state_tree.specs.Chart.{Chart, Trans, node, junction}
-use Rattle.state_tree.specs.Homes.{child_toward, home_of}
+use Rattle.state_tree.specs.Homes.{child_toward, path_in, home_of}
 use Rattle.state_tree.specs.declared.parts.Dest.{Dest}
 use Rattle.state_tree.specs.declared.parts.Dest.TheVariants.{State, Junction}
 use Rattle.state_tree.specs.declared.parts.ListKind.TheVariants.{Outer}
@@ -370,6 +370,20 @@ module _ (c : Chart) (b : Bounds) (now : Now) where
   -- entering states one after another
   pub enter_each_end : {d : ℕ} {w : World} → Settled (λ n. (upto c b n).enter_each [] d now w) (Ended tt w)
   enter_each_end {d} {w} = settled_next (λ n. (upto c b n).enter_each [] d now w) _ (settled_now _)
+
+  pub enter_each_more : {x to d : ℕ} {xs : List ℕ} {w u : World} {r : Run (Unit {0})} → to ≡ path_in c.tree x d
+      → Settled (λ n. (upto c b n).enter x to now w) (Ended tt u) → Settled (λ n. (upto c b n).enter_each xs d now u) r
+      → Settled (λ n. (upto c b n).enter_each (x ∷ xs) d now w) r
+  enter_each_more {x} {d} {xs} {w} {u} {r} e h k =
+      settled_next (λ n. (upto c b n).enter_each (x ∷ xs) d now w) r
+      (settled_then _ _ tt u r (subst (λ t. Settled (λ n. (upto c b n).enter x t now w) (Ended tt u)) e h) k)
+
+  pub enter_each_fault : {x to d : ℕ} {xs : List ℕ} {w u : World} {f : Fault} → to ≡ path_in c.tree x d
+      → Settled (λ n. (upto c b n).enter x to now w) (Faulted f u)
+      → Settled (λ n. (upto c b n).enter_each (x ∷ xs) d now w) (Faulted f u)
+  enter_each_fault {x} {d} {xs} {w} {u} {f} e h =
+      settled_next (λ n. (upto c b n).enter_each (x ∷ xs) d now w) _
+      (settled_fault _ _ f u (subst (λ t. Settled (λ n. (upto c b n).enter x t now w) (Faulted f u)) e h))
 
   -- entering the child towards a state, where there is one
   pub toward_one : (s : ℕ) {d x : ℕ} {w : World} {r : Run (Unit {0})} → Some x ≡ child_toward c.tree s d

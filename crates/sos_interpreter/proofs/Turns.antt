@@ -17,7 +17,7 @@ use Rattle.state_tree.specs.Chart as rules
 use Rattle.state_tree.specs.Homes.{path_in}
 use Rattle.run_work.specs.Work.{Run, Ended, Faulted, End, Done, Cut, Now}
 use Rattle.sos_interpreter.proofs.Halts.{continues_same}
-use Rattle.sos_interpreter.proofs.Paths.{enter_each_end, each_end, each_off}
+use Rattle.sos_interpreter.proofs.Paths.{enter_each_end, enter_each_more, enter_each_fault, each_end, each_off}
 use Rattle.sos_interpreter.proofs.Paths.{each_stay, each_fault, each_out, play_end, play_skip, play_pay_fault}
 use Rattle.sos_interpreter.proofs.Paths.{play_fault, play_cut, play_more, block_end, block_more, block_cut, block_fault}
 use Rattle.sos_interpreter.proofs.Paths.{exit_each_end, exit_each_more, exit_each_fault}

@@ -1,6 +1,7 @@
 -- Worlds that fit a chart, and what changes them.
 use Rattle.std.proofs.Common.{◌≡◌, ℕ, zero, suc, ◌+◌, ◌<◌, List, [], ◌∷◌, length, Some, None, Result, Ok, Err, Bool}
 use Rattle.std.proofs.Common.{true, false, cond, nat_le, OnOk, OnErr, IfErr, map, sym, ap, ◌∙◌, subst, arith}
+use Rattle.std.specs.List.{AllByRecursion}
 use Rattle.flow_base.specs.declared.bounds.Bounds.{Bounds}
 use Rattle.flow_base.specs.declared.fault.Fault.{Fault}
 use Rattle.flow_base.specs.declared.fault.Fault.TheVariants.{Steps}
@@ -22,7 +23,7 @@ use Rattle.run_work.specs.Changes.{set_mark, keep_in}
 use Rattle.sos_rules.specs.Moves.{entered_in, remembered}
 use Rattle.sos_rules.proofs.MarkedStates.{remembering_parent, history_or, entered_done}
 use Rattle.actions.specs.declared.expr.Value.{Value}
-use Rattle.actions.specs.Data.{Datum, datum, assigned, CanTake}
+use Rattle.actions.specs.Data.{Datum, HaveTheirSorts, datum, assigned, CanTake}
 use Rattle.actions.specs.Engines.{IsInputSet}
 use Rattle.actions.specs.Exprs.{Expr}
 use Rattle.actions.specs.Names.{Names}
@@ -34,7 +35,7 @@ use Rattle.sos_interpreter.specs.Gives.{Does, halted}
 use Rattle.sos_rules.specs.Searches.{pay, assign}
 use Rattle.std.specs.Prelude.{slice_get}
 use Rattle.actions.specs.Values.{Valued, value_of, flag_of}
-use Rattle.actions.specs.World.{World, Fits, Declaration, of_data, put_out}
+use Rattle.actions.specs.World.{World, Fits, Declaration, of_data, of_names, put_out}
 use Rattle.actions.proofs.AssignmentLemmas.{of_data-assigned, sorts-assigned}
 use Rattle.actions.proofs.DataLemmas.{all_push}
 
@@ -46,6 +47,17 @@ input_set w w' v value vals same e = (
   ap (λ (x : World). assigned x.vals v value) (sym same) ∙ e,
   ap (λ (x : World). record x { vals = vals }) same,
 )
+
+-- another world with the same data and outputs, and consistent marks
+pub fits_as : (t : Tree) (n : Names) (w v : World) → Fits t n w → IsConsistent t v.marks → v.vals ≡ w.vals
+    → v.outputs ≡ w.outputs → Fits t n v
+fits_as t n w v fits k a b = record {
+  states = fits.states;
+  consistent = k;
+  declared = subst (λ (vals : List Datum). of_data vals ≡ of_names n) (sym a) fits.declared;
+  sorts = subst HaveTheirSorts (sym a) fits.sorts;
+  outputs = subst (AllByRecursion (λ event. event < length n.events)) (sym b) fits.outputs;
+}
 
 -- a world with one more output event fits
 pub out_fits : (t : Tree) (n : Names) (e : ℕ) (w : World) → Fits t n w → e < length n.events → Fits t n (put_out e w)

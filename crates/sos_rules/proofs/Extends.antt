@@ -1,5 +1,5 @@
 -- A greater height changes nothing of what is over.
-use Rattle.std.proofs.Common.{ℕ, zero, suc, ◌≤◌, List, [], ◌∷◌, Option, Some, None, Bool, true, false, arith}
+use Rattle.std.proofs.Common.{◌≡◌, ℕ, zero, suc, ◌≤◌, List, [], ◌∷◌, Option, Some, None, Bool, true, false, arith}
 use Rattle.flow_base.specs.declared.bounds.Bounds.{Bounds}
 use Rattle.active_config.specs.declared.comp.Comp.{Comp}
 use Rattle.active_config.specs.declared.comp.Comp.TheVariants.{Leaf, Or, And}
@@ -255,3 +255,8 @@ upto_below c b zero n le = record {
 }
 upto_below c b (suc m) zero le = absurd (omega arith)
 upto_below c b (suc m) (suc n) le = rules_below c b (upto c b m) (upto c b n) (upto_below c b m n (omega arith))
+
+-- what ended at a height ends in the same way at a greater one
+pub ended_extends : {A : Type 0} {r s : Run A} → Extends r s → (a : A) (w : World) → r ≡ Ended a w → s ≡ Ended a w
+ended_extends later a w e = absurd (cc)
+ended_extends same a w e = e

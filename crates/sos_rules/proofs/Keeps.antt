@@ -17,7 +17,7 @@ use Rattle.run_work.specs.Work.{if_some, if_done, End, Done, Cut, Now}
 use Rattle.sos_rules.proofs.MarkedStates.{all_reverse, active_is_child, entered_consistent}
 use Rattle.run_work.proofs.ChangeLemmas.{kept, paid_keeps, assigned_keeps}
 use Rattle.sos_rules.specs.Parts.{Found, Fire, DeadEnd, No, Stop, Went, Stay, Out, Parts}
-use Rattle.sos_rules.specs.Moves.{entered_in, exit_active, exit_children, exit_rule, exit_each_rule}
+use Rattle.sos_rules.specs.Moves.{entered_in, exit_active, exit_children, if_bare, exit_rule, exit_each_rule}
 use Rattle.sos_rules.specs.Moves.{enter_toward, enter_inside, enter_rule, enter_each_rule, after_default, defaults_rule}
 use Rattle.sos_rules.specs.Moves.{take_rule}
 use Rattle.sos_rules.specs.Searches.{pay, assign, guard_holds, is_enabled, while_alive, statement, block_rule}
@@ -174,6 +174,10 @@ module _ (c : Chart) (tree : IsTree c.tree) (b : Bounds) (P : World → Type 0) 
         h.exit_each _ now w (all_reverse _ (children_of c.tree s)
         (all_map (IsChild c.tree s) _ (children_of c.tree s) (λ x i. omega (arith, i.above))
         (children_are c.tree tree s))) k
+
+    pub if_bare_finishes : (s : ℕ) (m : Work (Unit {0})) (w : World) → P w
+        → (is_bare c.tree s w.marks ≡ true → Finishes P (m w)) → Finishes P (if_bare c.tree s m w)
+    if_bare_finishes s m w k i = choose_finishes P (is_bare c.tree s w.marks) m _ w i (λ _. ended tt w k)
 
     exit_finishes : (s : ℕ) (now : Now) (w : World) → 0 < s → P w → Finishes P (exit_rule c p s now w)
     exit_finishes s now w pos k =

@@ -12,7 +12,7 @@ use Rattle.active_config.proofs.PathLemmas.{is_below-root, is_at_or_below-same, 
 use Rattle.active_config.proofs.RangeLemmas.{find-filter}
 use Rattle.active_config.proofs.TableLemmas.{same_or_other}
 use Rattle.active_config.proofs.ChildLemmas.{child_of_parent, parent_of_child, prev_sibling-child}
-use Rattle.active_config.proofs.SiblingLemmas.{is_none, children_from-next, children_back_from-prev}
+use Rattle.active_config.proofs.SiblingLemmas.{is_none, children_of-from, children_from-next, children_back_from-prev}
 use Rattle.active_config.proofs.SiblingLemmas.{first_is_child, next_is_child}
 use Rattle.state_tree.specs.Homes.{child_toward, common_above}
 use Rattle.state_tree.proofs.Trees.{IsChild, parent_below, child_is, all_map, children_are, toward_is_child}
@@ -91,6 +91,14 @@ ahead_falls t x o o' e lt h = subst (λ o. ahead t o' < ahead t o) (sym e) (at o
     at None h = omega arith
     at (Some y) h = let a = h.0 in let b = h.1 in omega arith
 
+-- the walk back goes on
+pub behind_falls : (x : ℕ) (o o' : Option ℕ) → o ≡ Some x → IfSome o' (λ y. y < x) → behind o' < behind o
+behind_falls x o o' e h = subst (λ o. behind o' < behind o) (sym e) (at o' h)
+  where
+    at : (o' : Option ℕ) → IfSome o' (λ y. y < x) → behind o' < x + 1
+    at None h = omega arith
+    at (Some y) h = omega arith
+
 -- the children from where a walk stands
 pub from_none : (t : Tree) (s : ℕ) (o : Option ℕ) → o ≡ None → children_from t s o ≡ []
 unfolding children_from
@@ -117,7 +125,38 @@ back_some t s x o o' is h e =
 
 -- ---- the first child that passes a test
 
+-- nothing before where the walk stands passes
+pub record Seeks (t : Tree) (s : ℕ) (p : ℕ → Bool) (o : Option ℕ) : Type 0 where
+  pub stands : Stands t s o
+  pub same : find p (children_of t s) ≡ find p (children_from t s o)
+
 module _ (t : Tree) (tree : IsTree t) (s : ℕ) (p : ℕ → Bool) where
+  -- the search begins at the first child
+  pub seeks_first : (o : Option ℕ) → o ≡ first_child t s → Seeks t s p o
+  seeks_first o e = record {
+    stands = stands_first t tree s o e;
+    same = ap (find p) (children_of-from t s ∙ ap (children_from t s) (sym e));
+  }
+
+  -- a child that passes is the one that is sought
+  pub seeks_found : (x : ℕ) (o : Option ℕ) → o ≡ Some x → Seeks t s p o → p x ≡ true → Some x ≡ find p (children_of t s)
+  seeks_found x o is h e =
+      sym (h.same ∙ ap (find p) (from_some t s x o (next_sibling t x) is h.stands refl)
+      ∙ ap (λ c. cond c (Some x) (find p (children_from t s (next_sibling t x)))) e)
+
+  -- a child that fails is passed over
+  pub seeks_next : (x : ℕ) (o o' : Option ℕ) → o ≡ Some x → Seeks t s p o → p x ≡ false → o' ≡ next_sibling t x
+      → Seeks t s p o'
+  seeks_next x o o' is h e f = record {
+    stands = stands_next t tree s x o o' is h.stands f;
+    same =
+        h.same ∙ ap (find p) (from_some t s x o o' is h.stands f)
+        ∙ ap (λ c. cond c (Some x) (find p (children_from t s o'))) e;
+  }
+
+  -- no child passes
+  pub seeks_none : (o : Option ℕ) → o ≡ None → Seeks t s p o → None ≡ find p (children_of t s)
+  seeks_none o is h = sym (h.same ∙ ap (find p) (from_none t s o is))
 
 -- ---- the first state above that passes a test
 

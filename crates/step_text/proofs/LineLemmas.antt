@@ -3,6 +3,7 @@ use Rattle.std.proofs.Common.{◌≡◌, ℕ, suc, ◌+◌, ◌<◌, ◌≤◌, 
 use Rattle.std.proofs.lemmas.Bool.Decides.{nat_tests}
 use Rattle.std.proofs.lemmas.List.{take_all}
 use Rattle.std.specs.Prelude.{if◌then◌else◌, not}
+use Rattle.std.specs.List.{position}
 use Rattle.step_text.specs.Lines.{begun_with, lines_of, line_length, IsPlain}
 
 length_at : (n m : ℕ) (newline : Bool) → n ≤ m → cond (not newline) (1 + n) 0 ≤ suc m
@@ -16,6 +17,13 @@ line_length-le (b ∷ text) = length_at (line_length text) (length text) (nat_eq
 
 left_out : (m n : ℕ) → None ≡ cond (nat_lt m n) (Some m) None → n ≤ m
 left_out m n is = grind (arith, nat_tests)
+
+-- a text without a newline is one line
+pub line_length_none : (text : List ℕ) → None ≡ position (λ b. nat_eq b 10) text → length text ≡ line_length text
+line_length_none text is =
+    let past : length text ≤ line_length text = left_out (line_length text) (length text) is in
+    let within = line_length-le text in
+    omega arith
 
 plain_at : (b : ℕ) (text : List ℕ) (n : ℕ) (newline : Bool) → nat_eq b 10 ≡ newline → IsPlain (take n text)
     → IsPlain (take (cond (not newline) (1 + n) 0) (b ∷ text))

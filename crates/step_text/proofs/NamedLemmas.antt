@@ -1,13 +1,17 @@
 -- The data that have a value.
 use Rattle.std.proofs.Common.{◌≡◌, ◌≢◌, ℕ, zero, suc, ◌+◌, ◌<◌, Bool, true, false, nat_eq, List, [], ◌∷◌, ◌++◌, length, take, replicate, Option, None, refl, sym, ap, ◌∙◌, arith, length-set}
 use Rattle.std.proofs.lemmas.Bool.Decides.{nat_tests}
-use Rattle.std.proofs.lemmas.List.{set_comm, take_more_set}
+use Rattle.std.proofs.lemmas.List.{set_comm, take_more_set, length-replicate}
 use Rattle.std.specs.Prelude.{slice_set}
 use Rattle.std.specs.List.{AllByRecursion}
 use Rattle.actions.specs.declared.expr.Value.{Value}
 use Rattle.step_text.specs.LineValues.{without, AreNamed}
 
 -- ---- values without those of some data
+
+pub length-without : (values : List (Option Value)) (named : List ℕ) → length (without values named) ≡ length values
+length-without values [] = refl
+length-without values (v ∷ named) = length-without (slice_set values v None) named ∙ length-set values v None
 
 -- one datum more
 pub without-more : (values : List (Option Value)) (named : List ℕ) (v : ℕ) → without values (named ++ v ∷ []) ≡ slice_set (without values named) v None
@@ -47,6 +51,16 @@ within-more : (n m : ℕ) (named : List ℕ) (v : ℕ) → m ≡ n → AllByRecu
 within-more n m [] v is all within = (omega arith, tt)
 within-more n m (k ∷ named) v is all within = let first = all.0 in (omega arith, within-more n m named v is all.1 within)
 
+within-same : (n m : ℕ) (named : List ℕ) → m ≡ n → AllByRecursion (λ k. k < n) named → AllByRecursion (λ k. k < m) named
+within-same n m named is all = rw is all
+
+-- no datum has a value
+pub none_named : (values : List (Option Value)) (n : ℕ) → values ≡ replicate n None → AreNamed values [] false
+none_named values n are = record {
+  within = tt;
+  only = λ _. are ∙ ap (λ m. replicate m None) (sym (ap (λ (zs : List (Option Value)). length zs) are ∙ length-replicate n None));
+}
+
 -- a datum more has a value
 pub named_more : (values : List (Option Value)) (named : List ℕ) (more : Bool) (v : ℕ) (x : Option Value) → AreNamed values named more → v < length values
     → AreNamed (slice_set values v x) (named ++ v ∷ []) more
@@ -63,3 +77,11 @@ pub named_next : (values : List (Option Value)) (named : List ℕ) (count : ℕ)
 named_next values named count more v x h within room =
     let next : take (count + 1) (slice_set named count v) ≡ take count named ++ v ∷ [] = take_more_set named count v room in
     rw next (named_more values (take count named) more v x h within)
+
+-- a datum more may have a value
+pub more_named : (values : List (Option Value)) (named : List ℕ) (more : Bool) (v : ℕ) (x : Option Value) → AreNamed values named more
+    → AreNamed (slice_set values v x) named true
+more_named values named more v x h = record {
+  within = within-same (length values) (length (slice_set values v x)) named (length-set values v x) h.within;
+  only = λ e. absurd (cc);
+}

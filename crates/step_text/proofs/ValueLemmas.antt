@@ -86,6 +86,17 @@ one_value n k (suc v) (Some old ∷ inputs) value within all here =
     let e : k + suc v ≡ k + 1 + v = omega arith in
     (all.0, one_value n (k + 1) v inputs value (omega arith) all.1 (rw e at here))
 
+-- one token more
+pub given_more : (n : Names) (old new : List (Option Value)) (token : List ℕ) (tokens all : List (List ℕ)) → all ≡ token ∷ tokens
+    → given n old token ≡ Ok new → all_given n new tokens ≡ all_given n old all
+given_more n old new token tokens all are is =
+    sym (ap (all_given n old) are ∙ ap (λ (r : Result (List (Option Value)) LineFault). and_then r (λ more. all_given n more tokens)) is)
+
+pub given_fault : (n : Names) (old : List (Option Value)) (token : List ℕ) (tokens all : List (List ℕ)) (fault : LineFault) → all ≡ token ∷ tokens
+    → given n old token ≡ Err fault → all_given n old all ≡ Err fault
+given_fault n old token tokens all fault are is =
+    ap (all_given n old) are ∙ ap (λ (r : Result (List (Option Value)) LineFault). and_then r (λ more. all_given n more tokens)) is
+
 -- ---- what a line says
 
 pub says_nothing : (n : Names) (line : List ℕ) → tokens_of line ≡ [] → event_of_line n line ≡ Ok None
@@ -134,6 +145,15 @@ named_value n inputs token k v decl sign place within is =
     ap (given_at n inputs token) (sym sign)
     ∙ ap (λ (o : Option ℕ). given_by_name n inputs o (drop (k + 1) token)) (sym place)
     ∙ ap (λ (o : Option Var). given_to inputs v o (drop (k + 1) token)) there
+
+pub gives_no_sign : (n : Names) (inputs : List (Option Value)) (token : List ℕ) → None ≡ position (λ b. nat_eq b 61) token
+    → given n inputs token ≡ Err faults.UnknownInput
+gives_no_sign n inputs token sign = ap (given_at n inputs token) (sym sign)
+
+pub gives_no_name : (n : Names) (inputs : List (Option Value)) (token : List ℕ) (k : ℕ) → Some k ≡ position (λ b. nat_eq b 61) token
+    → None ≡ position (λ (x : Var). bytes_eq x.name (take k token)) n.vars → given n inputs token ≡ Err faults.UnknownInput
+gives_no_name n inputs token k sign place =
+    ap (given_at n inputs token) (sym sign) ∙ ap (λ (o : Option ℕ). given_by_name n inputs o (drop (k + 1) token)) (sym place)
 
 -- a token that names a datum
 pub record Names-datum (n : Names) (token : List ℕ) (k v : ℕ) (decl : Var) : Type 0 where

@@ -1,7 +1,7 @@
 -- Words that spell a chain of operators, put together from those of its parts.
 -- `x_spelled` says that the canonical words of x spell it.
-use Rattle.std.proofs.Common.{◌≡◌, ℕ, ◌+◌, ◌<◌, Bool, true, List, [], ◌∷◌, ◌++◌, Some, refl, ap, sym, ◌∙◌}
-use Rattle.std.proofs.Common.{subst, inl, append-nil, append_assoc}
+use Rattle.std.proofs.Common.{◌≡◌, ℕ, ◌+◌, ◌<◌, Bool, true, List, [], ◌∷◌, ◌++◌, Some, None, refl, ap, sym, ◌∙◌}
+use Rattle.std.proofs.Common.{subst, inl, inr, append-nil, append_assoc}
 use Rattle.std.proofs.lemmas.Bool.{lt-ltb}
 use Rattle.token_grammar.specs.declared.token.Kind.{Kind}
 use Rattle.token_grammar.specs.Token.{Lexeme}
@@ -72,6 +72,42 @@ module _ (set : Kind → Bool) (operand : Operands) where
     first = c.first;
     second = tails_append (with_tail e x) c.q v ts t c.second s;
   }
+
+  pub chain_alone : (n : ℕ) {w : List Word} {y : Operand} → WordsSpell (operand n) unplaced w y
+      → WordsSpell (chain usual set operand n) unplaced w y
+  unfolding chain tails many_from
+  chain_alone n p u e =
+      let s = p u e in
+      record {
+        value = s.value;
+        spelled = record {
+          p = u;
+          q = [];
+          x = s.value;
+          parts = sym (append-nil u);
+          first = s.spelled;
+          second = record { p = []; q = []; x = []; parts = refl; first = refl; second = (refl, refl) };
+        };
+        looks = s.looks;
+      }
+
+  pub pair_alone : (n : ℕ) {w : List Word} {y : Operand} → WordsSpell (operand n) unplaced w y
+      → WordsSpell (pair usual set operand n) unplaced w y
+  unfolding pair
+  pair_alone n p u e =
+      let s = p u e in
+      record {
+        value = s.value;
+        spelled = record {
+          p = u;
+          q = [];
+          x = s.value;
+          parts = sym (append-nil u);
+          first = s.spelled;
+          second = record { p = []; q = []; x = None; parts = refl; first = inr (refl, refl); second = (refl, refl) };
+        };
+        looks = s.looks;
+      }
 
   -- a chain with one more operator and operand after it
   chain_more : (n : ℕ) {a b : List Word} {y : Operand} {t : Tail} → WordsSpell (chain usual set operand n) unplaced a y

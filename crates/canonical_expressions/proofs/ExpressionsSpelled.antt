@@ -1,8 +1,8 @@
 -- The canonical words of an expression spell it.
 -- `x_spelled` says that the canonical words of x spell it.
-use Rattle.std.proofs.Common.{◌≡◌, ℕ, zero, suc, ◌+◌, ◌≤◌, ◌<◌, ltb, Bool, true, List, ◌∷◌, ◌++◌, refl, arith}
-use Rattle.std.proofs.Common.{ap, ◌∙◌}
-use Rattle.std.proofs.lemmas.Bool.{le-ltb}
+use Rattle.std.proofs.Common.{◌≡◌, ℕ, zero, suc, ◌+◌, ◌≤◌, ◌<◌, ltb, Bool, true, List, [], ◌∷◌, ◌++◌, refl, arith}
+use Rattle.std.proofs.Common.{inl, inr, subst, ap, ◌∙◌}
+use Rattle.std.proofs.lemmas.Bool.{cases_Bool, ltb-false, le-ltb}
 use Rattle.token_grammar.specs.declared.token.Kind.{Kind}
 use Rattle.token_grammar.specs.declared.token.Kind.TheVariants as kinds
 use Rattle.token_grammar.specs.declared.token.Span.{Span}
@@ -16,7 +16,7 @@ use Rattle.chart_tree.specs.declared.limits.TheConstants.{OPERATOR_LIMIT}
 use Rattle.chart_tree.specs.Trees.{Path, Expr, Lit, Flag, Name, Active, Unary, Binary}
 use Rattle.chart_grammar.specs.Limits.{usual}
 use Rattle.chart_grammar.specs.Expressions.{Operand, un_word, sign_heads, flag_heads, nested_heads, literal, flag}
-use Rattle.chart_grammar.specs.Expressions.{datum, active, plain, signed, nested, unary, operand}
+use Rattle.chart_grammar.specs.Expressions.{datum, active, plain, disjunction, signed, parens, nested, unary, operand}
 use Rattle.chart_grammar.specs.Expressions.{expr}
 use Rattle.chart_print.specs.Pieces.{Piece, key, space, kind_bytes}
 use Rattle.chart_print.specs.Words.{word_pieces, path_pieces}
@@ -33,7 +33,7 @@ use Rattle.canonical_claims.proofs.Keywords.{spell_word, spell_kind, flag_there,
 use Rattle.canonical_expressions.proofs.Costs.{cost, cost-whole, precedence_some}
 use Rattle.canonical_expressions.proofs.Precedences.{left_low, right_low}
 use Rattle.canonical_expressions.proofs.ChainsSpelled.{unplaced, operator_spelled}
-use Rattle.canonical_expressions.proofs.Levels.{level, level_binary, unary_plain}
+use Rattle.canonical_expressions.proofs.Levels.{level, levels_up, level_binary, unary_plain}
 use Rattle.canonical_expressions.proofs.Names.{path_spelled}
 use Rattle.canonical_expressions.proofs.Numbers.{number_spelled}
 
@@ -79,6 +79,17 @@ active_spelled path at n has =
 
 -- ---- nested operands
 
+parens_spelled : (d n : ℕ) {w : List Word} {y : Operand} → n < OPERATOR_LIMIT
+    → WordsSpell (disjunction usual (unary usual d) (n + 1)) unplaced w y
+    → WordsSpell (unary usual (suc d) n) unplaced
+    (keyword kinds.OpenParen ∷ (w ++ keyword kinds.CloseParen ∷ [])) y
+unfolding unary nested parens
+parens_spelled d n room s =
+    spell_left nested_heads (spell_right sign_heads
+    (spell_then (operator_spelled (is kinds.OpenParen) kinds.OpenParen n refl room) (λ _ _.
+    spell_then s (λ inner same.
+    spell_word kinds.CloseParen (spell_give inner same)))))
+
 signed_spelled : (d n : ℕ) (word : UnWord) {w : List Word} {y : Operand} → n < OPERATOR_LIMIT
     → WordsSpell (unary usual d (n + 1)) unplaced w y
     → WordsSpell (unary usual (suc d) n) unplaced (keyword (un_kind word) ∷ w)
@@ -114,6 +125,34 @@ abbrev IsOwn : Expr → Type 0
 IsOwn e = (d n : ℕ) → n + operators_in e ≤ OPERATOR_LIMIT → operators_in e ≤ d
     → WordsSpell (level (expr_precedence e) (unary usual d) n) unplaced (words_in (expr_pieces e))
     (bare e (n + operators_in e))
+
+-- and so in parentheses where no operator stands between two others
+enclosed_spelled : (e : Expr) → IsOwn e → (d n : ℕ) → n + (operators_in e + 1) ≤ OPERATOR_LIMIT → operators_in e + 1 ≤ d
+    → WordsSpell (unary usual d n) unplaced (words_in (enclosed true (expr_pieces e)))
+    (bare e (n + (operators_in e + 1)))
+unfolding enclosed key
+enclosed_spelled e own zero n room deep = absurd (omega arith)
+enclosed_spelled e own (suc d) n room deep =
+    let count : n + 1 + operators_in e ≡ n + (operators_in e + 1) = omega arith in
+    let inside = own d (n + 1) (omega arith) (omega arith) in
+    rw (words_in-append (expr_pieces e) (key kinds.CloseParen))
+    (parens_spelled d n (omega arith)
+    (subst (λ (z : ℕ). WordsSpell (disjunction usual (unary usual d) (n + 1)) unplaced (words_in (expr_pieces e))
+    (bare e z)) count
+    (levels_up 1 (expr_precedence e) (n + 1) (unary usual d) (precedence_some e) inside)))
+
+-- and so as an operand of any level
+wherever : (e : Expr) → IsOwn e → IsSpelled e
+unfolding enclosed
+wherever e own p d n high room deep =
+    elim (cases_Bool (ltb (expr_precedence e) p)) [
+      | inl low ↦
+          rw low (levels_up p 6 n (unary usual d) high (enclosed_spelled e own d n (rw low at room) (rw low at deep)))
+      | inr tight ↦
+          let enough = ltb-false (expr_precedence e) p tight in
+          rw tight (levels_up p (expr_precedence e) n (unary usual d) enough
+          (own d n (rw tight at room) (rw tight at deep)))
+    ]
 
 -- ---- expressions
 

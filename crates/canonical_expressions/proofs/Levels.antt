@@ -1,5 +1,5 @@
 -- The levels of expressions by their precedence: what is spelled at one is spelled at each above it.
-use Rattle.std.proofs.Common.{ℕ, zero, suc, ◌+◌, ◌<◌, List, ◌∷◌, ◌++◌, refl}
+use Rattle.std.proofs.Common.{◌≡◌, ℕ, zero, suc, ◌+◌, ◌-◌, ◌≤◌, ◌<◌, List, ◌∷◌, ◌++◌, refl, arith, subst}
 use Rattle.token_grammar.specs.declared.token.Kind.TheVariants as kinds
 use Rattle.token_grammar.specs.Grammar.{is}
 use Rattle.chart_tree.specs.declared.expr.BinWord.{BinWord}
@@ -15,7 +15,7 @@ use Rattle.chart_print.specs.Places.{nowhere}
 use Rattle.canonical_claims.specs.Words.{Word, WordsSpell}
 use Rattle.canonical_claims.proofs.Words.{keyword}
 use Rattle.canonical_claims.proofs.Spelled.{spell_right}
-use Rattle.canonical_expressions.proofs.ChainsSpelled.{unplaced, chain_binary, pair_binary}
+use Rattle.canonical_expressions.proofs.ChainsSpelled.{unplaced, chain_alone, pair_alone, chain_binary, pair_binary}
 
 -- the operands of a precedence, over those that have no operator between two others
 abbrev pub level : ℕ → Operands → Operands
@@ -26,6 +26,35 @@ level (suc (suc (suc zero))) operand = comparison usual operand
 level (suc (suc (suc (suc zero)))) operand = sum usual operand
 level (suc (suc (suc (suc (suc zero))))) operand = product usual operand
 level (suc (suc (suc (suc (suc (suc p)))))) operand = operand
+
+-- what is spelled at a level is spelled at the next looser one
+level_up : (p n : ℕ) (operand : Operands) {w : List Word} {y : Operand}
+    → WordsSpell (level (suc p) operand n) unplaced w y
+    → WordsSpell (level p operand n) unplaced w y
+unfolding disjunction conjunction comparison sum product
+level_up zero n operand s = s
+level_up (suc zero) n operand s = chain_alone (is kinds.OrOr) (conjunction usual operand) n s
+level_up (suc (suc zero)) n operand s = chain_alone (is kinds.AndAnd) (comparison usual operand) n s
+level_up (suc (suc (suc zero))) n operand s = pair_alone comparison_heads (sum usual operand) n s
+level_up (suc (suc (suc (suc zero)))) n operand s = chain_alone sum_heads (product usual operand) n s
+level_up (suc (suc (suc (suc (suc zero))))) n operand s = chain_alone product_heads operand n s
+level_up (suc (suc (suc (suc (suc (suc p)))))) n operand s = s
+
+-- what is spelled at a level is spelled at each level above it
+pub levels_up : (p q n : ℕ) (operand : Operands) {w : List Word} {y : Operand} → p ≤ q
+    → WordsSpell (level q operand n) unplaced w y
+    → WordsSpell (level p operand n) unplaced w y
+levels_up p q n operand {w} {y} h s = climb (q - p) q (omega arith) s
+  where
+    climb : (k q : ℕ) → q ≡ k + p → WordsSpell (level q operand n) unplaced w y
+        → WordsSpell (level p operand n) unplaced w y
+    climb zero q e s =
+        subst (λ (z : ℕ). WordsSpell (level z operand n) unplaced w y) (let f : q ≡ p = omega arith in f) s
+    climb (suc k) q e s =
+        climb k (k + p) refl
+        (level_up (k + p) n operand
+        (subst (λ (z : ℕ). WordsSpell (level z operand n) unplaced w y)
+        (let f : q ≡ suc (k + p) = omega arith in f) s))
 
 -- an operator between two operands is spelled at its own level
 pub level_binary : (word : BinWord) (operand : Operands) (n : ℕ) {a b : List Word} {y z : Operand}

@@ -15,7 +15,7 @@ use Rattle.chart_promises.proofs.PromiseLemmas.{keeps_promise}
 use Rattle.accepted_charts.specs.Accepted.{Refuses, OfNames, OfChart}
 
 -- the resolved chart of a text keeps the promise of resolved charts
-pub promised : (text : List ℕ) (c : Chart) (r : Resolved) → Spells text c → IsResolved c r → promise.IsResolved r
+pub promised : (text : List ℕ) (c : Chart) (r : Resolved) → Spells text c → IsResolved c r → promise.KeepsPromise r
 promised text c r spells h = keeps_promise c r (spelled_has text c spells) h.resolves h.faultless
 
 -- a fault of the names of a text is its first fault

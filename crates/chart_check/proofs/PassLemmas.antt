@@ -8,7 +8,7 @@ use Rattle.state_tree.specs.Chart.{Chart}
 use Rattle.state_tree.specs.Valid.{IsValid}
 use Rattle.resolved_tree.specs.Faults.{first_of}
 use Rattle.resolved_tree.specs.Plain.{chart_of}
-use Rattle.resolved_tree.specs.Promise.{IsResolved}
+use Rattle.resolved_tree.specs.Promise.{KeepsPromise}
 use Rattle.resolved_tree.specs.Resolved.{Resolved}
 use Rattle.resolved_tree.proofs.FirstLemmas.{none_found}
 use Rattle.chart_types.specs.Types.{type_faults}
@@ -17,7 +17,7 @@ use Rattle.chart_validity.proofs.ChartLemmas.{chart_valid}
 use Rattle.chart_check.specs.Check.{IsSound, IsFirstOf, OfTypes, OfStructure, OfPairs, IsAnswer}
 
 -- the net of a resolved chart has no more states than a chart may have
-pub few_states : (r : Resolved) (n : Net) → IsResolved r → n ≡ net_of r → state_count n.tree < 1073741824
+pub few_states : (r : Resolved) (n : Net) → KeepsPromise r → n ≡ net_of r → state_count n.tree < 1073741824
 unfolding net_of chart_of
 few_states r n h e = subst (λ m. state_count m.tree < 1073741824) (sym e) (let few = h.small.states in omega (arith, few))
 
@@ -33,5 +33,5 @@ of_net r n (Some f) e same h = ⊎_elim
     (subst (λ m. structure.IsAnswer m (Some f)) same h)
 
 -- a sound resolved chart stands for a valid chart
-pub sound_valid : (r : Resolved) (c : Chart) → IsResolved r → IsSound r → c ≡ chart_of r → IsValid c
+pub sound_valid : (r : Resolved) (c : Chart) → KeepsPromise r → IsSound r → c ≡ chart_of r → IsValid c
 sound_valid r c h s e = subst IsValid (sym e) (chart_valid r h s.types s.structure s.pairs)

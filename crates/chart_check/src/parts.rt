@@ -12,7 +12,7 @@ ghost use Rattle.resolved_tree.specs.Promise.{
   IsTrans,
   AreTrans,
   IsStateOf,
-  IsResolved,
+  KeepsPromise,
 };
 ghost use Rattle.resolved_tree.specs.Resolved as trees;
 ghost use Rattle.resolved_tree.specs.Resolved.{Guard, Junction};
@@ -147,7 +147,7 @@ pub struct ChartParts {
 
 /// The parts of the chart for which a resolved chart stands.
 fn build(alloc: Global, resolved: Resolved) -> Result<ChartParts, AllocError>
-    requires { IsResolved (resolved_of resolved) }
+    requires { KeepsPromise (resolved_of resolved) }
     ensures { IfOk result (λ parts. chart_seen parts.shape (names_of parts.names) parts.states.items
         (map (λ j. j.items) parts.junctions.items) ≡ plain.chart_of (resolved_of resolved)) }
 {
@@ -172,7 +172,7 @@ fn build(alloc: Global, resolved: Resolved) -> Result<ChartParts, AllocError>
 ///
 /// Fails only where memory does.
 pub fn chart_parts(alloc: Global, resolved: Resolved) -> Result<ChartParts, Memory>
-    requires { IsResolved (resolved_of resolved) }
+    requires { KeepsPromise (resolved_of resolved) }
     ensures { IfOk result (λ parts. chart_seen parts.shape (names_of parts.names) parts.states.items
         (map (λ j. j.items) parts.junctions.items) ≡ plain.chart_of (resolved_of resolved)) }
 {

@@ -2,7 +2,7 @@
 ghost use Rattle.std.specs.Prelude.{◌≡◌, None, IfOk, IfErr};
 ghost use Rattle.state_tree.specs.Kept.{chart_of};
 ghost use Rattle.resolved_tree.specs.Faults.{first_of};
-ghost use Rattle.resolved_tree.specs.Promise.{IsResolved};
+ghost use Rattle.resolved_tree.specs.Promise.{KeepsPromise};
 ghost use Rattle.resolved_tree.specs.Views.{resolved_of};
 ghost use Rattle.chart_types.specs.Types.{type_faults};
 ghost use Rattle.chart_check.specs.Check.{IsAnswer, IsChecked, IsSound, Refuses};
@@ -19,7 +19,7 @@ use std::alloc::Global;
 
 /// The first fault of a resolved chart without faults of types, none where it is sound.
 fn structure_fault(alloc: Global, resolved: &Resolved) -> Result<Option<Found>, Memory>
-    requires resolved { IsResolved (resolved_of resolved.now) }
+    requires resolved { KeepsPromise (resolved_of resolved.now) }
     requires types { first_of (type_faults (resolved_of resolved.now)) ≡ None }
     ensures { IfOk result (IsAnswer (resolved_of resolved.now)) }
 {
@@ -32,7 +32,7 @@ fn structure_fault(alloc: Global, resolved: &Resolved) -> Result<Option<Found>, 
 
 /// The first fault of a resolved chart, none where it is sound.
 fn fault_of(alloc: Global, resolved: &Resolved) -> Result<Option<Found>, Memory>
-    requires { IsResolved (resolved_of resolved.now) }
+    requires { KeepsPromise (resolved_of resolved.now) }
     ensures { IfOk result (IsAnswer (resolved_of resolved.now)) }
 {
     match first_type_fault(resolved) {
@@ -43,7 +43,7 @@ fn fault_of(alloc: Global, resolved: &Resolved) -> Result<Option<Found>, Memory>
 
 /// The chart for which a sound resolved chart stands.
 fn chart_from(alloc: Global, resolved: Resolved) -> Result<Chart, Memory>
-    requires resolved { IsResolved (resolved_of resolved) }
+    requires resolved { KeepsPromise (resolved_of resolved) }
     requires sound { IsSound (resolved_of resolved) }
     ensures { IfOk result (λ c. IsChecked (resolved_of resolved) (chart_of c)) }
 {
@@ -54,7 +54,7 @@ fn chart_from(alloc: Global, resolved: Resolved) -> Result<Chart, Memory>
 /// The chart for which a resolved chart stands, or the first fault of its types, else of its
 /// structure, else of the number of its pairs. The resolved chart is dropped in any case.
 pub fn check(alloc: Global, resolved: Resolved) -> Result<Chart, FormFault>
-    requires { IsResolved (resolved_of resolved) }
+    requires { KeepsPromise (resolved_of resolved) }
     ensures accepted { IfOk result (λ c. IsChecked (resolved_of resolved) (chart_of c)) }
     ensures refused { IfErr result (Refuses (resolved_of resolved)) }
 {

@@ -13,7 +13,7 @@ use command_files::{FileEnd, TextEnd, read_text, write_made};
 use flow_base::{Inputs, Sink};
 use std::alloc::Global;
 
-/// Writes the canonical text of the chart of the whole language that the file holds.
+/// Writes the canonical text of the chart that the file holds.
 pub fn format_chart<I: Inputs, O: Sink>(
     alloc: Global,
     first: &str,
@@ -29,7 +29,7 @@ pub fn format_chart<I: Inputs, O: Sink>(
     write_made(canonical, out)
 }
 
-/// The canonical text of the chart of the whole language that the file of that name holds.
+/// The canonical text of the chart that the file of that name holds.
 fn read_formatted<I: Inputs>(
     alloc: Global,
     inputs: &mut I,

@@ -9,7 +9,9 @@ use token_grammar::Span;
 /// Why a chart text is refused: the kind of its first fault, and its place.
 #[derive(Clone, Copy, Debug, PartialEq, Eq)]
 pub struct Refusal {
+    /// The kind of the fault.
     pub kind: FormKind,
+    /// The place of the fault.
     pub at: Span,
 }
 

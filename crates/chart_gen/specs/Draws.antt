@@ -11,7 +11,7 @@ use Rattle.chart_gen.specs.declared.draws.StateDraws.{StateDraws}
 unfoldable pub first_seed : ℕ → ℕ
 first_seed n = n % 2 ^ 31
 
--- the seed after a draw
+-- the seed after a draw; the numbers are those of the example of `rand` in the C standard (ISO/IEC 9899:2011, 7.22.2.2)
 unfoldable pub next : ℕ → ℕ
 next seed = (seed * 1103515245 + 12345) % 2 ^ 31
 

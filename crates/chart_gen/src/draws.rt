@@ -14,11 +14,11 @@ pub(crate) struct Sizes {
 /// What is drawn for a region before its states.
 #[derive(Clone, Copy)]
 pub(crate) struct RegionDraws {
-    /// Where `x` is greater, the junction leads to the destination.
+    /// The junction leads to the destination where `x` is greater than this.
     pub(crate) over: u32,
     /// The number of a state.
     pub(crate) destination: u32,
-    /// Where `x` is smaller, and not greater than `over`, the junction leads to the other one.
+    /// Else it leads to the other one where `x` is smaller than this.
     pub(crate) under: u32,
 }
 
@@ -40,12 +40,22 @@ pub(crate) struct StateDraws {
 pub(crate) struct EventDraws {
     /// The number of an event, 4 for a tick.
     pub(crate) event: u32,
-    /// The value of `x`, and 100.
+    /// The value of `x` plus 100.
     pub(crate) input: u32,
 }
 
 /// How many seeds there are.
 const SEEDS: u32 = 2_147_483_648;
+
+/// A seed is multiplied by this number at each draw, as in the example of `rand` in the C standard
+/// (ISO/IEC 9899:2011, 7.22.2.2), whose divisor below is used too.
+const MULTIPLIER: u64 = 1_103_515_245;
+
+/// This number is then added.
+const INCREMENT: u64 = 12_345;
+
+/// A seed divided by this number gives the number that is drawn.
+const DIVISOR: u32 = 65_536;
 
 /// The draws of a case, from a seed that each draw changes.
 #[derive(Drop)]
@@ -70,9 +80,9 @@ impl Draws {
         ensures below { result < k }
         ensures seed { self.new.seed ≡ spec.next self.old.seed }
     {
-        let next = u64::from(self.seed) * 1_103_515_245 + 12_345;
+        let next = u64::from(self.seed) * MULTIPLIER + INCREMENT;
         self.seed = (next % u64::from(SEEDS)) as u32;
-        self.seed / 65_536 % k
+        self.seed / DIVISOR % k
     }
 
     /// Draws the sizes of a chart.

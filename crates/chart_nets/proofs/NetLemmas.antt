@@ -18,7 +18,7 @@ use Rattle.resolved_tree.specs.declared.resolved.ResolvedDest.{ResolvedDest}
 use Rattle.resolved_tree.specs.declared.resolved.ResolvedDest.TheVariants as to
 use Rattle.resolved_tree.specs.Resolved.{Trans, Junction, State, Resolved}
 use Rattle.resolved_tree.specs.Plain.{plain_dest}
-use Rattle.resolved_tree.specs.Promise.{IsResolved, IsDest, IsTrans, AreTrans, IsStateOf}
+use Rattle.resolved_tree.specs.Promise.{KeepsPromise, IsDest, IsTrans, AreTrans, IsStateOf}
 use Rattle.chart_nets.specs.Nets.{arrow_of, node_of, junction_node_of, net_of}
 
 -- parts whose views are those of a net make that net
@@ -91,7 +91,7 @@ module _ (r : Resolved) where
   state_at (x ∷ ss) (suc s) lt =
       let at = state_at ss s (omega arith) in record { state = at.state; is = at.is; word = at.word }
 
-  pub is_net : IsResolved r → IsNet (net_of r)
+  pub is_net : KeepsPromise r → IsNet (net_of r)
   unfolding net_of list_of junction_list word_of
   is_net h = record {
     tree = h.tree;

@@ -3,7 +3,7 @@ ghost use Rattle.std.specs.Prelude.{◌≡◌, IfOk, map};
 ghost use Rattle.flow_base.specs.Lists.{items_of};
 ghost use Rattle.chart_structure.specs.Views as views;
 ghost use Rattle.resolved_tree.specs.Plain as plain;
-ghost use Rattle.resolved_tree.specs.Promise.{IsResolved};
+ghost use Rattle.resolved_tree.specs.Promise.{KeepsPromise};
 ghost use Rattle.resolved_tree.specs.Views.{trans_of, list_of, state_of, junction_of, resolved_of};
 ghost use Rattle.chart_nets.specs.Nets as spec;
 
@@ -109,7 +109,7 @@ fn junction_nodes(
 
 /// The net of a resolved chart, which has a tree of its own.
 fn build(alloc: Global, resolved: &Resolved) -> Result<Net, AllocError>
-    requires { IsResolved (resolved_of resolved.now) }
+    requires { KeepsPromise (resolved_of resolved.now) }
     ensures { IfOk result (λ n. n ≡ spec.net_of (resolved_of resolved.now)) }
 {
     let shape = copy_shape(alloc, &resolved.shape)?;
@@ -122,7 +122,7 @@ fn build(alloc: Global, resolved: &Resolved) -> Result<Net, AllocError>
 ///
 /// Fails only where memory does.
 pub fn net_of(alloc: Global, resolved: &Resolved) -> Result<Net, Memory>
-    requires { IsResolved (resolved_of resolved.now) }
+    requires { KeepsPromise (resolved_of resolved.now) }
     ensures { IfOk result (λ n. n ≡ spec.net_of (resolved_of resolved.now)) }
 {
     match build(alloc, resolved) {

@@ -103,8 +103,7 @@ pub record Fires (C : Program) (N : Numbers) (s : ℕ) (kind : ListKind) (now : 
   pub back : (v : World) (r : ℕ) → Reaches C (machine v now r below) (machine v now (fired_result C.tree s kind d) fs)
 
 -- a search came to an empty junction: a new frame of the end procedure stands on these frames; once it has returned
--- with
--- a result that isn't 0, the search's frame returns with it
+-- with a result that isn't 0, the search's frame returns with it
 pub record Ends (C : Program) (s : ℕ) (kind : ListKind) (now : Now) (fs : List Frame) (w : World) : Type 0 where
   pub result : ℕ
   pub tag : Option ℕ

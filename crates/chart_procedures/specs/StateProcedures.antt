@@ -1,6 +1,5 @@
--- The instructions of each kind of procedure of a state. Each takes what follows, and the case that it depends on, as
--- an
--- argument.
+-- The instructions of each kind of procedure of a state. Each takes as an argument what follows, and the case that it
+-- depends on.
 use Rattle.std.specs.Prelude.{◌==◌, ℕ, suc, List, [], ◌∷◌, reverse, Option, Some, None, Bool, true, false}
 use Rattle.active_config.specs.declared.comp.Comp.{Comp}
 use Rattle.active_config.specs.declared.comp.Comp.TheVariants.{Leaf, Or, And}
@@ -28,7 +27,7 @@ require c rest = instrs.Unless 1 c ∷ instrs.Skip 1 ∷ instrs.Ret 1 ∷ rest
 abbrev pub refuse : Cond → List Instr → List Instr
 refuse c rest = instrs.Unless 1 c ∷ instrs.Ret 1 ∷ rest
 
--- after a search: goes on after No and End, else returns with the result as it is
+-- after a search: goes on where it found no firing, or came to an empty junction; else returns with the result as it is
 abbrev pub unless_found : List Instr → List Instr
 unless_found rest = instrs.Unless 1 (instrs.Result 2) ∷ instrs.Skip 1 ∷ instrs.Pass ∷ rest
 

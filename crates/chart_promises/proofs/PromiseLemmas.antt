@@ -375,7 +375,7 @@ module _ (c : trees.Chart) (r : Resolved) (is : IsChart c) (res : IsResolutionOf
     root_is x e = root_kept (scopes_of c) c.root x is.inside is.stays (ap (λ l. slice_get l 0) (sym res.states) ∙ e)
 
     -- the resolved chart keeps the promise
-    pub keeps_promise : promise.IsResolved r
+    pub keeps_promise : promise.KeepsPromise r
     keeps_promise = record {
       tree = tree_is;
       sized = states_sized ∙ sym tree_count;

@@ -11,7 +11,7 @@ ghost use Rattle.chart_scope.specs.Resolution.{IsResolved};
 /// The resolved chart of a chart that meets the conditions of chart texts, and has no fault of
 /// names, keeps the promise of resolved charts.
 pub fn resolved_charts_keep_their_promise()
-    ensures { (c : trees.Chart) (r : Resolved) → IsChart c → IsResolved c r → promise.IsResolved r }
+    ensures { (c : trees.Chart) (r : Resolved) → IsChart c → IsResolved c r → promise.KeepsPromise r }
 {}
 
 /// A chart that meets the conditions of chart texts has fewer than 2^32 states, junctions, events

@@ -1,10 +1,10 @@
 -- Keeping the first of several faults.
-use Rattle.std.proofs.Common.{◌≡◌, ℕ, ◌<◌, Bool, true, false, Option, Some, None, refl, arith, inl, inr, ⊎_elim, cond}
+use Rattle.std.proofs.Common.{◌≡◌, ℕ, ◌<◌, Bool, true, false, Option, Some, None, refl, arith, cond}
 use Rattle.std.specs.Prelude.{◌⊎◌}
 use Rattle.std.proofs.lemmas.Bool.Decides.{nat_tests}
 use Rattle.chart_tree.specs.Form.{form_number}
 use Rattle.chart_tree.specs.declared.first.Found.{Found}
-use Rattle.chart_tree.specs.First.{comes_before, is_before, kept, earlier_of, IsFirst, IsOne, Passed}
+use Rattle.chart_tree.specs.First.{comes_before, is_before, kept, IsFirst, IsOne, Passed}
 
 -- (a, b, c) comes before (x, y, z)
 Before : ℕ → ℕ → ℕ → ℕ → ℕ → ℕ → Type 0
@@ -53,29 +53,3 @@ kept_old (Some f) g h a = go (is_before g f) refl
 pub first_of_passed : (F : Found → Type 0) (o : Option Found) → IsOne F o → ((f : Found) → F f → Passed o f) → IsFirst F o
 first_of_passed F None a b = b
 first_of_passed F (Some g) a b = (a, b)
-
-pub not_before_itself : (f : Found) → is_before f f ≡ false
-not_before_itself f = comes_before-irreflexive f.at.line f.at.column (form_number f.kind)
-
--- ---- the first of several sets
-
-comes_before-after : (a b c x y z u v w : ℕ) → comes_before a b c u v w ≡ false → comes_before u v w x y z ≡ false → comes_before a b c x y z ≡ false
-unfolding comes_before
-comes_before-after a b c x y z u v w p q = grind (arith, nat_tests)
-
--- the first of two sets is the earlier of their first ones
-pub first_union : (F G : Found → Type 0) (a b : Option Found) → IsFirst F a → IsFirst G b → IsFirst (λ f. F f ⊎ G f) (earlier_of a b)
-unfolding kept
-first_union F G None None p q = λ f h. ⊎_elim (p f) (q f) h
-first_union F G (Some x) None p q = (inl p.0, λ f h. ⊎_elim (p.1 f) (λ y. absurd (q f y)) h)
-first_union F G None (Some g) p q = (inr q.0, λ f h. ⊎_elim (λ x. absurd (p f x)) (q.1 f) h)
-first_union F G (Some x) (Some g) p q = go (is_before g x) refl
-  where
-    go : (t : Bool) → is_before g x ≡ t → IsFirst (λ f. F f ⊎ G f) (cond t (Some g) (Some x))
-    go true e = (inr q.0, λ f h. ⊎_elim (λ y. comes_before-through _ _ _ x.at.line x.at.column (form_number x.kind) _ _ _ (p.1 f y) e) (q.1 f) h)
-    go false e = (inl p.0, λ f h. ⊎_elim (p.1 f) (λ y. comes_before-after _ _ _ _ _ _ g.at.line g.at.column (form_number g.kind) (q.1 f y) e) h)
-
--- sets with the same faults have the same first one
-pub first_same : (F G : Found → Type 0) (o : Option Found) → ((f : Found) → F f → G f) → ((f : Found) → G f → F f) → IsFirst F o → IsFirst G o
-first_same F G None to from p = λ f h. p f (from f h)
-first_same F G (Some g) to from p = (to g p.0, λ f h. p.1 f (from f h))

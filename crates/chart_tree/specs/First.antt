@@ -36,8 +36,3 @@ IsOne F (Some f) = F f
 abbrev pub Passed : Option Found → Found → Type 0
 Passed None f = ⊥
 Passed (Some g) f = is_before f g ≡ false
-
--- the earlier of two faults
-abbrev pub earlier_of : Option Found → Option Found → Option Found
-earlier_of a None = a
-earlier_of a (Some g) = kept a g

@@ -82,7 +82,7 @@ impl FormKind {
         }
     }
 
-    /// The number that stands before the name in a refusal.
+    /// The number that stands before the name in a refusal, 1 to 26. There is no 25.
     pub fn number(&self) -> u8
         ensures { result ≡ form_number self.now }
     {

@@ -4,7 +4,7 @@ ghost use Rattle.std.specs.List.{AllByRecursion, flat_map};
 ghost use Rattle.flow_base.specs.Lists.{items_of};
 ghost use Rattle.actions.specs.Names.{names_of};
 ghost use Rattle.resolved_tree.specs.Faults.{first_with, first_of};
-ghost use Rattle.resolved_tree.specs.Promise.{IsResolved, IsStateOf, AreTrans};
+ghost use Rattle.resolved_tree.specs.Promise.{KeepsPromise, IsStateOf, AreTrans};
 ghost use Rattle.resolved_tree.specs.Resolved.{Junction};
 ghost use Rattle.resolved_tree.specs.Views.{state_of, junction_of, resolved_of};
 ghost use Rattle.chart_types.specs.Types as spec;
@@ -79,7 +79,7 @@ fn with_junctions(
 /// no memory.
 #[tactic(auto, using(crate::proofs::FaultLemmas::steps), unfolding(resolved_tree::specs::Faults::first_of, crate::specs::Types::type_faults))]
 pub fn first_type_fault(resolved: &Resolved) -> Option<Found>
-    requires { IsResolved (resolved_of resolved.now) }
+    requires { KeepsPromise (resolved_of resolved.now) }
     ensures { result ≡ first_of (spec.type_faults (resolved_of resolved.now)) }
 {
     let found = with_inits(resolved.names.vars.items(), resolved.inits.items(), None);

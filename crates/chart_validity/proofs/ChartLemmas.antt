@@ -8,7 +8,7 @@ use Rattle.state_tree.specs.Counts.{IsWithinLimits}
 use Rattle.state_tree.specs.Valid as valid
 use Rattle.resolved_tree.specs.Resolved.{Junction, Resolved}
 use Rattle.resolved_tree.specs.Plain.{plain_block, plain_list, plain_node, chart_of}
-use Rattle.resolved_tree.specs.Promise.{IsResolved}
+use Rattle.resolved_tree.specs.Promise.{KeepsPromise}
 use Rattle.chart_structure.specs.Charts.{net_of_chart}
 use Rattle.chart_structure.specs.Net.{word_of}
 use Rattle.chart_structure.specs.Structure.{StructureFault, PairFault}
@@ -24,7 +24,7 @@ use Rattle.chart_validity.proofs.TypeLemmas.{states_valid, junctions_valid}
 use Rattle.chart_validity.proofs.NetLemmas.{state_at, chart_node, is_net}
 use Rattle.chart_validity.proofs.ErasedLemmas.{net_same}
 
-module _ (r : Resolved) (res : IsResolved r) where
+module _ (r : Resolved) (res : KeepsPromise r) where
   -- ---- structure
 
   words_are : nets.IsValid (net_of r) → (s : ℕ) → s < state_count r.tree → word_of (net_of r) s ≡ comp_of r.tree s

@@ -5,7 +5,7 @@ use Rattle.chart_tree.specs.declared.first.Found.{Found}
 use Rattle.state_tree.specs.Valid as valid
 use Rattle.resolved_tree.specs.Resolved.{Resolved}
 use Rattle.resolved_tree.specs.Plain.{chart_of}
-use Rattle.resolved_tree.specs.Promise.{IsResolved}
+use Rattle.resolved_tree.specs.Promise.{KeepsPromise}
 use Rattle.chart_structure.specs.Net.{word_of}
 use Rattle.chart_structure.specs.Structure.{StructureFault, PairFault}
 use Rattle.chart_structure.specs.Valid as nets
@@ -16,7 +16,7 @@ use Rattle.chart_validity.proofs.BareLemmas.{valid_by_erased}
 use Rattle.chart_validity.proofs.ErasedLemmas.{net_same}
 use Rattle.chart_validity.proofs.NetLemmas.{is_net}
 
-module _ (r : Resolved) (res : IsResolved r)
+module _ (r : Resolved) (res : KeepsPromise r)
     (words : (s : ℕ) → s < state_count r.tree → word_of (net_of r) s ≡ comp_of r.tree s)
     (v : valid.IsValid (chart_of r)) where
   net_valid : nets.IsValid (net_of r)

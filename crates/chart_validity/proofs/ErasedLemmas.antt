@@ -12,7 +12,7 @@ use Rattle.state_tree.specs.Chart as charts
 use Rattle.resolved_tree.specs.declared.resolved.Ref.{Ref}
 use Rattle.resolved_tree.specs.Resolved.{Guard, Trans, Junction, State, Resolved}
 use Rattle.resolved_tree.specs.Plain.{plain_expr, plain_dest, plain_trans, plain_list, plain_node, chart_of}
-use Rattle.resolved_tree.specs.Promise.{IsResolved}
+use Rattle.resolved_tree.specs.Promise.{KeepsPromise}
 use Rattle.chart_structure.specs.declared.net.Arrow.{Arrow}
 use Rattle.chart_structure.specs.Net.{Node, JunctionNode, Net, nowhere, no_node, word_of}
 use Rattle.chart_structure.specs.Charts.{arrow_of_trans, node_of_state, node_of_junction, net_of_chart}
@@ -88,7 +88,7 @@ junctions_same (j ∷ js) =
 abbrev net_with : Tree → List Node → List JunctionNode → Net
 net_with t ns js = record { tree = t; nodes = ns; junctions = js }
 
-module _ (r : Resolved) (res : IsResolved r)
+module _ (r : Resolved) (res : KeepsPromise r)
     (words : (s : ℕ) → s < state_count r.tree → word_of (net_of r) s ≡ comp_of r.tree s) where
   node_at : (s : ℕ) → s < state_count r.tree
       → get_or (map erase_node (net_of r).nodes) s no_node ≡ bare_node (comp_of r.tree s) (charts.node (chart_of r) s)

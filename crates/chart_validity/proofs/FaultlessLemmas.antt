@@ -24,7 +24,7 @@ use Rattle.resolved_tree.specs.Resolved.{Expr, Lit, Flag, Name, Active, Unary, B
 use Rattle.resolved_tree.specs.Resolved.{Guard, Trans, Junction, State, Resolved}
 use Rattle.resolved_tree.specs.Plain.{plain_expr, op_of, plain_stmt, plain_block, plain_trans, plain_list, plain_node}
 use Rattle.resolved_tree.specs.Plain.{plain_names, chart_of}
-use Rattle.resolved_tree.specs.Promise.{IsStmt, IsBlock, IsTrans, AreTrans, IsStateOf, IsResolved}
+use Rattle.resolved_tree.specs.Promise.{IsStmt, IsBlock, IsTrans, AreTrans, IsStateOf, KeepsPromise}
 use Rattle.chart_types.specs.Types.{sort_at, unary_sort, operator_fault, unary_fault, binary_fault, expr_faults}
 use Rattle.chart_types.specs.Types.{no_flag, guard_faults, to_input, unfit, unless_local, unless_output, if_output}
 use Rattle.chart_types.specs.Types.{assignment_faults, stmt_faults, block_faults, trigger_faults, trans_faults}
@@ -118,7 +118,7 @@ no_kind_fault name events.Input at ne = refl
 no_kind_fault name events.Local at ne = refl
 no_kind_fault name events.Output at ne = absurd (ne refl)
 
-module _ (r : Resolved) (res : IsResolved r) where
+module _ (r : Resolved) (res : KeepsPromise r) where
   -- an expression has in the text the sort that it has in the chart
   sort_back : (e : Expr) (sort : ExprSort) → sort_of (scope_of (plain_names r)) (plain_expr e) ≡ Ok sort
       → sort_at (scope_of r.names) e ≡ Ok sort

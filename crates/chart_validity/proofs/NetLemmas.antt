@@ -13,7 +13,7 @@ use Rattle.resolved_tree.specs.declared.resolved.ResolvedDest.{ResolvedDest}
 use Rattle.resolved_tree.specs.declared.resolved.ResolvedDest.TheVariants as to
 use Rattle.resolved_tree.specs.Resolved.{Trans, Junction, State, Resolved}
 use Rattle.resolved_tree.specs.Plain.{plain_dest, plain_node, chart_of}
-use Rattle.resolved_tree.specs.Promise.{IsDest, IsTrans, AreTrans, IsStateOf, IsResolved}
+use Rattle.resolved_tree.specs.Promise.{IsDest, IsTrans, AreTrans, IsStateOf, KeepsPromise}
 use Rattle.chart_structure.specs.declared.net.Arrow.{Arrow}
 use Rattle.chart_structure.specs.Net as nets
 use Rattle.chart_structure.specs.Net.{IsNet, Has, no_node, no_junction, node_list, word_of, list_of, junction_count}
@@ -22,7 +22,7 @@ use Rattle.chart_structure.proofs.MapLemmas.{from_map, into_map}
 use Rattle.chart_nets.specs.Nets.{arrow_of, node_of, junction_node_of, net_of}
 use Rattle.chart_validity.proofs.ListLemmas.{there, one_of}
 
-module _ (r : Resolved) (res : IsResolved r) where
+module _ (r : Resolved) (res : KeepsPromise r) where
   -- ---- look-ups
 
   -- the state of a number

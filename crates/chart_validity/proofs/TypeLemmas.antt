@@ -25,7 +25,7 @@ use Rattle.resolved_tree.specs.Resolved.{Expr, Stmt, Assign, Send, Emit, Guard, 
 use Rattle.resolved_tree.specs.Plain.{plain_expr, plain_stmt, plain_block, plain_dest, plain_trans, plain_list}
 use Rattle.resolved_tree.specs.Plain.{plain_node, plain_names, chart_of}
 use Rattle.resolved_tree.specs.Promise.{IfThere, IsEvent, IsExpr, IsStmt, IsBlock, IsDest, IsTrans, AreTrans, IsStateOf}
-use Rattle.resolved_tree.specs.Promise.{IsResolved}
+use Rattle.resolved_tree.specs.Promise.{KeepsPromise}
 use Rattle.chart_types.specs.Types.{sort_at, expr_faults, no_flag, guard_faults, to_input, unfit, unfit_value}
 use Rattle.chart_types.specs.Types.{assignment_faults, unless_local, unless_output, stmt_faults, block_faults}
 use Rattle.chart_types.specs.Types.{if_output, trigger_faults, trans_faults, list_faults, state_faults}
@@ -79,7 +79,7 @@ flag_sorted (Ok gives.Flag) at h none = refl
 flag_sorted (Ok (gives.Number frac size)) at h none = absurd cc
 flag_sorted (Err fault) at h none = absurd (let e = h.1 in cc)
 
-module _ (r : Resolved) (res : IsResolved r) where
+module _ (r : Resolved) (res : KeepsPromise r) where
   -- an expression has in the chart the sort that it has in the text
   sort_kept : (e : Expr) (s : Sorted) → sort_at (scope_of r.names) e ≡ s
       → sort_of (scope_of (plain_names r)) (plain_expr e) ≡ s

@@ -1,10 +1,7 @@
 -- Where every procedure keeps to what is asked of it, and heights and works to their limits, code has no fault.
-use Rattle.std.proofs.Common.{◌≡◌, ℕ, zero, suc, ◌+◌, ◌<◌, ◌≤◌, Bool, true, false, List, [], ◌∷◌, ◌++◌, length}
-use Rattle.std.proofs.Common.{Option, Some, None, refl, ap, ◌∙◌, subst, arith, length-append}
-use Rattle.std.specs.Prelude.{slice_get, slice_index, nat_lt, not, ◌&&◌}
-use Rattle.std.proofs.lemmas.Bool.{ltb-true}
-use Rattle.std.proofs.lemmas.Bool.Decides.{nat_tests}
-use Rattle.active_config.specs.Tree.{state_count}
+use Rattle.std.proofs.Common.{◌≡◌, ℕ, suc, ◌+◌, ◌≤◌, Bool, true, false, List, [], ◌∷◌, length}
+use Rattle.std.proofs.Common.{Option, Some, None, refl, ap, ◌∙◌, subst, arith}
+use Rattle.std.specs.Prelude.{slice_index, nat_lt, not, ◌&&◌}
 use Rattle.code_form.specs.Instrs.{On, Bare, OnHome, BareHome, Current, Result as ResultIs, Test, Last, Instr}
 use Rattle.code_form.specs.Instrs.{Assign, Emit, Mark, Clear, Keep, Unless, Skip, Call, Visit, Send, SendTo, Play}
 use Rattle.code_form.specs.Instrs.{Home, Begin, Pass, Ret}
@@ -12,10 +9,10 @@ use Rattle.code_form.specs.declared.fault.CodeKind.{CodeKind}
 use Rattle.code_form.specs.declared.fault.CodeKind.TheVariants as kinds
 use Rattle.code_form.specs.declared.fault.CodeFault.{CodeFault}
 use Rattle.code_form.specs.WellFormed.{Known, with_procs}
-use Rattle.code_form.specs.WellFormed.{first_of, unless, note_known, expr_known, cond_known, cond_typed, cond_keeps}
+use Rattle.code_form.specs.WellFormed.{first_of, unless, cond_keeps}
 use Rattle.code_form.specs.WellFormed.{instr_known, skips_within, calls_lower, instr_typed, last_returns}
 use Rattle.code_form.specs.WellFormed.{instr_keeps, instr_fault, instrs_fault, proc_fault, procs_fault, first_over}
-use Rattle.code_form.specs.Sound.{CallsBelow, IsSound, AreSound, EndsInRet, IsProc, AreProcs}
+use Rattle.code_form.specs.Sound.{IsSound, AreSound, EndsInRet, IsProc, AreProcs}
 
 -- a test that holds passes on to what comes later
 pub passes : (b : Bool) (kind : CodeKind) (p i : ℕ) (later : Option CodeFault) → b ≡ true
@@ -103,77 +100,6 @@ pub second_true : (a b : Bool) → (a && b) ≡ true → b ≡ true
 second_true true b h = h
 second_true false b h = cc
 
--- a number below another is below a greater one
-lt_more : (q n m : ℕ) → n ≤ m → nat_lt q n ≡ true → nat_lt q m ≡ true
-lt_more q n m le h = let k : q < n = ltb-true q n h in let k' : q < m = omega arith in grind (arith, nat_tests)
-
--- a note stays known
-note_more : (K : Known) (n : ℕ) (tag : Option ℕ) → K.procs ≤ n → note_known K tag ≡ true
-    → note_known (with_procs K n) tag ≡ true
-note_more K n None le h = refl
-note_more K n (Some p) le h = lt_more p K.procs n le h
-
--- what an instruction names stays known
-known_more : (K : Known) (n : ℕ) (x : Instr) → K.procs ≤ n → instr_known K x ≡ true
-    → instr_known (with_procs K n) x ≡ true
-unfolding instr_known expr_known cond_known
-known_more K n (Call p tag) le h =
-    both_true (nat_lt p n) (note_known (with_procs K n) tag) (lt_more p K.procs n le (first_true (nat_lt p K.procs) (note_known K tag) h)) (note_more K n tag le (second_true (nat_lt p K.procs) (note_known K tag) h))
-known_more K n (Visit p tag) le h =
-    both_true (nat_lt p n) (note_known (with_procs K n) tag) (lt_more p K.procs n le (first_true (nat_lt p K.procs) (note_known K tag) h)) (note_more K n tag le (second_true (nat_lt p K.procs) (note_known K tag) h))
-known_more K n (SendTo e s p) le h =
-    let event = nat_lt e (length K.names.events) in
-    let there = nat_lt s (state_count K.tree) in
-    let rest = second_true event (there && nat_lt p K.procs) h in
-    both_true event (there && nat_lt p n) (first_true event (there && nat_lt p K.procs) h) (both_true there (nat_lt p n) (first_true there (nat_lt p K.procs) rest) (lt_more p K.procs n le (second_true there (nat_lt p K.procs) rest)))
-known_more K n (Assign v x) le h = h
-known_more K n (Emit e) le h = h
-known_more K n (Mark s) le h = h
-known_more K n (Clear s) le h = h
-known_more K n (Keep s) le h = h
-known_more K n (Unless k (On s)) le h = h
-known_more K n (Unless k (Bare s)) le h = h
-known_more K n (Unless k OnHome) le h = h
-known_more K n (Unless k BareHome) le h = h
-known_more K n (Unless k (Current e)) le h = h
-known_more K n (Unless k (ResultIs r)) le h = h
-known_more K n (Unless k (Test x)) le h = h
-known_more K n (Unless k (Last s)) le h = h
-known_more K n (Skip k) le h = h
-known_more K n (Send e) le h = h
-known_more K n Play le h = h
-known_more K n (Home s) le h = h
-known_more K n Begin le h = h
-known_more K n Pass le h = h
-known_more K n (Ret r) le h = h
-
--- its types stay right
-typed_more : (K : Known) (n : ℕ) (x : Instr) → instr_typed K x ≡ true → instr_typed (with_procs K n) x ≡ true
-unfolding instr_typed cond_typed
-typed_more K n (Call p tag) h = h
-typed_more K n (Visit p tag) h = h
-typed_more K n (SendTo e s p) h = h
-typed_more K n (Assign v x) h = h
-typed_more K n (Emit e) h = h
-typed_more K n (Mark s) h = h
-typed_more K n (Clear s) h = h
-typed_more K n (Keep s) h = h
-typed_more K n (Unless k (On s)) h = h
-typed_more K n (Unless k (Bare s)) h = h
-typed_more K n (Unless k OnHome) h = h
-typed_more K n (Unless k BareHome) h = h
-typed_more K n (Unless k (Current e)) h = h
-typed_more K n (Unless k (ResultIs r)) h = h
-typed_more K n (Unless k (Test x)) h = h
-typed_more K n (Unless k (Last s)) h = h
-typed_more K n (Skip k) h = h
-typed_more K n (Send e) h = h
-typed_more K n Play h = h
-typed_more K n (Home s) h = h
-typed_more K n Begin h = h
-typed_more K n Pass h = h
-typed_more K n (Ret r) h = h
-
 -- it keeps what it kept
 keeps_more : (K : Known) (n : ℕ) (x : Instr) → instr_keeps K x ≡ true → instr_keeps (with_procs K n) x ≡ true
 unfolding instr_keeps cond_keeps
@@ -200,57 +126,6 @@ keeps_more K n (Home s) h = h
 keeps_more K n Begin h = h
 keeps_more K n Pass h = h
 keeps_more K n (Ret r) h = h
-
--- sound instructions stay sound
-sound_more : (K : Known) (n p behind : ℕ) (is : List Instr) → K.procs ≤ n → AreSound K p behind is
-    → AreSound (with_procs K n) p behind is
-sound_more K n p behind [] le h = tt
-sound_more K n p behind (x ∷ is) le h =
-    (record { known = known_more K n x le h.0.known; within = h.0.within; lower = h.0.lower; typed = typed_more K n x h.0.typed; keeps = keeps_more K n x h.0.keeps }, sound_more K n p behind is le h.1)
-
--- a procedure stays right in code of more procedures
-pub proc_more : (K : Known) (n p : ℕ) (is : List Instr) → K.procs ≤ n → IsProc K p is → IsProc (with_procs K n) p is
-proc_more K n p is le h = record { sound = sound_more K n p 0 is le h.sound; ends = h.ends }
-
--- and so do procedures
-pub procs_more : (K : Known) (n p : ℕ) (ps : List (List Instr)) → K.procs ≤ n → AreProcs K p ps
-    → AreProcs (with_procs K n) p ps
-procs_more K n p [] le h = tt
-procs_more K n p (is ∷ ps) le h = (proc_more K n p is le h.0, procs_more K n (suc p) ps le h.1)
-
--- sound procedures behind sound ones
-pub procs_append : (K : Known) (p : ℕ) (ps qs : List (List Instr)) → AreProcs K p ps
-    → AreProcs K (p + length ps) qs → AreProcs K p (ps ++ qs)
-procs_append K p [] qs h k = let n : p + length {A = List Instr} [] ≡ p = omega arith in subst (λ i. AreProcs K i qs) n k
-procs_append K p (is ∷ ps) qs h k = let n : p + suc (length ps) ≡ suc p + length ps = omega arith in (h.0, procs_append K (suc p) ps qs h.1 (subst (λ i. AreProcs K i qs) n k))
-
--- each of them is sound
-pub procs_at : (K : Known) (p : ℕ) (ps : List (List Instr)) (k : ℕ) (is : List Instr) → AreProcs K p ps
-    → slice_get ps k ≡ Some is → IsProc K (p + k) is
-procs_at K p [] k is h e = absurd (cc e)
-procs_at K p (js ∷ ps) zero is h e = let q : js ≡ is = cc e in let n : p ≡ p + 0 = omega arith in subst (λ i. IsProc K i is) n (subst (λ l. IsProc K p l) q h.0)
-procs_at K p (js ∷ ps) (suc k) is h e = let n : suc p + k ≡ p + suc k = omega arith in subst (λ i. IsProc K i is) n (procs_at K (suc p) ps k is h.1 e)
-
--- ---- lists of sound instructions
-
--- sound instructions behind sound ones
-pub sound_append : (K : Known) (p behind : ℕ) (xs ys : List Instr) → AreSound K p (length ys + behind) xs
-    → AreSound K p behind ys → AreSound K p behind (xs ++ ys)
-sound_append K p behind [] ys h k = k
-sound_append K p behind (x ∷ xs) ys h k =
-    let n : length xs + (length ys + behind) ≡ length (xs ++ ys) + behind = omega (arith, length-append xs ys) in
-    (subst (λ m. IsSound K p m x) n h.0, sound_append K p behind xs ys h.1 k)
-
--- what ends in a return does so behind others
-pub ends_append : (xs : List Instr) (y : Instr) (ys : List Instr) → EndsInRet (y ∷ ys) → EndsInRet (xs ++ y ∷ ys)
-ends_append [] y ys h = h
-ends_append (x ∷ []) y ys h = h
-ends_append (x ∷ (x' ∷ xs)) y ys h = ends_append (x' ∷ xs) y ys h
-
--- the calls of sound instructions go lower
-pub sound_calls : (K : Known) (p behind : ℕ) (is : List Instr) → AreSound K p behind is → CallsBelow p is
-sound_calls K p behind [] h = tt
-sound_calls K p behind (x ∷ is) h = (h.0.lower, sound_calls K p behind is h.1)
 
 -- ---- and the other way round: what has no fault is right
 

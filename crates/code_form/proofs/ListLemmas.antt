@@ -1,7 +1,7 @@
 -- Lists from a place on, and tests of what is mapped.
 use Rattle.std.proofs.Common.{◌≡◌, ℕ, zero, suc, ◌+◌, ◌-◌, ◌<◌, ◌≤◌, ◌||◌, ◌&&◌, Bool, true, false, List, [], ◌∷◌}
 use Rattle.std.proofs.Common.{length, map, take, drop, get_or, refl, sym, ap, ◌∙◌, arith, drop-cons}
-use Rattle.std.specs.List.{list_any, list_all}
+use Rattle.std.specs.List.{list_all}
 use Rattle.std.proofs.lemmas.List.{length-drop, take_all}
 
 -- the list from a place on begins with what stands there
@@ -29,12 +29,6 @@ drop_past (x ∷ xs) (suc i) h = drop_past xs i (omega arith)
 -- the elements from one on, taken to the end
 pub rest_of : {X : Type 0} (xs : List X) (i : ℕ) → take (length xs - i) (drop i xs) ≡ drop i xs
 rest_of xs i = take_all (length xs - i) (drop i xs) (omega (arith, length-drop i xs))
-
--- a test of what each element is mapped to
-pub list_any-map : {X Y : Type 0} (p : Y → Bool) (f : X → Y) (xs : List X)
-    → list_any p (map f xs) ≡ list_any (λ x. p (f x)) xs
-list_any-map p f [] = refl
-list_any-map p f (x ∷ xs) = ap (λ b. p (f x) || b) (list_any-map p f xs)
 
 -- and one that holds of all
 pub list_all-map : {X Y : Type 0} (p : Y → Bool) (f : X → Y) (xs : List X)

@@ -1,6 +1,6 @@
 -- How heights and works are reckoned, procedure by procedure.
 use Rattle.std.proofs.Common.{◌≡◌, ℕ, zero, suc, ◌+◌, ◌*◌, ◌<◌, ◌≤◌, max, List, [], ◌∷◌, ◌++◌, length, drop, get_or}
-use Rattle.std.proofs.Common.{None, refl, sym, ap, ◌∙◌, subst, arith, length-append}
+use Rattle.std.proofs.Common.{None, sym, ap, ◌∙◌, subst, arith, length-append}
 use Rattle.std.specs.Prelude.{slice_index, reverse}
 use Rattle.std.proofs.lemmas.List.{reverse-append, length-map}
 use Rattle.code_form.specs.declared.fault.CodeKind.{CodeKind}
@@ -33,9 +33,6 @@ pub record Counted (F : (ℕ → ℕ) → List code.Instr
   pub size : length ns ≡ i
 
 module _ (F : (ℕ → ℕ) → List code.Instr → ℕ) (limit : ℕ) (ps : List (List code.Instr)) where
-  -- before the first one
-  pub counted_none : Counted F limit 0 0 [] ps
-  counted_none = record { rest = refl; most = refl; within = omega arith; size = refl }
 
   -- one more procedure, whose number isn't over the limit
   pub counted_more : (i most h : ℕ) (ns : List ℕ) (is : List code.Instr) → Counted F limit i most ns ps

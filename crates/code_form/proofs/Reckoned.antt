@@ -22,12 +22,6 @@ at_front [] ms p h = absurd (omega arith)
 at_front (x ∷ ns) ms zero h = refl
 at_front (x ∷ ns) ms (suc p) h = at_front ns ms p (omega arith)
 
--- and numbers behind them make none less
-pub at_most_front : (ns ms : List ℕ) (p : ℕ) → slice_index ns p ≤ slice_index (ns ++ ms) p
-at_most_front [] ms p = omega arith
-at_most_front (x ∷ ns) ms zero = omega arith
-at_most_front (x ∷ ns) ms (suc p) = at_most_front ns ms p
-
 module _ (F : (ℕ → ℕ) → List Instr → ℕ) where
   -- the numbers of the procedures alone
   later : List ℕ → List (List Instr) → List ℕ
@@ -42,26 +36,10 @@ module _ (F : (ℕ → ℕ) → List Instr → ℕ) where
       let x = F (slice_index ns) is in
       reckon_later ps (ns ++ x ∷ []) ∙ append_assoc ns (x ∷ []) (later (ns ++ x ∷ []) ps)
 
-  -- procedures that are appended come after those that were there
-  pub reckon_append : (ps qs : List (List Instr)) (ns : List ℕ) → reckon F ns (ps ++ qs) ≡ reckon F (reckon F ns ps) qs
-  unfolding reckon
-  reckon_append [] qs ns = refl
-  reckon_append (is ∷ ps) qs ns = reckon_append ps qs (ns ++ F (slice_index ns) is ∷ [])
-
-  -- there is a number for each procedure
-  pub reckon_length : (ps : List (List Instr)) (ns : List ℕ) → length (reckon F ns ps) ≡ length ns + length ps
-  unfolding reckon
-  reckon_length [] ns = omega arith
-  reckon_length (is ∷ ps) ns = omega (arith, reckon_length ps (ns ++ F (slice_index ns) is ∷ []), length-append ns (F (slice_index ns) is ∷ []))
-
   -- numbers that were there stay
   pub reckon_keeps : (ps : List (List Instr)) (ns : List ℕ) (p : ℕ) → p < length ns
       → slice_index (reckon F ns ps) p ≡ slice_index ns p
   reckon_keeps ps ns p h = ap (λ l. slice_index l p) (reckon_later ps ns) ∙ at_front ns (later ns ps) p h
-
-  -- no number that was there is greater
-  pub reckon_above : (ps : List (List Instr)) (ns : List ℕ) (p : ℕ) → slice_index ns p ≤ slice_index (reckon F ns ps) p
-  reckon_above ps ns p = subst (λ l. slice_index ns p ≤ slice_index l p) (sym (reckon_later ps ns)) (at_most_front ns (later ns ps) p)
 
   -- the number of the procedure that comes next
   pub reckon_here : (ns : List ℕ) (is : List Instr) (ps : List (List Instr))
@@ -80,23 +58,6 @@ module _ (F : (ℕ → ℕ) → List Instr → ℕ) where
     -- one more number
     one_longer : (ns : List ℕ) (x : ℕ) → length (ns ++ x ∷ []) ≡ suc (length ns)
     one_longer ns x = omega (arith, length-append ns (x ∷ []))
-
-    -- no procedure has more than its instructions give with the numbers of all
-    pub reckon_at_most : (ps : List (List Instr)) (ns : List ℕ) (k : ℕ) (is : List Instr)
-        → slice_get ps k ≡ Some is
-        → slice_index (reckon F ns ps) (length ns + k) ≤ F (slice_index (reckon F ns ps)) is
-    unfolding reckon
-    reckon_at_most [] ns k is e = absurd (cc e)
-    reckon_at_most (js ∷ ps) ns zero is e =
-        let q : js ≡ is = cc e in
-        let n : length ns + 0 ≡ length ns = omega arith in
-        let here = ap (λ i. slice_index (reckon F ns (js ∷ ps)) i) n ∙ reckon_here ns js ps in
-        let up = measure.grows (slice_index ns) (slice_index (reckon F ns (js ∷ ps))) js (λ p. reckon_above (js ∷ ps) ns p) in
-        subst (λ l. slice_index (reckon F ns (js ∷ ps)) (length ns + 0) ≤ F (slice_index (reckon F ns (js ∷ ps))) l) q (omega (arith, here, up))
-    reckon_at_most (js ∷ ps) ns (suc k) is e =
-        let x = F (slice_index ns) js in
-        let n : length (ns ++ x ∷ []) + k ≡ length ns + suc k = omega (arith, one_longer ns x) in
-        subst (λ i. slice_index (reckon F (ns ++ x ∷ []) ps) i ≤ F (slice_index (reckon F (ns ++ x ∷ []) ps)) is) n (reckon_at_most ps (ns ++ x ∷ []) k is e)
 
     -- where its calls go lower, it has exactly that
     pub reckon_is : (ps : List (List Instr)) (ns : List ℕ) (k : ℕ) (is : List Instr) → slice_get ps k ≡ Some is

@@ -1,5 +1,5 @@
 -- What is tested of the tables, as lists of the code have it.
-use Rattle.std.proofs.Common.{◌≡◌, ◌≢◌, ℕ, suc, ◌+◌, ◌<◌, ◌≤◌, ◌||◌, ◌&&◌, not, Bool, true, false, cond, ℤ, List, []}
+use Rattle.std.proofs.Common.{◌≡◌, ◌≢◌, ℕ, suc, ◌+◌, ◌<◌, ◌≤◌, ◌&&◌, not, Bool, true, false, cond, ℤ, List, []}
 use Rattle.std.proofs.Common.{◌∷◌, length, map, drop, get_or, Option, Some, None, is_some, refl, sym, ap, ◌∙◌, subst}
 use Rattle.std.proofs.Common.{arith}
 use Rattle.std.specs.Prelude.{IsSomeAnd, is_none, slice_index_or, unwrap_or, Result, Ok, Err, IfOk, OnOk}
@@ -16,10 +16,9 @@ use Rattle.active_config.specs.Tree.{Tree, IsTree, tree_of, parents_of, parent_o
 use Rattle.active_config.proofs.PathLemmas.{parent_lt, ancestors-step, ancestors-root}
 use Rattle.actions.proofs.SizeLemmas.{floored_at_own}
 use Rattle.actions.specs.declared.names.EventDecl.{EventDecl}
-use Rattle.actions.specs.declared.names.Var.{Var}
 use Rattle.code_form.specs.declared.code.RawState.{RawState}
-use Rattle.code_form.specs.Acceptance.{has_parents, parent_or_0, comp_written, has_twin, has_no_twins, names_var}
-use Rattle.code_form.specs.Acceptance.{names_event, vars_differ, events_differ}
+use Rattle.code_form.specs.Acceptance.{has_parents, parent_or_0, comp_written, has_twin, has_no_twins}
+use Rattle.code_form.specs.Acceptance.{names_event, events_differ}
 use Rattle.code_form.specs.Code.{tree_of_states}
 use Rattle.code_form.proofs.ListLemmas.{drop_at}
 
@@ -46,12 +45,6 @@ exact_in_range scale m =
 pub events_differ-drop : (xs : List EventDecl) (i : ℕ) (x : EventDecl) → i < length xs → x ≡ get_or xs i x
     → events_differ (drop i xs) ≡ (not (names_event x.name (drop (i + 1) xs)) && events_differ (drop (i + 1) xs))
 events_differ-drop xs i x lt is = ap events_differ (drop_at xs i x lt is)
-
--- the same for the data
-pub vars_differ-drop : (es : List EventDecl) (xs : List Var) (i : ℕ) (x : Var) → i < length xs → x ≡ get_or xs i x
-    → vars_differ (drop i xs) es
-    ≡ (not (names_var x.name (drop (i + 1) xs) || names_event x.name es) && vars_differ (drop (i + 1) xs) es)
-vars_differ-drop es xs i x lt is = ap (λ l. vars_differ l es) (drop_at xs i x lt is)
 
 -- and for the states
 pub no_twins-drop : (xs : List RawState) (i : ℕ) (x : RawState) → i < length xs → x ≡ get_or xs i x

@@ -1,12 +1,9 @@
 -- Files that are read, and what is left of them.
 use Rattle.std.proofs.Common.{◌≡◌, ℕ, ◌+◌, ◌<◌, ◌≤◌, List, [], ◌∷◌, ◌++◌, Option, Some, None, Result, Ok, Err}
-use Rattle.std.proofs.Common.{length, replicate, refl, sym, ap, subst, ◌∙◌, append-nil, arith, inl, inr}
+use Rattle.std.proofs.Common.{length, replicate, refl, sym, ap, subst, ◌∙◌, append-nil, arith}
 use Rattle.std.specs.Prelude.{IfSome, Vec}
 use Rattle.std.specs.declared.alloc.Global.{Global}
-use Rattle.std.specs.Str.{bytes_eq}
-use Rattle.std.proofs.lemmas.Bool.{cases_Bool}
 use Rattle.std.proofs.lemmas.List.{length-replicate}
-use Rattle.std.proofs.lemmas.Slice.Eq.{bytes_eq-Decides}
 use Rattle.std.specs.Io.KnownBytes.{prepend_known, IsAtEnd}
 use Rattle.flow_base.specs.Causes.{OthersKept}
 use Rattle.command_files.specs.declared.file.FileEnd.{FileEnd}
@@ -32,14 +29,6 @@ told_whole None after text whole end = tt
 told_whole (Some t) None text whole end = absurd (let k = whole in cc)
 told_whole (Some t) (Some rest) text whole end =
     let same : t ≡ text ++ rest = let k = whole in cc in sym (same ∙ ap (λ (r : List ℕ). text ++ r) end ∙ append-nil text)
-
--- a file that was read to its end has nothing left, where that is told
-pub left_whole : (told after : Option (List ℕ)) (text : List ℕ) → told ≡ prepend_known text after → IsAtEnd after
-    → after ≡ read_out told
-left_whole None None text whole end = refl
-left_whole None (Some rest) text whole end = absurd (let k = whole in cc)
-left_whole (Some t) None text whole end = absurd (let k = whole in cc)
-left_whole (Some t) (Some rest) text whole end = ap Some end
 
 -- nothing is left of a file that was read to its end
 pub read_out-IsAtEnd : (left : Option (List ℕ)) → IsAtEnd (read_out left)
@@ -92,25 +81,11 @@ pub one_named : (before after : Sources) (first : List ℕ) → OthersKept first
     → OthersStay (first ∷ []) before after
 one_named before after first kept other h = kept other h.0
 
--- of two files that a call may read only the first was read
-pub first_of_two : (before after : Sources) (first second : List ℕ) → OthersKept first before.left after.left
-    → OthersStay (first ∷ second ∷ []) before after
-first_of_two before after first second kept other h = kept other h.0
-
 -- one file was read, and then another
 pub both_of_two : (before between after : Sources) (first second : List ℕ)
     → OthersKept first before.left between.left → OthersKept second between.left after.left
     → OthersStay (first ∷ second ∷ []) before after
 both_of_two before between after first second a b other h = b other h.1.0 ∙ a other h.0
-
--- nothing is left of the first file once the second was read, whether they have two names or one
-pub first_at_end : (before between after : Sources) (first second text events : List ℕ)
-    → ReadWhole before between first text → ReadWhole between after second events → IsAtEnd (after.left first)
-first_at_end before between after first second text events a b =
-    elim (cases_Bool (bytes_eq first second)) [
-      | inl same ↦ rw ((bytes_eq-Decides first second).0 same, b.at_end) (read_out-IsAtEnd _)
-      | inr other ↦ rw (b.others first (λ e. let bad = sym ((bytes_eq-Decides first second).1 e) ∙ other in cc), a.at_end) (read_out-IsAtEnd _)
-    ]
 
 module _ (limit : ℕ) (before after : Sources) (name : List ℕ) (bytes : Vec ℕ Global) (given : Gives (IsTextOf limit) before after name bytes) where
   -- a value that is the meaning of the bytes is what the file gives

@@ -1,5 +1,5 @@
 -- How a text is written: all of it, or a front of it where a write fails.
-use Rattle.std.specs.Prelude.{◌≡◌, ℕ, List, Result, Ok, Err}
+use Rattle.std.specs.Prelude.{◌≡◌, ℕ, List}
 use Rattle.std.specs.Io.KnownBytes.{append_known}
 use Rattle.flow_base.specs.Causes.{Rose}
 use Rattle.flow_base.specs.Bytes.{AppendsProperFront}
@@ -14,8 +14,3 @@ pub record Wrote (before after : Output) (text : List ℕ) : Type 0 where
 pub record WroteFront (before after : Output) (text : List ℕ) : Type 0 where
   pub cause : Rose before.faults after.faults
   pub front : AppendsProperFront before.holds after.holds text
-
--- how the text is written, where a failure stands for one of the sink
-abbrev pub TextWritten : {T E : Type 0} → Output → Output → List ℕ → Result T E → Type 0
-TextWritten before after text (Ok done) = Wrote before after text
-TextWritten before after text (Err failed) = WroteFront before after text

@@ -1,5 +1,5 @@
 -- Names in lists of names.
-use Rattle.std.specs.Prelude.{ℕ, zero, suc, ◌+◌, Bool, true, not, ◌&&◌, List, [], ◌∷◌, Option, Some, None, is_some, if◌then◌else◌}
+use Rattle.std.specs.Prelude.{ℕ, ◌+◌, Bool, true, not, ◌&&◌, List, [], ◌∷◌, Option, Some, None, is_some, if◌then◌else◌}
 use Rattle.std.specs.Str.{bytes_eq}
 
 -- the next number, where there is a number
@@ -16,9 +16,3 @@ index_of name (first ∷ rest) = if bytes_eq first name then Some 0 else after (
 abbrev pub are_distinct : List (List ℕ) → Bool
 are_distinct [] = true
 are_distinct (name ∷ rest) = not (is_some (index_of name rest)) && are_distinct rest
-
--- the name at a place, and nothing past the end
-abbrev pub name_at : List (List ℕ) → ℕ → List ℕ
-name_at [] n = []
-name_at (first ∷ rest) zero = first
-name_at (first ∷ rest) (suc n) = name_at rest n

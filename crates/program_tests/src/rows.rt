@@ -26,6 +26,7 @@ pub fn check(
     Ok(())
 }
 
+/// The first line of the trace of the lamp.
 pub const START: &str = "0 start [Off] - - ok\n";
 
 #[test]

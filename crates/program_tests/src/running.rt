@@ -1,4 +1,4 @@
-//! Charts of the whole language that run by the rules and as compiled code, with their traces.
+//! Charts that run by the rules and as compiled code, with their traces.
 use crate::rows::check;
 use flow_base::Status;
 use std::alloc::{AllocError, Global};

@@ -4,6 +4,7 @@ ghost use Rattle.std.specs.Prelude.{◌<◌};
 use flow_base::{MemFile, MemInputs};
 use std::alloc::{AllocError, Global};
 
+/// The chart of the lamp.
 pub const LAMP: &str =
     "chart Lamp or { event input GO; default -> Off; state Off { outer GO -> On; } state On { outer GO -> Off; } }";
 

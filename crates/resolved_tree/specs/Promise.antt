@@ -121,7 +121,7 @@ pub record IsSmall (c : charts.Chart) : Type 0 where
 -- a tree with a state for each of its numbers; names that are NAMEs and stand but once; a first value for each datum;
 -- numbers in range; a word for each state with children; a root without outer transitions and exit action; and no
 -- count over its limit
-pub record IsResolved (r : Resolved) : Type 0 where
+pub record KeepsPromise (r : Resolved) : Type 0 where
   pub tree : IsTree r.tree
   pub sized : length r.states ≡ state_count r.tree
   pub state_names : length r.names.states ≡ state_count r.tree

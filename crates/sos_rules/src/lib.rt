@@ -9,9 +9,10 @@
 //!
 //! Source: Hamon and Rushby, An Operational Semantics for Stateflow, FASE 2004, for the tree, the
 //! actions, the ordered lists and the outcomes of a search; Hamon, A Denotational Semantics for
-//! Stateflow, EMSOFT 2005, for what follows a search; the Stateflow manual for the order of work in
-//! an active state and for early return. When work returns early, what costs a step, and history
-//! are this project's choice.
+//! Stateflow, EMSOFT 2005, for what follows a search; the Stateflow User's Guide for the order of
+//! work in an active state, the order of entering and leaving, history, and early return. What
+//! costs a step, and how long entry actions, exit actions and default searches go on, is this
+//! project's choice.
 #![tactic(auto)]
 
 mod laws;

@@ -31,7 +31,8 @@ pub(crate) fn run_start<G: Engine, O: Sink>(engine: &mut G, out: &mut O) -> Resu
     write_end::<G, O>(engine, 0, Event::Start, end, out)
 }
 
-/// Takes a line, and where it says a event writes that step's line. It answers the index so far.
+/// Takes a line and, where it is an event, writes the line of that step. It answers the index of the
+/// last step.
 pub(crate) fn run_line<G: Engine, O: Sink>(
     engine: &mut G,
     line: &[u8],

@@ -1,11 +1,11 @@
 -- Limits: a first token that a test refuses, and what is never spelled. A limit leaves FIRST as it is.
-use Rattle.std.proofs.Common.{◌≡◌, true, false, cond, List, [], ◌∷◌, ◌++◌, Err, Option, Some, None, ◌⊎◌, inl, inr, refl, sym, ap, ◌∙◌}
-use Rattle.std.proofs.lemmas.Bool.{cases_Bool}
+use Rattle.std.proofs.Common.{◌≡◌, Bool, false, cond, List, [], ◌∷◌, ◌++◌, Err, Option, Some, None, ◌⊎◌, inl, inr, refl, sym, ap, ◌∙◌}
+use Rattle.token_grammar.specs.declared.token.Kind.{Kind}
 use Rattle.token_grammar.specs.declared.fault.Fault.{Fault}
 use Rattle.token_grammar.specs.declared.fault.Fault.TheVariants as faults
 use Rattle.token_grammar.specs.Token.{Lexeme}
-use Rattle.token_grammar.specs.Grammar.{Grammar, heads, first_refused, allowed, forbidden, Continues}
-use Rattle.token_grammar.proofs.Good.{Set, nothing, SameHead, Begins, Takes, Stops, Good, Sample, carried, heads-same, stops_at_hand}
+use Rattle.token_grammar.specs.Grammar.{Grammar, heads, first_refused, allowed, Continues}
+use Rattle.token_grammar.proofs.Good.{Set, SameHead, Begins, Takes, Stops, Good, carried, stops_at_hand}
 
 -- ---- what the test says of the first token
 
@@ -106,33 +106,11 @@ good_allowed {X} {g} {f} set test a = record {
       ];
 }
 
--- where the test refuses no token of the set
-passes_all : (set : Set) (test : Lexeme → Option Fault) → ((t : Lexeme) → set t.kind ≡ true → test t ≡ None)
-    → (u : List Lexeme)
-    → first_refused set test u ≡ None
-passes_all set test passes [] = refl
-passes_all set test passes (t ∷ u) =
-    elim (cases_Bool (set t.kind)) [
-      | inl there ↦ rw there (passes t there)
-      | inr away ↦ rw away refl
-    ]
-
--- a spelling whose first token passes
-pub sample_allowed : {X : Type 0} {g : Grammar X} (set : Set) (test : Lexeme → Option Fault)
-    → ((t : Lexeme) → set t.kind ≡ true → test t ≡ None)
-    → Sample g → Sample (allowed set test g)
-sample_allowed set test passes z = record { tokens = z.tokens; value = z.value; spelled = (passes_all set test passes z.tokens, z.spelled) }
-
 -- ---- forbidden
 
--- the laws of what is never spelled
-pub good_forbidden : {X : Type 0} (set : Set) (fault : Fault) → Good (forbidden {X = X} set fault) set false nothing
-unfolding forbidden
-good_forbidden {X} set fault = record {
-  begins = λ u x w. absurd w;
-  again = λ u x r w clear. absurd w;
-  takes = λ s x r e. absurd cc;
-  stops = λ s r f e.
-      stops_at_hand (forbidden {X = X} set fault) (cond (heads set s) fault faults.Expected) s
-      (λ r' h. ap (λ b. Err (cond b fault faults.Expected, r')) (sym (heads-same set s r' h))) r f e;
+-- no tokens spell any value; a token of the set is refused with the fault, any other one, and the end, as Expected
+unfoldable pub forbidden : {X : Type 0} → (Kind → Bool) → Fault → Grammar X
+forbidden set fault = record {
+  spells = λ u x. ⊥;
+  reads = λ s. Err (cond (heads set s) fault faults.Expected, s);
 }

@@ -1,14 +1,12 @@
 -- Grammars that are told the place of their first token: FIRST, and how they are read, whatever the place.
-use Rattle.std.proofs.Common.{◌≡◌, Bool, true, false, List, [], ◌∷◌, ◌++◌, Ok, Err, ◌⊎◌, inl, inr, refl, sym, ap, subst, ◌∙◌}
-use Rattle.token_grammar.specs.declared.token.Kind.{Kind}
+use Rattle.std.proofs.Common.{◌≡◌, Bool, false, List, [], ◌∷◌, ◌++◌, Ok, Err, ◌⊎◌, inl, inr, refl, sym, ap, subst, ◌∙◌}
 use Rattle.token_grammar.specs.declared.token.Span.{Span}
 use Rattle.token_grammar.specs.declared.fault.Fault.{Fault}
 use Rattle.token_grammar.specs.Token.{Lexeme}
 use Rattle.token_grammar.specs.Grammar.{Grammar, first_place, at_first, Continues}
 use Rattle.token_grammar.proofs.Good.{Set, SameHead, Begins, Takes, Stops, Good, carried}
-use Rattle.token_grammar.proofs.Fine.{Fine}
-use Rattle.token_grammar.proofs.Lifted.{Lifted, GoesPast, Eased}
-use Rattle.token_grammar.proofs.Starts.{Starts, sample_starts}
+use Rattle.token_grammar.proofs.Lifted.{Lifted, GoesPast}
+use Rattle.token_grammar.proofs.Starts.{Starts}
 
 -- ---- the place of the first token
 
@@ -109,12 +107,6 @@ pub starts_at_first : {X : Type 0} {set : Set} {g : Span → Grammar X} → ((p 
     → Starts set (at_first g)
 starts_at_first {X} {set} {g} a = record { each = λ t there. begun_at_first g t [] ((a t.at).each t there) }
 
--- where each token of the set begins a spelling, whatever the place, and there is a kind in the set
-pub fine_at_first : {X : Type 0} {g : Span → Grammar X} {f m : Set} (set : Set) (k : Kind) → set k ≡ true
-    → ((p : Span) → Starts set (g p))
-    → ((p : Span) → Good (g p) f false m) → Fine (at_first g) f false m
-fine_at_first set k there starts a = record { good = good_at_first a; sample = sample_starts k there (starts_at_first starts) }
-
 -- limits that are lifted at every place are lifted
 pub lifted_at_first : {X : Type 0} {lifts : Fault → Bool} {g g' : Span → Grammar X} {f m : Set}
     → ((p : Span) → Good (g' p) f false m)
@@ -124,10 +116,3 @@ lifted_at_first {X} {lifts} {g} {g'} a b = record {
   stays = λ s r d e kept. (b (first_place s)).stays s r d e kept;
   passes = λ s r d e lift. past_at_first g' s r ((b (first_place s)).passes s r d e lift);
 }
-
--- and some value has a spelling
-pub eased_at_first : {X : Type 0} {lifts : Fault → Bool} {g g' : Span → Grammar X} {f m : Set} (set : Set) (k : Kind)
-    → set k ≡ true
-    → ((p : Span) → Starts set (g' p)) → ((p : Span) → Good (g' p) f false m) → ((p : Span) → Lifted lifts (g p) (g' p))
-    → Eased lifts (at_first g) (at_first g')
-eased_at_first set k there starts a b = record { lifted = lifted_at_first a b; sample = sample_starts k there (starts_at_first starts) }

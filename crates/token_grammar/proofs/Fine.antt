@@ -1,17 +1,14 @@
 -- Grammars put together: nullable, FIRST and the reading of the whole, by those of the parts. The LL(1) conditions
 -- are computed.
-use Rattle.std.proofs.Common.{◌≡◌, ℕ, Bool, true, false, [], Option, Some, None, refl, inr, ◌&&◌, ◌||◌}
+use Rattle.std.proofs.Common.{◌≡◌, Bool, true, false, [], Some, None, refl, inr, ◌&&◌, ◌||◌}
 use Rattle.token_grammar.specs.declared.token.Kind.{Kind}
-use Rattle.token_grammar.specs.declared.fault.Fault.{Fault}
-use Rattle.token_grammar.specs.Token.{Lexeme, kind_eq}
-use Rattle.token_grammar.specs.Grammar.{Grammar, token, one_of, give, ◌>>=◌, either, optional, allowed, many, many_from, up_to_from}
+use Rattle.token_grammar.specs.Token.{kind_eq}
+use Rattle.token_grammar.specs.Grammar.{Grammar, token, one_of, give, ◌>>=◌, either, optional, many, many_from}
 use Rattle.token_grammar.proofs.Good.{Set, nothing, also, Good, Sample, good_wider}
 use Rattle.token_grammar.proofs.Leaves.{good_token, sample_token, good_one_of, sample_one_of, good_give, sample_give}
 use Rattle.token_grammar.proofs.Join.{then_good, sample_then, either_good}
-use Rattle.token_grammar.proofs.Allowed.{good_allowed, sample_allowed}
 use Rattle.token_grammar.proofs.State.{from_good, sample_from}
 use Rattle.token_grammar.proofs.Many.{many_good, sample_many}
-use Rattle.token_grammar.proofs.UpTo.{up_to_good, sample_up_to}
 use Rattle.token_grammar.proofs.Sets.{disjoint, subset, apart, within}
 
 -- g is LL(1) with these sets, and some value has a spelling
@@ -92,13 +89,6 @@ fine_optional {X} {g} {f} {m} set a p = record {
     either_of false true h = refl
     either_of false false h = absurd cc
 
--- ---- limits
-
--- where the test refuses no token of the set
-pub fine_allowed : {X : Type 0} {g : Grammar X} {f m : Set} (set : Set) (test : Lexeme → Option Fault)
-    → Fine g f false m → ((t : Lexeme) → set t.kind ≡ true → test t ≡ None) → Fine (allowed set test g) f false m
-fine_allowed set test a passes = record { good = good_allowed set test a.good; sample = sample_allowed set test passes a.sample }
-
 -- ---- any number, and at most n
 
 -- any number: nullable, and FIRST is that of the item
@@ -125,15 +115,6 @@ fine_many_from {S} {X} {g} {f} {m} set next every s a p q e = record {
       })
       s;
   sample = sample_from set g next s;
-}
-
--- at most n: the same
-pub fine_up_to : {S X : Type 0} {g : S → Grammar X} {f m : Set} (set : Set) (next : S → X → S) (n : ℕ) (s : S)
-    → ((z : S) → Good (g z) f false m) → subset f set ≡ true → disjoint f m ≡ true
-    → Fine (up_to_from set g next n s) f true (also set true m)
-fine_up_to {S} {X} {g} {f} {m} set next n s a p q = record {
-  good = up_to_good set g next f m a (within f set p) (apart f m q) n s;
-  sample = sample_up_to set g next n s;
 }
 
 -- ---- the same with plainer sets

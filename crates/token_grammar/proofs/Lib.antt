@@ -6,12 +6,9 @@ pub mod Join
 pub mod Allowed
 pub mod State
 pub mod Many
-pub mod UpTo
 pub mod Fine
 pub mod Faults
 pub mod Loop
-pub mod Counted
-pub mod Kept
 pub mod Lifted
 pub mod Starts
 pub mod LiftedLimits

@@ -3,15 +3,12 @@
 use Rattle.std.proofs.Common.{◌≡◌, ℕ, zero, suc, ◌<◌, Bool, true, false, List, length, Ok, Err, refl, sym, ◌∙◌, inl, inr, arith}
 use Rattle.std.proofs.lemmas.Bool.{cases_Bool}
 use Rattle.token_grammar.specs.declared.fault.Fault.{Fault}
-use Rattle.token_grammar.specs.declared.fault.Fault.TheVariants as faults
 use Rattle.token_grammar.specs.Token.{Lexeme}
-use Rattle.token_grammar.specs.Grammar.{Grammar, heads, many, many_from, up_to_from}
-use Rattle.token_grammar.proofs.Good.{Set, nothing, Good, took, bind_ok, bind_err}
+use Rattle.token_grammar.specs.Grammar.{Grammar, heads, many, many_from}
+use Rattle.token_grammar.proofs.Good.{Set, Good, took, bind_ok, bind_err}
 use Rattle.token_grammar.proofs.State.{from_one, from_none, from_takes, from_begun, from_behind, sample_from}
 use Rattle.token_grammar.proofs.Many.{many_alike, sample_many}
-use Rattle.token_grammar.proofs.UpTo.{item_left, item_good, up_to_alike, sample_up_to}
 use Rattle.token_grammar.proofs.Lifted.{Lifted, GoesPast, Eased, still_reads, past_by, past_behind, lifted_alike}
-use Rattle.token_grammar.proofs.LiftedLimits.{lifted_forbidden_kept}
 
 module _ {S X : Type 0} {lifts : Fault → Bool} {g g' : S → Grammar X} {f f' : S → Set} {m m' : Set} (set : S → Set)
     (next : S → X → S)
@@ -101,21 +98,3 @@ eased_many {X} {lifts} {g} {g'} set good good' a = record {
       (eased_many_from (λ (z : ℕ). set) (λ z x. z) (λ z. good) (λ z. good') (λ z. a) 0).lifted;
   sample = sample_many set g';
 }
-
--- at most n
-pub eased_up_to : {S X : Type 0} {lifts : Fault → Bool} {g g' : S → Grammar X} {f f' m m' : Set}
-    → lifts faults.Expected ≡ false
-    → (set : Set) (next : S → X → S) → ((z : S) → Good (g z) f false m) → ((z : S) → Good (g' z) f' false m')
-    → ((z : S) → Lifted lifts (g z) (g' z))
-    → (n : ℕ) (s : S) → Eased lifts (up_to_from set g next n s) (up_to_from set g' next n s)
-eased_up_to {S} {X} {lifts} {g} {g'} {f} {f'} {m} {m'} expected set next good good' a n s = record {
-  lifted =
-      lifted_alike (up_to_alike set g next f m good n s) (up_to_alike set g' next f' m' good' n s)
-      (eased_many_from _ _ (λ z. item_good set g next f m good z.0 z.1) (λ z. item_good set g' next f' m' good' z.0 z.1)
-      (λ (z : ℕ × S). item_lifted z.0 z.1) (n, s)).lifted;
-  sample = sample_up_to set g' next n s;
-}
-  where
-    item_lifted : (k : ℕ) (z : S) → Lifted lifts (item_left g k z) (item_left g' k z)
-    item_lifted zero z = lifted_forbidden_kept expected nothing faults.Expected expected
-    item_lifted (suc k) z = a z

@@ -4,10 +4,10 @@ use Rattle.std.proofs.lemmas.Bool.{cases_Bool}
 use Rattle.token_grammar.specs.declared.fault.Fault.{Fault}
 use Rattle.token_grammar.specs.declared.fault.Fault.TheVariants as faults
 use Rattle.token_grammar.specs.Token.{Lexeme}
-use Rattle.token_grammar.specs.Grammar.{Grammar, heads, first_refused, none_lifted, unless_lifted, allowed, forbidden, Continues}
+use Rattle.token_grammar.specs.Grammar.{Grammar, heads, first_refused, unless_lifted, allowed, Continues}
 use Rattle.token_grammar.proofs.Good.{Set, Takes, stopped_is}
-use Rattle.token_grammar.proofs.Allowed.{said_cases, takes_allowed, allowed_begun, sample_allowed}
-use Rattle.token_grammar.proofs.Lifted.{Lifted, GoesPast, Eased}
+use Rattle.token_grammar.proofs.Allowed.{said_cases, takes_allowed, allowed_begun, forbidden}
+use Rattle.token_grammar.proofs.Lifted.{Lifted, GoesPast}
 use Rattle.token_grammar.proofs.Starts.{Starts, Expects}
 
 -- ---- what two tests say of the first token
@@ -15,16 +15,6 @@ use Rattle.token_grammar.proofs.Starts.{Starts, Expects}
 -- the second says what the first does, where that isn't lifted
 abbrev pub Milder : Set → (Fault → Bool) → (Lexeme → Option Fault) → (Lexeme → Option Fault) → Type 0
 Milder set lifts test test' = (t : Lexeme) → set t.kind ≡ true → test' t ≡ unless_lifted lifts (test t)
-
--- where none is lifted, the test says what it says
-pub unless_none : (said : Option Fault) → unless_lifted none_lifted said ≡ said
-unless_none None = refl
-unless_none (Some f) = refl
-
--- the same test, with no fault lifted and with some
-pub milder_test : (set : Set) (lifts : Fault → Bool) (test : Lexeme → Option Fault)
-    → Milder set lifts (λ t. unless_lifted none_lifted (test t)) (λ t. unless_lifted lifts (test t))
-milder_test set lifts test t there = ap (unless_lifted lifts) (sym (unless_none (test t)))
 
 -- the same of the first token of a list
 milder_first : (set : Set) (lifts : Fault → Bool) (test test' : Lexeme → Option Fault) → Milder set lifts test test'
@@ -144,17 +134,6 @@ module _ {X : Type 0} {lifts : Fault → Bool} {g g' : Grammar X} (set : Set) (t
   lifted_allowed_kept kept =
       lifted_allowed_where (λ t d there full lift. let bad = sym (kept t d full) ∙ lift in absurd cc)
 
--- where the right test refuses no token of the set, and the right grammar has a spelling
-pub eased_allowed : {X : Type 0} {lifts : Fault → Bool} {g g' : Grammar X} (set : Set)
-    (test test' : Lexeme → Option Fault)
-    → Eased lifts g g' → Milder set lifts test test' → Starts set g'
-    → ((t : Lexeme) → set t.kind ≡ true → test' t ≡ None)
-    → Eased lifts (allowed set test g) (allowed set test' g')
-eased_allowed set test test' a milder starts passes = record {
-  lifted = lifted_allowed set test test' a.lifted milder starts;
-  sample = sample_allowed set test' passes a.sample;
-}
-
 -- ---- forbidden
 
 -- what is forbidden on the left by a lifted fault is there on the right
@@ -184,20 +163,3 @@ lifted_forbidden {X} {lifts} {g'} expected set fault lift starts expects = recor
         → (t : Lexeme) × (q : List Lexeme) × (s ≡ t ∷ q) × (set t.kind ≡ true)
     at_hand [] here = absurd cc
     at_hand (t ∷ s) here = (t, s, refl, here)
-
--- what is forbidden on both sides
-pub lifted_forbidden_kept : {X : Type 0} {lifts : Fault → Bool} → lifts faults.Expected ≡ false
-    → (set : Set) (fault : Fault) → lifts fault ≡ false
-    → Lifted lifts (forbidden {X = X} set fault) (forbidden set fault)
-unfolding forbidden
-lifted_forbidden_kept {X} {lifts} expected set fault kept = record {
-  takes = λ s x r e. absurd cc;
-  stays = λ s r f e k. e;
-  passes = λ s r f e lifted.
-      let i = stopped_is {X = X} (cond (heads set s) fault faults.Expected) f s r e in
-      absurd (never (heads set s) f i.fault lifted);
-}
-  where
-    never : (b : Bool) (f : Fault) → cond b fault faults.Expected ≡ f → lifts f ≡ true → ⊥
-    never true f same lifted = let bad = sym kept ∙ ap lifts same ∙ lifted in cc
-    never false f same lifted = let bad = sym expected ∙ ap lifts same ∙ lifted in cc

@@ -3,9 +3,9 @@ use Rattle.std.proofs.Common.{◌≡◌, Bool, List, Some, refl, sym, ◌∙◌,
 use Rattle.std.proofs.lemmas.Bool.{cases_Bool}
 use Rattle.token_grammar.specs.declared.fault.Fault.{Fault}
 use Rattle.token_grammar.specs.Token.{Lexeme}
-use Rattle.token_grammar.specs.Grammar.{Grammar, heads, ◌>>=◌, allowed, forbidden}
+use Rattle.token_grammar.specs.Grammar.{Grammar, heads, ◌>>=◌, allowed}
 use Rattle.token_grammar.proofs.Good.{Set}
-use Rattle.token_grammar.proofs.Allowed.{refused_always}
+use Rattle.token_grammar.proofs.Allowed.{refused_always, forbidden}
 use Rattle.token_grammar.proofs.Lifted.{Lifted}
 use Rattle.token_grammar.proofs.Starts.{Expects}
 

@@ -1,30 +1,14 @@
 -- The reading of a whole text under limits, and with some of them lifted.
-use Rattle.std.proofs.Common.{◌≡◌, Bool, true, false, List, [], ◌∷◌, ◌++◌, Ok, Err, refl, sym, ap, subst, ◌∙◌, inl, inr}
-use Rattle.std.proofs.lemmas.List.{append-nil, append_cancel_right}
+use Rattle.std.proofs.Common.{◌≡◌, Bool, true, false, List, [], ◌∷◌, ◌++◌, Err, refl, sym, ap, subst, ◌∙◌, inl, inr}
+use Rattle.std.proofs.lemmas.List.{append_cancel_right}
 use Rattle.token_grammar.specs.declared.fault.Fault.{Fault}
 use Rattle.token_grammar.specs.declared.fault.Fault.TheVariants as faults
 use Rattle.token_grammar.specs.Token.{Lexeme}
 use Rattle.token_grammar.specs.Grammar.{Grammar, Continues, FirstFault, ended, whole_reads}
-use Rattle.token_grammar.proofs.Good.{Set, Good, bind_ok, bind_err, stopped_is}
+use Rattle.token_grammar.proofs.Good.{Set, bind_err, stopped_is}
 use Rattle.token_grammar.proofs.Fine.{Fine}
-use Rattle.token_grammar.proofs.Faults.{all_read, whole_fault}
+use Rattle.token_grammar.proofs.Faults.{whole_fault}
 use Rattle.token_grammar.proofs.Lifted.{Lifted, GoesPast, still_reads}
-
--- what is spelled within the limits is spelled without them
-pub lifted_spells : {X : Type 0} {lifts : Fault → Bool} {g g' : Grammar X} {f m : Set} {n : Bool} → Lifted lifts g g'
-    → Good g f n m
-    → (u : List Lexeme) (x : X) → g.spells u x → g'.spells u x
-lifted_spells {X} {lifts} {g} {g'} a good u x w =
-    let t = a.takes u x [] (all_read good u x w) in
-    subst (λ v. g'.spells v x) (sym (append-nil t.used) ∙ sym t.parts) t.spelled
-
--- what is read within the limits is read without them
-pub whole_too : {X : Type 0} {lifts : Fault → Bool} {g g' : Grammar X} → Lifted lifts g g'
-    → (s : List Lexeme) (x : X) (r : List Lexeme)
-    → whole_reads g s ≡ Ok (x, r) → whole_reads g' s ≡ Ok (x, r)
-whole_too {X} {lifts} {g} a s x r e =
-    let k = bind_ok (g.reads s) ended x r e in
-    rw (still_reads a s k.x k.r k.first) k.second
 
 -- by a fault that is lifted, the text stops at a token that goes on
 pub whole_past : {X : Type 0} {lifts : Fault → Bool} {g g' : Grammar X} → Lifted lifts g g'

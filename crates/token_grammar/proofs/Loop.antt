@@ -1,21 +1,15 @@
 -- The reading of any number of items, as a loop does: what a turn of it leaves to be read.
-use Rattle.std.proofs.Common.{◌≡◌, true, false, ℕ, zero, suc, List, [], ◌∷◌, ◌++◌, length, Ok, Err, refl, sym, ap, ◌∙◌, append_assoc, ◌<◌}
+use Rattle.std.proofs.Common.{◌≡◌, true, false, List, [], ◌∷◌, ◌++◌, length, Ok, Err, refl, sym, ap, ◌∙◌, append_assoc, ◌<◌}
 use Rattle.std.proofs.lemmas.List.{append-nil, length-map}
 use Rattle.token_grammar.specs.declared.fault.Fault.{Fault}
 use Rattle.token_grammar.specs.declared.fault.ReadError.{ReadError}
 use Rattle.token_grammar.specs.declared.fault.ReadError.TheVariants as errors
 use Rattle.token_grammar.specs.declared.token.Token.{Token}
 use Rattle.token_grammar.specs.Token.{Lexeme, lexemes, Outcome, Fails}
-use Rattle.token_grammar.specs.Grammar.{Grammar, heads, many, many_from, up_to_from, after}
+use Rattle.token_grammar.specs.Grammar.{Grammar, heads, many, many_from, after}
 use Rattle.token_grammar.proofs.Good.{Set, Good, took}
 use Rattle.token_grammar.proofs.State.{consed, from_none, from_one}
 use Rattle.token_grammar.proofs.Many.{many_alike}
-use Rattle.token_grammar.proofs.UpTo.{none_read, one_read, full_read}
-
--- before the first turn nothing is read
-pub begins_with_none : {X : Type 0} (read : Outcome (List X)) → after [] read ≡ read
-begins_with_none (Ok x) = refl
-begins_with_none (Err e) = refl
 
 -- ---- one turn of the loop, whatever is read
 
@@ -106,35 +100,3 @@ pub ends : {X : Type 0} (set : Set) (g : Grammar X) {f m : Set} → Good g f fal
 ends set g a front s total none so_far =
     from_ends (λ z. set) (λ z. g) (λ z x. z) (λ z. a) 0 front s total none
     (ap (after front) (sym ((many_alike set g).read s)) ∙ so_far)
-
--- ---- at most n
-
--- one more item was read, and one fewer may come
-pub up_to_goes_on : {S X : Type 0} (set : Set) (g : S → Grammar X) (next : S → X → S) (n : ℕ) (st : S)
-    (front : List X) (s : List Lexeme) (x : X) (r : List Lexeme) (total : Outcome (List X))
-    → heads set s ≡ true → (g st).reads s ≡ Ok (x, r) → after front ((up_to_from set g next (suc n) st).reads s) ≡ total
-    → after (front ++ x ∷ []) ((up_to_from set g next n (next st x)).reads r) ≡ total
-up_to_goes_on set g next n st front s x r total here one so_far =
-    turned front x _ _ total (one_read set g next n st s here ∙ rw one refl) so_far
-
--- reading an item failed
-pub up_to_fails : {S X : Type 0} (set : Set) (g : S → Grammar X) (next : S → X → S) (n : ℕ) (st : S)
-    (err : ReadError) (front : List X) (s r : List Lexeme) (total : Outcome (List X))
-    → heads set s ≡ true → Fails err r ((g st).reads s)
-    → after front ((up_to_from set g next (suc n) st).reads s) ≡ total → Fails err r total
-up_to_fails set g next n st errors.Memory front s r total here one so_far = tt
-up_to_fails set g next n st (errors.Fault d) front s r total here one so_far =
-    failed front d r _ total (one_read set g next n st s here ∙ rw one refl) so_far
-
--- no more items stand there
-pub up_to_ends : {S X : Type 0} (set : Set) (g : S → Grammar X) (next : S → X → S) (n : ℕ) (st : S)
-    (front : List X) (s : List Lexeme) (total : Outcome (List X))
-    → heads set s ≡ false → after front ((up_to_from set g next n st).reads s) ≡ total → total ≡ Ok (front, s)
-up_to_ends set g next n st front s total none so_far =
-    finished front s _ total (none_read set g next n st s none) so_far
-
--- no more items may come
-pub up_to_full : {S X : Type 0} (set : Set) (g : S → Grammar X) (next : S → X → S) (st : S) (front : List X)
-    (s : List Lexeme) (total : Outcome (List X))
-    → after front ((up_to_from set g next zero st).reads s) ≡ total → total ≡ Ok (front, s)
-up_to_full set g next st front s total so_far = finished front s _ total (full_read set g next st s) so_far

@@ -7,7 +7,7 @@ use Rattle.token_grammar.specs.declared.fault.Fault.TheVariants as faults
 use Rattle.token_grammar.specs.Token.{Lexeme}
 use Rattle.token_grammar.specs.Grammar.{Grammar, heads, is, token, one_of, ◌>>=◌, either, optional, first_refused, allowed, Continues}
 use Rattle.token_grammar.proofs.Good.{Set, Sample, also, clear_left, clear_right}
-use Rattle.token_grammar.proofs.Leaves.{plain, sample_give}
+use Rattle.token_grammar.proofs.Leaves.{sample_give}
 use Rattle.token_grammar.proofs.Join.{then_begun, then_behind, either_left, either_right}
 use Rattle.token_grammar.proofs.Allowed.{allowed_begun}
 
@@ -20,12 +20,6 @@ pub record Expects {X : Type 0} (set : Set) (g : Grammar X) : Type 0 where
   pub other : (s : List Lexeme) → heads set s ≡ false → g.reads s ≡ Err (faults.Expected, s)
 
 -- ---- what begins a spelling
-
--- where there is a kind in the set, some value has a spelling
-pub sample_starts : {X : Type 0} {set : Set} {g : Grammar X} (k : Kind) → set k ≡ true → Starts set g → Sample g
-sample_starts k there a =
-    let c = a.each (plain k) there in
-    record { tokens = plain k ∷ c.rest; value = c.value; spelled = c.spelled }
 
 -- each token of the set is a spelling of one of it
 pub starts_one_of : (set : Set) → Starts set (one_of set)

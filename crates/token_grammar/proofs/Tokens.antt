@@ -1,5 +1,5 @@
 -- The reading of one token, by the first of the tokens that are left.
-use Rattle.std.proofs.Common.{◌≡◌, suc, ◌<◌, ◌-◌, ◌≤◌, Bool, true, false, List, [], ◌∷◌, length, get_or, take, drop, Ok, Err, refl, sym, subst, ◌∙◌, Some, inl, inr, ap, arith}
+use Rattle.std.proofs.Common.{◌≡◌, suc, ◌-◌, ◌≤◌, Bool, true, false, List, [], ◌∷◌, length, get_or, take, drop, Ok, Err, refl, sym, subst, ◌∙◌, Some, inl, inr, ap, arith}
 use Rattle.std.proofs.Math.Seq.{take-length}
 use Rattle.std.proofs.lemmas.Bool.{cases_Bool, eqb-true}
 use Rattle.token_grammar.proofs.Sets.{all_kinds, at, found}
@@ -10,11 +10,6 @@ use Rattle.token_grammar.specs.Token.{lexeme, lexemes, kind_eq}
 use Rattle.token_grammar.specs.Grammar.{token, heads}
 use Rattle.token_grammar.specs.Grammar.{is}
 use Rattle.token_grammar.proofs.Leaves.{kind_eq-refl}
-
--- where the first token is in a set there is one
-pub heads_some : (set : Kind → Bool) (ts : List Token) → heads set (lexemes ts) ≡ true → 0 < length ts
-heads_some set [] h = absurd cc
-heads_some set (t ∷ ts) h = omega arith
 
 -- a first token of the kind is read
 pub token_taken : (ts : List Token) (d : Token) (k : Kind) → heads (is k) (lexemes ts) ≡ true

@@ -111,10 +111,6 @@ abbrev pub unless_refused : {X : Type 0} → Option Fault → List Lexeme → Ou
 unless_refused None s read = read
 unless_refused (Some f) s read = Err (f, s)
 
--- no fault is lifted
-abbrev pub none_lifted : Fault → Bool
-none_lifted f = false
-
 -- the fault that a test gives, unless it is lifted
 abbrev pub unless_lifted : (Fault → Bool) → Option Fault → Option Fault
 unless_lifted lifts None = None
@@ -126,13 +122,6 @@ abbrev pub allowed : {X : Type 0} → (Kind → Bool) → (Lexeme → Option Fau
 allowed set test g = record {
   spells = λ u x. (first_refused set test u ≡ None) × g.spells u x;
   reads = λ s. unless_refused (first_refused set test s) s (g.reads s);
-}
-
--- no tokens spell any value; a token of the set is refused with the fault, any other one, and the end, as Expected
-unfoldable pub forbidden : {X : Type 0} → (Kind → Bool) → Fault → Grammar X
-forbidden set fault = record {
-  spells = λ u x. ⊥;
-  reads = λ s. Err (if heads set s then fault else faults.Expected, s);
 }
 
 -- ---- the place of the first token
@@ -210,39 +199,6 @@ many_from set g next s = record {
   spells = many_from_spells (λ z. (g z).spells) next s;
   reads = λ t. many_from_reads set (λ z. (g z).reads) next (length t) s t;
 }
-
--- ---- at most n, where an item may depend on those before it
-
--- each part in turn spells its item, by what came before, and there are at most n
-abbrev pub up_to_spells : {S X : Type 0}
-    → (S → List Lexeme → X → Type 0) → (S → X → S) → ℕ → S → List Lexeme → List X → Type 0
-up_to_spells g next n s u [] = u ≡ []
-up_to_spells g next zero s u (x ∷ xs) = ⊥
-up_to_spells g next (suc n) s u (x ∷ xs) =
-    Before (g s) x (λ q. up_to_spells g next n (next s x) q xs) u
-
--- reads at most n of them
-unfoldable pub up_to_reads : {S X : Type 0}
-    → (Kind → Bool) → (S → List Lexeme → Outcome X) → (S → X → S)
-    → ℕ → S → List Lexeme → Outcome (List X)
-up_to_reads set f next zero s t = Ok ([], t)
-up_to_reads set f next (suc n) s t =
-    if heads set t
-    then and_then (f s t)
-    (λ x r. and_then (up_to_reads set f next n (next s x) r) (λ xs q. Ok (x ∷ xs, q)))
-    else Ok ([], t)
-
--- at most n; next gives the state after an item, on which the items after it depend
-unfoldable pub up_to_from : {S X : Type 0}
-    → (Kind → Bool) → (S → Grammar X) → (S → X → S) → ℕ → S → Grammar (List X)
-up_to_from set g next n s = record {
-  spells = up_to_spells (λ z. (g z).spells) next n s;
-  reads = up_to_reads set (λ z. (g z).reads) next n s;
-}
-
--- at most n items of one grammar
-abbrev pub up_to : {X : Type 0} → (Kind → Bool) → Grammar X → ℕ → Grammar (List X)
-up_to set g n = up_to_from set (λ (done : ℕ). g) (λ done x. done) n 0
 
 -- ---- texts
 

@@ -10,7 +10,9 @@ use std::alloc::Global;
 /// The tokens that are left. It never moves past the token at which reading stops.
 #[derive(Drop)]
 pub struct Cursor<'t, 'a> {
+    /// Where memory for what is read comes from.
     pub alloc: Global,
+    /// The tokens that are left.
     pub rest: &'t [Token<'a>],
 }
 

@@ -3,7 +3,9 @@
 /// A place in a text: lines and columns count from 1, a column is a byte.
 #[derive(Clone, Copy, Debug, PartialEq, Eq)]
 pub struct Span {
+    /// The line.
     pub line: u32,
+    /// The byte of the line.
     pub column: u32,
 }
 
@@ -123,7 +125,10 @@ pub enum Kind {
 /// A token, its bytes and the place of the first of them.
 #[derive(Clone, Copy, Debug)]
 pub struct Token<'a> {
+    /// What it is.
     pub kind: Kind,
+    /// Its bytes.
     pub text: &'a [u8],
+    /// The place of its first byte.
     pub at: Span,
 }

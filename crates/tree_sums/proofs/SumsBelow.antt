@@ -7,7 +7,7 @@ use Rattle.chart_layout.specs.Orders.{sum_to}
 use Rattle.chart_layout.proofs.EndsLemmas.{end_after}
 use Rattle.chart_layout.proofs.Sums.{sum_next, sum_to_le, sum_between_is}
 use Rattle.tree_sums.specs.Sums.{sum_below}
-use Rattle.tree_sums.proofs.SumLemmas.{sum_between_most, sum_between_plus, sum_between_constant, sum_between_times}
+use Rattle.tree_sums.proofs.SumLemmas.{sum_between_constant}
 use Rattle.tree_sums.proofs.Fills.{Fills, end_bounds, children_fill, root_end}
 
 module _ (t : Tree) (tree : IsTree t) where
@@ -56,31 +56,9 @@ module _ (t : Tree) (tree : IsTree t) where
   sum_below_whole f s lt =
       omega (arith, sum_below_is f s lt, sum_to_le f (end_of t s) (state_count t) (end_bounds t tree s lt).1)
 
-  -- and the share of a state at most the sum at it
-  pub sum_below_share : (f : ℕ → ℕ) (s : ℕ) → s < state_count t → f s ≤ sum_below t f s
-  sum_below_share f s lt = omega (arith, sum_below_splits f s lt)
-
-  -- a sum of terms that are no less for states is no less
-  pub sum_below_most : (f g : ℕ → ℕ) (s : ℕ) → s < state_count t → ((x : ℕ) → x < state_count t → f x ≤ g x)
-      → sum_below t f s ≤ sum_below t g s
-  unfolding sum_below
-  sum_below_most f g s lt h =
-      sum_between_most f g s (end_of t s) (λ x low high. h x (omega (arith, (end_bounds t tree s lt).1)))
-
   -- a sum of one number counts the states at or below s
   pub sum_below_constant : (k s : ℕ) → s < state_count t → sum_below t (λ x. k) s ≡ suc (below_count t s) * k
   unfolding sum_below
   sum_below_constant k s lt =
       let left : end_of t s - s ≡ suc (below_count t s) = omega (arith, end_after t tree s lt) in
       sum_between_constant k s (end_of t s) ∙ ap (λ n. n * k) left
-
--- a sum of sums
-pub sum_below_plus : (t : Tree) (f g : ℕ → ℕ) (s : ℕ)
-    → sum_below t (λ x. f x + g x) s ≡ sum_below t f s + sum_below t g s
-unfolding sum_below
-sum_below_plus t f g s = sum_between_plus f g s (end_of t s)
-
--- a sum of multiples
-pub sum_below_times : (t : Tree) (k : ℕ) (f : ℕ → ℕ) (s : ℕ) → sum_below t (λ x. k * f x) s ≡ k * sum_below t f s
-unfolding sum_below
-sum_below_times t k f s = sum_between_times k f s (end_of t s)

@@ -11,7 +11,8 @@ use Rattle.frame_stack.specs.Places.{IsFilled}
 use Rattle.frame_stack.specs.Stacks.{Stack, stack}
 use Rattle.frame_stack.proofs.FrameLemmas.{frames_length, frames_push, frames_take, frame_at, slot_at}
 use Rattle.frame_stack.proofs.FrameLemmas.{take_long}
-use Rattle.frame_stack.proofs.StackLemmas.{same_slots, is_stack, no_slot, total, small, within, is_chunk, pushed, popped}
+use Rattle.frame_stack.proofs.StackLemmas.{same_slots, is_stack, no_slot, total, small, within, is_chunk, pushed}
+use Rattle.frame_stack.proofs.StackLemmas.{popped}
 use Rattle.frame_stack.proofs.StackLemmas.{slot_of, none_of, added, free_chunks, free_places, all_free}
 
 -- a stack with these fields, which a contract sees as v

@@ -2,11 +2,15 @@
 //!
 //! `Machine` is an engine whose starts and reactions are those of `code_form`. Read
 //! `specs/Frames.antt` and `specs/States.antt` first: what the fields of the machine stand for, and
-//! what each instruction does. The top frame is a value of the loop, which each instruction changes
-//! in place; the frames below it lie on a stack whose room is reserved once, and so is the room for
-//! the events that are put out. Where a run takes many steps that change little, they are done at
-//! once: a call of a procedure that does nothing but return pushes no frame, and tests of states
-//! that aren't active and stand one behind the other are passed over by one look-up.
+//! what each instruction does. Then read `specs/Operations.antt`: an operation is what the loop of
+//! a run does for the instruction at a place, either what that instruction says, or at once what it
+//! and those that come next do. The operations are made with the machine.
+//!
+//! The top frame is a value of the loop, which each instruction changes in place; the frames below
+//! it lie on a stack whose room is reserved once, and so is the room for the events that are put
+//! out. Where a run takes many steps that change little, they are done at once: a call of a
+//! procedure that does nothing but return pushes no frame, and tests of states that aren't active
+//! and stand one behind the other are passed over by one look-up.
 #![tactic(auto)]
 
 mod calls;

@@ -19,7 +19,8 @@ slot-requires-clause-filled c =
 
 pub words-requires : goal.words-requires
 words-requires c =
-    frame_good c.self.invariant.0 c.self.view_is c.args.i c.requires c.index.result.now c.index.ensures c.slot.result.now
+    frame_good c.self.invariant.0 c.self.view_is c.args.i c.requires c.index.result.now c.index.ensures
+    c.slot.result.now
     c.slot.ensures
 
 pub returns-clause-words : goal.returns-clause-words

@@ -30,5 +30,6 @@ invariant_of-self c =
 
 pub returns-clause-frames : goal.returns-clause-frames
 returns-clause-frames c =
-    push_frames c.self.invariant.0 c.self.view_is c.requires.spare _ c.index_mut.ensures.value c.fill.new.self c.of.result
+    push_frames c.self.invariant.0 c.self.view_is c.requires.spare _ c.index_mut.ensures.value c.fill.new.self
+    c.of.result
     c.fill.ensures.chunk c.fill.ensures.slots c.of.ensures.slot _ c.of.ensures.words

@@ -6,7 +6,17 @@ use Rattle.frame_stack.proofs.stack.FrameStack.reserve.Goals as goal
 pub overflow_add-self : goal.overflow_add-self
 overflow_add-self c =
     let few = c.self.invariant.0.few in let chunks = c.self.inside.chunks.ok.0 in let within = c.self.invariant.1 in
-    record { fits = omega (arith, slots_fit c.self.invariant.0, within, few, c.if-len-wanted.false, c.len.ensures, chunks) }
+    record {
+      fits = omega (
+        arith,
+        slots_fit c.self.invariant.0,
+        within,
+        few,
+        c.if-len-wanted.false,
+        c.len.ensures,
+        chunks,
+      );
+    }
 
 pub invariant_of-self : goal.invariant_of-self
 invariant_of-self c =
@@ -18,8 +28,10 @@ invariant_of-self c =
     let more = reserve_stack c.self.invariant.0 c.self.view_is ds c.in_ok-more.ensures.0 few in
     let within : s.len ≤ s.room = c.self.invariant.1 in
     let room : s.room - s.len + length ds * 1024 ≡ s.room + wanted * 1024 - s.len = omega (arith, long, within) in
-    let spare : IsStack (cs ++ ds) s.len (s.room + wanted * 1024 - s.len) = counted_again more room in
-    (subst (λ l. IsStack l s.len (s.room + wanted * 1024 - s.len)) (sym c.in-Ok.ensures.items) spare, omega (arith, within))
+    let spare : IsStack (cs ++ ds) s.len (s.room + wanted * 1024 - s.len) = counted_again more room in (
+      subst (λ l. IsStack l s.len (s.room + wanted * 1024 - s.len)) (sym c.in-Ok.ensures.items) spare,
+      omega (arith, within),
+    )
 
 pub returns-in-Ok-clause-frames : goal.returns-in-Ok-clause-frames
 returns-in-Ok-clause-frames c =

@@ -70,8 +70,8 @@ fn write_kind<E: Sink>(err: &mut E, kind: FormKind) -> Result<(), Failed>
 fn write_head<E: Sink>(err: &mut E, word: &str, number: u64) -> Result<(), Failed>
     ensures ok { OnOk result (E.wrote err.new ≡ append_known (E.wrote err.old)
         (word.now ++ decimal number ++ codes ": ")) }
-    ensures failed { OnErr result
-        (AppendsProperFront (E.wrote err.old) (E.wrote err.new) (word.now ++ decimal number ++ codes ": ")) }
+    ensures failed { OnErr result (AppendsProperFront (E.wrote err.old) (E.wrote err.new)
+        (word.now ++ decimal number ++ codes ": ")) }
     ensures cause { HasCause (E.faults err.old) (E.faults err.new) result }
 {
     write_all(err, word.as_bytes())?;

@@ -1,2 +1,4 @@
+pub mod FrontLemmas
+pub mod LineLemmas
 pub mod ChartTextLemmas
 pub mod UsageLemmas

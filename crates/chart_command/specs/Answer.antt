@@ -1,5 +1,5 @@
 -- The answer of the program: what it writes and how it ends, for all words, files and faults.
-use Rattle.std.specs.Prelude.{◌≡◌, ◌⊎◌, ℕ, Option, Some, None}
+use Rattle.std.specs.Prelude.{◌≡◌, ◌⊎◌, ℕ, List, Option, Some, None}
 use Rattle.std.specs.Io.KnownBytes.{append_known}
 use Rattle.flow_base.specs.Causes.{Stands}
 use Rattle.flow_base.specs.declared.bounds.Bounds.{Bounds}
@@ -7,6 +7,7 @@ use Rattle.flow_base.specs.declared.status.Status.{Status}
 use Rattle.command_words.specs.Commands.{RunBounds, Command, Check, Fmt, Rules, Compile, Exec, Run, Upgrade, Selftest}
 use Rattle.command_words.specs.Commands.{files_of}
 use Rattle.command_files.specs.Call.{Output, Call, OthersStay}
+use Rattle.command_files.specs.Writing.{WroteFront}
 use Rattle.checked_commands.specs.Check.{CheckEnds}
 use Rattle.checked_commands.specs.Rules.{RulesEnds}
 use Rattle.code_commands.specs.Exec.{ExecEnds}
@@ -63,8 +64,13 @@ Ends (Some (Selftest number)) call ending = EndsAs of_selftest (CaseEnds call nu
 abbrev pub CallEnds : Option Command → Call → Ending → Type 0
 CallEnds command call ending = Ends command call ending ⊎ EndsAtOnce call endings.Memory ending
 
--- the answer: the call ends in one way, which fixes its status and, where no write of it fails, its line
--- on standard error; files that the words don't name keep what they have left
+-- the line stands on standard error, or a write of it failed, and a proper prefix of it does
+abbrev pub LineStands : Output → Output → List ℕ → Type 0
+LineStands before after line =
+    (after.holds ≡ append_known before.holds line) ⊎ WroteFront before after line
+
+-- the answer: the call ends in one way, which fixes its status and its line on standard error, all of which stands
+-- there where no write of it fails; files that the words don't name keep what they have left
 pub record Answer (command : Option Command) (call : Call) (errors_before errors_after : Output)
     (status : Status) : Type 0 where
   pub ending : Ending
@@ -73,3 +79,4 @@ pub record Answer (command : Option Command) (call : Call) (errors_before errors
   pub answered : status ≡ status_of ending
   pub line : Stands errors_before.faults errors_after.faults
       → errors_after.holds ≡ append_known errors_before.holds (line_of ending)
+  pub written : LineStands errors_before errors_after (line_of ending)

@@ -1,6 +1,7 @@
 //! The line on standard error.
-ghost use Rattle.std.specs.Prelude.{◌≡◌, ◌++◌, OnOk, codes, decimal};
+ghost use Rattle.std.specs.Prelude.{◌≡◌, ◌++◌, OnOk, OnErr, codes, decimal};
 ghost use Rattle.std.specs.Io.KnownBytes.{append_known};
+ghost use Rattle.flow_base.specs.Bytes.{AppendsProperFront};
 ghost use Rattle.flow_base.specs.Causes.{HasCause};
 ghost use Rattle.chart_command.specs.Ending.{place_text, kind_text, event_fault_text, line_of};
 
@@ -11,9 +12,15 @@ use itoa::Buffer;
 use step_text::LineFault;
 use token_grammar::Span;
 
+/// The line for words that ask for no command.
+const USAGE: &str = "usage: flowc check CHART, fmt CHART, rules CHART EVENTS, compile CHART, \
+    exec CODE EVENTS, run CHART EVENTS, upgrade CODE, selftest N; --depth D, --steps S\n";
+
 /// Writes a number.
 fn write_number<E: Sink>(err: &mut E, number: u64) -> Result<(), Failed>
     ensures ok { OnOk result (E.wrote err.new ≡ append_known (E.wrote err.old) (decimal number)) }
+    ensures failed { OnErr result
+        (AppendsProperFront (E.wrote err.old) (E.wrote err.new) (decimal number)) }
     ensures cause { HasCause (E.faults err.old) (E.faults err.new) result }
 {
     let mut buffer = Buffer::new();
@@ -24,6 +31,8 @@ fn write_number<E: Sink>(err: &mut E, number: u64) -> Result<(), Failed>
 fn write_line<E: Sink>(err: &mut E, text: &str) -> Result<(), Failed>
     ensures ok { OnOk result
         (E.wrote err.new ≡ append_known (E.wrote err.old) (text.now ++ codes "\n")) }
+    ensures failed { OnErr result
+        (AppendsProperFront (E.wrote err.old) (E.wrote err.new) (text.now ++ codes "\n")) }
     ensures cause { HasCause (E.faults err.old) (E.faults err.new) result }
 {
     write_all(err, text.as_bytes())?;
@@ -33,6 +42,8 @@ fn write_line<E: Sink>(err: &mut E, text: &str) -> Result<(), Failed>
 /// Writes the place of a fault of a chart text.
 fn write_place<E: Sink>(err: &mut E, at: Span) -> Result<(), Failed>
     ensures ok { OnOk result (E.wrote err.new ≡ append_known (E.wrote err.old) (place_text at)) }
+    ensures failed { OnErr result
+        (AppendsProperFront (E.wrote err.old) (E.wrote err.new) (place_text at)) }
     ensures cause { HasCause (E.faults err.old) (E.faults err.new) result }
 {
     write_all(err, b"chart ")?;
@@ -44,6 +55,8 @@ fn write_place<E: Sink>(err: &mut E, at: Span) -> Result<(), Failed>
 /// Writes number and name of a kind of fault of a chart text.
 fn write_kind<E: Sink>(err: &mut E, kind: FormKind) -> Result<(), Failed>
     ensures ok { OnOk result (E.wrote err.new ≡ append_known (E.wrote err.old) (kind_text kind)) }
+    ensures failed { OnErr result
+        (AppendsProperFront (E.wrote err.old) (E.wrote err.new) (kind_text kind)) }
     ensures cause { HasCause (E.faults err.old) (E.faults err.new) result }
 {
     write_all(err, b": ")?;
@@ -57,6 +70,8 @@ fn write_kind<E: Sink>(err: &mut E, kind: FormKind) -> Result<(), Failed>
 fn write_head<E: Sink>(err: &mut E, word: &str, number: u64) -> Result<(), Failed>
     ensures ok { OnOk result (E.wrote err.new ≡ append_known (E.wrote err.old)
         (word.now ++ decimal number ++ codes ": ")) }
+    ensures failed { OnErr result (AppendsProperFront (E.wrote err.old) (E.wrote err.new)
+        (word.now ++ decimal number ++ codes ": ")) }
     ensures cause { HasCause (E.faults err.old) (E.faults err.new) result }
 {
     write_all(err, word.as_bytes())?;
@@ -68,6 +83,8 @@ fn write_head<E: Sink>(err: &mut E, word: &str, number: u64) -> Result<(), Faile
 fn write_event_fault<E: Sink>(err: &mut E, fault: LineFault) -> Result<(), Failed>
     ensures ok { OnOk result
         (E.wrote err.new ≡ append_known (E.wrote err.old) (event_fault_text fault)) }
+    ensures failed { OnErr result
+        (AppendsProperFront (E.wrote err.old) (E.wrote err.new) (event_fault_text fault)) }
     ensures cause { HasCause (E.faults err.old) (E.faults err.new) result }
 {
     write_number(err, u64::from(fault.number()))?;
@@ -75,10 +92,13 @@ fn write_event_fault<E: Sink>(err: &mut E, fault: LineFault) -> Result<(), Faile
     write_all(err, fault.name().as_bytes())
 }
 
-/// Writes the line of an ending on standard error. Takes no memory.
+/// Writes the line of an ending on standard error. Takes no memory. Where a write fails a proper
+/// prefix of the line stands there.
 pub fn report<E: Sink>(err: &mut E, ending: &Ending) -> Result<(), Failed>
     ensures ok { OnOk result
         (E.wrote err.new ≡ append_known (E.wrote err.old) (line_of ending.now)) }
+    ensures failed { OnErr result
+        (AppendsProperFront (E.wrote err.old) (E.wrote err.new) (line_of ending.now)) }
     ensures cause { HasCause (E.faults err.old) (E.faults err.new) result }
 {
     match ending {
@@ -106,6 +126,3 @@ pub fn report<E: Sink>(err: &mut E, ending: &Ending) -> Result<(), Failed>
         Ending::Memory => write_all(err, b"out of memory\n"),
     }
 }
-
-const USAGE: &str =
-    "usage: flowc check CHART, fmt CHART, rules CHART EVENTS, compile CHART, exec CODE EVENTS, run CHART EVENTS, upgrade CODE, selftest N; --depth D, --steps S\n";

@@ -1,7 +1,9 @@
 use Rattle.std.proofs.Common.{Option, subst}
-use Rattle.command_files.specs.Call.{Call, call_of}
+use Rattle.command_files.specs.Call.{Output, Call, call_of, output_of}
 use Rattle.command_words.specs.Commands.{Command}
+use Rattle.chart_command.specs.Ending.{line_of}
 use Rattle.chart_command.specs.Answer.{CallEnds}
+use Rattle.chart_command.proofs.LineLemmas.{line_stands, line_whole}
 use Rattle.chart_command.proofs.UsageLemmas.{usage_only, no_command}
 use Rattle.chart_command.proofs.command.chart_main.Goals as goal
 
@@ -17,3 +19,19 @@ returns-clause-no_command g c =
     rw c.status.ensures (λ none.
     no_command call c.call-ending.result
     (subst (λ (command : Option Command). CallEnds command call c.call-ending.result) none c.call-ending.ensures.ends))
+
+-- the call ends so, and its line stands on standard error, or a proper prefix of it
+pub returns-clause-answer : goal.returns-clause-answer
+returns-clause-answer g c =
+    let before : Output = output_of g.E.Sink c.args.err.now in
+    let after : Output = output_of g.E.Sink c.report.new.err in
+    let line = line_of c.call-ending.result in
+    record {
+      ending = c.call-ending.result;
+      ends = c.call-ending.ensures.ends;
+      others = c.call-ending.ensures.others;
+      answered = c.status.ensures;
+      line = line_whole before after line c.report.result c.report.ensures.ok c.report.ensures.cause;
+      written = line_stands before after line c.report.result c.report.ensures.ok c.report.ensures.failed
+          c.report.ensures.cause;
+    }

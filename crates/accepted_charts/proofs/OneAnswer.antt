@@ -63,7 +63,7 @@ same_type (sorts.Number a) (sorts.Number b) m n h f g =
     (ap sorts.Number (same_scale a b parts), mode)
 
 -- a datum of its parts
-abbrev var_with : List ℕ → VarKind → Sort → Mode → ℤ → Var
+abbrev pub var_with : List ℕ → VarKind → Sort → Mode → ℤ → Var
 var_with name kind sort mode init = record { name = name; kind = kind; sort = sort; mode = mode; init = init }
 
 -- a declaration declares one datum
@@ -86,7 +86,7 @@ same_vars (v ∷ vs) (d ∷ ds) (e ∷ es) a b =
     ap₂ (λ x xs. x ∷ xs) (same_var v d e a.0 b.0) (same_vars vs ds es a.1 b.1)
 
 -- a resolved chart of its parts
-abbrev whole : Tree → List (List ℕ) → List Var → List EventDecl → List InitText → List resolved.State
+abbrev pub whole : Tree → List (List ℕ) → List Var → List EventDecl → List InitText → List resolved.State
     → List resolved.Junction → Resolved
 whole tree names vars events inits states junctions = record {
   tree = tree;

@@ -1,5 +1,5 @@
 //! A text is the text of one chart, which is valid, or it has one first fault, and never both.
-ghost use Rattle.std.specs.Prelude.{◌≡◌, ℕ, List};
+ghost use Rattle.std.specs.Prelude.{◌≡◌, ◌⊎◌, ℕ, List};
 ghost use Rattle.token_grammar.specs.declared.token.Span.{Span};
 ghost use Rattle.chart_tree.specs.declared.fault.FormKind.{FormKind};
 ghost use Rattle.state_tree.specs.Chart.{Chart};
@@ -15,6 +15,12 @@ pub fn a_text_has_one_answer()
         → (kind ≡ other) × (at ≡ there) }
     ensures apart { (text : List ℕ) (c : Chart) (kind : FormKind) (at : Span)
         → IsAccepted text c → IsFirstFault text kind at → ⊥ }
+{}
+
+/// A text that isn't accepted is refused, with a first fault.
+pub fn a_text_is_accepted_or_refused()
+    ensures { (text : List ℕ) → ((c : Chart) × IsAccepted text c)
+        ⊎ ((kind : FormKind) × (at : Span) × IsFirstFault text kind at) }
 {}
 
 /// A chart that a text is accepted as is valid.

@@ -3,7 +3,6 @@ use Rattle.std.proofs.Common.{List, ℕ, Result, Ok, Err, IfErr}
 use Rattle.chart_tree.specs.declared.fault.FormFault.{FormFault}
 use Rattle.chart_tree.specs.declared.fault.FormFault.TheVariants as faults
 use Rattle.chart_tree.specs.Trees.{Chart}
-use Rattle.canonical_claims.specs.Terms.{IsChart}
 use Rattle.chart_reader.specs.Text.{Spells}
 use Rattle.chart_format.proofs.Formatted.{spelled_has}
 use Rattle.state_tree.specs.Chart as plain

@@ -1,5 +1,5 @@
 -- A text has one resolved chart, and one first fault.
-use Rattle.std.proofs.Common.{◌≡◌, ◌≤◌, ℕ, ℤ, List, [], ◌∷◌, Option, Some, None, refl, sym, ap, ap₂, ◌∙◌, subst}
+use Rattle.std.proofs.Common.{◌≡◌, ◌≤◌, ℕ, ℤ, List, [], ◌∷◌, Some, refl, sym, ap, ap₂, ◌∙◌, subst}
 use native.Mathlib.Bridge.{le_prop}
 use mathlib.Core.HLevel.{is_prop→PathP}
 use Rattle.token_grammar.specs.declared.token.Span.{Span}
@@ -14,14 +14,13 @@ use Rattle.actions.specs.declared.names.Sort.TheVariants as sorts
 use Rattle.actions.specs.declared.names.Var.{Var}
 use Rattle.actions.specs.declared.names.VarKind.{VarKind}
 use Rattle.chart_tree.specs.declared.fault.FormKind.{FormKind}
-use Rattle.chart_tree.specs.declared.fault.FormFault.TheVariants as faults
 use Rattle.chart_tree.specs.declared.first.Found.{Found}
 use Rattle.chart_tree.specs.declared.sort.InitText.{InitText}
 use Rattle.chart_tree.specs.First.{at_place}
 use Rattle.chart_tree.specs.Trees as trees
 use Rattle.chart_tree.specs.Trees.{ScaleParts}
 use Rattle.chart_tree.specs.Views.{parts_of}
-use Rattle.chart_reader.specs.Text.{Spells, IsRefusal}
+use Rattle.chart_reader.specs.Text.{Spells}
 use Rattle.chart_reader.proofs.OneRefusal.{one_chart, refused_spells_none, one_refusal}
 use Rattle.state_tree.specs.Chart.{Chart}
 use Rattle.resolved_tree.specs.Faults.{first_of, first_with}
@@ -29,8 +28,8 @@ use Rattle.resolved_tree.specs.Plain.{chart_of}
 use Rattle.resolved_tree.specs.Resolved as resolved
 use Rattle.resolved_tree.specs.Resolved.{Resolved}
 use Rattle.chart_scope.specs.Names.{name_faults}
-use Rattle.chart_scope.specs.Resolution.{type_of, IsVarOf, AreVarsOf, IsResolutionOf, IsResolved}
-use Rattle.chart_check.specs.Check.{IsChecked, IsFirstOf}
+use Rattle.chart_scope.specs.Resolution.{type_of, IsVarOf, AreVarsOf, IsResolutionOf}
+use Rattle.chart_check.specs.Check.{IsFirstOf}
 use Rattle.chart_check.proofs.FirstLemmas.{one_first, none_where_sound}
 use Rattle.accepted_charts.specs.Accepted.{IsResolvedText, IsAccepted, IsFirstFault, OfText, OfNames, OfChart}
 

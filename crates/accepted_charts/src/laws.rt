@@ -23,7 +23,7 @@ pub fn a_text_is_accepted_or_refused()
         ⊎ ((kind : FormKind) × (at : Span) × IsFirstFault text kind at) }
 {}
 
-/// A chart that a text is accepted as is valid.
+/// The chart that an accepted text stands for is valid.
 pub fn accepted_charts_are_valid()
     ensures { (text : List ℕ) (c : Chart) → IsAccepted text c → IsValid c }
 {}

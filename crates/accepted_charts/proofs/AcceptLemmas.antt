@@ -1,18 +1,20 @@
--- What a text spells can be resolved, and its resolved chart can be checked.
+-- What a text spells can be resolved, its resolved chart can be checked, and what is accepted is valid.
 use Rattle.std.proofs.Common.{List, ℕ, Result, Ok, Err, IfErr}
 use Rattle.chart_tree.specs.declared.fault.FormFault.{FormFault}
 use Rattle.chart_tree.specs.declared.fault.FormFault.TheVariants as faults
 use Rattle.chart_tree.specs.Trees.{Chart}
-use Rattle.canonical_claims.specs.Terms.{IsChart}
 use Rattle.chart_reader.specs.Text.{Spells}
 use Rattle.chart_format.proofs.Formatted.{spelled_has}
+use Rattle.state_tree.specs.Chart as plain
+use Rattle.state_tree.specs.Valid.{IsValid}
 use Rattle.resolved_tree.specs.Promise as promise
 use Rattle.resolved_tree.specs.Resolved.{Resolved}
 use Rattle.chart_scope.specs.Names as names
 use Rattle.chart_scope.specs.Resolution.{IsResolved}
 use Rattle.chart_check.specs.Check as check
 use Rattle.chart_promises.proofs.PromiseLemmas.{keeps_promise}
-use Rattle.accepted_charts.specs.Accepted.{Refuses, OfNames, OfChart}
+use Rattle.chart_check.proofs.PassLemmas.{sound_valid}
+use Rattle.accepted_charts.specs.Accepted.{IsAccepted, Refuses, OfNames, OfChart}
 
 -- the resolved chart of a text keeps the promise of resolved charts
 pub promised : (text : List ℕ) (c : Chart) (r : Resolved) → Spells text c → IsResolved c r → promise.KeepsPromise r
@@ -34,3 +36,9 @@ pub refused : {A : Type 0} (text : List ℕ) (c : Chart) (r : Resolved) (result 
     → IfErr result (check.Refuses r) → IfErr result (Refuses text)
 refused text c r (Ok x) spells h f = tt
 refused text c r (Err fault) spells h f = of_chart text c r fault spells h f
+
+-- what is accepted is valid: its resolved chart keeps the promise, and is sound
+pub accepted_valid : (text : List ℕ) (c : plain.Chart) → IsAccepted text c → IsValid c
+accepted_valid text c a =
+    let keeps = promised text a.read.tree a.resolved a.read.spells a.read.resolves in
+    sound_valid a.resolved c keeps a.checked.sound a.checked.chart

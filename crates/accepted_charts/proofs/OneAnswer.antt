@@ -1,5 +1,5 @@
 -- A text has one resolved chart, and one first fault.
-use Rattle.std.proofs.Common.{◌≡◌, ◌≤◌, ℕ, ℤ, List, [], ◌∷◌, Option, Some, None, refl, sym, ap, ap₂, ◌∙◌, subst}
+use Rattle.std.proofs.Common.{◌≡◌, ◌≤◌, ℕ, ℤ, List, [], ◌∷◌, Some, refl, sym, ap, ap₂, ◌∙◌, subst}
 use native.Mathlib.Bridge.{le_prop}
 use mathlib.Core.HLevel.{is_prop→PathP}
 use Rattle.token_grammar.specs.declared.token.Span.{Span}
@@ -14,14 +14,13 @@ use Rattle.actions.specs.declared.names.Sort.TheVariants as sorts
 use Rattle.actions.specs.declared.names.Var.{Var}
 use Rattle.actions.specs.declared.names.VarKind.{VarKind}
 use Rattle.chart_tree.specs.declared.fault.FormKind.{FormKind}
-use Rattle.chart_tree.specs.declared.fault.FormFault.TheVariants as faults
 use Rattle.chart_tree.specs.declared.first.Found.{Found}
 use Rattle.chart_tree.specs.declared.sort.InitText.{InitText}
 use Rattle.chart_tree.specs.First.{at_place}
 use Rattle.chart_tree.specs.Trees as trees
 use Rattle.chart_tree.specs.Trees.{ScaleParts}
 use Rattle.chart_tree.specs.Views.{parts_of}
-use Rattle.chart_reader.specs.Text.{Spells, IsRefusal}
+use Rattle.chart_reader.specs.Text.{Spells}
 use Rattle.chart_reader.proofs.OneRefusal.{one_chart, refused_spells_none, one_refusal}
 use Rattle.state_tree.specs.Chart.{Chart}
 use Rattle.resolved_tree.specs.Faults.{first_of, first_with}
@@ -29,8 +28,8 @@ use Rattle.resolved_tree.specs.Plain.{chart_of}
 use Rattle.resolved_tree.specs.Resolved as resolved
 use Rattle.resolved_tree.specs.Resolved.{Resolved}
 use Rattle.chart_scope.specs.Names.{name_faults}
-use Rattle.chart_scope.specs.Resolution.{type_of, IsVarOf, AreVarsOf, IsResolutionOf, IsResolved}
-use Rattle.chart_check.specs.Check.{IsChecked, IsFirstOf}
+use Rattle.chart_scope.specs.Resolution.{type_of, IsVarOf, AreVarsOf, IsResolutionOf}
+use Rattle.chart_check.specs.Check.{IsFirstOf}
 use Rattle.chart_check.proofs.FirstLemmas.{one_first, none_where_sound}
 use Rattle.accepted_charts.specs.Accepted.{IsResolvedText, IsAccepted, IsFirstFault, OfText, OfNames, OfChart}
 
@@ -63,7 +62,7 @@ same_type (sorts.Number a) (sorts.Number b) m n h f g =
     (ap sorts.Number (same_scale a b parts), mode)
 
 -- a datum of its parts
-abbrev var_with : List ℕ → VarKind → Sort → Mode → ℤ → Var
+abbrev pub var_with : List ℕ → VarKind → Sort → Mode → ℤ → Var
 var_with name kind sort mode init = record { name = name; kind = kind; sort = sort; mode = mode; init = init }
 
 -- a declaration declares one datum
@@ -86,7 +85,7 @@ same_vars (v ∷ vs) (d ∷ ds) (e ∷ es) a b =
     ap₂ (λ x xs. x ∷ xs) (same_var v d e a.0 b.0) (same_vars vs ds es a.1 b.1)
 
 -- a resolved chart of its parts
-abbrev whole : Tree → List (List ℕ) → List Var → List EventDecl → List InitText → List resolved.State
+abbrev pub whole : Tree → List (List ℕ) → List Var → List EventDecl → List InitText → List resolved.State
     → List resolved.Junction → Resolved
 whole tree names vars events inits states junctions = record {
   tree = tree;

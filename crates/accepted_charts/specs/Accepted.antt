@@ -1,5 +1,5 @@
 -- Which chart texts are accepted, and as which chart; and the first fault of another text.
-use Rattle.std.specs.Prelude.{◌≡◌, ℕ, List, Option, Some, None}
+use Rattle.std.specs.Prelude.{◌≢◌, ℕ, List, Option, Some, None}
 use Rattle.token_grammar.specs.declared.token.Span.{Span}
 use Rattle.chart_tree.specs.declared.fault.FormKind.{FormKind}
 use Rattle.chart_tree.specs.declared.fault.FormFault.{FormFault}
@@ -37,7 +37,7 @@ abbrev pub Refuses : List ℕ → FormFault → Type 0
 Refuses text (faults.At kind at) = IsFirstFault text kind at
 Refuses text faults.Memory = Unit {0}
 
--- what is answered of a text whose first fault is asked for
+-- what is answered of a text whose first fault is asked for: none where it is accepted, and never a want of memory
 abbrev pub IsFaultOf : List ℕ → Option FormFault → Type 0
 IsFaultOf text None = (c : Chart) × IsAccepted text c
-IsFaultOf text (Some fault) = Refuses text fault
+IsFaultOf text (Some fault) = Refuses text fault × (fault ≢ faults.Memory)

@@ -1,8 +1,9 @@
-//! A text is the text of one chart, or it has one first fault, and never both.
-ghost use Rattle.std.specs.Prelude.{◌≡◌, ℕ, List};
+//! A text is the text of one chart, which is valid, or it has one first fault, and never both.
+ghost use Rattle.std.specs.Prelude.{◌≡◌, ◌⊎◌, ℕ, List};
 ghost use Rattle.token_grammar.specs.declared.token.Span.{Span};
 ghost use Rattle.chart_tree.specs.declared.fault.FormKind.{FormKind};
 ghost use Rattle.state_tree.specs.Chart.{Chart};
+ghost use Rattle.state_tree.specs.Valid.{IsValid};
 ghost use Rattle.accepted_charts.specs.Accepted.{IsAccepted, IsFirstFault};
 
 /// A text is accepted as at most one chart, it has at most one first fault, and a text that is
@@ -14,4 +15,15 @@ pub fn a_text_has_one_answer()
         → (kind ≡ other) × (at ≡ there) }
     ensures apart { (text : List ℕ) (c : Chart) (kind : FormKind) (at : Span)
         → IsAccepted text c → IsFirstFault text kind at → ⊥ }
+{}
+
+/// A text that isn't accepted is refused, with a first fault.
+pub fn a_text_is_accepted_or_refused()
+    ensures { (text : List ℕ) → ((c : Chart) × IsAccepted text c)
+        ⊎ ((kind : FormKind) × (at : Span) × IsFirstFault text kind at) }
+{}
+
+/// The chart that an accepted text stands for is valid.
+pub fn accepted_charts_are_valid()
+    ensures { (text : List ℕ) (c : Chart) → IsAccepted text c → IsValid c }
 {}

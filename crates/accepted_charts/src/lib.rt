@@ -15,7 +15,7 @@ use chart_reader::read_chart;
 use chart_scope::resolve;
 use chart_tree::FormFault;
 use flow_base::Memory;
-pub use laws::a_text_has_one_answer;
+pub use laws::{a_text_has_one_answer, a_text_is_accepted_or_refused, accepted_charts_are_valid};
 use state_tree::Chart;
 use std::alloc::Global;
 

@@ -1,22 +1,30 @@
--- The first fault of a resolved chart is one alone.
-use Rattle.std.proofs.Common.{◌≡◌, ℕ, nat_eq, false, cond, List, [], Some, None, refl, sym}
-use Rattle.std.proofs.Common.{ap, ap₂, ◌∙◌, arith}
+-- A resolved chart is sound, or has a first fault, which is one alone.
+use Rattle.std.proofs.Common.{◌≡◌, ◌⊎◌, ◌≤◌, ◌<◌, ℕ, nat_eq, false, cond, List, [], Option, Some, None, refl, sym}
+use Rattle.std.proofs.Common.{ap, ap₂, ◌∙◌, arith, inl, inr}
+use Rattle.std.proofs.lemmas.Bool.{cases_lt}
 use Rattle.std.proofs.lemmas.Bool.Decides.{nat_tests}
 use Rattle.chart_tree.specs.declared.fault.FormKind.{FormKind}
 use Rattle.chart_tree.specs.declared.fault.FormKind.TheVariants as kinds
 use Rattle.chart_tree.specs.declared.first.Found.{Found}
-use Rattle.chart_tree.specs.First.{IsFirst, comes_before, is_before}
+use Rattle.chart_tree.specs.First.{at_place, IsFirst, comes_before, is_before}
 use Rattle.chart_tree.specs.Form.{form_number}
-use Rattle.chart_structure.specs.Net.{Net}
+use Rattle.chart_structure.specs.Net.{Net, name_of}
+use Rattle.state_tree.specs.declared.limits.TheConstants.{PAIR_LIMIT}
 use Rattle.state_tree.specs.declared.parts.ListKind.{ListKind}
 use Rattle.chart_structure.specs.declared.net.Arrow.{Arrow}
 use Rattle.chart_structure.specs.Structure.{StateFault, EmptyState, EmptyChart, Missing, Unwanted, UnwantedHistory}
 use Rattle.chart_structure.specs.Structure.{ListFault, Open, LeavesDefault, LeavesInner, CrossesInner, CrossesOuter}
 use Rattle.chart_structure.specs.Structure.{StructureFault, OfState, OfList, OfEmpty, PairFault, TooMany}
+use Rattle.chart_structure.specs.Reached.{NetPairs}
+use Rattle.chart_structure.proofs.PairLemmas.{one_number_of_net}
+use Rattle.chart_structure.proofs.FaultLemmas.{structure_first}
 use Rattle.resolved_tree.specs.Faults.{first_of, first_with}
+use Rattle.resolved_tree.specs.Promise.{IsResolved}
 use Rattle.resolved_tree.specs.Resolved.{Resolved}
+use Rattle.resolved_tree.proofs.FirstLemmas.{none_found}
 use Rattle.chart_types.specs.Types.{type_faults}
 use Rattle.chart_nets.specs.Nets.{net_of}
+use Rattle.chart_validity.proofs.NetLemmas.{is_net}
 use Rattle.chart_check.specs.Check.{IsSound, IsFirstOf, OfTypes, OfStructure, OfPairs}
 
 -- ---- the order of faults
@@ -109,3 +117,34 @@ pub none_where_sound : (r : Resolved) (f : Found) → IsSound r → IsFirstOf r 
 none_where_sound r f s (OfTypes a) = no_first r f s.types a
 none_where_sound r f s (OfStructure none a) = s.structure f a.0
 none_where_sound r f s (OfPairs none sound a) = s.pairs f a
+
+-- ---- sound, or a first fault
+
+-- a net with few enough pairs has no fault of pairs
+no_pair_fault : (n : Net) (count : ℕ) → ((other : ℕ) → NetPairs n other → other ≡ count) → count ≤ PAIR_LIMIT
+    → (f : Found) → PairFault n f → ⊥
+no_pair_fault n count only few _ (TooMany other are over) = absurd (let same = only other are in omega arith)
+
+pub sound_or_faulty : (r : Resolved) → IsResolved r → IsSound r ⊎ ((f : Found) × IsFirstOf r f)
+sound_or_faulty r res = by_types (first_of (type_faults r)) refl
+  where
+    by_pairs : type_faults r ≡ [] → IsFirst (StructureFault (net_of r)) None → (count : ℕ) → NetPairs (net_of r) count
+        → ((other : ℕ) → NetPairs (net_of r) other → other ≡ count) → (PAIR_LIMIT < count) ⊎ (count ≤ PAIR_LIMIT)
+        → IsSound r ⊎ ((f : Found) × IsFirstOf r f)
+    by_pairs types sound count are only (inl over) =
+        inr (at_place kinds.TooManyPairs (name_of (net_of r) 0), OfPairs types sound (TooMany count are over))
+    by_pairs types sound count are only (inr few) =
+        inl (record { types = types; structure = sound; pairs = no_pair_fault (net_of r) count only few })
+
+    by_structure : type_faults r ≡ [] → (o : Option Found) → IsFirst (StructureFault (net_of r)) o
+        → IsSound r ⊎ ((f : Found) × IsFirstOf r f)
+    by_structure types (Some f) first = inr (f, OfStructure types first)
+    by_structure types None first =
+        let one = one_number_of_net (net_of r) in
+        by_pairs types first one.0 one.1 one.2 (cases_lt PAIR_LIMIT one.0)
+
+    by_types : (o : Option Found) → first_of (type_faults r) ≡ o → IsSound r ⊎ ((f : Found) × IsFirstOf r f)
+    by_types (Some f) e = inr (f, OfTypes e)
+    by_types None e =
+        let first = structure_first (net_of r) (is_net r res) in
+        by_structure (none_found (type_faults r) e) first.0 first.1

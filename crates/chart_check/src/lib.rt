@@ -9,5 +9,5 @@ mod laws;
 mod parts;
 mod pass;
 
-pub use laws::a_chart_has_one_first_fault;
+pub use laws::{a_chart_has_one_first_fault, a_chart_is_sound_or_has_a_first_fault};
 pub use pass::check;

@@ -235,7 +235,7 @@ module _ (c : Chart) where
         a.4,
       )
 
-  below_on : (s count : ℕ) → s ≤ state_count c.tree → chart_reached.PairsBelow c s count
+  pub below_on : (s count : ℕ) → s ≤ state_count c.tree → chart_reached.PairsBelow c s count
       → PairsBelow (net_of_chart c) s count
   below_on zero count le a = a
   below_on (suc s) count le a =

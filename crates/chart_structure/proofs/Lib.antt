@@ -10,3 +10,7 @@ pub mod ValidLemmas
 pub mod MapLemmas
 pub mod ErasedLemmas
 pub mod ChartLemmas
+pub mod LeastLemmas
+pub mod PairLemmas
+pub mod FirstLemmas
+pub mod FaultLemmas

@@ -1,7 +1,8 @@
 //! What holds of every net and of every checked chart.
-ghost use Rattle.std.specs.Prelude.{◌≡◌, ◌≤◌, ℕ};
+ghost use Rattle.std.specs.Prelude.{◌≡◌, ◌≤◌, ℕ, Option};
 ghost use Rattle.active_config.specs.Tree.{IsTree};
 ghost use Rattle.chart_tree.specs.declared.first.Found.{Found};
+ghost use Rattle.chart_tree.specs.First.{IsFirst};
 ghost use Rattle.state_tree.specs.declared.limits.TheConstants as limits;
 ghost use Rattle.state_tree.specs.Chart.{Chart};
 ghost use Rattle.state_tree.specs.Reached.{ChartPairs};
@@ -9,6 +10,7 @@ ghost use Rattle.state_tree.specs.Valid.{HasStructure};
 ghost use Rattle.chart_structure.specs.Charts.{net_of_chart};
 ghost use Rattle.chart_structure.specs.Erased.{erased};
 ghost use Rattle.chart_structure.specs.Net.{Net, IsNet};
+ghost use Rattle.chart_structure.specs.Reached.{NetPairs};
 ghost use Rattle.chart_structure.specs.Structure.{StructureFault, PairFault};
 ghost use Rattle.chart_structure.specs.Valid.{IsValid};
 
@@ -40,4 +42,18 @@ pub fn charts_of_valid_nets_have_structure()
 pub fn charts_with_structure_have_valid_nets()
     ensures { (c : Chart) → IsTree c.tree → HasStructure c
         → ((count : ℕ) → ChartPairs c count → count ≤ limits.PAIR_LIMIT) → IsValid (net_of_chart c) }
+{}
+
+/// A chart has exactly one number of pairs of a list and a transition, and so has a net.
+pub fn a_chart_has_one_number_of_pairs()
+    ensures chart { (c : Chart) → (count : ℕ) × ChartPairs c count
+        × ((other : ℕ) → ChartPairs c other → other ≡ count) }
+    ensures net { (n : Net) → (count : ℕ) × NetPairs n count
+        × ((other : ℕ) → NetPairs n other → other ≡ count) }
+{}
+
+/// Of the faults of structure of a net one is the first, or there is none.
+pub fn a_net_has_a_first_fault_or_none()
+    ensures { (n : Net) → IsNet n
+        → (fault : Option Found) × IsFirst (StructureFault n) fault }
 {}

@@ -15,6 +15,7 @@ mod reach;
 mod states;
 
 pub use laws::{
+    a_chart_has_one_number_of_pairs, a_net_has_a_first_fault_or_none,
     charts_of_valid_nets_have_structure, charts_with_structure_have_valid_nets,
     faultless_nets_are_valid, valid_nets_are_faultless, valid_nets_need_no_places,
 };

@@ -10,3 +10,4 @@ pub mod SiblingLemmas
 pub mod WholeTable
 pub mod AcceptLemmas
 pub mod RunLemmas
+pub mod DecideLemmas

@@ -1,6 +1,6 @@
-//! Laws of code: it has one first fault at most, what well-formed code keeps, and that a run has
-//! one end.
-ghost use Rattle.std.specs.Prelude.{◌≡◌, ◌<◌, ℕ, List, None, length};
+//! Laws of code: it is well formed or has one first fault, what well-formed code keeps, and that a
+//! run has one end.
+ghost use Rattle.std.specs.Prelude.{◌≡◌, ◌⊎◌, ◌<◌, ℕ, List, None, length};
 ghost use Rattle.actions.specs.Runs.{Moment};
 ghost use Rattle.code_form.specs.Code.{Code};
 ghost use Rattle.code_form.specs.Instrs.{Instr};
@@ -14,6 +14,11 @@ ghost use Rattle.code_form.specs.declared.fault.CodeFault.{CodeFault};
 pub fn a_code_has_one_first_fault()
     ensures one { (k : Code) (f g : CodeFault) → IsFirstFault k f → IsFirstFault k g → f ≡ g }
     ensures none { (k : Code) (f : CodeFault) → IsCode k → IsFirstFault k f → ⊥ }
+{}
+
+/// Code that isn't well formed has a first fault.
+pub fn a_code_is_well_formed_or_has_a_fault()
+    ensures { (k : Code) → IsCode k ⊎ ((fault : CodeFault) × IsFirstFault k fault) }
 {}
 
 /// In well-formed code the procedures of the start and of a reaction are there, and each procedure

@@ -22,7 +22,10 @@ pub use acceptance::accept;
 pub use code::{Code, RawCode, RawState};
 pub use fault::{CODE_FAULT_ROOM, CodeEnd, CodeFault, CodeKind};
 pub use instr::{Cond, Instr};
-pub use laws::{a_code_has_one_first_fault, a_run_has_one_end, well_formed_code_is_sound};
+pub use laws::{
+    a_code_has_one_first_fault, a_code_is_well_formed_or_has_a_fault, a_run_has_one_end,
+    well_formed_code_is_sound,
+};
 pub use limits::{HEIGHT_LIMIT, INSTR_LIMIT, PROC_LIMIT, WORK_LIMIT};
 
 /// The tree of states and what is declared.

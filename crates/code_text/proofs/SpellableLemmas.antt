@@ -7,11 +7,13 @@ use Rattle.std.specs.List.{list_all, list_any, AllByRecursion}
 use Rattle.std.proofs.lemmas.Bool.{and_parts, ltb-true, false≢true}
 use Rattle.std.proofs.lemmas.Bool.Decides.{nat_tests}
 use Rattle.std.proofs.lemmas.Int.{ints}
-use Rattle.std.proofs.lemmas.List.{length-map}
+use Rattle.std.proofs.lemmas.List.{get_or-map, length-map}
+use Rattle.std.proofs.lemmas.List.Elements.{recursion_from_All}
 use Rattle.std.proofs.Math.Nat.{pow-le-pow_right}
 use Rattle.fixed_point.specs.declared.num.Num.{Num}
 use Rattle.chart_lexer.specs.Words.{is_name}
-use Rattle.active_config.specs.Tree.{IsTree, state_count, parent_of}
+use Rattle.active_config.specs.Tree.{Tree, IsTree, state_count, parent_of}
+use Rattle.active_config.proofs.PathLemmas.{parent_lt}
 use Rattle.actions.specs.declared.names.EventDecl.{EventDecl}
 use Rattle.actions.specs.declared.names.Sort.{Sort}
 use Rattle.actions.specs.declared.names.Sort.TheVariants as sorts
@@ -35,7 +37,7 @@ use Rattle.code_form.specs.WellFormed.{is_plain, cond_typed, instr_typed, instr_
 use Rattle.code_form.specs.WellFormed.{too_many, starts_known, later_fault, known_of, IsCode}
 use Rattle.code_fields.specs.Spelling.{IsNumber, IsVar, IsEvent, is_init_of, HasNumbers as ExprHasNumbers, IsExpr}
 use Rattle.code_lines.specs.declared.format.Format.TheVariants as formats
-use Rattle.code_lines.specs.Spelling.{CondHasWords, HasWords, HasNumbers, cond_is_in, is_in, IsInstr}
+use Rattle.code_lines.specs.Spelling.{HasParent, CondHasWords, HasWords, HasNumbers, cond_is_in, is_in, IsInstr}
 use Rattle.code_lines.specs.Fields.{parent_stands}
 use Rattle.code_text.specs.Written.{Written, written_of, code_written}
 use Rattle.code_text.specs.Spelling.{HasItsParent, StandsAt, AreStates, IsProc, IsSpellable}
@@ -306,6 +308,22 @@ states_few : (states : List RawState) → state_count (tree_of_states states) �
 unfolding state_count
 states_few states h = omega (arith, length-map states (λ (s : RawState). s.parent))
 
+-- the parent of a state of a small tree is a number of a text
+parent_fits : (t : Tree) (s : ℕ) → IsTree t → s < state_count t → state_count t ≤ 1024 → (o : Option ℕ)
+    → parent_of t s ≡ o → HasParent o
+parent_fits t s tree lt few None e = tt
+parent_fits t s tree lt few (Some p) e =
+    let below = parent_lt t (state_count t) tree.pre_order s p lt e in omega arith
+
+-- so are all parents
+parents_fit : (states : List RawState) → IsTree (tree_of_states states) → state_count (tree_of_states states) ≤ 1024
+    → AllByRecursion HasItsParent states
+unfolding parent_of state_count
+parents_fit states tree few = recursion_from_All HasItsParent states (λ k d lt.
+    let count = length-map states (λ (s : RawState). s.parent) in
+    parent_fits (tree_of_states states) k tree (omega arith) few (slice_index_or states k d).parent
+    (get_or-map (λ (s : RawState). s.parent) states k d None lt))
+
 -- what well-formed code may name has small numbers
 known_few : (k : Code) → IsTable k.tree k.names → FewKnown (known_of k)
 known_few k table =
@@ -366,6 +384,11 @@ spellable w code parents numbers =
     let first = neither _ _ code.sound in
     let second = neither _ _ first.1 in
     right_spellable w code.table code.few (passed (starts_known w.procedures) _ 0 0 first.0) second.0 parents numbers
+
+-- the parents of its states are such numbers
+pub formed_spellable : (w : Written) → IsCode (code_written w)
+    → AllByRecursion (AllByRecursion HasNumbers) w.procedures.procs → IsSpellable formats.Two w
+formed_spellable w code numbers = spellable w code (parents_fit w.states code.table.tree code.table.states) numbers
 
 -- so is what is kept as code
 pub code_spellable : (raw : RawCode) → IsCode (code_of raw) → AllByRecursion HasItsParent (written_of raw).states

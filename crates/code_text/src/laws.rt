@@ -1,8 +1,12 @@
 //! What the spelling of code promises, for all code at once.
 ghost use Rattle.std.specs.Prelude.{◌≡◌, ◌≤◌, ℕ, List, [], ◌∷◌, ◌++◌, length, Ok};
+ghost use Rattle.std.specs.List.{AllByRecursion};
+ghost use Rattle.code_form.specs.WellFormed.{IsCode};
 ghost use Rattle.code_lines.specs.declared.format.Format.{Format};
+ghost use Rattle.code_lines.specs.declared.format.Format.TheVariants.{Two};
+ghost use Rattle.code_lines.specs.Spelling.{HasNumbers};
 ghost use Rattle.code_text.specs.declared.limits.TheConstants.{TEXT_LIMIT};
-ghost use Rattle.code_text.specs.Written.{Written};
+ghost use Rattle.code_text.specs.Written.{Written, code_written};
 ghost use Rattle.code_text.specs.Spelling.{version_line, body_lines, text_of, code_text, IsSpellable};
 ghost use Rattle.code_text.specs.Reading.{spelled};
 
@@ -34,4 +38,10 @@ pub fn no_text_begins_another()
 pub fn formats_differ_in_the_first_line()
     ensures { (format : Format) (w : Written)
         → code_text format w ≡ version_line format ++ (10 ∷ text_of (body_lines w)) }
+{}
+
+/// Well-formed code, whose instructions have numbers below 2^32, is spellable in format 2.
+pub fn well_formed_code_is_spellable()
+    ensures { (w : Written) → IsCode (code_written w)
+        → AllByRecursion (AllByRecursion HasNumbers) w.procedures.procs → IsSpellable Two w }
 {}

@@ -19,7 +19,7 @@ use Rattle.chart_structure.specs.Reached.{NetPairs}
 use Rattle.chart_structure.proofs.PairLemmas.{one_number_of_net}
 use Rattle.chart_structure.proofs.FaultLemmas.{structure_first}
 use Rattle.resolved_tree.specs.Faults.{first_of, first_with}
-use Rattle.resolved_tree.specs.Promise.{IsResolved}
+use Rattle.resolved_tree.specs.Promise.{KeepsPromise}
 use Rattle.resolved_tree.specs.Resolved.{Resolved}
 use Rattle.resolved_tree.proofs.FirstLemmas.{none_found}
 use Rattle.chart_types.specs.Types.{type_faults}
@@ -125,7 +125,7 @@ no_pair_fault : (n : Net) (count : ℕ) → ((other : ℕ) → NetPairs n other 
     → (f : Found) → PairFault n f → ⊥
 no_pair_fault n count only few _ (TooMany other are over) = absurd (let same = only other are in omega arith)
 
-pub sound_or_faulty : (r : Resolved) → IsResolved r → IsSound r ⊎ ((f : Found) × IsFirstOf r f)
+pub sound_or_faulty : (r : Resolved) → KeepsPromise r → IsSound r ⊎ ((f : Found) × IsFirstOf r f)
 sound_or_faulty r res = by_types (first_of (type_faults r)) refl
   where
     by_pairs : type_faults r ≡ [] → IsFirst (StructureFault (net_of r)) None → (count : ℕ) → NetPairs (net_of r) count

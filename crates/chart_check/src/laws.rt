@@ -1,7 +1,7 @@
 //! What the first fault of a resolved chart is.
 ghost use Rattle.std.specs.Prelude.{◌≡◌, ◌⊎◌};
 ghost use Rattle.chart_tree.specs.declared.first.Found.{Found};
-ghost use Rattle.resolved_tree.specs.Promise.{IsResolved};
+ghost use Rattle.resolved_tree.specs.Promise.{KeepsPromise};
 ghost use Rattle.resolved_tree.specs.Resolved.{Resolved};
 ghost use Rattle.chart_check.specs.Check.{IsSound, IsFirstOf};
 
@@ -13,5 +13,5 @@ pub fn a_chart_has_one_first_fault()
 
 /// A resolved chart that isn't sound has a first fault.
 pub fn a_chart_is_sound_or_has_a_first_fault()
-    ensures { (r : Resolved) → IsResolved r → IsSound r ⊎ ((f : Found) × IsFirstOf r f) }
+    ensures { (r : Resolved) → KeepsPromise r → IsSound r ⊎ ((f : Found) × IsFirstOf r f) }
 {}

@@ -8,3 +8,4 @@ pub mod CodeLemmas
 pub mod NewlineLemmas
 pub mod OutcomeLemmas
 pub mod SpellableLemmas
+pub mod CauseLemmas

@@ -1,14 +1,16 @@
 //! What the spelling of code promises, for all code at once.
-ghost use Rattle.std.specs.Prelude.{◌≡◌, ◌≤◌, ℕ, List, [], ◌∷◌, ◌++◌, length, Ok};
+ghost use Rattle.std.specs.Prelude.{◌≡◌, ◌≢◌, ◌⊎◌, ◌≤◌, ℕ, List, [], ◌∷◌, ◌++◌, length, Ok};
 ghost use Rattle.std.specs.List.{AllByRecursion};
 ghost use Rattle.code_form.specs.WellFormed.{IsCode};
 ghost use Rattle.code_lines.specs.declared.format.Format.{Format};
 ghost use Rattle.code_lines.specs.declared.format.Format.TheVariants.{Two};
 ghost use Rattle.code_lines.specs.Spelling.{HasNumbers};
+ghost use Rattle.code_text.specs.declared.fault.CodeTextFault.{CodeTextFault};
+ghost use Rattle.code_text.specs.declared.fault.CodeTextFault.TheVariants as faults;
 ghost use Rattle.code_text.specs.declared.limits.TheConstants.{TEXT_LIMIT};
 ghost use Rattle.code_text.specs.Written.{Written, code_written};
 ghost use Rattle.code_text.specs.Spelling.{version_line, body_lines, text_of, code_text, IsSpellable};
-ghost use Rattle.code_text.specs.Reading.{spelled};
+ghost use Rattle.code_text.specs.Reading.{spelled, IsCause};
 
 /// The text of code in a format, where it isn't too long, is read as that code, well formed or not.
 pub fn a_text_is_read()
@@ -44,4 +46,11 @@ pub fn formats_differ_in_the_first_line()
 pub fn well_formed_code_is_spellable()
     ensures { (w : Written) → IsCode (code_written w)
         → AllByRecursion (AllByRecursion HasNumbers) w.procedures.procs → IsSpellable Two w }
+{}
+
+/// A text that isn't that of well-formed code has a first fault, which isn't want of memory.
+pub fn a_text_is_of_code_or_has_a_fault()
+    ensures { (text : List ℕ)
+        → ((w : Written) × (spelled text ≡ Ok w) × IsCode (code_written w))
+        ⊎ ((fault : CodeTextFault) × IsCause text fault × (fault ≢ faults.Memory)) }
 {}

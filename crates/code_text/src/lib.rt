@@ -17,8 +17,9 @@ mod refusal;
 
 pub use fault::{CodeTextFault, FAULT_ROOM};
 pub use laws::{
-    a_text_is_read, formats_differ_in_the_first_line, no_text_begins_another, one_text_one_code,
-    well_formed_code_is_spellable, what_is_read_is_spelled_so,
+    a_text_is_of_code_or_has_a_fault, a_text_is_read, formats_differ_in_the_first_line,
+    no_text_begins_another, one_text_one_code, well_formed_code_is_spellable,
+    what_is_read_is_spelled_so,
 };
 pub use limits::TEXT_LIMIT;
 pub use printer::print_code;

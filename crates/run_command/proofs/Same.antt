@@ -14,7 +14,7 @@ use Rattle.chart_layout.specs.Bodies.{code_of_chart}
 use Rattle.chart_layout.proofs.Whole.{code_runs}
 use Rattle.command_files.specs.Call.{Call}
 use Rattle.step_driver.specs.Traces.{RunFault, Ran}
-use Rattle.step_driver.specs.Driving.{Seen, WroteAll, WroteGiven, WrotePart, WroteSome, Drives}
+use Rattle.step_driver.specs.Driving.{Seen, WroteAll, WroteGiven, WrotePart, WroteSome, TakesNoMore, Drives}
 use Rattle.step_driver.specs.declared.driver.DriveEnd.{DriveEnd}
 use Rattle.step_driver.specs.declared.driver.DriveEnd.TheVariants as ends
 use Rattle.trace_command.specs.declared.run.TraceEnd.{TraceEnd}
@@ -64,6 +64,9 @@ module _ (start start' : StartRelation) (react react' : ReactionRelation) (t : T
     taken = w.taken;
     whole = w.whole;
     has_whole = w.has_whole;
+    good = w.good;
+    short = w.short;
+    within = w.within;
     trace = w.trace;
     ran = ran _ w.trace _ w.ran;
     wrote = w.wrote;
@@ -97,17 +100,37 @@ module _ (start start' : StartRelation) (react react' : ReactionRelation) (t : T
     wrote = w.wrote;
   }
 
+  -- what was taken
+  takes_no_more : (seen : Seen) → TakesNoMore start react t n seen → TakesNoMore start' react' t n seen
+  takes_no_more seen taken = elim taken [
+    | inl same ↦ inl same
+    | inr some ↦
+      inr (record {
+        lines = some.lines;
+        ahead = some.ahead;
+        taken = some.taken;
+        closed = some.closed;
+        good = some.good;
+        few = some.few;
+        within = some.within;
+        trace = some.trace;
+        more = some.more;
+        ran = ran _ some.trace _ some.ran;
+        wrote = some.wrote;
+      })
+  ]
+
   -- what was driven
   pub drives : (seen : Seen) (result : Result (Unit {0}) DriveEnd) → Drives start react t n seen result
       → Drives start' react' t n seen result
   drives seen (Ok done) d = (wrote_all seen (Ok done) d.0, d.1)
-  drives seen (Err (ends.Line number fault)) d = wrote_all seen (Err (ends.Line number fault)) d
-  drives seen (Err (ends.Fault index fault)) d = wrote_all seen (Err (ends.Fault index fault)) d
+  drives seen (Err (ends.Line number fault)) d = (wrote_all seen (Err (ends.Line number fault)) d.0, takes_no_more seen d.1)
+  drives seen (Err (ends.Fault index fault)) d = (wrote_all seen (Err (ends.Fault index fault)) d.0, takes_no_more seen d.1)
   drives seen (Err ends.Read) d = wrote_given seen d
-  drives seen (Err ends.Write) d = wrote_part seen d
-  drives seen (Err ends.TooManyLines) d = wrote_all seen (Err ends.TooManyLines) d
-  drives seen (Err ends.FileTooLong) d = wrote_all seen (Err ends.FileTooLong) d
-  drives seen (Err ends.Memory) d = wrote_some seen d
+  drives seen (Err ends.Write) d = (wrote_part seen d.0, takes_no_more seen d.1)
+  drives seen (Err ends.TooManyLines) d = (wrote_all seen (Err ends.TooManyLines) d.0, takes_no_more seen d.1)
+  drives seen (Err ends.FileTooLong) d = (wrote_all seen (Err ends.FileTooLong) d.0, takes_no_more seen d.1)
+  drives seen (Err ends.Memory) d = (wrote_some seen d.0, takes_no_more seen d.1)
 
 module _ (c : Chart) (valid : IsValid c) (b : Bounds) where
   -- the code of a chart runs as the chart

@@ -33,12 +33,12 @@ all_written : (b : Behaviour) (seen : Seen) (answer : Result (Unit {0}) DriveEnd
     → Drives b.starts b.reacts b.tree b.names seen answer
     → is_whole (end_of b.names answer) ≡ true → WroteAll b.starts b.reacts b.tree b.names seen answer
 all_written b seen (Ok done) drives whole = drives.0
-all_written b seen (Err (answers.Line number fault)) drives whole = drives
-all_written b seen (Err (answers.Fault index fault)) drives whole = drives
+all_written b seen (Err (answers.Line number fault)) drives whole = drives.0
+all_written b seen (Err (answers.Fault index fault)) drives whole = drives.0
 all_written b seen (Err answers.Read) drives whole = absurd (cc)
 all_written b seen (Err answers.Write) drives whole = absurd (cc)
-all_written b seen (Err answers.TooManyLines) drives whole = drives
-all_written b seen (Err answers.FileTooLong) drives whole = drives
+all_written b seen (Err answers.TooManyLines) drives whole = drives.0
+all_written b seen (Err answers.FileTooLong) drives whole = drives.0
 all_written b seen (Err answers.Memory) drives whole = absurd (cc)
 
 -- the fault that the ending tells is that of the run

@@ -1,5 +1,5 @@
 -- The events of a file, as its lines are taken one after the other.
-use Rattle.std.proofs.Common.{◌≡◌, ℕ, ◌+◌, ◌<◌, ◌≤◌, Bool, true, false, nat_lt, nat_le, ◌||◌, List, [], ◌∷◌, ◌++◌, length, take, drop, Option, Some, None, Result, Ok, Err, refl, sym, ap, ◌∙◌, subst, arith, append_assoc, append-nil, length-append}
+use Rattle.std.proofs.Common.{◌≡◌, ℕ, ◌+◌, ◌<◌, ◌≤◌, ◌⊎◌, Bool, true, false, nat_lt, nat_le, ◌||◌, List, [], ◌∷◌, ◌++◌, length, take, drop, Option, Some, None, Result, Ok, Err, refl, sym, ap, ◌∙◌, subst, arith, append_assoc, append-nil, length-append, inl, inr}
 use Rattle.actions.specs.Runs.{EventWithInputs}
 use Rattle.step_text.specs.declared.limits.TheConstants.{LINE_LIMIT, FILE_LIMIT, EVENT_LIMIT}
 use Rattle.std.specs.Io.KnownBytes.{prepend_known, IsAtEnd}
@@ -127,18 +127,23 @@ at_end n at number count = refl
 
 -- ---- where a reader is in a file
 
+-- the end of the file was met, and no bytes are at hand
+abbrev pub AllTaken : Reading → Type 0
+AllTaken r = (r.ended ≡ true) × (r.pending ≡ [])
+
 -- the bytes of lines taken so far, of a file of which that was left and this is left
 pub record Place (before : Option (List ℕ)) (r : Reading) (left : Option (List ℕ)) : Type 0 where
   pub taken : List ℕ
   pub bytes : before ≡ prepend_known taken (prepend_known r.pending left)
-  pub closed : r.ended ≡ false → is_closed taken ≡ true
+  pub sized : length taken ≡ r.at
+  pub closed : (is_closed taken ≡ true) ⊎ AllTaken r
   pub within : r.at ≤ FILE_LIMIT
   pub ended : r.ended ≡ true → IsAtEnd left
   pub failed : r.failed ≡ false
 
--- these bytes may come after the lines taken: at the end of the file only those at hand
+-- these bytes may come after the lines taken: none where all were
 abbrev pub MayCome : Reading → List ℕ → Type 0
-MayCome r to_come = r.ended ≡ true → to_come ≡ r.pending
+MayCome r to_come = AllTaken r → to_come ≡ []
 
 -- a reader is there, and the events of the file are what is said of the bytes to come
 pub record Comes (n : Names) (before : Option (List ℕ)) (r : Reading) (left : Option (List ℕ)) (rest : List ℕ → EventFile) : Type 0 where
@@ -160,7 +165,8 @@ reads_nothing n left r is = subst (λ (r : Reading). Reads n left [] r left) (sy
   place = record {
     taken = [];
     bytes = prepend_none left;
-    closed = λ _. refl;
+    sized = refl;
+    closed = inl refl;
     within = omega arith;
     ended = λ no. absurd (cc);
     failed = refl;
@@ -176,10 +182,11 @@ kept_end : (before : Option (List ℕ)) (old mid : Reading) (left left' : Option
 kept_end before old mid left left' true e p f ended = subst IsAtEnd (sym (kept_at_end old mid left left' f e).1) (p.ended e)
 kept_end before old mid left left' false e p f ended = f.ended ended e
 
-open_before : (old mid : Reading) (left left' : Option (List ℕ)) (b : Bool) → old.ended ≡ b → Fills old mid left left' → mid.ended ≡ false → old.ended ≡ false
-open_before old mid left left' false e f open' = e
-open_before old mid left left' true e f open' =
-    let same : mid.ended ≡ old.ended = ap (λ (r : Reading). r.ended) (kept_at_end old mid left left' f e).0 in absurd (cc)
+-- where all was taken before a read, it is after it
+all_taken : (old mid : Reading) (left left' : Option (List ℕ)) → Fills old mid left left' → AllTaken old → AllTaken mid
+all_taken old mid left left' f all =
+    let same = (kept_at_end old mid left left' f all.0).0 in
+    (ap (λ (r : Reading). r.ended) same ∙ all.0, ap (λ (r : Reading). r.pending) same ∙ all.1)
 
 -- more bytes were read
 pub reads_fills : (n : Names) (before : Option (List ℕ)) (events : List EventWithInputs) (old mid : Reading) (left left' : Option (List ℕ))
@@ -188,16 +195,15 @@ reads_fills n before events old mid left left' r f = record {
   place = record {
     taken = r.place.taken;
     bytes = r.place.bytes ∙ ap (prepend_known r.place.taken) f.bytes;
-    closed = λ open'. r.place.closed (open_before old mid left left' old.ended refl f open');
+    sized = r.place.sized ∙ sym f.at;
+    closed = elim r.place.closed [ inl closed ↦ inl closed | inr all ↦ inr (all_taken old mid left left' f all) ];
     within = rw f.at r.place.within;
     ended = λ ended. kept_end before old mid left left' old.ended refl r.place f ended;
     failed = f.failed ∙ r.place.failed;
   };
   file = λ to_come may.
-      let e = r.file to_come (λ ended.
-      let same = (kept_at_end old mid left left' f ended).0 in
-      may (ap (λ (x : Reading). x.ended) same ∙ ended) ∙ ap (λ (x : Reading). x.pending) same) in
-      e ∙ ap (λ m. after_events events (events_at n m (old.number + 1) (length events) to_come)) (sym f.at)
+      r.file to_come (λ all. may (all_taken old mid left left' f all))
+      ∙ ap (λ m. after_events events (events_at n m (old.number + 1) (length events) to_come)) (sym f.at)
       ∙ ap (λ m. after_events events (events_at n mid.at (m + 1) (length events) to_come)) (sym f.number);
 }
 
@@ -206,13 +212,20 @@ is_closed-snoc [] = refl
 is_closed-snoc (b ∷ []) = refl
 is_closed-snoc (b ∷ (d ∷ bytes)) = is_closed-snoc (d ∷ bytes)
 
-closed_after : (taken raw : List ℕ) (closed : Bool) → closed ≡ true → is_closed (taken ++ spelled raw closed) ≡ true
-closed_after taken raw true e = ap is_closed (sym (append_assoc taken raw (10 ∷ []))) ∙ is_closed-snoc (taken ++ raw)
-closed_after taken raw false e = absurd (cc)
+-- the bytes of the lines are closed after a line that isn't the last
+closed_after : (taken raw : List ℕ) (new : Reading) (closed : Bool) → (closed ≡ false → AllTaken new)
+    → (is_closed (taken ++ spelled raw closed) ≡ true) ⊎ AllTaken new
+closed_after taken raw new true last = inl (ap is_closed (sym (append_assoc taken raw (10 ∷ []))) ∙ is_closed-snoc (taken ++ raw))
+closed_after taken raw new false last = inr (last refl)
 
-closed_where_open : (closed ended mid_ended : Bool) → (closed ≡ false → mid_ended ≡ true) → ended ≡ mid_ended → ended ≡ false → closed ≡ true
-closed_where_open true ended mid_ended last same open' = refl
-closed_where_open false ended mid_ended last same open' = let k = last refl in absurd (cc)
+-- all is taken only where nothing is at hand
+not_all : (r : Reading) → 0 < length r.pending → AllTaken r → ⊥
+not_all r some all = let none : length r.pending ≡ 0 = ap length all.1 in absurd (omega (arith, some, none))
+
+-- a line that was taken was at hand
+pub line_at_hand : (mid new : Reading) → TakesLine mid new → 0 < length mid.pending
+line_at_hand mid new l =
+    omega (arith, l.some, ap length l.pending, length-append (spelled l.raw l.closed) new.pending)
 
 -- what a line that was taken says comes next
 abbrev pub LineSays : Names → Option (List ℕ) → List EventWithInputs → Reading → Option (List ℕ) → Type 0
@@ -231,17 +244,17 @@ reads_line n before events mid new left r l =
         bytes = r.place.bytes ∙ ap (λ (z : List ℕ). prepend_known r.place.taken (prepend_known z left)) l.pending
             ∙ ap (prepend_known r.place.taken) (sym (prepend_known-append left piece new.pending))
             ∙ prepend_known-append (prepend_known new.pending left) r.place.taken piece;
-        closed = λ open'. closed_after r.place.taken l.raw l.closed (closed_where_open l.closed new.ended mid.ended (λ e. (l.last e).1) l.ended open');
+        sized = length-append r.place.taken piece ∙ ap (λ m. m + length piece) r.place.sized ∙ sym l.at;
+        closed = closed_after r.place.taken l.raw new l.closed (λ open'. (l.ended ∙ (l.last open').1, (l.last open').0));
         within = omega (arith, l.at, l.within);
         ended = λ ended. r.place.ended (sym l.ended ∙ ended);
         failed = l.failed;
       };
       file = λ to_come may.
-          let e = r.file (piece ++ to_come) (λ ended.
-          ap (λ (z : List ℕ). piece ++ z) (may (l.ended ∙ ended)) ∙ sym l.pending) in
+          let e = r.file (piece ++ to_come) (λ all. absurd (not_all mid (line_at_hand mid new l) all)) in
           ap (event_file n) (append_assoc r.place.taken piece to_come) ∙ e
           ∙ ap (after_events events) (at_line n mid.at (mid.number + 1) (length events) l.raw to_come l.closed l.plain l.short l.within l.some
-          (λ open'. may (l.ended ∙ (l.last open').1) ∙ (l.last open').0))
+          (λ open'. may (l.ended ∙ (l.last open').1, (l.last open').0)))
           ∙ ap (λ m. after_events events (with_line (mid.number + 1) (length events) (event_of_line n (without_return l.raw)) (λ next. events_at n m (mid.number + 1 + 1) next to_come))) (sym l.at)
           ∙ ap (λ m. after_events events (with_line m (length events) (event_of_line n (without_return l.raw)) (λ next. events_at n new.at (m + 1) next to_come))) (sym l.number)
           ∙ ap (λ (z : List ℕ). after_events events (with_line new.number (length events) (event_of_line n z) (λ next. events_at n new.at (new.number + 1) next to_come))) (sym l.line);
@@ -274,8 +287,8 @@ pub whole_file : (n : Names) (before : Option (List ℕ)) (r : Reading) (left : 
 whole_file n before r left rest c = record {
   text = c.place.taken ++ (r.pending ++ told left);
   is_text = told_text before left c.place.taken r.pending c.place.bytes;
-  are_events = c.file (r.pending ++ told left) (λ ended.
-      ap (λ (z : List ℕ). r.pending ++ z) (told_end left (c.place.ended ended)) ∙ append-nil r.pending);
+  are_events = c.file (r.pending ++ told left) (λ all.
+      ap (λ (z : List ℕ). z ++ told left) all.1 ∙ told_end left (c.place.ended all.0));
 }
 
 after_none : (events : List EventWithInputs) (stop : Stop) → after_events events (stopped stop) ≡ record { events = events; stop = stop }
@@ -319,6 +332,20 @@ whole_past_file n before events mid new left r l =
           ∙ after_none events AtLimit;
     }
 
+-- ---- what was taken
+
+-- the lines taken have these events and no others
+pub taken_events : (n : Names) (before : Option (List ℕ)) (events : List EventWithInputs) (mid : Reading) (left : Option (List ℕ))
+    → (r : Reads n before events mid left) → event_file n r.place.taken ≡ record { events = events; stop = AtEnd }
+taken_events n before events mid left r =
+    ap (event_file n) (sym (append-nil r.place.taken)) ∙ r.file [] (λ _. refl)
+    ∙ ap (after_events events) (at_end n mid.at (mid.number + 1) (length events)) ∙ after_none events AtEnd
+
+-- they are closed where bytes are at hand
+pub taken_closed : (before : Option (List ℕ)) (mid : Reading) (left : Option (List ℕ)) → (p : Place before mid left) → 0 < length mid.pending
+    → is_closed p.taken ≡ true
+taken_closed before mid left p some = elim p.closed [ inl closed ↦ closed | inr all ↦ absurd (not_all mid some all) ]
+
 -- a read failed: the events of the whole lines that were given
 pub record WholeLines (n : Names) (before : Option (List ℕ)) (left : Option (List ℕ)) (events : List EventWithInputs) : Type 0 where
   pub given : List ℕ
@@ -326,10 +353,24 @@ pub record WholeLines (n : Names) (before : Option (List ℕ)) (left : Option (L
   pub whole : List ℕ
   pub has_whole : HasWhole given whole
   pub are_events : event_file n whole ≡ record { events = events; stop = AtEnd }
+  pub short : length has_whole.rest ≤ LINE_LIMIT
+  pub within : length given ≤ FILE_LIMIT
 
-not_ready : (at n held : ℕ) (ended : Bool) → (ended || is_enough at n held) ≡ false → (ended ≡ false) × (held ≤ n)
+-- the bytes at hand tell nothing yet: the end wasn't met, and they are part of a line, within the limits
+record NotReady (at n held : ℕ) (ended : Bool) : Type 0 where
+  pub open_end : ended ≡ false
+  pub part : held ≤ n
+  pub short : held ≤ LINE_LIMIT
+  pub within : at + held ≤ FILE_LIMIT
+
+not_ready : (at n held : ℕ) (ended : Bool) → (ended || is_enough at n held) ≡ false → NotReady at n held ended
 not_ready at n held true e = absurd (cc)
-not_ready at n held false e = (refl, grind (arith, nat_tests))
+not_ready at n held false e = record {
+  open_end = refl;
+  part = grind (arith, nat_tests);
+  short = grind (arith, nat_tests);
+  within = grind (arith, nat_tests);
+}
 
 pub whole_lines : (n : Names) (before : Option (List ℕ)) (events : List EventWithInputs) (mid : Reading) (left : Option (List ℕ))
     → Reads n before events mid left → is_ready mid ≡ false → WholeLines n before left events
@@ -343,11 +384,12 @@ whole_lines n before events mid left r wanted =
       has_whole = record {
         rest = mid.pending;
         split = refl;
-        closed = r.place.closed k.0;
-        plain = plain_all mid.pending k.1;
+        closed = elim r.place.closed [ inl closed ↦ closed | inr all ↦ absurd (let o = k.open_end in let e = all.0 in cc) ];
+        plain = plain_all mid.pending k.part;
       };
-      are_events = ap (event_file n) (sym (append-nil t)) ∙ r.file [] (λ ended. absurd (let o = k.0 in cc))
-          ∙ ap (after_events events) (at_end n mid.at (mid.number + 1) (length events)) ∙ after_none events AtEnd;
+      are_events = taken_events n before events mid left r;
+      short = k.short;
+      within = omega (arith, length-append t mid.pending, r.place.sized, k.within);
     }
 
 -- ---- what the line says

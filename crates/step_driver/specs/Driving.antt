@@ -1,5 +1,5 @@
 -- What the driver writes, by its answer.
-use Rattle.std.specs.Prelude.{◌≡◌, nat_eq, ◌⊎◌, Bool, true, ℕ, List, [], ◌∷◌, ◌++◌, Option, Some, None, is_some, Result, Ok, Err}
+use Rattle.std.specs.Prelude.{◌≡◌, nat_eq, ◌⊎◌, Bool, true, ℕ, ◌+◌, ◌≤◌, List, [], ◌∷◌, ◌++◌, length, Option, Some, None, is_some, Result, Ok, Err}
 use Rattle.std.specs.Io.KnownBytes.{append_known, prepend_known, IsAtEnd}
 use Rattle.flow_base.specs.Bytes.{AppendsProperFront}
 use Rattle.flow_base.specs.declared.fault.Fault.{Fault}
@@ -11,6 +11,7 @@ use Rattle.actions.specs.declared.event.Event.TheVariants.{Start}
 use Rattle.step_text.specs.EventFile.{Stop, AtEnd, AtLine, AtEvent, AtLimit, event_file}
 use Rattle.step_text.specs.Lines.{IsPlain}
 use Rattle.step_text.specs.Trace.{trace_line}
+use Rattle.step_text.specs.declared.limits.TheConstants.{LINE_LIMIT, FILE_LIMIT, BUFFER_SIZE}
 use Rattle.step_driver.specs.Traces.{RunFault, Ran}
 use Rattle.step_driver.specs.declared.driver.DriveEnd.{DriveEnd}
 use Rattle.step_driver.specs.declared.driver.DriveEnd.TheVariants as ends
@@ -58,12 +59,16 @@ pub record WroteAll (start : StartRelation) (react : ReactionRelation) (t : Tree
   pub wrote : seen.wrote_after ≡ append_known seen.wrote_before trace
   pub answer : result ≡ answer_of fault (event_file n text).stop
 
--- a read failed: the trace of the run over the whole lines of the bytes that were given was written
+-- A read failed, where all bytes that were given ask for more: the events of their whole lines don't stop before the end, and
+-- what comes after them passes no limit. The trace of the run over those events was written.
 pub record WroteGiven (start : StartRelation) (react : ReactionRelation) (t : Tree) (n : Names) (seen : Seen) : Type 0 where
   pub given : List ℕ
   pub taken : seen.left_before ≡ prepend_known given seen.left_after
   pub whole : List ℕ
   pub has_whole : HasWhole given whole
+  pub good : (event_file n whole).stop ≡ AtEnd
+  pub short : length has_whole.rest ≤ LINE_LIMIT
+  pub within : length given ≤ FILE_LIMIT
   pub trace : List ℕ
   pub ran : Ran start react t n (event_file n whole).events trace None
   pub wrote : seen.wrote_after ≡ append_known seen.wrote_before trace
@@ -94,13 +99,36 @@ pub record WroteSome (start : StartRelation) (react : ReactionRelation) (t : Tre
   pub ran : (trace ≡ []) ⊎ Ran start react t n events trace None
   pub wrote : seen.wrote_after ≡ append_known seen.wrote_before trace
 
+-- What was taken of the file: whole lines, whose events don't stop before the end, and at most a buffer of bytes after them, of
+-- which at most one is past the file's limit. The run over those events had no fault, and its trace was written.
+pub record TakesLines (start : StartRelation) (react : ReactionRelation) (t : Tree) (n : Names) (seen : Seen) : Type 0 where
+  pub lines : List ℕ
+  pub ahead : List ℕ
+  pub taken : seen.left_before ≡ prepend_known (lines ++ ahead) seen.left_after
+  pub closed : is_closed lines ≡ true
+  pub good : (event_file n lines).stop ≡ AtEnd
+  pub few : length ahead ≤ BUFFER_SIZE
+  pub within : length (lines ++ ahead) ≤ FILE_LIMIT + 1
+  pub trace : List ℕ
+  pub more : List ℕ
+  pub ran : Ran start react t n (event_file n lines).events trace None
+  pub wrote : seen.wrote_after ≡ append_known seen.wrote_before (trace ++ more)
+
+-- nothing was taken of the file, or no more than that
+abbrev pub TakesNoMore : StartRelation → ReactionRelation → Tree → Names → Seen → Type 0
+TakesNoMore start react t n seen = (seen.left_after ≡ seen.left_before) ⊎ TakesLines start react t n seen
+
 -- What the driver did, by its answer.
 abbrev pub Drives : StartRelation → ReactionRelation → Tree → Names → Seen → Result (Unit {0}) DriveEnd → Type 0
 Drives start react t n seen (Ok done) = WroteAll start react t n seen (Ok done) × IsAtEnd seen.left_after
-Drives start react t n seen (Err (ends.Line number fault)) = WroteAll start react t n seen (Err (ends.Line number fault))
-Drives start react t n seen (Err (ends.Fault index fault)) = WroteAll start react t n seen (Err (ends.Fault index fault))
+Drives start react t n seen (Err (ends.Line number fault)) =
+    WroteAll start react t n seen (Err (ends.Line number fault)) × TakesNoMore start react t n seen
+Drives start react t n seen (Err (ends.Fault index fault)) =
+    WroteAll start react t n seen (Err (ends.Fault index fault)) × TakesNoMore start react t n seen
 Drives start react t n seen (Err ends.Read) = WroteGiven start react t n seen
-Drives start react t n seen (Err ends.Write) = WrotePart start react t n seen
-Drives start react t n seen (Err ends.TooManyLines) = WroteAll start react t n seen (Err ends.TooManyLines)
-Drives start react t n seen (Err ends.FileTooLong) = WroteAll start react t n seen (Err ends.FileTooLong)
-Drives start react t n seen (Err ends.Memory) = WroteSome start react t n seen
+Drives start react t n seen (Err ends.Write) = WrotePart start react t n seen × TakesNoMore start react t n seen
+Drives start react t n seen (Err ends.TooManyLines) =
+    WroteAll start react t n seen (Err ends.TooManyLines) × TakesNoMore start react t n seen
+Drives start react t n seen (Err ends.FileTooLong) =
+    WroteAll start react t n seen (Err ends.FileTooLong) × TakesNoMore start react t n seen
+Drives start react t n seen (Err ends.Memory) = WroteSome start react t n seen × TakesNoMore start react t n seen

@@ -48,6 +48,13 @@ pub enum DriveEnd {
 /// After `Read`, the trace of the events in the whole lines that were given has been written; after
 /// `Write` a front of the trace, and after `Memory` whole lines of it. After every other answer the
 /// whole trace has been written. `Memory` comes only where the engine answered it.
+///
+/// `Read` comes only where all bytes that were given ask for more, so what they refuse isn't kept
+/// back by a further read. After every other error no more was taken of the file than lines whose
+/// trace has been written, and `BUFFER_SIZE` bytes after them.
+///
+/// Nothing is said of the engine afterwards but its program, and nothing of the reader and of the
+/// values.
 pub fn drive<G: Engine, I: Inputs, O: Sink>(
     engine: &mut G,
     inputs: &mut I,

@@ -3,7 +3,7 @@ use Rattle.std.specs.Prelude.{◌≡◌, ℕ, ◌+◌, ◌<◌, ◌≤◌, Bool,
 use Rattle.std.specs.Io.KnownBytes.{prepend_known, IsAtEnd}
 use Rattle.flow_base.specs.Causes.{Rose, AllStay}
 use Rattle.step_text.specs.declared.cuts.Cut.TheVariants as cuts
-use Rattle.step_text.specs.declared.limits.TheConstants.{LINE_LIMIT, FILE_LIMIT}
+use Rattle.step_text.specs.declared.limits.TheConstants.{LINE_LIMIT, FILE_LIMIT, BUFFER_SIZE}
 use Rattle.step_text.specs.declared.line_reader.LineEnd.{LineEnd}
 use Rattle.step_text.specs.declared.line_reader.LineEnd.TheVariants as ends
 use Rattle.step_text.specs.Lines.{line_length, without_return, IsPlain, spelled}
@@ -55,9 +55,12 @@ pub record TakesLine (old new : Reading) : Type 0 where
 pub record IsTooLong (old new : Reading) : Type 0 where
   pub long : LINE_LIMIT < line_length old.pending
   pub early : old.at + LINE_LIMIT < FILE_LIMIT
+  pub line : new.line ≡ old.line
   pub number : new.number ≡ old.number + 1
-  pub pending : new.pending ≡ old.pending
   pub at : new.at ≡ old.at
+  pub pending : new.pending ≡ old.pending
+  pub ended : new.ended ≡ old.ended
+  pub failed : new.failed ≡ true
 
 -- The bytes at hand begin with a line that holds the first byte that the file has no room for. Where the line is too long
 -- too, that byte comes no later than its first byte too many.
@@ -65,8 +68,12 @@ pub record IsPastFile (old new : Reading) : Type 0 where
   pub past : FILE_LIMIT ≤ old.at + line_length old.pending
   pub held : FILE_LIMIT < old.at + length old.pending
   pub first : FILE_LIMIT ≤ old.at + LINE_LIMIT
-  pub pending : new.pending ≡ old.pending
+  pub line : new.line ≡ old.line
+  pub number : new.number ≡ old.number
   pub at : new.at ≡ old.at
+  pub pending : new.pending ≡ old.pending
+  pub ended : new.ended ≡ old.ended
+  pub failed : new.failed ≡ true
 
 -- what was taken
 abbrev pub Takes : Reading → Reading → Result Bool LineEnd → Type 0
@@ -85,15 +92,28 @@ pub record Fills (old new : Reading) (before after : Option (List ℕ)) : Type 0
   pub at : new.at ≡ old.at
   pub failed : new.failed ≡ old.failed
 
--- what was answered after the last read: at a failed read the bytes at hand don't tell what comes next
+-- a read failed, where the bytes at hand don't tell what comes next
+pub record FailsToRead (old new : Reading) : Type 0 where
+  pub wanted : is_ready old ≡ false
+  pub line : new.line ≡ []
+  pub number : new.number ≡ old.number
+  pub at : new.at ≡ old.at
+  pub pending : new.pending ≡ old.pending
+  pub ended : new.ended ≡ old.ended
+  pub failed : new.failed ≡ true
+
+-- what was answered after the last read
 abbrev pub Then : Reading → Reading → Result Bool LineEnd → Type 0
 Then mid new (Ok found) = (is_ready mid ≡ true) × Takes mid new (Ok found)
 Then mid new (Err ends.TooLong) = (is_ready mid ≡ true) × IsTooLong mid new
 Then mid new (Err ends.FileTooLong) = (is_ready mid ≡ true) × IsPastFile mid new
-Then mid new (Err ends.Read) = (is_ready mid ≡ false) × (new.pending ≡ mid.pending) × (new.at ≡ mid.at)
+Then mid new (Err ends.Read) = FailsToRead mid new
 
--- What a call does: bytes are read until those at hand tell what comes next, and it is taken.
+-- What a call does: bytes are read until those at hand tell what comes next, and it is taken. No more is at hand than there is
+-- room for, nor more than one byte past the file's limit.
 pub record Nexts (old new : Reading) (before after : Option (List ℕ)) (result : Result Bool LineEnd) : Type 0 where
   pub mid : Reading
   pub fills : Fills old mid before after
+  pub room : length mid.pending ≤ BUFFER_SIZE
+  pub file : mid.at + length mid.pending ≤ FILE_LIMIT + 1
   pub answer : Then mid new result

@@ -25,7 +25,7 @@ ghost use Rattle.step_text.specs.NextLine as next;
 ghost use Rattle.step_text.specs.Reading as spec;
 
 use crate::cuts::{Cut, cut_at, first_length, is_enough, length_without_return, read_size};
-use crate::limits::BUFFER_SIZE;
+use crate::limits::{BUFFER_SIZE, FILE_LIMIT};
 use flow_base::{Failed, Inputs, Memory};
 use std::alloc::Global;
 use std::marker::Model;
@@ -153,6 +153,8 @@ impl LineReader {
     fn plain_length(&self) -> usize
         ensures length { result ≡ line_length self.now.pending }
         ensures within { result ≤ length self.now.pending }
+        ensures room { length self.now.pending ≤ BUFFER_SIZE }
+        ensures file { self.now.at + length self.now.pending ≤ FILE_LIMIT + 1 }
     {
         first_length(&self.buffer[self.start..self.end])
     }

@@ -37,6 +37,8 @@ pub enum TraceEnd {
 }
 
 /// Runs an engine over the events of the file of that name, and writes the trace.
+///
+/// Nothing is said of the engine afterwards.
 pub fn trace<G: Engine, I: Inputs, O: Sink>(
     alloc: Global,
     engine: &mut G,

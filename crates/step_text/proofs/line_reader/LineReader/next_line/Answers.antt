@@ -10,5 +10,7 @@ returns-clause-told g c =
     next_told c.args.self.now c.take_line.new.self _ _ c.take_line.result (record {
       mid = c.pieces.self;
       fills = c.pieces.invariant.fills;
+      room = c.pieces.invariant.room;
+      file = c.pieces.invariant.file;
       answer = then_takes c.pieces.self c.take_line.new.self c.take_line.result ready c.take_line.ensures;
     })

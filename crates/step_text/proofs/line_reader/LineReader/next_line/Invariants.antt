@@ -1,5 +1,5 @@
 use Rattle.std.proofs.Common.{◌≡◌, ◌+◌, ◌-◌, ◌≤◌, length, cond}
-use Rattle.step_text.specs.declared.limits.TheConstants.{LINE_LIMIT}
+use Rattle.step_text.specs.declared.limits.TheConstants.{LINE_LIMIT, FILE_LIMIT, BUFFER_SIZE}
 use Rattle.flow_base.specs.Causes.{OthersKept, AllStay}
 use Rattle.step_text.specs.Lines.{line_length}
 use Rattle.step_text.specs.NextLine.{Fills}
@@ -11,6 +11,8 @@ invariant-pieces g l = record {
   fills : Fills l.fn.self l.self (g.I.Inputs.left l.fn.inputs l.name) (g.I.Inputs.left l.inputs l.name);
   line : l.plain_length ≡ line_length l.self.pending;
   within : l.plain_length ≤ length l.self.pending;
+  room : length l.self.pending ≤ BUFFER_SIZE;
+  file : l.self.at + length l.self.pending ≤ FILE_LIMIT + 1;
   others : OthersKept l.name (g.I.Inputs.left l.fn.inputs) (g.I.Inputs.left l.inputs);
   counts : AllStay (g.I.Inputs.faults l.fn.inputs) (g.I.Inputs.faults l.inputs);
 }

@@ -1,14 +1,18 @@
 //! Files of the system that are read by name.
-ghost use Rattle.std.specs.Prelude.{◌≡◌, ◌<◌, ℕ, List, Option, None, Bool, false};
-ghost use Rattle.std.specs.Prelude.{IfSome, OnErr, is_some, vec_len, slice_get, string_bytes, refl};
+ghost use Rattle.std.specs.Prelude.{◌≡◌, ◌≢◌, ◌<◌, ℕ, List, [], Option, None, Bool, false};
+ghost use Rattle.std.specs.Prelude.{IfOk, OnSome, OnOk, OnErr, IsErr, is_some, vec_len};
+ghost use Rattle.std.specs.Prelude.{position, refl};
+ghost use Rattle.std.specs.List.{position_or_len};
 ghost use Rattle.std.specs.Io.{ReadsAtMost};
 ghost use Rattle.std.specs.Io.KnownBytes.{ReadConsumes};
-ghost use Rattle.flow_base.specs.RealFiles.{source_left};
+ghost use Rattle.flow_base.specs.Bytes.{ReadTakes};
+ghost use Rattle.flow_base.specs.Causes.{HasCause, OthersKept, NoneFalls, AllStay};
+ghost use Rattle.flow_base.specs.RealFiles as spec;
 
 use crate::inputs::{Failed, Inputs};
 use std::alloc::Global;
 use std::fs;
-use std::io::Read;
+use std::io::{self, Read};
 use std::rt::Files;
 
 /// The most bytes that one read gives.
@@ -40,6 +44,18 @@ enum Source<F> {
     Missing,
 }
 
+/// How a file stands, by the system's answer to the call that opens it.
+fn source_of<F: Drop>(opened: io::Result<F>) -> Source<F>
+    ensures open { IfOk opened (λ file. result ≡ Source.Open file) }
+    ensures missing { OnErr opened (result ≡ Source.Missing) }
+    ensures not_ended { result ≢ Source.Ended }
+{
+    match opened {
+        Ok(file) => Source::Open(file),
+        Err(_) => Source::Missing,
+    }
+}
+
 /// Reads the next bytes of a file to the front of the buffer, 4,096 at most.
 ///
 /// A read of the system that fails may have written into its buffer, so it gets one of its own.
@@ -60,12 +76,23 @@ fn read_piece<F: Read>(file: &mut F, buf: &mut [u8]) -> Result<usize, Failed>
 }
 
 impl<F: Read + Drop> RealFile<F> {
+    fn is_named(&self, name: &str) -> bool
+        ensures { result ≡ spec.is_named name.now self.now }
+    {
+        self.name.as_str() == name
+    }
+
     fn read(&mut self, buf: &mut [u8]) -> Result<usize, Failed>
         ensures bound { ReadsAtMost result buf.new }
         ensures kept { OnErr result (buf.new ≡ buf.old) }
-        ensures bytes { ReadConsumes (source_left F.remaining self.old.source)
-            (source_left F.remaining self.new.source) result buf.new }
+        ensures bytes { ReadConsumes (spec.source_left F.remaining self.old.source)
+            (spec.source_left F.remaining self.new.source) result buf.new }
         ensures name { self.new.name ≡ self.old.name }
+
+        // One that can't be opened fails at each read.
+        ensures missing { self.old.source ≡ Source.Missing → IsErr result }
+        ensures still_missing { self.old.source ≡ Source.Missing
+            → self.new.source ≡ Source.Missing }
     {
         match &mut self.source {
             Source::Open(file) => {
@@ -86,7 +113,8 @@ impl<F: Read + Drop> RealFile<F> {
 impl<R: Files> RealInputs<R> {
     /// The files that `rt` reaches, none of them opened, with no fault so far.
     pub fn new(rt: R, alloc: Global) -> RealInputs<R>
-        ensures { (name : List ℕ) → ⟦<RealInputs<R> as Inputs>⟧.faults result name ≡ 0 }
+        ensures faults { (name : List ℕ) → ⟦<RealInputs<R> as Inputs>⟧.faults result name ≡ 0 }
+        ensures none_opened { result.files.items ≡ [] }
     {
         RealInputs {
             rt,
@@ -96,50 +124,64 @@ impl<R: Files> RealInputs<R> {
         }
     }
 
+    /// Where the first file stands that was opened by that name.
     fn index_of(&self, name: &str) -> Option<usize>
-        ensures there { IfSome result (λ index. index < vec_len self.now.files) }
-        ensures named { IfSome result (λ index. IfSome (slice_get self.now.files.items index)
-            (λ file. string_bytes file.name ≡ name.now)) }
+        ensures { result ≡ position (spec.is_named name.now) self.now.files.items }
     {
-        for (index, file) in self.files.iter().enumerate() {
-            if file.name.as_str() == name {
-                return Some(index);
-            }
-        }
-        None
+        self.files.iter().position(|file| file.is_named(name))
     }
 
+    /// Opens a file of that name, which may fail, and keeps it behind the others.
     fn open(&mut self, name: &str) -> Result<(), Failed>
-        ensures { self.new.failed ≡ self.old.failed }
+        ensures opened { OnOk result
+            (spec.IsOpened name.now self.old.files.items self.new.files.items) }
+        ensures unchanged { OnErr result (self.new.files.items ≡ self.old.files.items) }
+        ensures count { self.new.failed ≡ self.old.failed }
     {
         let Ok(name) = String::from_str(self.alloc, name) else {
             return Err(Failed);
         };
-        let source = match fs::open(&self.rt, name.as_str()) {
-            Ok(file) => Source::Open(file),
-            Err(_) => Source::Missing,
-        };
+        let source = source_of(fs::open(&self.rt, name.as_str()));
         match self.files.push(RealFile { name, source }) {
             Ok(()) => Ok(()),
             Err(_) => Err(Failed),
         }
     }
 
+    /// Where the first file of that name stands, which is opened where there is none.
+    fn place_of(&mut self, name: &str) -> Result<usize, Failed>
+        ensures there { IfOk result (λ index. index < vec_len self.new.files) }
+        ensures first { IfOk result (λ index. index
+            ≡ position_or_len (spec.is_named name.now) self.new.files.items) }
+
+        // A file is opened only where the name has none, and only then the call may fail.
+        ensures found { OnSome (spec.first_of name.now self.old.files.items)
+            (self.new.files.items ≡ self.old.files.items) }
+        ensures opened { OnOk result (spec.first_of name.now self.old.files.items ≡ None
+            → spec.IsOpened name.now self.old.files.items self.new.files.items) }
+        ensures not_found { OnErr result (spec.first_of name.now self.old.files.items ≡ None) }
+        ensures unchanged { OnErr result (self.new.files.items ≡ self.old.files.items) }
+        ensures count { self.new.failed ≡ self.old.failed }
+    {
+        if let Some(index) = self.index_of(name) {
+            return Ok(index);
+        }
+        let last = self.files.len();
+        self.open(name)?;
+        Ok(last)
+    }
+
     fn try_read(&mut self, name: &str, buf: &mut [u8]) -> Result<usize, Failed>
         ensures bound { ReadsAtMost result buf.new }
         ensures kept { OnErr result (buf.new ≡ buf.old) }
+        ensures file { spec.ReadsName R.File.remaining name.now
+            self.old.files.items self.new.files.items result buf.new }
+        ensures other_files { spec.OthersStay name.now self.old.files.items self.new.files.items }
         ensures count { self.new.failed ≡ self.old.failed }
     {
-        if self.index_of(name).is_none() {
-            self.open(name)?;
-        }
-        match self.index_of(name) {
-            Some(index) => {
-                let file = &mut self.files[index];
-                file.read(buf)
-            }
-            None => Err(Failed),
-        }
+        let index = self.place_of(name)?;
+        let file = &mut self.files[index];
+        file.read(buf)
     }
 }
 
@@ -150,7 +192,21 @@ impl<R: Files> Inputs for RealInputs<R> {
 
     ghost faults = { λ inputs name. inputs.failed };
 
-    fn read(&mut self, name: &str, buf: &mut [u8]) -> Result<usize, Failed> {
+    fn read(&mut self, name: &str, buf: &mut [u8]) -> Result<usize, Failed>
+        ensures bound { ReadsAtMost result buf.new }
+        ensures bytes { ReadTakes None None result buf.new }
+        ensures others { OthersKept name.now (λ other. None) (λ other. None) }
+        ensures kept { OnErr result (buf.new ≡ buf.old) }
+        ensures cause { HasCause self.old.failed self.new.failed result }
+        ensures counts { NoneFalls (λ other. self.old.failed) (λ other. self.new.failed) }
+        ensures ok { OnOk result (AllStay (λ other. self.old.failed) (λ other. self.new.failed)) }
+
+        // The first file of the name gives its next bytes where its reader makes them known, and
+        // fails where it can't be opened; the files of other names stay.
+        ensures file { spec.ReadsName R.File.remaining name.now
+            self.old.files.items self.new.files.items result buf.new }
+        ensures other_files { spec.OthersStay name.now self.old.files.items self.new.files.items }
+    {
         match self.try_read(name, buf) {
             Ok(count) => Ok(count),
             Err(Failed) => {

@@ -2,7 +2,8 @@
 ghost use Rattle.std.specs.Prelude.{◌≡◌, ℕ, List, Option, None, Bool, false, is_some, refl};
 ghost use Rattle.std.specs.Io.{WritesAtMost};
 ghost use Rattle.std.specs.Io.KnownBytes.{WriteAppends};
-ghost use Rattle.flow_base.specs.Bytes.{TakesSome};
+ghost use Rattle.flow_base.specs.Causes.{HasCause};
+ghost use Rattle.flow_base.specs.Bytes.{WritesFront, TakesSome};
 
 use crate::inputs::Failed;
 use crate::sink::Sink;
@@ -21,7 +22,8 @@ pub struct RealSink<W> {
 impl<W: Write> RealSink<W> {
     /// A sink over that writer, with no fault so far.
     pub fn new(writer: W) -> RealSink<W>
-        ensures { ⟦<RealSink<W> as Sink>⟧.faults result ≡ 0 }
+        ensures faults { ⟦<RealSink<W> as Sink>⟧.faults result ≡ 0 }
+        ensures writer { result.writer ≡ writer }
     {
         RealSink { writer, failed: 0 }
     }
@@ -50,7 +52,16 @@ impl<W: Write> Sink for RealSink<W> {
 
     ghost faults = { λ sink. sink.failed };
 
-    fn write(&mut self, piece: &[u8]) -> Result<usize, Failed> {
+    fn write(&mut self, piece: &[u8]) -> Result<usize, Failed>
+        ensures bound { WritesAtMost result piece.now }
+        ensures bytes { WritesFront None None piece.now result }
+        ensures some { TakesSome piece.now result }
+        ensures cause { HasCause self.old.failed self.new.failed result }
+
+        // A writer whose bytes are known has those that it took behind those before.
+        ensures writer { WriteAppends (W.contents self.old.writer) (W.contents self.new.writer)
+            result piece.now }
+    {
         match self.hand_on(piece) {
             Ok(count) => Ok(count),
             Err(Failed) => {

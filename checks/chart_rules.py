@@ -121,10 +121,12 @@ from collections import Counter, namedtuple
 from fractions import Fraction
 from math import floor
 
-from chart_check import (Active, Assign, Emit, Literal, Read, Send, Sign, State, Truth, check_chart, ends_of, home_of,
-                         is_value_of, type_of)
+from chart_check import (Active, Assign, Emit, Literal, Read, Sign, State, Truth, check_chart, ends_of, home_of, is_value_of,
+                         type_of)
 from chart_syntax import (COMPARISON, LEVELS, MOST_DIGITS, WITH_HISTORY, WITHOUT_HISTORY, Fault, NotAText, line_of,
                           table_lines, text_of)
+from demands import demand
+from programs import Ended
 
 USUAL_DEPTH, MOST_DEPTH = 8, 32
 USUAL_STEPS, MOST_STEPS = 10000, 50000
@@ -522,8 +524,7 @@ class Rules:
             self.met('defaults: an OR with history that remembers none')
         outcome = self.search(Life('bare', state), state.lists['default'])
         if not isinstance(outcome, Fire):
-            # In a checked chart this is Stop, and never No or End.
-            assert outcome == STOP
+            demand(outcome == STOP, 'a default search of a checked chart gives %s' % outcome)
             return self.met('default search: Stop')
         child = child_towards(state, outcome.state)
         self.met('default search: Fire with a ' + ('child' if child is outcome.state else 'state below a child'))
@@ -737,27 +738,25 @@ def trace_line(rules, index, event, result):
 
 # ---- a whole run
 
-Answer = namedtuple('Answer', 'status out error')
-
 
 def run_rules(text, data, depth=USUAL_DEPTH, steps=USUAL_STEPS, language=WITH_HISTORY, met=None):
     """The answer of `rules` for a chart text, a character for each byte, and the bytes of an event file."""
     try:
         chart = check_chart(text, language)
     except Fault as fault:
-        return Answer(1, '', fault.written(text) + '\n')
+        return Ended('', fault.written(text) + '\n', 1)
     rules = Rules(chart, depth, steps, met)
     result = rules.start()
     out = [trace_line(rules, 0, 'start', result)]
     index = 0
     if result != 'ok':
-        return Answer(3, ''.join(out), 'run 0: %s\n' % result)
+        return Ended(''.join(out), 'run 0: %s\n' % result, 3)
     for number, line, start in lines_of(data):
         try:
             if len(line) > LONGEST_LINE and start + LONGEST_LINE < LONGEST_FILE:
                 raise LineFault(1)
             if is_past_file(data, line, start):
-                return Answer(1, ''.join(out), 'event: 6 FileTooLong\n')
+                return Ended(''.join(out), 'event: 6 FileTooLong\n', 1)
             tokens = tokens_of(line)
             if not tokens or tokens[0].startswith('#'):
                 rules.met('event: a comment' if tokens else 'event: a line without token')
@@ -765,16 +764,16 @@ def run_rules(text, data, depth=USUAL_DEPTH, steps=USUAL_STEPS, language=WITH_HI
             event, inputs = event_of(chart, tokens)
         except LineFault as fault:
             rules.met('event: %d %s' % (fault.number, LINE_FAULTS[fault.number]))
-            return Answer(1, ''.join(out), 'event %d: %d %s\n' % (number, fault.number, LINE_FAULTS[fault.number]))
+            return Ended(''.join(out), 'event %d: %d %s\n' % (number, fault.number, LINE_FAULTS[fault.number]), 1)
         if index == MOST_EVENTS:
-            return Answer(1, ''.join(out), 'event: 5 TooManyLines\n')
+            return Ended(''.join(out), 'event: 5 TooManyLines\n', 1)
         index += 1
         rules.met('event: a named event' if event else 'event: tick')
         result = rules.react(event, inputs)
         out.append(trace_line(rules, index, event.name if event else 'tick', result))
         if result != 'ok':
-            return Answer(3, ''.join(out), 'run %d: %s\n' % (index, result))
-    return Answer(0, ''.join(out), '')
+            return Ended(''.join(out), 'run %d: %s\n' % (index, result), 3)
+    return Ended(''.join(out), '', 0)
 
 
 # ---- the words of the command, and the table
@@ -807,7 +806,7 @@ def words_of(words):
 def command(words, language):
     found = words_of(words)
     if found is None:
-        return Answer(2, '', USAGE + '\n')
+        return Ended('', USAGE + '\n', 2)
     (chart, events), depth, steps = found
     try:
         with open(chart, 'rb') as file:
@@ -818,7 +817,7 @@ def command(words, language):
             with open(events, 'rb') as file:
                 data = file.read()
     except OSError:
-        return Answer(4, '', 'read fault\n')
+        return Ended('', 'read fault\n', 4)
     return run_rules(text, data, depth, steps, language)
 
 

@@ -28,12 +28,11 @@ A line is written for each difference, whose files are kept in FOLDER, and at th
 differed."""
 import os
 import random
+import re
 import resource
-import signal
 import subprocess
 import sys
 import tempfile
-import threading
 import time
 from collections import Counter
 
@@ -47,12 +46,14 @@ import code_text as ct
 import random_charts
 import random_codes
 import random_compiled
-from programs import differences, parser, print_counts
+from demands import Wrong
+from programs import Ended, differences, parser, print_counts, waited
 
 KINDS = {'chart': 6, 'code': 4, 'hostile chart': 4, 'hostile code': 3, 'hostile events': 3, 'words': 3}
 ONE_IN = 10
 MIB = 1 << 20
 CHART_HEIGHT = 87
+LAST_READER_FAULT = 8       # the faults up to this one are those of `fmt` too
 ODD_BYTES = b'\0\n\r\t #/{}[]()@=-+*<>!&|;:,.q\x7f\x80\xff09azAZ_'
 
 
@@ -89,7 +90,7 @@ class Measured(random_compiled.Program):
         return self.call(words, memory, command)
 
     def call(self, words, memory, command):
-        """Standard output, standard error and status of a call. `command` is None where the words ask for none."""
+        """How a call ends. `command` is None where the words ask for none."""
         def limit():
             resource.setrlimit(resource.RLIMIT_CPU, (self.longest, self.longest + 1))
             if memory is not None:
@@ -99,22 +100,19 @@ class Measured(random_compiled.Program):
         with open(names[0], 'wb') as out, open(names[1], 'wb') as error:
             process = subprocess.Popen([self.path, *words], stdin=subprocess.DEVNULL, stdout=out, stderr=error, cwd=self.folder,
                                        preexec_fn=limit)
-            late = threading.Timer(10 * self.longest, os.kill, (process.pid, signal.SIGKILL))
-            late.start()
-            _, ended, used = os.wait4(process.pid, 0)
-            late.cancel()
-            process.returncode = status = os.waitstatus_to_exitcode(ended)
+            status, used, timed_out = waited(process, 10 * self.longest)
         texts = []
         for name in names:
             with open(name, 'rb') as file:
                 texts.append(file.read().decode('latin-1'))
         self.count(command or 'no command', status, used)
-        found = answers.problem(command, *texts, status)
+        answer = Ended(*texts, status, timed_out)
+        found = answers.problem(command, answer)
         if status in (4, 5, 6) and command is not None and found is None and self.nothing_fails:
             found = 'status %d where nothing failed' % status
         if found:
             self.bad.append('%s: %s' % (' '.join(map(repr, words)), found))
-        return (*texts, status)
+        return answer
 
     def count(self, command, status, used):
         self.calls[command, status] += 1
@@ -199,7 +197,7 @@ def asked(words):
             files.append(word)
     if len(files) != 1:
         return None
-    if command == 'selftest' and not rules.re.fullmatch(r'\+?0*[0-9]{1,10}', files[0], rules.re.ASCII):
+    if command == 'selftest' and not re.fullmatch(r'\+?0*[0-9]{1,10}', files[0], re.ASCII):
         return None
     if command == 'selftest' and int(files[0]) >= 1 << 32:
         return None
@@ -209,17 +207,23 @@ def asked(words):
 # ---- the cases
 
 class Soak:
+    """Runs cases by their numbers, and counts what was met and what was wrong. `keep` is the folder for files of differences."""
+
     def __init__(self, program, seed, keep):
         self.program, self.seed = program, seed
         self.comparison = random_compiled.Comparison(program, seed, 2, keep)
         self.kinds, self.found, self.bad = Counter(), Counter(), 0
 
     def case(self, number):
+        """Runs a case, and writes what is wrong of it."""
         choices = random.Random('soak %s %d' % (self.seed, number))
         kind = choices.choices(list(KINDS), list(KINDS.values()))[0]
         self.kinds[kind] += 1
         name = 'case %d, %s' % (number, kind)
-        getattr(self, kind.replace(' ', '_') + '_case')(name, number, choices)
+        try:
+            getattr(self, kind.replace(' ', '_') + '_case')(name, number, choices)
+        except Wrong as wrong:
+            self.program.bad.append('a reference: %s' % wrong)
         bad, self.program.bad = self.program.bad, []
         self.bad += len(bad)
         for line in bad:
@@ -255,11 +259,11 @@ class Soak:
         options = ['--depth', str(depth), '--steps', str(steps)]
         ran = self.program.run('exec', 'code', 'events', options=options)
         upgraded = self.program.run('upgrade', 'code')
-        refused = ran[1] if answers.CODE_LINE.fullmatch(ran[1]) else ''
-        lines = differences(name + ' upgrade', (upgraded[0], refused, 1 if refused else 0), upgraded)
+        refused = ran.error if answers.CODE_LINE.fullmatch(ran.error) else ''
+        lines = differences(name + ' upgrade', Ended(upgraded.out, refused, 1 if refused else 0), upgraded)
         self.found['code texts refused' if refused else 'code texts accepted'] += 1
         if not refused:
-            self.program.write('code 2', upgraded[0].encode('latin-1'))
+            self.program.write('code 2', upgraded.out.encode('latin-1'))
             lines += differences(name + ' exec of what upgrade writes', ran,
                                  self.program.run('exec', 'code 2', 'events', options=options))
             lines += differences(name + ' upgrade twice', upgraded, self.program.run('upgrade', 'code 2'))
@@ -271,7 +275,7 @@ class Soak:
             except ct.Refused:
                 work = 0
             if (work + 1) * steps <= 100 * random_codes.MOST_MOVES:
-                lines += differences(name + ' code_machine.py', cm.execute(code, events, depth, steps)[:3], ran)
+                lines += differences(name + ' code_machine.py', cm.execute(code, events, depth, steps)[0], ran)
         self.differ(name, lines, code=code, events=events)
 
     def hostile_chart_case(self, name, number, choices):
@@ -289,17 +293,18 @@ class Soak:
         if with_references:
             self.found['charts compared with chart_check.py'] += 1
             try:
-                expected = check.counts_text(check.check_chart(text.decode('latin-1'))) + '\n', '', 0
+                expected = Ended(check.counts_text(check.check_chart(text.decode('latin-1'))) + '\n', '', 0)
             except syntax.Fault as fault:
-                expected = '', fault.written(text.decode('latin-1')) + '\n', 1
+                expected = Ended('', fault.written(text.decode('latin-1')) + '\n', 1)
             lines += differences(name + ' chart_check.py', expected, checked)
-        self.found['hostile charts accepted' if checked[2] == 0 else 'hostile charts refused'] += 1
-        reader = checked[2] == 1 and int(checked[1].split(' ')[2]) <= 8
-        lines += differences(name + ' fmt', checked if reader else (formatted[0], '', 0), formatted)
-        if formatted[2] == 0:
-            program.write('formatted', formatted[0].encode('latin-1'))
+        self.found['hostile charts accepted' if checked.status == 0 else 'hostile charts refused'] += 1
+        fault = answers.chart_fault(checked.error)
+        by_reader = fault is not None and fault <= LAST_READER_FAULT
+        lines += differences(name + ' fmt', checked if by_reader else Ended(formatted.out, '', 0), formatted)
+        if formatted.status == 0:
+            program.write('formatted', formatted.out.encode('latin-1'))
             lines += differences(name + ' fmt twice', formatted, program.run('fmt', 'formatted'))
-        if checked[2]:
+        if checked.status != 0:
             for command, *more in (('compile',), ('rules', 'events'), ('run', 'events')):
                 lines += differences('%s %s' % (name, command), checked, program.run(command, 'chart', *more))
         else:
@@ -313,11 +318,11 @@ class Soak:
         options = ['--depth', str(bounds[0]), '--steps', str(bounds[1])]
         program.write('events', events)
         ran = program.run('rules', 'chart', 'events', options=options)
-        self.found['traces of hostile texts with status %s' % ran[2]] += 1
+        self.found['traces of hostile texts with status %s' % ran.status] += 1
         lines = differences(name + ' run', ran, program.run('run', 'chart', 'events', options=options))
         code = program.run('compile', 'chart')
-        program.write('code', code[0].encode('latin-1'))
-        lines += differences(name + ' compile', (code[0], '', 0), code)
+        program.write('code', code.out.encode('latin-1'))
+        lines += differences(name + ' compile', Ended(code.out, '', 0), code)
         lines += differences(name + ' exec', ran, program.run('exec', 'code', 'events', options=options))
         if os.path.exists(os.path.join(program.folder, 'formatted')):
             lines += differences(name + ' run of the canonical text', ran,
@@ -325,7 +330,7 @@ class Soak:
         if with_references and bounds[1] <= rules.USUAL_STEPS:
             self.found['traces compared with chart_rules.py'] += 1
             told = rules.run_rules(text.decode('latin-1'), events, *bounds)
-            lines += differences(name + ' chart_rules.py', (told.out, told.error, told.status), ran)
+            lines += differences(name + ' chart_rules.py', told, ran)
         return lines
 
     def hostile_code_case(self, name, number, choices):
@@ -335,7 +340,7 @@ class Soak:
         else:
             text, events = self.text(choices)
             self.program.write('chart', text)
-            code = self.program.run('compile', 'chart')[0].encode('latin-1')
+            code = self.program.run('compile', 'chart').out.encode('latin-1')
         other = random_codes.Case('soak other %s' % self.seed, number % 900).text
         self.code_answers(name, number, changed(choices, code, other), events, choices.choice([1, 8, 32]),
                           choices.choice([1, 20, 300]))
@@ -344,7 +349,7 @@ class Soak:
         text, events = self.text(choices)
         _, other = self.text(choices)
         self.program.write('chart', text)
-        if self.program.run('check', 'chart')[2]:
+        if self.program.run('check', 'chart').status != 0:
             return self.chart_answers(name, number, text, events, choices)
         formatted = os.path.join(self.program.folder, 'formatted')
         if os.path.exists(formatted):
@@ -354,6 +359,7 @@ class Soak:
                     chart=text, events=events)
 
     def words_case(self, name, number, choices):
+        """Lists of words, each compared with its plainest form."""
         door = {kind: os.path.join(answers.ROOT, 'examples/compiled/door.' + kind) for kind in ('chart', 'code', 'events')}
         for file, kind in (('c', 'chart'), ('k', 'code'), ('e', 'events')):
             with open(door[kind], 'rb') as sample:
@@ -375,6 +381,7 @@ class Soak:
     # ---- the summary
 
     def print_summary(self, cases, began):
+        """What was met, and for each command the statuses, the most time and the most memory."""
         program = self.program
         print('\nsoak with seed %s: %d cases in %.0f minutes, %d calls of the program'
               % (self.seed, cases, (time.time() - began) / 60, sum(program.calls.values())))

@@ -266,6 +266,7 @@ class Comparison:
 
 
 def main(words):
+    """Compares cases until there are enough, and gives the status."""
     reader = parser(__doc__)
     reader.add_argument('--against', metavar='PROGRAM', required=True)
     reader.add_argument('--seed', default='1')

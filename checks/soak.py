@@ -35,6 +35,7 @@ import sys
 import tempfile
 import time
 from collections import Counter
+from typing import NamedTuple
 
 import answers
 import chart_check as check
@@ -122,37 +123,72 @@ class Measured(random_compiled.Program):
 
 # ---- hostile bytes
 
+class Spot(NamedTuple):
+    """A place in some bytes: those before it, those at it, which may be none, and those after it."""
+    before: bytes
+    at: bytes
+    after: bytes
+
+
+def odd_byte(choices):
+    return bytes([choices.choice(ODD_BYTES)])
+
+
+def put_byte(choices, spot, _other):
+    return spot.before + odd_byte(choices) + spot.at + spot.after
+
+
+def other_byte(choices, spot, _other):
+    return spot.before + odd_byte(choices) + (spot.at + spot.after)[1:]
+
+
+def taken_away(_choices, spot, _other):
+    return spot.before + spot.after
+
+
+def repeated(choices, spot, _other):
+    return spot.before + spot.at * choices.choice([2, 2, 3, 100]) + spot.after
+
+
+def cut(choices, spot, _other):
+    return spot.before if choices.random() < 0.5 else spot.at + spot.after
+
+
+def replaced(choices, spot, other):
+    start = choices.randint(0, len(other))
+    return spot.before + other[start:start + choices.choice([1, 5, 30, 300])] + spot.after
+
+
+def put_random(choices, spot, _other):
+    return spot.before + choices.randbytes(choices.choice([1, 1, 4, 60])) + spot.at + spot.after
+
+
+def swapped_lines(choices, spot, _other):
+    lines = b''.join(spot).split(b'\n')
+    one, two = choices.randrange(len(lines)), choices.randrange(len(lines))
+    lines[one], lines[two] = lines[two], lines[one]
+    return b'\n'.join(lines)
+
+
+def turned_bit(choices, spot, _other):
+    rest = spot.at + spot.after
+    return spot.before + bytes([rest[0] ^ 1 << choices.randrange(8)]) + rest[1:] if rest else spot.before
+
+
+CHANGES = [put_byte, other_byte, taken_away, repeated, cut, replaced, put_random, swapped_lines, turned_bit]
+
+
 def changed_once(choices, data, other):
-    at = choices.randint(0, len(data))
-    to = min(len(data), at + choices.choice([1, 1, 1, 2, 3, 8, 40, 400]))
-    kind = choices.randrange(9)
-    if kind == 0:
-        return data[:at] + bytes([choices.choice(ODD_BYTES)]) + data[at:]
-    if kind == 1:
-        return data[:at] + bytes([choices.choice(ODD_BYTES)]) + data[at + 1:]
-    if kind == 2:
-        return data[:at] + data[to:]
-    if kind == 3:
-        return data[:at] + data[at:to] * choices.choice([2, 2, 3, 100]) + data[to:]
-    if kind == 4:
-        return data[:at] if choices.random() < 0.5 else data[at:]
-    if kind == 5:
-        start = choices.randint(0, len(other))
-        return data[:at] + other[start:start + choices.choice([1, 5, 30, 300])] + data[to:]
-    if kind == 6:
-        return data[:at] + choices.randbytes(choices.choice([1, 1, 4, 60])) + data[at:]
-    if kind == 7:
-        lines = data.split(b'\n')
-        one, two = choices.randrange(len(lines)), choices.randrange(len(lines))
-        lines[one], lines[two] = lines[two], lines[one]
-        return b'\n'.join(lines)
-    return data[:at] + bytes([data[at] ^ 1 << choices.randrange(8)]) + data[at + 1:] if at < len(data) else data
+    """The bytes with one change at one place; it may bring in a piece of others."""
+    start = choices.randint(0, len(data))
+    end = min(len(data), start + choices.choice([1, 1, 1, 2, 3, 8, 40, 400]))
+    return choices.choice(CHANGES)(choices, Spot(data[:start], data[start:end], data[end:]), other)
 
 
 def changed(choices, data, other):
     if choices.random() < 0.02:
         return choices.choice([b'', choices.randbytes(choices.choice([1, 10, 1000, 100000])), other,
-                               bytes([choices.choice(ODD_BYTES)]) * choices.choice([1, 4096, 4097, 70000])])
+                               odd_byte(choices) * choices.choice([1, 4096, 4097, 70000])])
     for _ in range(choices.choice([1, 1, 1, 2, 3, 10])):
         data = changed_once(choices, data, other)
     return data
@@ -401,6 +437,7 @@ class Soak:
 
 
 def main(words):
+    """Runs cases until the time is over, and gives the status."""
     reader = parser(__doc__)
     reader.add_argument('--against', metavar='PROGRAM', required=True)
     reader.add_argument('--minutes', type=float, default=60)

@@ -85,7 +85,6 @@ MOST_PAIRS = 32768
 MOST_SIZE = 100
 MOST_FRACTION = 64
 LISTS = ('default', 'inner', 'outer')
-PASSES = ('names', 'types', 'structure', 'pairs')
 
 
 # ---- the chart with its names looked up

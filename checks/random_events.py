@@ -199,8 +199,9 @@ def random_world(rng, declared):
     result = rng.choice(['ok', 'ok', 'depth', 'steps', 'zero'] + ['overflow:%d' % v for v in range(len(declared.data))])
     outputs = [rng.randrange(len(declared.events)) for _ in range(rng.choice([0, 1, 2, 5]))] if declared.events else []
     index = rng.choice([0, 1, 2, 9, 10, 20])
+    states = listed(active_states(rng, declared.states))
     values = listed([datum.init for datum in declared.data])
-    return 'world %d %s %s %s %s %s' % (index, event, result, listed(active_states(rng, declared.states)), values, listed(outputs))
+    return 'world %d %s %s %s %s %s' % (index, event, result, states, values, listed(outputs))
 
 
 def random_block(seed, number):

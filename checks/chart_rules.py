@@ -315,6 +315,7 @@ class Rules:
     # -- blocks
 
     def block(self, life, statements):
+        """Carries out the statements of a block under a life, and gives whether it was cut."""
         for statement in statements:
             if isinstance(statement, Assign):
                 self.assign(statement.datum, self.value(statement.value))
@@ -334,6 +335,7 @@ class Rules:
         return DONE
 
     def send(self, statement):
+        """Processes a state, or the whole chart, with an event, one level deeper."""
         if self.depth == self.most_depth:
             self.met('fault depth')
             raise RunFault('depth')
@@ -359,6 +361,7 @@ class Rules:
         self.values[datum] = value
 
     def fitted(self, datum, number):
+        """The number by floor at the scale of the datum, and by its mode where it is out of range."""
         scale = datum.scale
         mantissa = floor(number * 2 ** scale.fraction)
         if mantissa != number * 2 ** scale.fraction:
@@ -380,6 +383,7 @@ class Rules:
     # -- expressions: the value is a bool or an exact number
 
     def value(self, expression):
+        """The value of an expression."""
         if isinstance(expression, Literal):
             return Fraction(expression.mantissa, 2 ** expression.fraction)
         if isinstance(expression, Truth):
@@ -396,6 +400,7 @@ class Rules:
         return self.value_between(expression)
 
     def value_between(self, expression):
+        """The value of an operator and its two operands."""
         operator = expression.operator
         left = self.value(expression.left)
         if operator == '&&' and not left or operator == '||' and left:
@@ -423,6 +428,7 @@ class Rules:
     # -- search
 
     def search(self, life, transitions):
+        """Searches a list, and gives Fire, or one of No, End and Stop."""
         for transition in transitions:
             if not self.is_enabled(transition):
                 continue
@@ -459,6 +465,7 @@ class Rules:
     # -- exit and enter
 
     def exit(self, state):
+        """Exits a state with all that is active below it."""
         if state not in self.active:
             return self.met("exit: s isn't active")
         if state.composition == 'and':
@@ -517,6 +524,7 @@ class Rules:
                     self.enter(child, child)
 
     def defaults(self, state):
+        """Enters a child of an OR: the remembered one, or the one to which its default list leads."""
         if state in self.remembered:
             self.met('defaults: the remembered child')
             return self.enter(self.remembered[state], self.remembered[state])
@@ -548,6 +556,7 @@ class Rules:
         return DONE
 
     def take(self, home, goal, actions):
+        """Takes the way to a state: exits what is active below the home, plays the actions, and enters."""
         child = self.active_child(home)
         self.met('take: the home has an active child' if child else 'take: the home has no active child')
         if child:
@@ -700,6 +709,7 @@ def event_of(chart, tokens):
 
 
 def input_value(datum, text):
+    """The value that a text tells of an input; another text is fault 6."""
     if datum.scale is None:
         if text not in ('true', 'false'):
             raise LineFault(6)
@@ -804,6 +814,7 @@ def words_of(words):
 
 
 def command(words, language):
+    """The answer to the words of the command."""
     found = words_of(words)
     if found is None:
         return Ended('', USAGE + '\n', 2)
@@ -822,6 +833,7 @@ def command(words, language):
 
 
 def table_answer(line, language):
+    """The answer to a line of the table."""
     found = re.fullmatch('(?:([0-9]+) ([0-9]+)|-)\t([^\t]*)\t([^\t]*)', line)
     try:
         if not found:
@@ -837,6 +849,7 @@ def table_answer(line, language):
 
 
 def main(words):
+    """Does what the words ask for, and gives the status."""
     language = WITH_HISTORY
     if words[:1] == ['--without-history']:
         language = WITHOUT_HISTORY

@@ -316,6 +316,7 @@ class Reader:
     # -- the chart
 
     def chart(self):
+        """The whole chart."""
         self.count('states')
         self.take('chart')
         root = State(self.name(), self.take_if('or', 'and'))
@@ -366,6 +367,7 @@ class Reader:
     # -- states
 
     def item(self, state, depth):
+        """Reads an item into a state that stands so deep."""
         if depth == 0 and self.at('exit', 'outer') or self.token.kind in state.blocks:
             raise self.expected()
         if self.at('entry', 'during', 'exit'):
@@ -415,6 +417,7 @@ class Reader:
     # -- transitions and statements
 
     def transition(self, at):
+        """The transition that begins at that place."""
         event = self.name() if self.at('name') else None
         guard = None
         if self.at('['):
@@ -489,6 +492,7 @@ class Reader:
         return self.operand()
 
     def operand(self):
+        """An operand: an expression without an operator outside of parentheses."""
         at = self.token.offset
         if self.at('number'):
             return self.number()
@@ -547,6 +551,7 @@ def level_of(operator):
 
 
 def expression_text(expression):
+    """The canonical text of an expression."""
     if isinstance(expression, Number):
         return number_text(expression)
     if isinstance(expression, Flag):

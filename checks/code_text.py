@@ -82,6 +82,8 @@ class Refused(Exception):
 
 
 class Code:
+    """A code: what it declares, the numbers of the procedures of the start and of a reaction, and the procedures."""
+
     def __init__(self, declared, start, react, procs):
         self.declared, self.start, self.react, self.procs = declared, start, react, procs
 

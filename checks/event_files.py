@@ -91,7 +91,8 @@ END, TOO_MANY_LINES, FILE_TOO_LONG = Stop(None, None), Stop(None, 5), Stop(None,
 
 
 class LineFault(Exception):
-    pass
+    """The number of a fault of a line."""
+
 
 
 # ---- lines
@@ -235,6 +236,7 @@ class Blocks:
 
 
 def declared_of(name, parts):
+    """The declarations of these parts of a block."""
     states, data, events = [], [], []
     for word, rest in parts:
         fields = [word] + rest.split(' ')
@@ -283,6 +285,7 @@ def world_text(declared, rest):
 
 
 def answer(block, declared):
+    """The lines of the answer to a block."""
     data = file_of(block)
     answers = []
     if data is not None:

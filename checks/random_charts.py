@@ -70,6 +70,7 @@ class Maker:
     # -- the tree
 
     def chart(self):
+        """The whole chart, as a tree."""
         self.root = self.state('Chart', None, 0)
         self.declarations()
         self.junctions()
@@ -114,6 +115,7 @@ class Maker:
             self.data.append(Datum('local', self.account, Scale('u', 32, 0), 'wrap', None))
 
     def datum(self, text):
+        """A datum with that name."""
         kind = self.choices.choice(['input', 'output', 'local', 'local'])
         if self.chance(0.2):
             first = None
@@ -188,6 +190,7 @@ class Maker:
     # -- what stands in a state
 
     def fill(self, state):
+        """Gives a state its lists and its blocks."""
         if state.composition() == 'or':
             length = self.choices.choice([1, 1, 1, 2, 3])
             allowed = self.allowed(state, 'default')

@@ -52,6 +52,7 @@ def random_states(rng):
 
 
 def random_declarations(rng):
+    """States, data and events."""
     names = rng.sample(NAMES, rng.randint(0, 12))
     data, events = [], []
     for name in names:
@@ -85,6 +86,7 @@ def padded(rng, text):
 
 
 def number_text(rng, scale):
+    """A number near those of the scale."""
     mantissa = random_mantissa(rng, scale)
     near = rng.random()
     if near < 0.03:
@@ -116,6 +118,7 @@ def value_text(rng, datum):
 # ---- lines
 
 def event_line(rng, declared):
+    """A line that is mostly an event with values of inputs."""
     events = [e.name for e in declared.events if e.kind == 'input'] + ['tick']
     inputs = [d for d in declared.data if d.kind == 'input']
     if rng.random() < 0.02:

@@ -138,6 +138,7 @@ def print_answers(program, command):
 
 
 def main(words):
+    """Does what the words ask for, and gives the status."""
     names = words[2:]
     if len(words) < 2 or words[1] not in (OF_NAMES if names else OF_TABLES):
         sys.stderr.write(__doc__ + '\n')

@@ -4,7 +4,7 @@
     bench/charts.py KIND BYTES      KIND is one of: transitions, expressions, nests, comments, parentheses, slashes
 
 `transitions` has 1,000 states and as many transitions as there is room for, with guards and actions; `expressions` has
-blocks of assignments with 60 operators each; `nests` has states 16 deep; `comments` is a small chart between long comments.
+blocks of assignments with 44 operators each; `nests` has states 16 deep; `comments` is a small chart between long comments.
 These four are charts within the limits. `parentheses` and `slashes` are a chart's beginning and then that byte alone:
 the first is refused, the second is one comment and then ends too early. BYTES is at most 1,048,576."""
 import sys
@@ -52,9 +52,10 @@ def expressions(size):
     events, data, lines = declarations()
     items = []
     for state in range(1000):
-        block = ['%s = %s;' % (data[(state + k) % 200],
-                               ' + '.join('%s * (%s - %d)' % (data[(k + j) % 200], data[(state + j) % 200], j) for j in range(15)))
-                 for k in range(15)]
+        block = []
+        for k in range(15):
+            products = ['%s * (%s - %d)' % (data[(k + j) % 200], data[(state + j) % 200], j) for j in range(15)]
+            block.append('%s = %s;' % (data[(state + k) % 200], ' + '.join(products)))
         items.append('state S%d { entry { %s } }' % (state, ' '.join(block)))
     return fill(['chart Bench or {'] + lines + ['default -> S0;'], size, items, ['}'])
 

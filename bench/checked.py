@@ -1,25 +1,19 @@
 #!/usr/bin/env python3
-"""Measures `check` on large charts and `rules` on the generated case 0, and prints seconds, machine instructions and memory.
+"""Measures `check` on large charts and `rules` on the generated case 0, and prints seconds from the beginning to the end of each
+run, its peak memory, and its machine instructions.
 
     bench/checked.py BIN    BIN is a built program, as crates/flowc/out/flowc after `rt run` there
 
 Instructions are counted by valgrind's tool callgrind; where it isn't installed, their column has a `-`. It makes its files
-in a temporary folder, and is no test: it has no limit of its own."""
+in a temporary folder, and is no test: how fast a program is has no limit."""
 import os
-import re
-import shutil
-import subprocess
 import sys
 import tempfile
 
 import generated
-from run import MIB, measure
+from measuring import MIB, instructions, long_name, measure, shown, write
 
 CHAINS, LENGTH, STATES = 146, 28, 1022
-
-
-def long_name(first, number):
-    return '%s%s%06d' % (first, 'x' * 56, number)
 
 
 def filled(lines):
@@ -44,7 +38,7 @@ def pairs():
 
 
 def names():
-    """1,024 events, 1,024 data, and 6,000 assignments from datum to datum, in states that stand 16 deep."""
+    """1,024 events, 1,024 data, and 5,760 assignments from datum to datum, in states that stand 16 deep."""
     yield 'chart C or {'
     yield from ('event input %s;' % long_name('e', i) for i in range(1024))
     yield from ('local %s : int32;' % long_name('d', i) for i in range(1024))
@@ -71,40 +65,38 @@ def operators():
 KINDS = {'pairs': pairs, 'names': names, 'operators': operators}
 
 
-def counted(words, folder):
-    """The machine instructions of a run, or None without callgrind."""
-    if not shutil.which('valgrind'):
-        return None
-    ran = subprocess.run(['valgrind', '--tool=callgrind', '--callgrind-out-file=/dev/null', *words], cwd=folder,
-                         stdout=subprocess.DEVNULL, stderr=subprocess.PIPE, text=True)
-    found = re.search(r'Collected : ([0-9]+)', ran.stderr)
-    return int(found[1]) if found else None
+def print_checks(program, folder):
+    """A line for `check` of each chart."""
+    for kind, lines in KINDS.items():
+        write(folder, kind, filled(lines()))
+        words = [program, 'check', kind]
+        used = measure(words, folder)
+        print('check, 1 MiB of %-10s %6.3f s  %5.1f MiB  %12s instructions  status %d'
+              % (kind, used.wall, used.peak, shown(instructions(words, folder)), used.status))
 
 
-def shown(number):
-    return '-' if number is None else '%.0f' % number
+def print_rules(program, folder):
+    """A line for `rules` of the generated case 0."""
+    generated.main(['0', folder])
+    used = measure([program, 'rules', '0.chart', '0.events'], folder)
+    with open(os.path.join(folder, '0.events'), encoding='ascii') as file:
+        lines = file.readlines()
+    counts = []
+    for events in (1000, 2000):
+        write(folder, 'front', ''.join(lines[:events]))
+        counts.append(instructions([program, 'rules', '0.chart', 'front'], folder))
+    event = None if None in counts else (counts[1] - counts[0]) / 1000
+    print('rules, %d events of case 0  %6.3f s  %5.1f MiB  %12s instructions an event  status %d'
+          % (generated.EVENTS, used.wall, used.peak, shown(event), used.status))
 
 
 def main(program):
     with tempfile.TemporaryDirectory() as folder:
-        for kind, lines in KINDS.items():
-            with open(os.path.join(folder, kind), 'w') as file:
-                file.write(filled(lines()))
-            seconds, peak, status = measure([program, 'check', kind], folder)
-            instructions = counted([program, 'check', kind], folder)
-            print('check, 1 MiB of %-10s %6.3f s  %5.1f MiB  %12s instructions  status %d'
-                  % (kind, seconds, peak, shown(instructions), status))
-        generated.main(['0', folder])
-        seconds, peak, status = measure([program, 'rules', '0.chart', '0.events'], folder)
-        counts = []
-        for events in (1000, 2000):
-            with open(os.path.join(folder, '0.events')) as file, open(os.path.join(folder, 'front'), 'w') as front:
-                front.writelines(line for line, _ in zip(file, range(events)))
-            counts.append(counted([program, 'rules', '0.chart', 'front'], folder))
-        event = None if None in counts else (counts[1] - counts[0]) / 1000
-        print('rules, %d events of case 0  %6.3f s  %5.1f MiB  %12s instructions an event  status %d'
-              % (generated.EVENTS, seconds, peak, shown(event), status))
+        print_checks(program, folder)
+        print_rules(program, folder)
 
 
 if __name__ == '__main__':
-    main(os.path.abspath(sys.argv[1])) if len(sys.argv) == 2 else sys.exit(__doc__)
+    if len(sys.argv) != 2:
+        sys.exit(__doc__)
+    main(os.path.abspath(sys.argv[1]))

@@ -8,14 +8,12 @@ The second form prints the rows of those tables. The codes of the first are loop
 steps of each event. A row has how many instructions of code an event takes, how many machine instructions one of these takes,
 where callgrind is installed, and the peak memory of `exec`. The codes of the second table are long texts, of 16 and of 64 MiB: a
 row has their bytes, and the seconds of processor time and the peak memory of `exec` over an event file without lines, and of
-`upgrade`. It makes its files in a temporary folder, and is no test: it has no limit of its own."""
+`upgrade`. It makes its files in a temporary folder, and is no test: how fast a program is has no limit."""
 import os
 import sys
 import tempfile
 
-from checked import counted
-from large_charts import measure
-from run import MIB
+from measuring import MIB, instructions, measure, used_text, write
 
 SIZES = 16, 64
 TURNS = 10000               # how often a loop goes round in an event, which takes all steps of it
@@ -112,38 +110,44 @@ def loop(kind):
     return text(LOOPS[kind]()[0], ['n', 'm'], ('input GO', 'local E'))
 
 
-def write(name, lines):
-    with open(name, 'w') as file:
-        file.writelines(line + '\n' for line in lines)
+def whole_text(kind):
+    """The text of that loop, or a long text."""
+    return lines_text(loop(kind) if kind in LOOPS else repeated(kind, SIZES[0] * MIB))
+
+
+def lines_text(lines):
+    return ''.join(line + '\n' for line in lines)
 
 
 def text_row(program, kind, size, folder):
-    write(os.path.join(folder, 'code'), repeated(kind, size * MIB))
-    write(os.path.join(folder, 'events'), [])
-    columns = ['`%s`' % kind, '{:,}'.format(os.path.getsize(os.path.join(folder, 'code')))]
+    length = write(folder, 'code', lines_text(repeated(kind, size * MIB)))
+    write(folder, 'events', '')
+    columns = ['`%s`' % kind, '{:,}'.format(length)]
     for words in (['exec', 'code', 'events'], ['upgrade', 'code']):
-        seconds, peak, status = measure([program, *words], folder)
-        columns.append('%.2f s, %.0f MiB' % (seconds, peak) + (', status %d' % status if status else ''))
+        columns.append(used_text(measure([program, *words], folder)))
     return '| %s |' % ' | '.join(columns)
 
 
 def loop_row(program, kind, folder):
-    write(os.path.join(folder, 'code'), loop(kind))
+    """The row of a loop."""
+    write(folder, 'code', lines_text(loop(kind)))
     taken = LOOPS[kind]()[1]
     counts = []
     for events in EVENTS:
-        write(os.path.join(folder, 'events'), ['GO'] * events)
+        write(folder, 'events', 'GO\n' * events)
         words = [program, 'exec', '--depth', '32', 'code', 'events']
-        _, peak, status = measure(words, folder)
-        counts.append(counted(words, folder))
+        used = measure(words, folder)
+        counts.append(instructions(words, folder))
     each = '-' if None in counts else '%.1f' % ((counts[1] - counts[0]) / (EVENTS[1] - EVENTS[0]) / taken)
-    columns = ['`%s`' % kind, '{:,}'.format(taken), each, '%.0f MiB' % peak + (', status %d' % status if status else '')]
+    peak = '%.0f MiB' % used.peak + (', status %d' % used.status if used.status else '')
+    columns = ['`%s`' % kind, '{:,}'.format(taken), each, peak]
     return '| %s |' % ' | '.join(columns)
 
 
 def main(word):
+    """Writes a code, or the rows of both tables."""
     if word in TEXTS or word in LOOPS:
-        sys.stdout.writelines(line + '\n' for line in (loop(word) if word in LOOPS else repeated(word, SIZES[0] * MIB)))
+        sys.stdout.write(whole_text(word))
         return
     if '/' not in word:
         sys.exit(__doc__)
@@ -157,4 +161,6 @@ def main(word):
 
 
 if __name__ == '__main__':
-    main(sys.argv[1]) if len(sys.argv) == 2 else sys.exit(__doc__)
+    if len(sys.argv) != 2:
+        sys.exit(__doc__)
+    main(sys.argv[1])

@@ -12,16 +12,16 @@ once. What isn't installed is skipped, and a line says so. With --functions it p
 import collections
 import os
 import re
-import resource
 import shutil
 import subprocess
 import sys
 import tempfile
 
 import generated
+import measuring
 from machines import boost_statechart, qt_scxml, switch_in_c
+from measuring import HERE, LONGEST, shown, write
 
-HERE = os.path.dirname(os.path.abspath(__file__))
 BUILT = os.path.join(HERE, '..', 'crates', 'flowc', 'out', 'flowc')
 MACHINES = os.path.join(HERE, 'machines')
 COUNTED, TIMES, RUNS, SHOWN = 5_000, 10, 5, 24
@@ -41,13 +41,9 @@ def need(command):
         raise Skipped('%s is not installed' % command)
 
 
-def write(folder, name, text):
-    with open(os.path.join(folder, name), 'w') as file:
-        file.write(text)
-
-
 def output(words, folder):
-    return subprocess.run(words, cwd=folder, check=True, stdout=subprocess.PIPE).stdout
+    """What a program writes, which must end with status 0."""
+    return subprocess.run(words, cwd=folder, check=True, stdout=subprocess.PIPE, timeout=LONGEST).stdout
 
 
 def build_switch(regions, folder, name='switch', *flags):
@@ -76,11 +72,14 @@ def build_boost(regions, folder, name='boost', *flags):
 
 
 def build_qt(regions, folder, data):
+    """The program with Qt SCXML and that data model."""
+    def asked(*words):
+        return output(['pkg-config', *words], folder).decode().split()
+
     for command in ('g++', 'pkg-config'):
         need(command)
     if subprocess.run(['pkg-config', '--exists', 'Qt6Scxml', 'Qt6Core']).returncode != 0:
         raise Skipped('Qt SCXML is not installed (qt6-scxml-dev)')
-    asked = lambda *words: output(['pkg-config', *words], folder).decode().split()
     tools = asked('--variable=libexecdir', 'Qt6Core')[0]
     inside = os.path.join(folder, data.__name__)
     os.mkdir(inside)
@@ -109,14 +108,11 @@ def silent_code(code):
 
 
 def counted(words, folder, file):
-    """The machine instructions of a run, and those of each function; None without callgrind."""
-    if not shutil.which('valgrind'):
+    """The machine instructions of each function in a run, or None without callgrind."""
+    if not measuring.has_callgrind():
         return None
-    kept = os.path.join(folder, 'counts')
-    subprocess.run(['valgrind', '--tool=callgrind', '--callgrind-out-file=' + kept, *words, file], cwd=folder, check=True,
-                   stdout=subprocess.DEVNULL, stderr=subprocess.DEVNULL)
     names, counts, function, is_call = {}, collections.Counter(), None, False
-    with open(kept) as lines:
+    with open(measuring.count([*words, file], folder), encoding='latin-1') as lines:
         for line in lines:
             named = re.match(r'(c?)fn=(\(\d+\))(?: (.*))?$', line)
             if named:
@@ -142,20 +138,13 @@ def instructions(words, folder):
     return {name: (whole[name] - none[name]) / COUNTED for name in whole}
 
 
-def processor_time(words, folder, file):
-    before = resource.getrusage(resource.RUSAGE_CHILDREN)
-    subprocess.run([*words, file], cwd=folder, check=True, stdout=subprocess.DEVNULL)
-    after = resource.getrusage(resource.RUSAGE_CHILDREN)
-    return after.ru_utime + after.ru_stime - before.ru_utime - before.ru_stime
-
-
 def times(programs, folder):
-    """The seconds an event of each program. The programs take turns, so that a busy moment meets them all."""
+    """The seconds of processor time an event of each program. The programs take turns, so that a busy moment meets them all."""
     least = collections.defaultdict(lambda: float('inf'))
     for _ in range(RUNS):
         for name, words in programs.items():
             for file in ('many', 'none'):
-                least[name, file] = min(least[name, file], processor_time(words, folder, file))
+                least[name, file] = min(least[name, file], measuring.measure_right([*words, file], folder).processor)
     return {name: (least[name, 'many'] - least[name, 'none']) / (TIMES * generated.EVENTS) for name in programs}
 
 
@@ -193,14 +182,10 @@ def compare_traces(programs, folder):
 
 def prepare(folder):
     generated.main(['0', folder])
-    with open(os.path.join(folder, '0.events')) as file:
+    with open(os.path.join(folder, '0.events'), encoding='ascii') as file:
         events = file.readlines()
     for name, lines in (('events', events), ('front', events[:COUNTED]), ('many', events * TIMES), ('none', [])):
         write(folder, name, ''.join(lines))
-
-
-def shown(value, form, scale=1):
-    return '-' if value is None else form % (value * scale)
 
 
 def print_rows(rows):
@@ -223,6 +208,7 @@ def print_functions(name, functions):
 
 
 def main(program, is_by_function):
+    """Compares all programs that can be built with `rules` and `exec` of the program."""
     with tempfile.TemporaryDirectory() as folder:
         prepare(folder)
         programs = all_programs(program, folder)

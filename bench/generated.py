@@ -5,11 +5,9 @@
 
 Case N has 2 to 5 regions of 3 to 62 states each, and 20,000 events; case 0 has 105 states. FOLDER gets `N.chart` and
 `N.events`. The generator is that of checks/generated_cases.py."""
-import os
 import sys
 
-HERE = os.path.dirname(os.path.abspath(__file__))
-sys.path.insert(0, os.path.join(HERE, '..', 'checks'))
+from measuring import write             # which finds the modules of checks too
 
 from generated_cases import EVENT_LINES as EVENTS, Draws, is_number, regions_of, texts_of
 
@@ -24,8 +22,7 @@ def main(words):
         sys.stderr.write(__doc__ + '\n')
         return 2
     for end, text in zip(('chart', 'events'), texts_of(int(words[0]))):
-        with open(os.path.join(words[1], '%s.%s' % (words[0], end)), 'wb') as file:
-            file.write(text)
+        write(words[1], '%s.%s' % (words[0], end), text.decode('ascii'))
     return 0
 
 

@@ -7,24 +7,22 @@
 The second form prints the rows of that table. A row has the states, junctions, transitions and pairs that `check` counts, the
 bytes of the code with its height and work, by checks/code_text.py, and the seconds of processor time and the peak memory of
 `compile`, of `exec` and `rules` over an event file of three lines, and of `upgrade`. It says where the traces of `exec` and
-`rules` differ, or the code and what `upgrade` makes of it. It makes its files in a temporary folder, and is no test: it has no limit of its own."""
+`rules` differ, or the code and what `upgrade` makes of it. It makes its files in a temporary folder, and is no test: how fast a
+program is has no limit."""
 import filecmp
 import multiprocessing
 import os
 import re
-import subprocess
 import sys
 import tempfile
 
-sys.path.append(os.path.join(os.path.dirname(os.path.abspath(__file__)), os.pardir, 'checks'))
+from measuring import long_name, measure, used_text, write      # which finds the modules of checks too
+
 import code_text
+from programs import ended
 
 STATES, JUNCTIONS, DEPTH, BYTES = 1024, 4096, 16, 1048576
 EVENTS = 'GO\ntick\nGO\n'
-
-
-def long_name(first, number):
-    return '%s%s%06d' % (first, 'x' * 56, number)
 
 
 def leaves():
@@ -217,7 +215,7 @@ def whole():
         yield 'state S%d {' % state
         for more in range(4):
             d, e, to = (state + more) % 200, (state * 7 + more) % 200, (state * 3 + more) % 1000
-            condition = ' '.join('d%d = d%d * 0.5 + d%d;' % (d, d, (e + k) % 200) for k in range(1))
+            condition = 'd%d = d%d * 0.5 + d%d;' % (d, d, e)
             yield ('outer e%d [d%d * d%d + 1.5 > d%d && !(d%d == 0) || in(S%d)] { %s } / { send e%d; } -> S%d;'
                    % (e, d, e, d, e, to, condition, (e + 1) % 200, to))
         yield 'outer GO -> S%d;' % ((state + 1) % 1000)
@@ -236,14 +234,6 @@ def text_of(kind):
     return text
 
 
-def measure(words, folder, output=os.devnull):
-    """Seconds of processor time, MiB of peak memory, and the status."""
-    with open(os.path.join(folder, output), 'wb') as out:
-        child = subprocess.Popen(words, cwd=folder, stdout=out, stderr=subprocess.DEVNULL)
-        _, status, usage = os.wait4(child.pid, 0)
-        return usage.ru_utime + usage.ru_stime, usage.ru_maxrss / 1024, os.waitstatus_to_exitcode(status)
-
-
 def measures(name):
     """The bytes of a code, its height and its work."""
     with open(name, 'rb') as file:
@@ -254,17 +244,16 @@ def measures(name):
 
 def row(program, kind, folder):
     """A row of the table, with the status of each command that doesn't end with 0."""
-    with open(os.path.join(folder, 'chart'), 'w') as file:
-        file.write(text_of(kind))
-    checked = subprocess.run([program, 'check', 'chart'], cwd=folder, capture_output=True, text=True)
-    columns = ['`%s`' % kind, *('{:,}'.format(int(each)) for each in re.findall('[0-9]+', checked.stdout)[:4])]
+    write(folder, 'chart', text_of(kind))
+    checked = ended([program, 'check', 'chart'], cwd=folder)
+    columns = ['`%s`' % kind, *('{:,}'.format(int(each)) for each in re.findall('[0-9]+', checked.out)[:4])]
     for words, output in ((['compile', 'chart'], 'code'), (['exec', 'code', 'events'], 'trace'),
                           (['rules', 'chart', 'events'], 'told'), (['upgrade', 'code'], 'upgraded')):
-        seconds, peak, status = measure([program, *words], folder, output)
+        used = measure([program, *words], folder, output)
         if words[0] == 'compile':
             with multiprocessing.Pool(1) as pool:                   # so that this process stays small
                 columns += pool.apply(measures, (os.path.join(folder, output),))
-        columns.append('%.2f s, %.0f MiB' % (seconds, peak) + (', status %d' % status if status else ''))
+        columns.append(used_text(used))
     for one, other in (('trace', 'told'), ('code', 'upgraded')):
         if not filecmp.cmp(os.path.join(folder, one), os.path.join(folder, other), shallow=False):
             columns.append('`%s` and `%s` differ' % (one, other))
@@ -279,11 +268,12 @@ def main(word):
         sys.exit(__doc__)
     program = os.path.abspath(word)
     with tempfile.TemporaryDirectory() as folder:
-        with open(os.path.join(folder, 'events'), 'w') as file:
-            file.write(EVENTS)
+        write(folder, 'events', EVENTS)
         for kind in KINDS:
             print(row(program, kind, folder), flush=True)
 
 
 if __name__ == '__main__':
-    main(sys.argv[1]) if len(sys.argv) == 2 else sys.exit(__doc__)
+    if len(sys.argv) != 2:
+        sys.exit(__doc__)
+    main(sys.argv[1])

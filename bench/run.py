@@ -1,14 +1,16 @@
 #!/usr/bin/env python3
-"""Times `flowc` on inputs of 1/4, 1/2 and 1 MiB and prints seconds and peak memory for each.
+"""Times `flowc` on inputs of 1/4, 1/2 and 1 MiB and prints for each the seconds from the beginning to the end of the run, and its
+peak memory.
 
     bench/run.py BIN        BIN is a built program, as crates/flowc/out/flowc after `rt run` there
 
-It makes its inputs in a temporary folder, and is no test: it has no limit of its own."""
-import os, subprocess, sys, tempfile, time
+It makes its inputs in a temporary folder, and is no test: how fast a program is has no limit."""
+import os
+import sys
+import tempfile
 
 import charts
-
-MIB = 1 << 20
+from measuring import MIB, measure, write
 
 
 def chart(size):
@@ -36,41 +38,38 @@ def short_events(size):
     return 'tick\n' * (size // 5)
 
 
-def measure(words, folder, output=os.devnull):
-    with open(os.path.join(folder, output), 'wb') as out:
-        before = time.time()
-        child = subprocess.Popen(words, cwd=folder, stdout=out, stderr=subprocess.PIPE)
-        _, status, usage = os.wait4(child.pid, 0)
-        return time.time() - before, usage.ru_maxrss / 1024, os.waitstatus_to_exitcode(status)
+def print_row(words, what, folder, output=os.devnull):
+    """A line for a command."""
+    used = measure(words, folder, output)
+    print('%-47s %6.3f s  %5.1f MiB  status %d' % (what, used.wall, used.peak, used.status))
+
+
+def print_rows(program, size, folder):
+    """The lines for inputs of that size."""
+    text, events = chart(size)
+    for name, content in (('chart', text), ('events', event_file(size, events)), ('ticks', short_events(size))):
+        write(folder, name, content)
+    kib = size // 1024
+    for kind, make in charts.KINDS.items():
+        write(folder, kind, make(size))
+        print_row([program, 'fmt', kind], 'fmt,     %4d KiB of %s' % (kib, kind), folder)
+    for second in ('events', 'ticks'):
+        what = 'rules,   %4d KiB of chart, %4d KiB of %s' % (kib, kib, second)
+        print_row([program, 'rules', 'chart', second], what, folder)
+    print_row([program, 'compile', 'chart'], 'compile, %4d KiB of chart' % kib, folder, 'code')
+    length = os.path.getsize(os.path.join(folder, 'code'))
+    for second in ('events', 'ticks'):
+        what = 'exec,    %4d KiB of code,  %4d KiB of %s' % (length // 1024, kib, second)
+        print_row([program, 'exec', 'code', second], what, folder)
 
 
 def main(program):
     for size in (MIB // 4, MIB // 2, MIB):
         with tempfile.TemporaryDirectory() as folder:
-            text, events = chart(size)
-            files = {'chart': text, 'events': event_file(size, events), 'ticks': short_events(size)}
-            for name, content in files.items():
-                with open(os.path.join(folder, name), 'w') as file:
-                    file.write(content)
-            for kind, make in charts.KINDS.items():
-                with open(os.path.join(folder, kind), 'w') as file:
-                    file.write(make(size))
-                seconds, peak, status = measure([program, 'fmt', kind], folder)
-                print('fmt,     %4d KiB of %-12s                %6.3f s  %5.1f MiB  status %d'
-                      % (size // 1024, kind, seconds, peak, status))
-            for second in ('events', 'ticks'):
-                seconds, peak, status = measure([program, 'rules', 'chart', second], folder)
-                print('rules,   %4d KiB of chart, %4d KiB of %-6s  %6.3f s  %5.1f MiB  status %d'
-                      % (size // 1024, size // 1024, second, seconds, peak, status))
-            seconds, peak, status = measure([program, 'compile', 'chart'], folder, 'code')
-            print('compile, %4d KiB of chart                      %6.3f s  %5.1f MiB  status %d'
-                  % (size // 1024, seconds, peak, status))
-            length = os.path.getsize(os.path.join(folder, 'code'))
-            for second in ('events', 'ticks'):
-                seconds, peak, status = measure([program, 'exec', 'code', second], folder)
-                print('exec,    %4d KiB of code,  %4d KiB of %-6s  %6.3f s  %5.1f MiB  status %d'
-                      % (length // 1024, size // 1024, second, seconds, peak, status))
+            print_rows(program, size, folder)
 
 
 if __name__ == '__main__':
-    main(os.path.abspath(sys.argv[1])) if len(sys.argv) == 2 else sys.exit(__doc__)
+    if len(sys.argv) != 2:
+        sys.exit(__doc__)
+    main(os.path.abspath(sys.argv[1]))

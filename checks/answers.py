@@ -43,21 +43,19 @@ import re
 import resource
 import select
 import struct
-import subprocess
 import sys
 import tempfile
 
 import chart_syntax as syntax
 import code_acceptance as ca
 import code_machine as cm
-import code_text as ct
 import event_files as ev
 import tables
+from programs import Ended, ended, status_text
 
 HERE = os.path.dirname(os.path.abspath(__file__))
 ROOT = os.path.dirname(HERE)
 MOST_SHOWN = 12
-LONGEST = 600
 WITH_TRACE = ('rules', 'exec', 'run')
 WITH_CHART = ('check', 'fmt', 'rules', 'compile', 'run')
 WITH_CODE = ('exec', 'upgrade')
@@ -85,6 +83,7 @@ def ends_ok(out):
 
 
 def refusal_problem(command, out, error):
+    """Why this is no answer of status 1, or none."""
     if command in WITH_TRACE and EVENT_LINE.fullmatch(error):
         return None if ends_ok(out) else 'an event file is refused behind something else than the trace of the lines before'
     known = (command in WITH_CHART and CHART_LINE.fullmatch(error) or command in WITH_CODE and CODE_LINE.fullmatch(error))
@@ -94,6 +93,7 @@ def refusal_problem(command, out, error):
 
 
 def fault_problem(command, out, error):
+    """Why this is no answer of status 3, or none."""
     found = RUN_LINE.fullmatch(error)
     if not found or command not in (*WITH_TRACE, 'selftest'):
         return 'status 3 has a line on standard error that tells no fault of a run'
@@ -102,10 +102,17 @@ def fault_problem(command, out, error):
     return None if told else 'the last line of the trace has another fault than standard error'
 
 
-def problem(command, out, error, status):
+def chart_fault(error):
+    """The number of the fault that a line on standard error tells of a chart, or None."""
+    found = CHART_LINE.fullmatch(error)
+    return int(found[1].split(' ')[0]) if found else None
+
+
+def problem(command, answer):
     """Why this is no answer of the command, or none. `command` is None where the words ask for none."""
-    if status not in range(7):
-        return 'the status %s is that of no answer' % status
+    out, error, status, timed_out = answer
+    if timed_out or status not in range(7):
+        return '%s is that of no answer' % status_text(answer)
     if status in LINES and error != LINES[status]:
         return 'status %d has another line on standard error than its own' % status
     if (command is None) != (status == 2) and status != 6:
@@ -159,11 +166,12 @@ def gone_pipe():
 
 DEVICES = {'full': lambda: os.open('/dev/full', os.O_WRONLY), 'input': lambda: os.open('/dev/null', os.O_RDONLY),
            'gone': gone_pipe, 'closed': lambda: os.open('/dev/null', os.O_WRONLY)}
+STREAMS = {1: 'stdout', 2: 'stderr'}
 
 
-def call(program, words, folder, devices=None, memory=None, seconds=LONGEST, before=None):
-    """Standard output, standard error and status of a call in a folder. `devices` has a word of DEVICES for the descriptors 1
-    and 2 where they go elsewhere; `before` is called in the new process."""
+def call(program, words, folder, devices=None, memory=None, before=None, **options):
+    """How a call in a folder ends. `devices` has a word of DEVICES for the descriptors 1 and 2 where they go elsewhere; `before`
+    is called in the new process; the other options are those of `programs.ended`."""
     devices = devices or {}
     opened = {number: DEVICES[device]() for number, device in devices.items()}
 
@@ -176,16 +184,14 @@ def call(program, words, folder, devices=None, memory=None, seconds=LONGEST, bef
         if before is not None:
             before()
 
-    needed = memory is not None or before is not None or 'closed' in devices.values()
+    if memory is not None or before is not None or 'closed' in devices.values():
+        options['preexec_fn'] = prepare
+    options.update((STREAMS[number], device) for number, device in opened.items())
     try:
-        done = subprocess.run([program, *words], cwd=folder, stdin=subprocess.DEVNULL, stdout=opened.get(1, subprocess.PIPE),
-                              stderr=opened.get(2, subprocess.PIPE), timeout=seconds, preexec_fn=prepare if needed else None)
-    except subprocess.TimeoutExpired:
-        return '', '', 'no end in %d seconds' % seconds
+        return ended([program, *words], cwd=folder, **options)
     finally:
         for device in opened.values():
             os.close(device)
-    return (done.stdout or b'').decode('latin-1'), (done.stderr or b'').decode('latin-1'), done.returncode
 
 
 def words_of(rest):
@@ -201,6 +207,7 @@ class Files:
     """The files of a block, in a folder."""
 
     def __init__(self, block, folder, codes):
+        """`codes` has the code texts of code_table.txt by name."""
         self.folder, self.compiled = folder, block.values('compiled')
         for word, rest in block.parts:
             name, more = split_name(rest)
@@ -239,7 +246,7 @@ class Files:
             if command in WITH_CODE:
                 with open(os.path.join(self.folder, 'chart'), 'wb') as file:
                     file.write(chart)
-                code = call(program, [b'compile', b'chart'], self.folder)[0].encode('latin-1')
+                code = call(program, [b'compile', b'chart'], self.folder).out.encode('latin-1')
             with open(os.path.join(self.folder, name), 'wb') as file:
                 file.write(code)
 
@@ -258,36 +265,39 @@ def answer(program, words, files, devices, memory):
     command = os.fsdecode(words[0]) if words else ''
     files.prepare(program, command)
     opened = Opened(files.folder)
-    out, error, status = call(program, words, files.folder, devices, memory)
+    got = call(program, words, files.folder, devices, memory)
     names = opened.names()
-    lines = ['status %s' % status] + lines_of('error', error) + lines_of('out', out)
+    lines = [status_text(got)] + lines_of('error', got.error) + lines_of('out', got.out)
     found = None
     if not devices:
-        asked = command if command in COMMANDS and 'status 2' not in lines else None
-        found = problem(asked, out, error, status)
+        asked = command if command in COMMANDS and got.status != 2 else None
+        found = problem(asked, got)
     return lines + ['opens ' + (' '.join(names) or 'none')] + (['problem: ' + found] if found else [])
 
 
 def code_texts():
     """The code texts of the blocks of code_table.txt, by name."""
     texts = cm.Texts()
-    with open(os.path.join(HERE, 'code_table.txt')) as table:
+    with open(os.path.join(HERE, 'code_table.txt'), 'rb') as table:
         return {block.name: texts.code(block) for block in tables.blocks(table)}
 
 
 def begins(program, memory):
     """Whether the program can begin with so much memory."""
     with tempfile.TemporaryDirectory() as folder:
-        return call(program, [], folder, memory=memory)[1:] == (USAGE, 2)
+        return call(program, [], folder, memory=memory) == Ended('', USAGE, 2)
 
 
 class Table:
+    """Runs the blocks of the table, and counts them, their runs, those that are left out, and the answers that are wrong."""
+
     def __init__(self, program, large):
         self.program, self.large = os.path.abspath(program), large
         self.blocks = self.runs = self.left = self.wrong = 0
         self.codes = code_texts()
 
     def block(self, block):
+        """Runs a block, and writes where an answer differs from the one worked out by hand."""
         memory = block.values('memory')
         memory = int(memory[0]) if memory else None
         if any(word == 'large' for word, _ in block.parts) and not self.large:
@@ -317,7 +327,7 @@ def main(words):
     if len(words) != 2 or words[0] != '--against':
         sys.exit(__doc__)
     table = Table(words[1], large)
-    for block in tables.blocks(sys.stdin):
+    for block in tables.blocks(sys.stdin.buffer):
         table.block(block)
     print('%d blocks, %d runs, %d of them differ; %d blocks left out' % (table.blocks, table.runs, table.wrong, table.left))
     return 1 if table.wrong else 0

@@ -85,7 +85,6 @@ MOST_PAIRS = 32768
 MOST_SIZE = 100
 MOST_FRACTION = 64
 LISTS = ('default', 'inner', 'outer')
-PASSES = ('names', 'types', 'structure', 'pairs')
 
 
 # ---- the chart with its names looked up
@@ -117,12 +116,16 @@ class Named:
 
 
 class Event(Named):
+    """An event of a chart."""
+
     def __init__(self, written):
         super().__init__(written.name)
         self.kind = written.kind
 
 
 class Datum(Named):
+    """A datum of a chart. A flag has no scale."""
+
     def __init__(self, written):
         super().__init__(written.name)
         self.kind, self.mode = written.kind, written.mode or 'saturate'
@@ -137,12 +140,16 @@ class Datum(Named):
 
 
 class Junction(Named):
+    """A junction, and the state in which it is declared."""
+
     def __init__(self, written, state):
         super().__init__(written.name)
         self.state, self.transitions = state, []
 
 
 class State(Named):
+    """A state with its names looked up, or the chart itself."""
+
     def __init__(self, written, parent):
         super().__init__(written.name)
         self.parent = parent
@@ -254,6 +261,7 @@ class Names:
             names[thing.name] = thing
 
     def state(self, state, written):
+        """Declares what stands in a state, and looks its names up, and so for all states below it."""
         states, junctions = {}, {}
         for each in state.children:
             self.declare(states, each)
@@ -329,6 +337,7 @@ class Names:
         return Assign(self.datum(written.name), self.expression(state, written.value), written.name.at)
 
     def expression(self, state, written):
+        """An expression that stands in that state, with its names looked up."""
         if isinstance(written, syntax.Number):
             return Literal(syntax.mantissa_of(written), syntax.fraction_of(written))
         if isinstance(written, syntax.Flag):
@@ -420,6 +429,7 @@ def type_between(operator, left, right):
 
 
 def type_faults(chart):
+    """The faults of types, each as its place and its number."""
     faults = []
     for datum in chart.data:
         if datum.written_first is not None:
@@ -456,6 +466,7 @@ def statement_faults(statement, faults):
 # ---- structure and pairs
 
 def structure_faults(chart):
+    """The faults of structure, each as its place and its number."""
     faults = []
     for state in chart.states:
         if not state.children and (state.word or state.parent is None):

@@ -121,10 +121,12 @@ from collections import Counter, namedtuple
 from fractions import Fraction
 from math import floor
 
-from chart_check import (Active, Assign, Emit, Literal, Read, Send, Sign, State, Truth, check_chart, ends_of, home_of,
-                         is_value_of, type_of)
+from chart_check import (Active, Assign, Emit, Literal, Read, Sign, State, Truth, check_chart, ends_of, home_of, is_value_of,
+                         type_of)
 from chart_syntax import (COMPARISON, LEVELS, MOST_DIGITS, WITH_HISTORY, WITHOUT_HISTORY, Fault, NotAText, line_of,
                           table_lines, text_of)
+from demands import demand
+from programs import Ended
 
 USUAL_DEPTH, MOST_DEPTH = 8, 32
 USUAL_STEPS, MOST_STEPS = 10000, 50000
@@ -313,6 +315,7 @@ class Rules:
     # -- blocks
 
     def block(self, life, statements):
+        """Carries out the statements of a block under a life, and gives whether it was cut."""
         for statement in statements:
             if isinstance(statement, Assign):
                 self.assign(statement.datum, self.value(statement.value))
@@ -332,6 +335,7 @@ class Rules:
         return DONE
 
     def send(self, statement):
+        """Processes a state, or the whole chart, with an event, one level deeper."""
         if self.depth == self.most_depth:
             self.met('fault depth')
             raise RunFault('depth')
@@ -357,6 +361,7 @@ class Rules:
         self.values[datum] = value
 
     def fitted(self, datum, number):
+        """The number by floor at the scale of the datum, and by its mode where it is out of range."""
         scale = datum.scale
         mantissa = floor(number * 2 ** scale.fraction)
         if mantissa != number * 2 ** scale.fraction:
@@ -378,6 +383,7 @@ class Rules:
     # -- expressions: the value is a bool or an exact number
 
     def value(self, expression):
+        """The value of an expression."""
         if isinstance(expression, Literal):
             return Fraction(expression.mantissa, 2 ** expression.fraction)
         if isinstance(expression, Truth):
@@ -394,6 +400,7 @@ class Rules:
         return self.value_between(expression)
 
     def value_between(self, expression):
+        """The value of an operator and its two operands."""
         operator = expression.operator
         left = self.value(expression.left)
         if operator == '&&' and not left or operator == '||' and left:
@@ -421,6 +428,7 @@ class Rules:
     # -- search
 
     def search(self, life, transitions):
+        """Searches a list, and gives Fire, or one of No, End and Stop."""
         for transition in transitions:
             if not self.is_enabled(transition):
                 continue
@@ -457,6 +465,7 @@ class Rules:
     # -- exit and enter
 
     def exit(self, state):
+        """Exits a state with all that is active below it."""
         if state not in self.active:
             return self.met("exit: s isn't active")
         if state.composition == 'and':
@@ -515,6 +524,7 @@ class Rules:
                     self.enter(child, child)
 
     def defaults(self, state):
+        """Enters a child of an OR: the remembered one, or the one to which its default list leads."""
         if state in self.remembered:
             self.met('defaults: the remembered child')
             return self.enter(self.remembered[state], self.remembered[state])
@@ -522,8 +532,7 @@ class Rules:
             self.met('defaults: an OR with history that remembers none')
         outcome = self.search(Life('bare', state), state.lists['default'])
         if not isinstance(outcome, Fire):
-            # In a checked chart this is Stop, and never No or End.
-            assert outcome == STOP
+            demand(outcome == STOP, 'a default search of a checked chart gives %s' % outcome)
             return self.met('default search: Stop')
         child = child_towards(state, outcome.state)
         self.met('default search: Fire with a ' + ('child' if child is outcome.state else 'state below a child'))
@@ -547,6 +556,7 @@ class Rules:
         return DONE
 
     def take(self, home, goal, actions):
+        """Takes the way to a state: exits what is active below the home, plays the actions, and enters."""
         child = self.active_child(home)
         self.met('take: the home has an active child' if child else 'take: the home has no active child')
         if child:
@@ -699,6 +709,7 @@ def event_of(chart, tokens):
 
 
 def input_value(datum, text):
+    """The value that a text tells of an input; another text is fault 6."""
     if datum.scale is None:
         if text not in ('true', 'false'):
             raise LineFault(6)
@@ -737,27 +748,25 @@ def trace_line(rules, index, event, result):
 
 # ---- a whole run
 
-Answer = namedtuple('Answer', 'status out error')
-
 
 def run_rules(text, data, depth=USUAL_DEPTH, steps=USUAL_STEPS, language=WITH_HISTORY, met=None):
     """The answer of `rules` for a chart text, a character for each byte, and the bytes of an event file."""
     try:
         chart = check_chart(text, language)
     except Fault as fault:
-        return Answer(1, '', fault.written(text) + '\n')
+        return Ended('', fault.written(text) + '\n', 1)
     rules = Rules(chart, depth, steps, met)
     result = rules.start()
     out = [trace_line(rules, 0, 'start', result)]
     index = 0
     if result != 'ok':
-        return Answer(3, ''.join(out), 'run 0: %s\n' % result)
+        return Ended(''.join(out), 'run 0: %s\n' % result, 3)
     for number, line, start in lines_of(data):
         try:
             if len(line) > LONGEST_LINE and start + LONGEST_LINE < LONGEST_FILE:
                 raise LineFault(1)
             if is_past_file(data, line, start):
-                return Answer(1, ''.join(out), 'event: 6 FileTooLong\n')
+                return Ended(''.join(out), 'event: 6 FileTooLong\n', 1)
             tokens = tokens_of(line)
             if not tokens or tokens[0].startswith('#'):
                 rules.met('event: a comment' if tokens else 'event: a line without token')
@@ -765,16 +774,16 @@ def run_rules(text, data, depth=USUAL_DEPTH, steps=USUAL_STEPS, language=WITH_HI
             event, inputs = event_of(chart, tokens)
         except LineFault as fault:
             rules.met('event: %d %s' % (fault.number, LINE_FAULTS[fault.number]))
-            return Answer(1, ''.join(out), 'event %d: %d %s\n' % (number, fault.number, LINE_FAULTS[fault.number]))
+            return Ended(''.join(out), 'event %d: %d %s\n' % (number, fault.number, LINE_FAULTS[fault.number]), 1)
         if index == MOST_EVENTS:
-            return Answer(1, ''.join(out), 'event: 5 TooManyLines\n')
+            return Ended(''.join(out), 'event: 5 TooManyLines\n', 1)
         index += 1
         rules.met('event: a named event' if event else 'event: tick')
         result = rules.react(event, inputs)
         out.append(trace_line(rules, index, event.name if event else 'tick', result))
         if result != 'ok':
-            return Answer(3, ''.join(out), 'run %d: %s\n' % (index, result))
-    return Answer(0, ''.join(out), '')
+            return Ended(''.join(out), 'run %d: %s\n' % (index, result), 3)
+    return Ended(''.join(out), '', 0)
 
 
 # ---- the words of the command, and the table
@@ -805,9 +814,10 @@ def words_of(words):
 
 
 def command(words, language):
+    """The answer to the words of the command."""
     found = words_of(words)
     if found is None:
-        return Answer(2, '', USAGE + '\n')
+        return Ended('', USAGE + '\n', 2)
     (chart, events), depth, steps = found
     try:
         with open(chart, 'rb') as file:
@@ -818,11 +828,12 @@ def command(words, language):
             with open(events, 'rb') as file:
                 data = file.read()
     except OSError:
-        return Answer(4, '', 'read fault\n')
+        return Ended('', 'read fault\n', 4)
     return run_rules(text, data, depth, steps, language)
 
 
 def table_answer(line, language):
+    """The answer to a line of the table."""
     found = re.fullmatch('(?:([0-9]+) ([0-9]+)|-)\t([^\t]*)\t([^\t]*)', line)
     try:
         if not found:
@@ -838,6 +849,7 @@ def table_answer(line, language):
 
 
 def main(words):
+    """Does what the words ask for, and gives the status."""
     language = WITH_HISTORY
     if words[:1] == ['--without-history']:
         language = WITHOUT_HISTORY

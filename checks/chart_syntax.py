@@ -72,8 +72,11 @@ LEVELS = [['||'], ['&&'], ['==', '!=', '<', '<=', '>', '>='], ['+', '-'], ['*', 
 COMPARISON = 2
 LONGEST_TEXT = 1048576
 DEEPEST = 16
+LONGEST_NAME = 63
 MOST_DIGITS = 36
 MOST_FRACTION = 32
+MOST_WIDTH = 64
+MOST_MANTISSA = 2 ** 99 - 1
 # Faults 9 on are found by chart_check.
 KINDS = {1: 'BadByte', 2: 'BadToken', 3: 'Expected', 4: 'LiteralTooLong', 5: 'LiteralNotBinary', 6: 'TextTooLong',
          7: 'NestTooDeep', 8: 'TooMany', 9: 'NameTwice', 10: 'UnknownName', 11: 'WrongKind', 12: 'TypeClash', 13: 'TooWide',
@@ -194,7 +197,7 @@ def word_token(text, offset):
     found = re.compile('[A-Za-z][A-Za-z0-9_]*').match(text, offset)
     if not found:
         return None
-    if len(found[0]) > 63:
+    if len(found[0]) > LONGEST_NAME:
         raise Fault(2, offset)
     return Token(found[0] if found[0] in RESERVED else 'name', found[0], offset, found.end())
 
@@ -229,7 +232,7 @@ def number_of(token):
         raise Fault(4, token.offset)
     if fraction_of(number) is None:
         raise Fault(5, token.offset)
-    if mantissa_of(number) >= 2 ** 99:
+    if mantissa_of(number) > MOST_MANTISSA:
         raise Fault(4, token.offset)
     return number
 
@@ -266,7 +269,7 @@ def scale_of(name):
     if not made:
         return None
     width, fraction = int(made[2]), int(made[3] or 0)
-    return Scale(made[1], width, fraction) if width <= 64 and fraction <= min(width, MOST_FRACTION) else None
+    return Scale(made[1], width, fraction) if width <= MOST_WIDTH and fraction <= min(width, MOST_FRACTION) else None
 
 
 # ---- reading
@@ -313,6 +316,7 @@ class Reader:
     # -- the chart
 
     def chart(self):
+        """The whole chart."""
         self.count('states')
         self.take('chart')
         root = State(self.name(), self.take_if('or', 'and'))
@@ -363,6 +367,7 @@ class Reader:
     # -- states
 
     def item(self, state, depth):
+        """Reads an item into a state that stands so deep."""
         if depth == 0 and self.at('exit', 'outer') or self.token.kind in state.blocks:
             raise self.expected()
         if self.at('entry', 'during', 'exit'):
@@ -412,6 +417,7 @@ class Reader:
     # -- transitions and statements
 
     def transition(self, at):
+        """The transition that begins at that place."""
         event = self.name() if self.at('name') else None
         guard = None
         if self.at('['):
@@ -486,6 +492,7 @@ class Reader:
         return self.operand()
 
     def operand(self):
+        """An operand: an expression without an operator outside of parentheses."""
         at = self.token.offset
         if self.at('number'):
             return self.number()
@@ -544,6 +551,7 @@ def level_of(operator):
 
 
 def expression_text(expression):
+    """The canonical text of an expression."""
     if isinstance(expression, Number):
         return number_text(expression)
     if isinstance(expression, Flag):

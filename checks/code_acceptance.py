@@ -55,6 +55,8 @@ FLAG = 'flag'
 
 
 class Fault(Exception):
+    """The number of a fault, and the procedure and the place where it is."""
+
     def __init__(self, number, proc=0, place=0):
         Exception.__init__(self, number)
         self.number, self.proc, self.place = number, proc, place
@@ -71,6 +73,7 @@ class NoType(Exception):
 # ---- tables
 
 def states_fit(states):
+    """Whether the states are a tree in the order of the text, with names and compositions that fit."""
     if not 1 <= len(states) <= MOST_STATES or states[0].parent is not None:
         return False
     way = [0]                       # the state before and its ancestors, from state 0 on
@@ -173,6 +176,7 @@ def named_in(x):
 
 
 def named_by(instruction):
+    """What an instruction names: pairs of a kind and a number."""
     word, fields = instruction[0], instruction[1:]
     named = []
     if word == 'set':
@@ -192,6 +196,7 @@ def named_by(instruction):
 
 
 def types_fit(instruction, declared):
+    """Whether the types of an instruction fit."""
     word, fields = instruction[0], instruction[1:]
     try:
         types = [type_of(x, declared) for x in expressions(instruction)]
@@ -247,6 +252,7 @@ def instruction_fault(code, proc, place):
 # ---- the whole code
 
 def heights_and_works(procs):
+    """The height and the work of each procedure."""
     heights, works = [], []
     for proc in procs:
         heights.append(max([1 + heights[i[1]] for i in proc if i[0] == 'call'], default=0))

@@ -5,27 +5,22 @@
 
 Each proper prefix of the text of the lamp, the first block of code_table.txt, is Truncated, and is so in both formats. For
 each line, doubling its first byte makes that line a BadLine. `upgrade` of the lamp is its text with `flowcode 2` in front,
-and `upgrade` of that gives it again. Each text of
-code_table.txt that reads at all prints as itself.
+and `upgrade` of that gives it again. Each text of code_table.txt that reads at all prints as itself.
 
 A text of 268,435,457 bytes is TextTooLong, and one of 268,435,456 bytes isn't. The three limits of an event file are tried
 at small values as well, where every length of a line and of a file can be tried: what stops a file is found byte by byte
-then."""
-import os
+then. The status is 1 where anything is wrong."""
+import itertools
+import sys
 
-import code_machine as cm
 import code_text as ct
 import declarations as de
 import event_files as ev
-import tables
+from answers import code_texts
+from demands import Wrong, demand
+from programs import Ended
 
-HERE = os.path.dirname(os.path.abspath(__file__))
-
-
-def codes():
-    texts = cm.Texts()
-    with open(os.path.join(HERE, 'code_table.txt')) as table:
-        return {block.name: texts.code(block) for block in tables.blocks(table)}
+FORMAT_2 = b'flowcode 2'                # the first line of a text, in each format as long
 
 
 def refusal(text):
@@ -36,36 +31,47 @@ def refusal(text):
     return 'none'
 
 
+def demand_refusal(text, expected, what):
+    found = refusal(text)
+    demand(found == expected, '%s: %s instead of %s' % (what, found, expected))
+
+
 def lamp_texts(lamp):
-    for text in (lamp, b'flowcode 2' + lamp[10:]):
+    """How many prefixes and doubled bytes of the text of the lamp are refused as they should be."""
+    count = 0
+    newer = FORMAT_2 + lamp[len(FORMAT_2):]
+    for text in (lamp, newer):
         for length in range(len(text)):
-            assert refusal(text[:length]) == 'code: 2 Truncated', length
+            demand_refusal(text[:length], 'code: 2 Truncated', 'the first %d bytes of the lamp' % length)
+            count += 1
         lines = text.split(b'\n')[:-1]
         for at, line in enumerate(lines):
             doubled = b'\n'.join(lines[:at] + [line[:1] + line] + lines[at + 1:]) + b'\n'
-            assert refusal(doubled) == 'code %d: 1 BadLine' % (at + 1), at
-        upgraded, error, status = ct.upgrade(text)
-        assert (upgraded.encode(), error, status) == (b'flowcode 2' + lamp[10:], '', 0)
-    return 2 * (len(lamp) + 24)
+            demand_refusal(doubled, 'code %d: 1 BadLine' % (at + 1), 'the doubled byte of line %d of the lamp' % (at + 1))
+            count += 1
+        demand(ct.upgrade(text) == Ended(newer.decode(), '', 0), 'the lamp is upgraded to another text')
+    return count
 
 
 def printed_texts(texts):
+    """How many of the texts can be read; each of them must print as itself."""
     count = 0
-    for text in texts.values():
+    for name, text in texts.items():
         try:
             code = ct.read_text(text)
         except ct.Refused:
             continue
-        assert ct.print_code(code, int(text[9:10])) == text
-        assert ct.read_text(ct.print_code(code)) == code
+        demand(ct.print_code(code, int(text[9:10])) == text, 'the text %s prints as another one' % name)
+        demand(ct.read_text(ct.print_code(code)) == code, 'the text %s is read as another code when it is printed' % name)
         count += 1
     return count
 
 
 def long_texts():
-    text = b'flowcode 2\n' + bytes(ct.MOST_BYTES - 11)
-    assert refusal(text) == 'code: 2 Truncated'
-    assert refusal(text + b'\n') == 'code: 5 TextTooLong'
+    """Texts at the limit of bytes."""
+    text = (FORMAT_2 + b'\n').ljust(ct.MOST_BYTES, b'\0')
+    demand_refusal(text, 'code: 2 Truncated', 'a text at the limit of bytes')
+    demand_refusal(text + b'\n', 'code: 5 TextTooLong', 'a text over the limit of bytes')
 
 
 def byte_by_byte(data, limits):
@@ -87,31 +93,47 @@ def byte_by_byte(data, limits):
     return found, ev.END
 
 
+def short_files():
+    """All files of up to 9 bytes, each of which ends a line or is a letter."""
+    for length in range(10):
+        for number in range(2 ** length):
+            yield bytes(10 if number >> bit & 1 else 97 for bit in range(length))
+
+
 def small_limits():
+    """How many short files were tried at small limits of a line and of a file."""
     count = 0
-    for line in range(4):
-        for file in range(9):
-            limits = ev.Limits(line, file, 2)
-            for length in range(10):
-                for number in range(2 ** length):
-                    data = bytes(10 if number >> bit & 1 else 97 for bit in range(length))
-                    items = list(ev.lines(data, limits))
-                    assert (items[:-1], items[-1]) == byte_by_byte(data, limits), (limits, data)
-                    count += 1
-    declared = de.Declarations([de.State(None, 'leaf', 'R')])
-    for name, data, stop in (('two', b'tick\n#\ntick\n\n', 'end'), ('three', b'tick\ntick\n\ntick', '5 TooManyLines'),
-                             ('bad', b'tick\ntick\nx', '3: 2 UnknownEvent')):
-        assert list(ev.reactions(declared, data, ev.Limits(9, 99, 2)))[-1].text == stop, name
+    for line, file in itertools.product(range(4), range(9)):
+        limits = ev.Limits(line, file, 2)
+        for data in short_files():
+            items = list(ev.lines(data, limits))
+            demand((items[:-1], items[-1]) == byte_by_byte(data, limits), '%r at %s stops elsewhere' % (data, limits))
+            count += 1
     return count
 
 
+def two_events():
+    """Files where the limit of events is two."""
+    declared = de.Declarations([de.State(None, 'leaf', 'R')])
+    for data, stop in ((b'tick\n#\ntick\n\n', 'end'), (b'tick\ntick\n\ntick', '5 TooManyLines'),
+                       (b'tick\ntick\nx', '3: 2 UnknownEvent')):
+        found = list(ev.reactions(declared, data, ev.Limits(9, 99, 2)))[-1].text
+        demand(found == stop, '%r stops with %s instead of %s' % (data, found, stop))
+
+
 def main():
-    texts = codes()
-    print('%d prefixes and doubled bytes' % lamp_texts(texts['lamp']))
-    print('%d texts print as themselves' % printed_texts(texts))
-    long_texts()
-    print('%d files at small limits' % small_limits())
+    texts = code_texts()
+    try:
+        print('%d prefixes and doubled bytes' % lamp_texts(texts['lamp']))
+        print('%d texts print as themselves' % printed_texts(texts))
+        long_texts()
+        print('%d files at small limits' % small_limits())
+        two_events()
+    except Wrong as wrong:
+        print('wrong: %s' % wrong)
+        return 1
+    return 0
 
 
 if __name__ == '__main__':
-    main()
+    sys.exit(main())

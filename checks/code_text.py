@@ -48,7 +48,9 @@ operator and its two expressions. An instruction is a tuple of its word and its 
 fields of `unless` are the number and the condition, and a condition is a tuple of its word and its field."""
 import sys
 
+import code_acceptance
 import declarations as de
+from programs import Ended
 
 MOST_BYTES = 268435456
 MOST_OPERATORS = 64
@@ -80,6 +82,8 @@ class Refused(Exception):
 
 
 class Code:
+    """A code: what it declares, the numbers of the procedures of the start and of a reaction, and the procedures."""
+
     def __init__(self, declared, start, react, procs):
         self.declared, self.start, self.react, self.procs = declared, start, react, procs
 
@@ -203,7 +207,6 @@ def read_text(text):
 
 def read_code(text):
     """The well-formed code that the text spells, with its height and its work."""
-    import code_acceptance
     code = read_text(text)
     try:
         height, work = code_acceptance.accept(code)
@@ -247,21 +250,21 @@ def print_code(code, format_of_text=2):
 
 
 def upgrade(text):
-    """What `upgrade` writes on standard output and on standard error, and its status."""
+    """How `upgrade` ends."""
     try:
-        return print_code(read_code(text)[0]).decode(), '', 0
+        return Ended(print_code(read_code(text)[0]).decode(), '', 0)
     except Refused as refused:
-        return '', refused.text + '\n', 1
+        return Ended('', refused.text + '\n', 1)
 
 
 def main(words):
     if len(words) != 1:
         sys.exit(__doc__)
     with open(words[0], 'rb') as file:
-        out, error, status = upgrade(file.read())
-    sys.stdout.write(out)
-    sys.stderr.write(error)
-    return status
+        answer = upgrade(file.read())
+    sys.stdout.write(answer.out)
+    sys.stderr.write(answer.error)
+    return answer.status
 
 
 if __name__ == '__main__':

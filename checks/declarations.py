@@ -21,6 +21,8 @@ from fractions import Fraction
 
 RESERVED = set('chart or and state entry during exit outer inner default junction event input output local send to emit in '
                'true false tick saturate wrap error history'.split())
+LONGEST_NAME = 63
+MOST_WIDTH, MOST_FRACTION = 64, 32
 MOST_NUMBER = 2 ** 32 - 1
 MOST_INIT = 2 ** 64
 
@@ -35,6 +37,8 @@ Event = namedtuple('Event', 'kind name')
 
 
 class Scale(namedtuple('Scale', 'signed width fraction')):
+    """A scale, and which mantissas and values it has."""
+
     @property
     def least(self):
         return -2 ** (self.width - 1) if self.signed else 0
@@ -59,7 +63,8 @@ class Scale(namedtuple('Scale', 'signed width fraction')):
 
 
 def is_name(text):
-    return re.fullmatch('[A-Za-z][A-Za-z0-9_]{0,62}', text) is not None and text not in RESERVED
+    spelled = re.fullmatch('[A-Za-z][A-Za-z0-9_]*', text) is not None and len(text) <= LONGEST_NAME
+    return spelled and text not in RESERVED
 
 
 def number(text, most=MOST_NUMBER):
@@ -76,7 +81,7 @@ def scale(text):
     if not parts:
         raise NotALine
     width, fraction = number(parts[2]), number(parts[3])
-    if not (1 <= width <= 64 and fraction <= 32 and fraction <= width):
+    if not (1 <= width <= MOST_WIDTH and fraction <= MOST_FRACTION and fraction <= width):
         raise NotALine
     return Scale(parts[1] == 's', width, fraction)
 
@@ -103,6 +108,7 @@ def state_line(fields, first):
 
 
 def datum_line(fields):
+    """The datum of a `d` line."""
     if len(fields) != 6 or fields[0] != 'd':
         raise NotALine
     kind, of, mode, init = one_of(fields[1], 'input', 'output', 'local'), scale(fields[2]), fields[3], fields[4]
@@ -137,6 +143,8 @@ def event_text(event):
 
 
 class Declarations:
+    """The states, data and events of a chart or a code."""
+
     def __init__(self, states=(), data=(), events=()):
         self.states, self.data, self.events = list(states), list(data), list(events)
 

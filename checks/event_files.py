@@ -60,7 +60,9 @@ from collections import deque, namedtuple
 from fractions import Fraction
 
 import declarations as de
+import programs
 import tables
+from programs import Ended
 
 Limits = namedtuple('Limits', 'line file events')
 LIMITS = Limits(4096, 67108864, 1000000)
@@ -89,7 +91,8 @@ END, TOO_MANY_LINES, FILE_TOO_LONG = Stop(None, None), Stop(None, 5), Stop(None,
 
 
 class LineFault(Exception):
-    pass
+    """The number of a fault of a line."""
+
 
 
 # ---- lines
@@ -233,6 +236,7 @@ class Blocks:
 
 
 def declared_of(name, parts):
+    """The declarations of these parts of a block."""
     states, data, events = [], [], []
     for word, rest in parts:
         fields = [word] + rest.split(' ')
@@ -281,6 +285,7 @@ def world_text(declared, rest):
 
 
 def answer(block, declared):
+    """The lines of the answer to a block."""
     data = file_of(block)
     answers = []
     if data is not None:
@@ -309,7 +314,7 @@ def code_of(declared, procs):
 
 
 def idle_run(declared, data):
-    """What is written on standard output and on standard error, and the status, for a code that does nothing."""
+    """How `exec` ends for a code that does nothing."""
     values, index = declared.first_values(), 0
     out = [trace_line(declared, 0, 'start', [], values, [], 'ok')]
     for item in reactions(declared, data):
@@ -320,7 +325,7 @@ def idle_run(declared, data):
             values[v] = value
         out.append(trace_line(declared, index, item.event, [], values, [], 'ok'))
     error = '' if item == END else 'event%s%s\n' % (': ' if item.line is None else ' ', item.text)
-    return ''.join(line + '\n' for line in out), error, 0 if item == END else 1
+    return Ended(''.join(line + '\n' for line in out), error, 0 if item == END else 1)
 
 
 def in_order(declared, active):
@@ -349,7 +354,7 @@ def world_run(declared, rest):
 
 
 def compare(block, declared, program):
-    import programs
+    """Lines that tell where the program's traces of a block differ."""
     found, data = [], file_of(block)
     if data is not None:
         got = programs.run(program, ['exec', 'code', 'events'], {'code': code_of(declared, [['ret 0']]), 'events': data})
@@ -357,9 +362,10 @@ def compare(block, declared, program):
     for rest in block.values('world'):
         made = world_run(declared, rest)
         if made is not None:
-            out, error, status = programs.run(program, ['exec', 'code', 'events'], dict(zip(('code', 'events'), made)))
-            last = ''.join(out.splitlines(True)[-1:])
-            found += programs.differences(block.name, (world_text(declared, rest) + '\n', '', 0), (last, error, status))
+            got = programs.run(program, ['exec', 'code', 'events'], dict(zip(('code', 'events'), made)))
+            last = ''.join(got.out.splitlines(True)[-1:])
+            expected = Ended(world_text(declared, rest) + '\n', '', 0)
+            found += programs.differences(block.name, expected, got._replace(out=last))
     return found
 
 
@@ -367,14 +373,14 @@ def main(words):
     earlier = Blocks()
     if words[:1] == ['--against'] and len(words) == 2:
         wrong = 0
-        for block in tables.blocks(sys.stdin):
+        for block in tables.blocks(sys.stdin.buffer):
             differences = compare(block, earlier.declared(block), words[1])
             wrong += bool(differences)
             sys.stdout.write(''.join(line + '\n' for line in differences))
         return 1 if wrong else 0
     if words not in ([], ['--check']):
         sys.exit(__doc__)
-    return tables.answer_table(sys.stdin, lambda block: answer(block, earlier.declared(block)), bool(words))
+    return tables.answer_table(sys.stdin.buffer, lambda block: answer(block, earlier.declared(block)), bool(words))
 
 
 if __name__ == '__main__':

@@ -37,8 +37,14 @@ import sys
 from fractions import Fraction
 from math import floor
 
+from demands import demand
+
 MOST = 2 ** 100
 MOST_FRACTION = 64
+MOST_WIDTH = 64
+MOST_SCALE_FRACTION = 32        # of a scale, and of a number that is read
+MOST_DIGITS = 36
+MOST_READ = 2 ** 99 - 1
 OUT = 'out of conditions'
 
 
@@ -86,7 +92,7 @@ class Scale:
 
 
 def is_scale(width, fraction):
-    return 1 <= width <= 64 and fraction <= 32 and fraction <= width
+    return 1 <= width <= MOST_WIDTH and fraction <= MOST_SCALE_FRACTION and fraction <= width
 
 
 def scale_of(word):
@@ -109,7 +115,7 @@ def steps(value, fraction):
 def written(value, fraction):
     """The mantissa and the fraction of a value that is a whole number of steps."""
     mantissa = steps(value, fraction)
-    assert mantissa.denominator == 1
+    demand(mantissa.denominator == 1, '%s is no whole number of steps at the fraction %d' % (value, fraction))
     return '%d %d' % (mantissa, fraction)
 
 
@@ -167,6 +173,7 @@ def negation(words):
 
 
 def fitted(words):
+    """The number in a scale, by a mode where it is out of range."""
     if len(words) != 4 or words[3] not in ('saturate', 'wrap', 'error'):
         raise NotACall
     a, scale, mode = Number(*words[:2]), scale_of(words[2]), words[3]
@@ -193,29 +200,31 @@ def equal(words):
 
 
 def read(text):
+    """The mantissa and the fraction of a decimal."""
     parts = re.fullmatch(r'(-?)([0-9]+)(?:\.([0-9]+))?(?:q([0-9]{1,2}))?', text)
     if not parts:
         return 'NotNumber'
     minus, front, behind, bits = parts[1], parts[2], parts[3] or '', parts[4]
-    if bits is not None and (minus or int(bits) > 32):
+    if bits is not None and (minus or int(bits) > MOST_SCALE_FRACTION):
         return 'NotNumber'
-    if len(front) + len(behind) > 36:
+    if len(front) + len(behind) > MOST_DIGITS:
         return 'TooLong'
     value = Fraction(int(front + behind), 10 ** len(behind))
     if bits is not None:
         fraction = int(bits)
     else:
-        exact = [bits for bits in range(33) if steps(value, bits).denominator == 1]
+        exact = [bits for bits in range(MOST_SCALE_FRACTION + 1) if steps(value, bits).denominator == 1]
         if not exact:
             return 'NotBinary'
         fraction = exact[0]
     mantissa = floor(steps(value, fraction))
-    if mantissa >= 2 ** 99:
+    if mantissa > MOST_READ:
         return 'TooLong'
     return '%d %d' % (-mantissa if minus else mantissa, fraction)
 
 
 def decimal(words):
+    """The shortest exact decimal of a number, and its length."""
     if len(words) != 2:
         raise NotACall
     a = Number(*words)

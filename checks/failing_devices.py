@@ -16,12 +16,15 @@ PART is one of these; all are tried where none is named:
     stack       The stack of the process is smaller and smaller.
 
 At most N of the calls of one kind are tried in a scene, 400 where nothing is said, from the first to the last at even
-distances; `--most 0` means all. With `--selftest` that command is a scene too, which takes long.
+distances, and where a try takes longer a part of N, but at least one; `--most 0` means all. With `--selftest` that command is
+a scene too, which takes long.
 
 Right is the answer of the same command where nothing fails. Each answer must be one that answers.py allows, what is on standard
 output must be a front of what is right, and more: see `Judge`. A line is written for each answer that is wrong, then a table
 of the counts; the status is 1 where there is a wrong one."""
+import errno
 import fcntl
+import functools
 import os
 import resource
 import signal
@@ -31,12 +34,14 @@ import sys
 import tempfile
 import threading
 import time
-from collections import Counter, namedtuple
+from collections import Counter
+from typing import NamedTuple
 
 import answers
-from programs import parser
+from programs import Ended, parser, status_text
 
 SECONDS = 120
+GREATEST_BOUNDS = ('--depth', '32', '--steps', '50000')
 LIBRARY = r'''
 #define _GNU_SOURCE
 #include <dlfcn.h>
@@ -95,10 +100,13 @@ int posix_memalign(void **into, size_t align, size_t size) {
 
 int open(const char *path, int flags, ...) {
     static int (*next)(const char *, int, ...);
-    va_list more;
-    va_start(more, flags);
-    int mode = va_arg(more, int);
-    va_end(more);
+    int mode = 0;                       /* a mode is given only where a file may be made */
+    if (flags & O_CREAT || (flags & O_TMPFILE) == O_TMPFILE) {
+        va_list more;
+        va_start(more, flags);
+        mode = va_arg(more, int);
+        va_end(more);
+    }
     if (!next) next = dlsym(RTLD_NEXT, "open");
     if (fails(OPEN)) { errno = number; return -1; }
     return next(path, flags, mode);
@@ -121,9 +129,13 @@ ssize_t write(int file, const void *from, size_t most) {
 '''
 KINDS = ('memory', 'open', 'read', 'write', 'line')
 MEMORY, OPEN, READ, WRITE, LINE = range(len(KINDS))
-EIO, EINTR, EAGAIN, EACCES, ENOSPC, EPIPE, EMFILE = 5, 4, 11, 13, 28, 32, 24
 
-Scene = namedtuple('Scene', 'name words files')
+
+class Scene(NamedTuple):
+    """A command with its words, and the contents of its files by name."""
+    name: str
+    words: list
+    files: dict
 
 
 # ---- the scenes
@@ -137,10 +149,10 @@ def compiled(program, chart):
     with tempfile.TemporaryDirectory() as folder:
         with open(os.path.join(folder, 'c'), 'wb') as file:
             file.write(chart)
-        out, error, status = answers.call(program, ['compile', 'c'], folder)
-    if status or error:
-        raise SystemExit('compile of a sample: status %s' % status)
-    return out.encode('latin-1')
+        answer = answers.call(program, ['compile', 'c'], folder)
+    if answer.status != 0 or answer.error:
+        raise SystemExit('compile of a sample: %s' % status_text(answer))
+    return answer.out.encode('latin-1')
 
 
 def scenes(program, with_selftest):
@@ -158,29 +170,67 @@ def scenes(program, with_selftest):
         for name, chart, events in (('', watch, watch_events), (' of the door', door, door_events),
                                     (' with a bad line', door, b'PUSH\nPUSH locked=2\n'),
                                     (' with a fault', fault, b'tick\n' * 9)):
-            text = compiled(program, chart) if command == 'exec' else chart
-            made.append(Scene(command + name, [command, 'c', 'e'], {'c': text, 'e': events}))
+            made.append(with_trace(program, command, chart, events)._replace(name=command + name))
     made.append(most_frames())
     if with_selftest:
         made.append(Scene('selftest', ['selftest', '0'], {}))
     return made
 
 
+def with_trace(program, command, chart, events, options=()):
+    """The scene of a command that writes a trace; `exec` has the code of the chart."""
+    text = compiled(program, chart) if command == 'exec' else chart
+    return Scene(command, [command, *options, 'c', 'e'], {'c': text, 'e': events})
+
+
 class Place:
-    """A folder with the files of a scene."""
+    """A scene in a folder of its own, and how its command ends where nothing fails."""
 
-    def __init__(self, scene):
-        self.scene = scene
+    def __init__(self, program, scene):
+        self.program, self.scene = program, scene
         self.within = tempfile.TemporaryDirectory(dir='/dev/shm' if os.path.isdir('/dev/shm') else None)
-        self.fresh()
-
-    def fresh(self):
-        for name, data in self.scene.files.items():
-            with open(os.path.join(self.within.name, name), 'wb') as file:
+        for name, data in scene.files.items():
+            with open(self.path(name), 'wb') as file:
                 file.write(data)
+        self.right = self.call()
 
-    def call(self, program, **more):
-        return answers.call(program, self.scene.words, self.within.name, seconds=SECONDS, **more)
+    def path(self, name):
+        return os.path.join(self.within.name, name)
+
+    def make_pipe(self, name):
+        """Makes a file a pipe that has its name."""
+        os.unlink(self.path(name))
+        os.mkfifo(self.path(name))
+        return self.path(name)
+
+    def call(self, **more):
+        return answers.call(self.program, self.scene.words, self.within.name, seconds=SECONDS, **more)
+
+
+class Running:
+    """A command that is begun, and killed after some time."""
+
+    def __init__(self, place, output):
+        self.process = subprocess.Popen([place.program, *place.scene.words], cwd=place.within.name, stdin=subprocess.DEVNULL,
+                                        stdout=output, stderr=subprocess.PIPE)
+        self.late = False
+        self.timer = threading.Timer(SECONDS, self.stop)
+        self.timer.start()
+
+    def stop(self):
+        self.late = self.process.poll() is None
+        self.process.kill()
+
+    def ended(self, taken):
+        """How it ends, where this was taken of its standard output."""
+        rest, error = self.process.communicate()
+        self.timer.cancel()
+        return Ended((taken + (rest or b'')).decode('latin-1'), error.decode('latin-1'), self.process.returncode, self.late)
+
+
+def limited(kind, most):
+    """What sets a limit of the system, in the process that calls it."""
+    return functools.partial(resource.setrlimit, kind, (most, most))
 
 
 # ---- judging
@@ -199,50 +249,96 @@ class Judge:
 
     def tell(self, name, why, answer):
         self.wrong += 1
-        print('%s: %s: status %s, %d bytes of standard output, %r'
-              % (name, why, answer[2], len(answer[0]), answer[1][:200]), flush=True)
+        print('%s: %s: %s, %d bytes of standard output, %r'
+              % (name, why, status_text(answer), len(answer.out), answer.error[:200]), flush=True)
 
-    def check(self, name, part, command, right, answer, fault, line_fails=False):
-        """`fault` is the word of what may fail, or none where the answer must be right."""
-        out, error, status = answer
-        self.counts[part, status if answer != right else 'right'] += 1
-        why = None if line_fails else answers.problem(command if right[2] != 2 else None, out, error, status)
+    def count(self, part, answer, right=None):
+        self.counts[part, 'the right answer' if answer == right else status_text(answer)] += 1
+
+    def check(self, place, what, part, answer, fault=None, line_fails=False):
+        """Whether an answer is allowed. `fault` is the word of what may fail, or none where the answer must be right."""
+        right = place.right
+        self.count(part, answer, right)
+        why = None if line_fails else answers.problem(place.scene.words[0] if right.status != 2 else None, answer)
         if why is None and answer != right:
-            if line_fails:
-                if (out, status) != (right[0], right[2]) or not right[1].startswith(error):
-                    why = 'a failing standard error changes the answer'
-            elif status not in self.ALLOWED.get(fault, ()):
-                why = 'no such answer comes of a failing %s' % fault
-            elif not right[0].startswith(out):
-                why = 'standard output is no front of the right one'
-            elif status == 5 and out == right[0]:
-                why = 'a write fault behind the whole answer'
+            why = self.line_problem(right, answer) if line_fails else self.fault_problem(right, answer, fault)
         if why:
-            self.tell(name, why, answer)
+            self.tell('%s: %s' % (place.scene.name, what), why, answer)
         return why is None
+
+    @staticmethod
+    def line_problem(right, answer):
+        """Why this doesn't come of a standard error that fails, or none."""
+        same = (answer.out, answer.status, answer.timed_out) == (right.out, right.status, right.timed_out)
+        return None if same and right.error.startswith(answer.error) else 'a failing standard error changes the answer'
+
+    def fault_problem(self, right, answer, fault):
+        """Why this isn't the right answer, and doesn't come of what may fail, or none."""
+        if answer.status not in self.ALLOWED.get(fault, ()):
+            return 'no such answer comes of a failing %s' % fault
+        if not right.out.startswith(answer.out):
+            return 'standard output is no front of the right one'
+        if answer.status == 5 and answer.out == right.out:
+            return 'a write fault behind the whole answer'
+        return None
 
     def print_counts(self):
         print('\n%-44s %9s' % ('what failed, and the status', 'answers'))
-        for (part, status), count in sorted(self.counts.items(), key=str):
-            told = 'the right answer' if status == 'right' else 'status %s' % status
-            print('%-44s %9d' % ('%s: %s' % (part, told), count))
+        for (part, status), count in sorted(self.counts.items()):
+            print('%-44s %9d' % ('%s: %s' % (part, status), count))
         print('\n%d answers, %d wrong' % (sum(self.counts.values()), self.wrong))
 
 
-def chosen(count, most):
-    if not most or count <= most:
+def chosen(count, most, share=1):
+    """Numbers from 1 to `count` at even distances: all where `most` is 0, otherwise at most so many, or that part of so many, but
+    at least one."""
+    wanted = max(1, most // share) if most else count
+    if count <= wanted:
         return range(1, count + 1)
-    return sorted({1 + at * (count - 1) // (most - 1) for at in range(most)})
+    if wanted == 1:
+        return [1]
+    return sorted({1 + at * (count - 1) // (wanted - 1) for at in range(wanted)})
+
+
+class Trial(NamedTuple):
+    """What a part is given: the program, the scenes, the judge of the answers, and how many calls of a kind are tried, or 0."""
+    program: str
+    scenes: list
+    judge: Judge
+    most: int
+
+    def places(self):
+        """A place for each scene."""
+        return (Place(self.program, scene) for scene in self.scenes)
 
 
 # ---- failing calls
+
+class Failure(NamedTuple):
+    """Which call fails: the one numbered `at` of a kind, from 1 on, or all from that on, with this number of an error. Reads and
+    writes move at most `piece` bytes. 0 means none."""
+    kind: int = 0
+    at: int = 0
+    on: bool = False
+    number: int = 0
+    piece: int = 0
+
+    @property
+    def settings(self):
+        """The variables that tell the library."""
+        return {'FAIL_KIND': str(self.kind), 'FAIL_AT': str(self.at), 'FAIL_ON': str(int(self.on)),
+                'FAIL_NUMBER': str(self.number), 'FAIL_PIECE': str(self.piece)}
+
+
+NOTHING = Failure()
+
 
 class Library:
     """The library that lets calls fail, and the page in which it counts."""
 
     def __init__(self, folder):
         self.path, source = os.path.join(folder, 'failing.so'), os.path.join(folder, 'failing.c')
-        with open(source, 'w') as file:
+        with open(source, 'w', encoding='ascii') as file:
             file.write(LIBRARY)
         compiler = os.environ.get('CC', 'cc')
         subprocess.run([compiler, '-O1', '-fno-builtin', '-shared', '-fPIC', '-o', self.path, source, '-ldl'], check=True)
@@ -250,70 +346,69 @@ class Library:
         with open(self.page, 'wb') as file:
             file.write(bytes(8 * len(KINDS)))
 
-    def call(self, program, place, kind=0, at=0, on=False, number=0, piece=0):
+    def call(self, place, failure=NOTHING):
         """The answer, and how many calls of each kind there were."""
-        settings = {'LD_PRELOAD': self.path, 'FAIL_COUNTS': self.page, 'FAIL_KIND': str(kind), 'FAIL_AT': str(at),
-                    'FAIL_ON': str(int(on)), 'FAIL_NUMBER': str(number), 'FAIL_PIECE': str(piece)}
-        old = dict(os.environ)
-        os.environ.update(settings)
-        try:
-            answer = place.call(program)
-        finally:
-            os.environ.clear()
-            os.environ.update(old)
+        settings = {'LD_PRELOAD': self.path, 'FAIL_COUNTS': self.page, **failure.settings}
+        answer = place.call(env={**os.environ, **settings})
         with open(self.page, 'rb') as file:
             return answer, struct.unpack('%dq' % len(KINDS), file.read())
 
 
-def failing_calls(program, judge, made, most):
+def failing_calls(trial):
+    """Each call of the scenes fails in turn, as the library lets it."""
     with tempfile.TemporaryDirectory() as folder:
         library = Library(folder)
-        place = Place(made[0])
-        answer, counts = library.call(program, place)
-        if answer != place.call(program) or not counts[MEMORY]:
+        place = Place(trial.program, trial.scenes[0])
+        answer, counts = library.call(place)
+        if answer != place.right or not counts[MEMORY]:
             print('calls: passed over, since the program brings its own requests for memory')
             return
-        for scene in made:
-            place = Place(scene)
-            right = place.call(program)
-            answer, counts = library.call(program, place)
-            if not judge.check(scene.name, 'nothing', scene.words[0], right, answer, None):
+        for place in trial.places():
+            answer, counts = library.call(place)
+            if not trial.judge.check(place, 'nothing fails', 'nothing', answer):
                 continue
-            failing_calls_of(program, judge, scene, place, library, right, counts, most)
-            print('%s: %s' % (scene.name, ', '.join('%d of %s' % each for each in zip(counts, KINDS))), flush=True)
+            for part, failure in failures(counts, trial.most):
+                one_failure(trial, library, place, part, failure)
+            small_pieces(trial, library, place)
+            print('%s: %s' % (place.scene.name, ', '.join('%d of %s' % each for each in zip(counts, KINDS))), flush=True)
 
 
-def failing_calls_of(program, judge, scene, place, library, right, counts, most):
-    command = scene.words[0]
-
-    def one(what, kind, at, **more):
-        name = '%s: %s %d %s' % (scene.name, what, at, more)
-        answer, _ = library.call(program, place, kind, at, **more)
-        judge.check(name, what, command, right, answer, KINDS[kind] if kind != LINE else None, kind == LINE)
-
+def failures(counts, most):
+    """What fails, one after another, where there are so many calls of each kind, each with words for it."""
     for at in chosen(counts[MEMORY], most):
-        one('a request for memory', MEMORY, at)
-    for at in chosen(counts[MEMORY], most and most // 4):
-        one('all requests for memory from one on', MEMORY, at, on=True)
-    for number in (EACCES, EMFILE, EINTR):
+        yield 'a request for memory', Failure(MEMORY, at)
+    for at in chosen(counts[MEMORY], most, 4):
+        yield 'all requests for memory from one on', Failure(MEMORY, at, on=True)
+    for number in (errno.EACCES, errno.EMFILE, errno.EINTR):
         for at in chosen(counts[OPEN], most):
-            one('an open', OPEN, at, number=number)
-    for number in (EIO, EINTR, EAGAIN):
+            yield 'an open', Failure(OPEN, at, number=number)
+    for number in (errno.EIO, errno.EINTR, errno.EAGAIN):
         for at in chosen(counts[READ], most):
-            one('a read', READ, at, number=number)
-            one('all reads from one on', READ, at, number=number, on=True)
-    for number in (ENOSPC, EPIPE, EINTR, 0):
+            yield 'a read', Failure(READ, at, number=number)
+            yield 'all reads from one on', Failure(READ, at, number=number, on=True)
+    for number in (errno.ENOSPC, errno.EPIPE, errno.EINTR, 0):
         for at in chosen(counts[WRITE], most):
-            one('a write', WRITE, at, number=number)
-            one('all writes from one on', WRITE, at, number=number, on=True)
+            yield 'a write', Failure(WRITE, at, number=number)
+            yield 'all writes from one on', Failure(WRITE, at, number=number, on=True)
         for at in chosen(counts[LINE], most):
-            one('a write of standard error', LINE, at, number=number, on=True)
+            yield 'a write of standard error', Failure(LINE, at, number=number, on=True)
+
+
+def one_failure(trial, library, place, part, failure):
+    answer, _ = library.call(place, failure)
+    line_fails = failure.kind == LINE
+    trial.judge.check(place, '%s: %s' % (part, failure), part, answer, None if line_fails else KINDS[failure.kind], line_fails)
+
+
+def small_pieces(trial, library, place):
+    """Reads and writes move few bytes, and with one byte each some of them fail."""
     for piece in (1, 7, 511):
-        answer, more = library.call(program, place, piece=piece)
-        judge.check('%s: pieces of %d' % (scene.name, piece), 'reads and writes of few bytes', command, right, answer, None)
+        answer, counts = library.call(place, Failure(piece=piece))
+        trial.judge.check(place, 'pieces of %d' % piece, 'reads and writes of few bytes', answer)
         for kind in (READ, WRITE) if piece == 1 else ():
-            for at in chosen(more[kind], most and most // 4):
-                one('a call among those of one byte: ' + KINDS[kind], kind, at, piece=1, number=EIO)
+            for at in chosen(counts[kind], trial.most, 4):
+                failure = Failure(kind, at, number=errno.EIO, piece=1)
+                one_failure(trial, library, place, 'a call among those of one byte: ' + KINDS[kind], failure)
 
 
 # ---- memory
@@ -324,58 +419,57 @@ def least_memory(program):
     with tempfile.TemporaryDirectory() as folder:
         while high - low > 1:
             middle = (low + high) // 2
-            if answers.call(program, [], folder, memory=middle << 16) == ('', answers.USAGE, 2):
+            if answers.call(program, [], folder, memory=middle << 16) == Ended('', answers.USAGE, 2):
                 high = middle
             else:
                 low = middle
     return high << 16 if high < 1 << 14 else None
 
 
-def little_memory(program, judge, made, most):
-    least = least_memory(program)
+def little_memory(trial):
+    """The scenes with more and more memory, until it is enough."""
+    least = least_memory(trial.program)
     if least is None:
         print('memory: passed over, since the program takes over a GiB to begin')
         return
     print('memory: the program begins with %d KiB' % (least >> 10))
-    for scene in made:
-        place, memory, steps = Place(scene), least, 0
-        right = place.call(program)
+    for place in trial.places():
+        memory, steps = least, 0
         while steps < 2000:
-            answer = place.call(program, memory=memory)
-            name = '%s: memory of %d bytes' % (scene.name, memory)
-            judge.check(name, 'little memory', scene.words[0], right, answer, 'memory')
-            if answer == right:
+            answer = place.call(memory=memory)
+            trial.judge.check(place, 'memory of %d bytes' % memory, 'little memory', answer, 'memory')
+            if answer == place.right:
                 break
             memory, steps = memory + (4096 if steps < 64 else memory // 64), steps + 1
         else:
-            judge.tell(scene.name, 'no memory is enough', answer)
+            trial.judge.tell(place.scene.name, 'no memory is enough', answer)
 
 
 # ---- standard output and standard error
 
-def cut_output(place, program, size, ignored):
-    """The answer where standard output is a file that may have so many bytes."""
-    path = os.path.join(place.within.name, 'output')
+SMALL_CHART = b'chart C { default -> A; state A { } }'
 
+
+def cut_output(place, size):
+    """The answer where standard output is a file that may have so many bytes."""
     def prepare():
         resource.setrlimit(resource.RLIMIT_FSIZE, (size, size))
-        signal.signal(signal.SIGXFSZ, signal.SIG_IGN if ignored else signal.SIG_DFL)
+        signal.signal(signal.SIGXFSZ, signal.SIG_IGN)
 
+    path = place.path('output')
     with open(path, 'wb') as out:
-        done = subprocess.run([program, *place.scene.words], cwd=place.within.name, stdin=subprocess.DEVNULL, stdout=out,
-                              stderr=subprocess.PIPE, timeout=SECONDS, preexec_fn=prepare, restore_signals=False)
+        answer = place.call(before=prepare, stdout=out, restore_signals=False)
     with open(path, 'rb') as out:
-        return out.read().decode('latin-1'), done.stderr.decode('latin-1'), done.returncode
+        return answer._replace(out=out.read().decode('latin-1'))
 
 
-def begun(place, program):
+def begun(place):
     """The command, begun with standard output in a pipe that has room for one page, and the end where that is read."""
     end, device = os.pipe()
     fcntl.fcntl(device, fcntl.F_SETPIPE_SZ, 4096)
-    process = subprocess.Popen([program, *place.scene.words], cwd=place.within.name, stdin=subprocess.DEVNULL, stdout=device,
-                               stderr=subprocess.PIPE)
+    running = Running(place, device)
     os.close(device)
-    return process, open(end, 'rb', buffering=0)
+    return running, open(end, 'rb', buffering=0)
 
 
 def taken_output(output, most):
@@ -388,41 +482,44 @@ def taken_output(output, most):
     return taken
 
 
-def left_output(place, program, size):
+def left_output(place, size):
     """The answer where the reader of a narrow pipe goes away after so many bytes."""
-    process, output = begun(place, program)
+    running, output = begun(place)
     with output:
         taken = taken_output(output, size)
-    error = process.communicate(timeout=SECONDS)[1]
-    return taken.decode('latin-1'), error.decode('latin-1'), process.returncode
+    return running.ended(taken)
 
 
-def failing_streams(program, judge, made, most):
-    for scene in made:
-        place, command = Place(scene), scene.words[0]
-        right = place.call(program)
-        for device in answers.DEVICES:
-            if right[0]:
-                answer = place.call(program, devices={1: device})
-                name = '%s: standard output %s' % (scene.name, device)
-                judge.check(name, 'standard output ' + device, command, right, answer, 'write')
-            answer = place.call(program, devices={2: device})
-            name = '%s: standard error %s' % (scene.name, device)
-            judge.check(name, 'standard error ' + device, command, right, answer, None, True)
-        for size in chosen(len(right[0]), most and most // 8):
-            answer = cut_output(place, program, size - 1, True)
-            if answer[0] != right[0][:size - 1] or answer[1:] != ('write fault\n', 5):
-                judge.tell('%s: output of %d bytes' % (scene.name, size - 1), 'no write fault at that byte', answer)
-            judge.counts['standard output that is cut', answer[2]] += 1
-    chart = b'chart C { default -> A; state A { } }'
+def failing_streams(trial):
+    """Standard output and standard error fail in all ways."""
+    for place in trial.places():
+        failing_devices(trial, place)
+        cut_outputs(trial, place)
     for command in answers.WITH_TRACE:
-        text = compiled(program, chart) if command == 'exec' else chart
-        place = Place(Scene(command + ' of many lines', [command, 'c', 'e'], {'c': text, 'e': b'tick\n' * 20000}))
-        right = place.call(program)
+        place = Place(trial.program, with_trace(trial.program, command, SMALL_CHART, b'tick\n' * 20000))
         for size in (0, 1, 20, 512, 4096, 100000):
-            answer = left_output(place, program, size)
-            name = '%s: the reader goes after %d bytes' % (place.scene.name, size)
-            judge.check(name, 'a reader that goes away', command, right, answer, 'write')
+            answer = left_output(place, size)
+            trial.judge.check(place, 'the reader goes after %d bytes' % size, 'a reader that goes away', answer, 'write')
+
+
+def failing_devices(trial, place):
+    """Each stream goes to each device that fails."""
+    for device in answers.DEVICES:
+        if place.right.out:
+            answer = place.call(devices={1: device})
+            trial.judge.check(place, 'standard output ' + device, 'standard output ' + device, answer, 'write')
+        answer = place.call(devices={2: device})
+        trial.judge.check(place, 'standard error ' + device, 'standard error ' + device, answer, line_fails=True)
+
+
+def cut_outputs(trial, place):
+    """Standard output is a file that may have fewer bytes than are written."""
+    right = place.right.out
+    for size in chosen(len(right), trial.most, 8):
+        answer = cut_output(place, size - 1)
+        trial.judge.count('standard output that is cut', answer)
+        if answer != Ended(right[:size - 1], 'write fault\n', 5):
+            trial.judge.tell('%s: output of %d bytes' % (place.scene.name, size - 1), 'no write fault at that byte', answer)
 
 
 # ---- files
@@ -442,134 +539,130 @@ def feed(path, pieces, pause=0.0):
     return thread
 
 
-def piped(place, program, name, pieces, pause=0.0):
-    path = os.path.join(place.within.name, name)
-    os.unlink(path)
-    os.mkfifo(path)
+def piped(place, name, pieces, pause=0.0):
+    """The answer where a file is a pipe that gives these pieces."""
+    path = place.make_pipe(name)
     feed(path, pieces, pause)
-    answer = place.call(program)
+    answer = place.call()
     try:                                                    # where the program never opened the pipe
         os.close(os.open(path, os.O_RDONLY | os.O_NONBLOCK))
     except OSError:
         pass
     os.unlink(path)
-    place.fresh()
     return answer
 
 
-def pipes_cut_short(program, judge, made, most):
-    for scene in made:
+def pipes_cut_short(trial, scenes):
+    """A file is a pipe that ends early; right is the answer to a file that ends there."""
+    for scene in scenes:
         for name, data in scene.files.items():
-            for length in chosen(len(data) + 1, most and most // 8):
+            for length in chosen(len(data) + 1, trial.most, 8):
                 front = data[:length - 1]
-                right = Place(Scene(scene.name, scene.words, {**scene.files, name: front})).call(program)
-                answer = piped(Place(scene), program, name, [front[:7], front[7:]])
-                judge.check('%s: a pipe for %s of %d bytes' % (scene.name, name, length - 1), 'a pipe that ends early',
-                            scene.words[0], right, answer, None)
+                place = Place(trial.program, scene._replace(files={**scene.files, name: front}))
+                answer = piped(place, name, [front[:7], front[7:]])
+                what = 'a pipe for %s of %d bytes' % (name, length - 1)
+                trial.judge.check(place, what, 'a pipe that ends early', answer)
 
 
-def line_by_line(program, judge):
+def line_by_line(trial):
     """Each line of a trace must be there before the next line of the event file is given."""
     chart = sample('examples/compiled/door.chart')
     lines = sample('examples/compiled/door.events').splitlines(keepends=True)
     for command in answers.WITH_TRACE:
-        text = compiled(program, chart) if command == 'exec' else chart
-        place = Place(Scene(command, [command, 'c', 'e'], {'c': text, 'e': b''.join(lines)}))
-        right = place.call(program)[0].splitlines(keepends=True)
-        path = os.path.join(place.within.name, 'e')
-        os.unlink(path)
-        os.mkfifo(path)
-        process = subprocess.Popen([program, command, 'c', 'e'], cwd=place.within.name, stdin=subprocess.DEVNULL,
-                                   stdout=subprocess.PIPE, stderr=subprocess.PIPE)
-        late = threading.Timer(SECONDS, process.kill)
-        late.start()
-        got = [process.stdout.readline().decode('latin-1')]
-        with open(path, 'wb', buffering=0) as events:
+        place = Place(trial.program, with_trace(trial.program, command, chart, b''.join(lines)))
+        # This end of the pipe reads too, so that it is there whether the program opens the other one or not.
+        with open(place.make_pipe('e'), 'r+b', buffering=0) as events:
+            running = Running(place, subprocess.PIPE)
+            got = [running.process.stdout.readline()]
             for line in lines:
                 events.write(line)
-                got.append(process.stdout.readline().decode('latin-1'))
-        rest, error = process.communicate()
-        late.cancel()
-        judge.counts['lines that are given one by one', process.returncode] += 1
-        if got != right or rest or error or process.returncode:
-            judge.tell(command + ' line by line', 'another trace', (''.join(got), error.decode('latin-1'), process.returncode))
+                got.append(running.process.stdout.readline())
+        answer = running.ended(b'')
+        trial.judge.count('lines that are given one by one', answer)
+        if (b''.join(got).decode('latin-1'), answer) != (place.right.out, Ended('', '', 0)):
+            trial.judge.tell(command + ' line by line', 'another trace', answer)
 
 
-def nothing_is_read_first(program, judge):
+def nothing_is_read_first(trial):
     """Where the first line can't be written, no byte of the event file may be taken."""
     for command in answers.WITH_TRACE:
-        chart = b'chart C { default -> A; state A { } }'
-        text = compiled(program, chart) if command == 'exec' else chart
-        place = Place(Scene(command, [command, 'c', 'e'], {'c': text}))
-        path = os.path.join(place.within.name, 'e')
-        os.mkfifo(path)
-        pipe = os.open(path, os.O_RDWR | os.O_NONBLOCK)
+        place = Place(trial.program, with_trace(trial.program, command, SMALL_CHART, b''))
+        pipe = os.open(place.make_pipe('e'), os.O_RDWR | os.O_NONBLOCK)
         os.write(pipe, b'tick\n')
-        answer = place.call(program, devices={1: 'full'})
-        left = os.read(pipe, 99)
+        answer = place.call(devices={1: 'full'})
+        try:
+            left = os.read(pipe, 99)
+        except BlockingIOError:                             # all was taken
+            left = b''
         os.close(pipe)
-        judge.counts['standard output that fails before the events', answer[2]] += 1
-        if left != b'tick\n' or answer[1:] != ('write fault\n', 5):
-            judge.tell(command, 'events are read before the first line is written', answer)
+        trial.judge.count('standard output that fails before the events', answer)
+        if left != b'tick\n' or answer != Ended('', 'write fault\n', 5):
+            trial.judge.tell(command, 'events are read before the first line is written', answer)
+
+
+ADDED_LINES = 10
 
 
 def lengthen(path):
     with open(path, 'ab') as file:
-        file.write(b'tick\n' * 10)
+        file.write(b'tick\n' * ADDED_LINES)
 
 
-def changing_files(program, judge):
+def changing_files(trial):
     """The event file is changed while the program waits for room in a narrow pipe."""
-    chart, lines = b'chart C { default -> A; state A { } }', 30000
+    lines = 30000
     changes = {'cut': lambda path: os.truncate(path, 60001), 'emptied': lambda path: os.truncate(path, 0),
                'removed': os.unlink, 'replaced': lambda path: os.rename(path + '2', path), 'lengthened': lengthen}
     for command in answers.WITH_TRACE:
-        text = compiled(program, chart) if command == 'exec' else chart
-        files = {'c': text, 'e': b'tick\n' * (lines + 10), 'e2': b'NO\n'}
-        longest = Place(Scene(command, [command, 'c', 'e'], files)).call(program)
+        scene = with_trace(trial.program, command, SMALL_CHART, b'tick\n' * lines)
+        longest = Place(trial.program, scene._replace(files={**scene.files, 'e': b'tick\n' * (lines + ADDED_LINES)})).right
         for name, change in changes.items():
-            place = Place(Scene(command, [command, 'c', 'e'], {**files, 'e': b'tick\n' * lines}))
-            process, output = begun(place, program)
+            place = Place(trial.program, scene._replace(files={**scene.files, 'e2': b'NO\n'}))
+            running, output = begun(place)
             with output:
                 taken = taken_output(output, 3000)
-                change(os.path.join(place.within.name, 'e'))
-                out = (taken + taken_output(output, 1 << 30)).decode('latin-1')
-            answer = out, process.communicate(timeout=SECONDS)[1].decode('latin-1'), process.returncode
-            judge.counts['a file that is %s while it is read' % name, process.returncode] += 1
-            why = answers.problem(command, *answer)
-            whole = out.count('\n') - 1
-            if why is None and not longest[0].startswith(out):
-                why = 'standard output is no front of the right one'
-            if why is None and name in ('removed', 'replaced') and (whole, process.returncode) != (lines, 0):
-                why = 'the file that was opened is not read to its end'
-            if why is None and name == 'lengthened' and (whole, process.returncode) != (lines + 10, 0):
-                why = 'the lines that were added are not read'
+                change(place.path('e'))
+                taken += taken_output(output, 1 << 30)
+            answer = running.ended(taken)
+            trial.judge.count('a file that is %s while it is read' % name, answer)
+            why = answers.problem(command, answer) or changed_problem(name, answer, longest, lines)
             if why:
-                judge.tell('%s: a file that is %s' % (command, name), why, answer)
+                trial.judge.tell('%s: a file that is %s' % (command, name), why, answer)
 
 
-def few_files(program, judge, made):
+def changed_problem(name, answer, longest, lines):
+    """Why this isn't the answer where the file of so many lines is changed in this way, or none."""
+    found = answer.out.count('\n') - 1, answer.status
+    if not longest.out.startswith(answer.out):
+        return 'standard output is no front of the right one'
+    if name in ('removed', 'replaced') and found != (lines, 0):
+        return 'the file that was opened is not read to its end'
+    if name == 'lengthened' and found != (lines + ADDED_LINES, 0):
+        return 'the lines that were added are not read'
+    return None
+
+
+def few_files(trial):
     """Besides its three streams the program needs room for one open file. With less it can't even be loaded."""
-    for scene in made:
-        place = Place(scene)
-        right = place.call(program)
-        answer = place.call(program, before=lambda: resource.setrlimit(resource.RLIMIT_NOFILE, (4, 4)))
-        judge.check(scene.name + ': 4 open files', 'at most 4 open files', scene.words[0], right, answer, 'open')
+    for place in trial.places():
+        answer = place.call(before=limited(resource.RLIMIT_NOFILE, 4))
+        trial.judge.check(place, '4 open files', 'at most 4 open files', answer, 'open')
 
 
-def failing_files(program, judge, made, most):
-    pipes_cut_short(program, judge, [scene for scene in made if len(scene.files) == 2 or scene.name == 'check'], most)
-    line_by_line(program, judge)
-    nothing_is_read_first(program, judge)
-    changing_files(program, judge)
-    few_files(program, judge, made)
+def failing_files(trial):
+    """Files that are pipes, or that change, and too few that may be open."""
+    pipes_cut_short(trial, [scene for scene in trial.scenes if len(scene.files) == 2 or scene.name == 'check'])
+    line_by_line(trial)
+    nothing_is_read_first(trial)
+    changing_files(trial)
+    few_files(trial)
 
 
 # ---- the stack
 
 def most_frames():
     """Code of the greatest height under the greatest bounds, so with the most room for frames."""
-    return Scene('exec with the most frames', ['exec', '--depth', '32', '--steps', '50000', 'c', 'e'],
+    return Scene('exec with the most frames', ['exec', *GREATEST_BOUNDS, 'c', 'e'],
                  {'c': answers.code_texts()['height_200'], 'e': b'tick\n'})
 
 
@@ -584,9 +677,8 @@ def deep_scenes(program):
     for name, chart in (('deep states', nest), ('a long chain', chain), ('nested sends', sends)):
         made += [Scene('%s of %s' % (command, name), [command, 'c'], {'c': chart}) for command in ('fmt', 'compile')]
         for command in answers.WITH_TRACE:
-            text = compiled(program, chart) if command == 'exec' else chart
-            made.append(Scene('%s of %s' % (command, name), [command, '--depth', '32', '--steps', '50000', 'c', 'e'],
-                              {'c': text, 'e': b'tick\ntick\n'}))
+            scene = with_trace(program, command, chart, b'tick\ntick\n', GREATEST_BOUNDS)
+            made.append(scene._replace(name='%s of %s' % (command, name)))
     front = b'chart C { default -> A; state A { during { n = '
     for name, text in (('parentheses', front + b'(' * 1000000), ('signs', front + b'- ' * 500000), ('braces', b'{' * 1000000),
                        ('states', b'chart C { ' + b'state A { ' * 99999), ('comments', b'chart C { ' + b'//\n' * 300000)):
@@ -597,23 +689,18 @@ def deep_scenes(program):
     return made
 
 
-def small_stack(program, judge, made, most):
+def small_stack(trial):
     """The least stack with which each scene has its right answer; less ends the process by a signal of the system."""
-    for scene in made + deep_scenes(program):
-        place = Place(scene)
-        right = place.call(program)
+    for scene in trial.scenes + deep_scenes(trial.program):
+        place = Place(trial.program, scene)
         low, high = 0, 8 << 10
         while high - low > 8:
             middle = (low + high) // 2
-
-            def prepare(size=middle << 10):
-                resource.setrlimit(resource.RLIMIT_STACK, (size, size))
-
-            answer = place.call(program, before=prepare)
-            low, high = (low, middle) if answer == right else (middle, high)
+            answer = place.call(before=limited(resource.RLIMIT_STACK, middle << 10))
+            low, high = (low, middle) if answer == place.right else (middle, high)
         if high > 64:
             print('%s: a stack of %d KiB' % (scene.name, high))
-        judge.counts['a stack of at most %d KiB' % (1 << (high - 1).bit_length()), 'right'] += 1
+        trial.judge.count('a stack of at most %d KiB' % (1 << (high - 1).bit_length()), place.right, place.right)
 
 
 PARTS = {'calls': failing_calls, 'memory': little_memory, 'streams': failing_streams, 'files': failing_files,
@@ -621,17 +708,20 @@ PARTS = {'calls': failing_calls, 'memory': little_memory, 'streams': failing_str
 
 
 def main(words):
+    """Tries the parts that the words ask for, and gives the status."""
     reader = parser(__doc__)
     reader.add_argument('--against', metavar='PROGRAM', required=True)
     reader.add_argument('--part', choices=PARTS)
     reader.add_argument('--most', type=int, default=400)
     reader.add_argument('--selftest', action='store_true')
     options = reader.parse_args(words)
+    if options.most < 0:
+        reader.error('--most is a number from 0 on')
     program, judge = os.path.abspath(options.against), Judge()
-    made = scenes(program, options.selftest)
+    trial = Trial(program, scenes(program, options.selftest), judge, options.most)
     for name, part in PARTS.items():
         if options.part in (None, name):
-            part(program, judge, made, options.most)
+            part(trial)
     judge.print_counts()
     return 1 if judge.wrong else 0
 

@@ -10,14 +10,19 @@ each of 20,000 event lines. Every line of both texts ends with byte 10.
 `generated_cases.py --against PROGRAM N ..` compares the line that `PROGRAM selftest N` writes with the counts that
 `PROGRAM check` and `PROGRAM rules` give for these two texts, and prints each that differs."""
 import os
-import subprocess
+import re
 import sys
 import tempfile
+
+from demands import Wrong, demand
+from programs import ended, status_text
 
 EVENT_LINES = 20_000
 
 
 class Draws:
+    """The numbers that are drawn of a case, one after another."""
+
     def __init__(self, number):
         self.s = number % 2**31
 
@@ -98,29 +103,39 @@ def texts_of(number):
 
 
 def line_of(program, number, folder):
-    """The line of `selftest`, from what the commands `check` and `rules` of the program write of the two texts."""
+    """The line and the status of `selftest`, from what `check` and `rules` of the program write of the two texts."""
     names = [os.path.join(folder, name) for name in ("chart", "events")]
     for name, text in zip(names, texts_of(number)):
         with open(name, "wb") as file:
             file.write(text)
-    counts = subprocess.run([program, "check", names[0]], capture_output=True, check=True).stdout.split()
-    trace = subprocess.run([program, "rules", *names], capture_output=True).stdout
-    lines = trace.decode("ascii").splitlines()
-    result = lines[-1].split(" ", 5)[5]
-    return f"selftest {number}: {int(counts[1])} states, {len(lines) - 1} events, {len(trace)} trace bytes, {result}\n"
+    checked, ran = ended([program, "check", names[0]]), ended([program, "rules", *names])
+    counts = re.fullmatch(r"ok ([0-9]+) states .*\n", checked.out)
+    told = (checked.out + checked.error)[:200]
+    demand(counts, f"`check` of case {number} writes no counts, but {told!r}, {status_text(checked)}")
+    lines = ran.out.split("\n")[:-1]
+    last = lines[-1].split(" ", 5) if lines else []
+    demand(len(last) == 6, f"`rules` of case {number} ends with no line of a trace, {status_text(ran)}")
+    line = f"selftest {number}: {counts[1]} states, {len(lines) - 1} events, {len(ran.out)} trace bytes, {last[5]}\n"
+    return line, status_text(ran)
 
 
 def differences(program, numbers):
+    """What is wrong of these cases, one after another."""
     with tempfile.TemporaryDirectory() as folder:
         for number in numbers:
-            expected = line_of(program, number, folder)
-            written = subprocess.run([program, "selftest", str(number)], capture_output=True).stdout.decode("ascii")
+            try:
+                expected = line_of(program, number, folder)
+            except Wrong as wrong:
+                yield str(wrong)
+                continue
+            answer = ended([program, "selftest", str(number)])
+            written = answer.out, status_text(answer)
             if written != expected:
                 yield f"{written!r} instead of {expected!r}"
 
 
 def is_number(word):
-    return word.isdigit() and int(word) < 2**32
+    return re.fullmatch("[0-9]+", word) is not None and int(word) < 2**32
 
 
 def main(words):

@@ -15,10 +15,12 @@ needs a last transition without event and guard. A list or a junction leads to j
 nothing else is reached. Then two charts in five are changed, in one to four places, so that the faults 9 to 26 come
 about; a change may leave the chart valid. A few are damaged as texts. The items of a state are written in any order, with
 blanks and comments between the tokens, and with what may be written or left out."""
+import itertools
 import random
 import re
 import sys
 from collections import Counter
+from fractions import Fraction
 
 import chart_check as check
 import chart_rules as rules
@@ -26,6 +28,7 @@ import chart_syntax as syntax
 from chart_syntax import (WITH_HISTORY, WITHOUT_HISTORY, Active, Assign, Between, Datum, Emit, Event, Fault, First, Flag,
                           Guard, Junction, Name, Number, Read, Scale, Send, Sign, State, ToJunction, ToState, Transition,
                           line_of)
+from demands import demand
 
 STATE_NAMES = 'A B C D E P Q R'.split()
 JUNCTION_NAMES = 'j k l A'.split()
@@ -67,6 +70,7 @@ class Maker:
     # -- the tree
 
     def chart(self):
+        """The whole chart, as a tree."""
         self.root = self.state('Chart', None, 0)
         self.declarations()
         self.junctions()
@@ -111,6 +115,7 @@ class Maker:
             self.data.append(Datum('local', self.account, Scale('u', 32, 0), 'wrap', None))
 
     def datum(self, text):
+        """A datum with that name."""
         kind = self.choices.choice(['input', 'output', 'local', 'local'])
         if self.chance(0.2):
             first = None
@@ -134,7 +139,7 @@ class Maker:
         least, greatest = check.ends_of(scale)
         mantissa = self.choices.choice([least, greatest, 0, 1, self.choices.randint(least, greatest)])
         mantissa = min(mantissa, greatest)
-        text = rules.value_text(check.Fraction(abs(mantissa), 2 ** scale.fraction))
+        text = rules.value_text(Fraction(abs(mantissa), 2 ** scale.fraction))
         if len(text.replace('.', '')) > syntax.MOST_DIGITS:
             return None
         if self.chance(0.3):
@@ -185,6 +190,7 @@ class Maker:
     # -- what stands in a state
 
     def fill(self, state):
+        """Gives a state its lists and its blocks."""
         if state.composition() == 'or':
             length = self.choices.choice([1, 1, 1, 2, 3])
             allowed = self.allowed(state, 'default')
@@ -1076,7 +1082,7 @@ def input_text(choices, datum):
         return choices.choice(['true', 'false'])
     least, greatest = check.ends_of(datum.scale)
     mantissa = choices.choice([least, greatest, 0, 0, choices.randint(least, greatest), choices.randint(least, greatest)])
-    text = rules.value_text(check.Fraction(mantissa, 2 ** datum.scale.fraction))
+    text = rules.value_text(Fraction(mantissa, 2 ** datum.scale.fraction))
     return choices.choice([text, text, text, text + ('0' if '.' in text else '.0'), '-0' if mantissa == 0 else text])
 
 
@@ -1149,55 +1155,81 @@ def passes_met(text, language):
         return [(fault.offset, fault.number)]
 
 
+class Coverage:
+    """Counts what was met in charts and their runs: faults, pairs of faults of one pass, and cases of the rules."""
+
+    def __init__(self, language):
+        self.language = language
+        self.charts, self.statuses = Counter(), Counter()
+        self.met, self.runs = Counter(), Counter()           # by case: how often, and in how many runs
+        self.first, self.also = Counter(), Counter()         # by fault: told, and met behind one that is told
+        self.in_order, self.at_one_place = Counter(), Counter()     # by pairs of faults
+
+    def run(self, text, data, depth, steps):
+        """Counts what the run of an accepted chart meets."""
+        here = Counter()
+        answer = rules.run_rules(text, data.encode('latin-1'), depth, steps, self.language, here)
+        self.met.update(here)
+        self.runs.update(here.keys())
+        self.charts['accepted'] += 1
+        self.statuses[answer.status] += 1
+
+    def refused(self, text):
+        """Counts the faults of a chart that is refused."""
+        faults = passes_met(text, self.language)
+        self.charts['refused'] += 1
+        self.first[faults[0][1]] += 1
+        self.also.update(set(number for _, number in faults[1:]))
+        places = [(one, other) for one in faults for other in faults if one < other]
+        self.in_order.update(set((one[1], other[1]) for one, other in places if one[0] < other[0] and one[1] != other[1]))
+        self.at_one_place.update(set((one[1], other[1]) for one, other in places if one[0] == other[0]))
+
+    def print_faults(self):
+        print('\nfaults: how often told, and how often met behind a fault that is told')
+        for each in sorted(syntax.KINDS):
+            print('%8d %8d  %d %s' % (self.first[each], self.also[each], each, syntax.KINDS[each]))
+        print('\ntwo faults of one pass: how often with the one earlier in the text, with the other earlier, at one place')
+        for numbers in ([9, 10, 11], [12, 13, 14, 15, 16], [17, 18, 19, 20, 21, 22, 23, 26]):
+            for one, other in itertools.combinations(numbers, 2):
+                print('%8d %8d %8d  %d and %d' % (self.in_order[one, other], self.in_order[other, one],
+                                                  self.at_one_place[one, other], one, other))
+
+    def print_cases(self, title, cases):
+        print('\n' + title)
+        for each in cases:
+            print('%8d %8d  %s' % (self.runs[each], self.met[each], each))
+
+    def print_all(self):
+        print('%d charts, %d accepted' % (sum(self.charts.values()), self.charts['accepted']))
+        print('runs that end with status 0: %d, with 1 (a refused line): %d, with 3 (a fault): %d'
+              % tuple(self.statuses[status] for status in (0, 1, 3)))
+        self.print_faults()
+        self.print_cases('rules: in how many runs met, and how often', rules.CASES)
+        self.print_cases('rules: tests that never decide, since each follows work that was done under the same life',
+                         rules.NEVER_MET)
+
+
 def coverage(count, seed, language):
-    met, runs, first, also, in_order, at_one_place = Counter(), Counter(), Counter(), Counter(), Counter(), Counter()
-    accepted = 0
-    results = Counter()
+    """Writes what so many charts and their runs meet, all of which must be known."""
+    counts = Coverage(language)
     for place in range(count):
         text, chart, data, depth, steps = made_case(seed, place, language)
         if chart:
-            accepted += 1
-            here = Counter()
-            answer = rules.run_rules(text, data.encode('latin-1'), depth, steps, language, here)
-            met.update(here)
-            runs.update(here.keys())
-            results[answer.error.split(':')[0].split(' ')[0] + ' ' + str(answer.status)] += 1
+            counts.run(text, data, depth, steps)
         else:
-            faults = passes_met(text, language)
-            first[faults[0][1]] += 1
-            also.update(set(number for _, number in faults[1:]))
-            places = [(one, other) for one in faults for other in faults if one < other]
-            in_order.update(set((one[1], other[1]) for one, other in places if one[0] < other[0] and one[1] != other[1]))
-            at_one_place.update(set((one[1], other[1]) for one, other in places if one[0] == other[0]))
-    print('%d charts, %d accepted' % (count, accepted))
-    print('runs that end with status 0: %d, with 1 (a refused line): %d, with 3 (a fault): %d'
-          % tuple(sum(times for what, times in results.items() if what.endswith(status)) for status in '013'))
-    print('\nfaults: how often told, and how often met behind a fault that is told')
-    for each in sorted(syntax.KINDS):
-        print('%8d %8d  %d %s' % (first[each], also[each], each, syntax.KINDS[each]))
-    print('\ntwo faults of one pass: how often with the one earlier in the text, with the other earlier, at one place')
-    for numbers in ([9, 10, 11], [12, 13, 14, 15, 16], [17, 18, 19, 20, 21, 22, 23, 26]):
-        for one in numbers:
-            for other in numbers:
-                if one < other:
-                    print('%8d %8d %8d  %d and %d' % (in_order[one, other], in_order[other, one],
-                                                      at_one_place[one, other], one, other))
-    print('\nrules: in how many runs met, and how often')
-    for each in rules.CASES:
-        print('%8d %8d  %s' % (runs[each], met[each], each))
-    print('\nrules: tests that never decide, since each follows work that was done under the same life')
-    for each in rules.NEVER_MET:
-        print('%8d %8d  %s' % (runs[each], met[each], each))
-    unknown = set(met) - set(rules.CASES) - set(rules.NEVER_MET)
-    assert not unknown, unknown
+            counts.refused(text)
+    counts.print_all()
+    unknown = set(counts.met) - set(rules.CASES) - set(rules.NEVER_MET)
+    demand(not unknown, 'cases that the rules do not name: %s' % ', '.join(sorted(unknown)))
 
 
 def main(words):
+    """Does what the words ask for, and gives the status."""
     language = WITH_HISTORY
     if words[:1] == ['--without-history']:
         language = WITHOUT_HISTORY
         words = words[1:]
-    if len(words) not in (2, 3) or words[0] not in ('texts', 'runs', 'coverage') or not words[1].isdigit():
+    if len(words) not in (2, 3) or words[0] not in ('texts', 'runs', 'coverage') or not re.fullmatch('[0-9]+', words[1]):
         sys.stderr.write(__doc__ + '\n')
         return 2
     count, seed = int(words[1]), words[2] if len(words) == 3 else '1'

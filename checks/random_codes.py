@@ -6,14 +6,13 @@ r"""Random codes with event files, by a seed.
     python3 checks/random_codes.py --seed A --cases N --against PROGRAM     compares `exec` and `upgrade` of PROGRAM on each case
 
 Half of the cases are well-formed codes with good event files. The others are mutated: in the code, where one or more of the
-ten faults are planted at random places; in the text; or in the event file. One case of a thousand has 262,145 procedures,
-and another one of two thousand has 262,144. A case follows from the seed and its own number
-alone, so `--first M` begins with case M.
+ten faults are planted at random places; in the text; or in the event file. One case of two thousand has 262,145 procedures,
+and another one of these has 262,144. A case follows from the seed and its own number alone, so `--first M` begins with case M.
 
-Over every case it is asserted here that a text that is read prints as itself in its own format, that what it prints in
-format 2 is read as the same code, and what code_machine.py asserts of every event. What was met is written as lines of a
-count and a name: instructions, conditions and operators by their outcome, faults and refusals by where they stood, line
-faults, and results of events."""
+Over every case it is demanded here that a text that is read prints as itself in its own format, that what it prints in
+format 2 is read as the same code, and what code_machine.py demands of every event. A line is written where this isn't so. What
+was met is written as lines of a count and a name: instructions, conditions and operators by their outcome, faults and refusals
+by where they stood, line faults, and results of events."""
 import copy
 import random
 import re
@@ -27,12 +26,15 @@ import code_text as ct
 import declarations as de
 import event_files as ev
 import tables
+from demands import Wrong, demand
 from programs import parser
 
 MOST_MOVES = 20000          # for one event of a random code
 
 
 class Random(random.Random):
+    """Draws with likelihoods and with weights."""
+
     def chance(self, share):
         return self.random() < share
 
@@ -60,6 +62,7 @@ def fresh(rng, taken):
 
 
 def random_states(rng):
+    """States in a tree, each after its parent."""
     count = rng.choice([1, 2, 3, 3, 4, 5, 6, 7, 8, 10, 12, 20, 40])
     parents, way = [None], [0]
     deep = rng.random()
@@ -89,6 +92,7 @@ def near_an_end(rng, least, greatest):
 
 
 def random_declarations(rng):
+    """States, data and events."""
     taken, data, events = set(), [], []
     for _ in range(rng.choice([0, 1, 2, 3, 3, 4, 5, 6, 9])):
         kind = rng.choice(['input', 'output', 'local', 'local'])
@@ -178,6 +182,8 @@ CONDITIONS = {'on': 3, 'bare': 3, 'onhome': 2, 'barehome': 2, 'event': 4, 'resul
 
 
 class Maker:
+    """Makes a well-formed code, procedure by procedure."""
+
     def __init__(self, rng):
         self.rng = rng
         self.declared = random_declarations(rng)
@@ -201,6 +207,7 @@ class Maker:
         return self.rng.choice([0, 0, 1, 1, 2, 3, 4294967295])
 
     def condition(self):
+        """A condition that fits the declarations."""
         word = self.rng.most(CONDITIONS)
         if word in ('on', 'bare'):
             return word, self.state()
@@ -250,6 +257,7 @@ class Maker:
         return (word,)
 
     def proc(self, proc):
+        """The instructions of the procedure with this number."""
         rng, length = self.rng, self.rng.choice([1, 2, 2, 3, 4, 5, 6, 8, 10, 14])
         made = []
         while len(made) < length - 1:
@@ -286,6 +294,7 @@ class Maker:
         return made + [('ret', self.result())]
 
     def code(self):
+        """The whole code."""
         for proc in range(self.count):
             kind = self.rng.random()
             if 0.12 <= kind < 0.3:
@@ -410,25 +419,23 @@ def beyond(rng, count):
 
 
 def plant_number(rng, code):
+    """A number that names nothing, and now and then an operand of the wrong type with it."""
     d = code.declared
-    procs, states, data, events = len(code.procs), len(d.states), len(d.data), len(d.events)
-    kind = rng.randrange(19)
-    if kind == 0:
-        code.start = beyond(rng, procs)
-        return
-    if kind == 1:
-        code.react = beyond(rng, procs)
-        return
-    s, e, p, v = beyond(rng, states), beyond(rng, events), beyond(rng, procs), beyond(rng, data)
-    one = random_flag(rng, d, 2)
+    procs, events = len(code.procs), len(d.events)
+    s, e, p, v = beyond(rng, len(d.states)), beyond(rng, events), beyond(rng, procs), beyond(rng, len(d.data))
+    flag = random_flag(rng, d, 2)
     some_event = rng.randrange(max(1, events))
-    wrong = [('mark', s), ('clear', s), ('keep', s), ('home', s), ('unless', 0, ('on', s)), ('unless', 0, ('bare', s)),
-             ('unless', 0, ('last', s)), ('unless', 0, ('event', e)), ('emit', e), ('send', e), ('sendto', e, 0, 0),
-             ('sendto', some_event, s, 0), ('sendto', some_event, 0, p),
-             rng.choice([('call', p, None), ('call', 0, p)]), rng.choice([('visit', p, None), ('visit', 0, p)]),
-             ('set', v, one), rng.choice([('unless', 0, ('expr', ('==', one, ('in', s)))),
-                                          ('unless', 0, ('expr', ('<', ('d', v), one)))])]
-    insert(rng, code, wrong[kind - 2])
+    tests = [('on', s), ('bare', s), ('last', s), ('event', e),
+             ('expr', rng.choice([('==', flag, ('in', s)), ('<', ('d', v), flag)]))]
+    planted = rng.choice(['start', 'react', ('mark', s), ('clear', s), ('keep', s), ('home', s),
+                          *(('unless', 0, test) for test in tests), ('emit', e), ('send', e), ('sendto', e, 0, 0),
+                          ('sendto', some_event, s, 0), ('sendto', some_event, 0, p),
+                          rng.choice([('call', p, None), ('call', 0, p)]), rng.choice([('visit', p, None), ('visit', 0, p)]),
+                          ('set', v, flag)])
+    if planted in ('start', 'react'):
+        setattr(code, planted, beyond(rng, procs))
+    else:
+        insert(rng, code, planted)
 
 
 def plant_skip(rng, code):
@@ -447,6 +454,7 @@ def plant_call(rng, code):
 
 
 def plant_types(rng, code):
+    """An instruction whose types don't fit, or only just fit."""
     d = code.declared
     wrong = []
     for v, datum in enumerate(d.data):
@@ -481,46 +489,86 @@ def plant_no_ret(rng, code):
         code.procs[proc].append(rng.choice([('mark', 0), ('begin',), ('keep', 0), ('skip', 0), ('visit', 0, None)]))
 
 
-def plant_table(rng, code):
-    d = code.declared
-    kind = rng.randrange(12)
+def plant_parent(rng, d):
+    if len(d.states) == 1:
+        return False
+    s = rng.randrange(1, len(d.states))
+    d.states[s] = d.states[s]._replace(parent=rng.choice([s, s + 1, s - 1, rng.randrange(len(d.states)), 4294967295]))
+    return True
+
+
+def plant_composition(rng, d):
     s = rng.randrange(len(d.states))
-    if kind == 0 and s > 0:
-        d.states[s] = d.states[s]._replace(parent=rng.choice([s, s + 1, s - 1, rng.randrange(len(d.states)), 4294967295]))
-    elif kind == 1:
-        d.states[s] = d.states[s]._replace(comp=rng.choice(['leaf', 'or', 'and']))
-    elif kind == 2 and s > 0:
-        d.states[s] = d.states[s]._replace(name=rng.choice(d.states).name)
-    elif kind == 3:
-        del d.states[s:]
-    elif kind == 4 and d.data:
-        v = rng.randrange(len(d.data))
-        scale = d.data[v].scale
-        if scale is not None:
-            d.data[v] = d.data[v]._replace(init=rng.choice([scale.greatest + 1, scale.least - 1, 2 ** 64, -2 ** 64]))
-    elif kind in (5, 6) and d.data:
-        v = rng.randrange(len(d.data))
-        d.data[v] = d.data[v]._replace(name=rng.choice(d.data + d.events).name)
-    elif kind == 7 and d.events:
-        e = rng.randrange(len(d.events))
-        d.events[e] = d.events[e]._replace(name=rng.choice(d.events + d.data).name)
-    elif kind == 8:
-        deep = rng.choice([15, 16, 17])
-        way = 0
-        d.states[0] = d.states[0]._replace(comp='and')
-        for n in range(deep):
-            d.states.append(de.State(way, 'and' if n < deep - 1 else 'leaf', 'deep'))
-            way = len(d.states) - 1
-    elif kind == 9:
-        d.states[0] = d.states[0]._replace(comp='or')
-        for n in range(rng.choice([1024, 1025]) - len(d.states)):
-            d.states.append(de.State(0, 'leaf', 'many%d' % n))
-    elif kind == 10:
-        for n in range(rng.choice([1024, 1025]) - len(d.data)):
-            d.data.append(de.Datum('local', None, 'saturate', 0, 'many%d' % n))
-    else:
-        for n in range(rng.choice([1024, 1025]) - len(d.events)):
-            d.events.append(de.Event('local', 'many%d' % n))
+    d.states[s] = d.states[s]._replace(comp=rng.choice(['leaf', 'or', 'and']))
+    return True
+
+
+def plant_state_name(rng, d):
+    if len(d.states) == 1:
+        return False
+    s = rng.randrange(1, len(d.states))
+    d.states[s] = d.states[s]._replace(name=rng.choice(d.states).name)
+    return True
+
+
+def plant_fewer_states(rng, d):
+    del d.states[rng.randrange(len(d.states)):]
+    return True
+
+
+def plant_first_value(rng, d):
+    numbers = [v for v, datum in enumerate(d.data) if datum.scale is not None]
+    if not numbers:
+        return False
+    v = rng.choice(numbers)
+    scale = d.data[v].scale
+    d.data[v] = d.data[v]._replace(init=rng.choice([scale.greatest + 1, scale.least - 1, 2 ** 64, -2 ** 64]))
+    return True
+
+
+def plant_name(rng, d, named):
+    """One of these data or events has the name of a datum or an event, often its own."""
+    if not named:
+        return False
+    at = rng.randrange(len(named))
+    named[at] = named[at]._replace(name=rng.choice(d.data + d.events).name)
+    return True
+
+
+def plant_deep_states(rng, d):
+    """States as deep as they may be, or one deeper or less deep."""
+    deep = rng.choice([15, 16, 17])
+    way = 0
+    d.states[0] = d.states[0]._replace(comp='and')
+    for n in range(deep):
+        d.states.append(de.State(way, 'and' if n < deep - 1 else 'leaf', 'deep'))
+        way = len(d.states) - 1
+    return True
+
+
+def plant_many(rng, table, made):
+    """As many lines of a table as there may be, or one more."""
+    table += [made('many%d' % n) for n in range(rng.choice([1024, 1025]) - len(table))]
+    return True
+
+
+def plant_many_states(rng, d):
+    d.states[0] = d.states[0]._replace(comp='or')
+    return plant_many(rng, d.states, lambda name: de.State(0, 'leaf', name))
+
+
+# Each gives whether there was something to change.
+TABLE_PLANTS = [plant_parent, plant_composition, plant_state_name, plant_fewer_states, plant_first_value,
+                *[lambda rng, d: plant_name(rng, d, d.data)] * 2, lambda rng, d: plant_name(rng, d, d.events), plant_deep_states,
+                plant_many_states,
+                lambda rng, d: plant_many(rng, d.data, lambda name: de.Datum('local', None, 'saturate', 0, name)),
+                lambda rng, d: plant_many(rng, d.events, lambda name: de.Event('local', name))]
+
+
+def plant_table(rng, code):
+    """A table of declarations that doesn't fit, or only just fits. Of the ways that can be taken each is as likely."""
+    while not rng.choice(TABLE_PLANTS)(rng, code.declared):
+        pass
 
 
 def plant_keep(rng, code):
@@ -550,75 +598,130 @@ PLANTS = {plant_number: 10, plant_skip: 7, plant_call: 7, plant_types: 12, plant
 
 # ---- mutated texts
 
-def mutated_text(rng, text):
-    lines = text.split(b'\n')[:-1]
-    # Each word at the front of a line is hit as often as each other one.
+# Changes of a whole text
+
+def cut_text(rng, text):
+    return text[:rng.choice([rng.randrange(len(text) + 1), len(text) - 1, len(text) - 4, rng.randrange(12)])]
+
+
+def lengthened_text(rng, text):
+    return text + rng.choice([b'\n', b'end\n', b'x', b'\0', b' '])
+
+
+def put_byte(rng, text):
+    place = rng.randrange(len(text))
+    return text[:place] + bytes([rng.choice([rng.randrange(256), 32, 10, 48, 45])]) + text[place + rng.randrange(2):]
+
+
+def dropped_byte(rng, text):
+    place = rng.randrange(len(text))
+    return text[:place] + text[place + 1:]
+
+
+# Changes of the lines of a text, of which one is hit
+
+def other_version(rng, lines, _at):
+    lines[0] = rng.choice([b'flowcode 3', b'flowcode 0', b'flowcode', b'flowcode ', b'flowcode 1 ', b'flowcode 02', b'flow 1',
+                           b'flowcode 1\r', b'', b'flowcode -', b'flowcode 12'])
+
+
+def first_version(_rng, lines, _at):
+    lines[0] = b'flowcode 1'
+
+
+def doubled_line(_rng, lines, at):
+    lines.insert(at, lines[at])
+
+
+def dropped_line(_rng, lines, at):
+    del lines[at]
+
+
+def swapped_lines(rng, lines, at):
+    other = rng.randrange(len(lines))
+    lines[at], lines[other] = lines[other], lines[at]
+
+
+def odd_blanks(rng, lines, at):
+    line = lines[at]
+    lines[at] = rng.choice([line + b' ', b' ' + line, line + b'\r', line.replace(b' ', b'\t'), line.replace(b' ', b'  ')])
+
+
+def wrong_count(rng, lines, _at):
+    """A number that counts lines is one more or less, or at the limit of numbers."""
+    heads = (b'states', b'data', b'events', b'procs', b'p')
+    counting = [n for n, line in enumerate(lines) if re.match(b'(%s) [0-9]' % b'|'.join(heads), line)]
+    at = rng.choice(counting or [0])
+    fields = lines[at].split(b' ')
+    count = int(fields[1]) if counting else 0
+    fields[1:2] = [b'%d' % rng.choice([count + 1, max(0, count - 1), 2 ** 32 - 1, 2 ** 32])]
+    lines[at] = b' '.join(fields)
+
+
+def long_expression(rng, lines, at):
+    """An expression with about as many operators as there may be, and now and then with a literal at its limits."""
+    rest = [b'T', b'F', b'== #%d:32 #0:0' % ct.MOST_MANTISSA, b'== #%d:0 #0:0' % (ct.MOST_MANTISSA + 1), b'== #0:33 #0:0']
+    lines.insert(at, b'unless 0 expr ' + b'! ' * rng.choice([63, 64, 65]) + rng.choice(rest))
+    heads = [n for n in range(at) if re.fullmatch(b'p [0-9]+', lines[n])]
+    if heads:
+        lines[heads[-1]] = b'p %d' % (int(lines[heads[-1]][2:]) + 1)
+
+
+# Changes of the fields of a line, of which one is hit
+
+def other_field(rng, fields, at):
+    fields[at] = rng.choice([b'', b'0', b'-', b'00', b'4294967295', b'4294967296', b'-0', b'+1', b'x', b'true'])
+
+
+def misspelled_field(_rng, fields, at):
+    fields[at] = b'0' + fields[at] if fields[at].isdigit() else fields[at].upper()
+
+
+def field_more(rng, fields, at):
+    fields.insert(rng.choice([at, len(fields)]), rng.choice([b'', b'0', b'-', b'T']))
+
+
+def field_less(_rng, fields, at):
+    del fields[at]
+
+
+def other_declaration(rng, fields, at):
+    """The name, the scale or the first value of a declaration is one at the limits or past them."""
+    if at == len(fields) - 1 and fields[0] in (b's', b'd', b'e'):
+        fields[at] = rng.choice([b'tick', b'_a', b'1a', b'history', b'a' * 63, b'a' * 64, b'a-b', b'caf\xe9', b'or'])
+    elif fields[0] == b'd' and at == 2:
+        fields[at] = rng.choice([b'sfix8', b'int8', b'sfix65_En0', b'ufix64_En33', b'sfix8_En9', b'ufix0_En0', b'sfix08_En0',
+                                 b'sfix8_En00', b'bool', b'sfix8_En8', b'ufix1_En1', b'sfix64_En32', b'sfix8_en0'])
+    elif fields[0] == b'd' and at == 4:
+        fields[at] = rng.choice([b'%d' % 2 ** 64, b'%d' % (2 ** 64 + 1), b'-%d' % (2 ** 64 + 1), b'-0', b'00'])
+
+
+TEXT_CHANGES = [cut_text, lengthened_text, put_byte, dropped_byte]
+LINE_CHANGES = [other_version, first_version, doubled_line, dropped_line, swapped_lines, odd_blanks, wrong_count, long_expression]
+FIELD_CHANGES = [other_field, misspelled_field, field_more, field_less, other_declaration]
+
+
+def line_to_hit(rng, lines):
+    """The number of a line. Each word at the front of a line is hit as often as each other one."""
     words = {}
     for n, line in enumerate(lines):
         words.setdefault(line.split(b' ')[0], []).append(n)
     bare = [word for word in words if word in (b'begin', b'pass', b'play')]
-    at = rng.choice(words[rng.choice(bare if bare and rng.chance(0.1) else list(words))])
-    fields = lines[at].split(b' ')
-    field = rng.randrange(len(fields))
-    kind = rng.randrange(17)
-    if kind == 0:
-        return text[:rng.choice([rng.randrange(len(text) + 1), len(text) - 1, len(text) - 4, rng.randrange(12)])]
-    if kind == 1:
-        return text + rng.choice([b'\n', b'end\n', b'x', b'\0', b' '])
-    if kind == 2:
-        lines[0] = rng.choice([b'flowcode 3', b'flowcode 0', b'flowcode', b'flowcode ', b'flowcode 1 ', b'flowcode 02',
-                               b'flow 1', b'flowcode 1\r', b'', b'flowcode -', b'flowcode 12'])
-    elif kind == 3:
-        place = rng.randrange(len(text))
-        return text[:place] + bytes([rng.choice([rng.randrange(256), 32, 10, 48, 45])]) + text[place + rng.randrange(2):]
-    elif kind == 4:
-        place = rng.randrange(len(text))
-        return text[:place] + text[place + 1:]
-    elif kind == 5:
-        lines.insert(at, lines[at])
-    elif kind == 6:
-        del lines[at]
-    elif kind == 7:
-        other = rng.randrange(len(lines))
-        lines[at], lines[other] = lines[other], lines[at]
-    elif kind == 8:
-        fields[field] = rng.choice([b'', b'0', b'-', b'00', b'4294967295', b'4294967296', b'-0', b'+1', b'x', b'true'])
-    elif kind == 9:
-        fields[field] = b'0' + fields[field] if fields[field].isdigit() else fields[field].upper()
-    elif kind == 10:
-        fields.insert(rng.choice([field, len(fields)]), rng.choice([b'', b'0', b'-', b'T']))
-    elif kind == 11:
-        del fields[field]
-    elif kind == 12:
-        lines[at] = rng.choice([lines[at] + b' ', b' ' + lines[at], lines[at] + b'\r', lines[at].replace(b' ', b'\t'),
-                                lines[at].replace(b' ', b'  ')])
-    elif kind == 13:
-        lines[0] = b'flowcode 1'
-    elif kind == 14:
-        if field == len(fields) - 1 and fields[0] in (b's', b'd', b'e'):
-            fields[field] = rng.choice([b'tick', b'_a', b'1a', b'history', b'a' * 63, b'a' * 64, b'a-b', b'caf\xe9', b'or'])
-        elif fields[0] == b'd' and field == 2:
-            fields[field] = rng.choice([b'sfix8', b'int8', b'sfix65_En0', b'ufix64_En33', b'sfix8_En9', b'ufix0_En0',
-                                        b'sfix08_En0', b'sfix8_En00', b'bool', b'sfix8_En8', b'ufix1_En1', b'sfix64_En32',
-                                        b'sfix8_en0'])
-        elif fields[0] == b'd' and field == 4:
-            fields[field] = rng.choice([b'%d' % 2 ** 64, b'%d' % (2 ** 64 + 1), b'-%d' % (2 ** 64 + 1), b'-0', b'00'])
-    elif kind == 15:
-        # A number that counts lines, or a literal at its limits.
-        heads = (b'states', b'data', b'events', b'procs', b'p')
-        told = [n for n, line in enumerate(lines) if re.match(b'(%s) [0-9]' % b'|'.join(heads), line)]
-        at = rng.choice(told or [0])
-        fields = lines[at].split(b' ')
-        told = int(fields[1]) if told else 0
-        fields[1:2] = [b'%d' % rng.choice([told + 1, max(0, told - 1), 2 ** 32 - 1, 2 ** 32])]
+    return rng.choice(words[rng.choice(bare if bare and rng.chance(0.1) else list(words))])
+
+
+def mutated_text(rng, text):
+    """The text with one change."""
+    change = rng.choice(TEXT_CHANGES + LINE_CHANGES + FIELD_CHANGES)
+    if change in TEXT_CHANGES:
+        return change(rng, text)
+    lines = text.split(b'\n')[:-1]
+    at = line_to_hit(rng, lines)
+    if change in LINE_CHANGES:
+        change(rng, lines, at)
     else:
-        many = rng.choice([63, 64, 65])
-        rest = [b'T', b'F', b'== #%d:32 #0:0' % ct.MOST_MANTISSA, b'== #%d:0 #0:0' % (2 ** 99), b'== #0:33 #0:0']
-        lines.insert(at, b'unless 0 expr ' + b'! ' * many + rng.choice(rest))
-        heads = [n for n in range(at) if re.fullmatch(b'p [0-9]+', lines[n])]
-        if heads:
-            lines[heads[-1]] = b'p %d' % (int(lines[heads[-1]][2:]) + 1)
-    if kind in (8, 9, 10, 11, 14, 15):
+        fields = lines[at].split(b' ')
+        change(rng, fields, rng.randrange(len(fields)))
         lines[at] = b' '.join(fields)
     return b'\n'.join(lines) + b'\n'
 
@@ -626,6 +729,8 @@ def mutated_text(rng, text):
 # ---- cases
 
 class Case:
+    """A code text with an event file and bounds, and which of them may have a fault."""
+
     def __init__(self, seed, number):
         rng = self.rng = Random('%s %d' % (seed, number))
         self.number = number
@@ -638,12 +743,7 @@ class Case:
                      else 'events mutated' if kind < 0.82 else 'text mutated')
         self.events = random_events(rng, code.declared, self.kind == 'events mutated')
         if self.kind == 'code mutated':
-            code = copy.deepcopy(code)
-            for _ in range(rng.choice([1, 1, 1, 2, 2, 3])):
-                if code.declared.states:
-                    rng.most(PLANTS)(rng, code)
-            if procs:
-                code.procs += [[('ret', 0)]] * (procs - len(code.procs))
+            code = mutated_code(rng, code, procs)
         old = all('keep' != i[0] and not (i[0] == 'unless' and i[2][0] == 'last') for p in code.procs for i in p)
         self.text = ct.print_code(code, 1 if old and rng.chance(0.5) else 2)
         if self.kind == 'text mutated':
@@ -661,6 +761,17 @@ class Case:
         return lines
 
 
+def mutated_code(rng, code, procs):
+    """The code with a few faults, and with so many procedures where a number is said."""
+    code = copy.deepcopy(code)
+    for _ in range(rng.choice([1, 1, 1, 2, 2, 3])):
+        if code.declared.states:
+            rng.most(PLANTS)(rng, code)
+    if procs:
+        code.procs += [[('ret', 0)]] * (procs - len(code.procs))
+    return code
+
+
 def place_of(fault):
     if fault.proc == 0:
         return 'at 0.0' if fault.place == 0 else 'later in procedure 0'
@@ -672,27 +783,33 @@ def kind_of_line(text, number):
     return word if word in ('s', 'd', 'e', 'p', 'states', 'data', 'events', 'procs', 'end', *ct.INSTRUCTIONS) else 'other'
 
 
-def examine(case, met):
-    """Runs a case, asserts what must hold, and counts what was met."""
-    met['case ' + case.kind] += 1
+def demand_prints(text):
+    """A text that can be read must print as itself."""
     try:
-        raw = ct.read_text(case.text)
+        raw = ct.read_text(text)
     except ct.Refused:
-        raw = None
-    if raw is not None:
-        format_of_text = int(case.text[9:10])
-        assert ct.print_code(raw, format_of_text) == case.text, 'the text prints as another one'
-        assert ct.read_text(ct.print_code(raw)) == raw, 'the printed text is read as another code'
+        return
+    demand(ct.print_code(raw, int(text[9:10])) == text, 'the text prints as another one')
+    demand(ct.read_text(ct.print_code(raw)) == raw, 'the printed text is read as another code')
+
+
+def refusal_name(case, refused):
+    if refused.kind == 6:
+        return 'fault %2d %s %s' % (refused.form.number, ca.KINDS[refused.form.number], place_of(refused.form))
+    if refused.kind == 1:
+        where = ' at line 1' if refused.line == 1 else ' in a line of the word ' + kind_of_line(case.text, refused.line)
+        return 'refusal 1 BadLine' + where
+    return 'refusal %d %s' % (refused.kind, ct.KINDS[refused.kind])
+
+
+def examine(case, met):
+    """Runs a case, demands what must hold, and counts what was met."""
+    met['case ' + case.kind] += 1
+    demand_prints(case.text)
     try:
         code, height, work = ct.read_code(case.text)
     except ct.Refused as refused:
-        if refused.kind == 6:
-            met['fault %2d %s %s' % (refused.form.number, ca.KINDS[refused.form.number], place_of(refused.form))] += 1
-        elif refused.kind == 1:
-            first = ' at line 1' if refused.line == 1 else ' in a line of the word ' + kind_of_line(case.text, refused.line)
-            met['refusal 1 BadLine' + first] += 1
-        else:
-            met['refusal %d %s' % (refused.kind, ct.KINDS[refused.kind])] += 1
+        met[refusal_name(case, refused)] += 1
         return
     case.steps = max(1, min(case.steps, MOST_MOVES // (work + 1)))
     run = cm.Run(code, height, work, case.depth, case.steps)
@@ -728,7 +845,27 @@ EXPECTED = (['instruction ' + word for word in ct.INSTRUCTIONS]
             + ['status %d' % n for n in (0, 1, 3)])
 
 
+def wrong_lines(case, met, program):
+    """What is wrong of a case, alone and, where one is given, with a program."""
+    name = 'case_%d' % case.number
+    try:
+        examine(case, met)
+        if program:
+            return cm.compare(name, program, case.text, case.events, case.depth, case.steps)
+    except Wrong as wrong:
+        return ['%s: %s' % (name, wrong)]
+    return []
+
+
+def print_met(met, cases):
+    for name in sorted(set(met) | set(EXPECTED)):
+        print('%9d  %s' % (met[name], name))
+    missing = [name for name in EXPECTED if not met[name]]
+    print('%d cases, %d of %d kinds not met' % (cases, len(missing), len(EXPECTED)))
+
+
 def main(words):
+    """Does what the words ask for, and gives the status."""
     reader = parser(__doc__)
     reader.add_argument('--seed', default='1')
     reader.add_argument('--cases', type=int, default=1000)
@@ -741,19 +878,15 @@ def main(words):
     wrong = 0
     for number in range(options.first, options.first + options.cases):
         case = Case(options.seed, number)
-        examine(case, met)
+        lines = wrong_lines(case, met, options.against)
+        wrong += bool(lines)
         if options.table:
+            sys.stderr.writelines(line + '\n' for line in lines)
             print('\n'.join(case.table()))
-        elif options.against:
-            lines = cm.compare('case_%d' % number, options.against, case.text, case.events, case.depth, case.steps)
-            if lines:
-                wrong += 1
-                print('\n'.join(lines + (case.table() if len(case.text) < 20000 else ['(the text is long)'])))
+        elif lines:
+            print('\n'.join(lines + (case.table() if len(case.text) < 20000 else ['(the text is long)'])))
     if not options.table:
-        for name in sorted(set(met) | set(EXPECTED)):
-            print('%9d  %s' % (met[name], name))
-        missing = [name for name in EXPECTED if not met[name]]
-        print('%d cases, %d of %d kinds not met' % (options.cases, len(missing), len(EXPECTED)))
+        print_met(met, options.cases)
     return 1 if wrong else 0
 
 

@@ -3,13 +3,14 @@ r"""Compares the commands of a built program with each other on random charts an
 
     python3 checks/random_compiled.py --seed S --cases N --against PROGRAM [--files K] [--plain] [--first M] [--keep FOLDER]
 
-A case is an accepted chart with an event file and bounds, which are the usual ones in half of the cases. `rules CHART EVENTS`,
-`run CHART EVENTS`, and `exec CODE EVENTS` with the CODE that `compile CHART` writes must give the same status, standard output
-and standard error. `upgrade CODE` must write CODE. A status that none of these commands has, such as that of a killed process,
-is a difference too, and so is a command that doesn't end in time. Where a chart is refused, `check`, `rules`, `run` and
-`compile` must tell the fault that chart_check.py tells. For one chart in twenty its text is read by chart_syntax.py, the code is
-also read and printed by code_text.py, and the traces are compared with those of code_machine.py, which runs the code, and of chart_rules.py, which runs
-the chart. With `--plain` the charts have neither junctions nor sends, which are taken out of those that were made.
+A case is an accepted chart with an event file and bounds, which are the usual ones in half of the cases. `rules CHART
+EVENTS`, `run CHART EVENTS`, and `exec CODE EVENTS` with the CODE that `compile CHART` writes must give the same status,
+standard output and standard error. `upgrade CODE` must write CODE. A status that none of these commands has, such as that of
+a killed process, is a difference too, and so is a command that doesn't end in time. Where a chart is refused, `check`,
+`rules`, `run` and `compile` must tell the fault that chart_check.py tells. For one chart in twenty its text is read by
+chart_syntax.py, the code is also read and printed by code_text.py, and the traces are compared with those of
+code_machine.py, which runs the code, and of chart_rules.py, which runs the chart. With `--plain` the charts have neither
+junctions nor sends, which are taken out of those that were made.
 
 A chart has K event files, 4 where nothing is said, or fewer where its start ends with a fault. Charts are made by
 random_charts.py; one in ten is changed, so that it is mostly refused. A chart, its event files and the bounds follow from the
@@ -19,7 +20,6 @@ The program ends with status 1 where anything differs. It writes a line for each
 which is `differences` where nothing is said, and writes how many of the charts and cases had what."""
 import os
 import random
-import subprocess
 import sys
 import tempfile
 from collections import Counter
@@ -30,7 +30,7 @@ import chart_syntax as syntax
 import code_machine
 import code_text
 import random_charts
-from programs import differences, parser, print_counts
+from programs import Ended, differences, ended, parser, print_counts, status_text
 
 USUAL_FILES = 4
 USUAL_BOUNDS = (rules.USUAL_DEPTH, rules.USUAL_STEPS)
@@ -51,13 +51,9 @@ class Program:
             file.write(content)
 
     def run(self, command, *names, options=()):
-        """Standard output, standard error and status."""
+        """How a command on these files ends."""
         words = [self.path, command, *options, *(os.path.join(self.folder, name) for name in names)]
-        try:
-            done = subprocess.run(words, stdin=subprocess.DEVNULL, capture_output=True, timeout=LONGEST, close_fds=False)
-        except subprocess.TimeoutExpired:
-            return '', '', 'no end in %d seconds' % LONGEST
-        return done.stdout.decode('latin-1'), done.stderr.decode('latin-1'), done.returncode
+        return ended(words, LONGEST, close_fds=False)
 
 
 # ---- what a chart has
@@ -150,6 +146,8 @@ def bounds_of(choices):
 # ---- one chart
 
 class Comparison:
+    """Compares charts and their cases, and counts what was met. The files of a difference are kept in the folder `keep`."""
+
     def __init__(self, program, seed, files, keep, plain=False):
         self.program, self.seed, self.files, self.keep, self.plain = program, seed, files, keep, plain
         self.charts, self.cases, self.met = Counter(), Counter(), Counter()
@@ -195,68 +193,68 @@ class Comparison:
     def refused(self, number, text, fault):
         self.charts['refused'] += 1
         self.program.write('events', b'tick\n')
-        expected = '', fault.written(text) + '\n', 1
+        expected = Ended('', fault.written(text) + '\n', 1)
         for command, *more in (('check',), ('compile',), ('rules', 'events'), ('run', 'events')):
             name = 'chart %d %s' % (number, command)
             self.differ(name, differences(name, expected, self.program.run(command, 'chart', *more)),
                         chart=text.encode('latin-1'))
 
     def accepted(self, number, text, chart, choices, most):
+        """Compares the cases of an accepted chart, and gives how many there were."""
         self.charts['accepted'] += 1
         self.charts.update(features_of(chart))
         data = text.encode('latin-1')
-        code, error, status = self.program.run('compile', 'chart')
+        compiled = self.program.run('compile', 'chart')
+        expected = Ended(compiled.out, '', 0)
         name = 'chart %d' % number
-        self.differ(name, differences(name + ' compile', (code, '', 0), (code, error, status)), chart=data)
-        code = code.encode('latin-1')
+        self.differ(name, differences(name + ' compile', expected, compiled), chart=data)
+        code = compiled.out.encode('latin-1')
         self.program.write('code', code)
-        self.differ(name, differences(name + ' upgrade', (code.decode('latin-1'), '', 0), self.program.run('upgrade', 'code')),
-                    chart=data, code=code)
+        self.differ(name, differences(name + ' upgrade', expected, self.program.run('upgrade', 'code')), chart=data, code=code)
         with_references = number % ONE_IN == 0
         if with_references:
-            self.differ(name, differences(name + ' code_text.py', (code.decode('latin-1'), '', 0), code_text.upgrade(code)),
-                        chart=data, code=code)
+            self.differ(name, differences(name + ' code_text.py', expected, code_text.upgrade(code)), chart=data, code=code)
         for file in range(min(most, self.files)):
             events = random_charts.event_file(choices, chart).encode('latin-1')
             bounds = bounds_of(choices)
-            answer = self.case('%s file %d' % (name, file), text, code, events, bounds, with_references)
-            if answer.startswith('0 ') and bounds == USUAL_BOUNDS:
+            stopped = self.case('%s file %d' % (name, file), text, code, events, bounds, with_references)
+            if stopped and bounds == USUAL_BOUNDS:
                 return file + 1
         return min(most, self.files)
 
     def case(self, name, text, code, events, bounds, with_references):
-        """Compares one case, and gives the line on standard error."""
+        """Compares one case, and gives whether the start ended with a fault."""
         self.program.write('events', events)
         options = [] if bounds == USUAL_BOUNDS else ['--depth', str(bounds[0]), '--steps', str(bounds[1])]
         expected = self.program.run('rules', 'chart', 'events', options=options)
         lines = []
-        if expected[2] not in RAN:
-            lines.append('%s rules: status %s' % (name, expected[2]))
+        if expected.status not in RAN:
+            lines.append('%s rules: %s' % (name, status_text(expected)))
         lines += differences(name + ' run', expected, self.program.run('run', 'chart', 'events', options=options))
         lines += differences(name + ' exec', expected, self.program.run('exec', 'code', 'events', options=options))
         if with_references:
             self.cases['compared with chart_rules.py and code_machine.py'] += 1
             told = rules.run_rules(text, events, *bounds, met=self.met)
-            lines += differences(name + ' chart_rules.py', expected, (told.out, told.error, told.status))
-            lines += differences(name + ' code_machine.py', expected, code_machine.execute(code, events, *bounds)[:3])
+            lines += differences(name + ' chart_rules.py', expected, told)
+            lines += differences(name + ' code_machine.py', expected, code_machine.execute(code, events, *bounds)[0])
         self.cases['with the usual bounds'] += bounds == USUAL_BOUNDS
         self.differ('%s %d %d' % (name, *bounds), lines, chart=text.encode('latin-1'), code=code, events=events)
         return self.count(expected)
 
     def count(self, answer):
-        """Counts how a run ended, and gives its line on standard error behind the first word."""
-        out, error, status = answer
+        """Counts how a run ended, and gives whether its start ended with a fault."""
         self.cases['all'] += 1
-        self.cases['events'] += max(0, out.count('\n') - 1)
-        where, _, what = error.rstrip('\n').partition(': ')
-        if status == 0:
+        self.cases['events'] += max(0, answer.out.count('\n') - 1)
+        where, _, what = answer.error.rstrip('\n').partition(': ')
+        stopped = answer.status == 3 and where == 'run 0'
+        if answer.status == 0:
             self.cases['ends with the file'] += 1
-        elif status == 1:
+        elif answer.status == 1:
             self.cases['ends with a refused line: ' + what] += 1
-        elif status == 3:
-            place = 'the start' if where == 'run 0' else 'an event'
+        elif answer.status == 3:
+            place = 'the start' if stopped else 'an event'
             self.cases['ends with the fault %s at %s' % (what.split(' ')[0], place)] += 1
-        return where.partition(' ')[2] + ' ' + what
+        return stopped
 
     def print_counts(self):
         print_counts('charts', self.charts)
@@ -268,6 +266,7 @@ class Comparison:
 
 
 def main(words):
+    """Compares cases until there are enough, and gives the status."""
     reader = parser(__doc__)
     reader.add_argument('--against', metavar='PROGRAM', required=True)
     reader.add_argument('--seed', default='1')

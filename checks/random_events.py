@@ -52,6 +52,7 @@ def random_states(rng):
 
 
 def random_declarations(rng):
+    """States, data and events."""
     names = rng.sample(NAMES, rng.randint(0, 12))
     data, events = [], []
     for name in names:
@@ -85,6 +86,7 @@ def padded(rng, text):
 
 
 def number_text(rng, scale):
+    """A number near those of the scale."""
     mantissa = random_mantissa(rng, scale)
     near = rng.random()
     if near < 0.03:
@@ -116,6 +118,7 @@ def value_text(rng, datum):
 # ---- lines
 
 def event_line(rng, declared):
+    """A line that is mostly an event with values of inputs."""
     events = [e.name for e in declared.events if e.kind == 'input'] + ['tick']
     inputs = [d for d in declared.data if d.kind == 'input']
     if rng.random() < 0.02:
@@ -199,8 +202,9 @@ def random_world(rng, declared):
     result = rng.choice(['ok', 'ok', 'depth', 'steps', 'zero'] + ['overflow:%d' % v for v in range(len(declared.data))])
     outputs = [rng.randrange(len(declared.events)) for _ in range(rng.choice([0, 1, 2, 5]))] if declared.events else []
     index = rng.choice([0, 1, 2, 9, 10, 20])
+    states = listed(active_states(rng, declared.states))
     values = listed([datum.init for datum in declared.data])
-    return 'world %d %s %s %s %s %s' % (index, event, result, listed(active_states(rng, declared.states)), values, listed(outputs))
+    return 'world %d %s %s %s %s %s' % (index, event, result, states, values, listed(outputs))
 
 
 def random_block(seed, number):

@@ -5,23 +5,25 @@ r"""Answers tables by the built program, in the form in which chart_check.py and
     python3 checks/run_program.py PROGRAM rules < runs | diff - answers
     python3 checks/run_program.py PROGRAM compiled < runs
     python3 checks/run_program.py PROGRAM docs PAGE..
-    python3 checks/run_program.py PROGRAM traces FOLDER
+    python3 checks/run_program.py PROGRAM traces FOLDER..
 
 `check` runs `PROGRAM check` on each text and prints its one line, from standard output or standard error. `rules`
 runs `PROGRAM rules` on each run of the table, whose first field has the bounds, depth and steps, or `-` for the usual
 ones, and prints status, standard output and standard error. `compiled` runs `PROGRAM rules`, `PROGRAM run`, and
 `PROGRAM exec` on the code that `PROGRAM compile` writes, on each run of the table, and prints those whose answers
 differ. `docs` takes the rows `| TEXT | LINE |` of a page, in which both stand between backquotes and LINE is a
-refusal of `check`, and prints each row that the program answers otherwise. `traces` takes the files NAME.chart,
-NAME.events and NAME.trace of a folder and prints the names of those of which `rules` or `run` writes another trace.
-Both end with status 1 where anything was printed."""
+refusal of `check`, and prints each row that the program answers otherwise, and each page without such a row. `traces`
+takes the files NAME.chart, NAME.events and NAME.trace of a folder and prints the names of those of which `rules` or
+`run` writes another trace, and each folder without a chart. These three end with status 1 where anything was printed."""
 import os
 import re
-import subprocess
 import sys
 import tempfile
 
 import tables
+from programs import ended, status_text
+
+OF_TABLES, OF_NAMES = ('check', 'rules', 'compiled'), ('docs', 'traces')     # the words alone, and those before names
 
 
 def line_of(text):
@@ -30,21 +32,25 @@ def line_of(text):
 
 class Program:
     """The program, with two files that its words name."""
+
     def __init__(self, path, folder):
         self.path = os.path.abspath(path)
         self.files = [os.path.join(folder, name) for name in ('chart', 'events')]
 
     def run(self, command, *contents, options=()):
+        """How a command on files with these contents ends."""
         names = self.files[:len(contents)]
         for name, content in zip(names, contents):
             with open(name, 'wb') as file:
                 file.write(content)
-        return subprocess.run([self.path, command, *options, *names], capture_output=True)
+        return ended([self.path, command, *options, *names])
 
 
 def check_answer(program, text):
     ran = program.run('check', text)
-    return (ran.stdout + ran.stderr).decode('latin-1').rstrip('\n')
+    if ran.status not in (0, 1):
+        return status_text(ran)
+    return (ran.out + ran.error).rstrip('\n')
 
 
 def options_of(bounds):
@@ -55,8 +61,8 @@ def options_of(bounds):
 
 
 def answer_of(ran):
-    out, error = (line_of(part.decode('latin-1')) for part in (ran.stdout, ran.stderr))
-    return '%d\t%s\t%s' % (ran.returncode, out, error)
+    status = status_text(ran) if ran.timed_out else ran.status
+    return '%s\t%s\t%s' % (status, line_of(ran.out), line_of(ran.error))
 
 
 def rules_answer(program, bounds, text, events):
@@ -68,8 +74,8 @@ def compiled_answers(program, bounds, text, events):
     options = options_of(bounds)
     yield answer_of(program.run('run', text, events, options=options))
     compiled = program.run('compile', text)
-    if compiled.returncode == 0:
-        yield answer_of(program.run('exec', compiled.stdout, events, options=options))
+    if compiled.status == 0:
+        yield answer_of(program.run('exec', compiled.out.encode('latin-1'), events, options=options))
     else:
         yield answer_of(compiled)
 
@@ -92,41 +98,62 @@ def doc_rows(page):
 
 def wrong_docs(program, pages):
     for page in pages:
-        for text, line in doc_rows(page):
+        rows = list(doc_rows(page))
+        if not rows:
+            yield page + ': no row with an example'
+        for text, line in rows:
             answer = check_answer(program, text.encode())
             if answer != line:
                 yield '%s: %s: %s instead of %s' % (page, text, answer, line)
 
 
+def contents(path):
+    with open(path, 'rb') as file:
+        return file.read()
+
+
 def wrong_traces(program, folder):
-    for name in sorted(os.listdir(folder)):
-        stem, end = os.path.splitext(os.path.join(folder, name))
-        if end == '.chart':
-            chart, events, trace = (open(stem + kind, 'rb').read() for kind in ('.chart', '.events', '.trace'))
-            for command in ('rules', 'run'):
-                if program.run(command, chart, events).stdout != trace:
-                    yield stem + ': ' + command
+    stems = [os.path.join(folder, name[:-len('.chart')]) for name in sorted(os.listdir(folder)) if name.endswith('.chart')]
+    if not stems:
+        yield folder + ': no chart'
+    for stem in stems:
+        chart, events, trace = (contents(stem + kind) for kind in ('.chart', '.events', '.trace'))
+        for command in ('rules', 'run'):
+            if program.run(command, chart, events).out != trace.decode('latin-1'):
+                yield stem + ': ' + command
+
+
+def table_fields():
+    """The fields of each line of the table on standard input."""
+    return (line.split('\t') for line in tables.lines_of(sys.stdin.buffer))
+
+
+def print_answers(program, command):
+    """Writes the answer to each line of a table."""
+    for fields in table_fields():
+        if command == 'check':
+            print(check_answer(program, tables.unescaped(fields[0])))
+        else:
+            print(rules_answer(program, fields[0], tables.unescaped(fields[1]), tables.unescaped(fields[2])))
 
 
 def main(words):
-    if len(words) < 2 or words[1] not in ('check', 'rules', 'compiled', 'docs', 'traces'):
+    """Does what the words ask for, and gives the status."""
+    names = words[2:]
+    if len(words) < 2 or words[1] not in (OF_NAMES if names else OF_TABLES):
         sys.stderr.write(__doc__ + '\n')
         return 2
     with tempfile.TemporaryDirectory() as folder:
         program = Program(words[0], folder)
-        wrong = []
-        for line in sys.stdin if words[1] in ('check', 'rules') else []:
-            fields = line.rstrip('\n').split('\t')
-            if words[1] == 'check':
-                print(check_answer(program, tables.unescaped(fields[0])))
-            else:
-                print(rules_answer(program, fields[0], tables.unescaped(fields[1]), tables.unescaped(fields[2])))
+        if words[1] in ('check', 'rules'):
+            print_answers(program, words[1])
+            return 0
         if words[1] == 'compiled':
-            wrong = list(wrong_compiled(program, (line.rstrip('\n').split('\t') for line in sys.stdin)))
-        if words[1] == 'docs':
-            wrong = list(wrong_docs(program, words[2:]))
-        if words[1] == 'traces':
-            wrong = [name for folder in words[2:] for name in wrong_traces(program, folder)]
+            wrong = list(wrong_compiled(program, table_fields()))
+        elif words[1] == 'docs':
+            wrong = list(wrong_docs(program, names))
+        else:
+            wrong = [line for name in names for line in wrong_traces(program, name)]
         for line in wrong:
             print(line)
         return 1 if wrong else 0

@@ -28,14 +28,14 @@ A line is written for each difference, whose files are kept in FOLDER, and at th
 differed."""
 import os
 import random
+import re
 import resource
-import signal
 import subprocess
 import sys
 import tempfile
-import threading
 import time
 from collections import Counter
+from typing import NamedTuple
 
 import answers
 import chart_check as check
@@ -47,12 +47,14 @@ import code_text as ct
 import random_charts
 import random_codes
 import random_compiled
-from programs import differences, parser, print_counts
+from demands import Wrong
+from programs import Ended, differences, parser, print_counts, waited
 
 KINDS = {'chart': 6, 'code': 4, 'hostile chart': 4, 'hostile code': 3, 'hostile events': 3, 'words': 3}
 ONE_IN = 10
 MIB = 1 << 20
 CHART_HEIGHT = 87
+LAST_READER_FAULT = 8       # the faults up to this one are those of `fmt` too
 ODD_BYTES = b'\0\n\r\t #/{}[]()@=-+*<>!&|;:,.q\x7f\x80\xff09azAZ_'
 
 
@@ -89,7 +91,7 @@ class Measured(random_compiled.Program):
         return self.call(words, memory, command)
 
     def call(self, words, memory, command):
-        """Standard output, standard error and status of a call. `command` is None where the words ask for none."""
+        """How a call ends. `command` is None where the words ask for none."""
         def limit():
             resource.setrlimit(resource.RLIMIT_CPU, (self.longest, self.longest + 1))
             if memory is not None:
@@ -99,22 +101,19 @@ class Measured(random_compiled.Program):
         with open(names[0], 'wb') as out, open(names[1], 'wb') as error:
             process = subprocess.Popen([self.path, *words], stdin=subprocess.DEVNULL, stdout=out, stderr=error, cwd=self.folder,
                                        preexec_fn=limit)
-            late = threading.Timer(10 * self.longest, os.kill, (process.pid, signal.SIGKILL))
-            late.start()
-            _, ended, used = os.wait4(process.pid, 0)
-            late.cancel()
-            process.returncode = status = os.waitstatus_to_exitcode(ended)
+            status, used, timed_out = waited(process, 10 * self.longest)
         texts = []
         for name in names:
             with open(name, 'rb') as file:
                 texts.append(file.read().decode('latin-1'))
         self.count(command or 'no command', status, used)
-        found = answers.problem(command, *texts, status)
+        answer = Ended(*texts, status, timed_out)
+        found = answers.problem(command, answer)
         if status in (4, 5, 6) and command is not None and found is None and self.nothing_fails:
             found = 'status %d where nothing failed' % status
         if found:
             self.bad.append('%s: %s' % (' '.join(map(repr, words)), found))
-        return (*texts, status)
+        return answer
 
     def count(self, command, status, used):
         self.calls[command, status] += 1
@@ -124,37 +123,72 @@ class Measured(random_compiled.Program):
 
 # ---- hostile bytes
 
+class Spot(NamedTuple):
+    """A place in some bytes: those before it, those at it, which may be none, and those after it."""
+    before: bytes
+    at: bytes
+    after: bytes
+
+
+def odd_byte(choices):
+    return bytes([choices.choice(ODD_BYTES)])
+
+
+def put_byte(choices, spot, _other):
+    return spot.before + odd_byte(choices) + spot.at + spot.after
+
+
+def other_byte(choices, spot, _other):
+    return spot.before + odd_byte(choices) + (spot.at + spot.after)[1:]
+
+
+def taken_away(_choices, spot, _other):
+    return spot.before + spot.after
+
+
+def repeated(choices, spot, _other):
+    return spot.before + spot.at * choices.choice([2, 2, 3, 100]) + spot.after
+
+
+def cut(choices, spot, _other):
+    return spot.before if choices.random() < 0.5 else spot.at + spot.after
+
+
+def replaced(choices, spot, other):
+    start = choices.randint(0, len(other))
+    return spot.before + other[start:start + choices.choice([1, 5, 30, 300])] + spot.after
+
+
+def put_random(choices, spot, _other):
+    return spot.before + choices.randbytes(choices.choice([1, 1, 4, 60])) + spot.at + spot.after
+
+
+def swapped_lines(choices, spot, _other):
+    lines = b''.join(spot).split(b'\n')
+    one, two = choices.randrange(len(lines)), choices.randrange(len(lines))
+    lines[one], lines[two] = lines[two], lines[one]
+    return b'\n'.join(lines)
+
+
+def turned_bit(choices, spot, _other):
+    rest = spot.at + spot.after
+    return spot.before + bytes([rest[0] ^ 1 << choices.randrange(8)]) + rest[1:] if rest else spot.before
+
+
+CHANGES = [put_byte, other_byte, taken_away, repeated, cut, replaced, put_random, swapped_lines, turned_bit]
+
+
 def changed_once(choices, data, other):
-    at = choices.randint(0, len(data))
-    to = min(len(data), at + choices.choice([1, 1, 1, 2, 3, 8, 40, 400]))
-    kind = choices.randrange(9)
-    if kind == 0:
-        return data[:at] + bytes([choices.choice(ODD_BYTES)]) + data[at:]
-    if kind == 1:
-        return data[:at] + bytes([choices.choice(ODD_BYTES)]) + data[at + 1:]
-    if kind == 2:
-        return data[:at] + data[to:]
-    if kind == 3:
-        return data[:at] + data[at:to] * choices.choice([2, 2, 3, 100]) + data[to:]
-    if kind == 4:
-        return data[:at] if choices.random() < 0.5 else data[at:]
-    if kind == 5:
-        start = choices.randint(0, len(other))
-        return data[:at] + other[start:start + choices.choice([1, 5, 30, 300])] + data[to:]
-    if kind == 6:
-        return data[:at] + choices.randbytes(choices.choice([1, 1, 4, 60])) + data[at:]
-    if kind == 7:
-        lines = data.split(b'\n')
-        one, two = choices.randrange(len(lines)), choices.randrange(len(lines))
-        lines[one], lines[two] = lines[two], lines[one]
-        return b'\n'.join(lines)
-    return data[:at] + bytes([data[at] ^ 1 << choices.randrange(8)]) + data[at + 1:] if at < len(data) else data
+    """The bytes with one change at one place; it may bring in a piece of others."""
+    start = choices.randint(0, len(data))
+    end = min(len(data), start + choices.choice([1, 1, 1, 2, 3, 8, 40, 400]))
+    return choices.choice(CHANGES)(choices, Spot(data[:start], data[start:end], data[end:]), other)
 
 
 def changed(choices, data, other):
     if choices.random() < 0.02:
         return choices.choice([b'', choices.randbytes(choices.choice([1, 10, 1000, 100000])), other,
-                               bytes([choices.choice(ODD_BYTES)]) * choices.choice([1, 4096, 4097, 70000])])
+                               odd_byte(choices) * choices.choice([1, 4096, 4097, 70000])])
     for _ in range(choices.choice([1, 1, 1, 2, 3, 10])):
         data = changed_once(choices, data, other)
     return data
@@ -199,7 +233,7 @@ def asked(words):
             files.append(word)
     if len(files) != 1:
         return None
-    if command == 'selftest' and not rules.re.fullmatch(r'\+?0*[0-9]{1,10}', files[0], rules.re.ASCII):
+    if command == 'selftest' and not re.fullmatch(r'\+?0*[0-9]{1,10}', files[0], re.ASCII):
         return None
     if command == 'selftest' and int(files[0]) >= 1 << 32:
         return None
@@ -209,17 +243,23 @@ def asked(words):
 # ---- the cases
 
 class Soak:
+    """Runs cases by their numbers, and counts what was met and what was wrong. `keep` is the folder for files of differences."""
+
     def __init__(self, program, seed, keep):
         self.program, self.seed = program, seed
         self.comparison = random_compiled.Comparison(program, seed, 2, keep)
         self.kinds, self.found, self.bad = Counter(), Counter(), 0
 
     def case(self, number):
+        """Runs a case, and writes what is wrong of it."""
         choices = random.Random('soak %s %d' % (self.seed, number))
         kind = choices.choices(list(KINDS), list(KINDS.values()))[0]
         self.kinds[kind] += 1
         name = 'case %d, %s' % (number, kind)
-        getattr(self, kind.replace(' ', '_') + '_case')(name, number, choices)
+        try:
+            getattr(self, kind.replace(' ', '_') + '_case')(name, number, choices)
+        except Wrong as wrong:
+            self.program.bad.append('a reference: %s' % wrong)
         bad, self.program.bad = self.program.bad, []
         self.bad += len(bad)
         for line in bad:
@@ -255,11 +295,11 @@ class Soak:
         options = ['--depth', str(depth), '--steps', str(steps)]
         ran = self.program.run('exec', 'code', 'events', options=options)
         upgraded = self.program.run('upgrade', 'code')
-        refused = ran[1] if answers.CODE_LINE.fullmatch(ran[1]) else ''
-        lines = differences(name + ' upgrade', (upgraded[0], refused, 1 if refused else 0), upgraded)
+        refused = ran.error if answers.CODE_LINE.fullmatch(ran.error) else ''
+        lines = differences(name + ' upgrade', Ended(upgraded.out, refused, 1 if refused else 0), upgraded)
         self.found['code texts refused' if refused else 'code texts accepted'] += 1
         if not refused:
-            self.program.write('code 2', upgraded[0].encode('latin-1'))
+            self.program.write('code 2', upgraded.out.encode('latin-1'))
             lines += differences(name + ' exec of what upgrade writes', ran,
                                  self.program.run('exec', 'code 2', 'events', options=options))
             lines += differences(name + ' upgrade twice', upgraded, self.program.run('upgrade', 'code 2'))
@@ -271,7 +311,7 @@ class Soak:
             except ct.Refused:
                 work = 0
             if (work + 1) * steps <= 100 * random_codes.MOST_MOVES:
-                lines += differences(name + ' code_machine.py', cm.execute(code, events, depth, steps)[:3], ran)
+                lines += differences(name + ' code_machine.py', cm.execute(code, events, depth, steps)[0], ran)
         self.differ(name, lines, code=code, events=events)
 
     def hostile_chart_case(self, name, number, choices):
@@ -289,17 +329,18 @@ class Soak:
         if with_references:
             self.found['charts compared with chart_check.py'] += 1
             try:
-                expected = check.counts_text(check.check_chart(text.decode('latin-1'))) + '\n', '', 0
+                expected = Ended(check.counts_text(check.check_chart(text.decode('latin-1'))) + '\n', '', 0)
             except syntax.Fault as fault:
-                expected = '', fault.written(text.decode('latin-1')) + '\n', 1
+                expected = Ended('', fault.written(text.decode('latin-1')) + '\n', 1)
             lines += differences(name + ' chart_check.py', expected, checked)
-        self.found['hostile charts accepted' if checked[2] == 0 else 'hostile charts refused'] += 1
-        reader = checked[2] == 1 and int(checked[1].split(' ')[2]) <= 8
-        lines += differences(name + ' fmt', checked if reader else (formatted[0], '', 0), formatted)
-        if formatted[2] == 0:
-            program.write('formatted', formatted[0].encode('latin-1'))
+        self.found['hostile charts accepted' if checked.status == 0 else 'hostile charts refused'] += 1
+        fault = answers.chart_fault(checked.error)
+        by_reader = fault is not None and fault <= LAST_READER_FAULT
+        lines += differences(name + ' fmt', checked if by_reader else Ended(formatted.out, '', 0), formatted)
+        if formatted.status == 0:
+            program.write('formatted', formatted.out.encode('latin-1'))
             lines += differences(name + ' fmt twice', formatted, program.run('fmt', 'formatted'))
-        if checked[2]:
+        if checked.status != 0:
             for command, *more in (('compile',), ('rules', 'events'), ('run', 'events')):
                 lines += differences('%s %s' % (name, command), checked, program.run(command, 'chart', *more))
         else:
@@ -313,11 +354,11 @@ class Soak:
         options = ['--depth', str(bounds[0]), '--steps', str(bounds[1])]
         program.write('events', events)
         ran = program.run('rules', 'chart', 'events', options=options)
-        self.found['traces of hostile texts with status %s' % ran[2]] += 1
+        self.found['traces of hostile texts with status %s' % ran.status] += 1
         lines = differences(name + ' run', ran, program.run('run', 'chart', 'events', options=options))
         code = program.run('compile', 'chart')
-        program.write('code', code[0].encode('latin-1'))
-        lines += differences(name + ' compile', (code[0], '', 0), code)
+        program.write('code', code.out.encode('latin-1'))
+        lines += differences(name + ' compile', Ended(code.out, '', 0), code)
         lines += differences(name + ' exec', ran, program.run('exec', 'code', 'events', options=options))
         if os.path.exists(os.path.join(program.folder, 'formatted')):
             lines += differences(name + ' run of the canonical text', ran,
@@ -325,7 +366,7 @@ class Soak:
         if with_references and bounds[1] <= rules.USUAL_STEPS:
             self.found['traces compared with chart_rules.py'] += 1
             told = rules.run_rules(text.decode('latin-1'), events, *bounds)
-            lines += differences(name + ' chart_rules.py', (told.out, told.error, told.status), ran)
+            lines += differences(name + ' chart_rules.py', told, ran)
         return lines
 
     def hostile_code_case(self, name, number, choices):
@@ -335,7 +376,7 @@ class Soak:
         else:
             text, events = self.text(choices)
             self.program.write('chart', text)
-            code = self.program.run('compile', 'chart')[0].encode('latin-1')
+            code = self.program.run('compile', 'chart').out.encode('latin-1')
         other = random_codes.Case('soak other %s' % self.seed, number % 900).text
         self.code_answers(name, number, changed(choices, code, other), events, choices.choice([1, 8, 32]),
                           choices.choice([1, 20, 300]))
@@ -344,7 +385,7 @@ class Soak:
         text, events = self.text(choices)
         _, other = self.text(choices)
         self.program.write('chart', text)
-        if self.program.run('check', 'chart')[2]:
+        if self.program.run('check', 'chart').status != 0:
             return self.chart_answers(name, number, text, events, choices)
         formatted = os.path.join(self.program.folder, 'formatted')
         if os.path.exists(formatted):
@@ -354,6 +395,7 @@ class Soak:
                     chart=text, events=events)
 
     def words_case(self, name, number, choices):
+        """Lists of words, each compared with its plainest form."""
         door = {kind: os.path.join(answers.ROOT, 'examples/compiled/door.' + kind) for kind in ('chart', 'code', 'events')}
         for file, kind in (('c', 'chart'), ('k', 'code'), ('e', 'events')):
             with open(door[kind], 'rb') as sample:
@@ -375,6 +417,7 @@ class Soak:
     # ---- the summary
 
     def print_summary(self, cases, began):
+        """What was met, and for each command the statuses, the most time and the most memory."""
         program = self.program
         print('\nsoak with seed %s: %d cases in %.0f minutes, %d calls of the program'
               % (self.seed, cases, (time.time() - began) / 60, sum(program.calls.values())))
@@ -394,6 +437,7 @@ class Soak:
 
 
 def main(words):
+    """Runs cases until the time is over, and gives the status."""
     reader = parser(__doc__)
     reader.add_argument('--against', metavar='PROGRAM', required=True)
     reader.add_argument('--minutes', type=float, default=60)

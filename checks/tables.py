@@ -7,7 +7,7 @@ A line of a table is empty, a comment that begins with `#`, or one of
     > ANSWER          A line of the answer that was worked out by hand. It stands after the parts.
 
 A TEXT in a part stands for bytes: `\\n`, `\\r`, `\\t` and `\\\\` are the bytes 10, 13, 9 and 92, and `\\xHH` is the byte
-with these two hexadecimal digits. Every other character is its own byte.
+with these two hexadecimal digits. Every other byte is itself.
 
 A program that answers a table writes for each block the line `block NAME` and then the lines of its answer. With `--check`
 it writes only where an answer differs from the one worked out by hand, and then ends with status 1."""
@@ -16,6 +16,8 @@ import sys
 
 
 class Block:
+    """A case: its name, its parts as pairs of WORD and REST, and the lines of the answer that was worked out by hand."""
+
     def __init__(self, name):
         self.name, self.parts, self.expected = name, [], []
 
@@ -23,10 +25,16 @@ class Block:
         return [rest for w, rest in self.parts if w == word]
 
 
-def blocks(lines):
+def lines_of(source):
+    """The lines of a table that is read as bytes, a character for each byte, whatever the locale is."""
+    for line in source:
+        yield line.rstrip(b'\n').decode('latin-1')
+
+
+def blocks(source):
+    """The blocks of a table that is read as bytes."""
     block, names = None, set()
-    for line in lines:
-        line = line.rstrip('\n')
+    for line in lines_of(source):
         if not line or line.startswith('#'):
             continue
         word, _, rest = line.partition(' ')
@@ -71,10 +79,10 @@ def times(rest):
     return unescaped(text) * int(count)
 
 
-def answer_table(lines, answer, check):
+def answer_table(source, answer, check):
     """Writes the answers of a table, or with `check` where they differ from those worked out by hand. Gives the status."""
     blocks_seen = wrong = 0
-    for block in blocks(lines):
+    for block in blocks(source):
         blocks_seen += 1
         got = answer(block)
         if not check:

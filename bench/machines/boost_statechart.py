@@ -65,6 +65,7 @@ def forward(regions):
 
 
 def state_lines(i, region, k, state, is_last):
+    """The class of state k of region i, which may be the last region."""
     counted, sent = f'Input<{i}, {state.event}>', f'Input<{i}, {state.next_event()}>'
     heard = f'sc::transition<Local<{i}>, R{i}S{state.heard}, R{i}, &R{i}::triple>'
     to_other = f'sc::transition<{sent}, R{i}S{state.other}>' if is_last else f'sc::custom_reaction<{sent}>'

@@ -144,6 +144,7 @@ static void show(void) {
 
 
 def state_lines(data, i, region, k, state, is_last):
+    """The element of state k of region i, which may be the last region, with that data model."""
     counted, count = f'event="r{i}.e{state.event}"', data.count(i)
     guard = f'cond="{data.input} &gt; {region.above}"'
     sent = '' if is_last else f'<raise event="l{i + 1}"/>'

@@ -49,6 +49,7 @@ def entries(i, region):
 
 
 def cases(i, region, is_last):
+    """The cases of the states of region i, which may be the last region."""
     for k, state in enumerate(region.states):
         yield f'    case {k}:'
         yield '        switch (event) {'

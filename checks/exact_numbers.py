@@ -45,6 +45,7 @@ MOST_WIDTH = 64
 MOST_SCALE_FRACTION = 32        # of a scale, and of a number that is read
 MOST_DIGITS = 36
 MOST_READ = 2 ** 99 - 1
+FAR = 200
 OUT = 'out of conditions'
 
 
@@ -75,7 +76,9 @@ class Number:
 
     @property
     def value(self):
-        return Fraction(self.mantissa, 2 ** self.fraction)
+        """The value, but of a fraction over FAR only that it is nearer to 0 than any step of a scale: a mantissa has at most 127
+        bits."""
+        return Fraction(self.mantissa, 2 ** min(self.fraction, FAR))
 
 
 class Scale:

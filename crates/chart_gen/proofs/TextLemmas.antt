@@ -2,7 +2,7 @@
 use Rattle.std.proofs.Common.{◌≡◌, ℕ, List, [], ◌∷◌, ◌++◌, refl, sym, ap, ◌∙◌, append_assoc, append-nil}
 use Rattle.chart_gen.specs.Cases.{text_of}
 
--- the text of lines and of those behind them
+-- the text of lines and of those after them
 pub text_of-append : (lines others : List (List ℕ)) → text_of (lines ++ others) ≡ text_of lines ++ text_of others
 unfolding text_of
 text_of-append [] others = refl

@@ -57,7 +57,7 @@ state_lines regions i k draws =
     ∷ codes "}"
     ∷ []
 
--- the first states of region i, in order, each with the draws behind those of the one before
+-- the first states of region i, in order, each with the draws after those of the one before
 unfoldable pub states_lines : Sizes → ℕ → ℕ → ℕ → List (List ℕ)
 states_lines sizes i zero seed = []
 states_lines sizes i (suc k) seed =
@@ -81,7 +81,7 @@ region_lines sizes i seed =
     region_head i (region_draws sizes.states seed)
     ++ (states_lines sizes i sizes.states (after_region seed) ++ codes "}" ∷ [])
 
--- the first regions, in order, each with the draws behind those of the one before
+-- the first regions, in order, each with the draws after those of the one before
 unfoldable pub regions_lines : Sizes → ℕ → ℕ → List (List ℕ)
 regions_lines sizes zero seed = []
 regions_lines sizes (suc i) seed =
@@ -127,7 +127,7 @@ event_word event = if nat_lt event 4 then codes "e" ++ decimal event else codes 
 abbrev pub event_line : EventDraws → List ℕ
 event_line draws = event_word draws.event ++ codes " x=" ++ signed_decimal (pos draws.input -ℤ pos 100)
 
--- the first event lines, in order, each with the draws behind those of the one before
+-- the first event lines, in order, each with the draws after those of the one before
 unfoldable pub event_lines : ℕ → ℕ → List (List ℕ)
 event_lines zero seed = []
 event_lines (suc count) seed = event_lines count seed ++ event_line (event_draws (after_events count seed)) ∷ []
@@ -143,6 +143,6 @@ pub record Texts : Type 0 where
 unfoldable pub chart_text : ℕ → List ℕ
 chart_text n = text_of (chart_lines (sizes (first_seed n)) (after_sizes (first_seed n)))
 
--- the event file of case n: 20000 lines, drawn behind its chart
+-- the event file of case n: 20000 lines, drawn after its chart
 unfoldable pub events_text : ℕ → List ℕ
 events_text n = text_of (event_lines 20000 (after_chart (first_seed n)))

@@ -92,7 +92,7 @@ module _ (c : Chart) (valid : IsValid c) (Q : Trans → Type 0) (P : ℕ → Key
     abbrev j : ℕ
     j = reached_count c s Default
 
-    -- how a state that many behind s is related to it
+    -- how a state that many after s is related to it
     within : (k : ℕ) → k < suc u → s + k < end_of c.tree s
     within k less = omega (arith, end_after c.tree valid.tree s lt)
 

@@ -42,7 +42,7 @@ second_false false b h = h
 
 -- ---- what is in a list
 
--- what is in a list is in it with more behind it
+-- what is in a list is in it with more after it
 pub has_front : (xs ys : List ℕ) (j : ℕ) → has xs j ≡ true → has (xs ++ ys) j ≡ true
 unfolding has
 has_front [] ys j h = cc
@@ -58,7 +58,7 @@ unfolding has
 has_last [] j = ap (λ b. b || false) (eq_same j)
 has_last (x ∷ xs) j = or_true (nat_eq x j) (has (xs ++ j ∷ []) j) (has_last xs j)
 
--- what isn't in a list isn't in it with another number behind it
+-- what isn't in a list isn't in it with another number after it
 has_not : (xs : List ℕ) (j y : ℕ) → has xs y ≡ false → nat_eq j y ≡ false → has (xs ++ j ∷ []) y ≡ false
 unfolding has
 has_not [] j y h k = or_false (nat_eq j y) false k refl

@@ -42,7 +42,7 @@ get_front [] ys n x e = absurd cc
 get_front (y ∷ xs) ys zero x e = e
 get_front (y ∷ xs) ys (suc n) x e = get_front xs ys n x e
 
--- what stands in the second list stands behind the first one
+-- what stands in the second list stands after the first one
 get_behind : {A : Type 0} (xs ys : List A) (n : ℕ) → slice_get (xs ++ ys) (length xs + n) ≡ slice_get ys n
 get_behind [] ys n = let e : 0 + n ≡ n = omega arith in ap (λ i. slice_get ys i) e
 get_behind (x ∷ xs) ys n =
@@ -72,7 +72,7 @@ module _ {A : Type 0} (all : List A) where
   pub holds_front : (a : ℕ) (xs ys : List A) → Holds all a (xs ++ ys) → Holds all a xs
   holds_front a xs ys h = record { by = λ n x e. h.by n x (get_front xs ys n x e) }
 
-  -- the second one stands behind the first one
+  -- the second one stands after the first one
   pub holds_back : (a : ℕ) (xs ys : List A) → Holds all a (xs ++ ys) → Holds all (a + length xs) ys
   holds_back a xs ys h = record {
     by = λ n x e.

@@ -177,7 +177,7 @@ module _ (c : Chart) where
         sum_to_constant 1 (state_count c.tree),
       )
 
-  -- the procedures behind those of each region
+  -- the procedures after those of each region
   abbrev pub from_lists : List Key
   from_lists = all_lists c ++ all_processes c
 

@@ -32,7 +32,7 @@ extends_on xs ys zs a b = record {
 extends_has : (xs ys : List ℕ) (j : ℕ) → Extends xs ys → has xs j ≡ true → has ys j ≡ true
 extends_has xs ys j a h = subst (λ l. has l j ≡ true) (sym a.is) (has_front xs a.extra j h)
 
--- what stands in a list stands in it with more behind it
+-- what stands in a list stands in it with more after it
 get_more : (xs ys : List ℕ) (i j : ℕ) → slice_get xs i ≡ Some j → slice_get (xs ++ ys) i ≡ Some j
 get_more [] ys i j h = cc
 get_more (x ∷ xs) ys zero j h = h

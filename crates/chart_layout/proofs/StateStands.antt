@@ -142,7 +142,7 @@ module _ (c : Chart) where
     -- ---- procedures of a state and one at or below it
 
     module _ (tree : IsTree c.tree) (d : ℕ) (low : s ≤ d) (high : d < end_of c.tree s) where
-      -- how far the second one is behind the first one
+      -- how far the second one is after the first one
       near : d - s < suc u
       near = omega (arith, end_after c.tree tree s lt)
 

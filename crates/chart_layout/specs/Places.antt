@@ -142,13 +142,13 @@ module _ (c : Chart) where
   unfoldable pub lists_at : ℕ → ℕ
   lists_at s = lists_start + sum_between lists_size (suc s) (state_count c.tree)
 
-  -- a list of a state, behind which the junctions follow that are reached from it
+  -- a list of a state, after which the junctions follow that are reached from it
   abbrev pub list_at : ℕ → ListKind → ℕ
   list_at s Outer = lists_at s
   list_at s Inner = lists_at s + 1 + reached_count s Outer
   list_at s Default = group_at s + 2 + below_count c.tree s
 
-  -- a firing in s with its destination at s or that much behind it
+  -- a firing in s with its destination at s or that much after it
   abbrev pub arrive_at : ℕ → ℕ → ℕ
   arrive_at s zero = group_at s + 4 + below_count c.tree s + reached_count s Default
   arrive_at s (suc n) = group_at s + 2 + n

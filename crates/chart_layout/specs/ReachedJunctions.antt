@@ -45,7 +45,7 @@ abbrev pub on_some : Option ℕ → List ℕ → (ℕ → List ℕ) → List ℕ
 on_some None found go = found
 on_some (Some j) found go = go j
 
--- the i-th number found and at most n - 1 behind it bring, one after the other, the numbers that come next to them
+-- the i-th number found and at most n - 1 after it bring, one after the other, the numbers that come next to them
 unfoldable pub spread : (ℕ → List ℕ) → ℕ → ℕ → List ℕ → List ℕ
 spread next zero i found = found
 spread next (suc n) i found = on_some (slice_get found i) found (λ j. spread next n (suc i) (meet found (next j)))

@@ -1,4 +1,4 @@
--- Blocks: statement by statement, with sends that process the receiver, and the life's test behind each send.
+-- Blocks: statement by statement, with sends that process the receiver, and the life's test after each send.
 use Rattle.std.proofs.Common.{◌≡◌, ℕ, suc, ◌+◌, ◌<◌, Bool, true, false, List, [], ◌∷◌, length, Option, Some, None, refl}
 use Rattle.std.proofs.Common.{sym, ap, ◌∙◌, subst, arith}
 use Rattle.flow_base.specs.declared.bounds.Bounds.{Bounds}
@@ -93,21 +93,21 @@ module _ (c : Chart) (b : Bounds) (k : Procedures) (N : Numbers) (valid : IsVali
     abbrev at : ℕ → Frame
     at i = running q i tag base (state_of_life life) None
 
-    -- what is known behind a statement: its life holds where it was done
+    -- what is known after a statement: its life holds where it was done
     pub record StatementEnds (a : End) (w : World) : Type 0 where
       pub number : ℕ
       pub good : Tells a (lives c.tree life w.marks)
 
-    -- where the code stands behind a statement
+    -- where the code stands after a statement
     abbrev statement_at : (j : ℕ) (a : End) (w : World) → StatementEnds a w → Machine
     statement_at j Done w y = machine w now y.number (at j ∷ fs)
     statement_at j Cut w y = machine w now 1 fs
 
-    -- behind a statement: at the next place, or its frame has returned
+    -- after a statement: at the next place, or its frame has returned
     abbrev Behind : ℕ → Aim End
     Behind j = record { Facts = StatementEnds; stands = statement_at j }
 
-    -- the life's test behind a send
+    -- the life's test after a send
     alive_runs : (i : ℕ) (rest : List Instr) → HasAt k q i (require (life_test life) rest) → (w : World) (r : ℕ)
         → Meets C (machine w now r (at i ∷ fs)) (Behind (i + 1 + 1 + 1)) (while_alive c.tree life w)
     alive_runs i rest h w r =
@@ -115,7 +115,7 @@ module _ (c : Chart) (b : Bounds) (k : Procedures) (N : Numbers) (valid : IsVali
         (λ e. meets_end (record { number = r; good = e }) (on_to (yes_life life refl h.0 e) (go_skip h.1.0)))
         (λ e. meets_end (record { number = r; good = e }) (on_to (no_life life refl h.0 e) (go_ret h.1.1.0)))
 
-    -- behind one statement come the others
+    -- after one statement come the others
     rest_runs : (rest : List Stmt) (j : ℕ) → HasAt k q j (block_code N (life_test life) rest) → Targets c.tree rest
         → (a : End) (w : World) → Consistent c w → (y : StatementEnds a w)
         → Meets C (statement_at j a w y) (returns now fs (λ a v x. Tells a (lives c.tree life v.marks)))

@@ -138,7 +138,7 @@ module _ (c : Chart) (b : Bounds) (k : Procedures) (N : Numbers) (valid : IsVali
     abbrev entry_work : Work (Unit {0})
     entry_work = change (entered_in c s) >> active_work
 
-    -- behind the entry action
+    -- after the entry action
     entered : (i : ℕ) → HasAt k (N.enter s d) i (active_entry_code N c.tree s d) → (a : End) (w : World) (r : ℕ)
         → Consistent c w → Tells a (is_bare c.tree s w.marks)
         → Meets C (machine w now r (on_s (i + 1) ∷ fs)) (returns now fs Any)
@@ -159,7 +159,7 @@ module _ (c : Chart) (b : Bounds) (k : Procedures) (N : Numbers) (valid : IsVali
         (entry_targets c valid s) w ok bare now r None base (on_s (i + 1) ∷ fs))
         (λ a u y ok''. entered i h a u y.number ok'' y.good))
 
-    -- behind the mark
+    -- after the mark
     kept : (i : ℕ) (h : Bool) → HasAt k (N.enter s d) i (keep_code h s (active_entry_code N c.tree s d))
         → (w : World) (r : ℕ) → Consistent c (keep_if h c.tree s w)
         → is_bare c.tree s (keep_if h c.tree s w).marks ≡ true

@@ -106,7 +106,7 @@ module _ (c : Chart) (b : Bounds) (k : Procedures) (N : Numbers) (valid : IsVali
     abbrev on_s : ℕ → Frame
     on_s i = running (N.exit s) i tag base s None
 
-    -- behind the exit action: where all of it was run, the state becomes inactive
+    -- after the exit action: where all of it was run, the state becomes inactive
     cleared : (a : End) (w : World) (r : ℕ) → Tells a (is_bare c.tree s w.marks)
         → Meets C (machine w now r (on_s 9 ∷ fs)) (returns now fs Any)
         (if_done a tt (if_bare c.tree s (change (set_mark s false))) w)
@@ -124,7 +124,7 @@ module _ (c : Chart) (b : Bounds) (k : Procedures) (N : Numbers) (valid : IsVali
         done 1 (subst (λ v. Reaches C (machine w now r (on_s 9 ∷ fs)) (machine v now 1 fs))
         (clear_not c.tree s w e) way)
 
-    -- behind the children
+    -- after the children
     left : (w : World) (r : ℕ) → Consistent c w → Meets C (machine w now r (on_s 5 ∷ fs)) (returns now fs Any)
         (if_bare c.tree s (p.block (Bare s) (node c s).exit now >>=
         (λ a. if_done a tt (if_bare c.tree s (change (set_mark s false))))) w)

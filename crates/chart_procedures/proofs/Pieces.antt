@@ -32,7 +32,7 @@ pub done : {A : Type 0} {C : Program} {m : Machine} {w : World} {now : Now} {fs 
     → Reaches C m (machine w now x fs) → Meets C m (returns now fs Any) (Ended a w)
 done x s = meets_end (record { number = x; good = tt }) s
 
--- the same behind a piece of work
+-- the same after a piece of work
 pub then_done : {A : Type 0} {C : Program} {m : Machine} {w : World} {now : Now} {fs : List Frame} {a : A} (x : ℕ)
     → Reaches C m (machine w now x fs) → Arrives C m (returns now fs Any) a w
 then_done x s = record { facts = record { number = x; good = tt }; reached = s }

@@ -73,7 +73,7 @@ module _ (c : Chart) (b : Bounds) (k : Procedures) (N : Numbers) (valid : IsVali
 
     -- ---- the active child of an OR
 
-    -- behind the call of a child of s: a firing with s as its home ends there
+    -- after the call of a child of s: a firing with s as its home ends there
     out_of : (i s x : ℕ) (xs : List ℕ) → HasAt k q i (active_child_code N s (x ∷ xs)) → (a : Went) (w : World)
         → Meets C (machine w now (went_result a) (at (i + 1 + 1) ∷ fs)) ReturnAim (from_child s a w)
     out_of i s x xs h Stay w =
@@ -114,7 +114,7 @@ module _ (c : Chart) (b : Bounds) (k : Procedures) (N : Numbers) (valid : IsVali
 
     -- ---- the children of an AND
 
-    -- behind the call of a region
+    -- after the call of a region
     region_went : (i x : ℕ) (xs : List ℕ) → HasAt k q i (regions_code N (x ∷ xs))
         → AllByRecursion (λ x. x < state_count c.tree) xs → (a : Went) (w : World) → Consistent c w
         → Meets C (machine w now (went_result a) (at (i + 1 + 1) ∷ fs)) ReturnAim (after_region c p xs now a w)
@@ -199,7 +199,7 @@ module _ (c : Chart) (b : Bounds) (k : Procedures) (N : Numbers) (valid : IsVali
         (λ a v z. meets_end (record { number = 1; good = refl })
         (on_to (y.back v z.number) (on_to (no_result h.0 refl) (go_pass h.1.1.0))))
 
-    -- behind the during action
+    -- after the during action
     during_ended : (a : End) (w : World) (r : ℕ) → Consistent c w → Tells a (is_on s w.marks)
         → Meets C (machine w now r (on_s 6 ∷ fs)) ProcessAim
         (if_done a Stay (p.search (On s) (node c s).inner now >>= after_inner c p s now) w)

@@ -99,7 +99,7 @@ module _ (c : Chart) (b : Bounds) (k : Procedures) (P : Meaning) (S : Search) (r
     abbrev into : ℕ → Option ℕ → ℕ → Searcher
     into q tag i = record { proc = q; tag = tag; base = R.base; now = R.now; below = frame i ∷ R.below }
 
-    -- what the rest of the list does, from the place behind a transition
+    -- what the rest of the list does, from the place after a transition
     abbrev Rest : ℕ → List Trans → Type 0
     Rest i rest =
         (w : World) → Consistent c w → Alive w → (r : ℕ) → Meets C (stand w r i) SearchAim (p.search life rest R.now w)
@@ -213,7 +213,7 @@ module _ (c : Chart) (b : Bounds) (k : Procedures) (P : Meaning) (S : Search) (r
     two_long tag (State d) = refl
     two_long tag (Junction j) = refl
 
-    -- behind the condition action
+    -- after the condition action
     ended : (t : Trans) (tag : Option ℕ) (i : ℕ) (rest : List Trans) → PartBy P.action t.action tag
         → DestBy P.dest P.junction t.dest
         → HasAt k R.proc i (require (life_test life) (dest_code S tag t.dest)) → Rest (i + 1 + 1 + 1 + 1 + 1) rest
@@ -264,12 +264,12 @@ module _ (c : Chart) (b : Bounds) (k : Procedures) (P : Meaning) (S : Search) (r
 
     -- ---- the tests of a transition: the marks stay
 
-    -- the marks stay behind a test
+    -- the marks stay after a test
     pub record TestEnds (w v : World) : Type 0 where
       pub number : ℕ
       pub same : v.marks ≡ w.marks
 
-    -- where the code stands behind a test
+    -- where the code stands after a test
     abbrev test_at : (w : World) (i j : ℕ) (a : Bool) (v : World) → TestEnds w v → Machine
     test_at w i j true v y = machine v R.now y.number (frame i ∷ R.below)
     test_at w i j false v y = machine v R.now y.number (frame j ∷ R.below)
@@ -278,7 +278,7 @@ module _ (c : Chart) (b : Bounds) (k : Procedures) (P : Meaning) (S : Search) (r
     abbrev Tested : World → ℕ → ℕ → Aim Bool
     Tested w i j = record { Facts = λ a v. TestEnds w v; stands = test_at w i j }
 
-    -- behind the guard's procedure
+    -- after the guard's procedure
     judged : (body : List Instr) (i n j : ℕ) → HasAt k R.proc i (instrs.Unless (length body) (instrs.Result 1) ∷ body)
         → i + 1 + length body ≡ j → i + 1 ≡ n
         → (w : World) (a : Bool) (v : World) → v.marks ≡ w.marks
@@ -323,14 +323,14 @@ module _ (c : Chart) (b : Bounds) (k : Procedures) (P : Meaning) (S : Search) (r
         meets_end (record { number = r; same = refl }) (subst (λ x. Reaches C (stand w r i) (stand w r x)) same
         (no_current h.0 t)))
 
-    -- behind the tests stands the rest of the transition
+    -- after the tests stands the rest of the transition
     behind_guard : (gp : Option ℕ) (body : List Instr) (i n j : ℕ) → HasAt k R.proc i (guarded_code gp body)
         → i + length (guarded_code gp body) ≡ j → n + length body ≡ j → HasAt k R.proc n body
     behind_guard None body i n j h e f = let same : i ≡ n = omega arith in subst (λ x. HasAt k R.proc x body) same h
     behind_guard (Some q) body i n j h e f =
         let same : i + 1 + 1 ≡ n = omega arith in subst (λ x. HasAt k R.proc x body) same h.1.1
 
-    -- the same behind both tests
+    -- the same after both tests
     behind_tests : (ev gp : Option ℕ) (body : List Instr) (i n j : ℕ)
         → HasAt k R.proc i (event_code ev (guarded_code gp body))
         → i + length (event_code ev (guarded_code gp body)) ≡ j → n + length body ≡ j → HasAt k R.proc n body
@@ -352,7 +352,7 @@ module _ (c : Chart) (b : Bounds) (k : Procedures) (P : Meaning) (S : Search) (r
     chosen t q rest n j are h e others w ok l false v y =
         others v (subst (IsConsistent c.tree) (sym y.same) ok) (ap (lives c.tree life) y.same ∙ l) y.number
 
-    -- where the rest of a transition stands behind its tests
+    -- where the rest of a transition stands after its tests
     ends_at : (ev gp : Option ℕ) (body : List Instr) (i : ℕ)
         → (n : ℕ) × (n + length body ≡ i + length (event_code ev (guarded_code gp body)))
     ends_at None None body i = (i, refl)

@@ -73,14 +73,14 @@ module _ (c : Chart) (b : Bounds) (k : Procedures) (N : Numbers) (valid : IsVali
   abbrev C : Program
   C = program c b k
 
-  -- ---- behind the leaving of the active child
+  -- ---- after the leaving of the active child
 
   module _ (s d : ℕ) (path : IsPath c.tree s d) (now : Now) (tag : Option ℕ) (base home : ℕ) (fs : List Frame) where
     -- the frame of the procedure at a place, with the state as its home
     abbrev on_s : ℕ → Frame
     on_s i = running (N.arrive s d) i tag base s None
 
-    -- behind `Play`: g is what the rules do then
+    -- after `Play`: g is what the rules do then
     behind_play : (g : Work (Unit {0}))
         → ((w : World) (r cursor : ℕ) → Consistent c w → is_bare c.tree s w.marks ≡ true → Meets C
         (machine w now r (aimed (on_s 5) cursor ∷ fs)) (returns now fs Any) (g w))
@@ -211,7 +211,7 @@ module _ (c : Chart) (b : Bounds) (k : Procedures) (N : Numbers) (valid : IsVali
           meets_on (go_call h.0) (then_meets_with (keeping (keep.search (Bare s) (node c s).default now w ok))
           (low.search.by s Default lt w ok bare now r None base (at (i + 1) ∷ fs)) (λ f v y ok'. defaulted f v ok' y))
 
-    -- the tests of the remembered child, and the search behind them
+    -- the tests of the remembered child, and the search after them
     return_if : (x : ℕ) (xs : List ℕ) (i : ℕ) (w : World) (r : ℕ)
         → HasAt k (N.defaults s) i (return_code N (x ∷ xs) (search_code N s)) → x < state_count c.tree → Consistent c w
         → Meets C (machine w now r (at (i + 1 + 2) ∷ fs)) (returns now fs Any)

@@ -208,13 +208,13 @@ pub record DoesDefaults (C : Program) (N : Numbers) (p : Parts) : Type 0 where
       → Meets C (machine w now r (fresh (N.defaults s) tag base home None ∷ fs)) (returns now fs Any)
       (p.defaults s now w)
 
--- behind `Play`, whatever the cursor is then: the home is bare exactly where all notes were run
+-- after `Play`, whatever the cursor is then: the home is bare exactly where all notes were run
 pub record Played (t : Tree) (home : ℕ) (a : End) (w : World) : Type 0 where
   pub cursor : ℕ
   pub number : ℕ
   pub good : Tells a (is_bare t home w.marks)
 
--- behind `Play`, at the next place
+-- after `Play`, at the next place
 abbrev pub behind : Tree → Frame → List Frame → Now → Aim End
 behind t f fs now =
     record { Facts = Played t f.home; stands = λ a w i. machine w now i.number (next (aimed f i.cursor) ∷ fs) }

@@ -58,7 +58,7 @@ abbrev pub dest_code : Search → Option ℕ → Dest → List Instr
 dest_code S tag (State d) = instrs.Call (S.fire d) tag ∷ instrs.Ret (S.result d) ∷ []
 dest_code S tag (Junction j) = instrs.Visit (S.junction j) tag ∷ instrs.Pass ∷ []
 
--- its condition action, behind which the life is tested
+-- its condition action, after which the life is tested
 abbrev pub condition_code : Cond → Option ℕ → List Instr → List Instr
 condition_code alive None body = body
 condition_code alive (Some q) body = instrs.Call q None ∷ require alive body
@@ -73,7 +73,7 @@ abbrev pub event_code : Option ℕ → List Instr → List Instr
 event_code None body = body
 event_code (Some e) body = instrs.Unless (length body) (instrs.Current e) ∷ body
 
--- behind the tests
+-- after the tests
 abbrev pub lead_code : Search → Trans → TransNumbers → List Instr
 lead_code S t q =
     condition_code (life_test (life_of S.state S.kind)) (condition_of S.kind q) (dest_code S q.action t.dest)

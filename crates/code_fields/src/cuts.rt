@@ -42,7 +42,7 @@ fn place_of(text: &[u8], byte: u8) -> Option<usize>
     text.iter().position(|other| *other == byte)
 }
 
-/// The first word of a text, and what stands after the space behind it.
+/// The first word of a text, and what stands after the space that follows it.
 #[tactic(auto, unfolding(crate::specs::Cuts::field_of))]
 pub fn field_of(text: &[u8]) -> Field<'_>
     ensures { views.field_of result ≡ spec.field_of text.now }

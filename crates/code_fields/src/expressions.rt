@@ -17,7 +17,7 @@ pub struct Front<'a> {
     pub expr: Expr,
     /// How many operators there may be after it.
     pub left: u32,
-    /// What stands after the space behind it, if there is one.
+    /// What stands after the space that follows it, if there is one.
     pub rest: Option<&'a [u8]>,
 }
 

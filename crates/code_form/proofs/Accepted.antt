@@ -33,7 +33,7 @@ no_instr_fault K p i x rest h e =
     passes _ _ p i _ h.known ∙ passes _ _ p i _ h.within ∙ passes _ _ p i _ h.lower ∙ passes _ _ p i _ h.typed
     ∙ passes _ _ p i _ e ∙ holds_none _ _ p i h.keeps
 
--- nothing more behind is the same
+-- nothing more after is the same
 sound_alone : (K : Known) (p behind : ℕ) (x : Instr) → IsSound K p (behind + 0) x → IsSound K p behind x
 sound_alone K p behind x h = let n : behind + 0 ≡ behind = omega arith in subst (λ k. IsSound K p k x) n h
 

@@ -182,6 +182,6 @@ unfolding procs_fault
 no_procs_left K xs p le =
     ap (procs_fault K p) (drop_past (procs_of xs) p (omega (arith, length-map xs (λ (x : Seq Instr). instrs_of (items_of x)))))
 
--- so many stand behind the one at a place
+-- so many stand after the one at a place
 pub left_behind : (xs : List Instr) (i : ℕ) → i < length xs → length (drop (i + 1) (instrs_of xs)) ≡ length xs - i - 1
 left_behind xs i lt = omega (arith, length-drop (i + 1) (instrs_of xs), length-map xs instr_of)

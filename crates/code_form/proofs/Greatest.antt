@@ -39,7 +39,7 @@ fails false kind p i later h = refl
 within_here : (limit n : ℕ) → n ≤ limit → not (nat_lt limit n) ≡ true
 within_here limit n h = grind (arith, nat_tests)
 
--- the first number over the limit stands behind numbers of which none is
+-- the first number over the limit stands after numbers of which none is
 pub first_over_here : (limit : ℕ) (kind : CodeKind) (p : ℕ) (ns : List ℕ) (n : ℕ) (rest : List ℕ)
     → greatest ns ≤ limit → limit < n → first_over limit kind p (ns ++ n ∷ rest) ≡ fault_at kind (p + length ns) 0
 unfolding first_over

@@ -83,7 +83,7 @@ pub record LeftFrom (w : ℕ → ℕ) (xs : List Instr) (place : ℕ) (ls : List
   pub bounded : (over : ℕ) → slice_index (reverse ls) over ≤ length ls * (WORK_LIMIT + 1)
   pub size : length ls + place ≡ length xs
 
--- behind the last instruction
+-- after the last instruction
 pub left_none : (w : ℕ → ℕ) (xs : List Instr) (place : ℕ) → place ≡ length xs → LeftFrom w xs place []
 unfolding lefts
 left_none w xs place e = record {

@@ -147,7 +147,7 @@ no_twin_first n x (y ∷ later) e h =
 
 -- ---- the children of a state, by number and by their list
 
--- the entry behind others
+-- the entry after others
 entry_at : {X : Type 0} (front : List X) (x : X) (back : List X) (d : X)
     → slice_index_or (front ++ x ∷ back) (length front) d ≡ x
 entry_at [] x back d = refl
@@ -209,7 +209,7 @@ names_of_children states s =
 pub siblings_differ : (states : List RawState) → has_no_twins states ≡ true → HasSiblings states
 siblings_differ states h s lt = ap are_distinct (names_of_children states s) ∙ distinct_under s states h
 
--- the states behind the first have parents below so many
+-- the states after the first have parents below so many
 parents_of_rest : (n : ℕ) (rest : List RawState)
     → ((s : ℕ) → s < length rest
     → IsSomeAnd (slice_index_or (map (λ (y : RawState). y.parent) rest) s None) (λ p. p < n))

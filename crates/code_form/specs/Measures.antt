@@ -3,7 +3,7 @@ use Rattle.std.specs.Prelude.{ℕ, suc, ◌+◌, max, List, [], ◌∷◌, ◌++
 use Rattle.code_form.specs.Instrs.{Instr, Assign, Emit, Mark, Clear, Keep, Unless, Skip, Call, Visit, Send, SendTo}
 use Rattle.code_form.specs.Instrs.{Play, Home, Begin, Pass, Ret}
 
--- the numbers of procedures that stand behind procedures with the numbers ns; one that isn't there yet counts as 0
+-- the numbers of procedures that stand after procedures with the numbers ns; one that isn't there yet counts as 0
 unfoldable pub reckon : ((ℕ → ℕ) → List Instr → ℕ) → List ℕ → List (List Instr) → List ℕ
 reckon F ns [] = ns
 reckon F ns (is ∷ ps) = reckon F (ns ++ F (slice_index ns) is ∷ []) ps

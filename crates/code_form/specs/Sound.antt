@@ -3,7 +3,7 @@ use Rattle.std.specs.Prelude.{◌≡◌, ◌+◌, ℕ, suc, List, [], ◌∷◌,
 use Rattle.code_form.specs.Instrs.{Instr}
 use Rattle.code_form.specs.WellFormed.{Known, instr_known, skips_within, calls_lower, instr_typed, is_ret, instr_keeps}
 
--- an instruction of procedure p with so many behind it: it names what is there, passes over no end, calls lower, its
+-- an instruction of procedure p with so many after it: it names what is there, passes over no end, calls lower, its
 -- types are right, and it keeps what can be remembered
 pub record IsSound (K : Known) (p behind : ℕ) (x : Instr) : Type 0 where
   pub known : instr_known K x ≡ true

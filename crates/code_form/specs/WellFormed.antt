@@ -119,7 +119,7 @@ instr_known K (Ret r) = true
 
 -- ---- SkipOut and CallNotLower
 
--- it passes over fewer instructions than stand behind it
+-- it passes over fewer instructions than stand after it
 unfoldable pub skips_within : ℕ → Instr → Bool
 skips_within behind (Assign v x) = true
 skips_within behind (Emit e) = true
@@ -316,7 +316,7 @@ instr_keeps K (Ret r) = true
 
 -- ---- procedures
 
--- the first fault of the instruction x at place i of procedure p, where the rest stands behind it
+-- the first fault of the instruction x at place i of procedure p, where the rest stands after it
 unfoldable pub instr_fault : Known → ℕ → ℕ → Instr → List Instr → Option CodeFault
 instr_fault K p i x rest =
     first_of (unless (instr_known K x) kinds.BadNumber p i)

@@ -41,7 +41,7 @@ fn has_long(procs: &[List<Instr>]) -> bool
         .any(|instrs| instrs.items().len() > INSTR_LIMIT)
 }
 
-/// Whether the instruction passes over fewer instructions than stand behind it.
+/// Whether the instruction passes over fewer instructions than stand after it.
 #[tactic(auto, unfolding(crate::specs::WellFormed::skips_within))]
 fn skips_within(behind: usize, instr: &Instr) -> bool
     ensures { result ≡ spec.skips_within behind (instr_of instr.now) }
@@ -98,7 +98,7 @@ fn is_ret(instr: &Instr) -> bool
     matches!(instr, Instr::Ret(_))
 }
 
-/// Whether the instruction returns, if none stands behind it.
+/// Whether the instruction returns, if none stands after it.
 fn last_returns(instr: &Instr, behind: usize) -> bool
     ensures { (rest : Items code.Instr) → length rest ≡ behind →
         result ≡ spec.last_returns (instr_of instr.now) rest }
@@ -178,7 +178,7 @@ fn instr_keeps(raw: &RawCode, instr: &Instr) -> bool
 }
 
 /// The first fault of the instruction at that place of procedure `p`, where that many instructions
-/// stand behind it.
+/// stand after it.
 fn instr_fault(raw: &RawCode, p: u32, place: u32, instr: &Instr, behind: usize) -> Option<CodeFault>
     ensures { (rest : Items code.Instr) → length rest ≡ behind →
         result ≡ spec.instr_fault (spec.known_of (code_of raw.now)) p place (instr_of instr.now) rest }

@@ -42,7 +42,7 @@ abbrev pub parent_stands : Bool → Option ℕ → Bool
 parent_stands true parent = is_none parent
 parent_stands false parent = is_some parent
 
--- the state of a line that stands first or behind others
+-- the state of a line that stands first or after others
 unfoldable pub state_at : Bool → List ℕ → Option RawState
 state_at first line =
     option_and_then (kept (λ (s : RawState). parent_stands first s.parent)) (state_of line)

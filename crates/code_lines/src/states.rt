@@ -38,7 +38,7 @@ pub fn state_at(alloc: Global, first: bool, line: &[u8]) -> Result<Option<RawSta
     }))
 }
 
-/// Whether a state with that parent may stand first, or behind others.
+/// Whether a state with that parent may stand first, or after others.
 fn stands_at(first: bool, parent: Option<u32>) -> bool
     ensures { result ≡ spec.parent_stands first parent }
 {

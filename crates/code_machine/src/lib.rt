@@ -10,7 +10,7 @@
 //! it lie on a stack whose room is reserved once, and so is the room for the events that are put
 //! out. Where a run takes many steps that change little, they are done at once: a call of a
 //! procedure that does nothing but return pushes no frame, and tests of states that aren't active
-//! and stand one behind the other are passed over by one look-up.
+//! and stand one after the other are passed over by one look-up.
 #![tactic(auto)]
 
 mod calls;

@@ -97,11 +97,11 @@ expr_size x h = omega (arith, words_size x h.numbers, h.few)
 
 -- ---- lines
 
--- a word with a number behind it
+-- a word with a number after it
 with_number : (word : List ℕ) (n : ℕ) → IsNumber n → length (word ++ decimal n) ≤ length word + 10
 with_number word n h = omega (arith, length-append word (decimal n), number_size n h)
 
--- the condition behind `unless K `, and the newline
+-- the condition after `unless K `, and the newline
 cond_size : (c : Cond) → CondHasNumbers c → CondHasWords c → length (cond_words c) + 19 ≤ cond_limit c
 cond_size (On s) h w = omega (arith, with_number (codes "on ") s h)
 cond_size (Bare s) h w = omega (arith, with_number (codes "bare ") s h)
@@ -112,7 +112,7 @@ cond_size (Result r) h w = omega (arith, with_number (codes "result ") r h)
 cond_size (Test x) h w = omega (arith, length-append (codes "expr ") (expr_words x), expr_size x w)
 cond_size (Last s) h w = omega (arith, with_number (codes "last ") s h)
 
--- a word, a number and more behind it
+-- a word, a number and more after it
 with_more : (word more : List ℕ) (n : ℕ) → IsNumber n
     → length (word ++ (decimal n ++ (32 ∷ more))) ≤ length word + 11 + length more
 with_more word more n h =

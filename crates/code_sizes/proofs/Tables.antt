@@ -106,7 +106,7 @@ init_size (negsuc n) h =
 
 -- ---- lines
 
--- a word with a space and more behind it
+-- a word with a space and more after it
 word_size : (word more : List ℕ) → length (word ++ (32 ∷ more)) ≡ length word + 1 + length more
 word_size word more = omega (arith, length-append word (32 ∷ more))
 

@@ -91,7 +91,7 @@ version_size : (format : Format) → length (version_line format) ≡ 10
 version_size formats.One = refl {a = 10}
 version_size formats.Two = refl {a = 10}
 
--- behind it
+-- after it
 body_size : (format : Format) (w : Written) → IsSpellable format w → length (text_of (body_lines w)) + 11 ≤ text_limit w
 body_size format w h =
     let states = text_of (states_part w.states) in

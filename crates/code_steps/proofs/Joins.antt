@@ -82,7 +82,7 @@ pub then_meets_with : {A B : Type 0} {C : Program} {m : Machine} {G : Aim A} {H 
     → ((a : A) (w : World) (i : G.Facts a w) → P w → Meets C (G.stands a w i) H (g a w)) → Meets C m H (then_do o g)
 then_meets_with {C = C} {m = m} {G = G} {H = H} {P = P} {o = o} {g = g} l h t = with_by C m G H P o g l.by h.by t
 
--- more steps behind a piece of work, by how it ends
+-- more steps after a piece of work, by how it ends
 more_by : {A : Type 0} (C : Program) (m : Machine) (G H : Aim A) (o : Run A) → MeetsBy C m G o
     → ((a : A) (w : World) (i : G.Facts a w) → Arrives C (G.stands a w i) H a w) → MeetsBy C m H o
 more_by C m G H (Ended a w) h t =

@@ -13,14 +13,14 @@ pub has_front : (k : Procedures) (p i : ℕ) (a b : List Instr) → HasAt k p i 
 has_front k p i [] b h = tt
 has_front k p i (x ∷ a) b h = (h.0, has_front k p (i + 1) a b h.1)
 
--- and its end stands behind its front
+-- and its end stands after its front
 pub has_back : (k : Procedures) (p i : ℕ) (a b : List Instr) → HasAt k p i (a ++ b) → HasAt k p (i + length a) b
 has_back k p i [] b h = let e : i ≡ i + 0 = omega arith in subst (λ n. HasAt k p n b) e h
 has_back k p i (x ∷ a) b h =
     let e : i + 1 + length a ≡ i + length (x ∷ a) = omega arith in
     subst (λ n. HasAt k p n b) e (has_back k p (i + 1) a b h.1)
 
--- what a procedure has behind its first instructions stands at the place behind them
+-- what a procedure has after its first instructions stands at the place after them
 from_place : (k : Procedures) (p : ℕ) (before is : List Instr) → instructions k p ≡ before ++ is
     → HasAt k p (length before) is
 unfolding fetch

@@ -31,7 +31,7 @@ pub fn instructions_stand_at_their_places()
     ensures { (k : Procedures) (p : ℕ) (is : List Instr) → instructions k p ≡ is → HasAt k p 0 is }
 {}
 
-/// `Play` finds the first of the pending notes, if there is one, and those behind its frame are
+/// `Play` finds the first of the pending notes, if there is one, and those after its frame are
 /// pending then.
 pub fn play_finds_the_pending_notes()
     ensures none { (k : ℕ) (frames : List Frame) → noted k frames ≡ None → pending k frames ≡ [] }

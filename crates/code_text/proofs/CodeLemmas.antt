@@ -179,7 +179,7 @@ end_read : (format : Format) (w : Written) → steps (procs_done format w) (end_
 unfolding next
 end_read format w = refl
 
--- the lines behind the first
+-- the lines after the first
 body_read : (format : Format) (w : Written) → IsSpellable format w
     → steps (format_done format) (body_lines w) ≡ Some (all_done format w)
 body_read format w h =
@@ -313,14 +313,14 @@ pub record AreSpelled (lines : List (List ℕ)) (v : Written) : Type 0 where
   pub spelled : lines ≡ code_lines format v
   pub spellable : IsSpellable format v
 
--- the lines behind the first
+-- the lines after the first
 record BodyRead (format : Format) (lines : List (List ℕ)) (q : Partial) : Type 0 where
   code : Written
   is : lines ≡ body_lines code
   fits : IsSpellable format code
   last : all_done format code ≡ q
 
--- what is read to the end behind the first line is the lines of code
+-- what is read to the end after the first line is the lines of code
 body_spelled : (format : Format) (lines : List (List ℕ)) (q : Partial) → steps (format_done format) lines ≡ Some q → IsWhole q
     → BodyRead format lines q
 body_spelled format lines q h w =

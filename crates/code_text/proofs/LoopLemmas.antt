@@ -5,7 +5,7 @@ use Rattle.std.specs.List.{flat_map, AllByRecursion}
 use Rattle.code_text.specs.Spelling.{text_of}
 use Rattle.code_text.proofs.TextLemmas.{text_of-append}
 
--- what is left from an item on is the item and what is left behind it
+-- what is left from an item on is the item and what is left after it
 pub left_from : {X : Type 0} (xs : List X) (i : ℕ) (x : X) → x ≡ get_or xs i x → i < length xs
     → drop i xs ≡ x ∷ drop (i + 1) xs
 left_from xs i x is within =

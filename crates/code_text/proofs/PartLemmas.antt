@@ -137,7 +137,7 @@ counted_spelled with line Fits p words counts more part lines q h w =
 
 -- ---- states, data and events
 
--- n states to come behind the first
+-- n states to come after the first
 abbrev pub states_left : Format → ℕ → List RawState → Partial
 states_left format n states = made format states [] [] 0 0 [] [] (state_next n)
 

@@ -10,7 +10,7 @@ pub text_of-append : (lines others : List (List ℕ)) → text_of (lines ++ othe
 text_of-append [] others = refl
 text_of-append (line ∷ lines) others = rw (text_of-append lines others, append_assoc line (10 ∷ text_of lines) (text_of others)) refl
 
--- the text of code behind the first line, part by part
+-- the text of code after the first line, part by part
 pub body_parts : (w : Written) → text_of (body_lines w)
     ≡ text_of (states_part w.states) ++ (text_of (vars_part w.vars) ++ (text_of (events_part w.events) ++ (text_of (procs_part w.procedures) ++ text_of (end_line ∷ []))))
 body_parts w =

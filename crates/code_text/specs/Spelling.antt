@@ -63,7 +63,7 @@ events_part events = events_line (length events) ∷ map event_line events
 abbrev pub procs_part : Procedures → List (List ℕ)
 procs_part k = procs_line (length k.procs) k.start k.react ∷ flat_map proc_lines k.procs
 
--- the lines of code behind the first, without their newlines
+-- the lines of code after the first, without their newlines
 abbrev pub body_lines : Written → List (List ℕ)
 body_lines w =
     states_part w.states ++ (vars_part w.vars ++ (events_part w.events ++ (procs_part w.procedures ++ end_line ∷ [])))
@@ -87,7 +87,7 @@ code_text format w = text_of (code_lines format w)
 abbrev pub HasItsParent : RawState → Type 0
 HasItsParent s = HasParent s.parent
 
--- a state that has a line, first or behind others
+-- a state that has a line, first or after others
 abbrev pub StandsAt : Bool → RawState → Type 0
 StandsAt first s = IsState s × (parent_stands first s.parent ≡ true)
 

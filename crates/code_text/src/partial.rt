@@ -128,7 +128,7 @@ impl Partial {
         true
     }
 
-    /// A state, the first or one behind others.
+    /// A state, the first or one after others.
     fn read_state(
         &mut self,
         alloc: Global,

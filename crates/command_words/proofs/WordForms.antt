@@ -70,7 +70,7 @@ pub short_refused : (x : ℕ) (xs word : Text) (bounded : Bool) → word ≡ 45 
     → word_of bounded word ≡ Refused
 short_refused x xs word bounded is e = ap (word_of bounded) is ∙ rw e refl
 
--- behind its hyphen such a word has a first character
+-- after its hyphen such a word has a first character
 pub short_head : (x : ℕ) (xs : Text) → IsUtf8 (45 ∷ x ∷ xs) → (c : ℕ) × (slice_get (chars (x ∷ xs)) 0 ≡ Some c)
 short_head x xs u =
     let small : 45 < 128 = omega arith in

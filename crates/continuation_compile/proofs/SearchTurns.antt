@@ -64,7 +64,7 @@ drop_item (y ∷ xs) (suc i) x lt e =
     let n : suc i + 1 ≡ suc (i + 1) = omega arith in
     drop_item xs i x (omega arith) e ∙ ap (λ k. x ∷ drop k (y ∷ xs)) (sym n)
 
--- behind the last item nothing is left
+-- after the last item nothing is left
 drop_none : {A : Type 0} (xs : List A) (i : ℕ) → length xs ≤ i → drop i xs ≡ []
 drop_none [] zero h = refl
 drop_none [] (suc i) h = refl
@@ -109,7 +109,7 @@ list_turn S xs i number size t old new all lt e s inv step =
     ∙ ap (λ l. old ++ list_code S (list_seen l) (parts_numbers number (list_seen l))) (sym (drop_item xs i t lt e))
     ∙ inv
 
--- behind the last transition a list returns 0
+-- after the last transition a list returns 0
 pub list_done : (S : Search) (xs : List DeclaredTrans) (i number : ℕ) (old new all : List Instr) → length xs ≤ i
     → old ++ list_code S (list_seen (drop i xs)) (parts_numbers number (list_seen (drop i xs))) ≡ all
     → new ≡ old ++ instrs.Ret 0 ∷ [] → new ≡ all

@@ -6,7 +6,7 @@ use Rattle.std.proofs.lemmas.Bool.{cases_lt}
 use Rattle.chart_layout.specs.Orders.{sum_to}
 use Rattle.continuation_compile.specs.Tables.{IsTable, AreLow}
 
--- what stands in a list stands in it with one more behind it
+-- what stands in a list stands in it with one more after it
 get_front : (xs : List ℕ) (x k : ℕ) → k < length xs → slice_index_or (xs ++ x ∷ []) k 0 ≡ slice_index_or xs k 0
 get_front [] x k h = absurd (omega arith)
 get_front (y ∷ xs) x zero h = refl

@@ -65,7 +65,7 @@ pub fn put_refuse(code: &mut List<Instr>, cond: Cond) -> Result<(), Memory>
     put_return(code, 1)
 }
 
-/// Appends what stands behind a search: what follows is for where it found no firing, else its
+/// Appends what stands after a search: what follows is for where it found no firing, else its
 /// result is handed on.
 pub fn put_unless_found(code: &mut List<Instr>) -> Result<(), Memory>
     ensures { OnOk result (code_seen code.new ≡ code_seen code.old ++ templates.unless_found []) }

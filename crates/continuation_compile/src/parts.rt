@@ -16,7 +16,7 @@ pub(crate) fn guard_number(t: &Trans, first: u32) -> Option<u32>
     }
 }
 
-/// The number of the first part behind its guard.
+/// The number of the first part after its guard.
 fn behind_guard(t: &Trans, first: u32) -> u32
     requires { first ≤ 4294967000 }
     ensures { result ≡ first + guard_count (trans_seen t.now).guard }

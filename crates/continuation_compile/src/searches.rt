@@ -64,7 +64,7 @@ fn fire(numbering: &Numbering<'_>, state: u32, kind: ListKind, dest: u32) -> u32
     }
 }
 
-/// What a search of a list returns behind a firing.
+/// What a search of a list returns after a firing.
 fn fired(numbering: &Numbering<'_>, state: u32, kind: ListKind, dest: u32) -> u32
     requires numbers { IsNumbering numbering.now }
     requires state { state < state_count (chart_in numbering.now).tree }
@@ -113,7 +113,7 @@ fn put_dest(
     }
 }
 
-/// Appends the call of a condition action, behind which the life is tested.
+/// Appends the call of a condition action, after which the life is tested.
 fn put_condition(
     code: &mut List<Instr>,
     lasting: Lasting,
@@ -129,7 +129,7 @@ fn put_condition(
     Ok(())
 }
 
-/// Appends the call of a guard, behind which the next instructions are passed over.
+/// Appends the call of a guard, after which the next instructions are passed over.
 fn put_guard(code: &mut List<Instr>, number: Option<u32>, over: u32) -> Result<(), Memory>
     ensures { OnOk result ((body : Instrs) → length body ≡ over → code_seen code.new ++ body
         ≡ code_seen code.old ++ templates.guarded_code number body) }
@@ -141,7 +141,7 @@ fn put_guard(code: &mut List<Instr>, number: Option<u32>, over: u32) -> Result<(
     Ok(())
 }
 
-/// Appends the test of a trigger, behind which the next instructions are passed over.
+/// Appends the test of a trigger, after which the next instructions are passed over.
 fn put_event(code: &mut List<Instr>, event: Option<u32>, over: u32) -> Result<(), Memory>
     ensures { OnOk result ((body : Instrs) → length body ≡ over → code_seen code.new ++ body
         ≡ code_seen code.old ++ templates.event_code event body) }
@@ -152,7 +152,7 @@ fn put_event(code: &mut List<Instr>, event: Option<u32>, over: u32) -> Result<()
     Ok(())
 }
 
-/// How many instructions stand behind the tests of a transition.
+/// How many instructions stand after the tests of a transition.
 fn lead_length(condition: Option<u32>) -> u32
     ensures length { (alive : instrs.Cond) (body : Instrs) → length body ≡ 2
         → length (templates.condition_code alive condition body) ≡ result }
@@ -164,7 +164,7 @@ fn lead_length(condition: Option<u32>) -> u32
     }
 }
 
-/// How many instructions stand behind the trigger of a transition.
+/// How many instructions stand after the trigger of a transition.
 fn guarded_length(guard: Option<u32>, lead: u32) -> u32
     requires { lead ≤ 6 }
     ensures { (body : Instrs) → length body ≡ lead

@@ -56,7 +56,7 @@ module _ {X : Type 0} (p : X → Bool) where
       let past : position_or_len p xs ≡ length xs = none_past xs none in
       absurd (omega arith)
 
-  -- an item that passes is the first behind others that don't
+  -- an item that passes is the first after others that don't
   pub last_place : (xs : List X) (y : X) → find p xs ≡ None → p y ≡ true →
       position_or_len p (xs ++ y ∷ []) ≡ length xs
   last_place [] y none passes = ap (λ b. cond (not b) (1 + 0) 0) passes
@@ -80,7 +80,7 @@ module _ {X : Type 0} (p : X → Bool) where
       by true some rest = let clash : Some x ≡ None = some in absurd (cc)
       by false none rest = rest none
 
-  -- an item behind the others that doesn't pass isn't found
+  -- an item after the others that doesn't pass isn't found
   find_push : (xs : List X) (y : X) → p y ≡ false → find p (xs ++ y ∷ []) ≡ find p xs
   find_push [] y fails = ap (λ b. cond b (Some y) None) fails
   find_push (x ∷ xs) y fails = ap (cond (p x) (Some x)) (find_push xs y fails)

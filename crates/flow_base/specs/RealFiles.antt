@@ -15,7 +15,7 @@ module _ {F : Type 0} where
   abbrev pub first_of : List ℕ → List (RealFile F) → Option (RealFile F)
   first_of name files = find (is_named name) files
 
-  -- one file more stands behind the others, has that name, and isn't at its end before a read
+  -- one file more stands after the others, has that name, and isn't at its end before a read
   pub record IsOpened (name : List ℕ) (old new : List (RealFile F)) : Type 0 where
     pub file : RealFile F
     pub name_is : string_bytes file.name ≡ name

@@ -131,7 +131,7 @@ impl<R: Files> RealInputs<R> {
         self.files.iter().position(|file| file.is_named(name))
     }
 
-    /// Opens a file of that name, which may fail, and keeps it behind the others.
+    /// Opens a file of that name, which may fail, and keeps it after the others.
     fn open(&mut self, name: &str) -> Result<(), Failed>
         ensures opened { OnOk result
             (spec.IsOpened name.now self.old.files.items self.new.files.items) }

@@ -34,7 +34,7 @@ impl<W: Write> RealSink<W> {
         ensures some { TakesSome piece.now result }
         ensures count { self.new.failed ≡ self.old.failed }
 
-        // A writer whose bytes are known has those that it took behind those before.
+        // A writer whose bytes are known has those that it took after those before.
         ensures bytes { WriteAppends (W.contents self.old.writer) (W.contents self.new.writer)
             result piece.now }
     {
@@ -58,7 +58,7 @@ impl<W: Write> Sink for RealSink<W> {
         ensures some { TakesSome piece.now result }
         ensures cause { HasCause self.old.failed self.new.failed result }
 
-        // A writer whose bytes are known has those that it took behind those before.
+        // A writer whose bytes are known has those that it took after those before.
         ensures writer { WriteAppends (W.contents self.old.writer) (W.contents self.new.writer)
             result piece.now }
     {

@@ -155,7 +155,7 @@ module _ (c : Chart) where
   groups_before = omega (arith, groups_low, lists_low)
 
   module _ (valid : IsValid c) where
-    -- how far the end of a path is behind its beginning
+    -- how far the end of a path is after its beginning
     pub near : (s d : ℕ) → IsPath c.tree s d → (s ≤ d) × (d - s ≤ below_count c.tree s)
     near s d path =
         let range = path_range c.tree valid.tree s d path in

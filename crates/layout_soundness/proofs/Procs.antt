@@ -103,7 +103,7 @@ module _ (c : Chart) (valid : IsValid c) where
 
   -- ---- each kind
 
-  -- how far a state is behind another one, where it stands before its end
+  -- how far a state is after another one, where it stands before its end
   close : (s d : ℕ) → s < state_count c.tree → s ≤ d → d < end_of c.tree s → d - s ≤ below_count c.tree s
   close s d lt low high = omega (arith, end_after c.tree valid.tree s lt)
 

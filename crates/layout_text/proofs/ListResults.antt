@@ -35,7 +35,7 @@ use Rattle.layout_text.proofs.Results.{arrive_results, take_results, process_res
 
 -- ---- homes
 
--- the home of an outer list isn't behind the destination
+-- the home of an outer list isn't after the destination
 home_low : (t : Tree) → IsTree t → (s d : ℕ) → d < state_count t → home_of t s Outer d ≤ d
 unfolding common_above is_below
 home_low t tree s d lt = go (common_above t s d) refl

@@ -10,7 +10,7 @@ use Rattle.code_form.specs.WellFormed.{Known, instr_known, skips_within, calls_l
 use Rattle.code_form.specs.WellFormed.{note_known, cond_known, cond_typed, cond_keeps, can_be_kept, is_ret}
 use Rattle.code_form.proofs.Accepted.{both_true}
 
--- what ends in a return does so behind one more instruction
+-- what ends in a return does so after one more instruction
 pub ends_behind : (x : Instr) (is : List Instr) → EndsInRet is → EndsInRet (x ∷ is)
 ends_behind x [] h = absurd h
 ends_behind x (y ∷ is) h = h

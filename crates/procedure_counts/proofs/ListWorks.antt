@@ -15,7 +15,7 @@ use Rattle.procedure_counts.specs.Calls.{FiringCalls}
 use Rattle.procedure_counts.specs.Works.{work_if, tests_work, FiringsWithin, ListWorks}
 
 module _ (w : ℕ → ℕ) where
-  -- what is left behind instructions that are passed over
+  -- what is left after instructions that are passed over
   lefts_behind : (body rest : List Instr)
       → slice_index (lefts w (body ++ rest)) (length body) ≡ slice_index (lefts w rest) 0
   unfolding lefts

@@ -20,7 +20,7 @@ use Rattle.selftest_command.specs.Selftest.{SelftestEnds}
 
 -- ---- the line, put piece by piece
 
--- nine pieces behind a first one
+-- nine pieces after a first one
 pieces : (a b c d e f g h i j k : List ℕ)
     → a ++ (b ++ (c ++ (d ++ (e ++ (f ++ (g ++ (h ++ (i ++ (j ++ k)))))))))
     ≡ a ++ b ++ c ++ d ++ e ++ f ++ g ++ h ++ i ++ j ++ k

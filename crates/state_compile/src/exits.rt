@@ -154,7 +154,7 @@ fn put_exit_start(
     put_require(code, Cond::BareHome)
 }
 
-/// Appends the exit action, behind which the state is no longer active.
+/// Appends the exit action, after which the state is no longer active.
 fn put_exit_end(code: &mut List<Instr>, numbering: &Numbering<'_>, state: u32) -> Result<(), Memory>
     requires numbers { IsNumbering numbering.now }
     requires state { state < state_count (chart_in numbering.now).tree }

@@ -42,7 +42,7 @@ fn search(numbering: &Numbering<'_>, state: u32, kind: ListKind) -> u32
     numbering.list(state, kind)
 }
 
-/// What a procedure returns behind a firing with this home.
+/// What a procedure returns after a firing with this home.
 fn out(numbering: &Numbering<'_>, home: u32) -> u32
     requires numbers { IsNumbering numbering.now }
     requires home { home < state_count (chart_in numbering.now).tree }
@@ -146,7 +146,7 @@ fn put_children(
     }
 }
 
-/// Appends the search of the outer list, behind which a firing is handed on.
+/// Appends the search of the outer list, after which a firing is handed on.
 fn put_outer(code: &mut List<Instr>, numbering: &Numbering<'_>, state: u32) -> Result<(), Memory>
     requires numbers { IsNumbering numbering.now }
     requires state { state < state_count (chart_in numbering.now).tree }
@@ -160,7 +160,7 @@ fn put_outer(code: &mut List<Instr>, numbering: &Numbering<'_>, state: u32) -> R
     put_unless_found(code)
 }
 
-/// Appends the during action and the search of the inner list, behind which a firing is handed on.
+/// Appends the during action and the search of the inner list, after which a firing is handed on.
 fn put_inner(code: &mut List<Instr>, numbering: &Numbering<'_>, state: u32) -> Result<(), Memory>
     requires numbers { IsNumbering numbering.now }
     requires state { state < state_count (chart_in numbering.now).tree }

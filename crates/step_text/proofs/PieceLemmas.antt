@@ -73,7 +73,7 @@ pub written_failed : (w w1 : Option (List ℕ)) (f f1 : ℕ) (text more : List �
     → Written w w1 f f1 text held → Written w w1 f f1 (text ++ more) held
 written_failed w w1 f f1 text more held e h = let c = rw e at h in rw e (cut_more w w1 f f1 text more c)
 
--- digits that are written behind what is kept are kept
+-- digits that are written after what is kept are kept
 pub digits_kept : (old new digits rest : List ℕ) (len start : ℕ) → len ≤ length old → start ≡ len → drop start new ≡ digits ++ rest
     → take start new ≡ take start old → take (len + length digits) new ≡ take len old ++ digits
 digits_kept old new digits rest len start within at behind before =

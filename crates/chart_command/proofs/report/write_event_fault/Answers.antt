@@ -4,7 +4,7 @@ use Rattle.step_text.specs.Faults.{line_fault_number, line_fault_name}
 use Rattle.chart_command.proofs.FrontLemmas.{front_first, front_after, front_as, written_after, written_as, at_exit}
 use Rattle.chart_command.proofs.report.write_event_fault.Goals as goal
 
--- what stands behind the number isn't written
+-- what stands after the number isn't written
 pub returns-in_err-write_all-clause-failed : goal.returns-in_err-write_all-clause-failed
 returns-in_err-write_all-clause-failed g c =
     let number = decimal (line_fault_number c.args.fault) in

@@ -12,7 +12,7 @@ returns-in_err-write_number-clause-failed g c =
     (written_as _ _ c.as_bytes.result.now _ c.as_bytes.ensures.value c.in_ok-write_all.ensures.ok)
     c.in_err-write_number.ensures.failed))
 
--- what stands behind the number isn't written
+-- what stands after the number isn't written
 pub returns-clause-failed : goal.returns-clause-failed
 returns-clause-failed g c =
     on_err_weaker c.write_all-2.result

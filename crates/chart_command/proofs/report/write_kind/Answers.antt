@@ -26,7 +26,7 @@ returns-in_err-write_number-clause-failed g c =
     (front_after _ _ _ (codes ": ") number c.in_ok-write_all.ensures.ok
     (front_as _ _ _ _ same c.in_err-write_number.ensures.failed))))
 
--- what stands behind the number isn't written
+-- what stands after the number isn't written
 pub returns-in_err-write_all-2-clause-failed : goal.returns-in_err-write_all-2-clause-failed
 returns-in_err-write_all-2-clause-failed g c =
     let number = decimal (form_number c.args.kind) in

@@ -24,7 +24,7 @@ returns-in_err-write_number-clause-failed g c =
     (front_after _ _ _ (codes "chart ") line c.in_ok-write_all.ensures.ok
     (front_as _ _ _ _ (ap decimal c.from.ensures) c.in_err-write_number.ensures.failed))))
 
--- what stands behind it isn't written
+-- what stands after it isn't written
 pub returns-in_err-write_all-2-clause-failed : goal.returns-in_err-write_all-2-clause-failed
 returns-in_err-write_all-2-clause-failed g c =
     let line = decimal c.args.at.line in

@@ -33,7 +33,6 @@ pub record Counted (F : (ℕ → ℕ) → List code.Instr
   pub size : length ns ≡ i
 
 module _ (F : (ℕ → ℕ) → List code.Instr → ℕ) (limit : ℕ) (ps : List (List code.Instr)) where
-
   -- one more procedure, whose number isn't over the limit
   pub counted_more : (i most h : ℕ) (ns : List ℕ) (is : List code.Instr) → Counted F limit i most ns ps
       → drop i ps ≡ is ∷ drop (i + 1) ps → h ≡ F (slice_index ns) is → h ≤ limit

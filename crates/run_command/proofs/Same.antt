@@ -105,19 +105,19 @@ module _ (start start' : StartRelation) (react react' : ReactionRelation) (t : T
   takes_no_more seen taken = elim taken [
     | inl same ↦ inl same
     | inr some ↦
-      inr (record {
-        lines = some.lines;
-        ahead = some.ahead;
-        taken = some.taken;
-        closed = some.closed;
-        good = some.good;
-        few = some.few;
-        within = some.within;
-        trace = some.trace;
-        more = some.more;
-        ran = ran _ some.trace _ some.ran;
-        wrote = some.wrote;
-      })
+        inr (record {
+          lines = some.lines;
+          ahead = some.ahead;
+          taken = some.taken;
+          closed = some.closed;
+          good = some.good;
+          few = some.few;
+          within = some.within;
+          trace = some.trace;
+          more = some.more;
+          ran = ran _ some.trace _ some.ran;
+          wrote = some.wrote;
+        })
   ]
 
   -- what was driven

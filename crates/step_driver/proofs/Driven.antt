@@ -405,8 +405,7 @@ line_fails start react t n wrote now now' before left left' r r' w w' index end 
     by_count event true many is (bad, out) =
         let big : nat_le EVENT_LIMIT (length d.events) ≡ true = ap (nat_le EVENT_LIMIT) d.counted ∙ many in
         let same : end ≡ ends.TooManyLines = let e = bad in cc in
-        subst (λ (e : DriveEnd). Drives start react t n (record { wrote_before = wrote; wrote_after = now'; left_before = before; left_after = left' }) (Err e)) (sym same)
-        (
+        subst (λ (e : DriveEnd). Drives start react t n (record { wrote_before = wrote; wrote_after = now'; left_before = before; left_after = left' }) (Err e)) (sym same) (
           whole_trace start react t n _ d.events AtEvent d.text w (Err ends.TooManyLines)
               (whole_too_many n before d.events r' left' event says is big) d.runs (out ∙ d.written) refl,
           no_more [] (nothing_more wrote now' d.text (out ∙ d.written)),
@@ -421,8 +420,7 @@ line_fails start react t n wrote now now' before left left' r r' w w' index end 
     by_said (Ok (Some event)) is h = by_count event (nat_le EVENT_LIMIT index) refl is h
     by_said (Err fault) is (bad, out) =
         let same : end ≡ ends.Line r'.number fault = let e = bad in cc in
-        subst (λ (e : DriveEnd). Drives start react t n (record { wrote_before = wrote; wrote_after = now'; left_before = before; left_after = left' }) (Err e)) (sym same)
-        (
+        subst (λ (e : DriveEnd). Drives start react t n (record { wrote_before = wrote; wrote_after = now'; left_before = before; left_after = left' }) (Err e)) (sym same) (
           whole_trace start react t n _ d.events (AtLine r'.number fault) d.text w (Err (ends.Line r'.number fault))
               (whole_refused n before d.events r' left' fault says is) d.runs (out ∙ d.written) refl,
           no_more [] (nothing_more wrote now' d.text (out ∙ d.written)),

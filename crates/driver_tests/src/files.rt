@@ -1,91 +1,123 @@
 //! Event files, in pieces of several sizes.
 ghost use Rattle.std.specs.Prelude.{◌<◌};
 
-use crate::setup::{Devices, run_text};
+use crate::setup::{Devices, compare_end, run_text};
 use flow_base::Fault;
-use std::alloc::Global;
 use std::process::Abort;
 use std::test::Fail;
 use step_driver::DriveEnd;
 use step_text::LineFault;
 
-fn refused(line: u64, fault: LineFault) -> Result<(), DriveEnd> {
-    Err(DriveEnd::Line(line, fault))
-}
+/// A file, the answer, and the trace after the line with index 0.
+const ROWS: &[(&str, Result<(), DriveEnd>, &str)] = &[
+    ("", Ok(()), ""),
+    ("GO", Ok(()), "1 GO [] by=0,count=0 DONE,DONE ok\n"),
+    ("GO\n", Ok(()), "1 GO [] by=0,count=0 DONE,DONE ok\n"),
+    (
+        "\n \t\n# x\n#\ntick\r\n\r",
+        Ok(()),
+        "1 tick [] by=0,count=0 - ok\n",
+    ),
+    (
+        "tick by=1.5\n  GO\ttick",
+        Err(DriveEnd::Line(2, LineFault::UnknownInput)),
+        "1 tick [] by=1.5,count=1.5 - ok\n",
+    ),
+    (
+        "tick\tby=-0.0625\nGO\ntick",
+        Ok(()),
+        "1 tick [] by=-0.0625,count=-0.0625 - ok\n2 GO [] by=-0.0625,count=-0.0625 DONE,DONE ok\n3 tick [] by=-0.0625,count=-0.125 - ok\n",
+    ),
+    ("\rGO", Err(DriveEnd::Line(1, LineFault::UnknownEvent)), ""),
+    ("G\rO", Err(DriveEnd::Line(1, LineFault::UnknownEvent)), ""),
+    ("GO\r", Ok(()), "1 GO [] by=0,count=0 DONE,DONE ok\n"),
+    ("GO \r\n", Ok(()), "1 GO [] by=0,count=0 DONE,DONE ok\n"),
+    (
+        "GO\r\r\n",
+        Err(DriveEnd::Line(1, LineFault::UnknownEvent)),
+        "",
+    ),
+    ("G\0O", Err(DriveEnd::Line(1, LineFault::UnknownEvent)), ""),
+    (
+        "NO\nGO",
+        Err(DriveEnd::Line(1, LineFault::UnknownEvent)),
+        "",
+    ),
+    (
+        "by=1 GO",
+        Err(DriveEnd::Line(1, LineFault::UnknownEvent)),
+        "",
+    ),
+    ("G\nO", Err(DriveEnd::Line(1, LineFault::UnknownEvent)), ""),
+    (
+        "\nDONE by=x",
+        Err(DriveEnd::Line(2, LineFault::NotInputEvent)),
+        "",
+    ),
+    ("GO by", Err(DriveEnd::Line(1, LineFault::UnknownInput)), ""),
+    ("GO =1", Err(DriveEnd::Line(1, LineFault::UnknownInput)), ""),
+    (
+        "GO count=1",
+        Err(DriveEnd::Line(1, LineFault::UnknownInput)),
+        "",
+    ),
+    (
+        "GO by=1 by=x",
+        Err(DriveEnd::Line(1, LineFault::InputTwice)),
+        "",
+    ),
+    (
+        "GO by=x count=1",
+        Err(DriveEnd::Line(1, LineFault::BadValue)),
+        "",
+    ),
+    ("GO by=1=1", Err(DriveEnd::Line(1, LineFault::BadValue)), ""),
+    ("GO by=", Err(DriveEnd::Line(1, LineFault::BadValue)), ""),
+    (
+        "GO by=true",
+        Err(DriveEnd::Line(1, LineFault::BadValue)),
+        "",
+    ),
+    ("GO by=1q0", Err(DriveEnd::Line(1, LineFault::BadValue)), ""),
+    ("GO by=+1", Err(DriveEnd::Line(1, LineFault::BadValue)), ""),
+    ("GO by=1.", Err(DriveEnd::Line(1, LineFault::BadValue)), ""),
+    ("GO by=0.1", Err(DriveEnd::Line(1, LineFault::BadValue)), ""),
+    (
+        "GO by=7.9375",
+        Ok(()),
+        "1 GO [] by=7.9375,count=0 DONE,DONE ok\n",
+    ),
+    ("GO by=8", Err(DriveEnd::Line(1, LineFault::BadValue)), ""),
+    ("GO by=-8", Ok(()), "1 GO [] by=-8,count=0 DONE,DONE ok\n"),
+    (
+        "GO by=-8.0625",
+        Err(DriveEnd::Line(1, LineFault::BadValue)),
+        "",
+    ),
+    ("GO by=-0", Ok(()), "1 GO [] by=0,count=0 DONE,DONE ok\n"),
+    (
+        "GO by=000000000000000000000000000000000002",
+        Ok(()),
+        "1 GO [] by=2,count=0 DONE,DONE ok\n",
+    ),
+    (
+        "GO by=0000000000000000000000000000000000002",
+        Err(DriveEnd::Line(1, LineFault::BadValue)),
+        "",
+    ),
+    (
+        "tick by=5\ntick\nNO",
+        Err(DriveEnd::Fault(2, Fault::Overflow(1))),
+        "1 tick [] by=5,count=5 - ok\n2 tick [] by=5,count=5 - overflow count\n",
+    ),
+];
 
 #[test]
 fn files_are_answered(rt: HostRuntime) -> Result<(), Fail> {
-    // the file, the answer, and the trace after the line with index 0
-    let rows: [(&str, Result<(), DriveEnd>, &str); 36] = [
-        ("", Ok(()), ""),
-        ("GO", Ok(()), "1 GO [] by=0,count=0 DONE,DONE ok\n"),
-        ("GO\n", Ok(()), "1 GO [] by=0,count=0 DONE,DONE ok\n"),
-        (
-            "\n \t\n# x\n#\ntick\r\n\r",
-            Ok(()),
-            "1 tick [] by=0,count=0 - ok\n",
-        ),
-        (
-            "tick by=1.5\n  GO\ttick",
-            refused(2, LineFault::UnknownInput),
-            "1 tick [] by=1.5,count=1.5 - ok\n",
-        ),
-        (
-            "tick\tby=-0.0625\nGO\ntick",
-            Ok(()),
-            "1 tick [] by=-0.0625,count=-0.0625 - ok\n2 GO [] by=-0.0625,count=-0.0625 DONE,DONE ok\n3 tick [] by=-0.0625,count=-0.125 - ok\n",
-        ),
-        ("\rGO", refused(1, LineFault::UnknownEvent), ""),
-        ("G\rO", refused(1, LineFault::UnknownEvent), ""),
-        ("GO\r", Ok(()), "1 GO [] by=0,count=0 DONE,DONE ok\n"),
-        ("GO \r\n", Ok(()), "1 GO [] by=0,count=0 DONE,DONE ok\n"),
-        ("GO\r\r\n", refused(1, LineFault::UnknownEvent), ""),
-        ("G\0O", refused(1, LineFault::UnknownEvent), ""),
-        ("NO\nGO", refused(1, LineFault::UnknownEvent), ""),
-        ("by=1 GO", refused(1, LineFault::UnknownEvent), ""),
-        ("G\nO", refused(1, LineFault::UnknownEvent), ""),
-        ("\nDONE by=x", refused(2, LineFault::NotInputEvent), ""),
-        ("GO by", refused(1, LineFault::UnknownInput), ""),
-        ("GO =1", refused(1, LineFault::UnknownInput), ""),
-        ("GO count=1", refused(1, LineFault::UnknownInput), ""),
-        ("GO by=1 by=x", refused(1, LineFault::InputTwice), ""),
-        ("GO by=x count=1", refused(1, LineFault::BadValue), ""),
-        ("GO by=1=1", refused(1, LineFault::BadValue), ""),
-        ("GO by=", refused(1, LineFault::BadValue), ""),
-        ("GO by=true", refused(1, LineFault::BadValue), ""),
-        ("GO by=1q0", refused(1, LineFault::BadValue), ""),
-        ("GO by=+1", refused(1, LineFault::BadValue), ""),
-        ("GO by=1.", refused(1, LineFault::BadValue), ""),
-        ("GO by=0.1", refused(1, LineFault::BadValue), ""),
-        (
-            "GO by=7.9375",
-            Ok(()),
-            "1 GO [] by=7.9375,count=0 DONE,DONE ok\n",
-        ),
-        ("GO by=8", refused(1, LineFault::BadValue), ""),
-        ("GO by=-8", Ok(()), "1 GO [] by=-8,count=0 DONE,DONE ok\n"),
-        ("GO by=-8.0625", refused(1, LineFault::BadValue), ""),
-        ("GO by=-0", Ok(()), "1 GO [] by=0,count=0 DONE,DONE ok\n"),
-        (
-            "GO by=000000000000000000000000000000000002",
-            Ok(()),
-            "1 GO [] by=2,count=0 DONE,DONE ok\n",
-        ),
-        (
-            "GO by=0000000000000000000000000000000000002",
-            refused(1, LineFault::BadValue),
-            "",
-        ),
-        (
-            "tick by=5\ntick\nNO",
-            Err(DriveEnd::Fault(2, Fault::Overflow(1))),
-            "1 tick [] by=5,count=5 - ok\n2 tick [] by=5,count=5 - overflow count\n",
-        ),
-    ];
-    for (text, answer, trace) in rows {
-        for piece in [1, 3, 4096] {
-            shows(&rt, rt.alloc(), text, piece, answer, trace)?;
-        }
+    for &(text, answer, trace) in ROWS {
+        shows(&rt, text, 1, answer, trace)?;
+        shows(&rt, text, 3, answer, trace)?;
+        shows(&rt, text, 4096, answer, trace)?;
     }
     Ok(())
 }
@@ -93,8 +125,7 @@ fn files_are_answered(rt: HostRuntime) -> Result<(), Fail> {
 /// A run over that text, in pieces of that size, has that answer, and that trace after the line
 /// with index 0.
 fn shows(
-    rt: &impl Abort,
-    alloc: Global,
+    rt: &(impl AllocGlobal + Abort),
     text: &str,
     piece: usize,
     answer: Result<(), DriveEnd>,
@@ -102,6 +133,7 @@ fn shows(
 ) -> Result<(), Fail>
     requires { 0 < piece }
 {
+    let alloc = rt.alloc();
     let devices = Devices {
         read_size: piece,
         failing_reads: &[],
@@ -109,13 +141,9 @@ fn shows(
         failing_writes: &[],
     };
     let ran = run_text(alloc, text.as_bytes(), &devices)?;
-    assert_eq!(rt; ran.answer, answer, "of {text:?} in pieces of {piece}");
-    let mut want = String::from_str(alloc, "0 start [] by=0,count=0 - ok\n")?;
-    want.push_str(trace)?;
-    assert_eq!(rt;
-        ran.out.bytes(),
-        want.as_bytes(),
-        "of {text:?} in pieces of {piece}"
-    );
+    let row = format!(in alloc; "of {text:?} in pieces of {piece}")?;
+    compare_end(rt, row.as_str(), ran.answer, answer);
+    let want = format!(in alloc; "0 start [] by=0,count=0 - ok\n{trace}")?;
+    assert_eq!(rt; ran.out.bytes(), want.as_bytes(), "{row}");
     Ok(())
 }

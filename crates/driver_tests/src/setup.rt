@@ -6,6 +6,7 @@ use fixed_point::Scale;
 use flow_base::{Bounds, Inputs, MemFile, MemInputs, MemSink, Memory, Sink};
 use sample_engine::Counter;
 use std::alloc::Global;
+use std::process::Abort;
 use step_driver::{DriveEnd, drive};
 use step_text::{InputVals, LineReader};
 
@@ -81,4 +82,14 @@ fn file(alloc: Global, text: &[u8], devices: &Devices<'_>) -> Result<MemInputs, 
         Ok(files) => Ok(MemInputs::new(files)),
         Err(_) => Err(Memory),
     }
+}
+
+/// Compares the answer of the run that `row` names.
+pub fn compare_end(
+    rt: &impl Abort,
+    row: &str,
+    got: Result<(), DriveEnd>,
+    want: Result<(), DriveEnd>,
+) {
+    assert_eq!(rt; got, want, "{row}");
 }

@@ -3,54 +3,63 @@ use crate::rows::check;
 use crate::setup::LAMP;
 use accepted_charts::chart_fault;
 use flow_base::Status;
+use std::alloc::Global;
+use std::process::Abort;
 use std::test::Fail;
+
+/// Accepted charts with their counts.
+const COUNTS: &[(&str, &str)] = &[
+    (LAMP, "ok 3 states 0 junctions 3 transitions 3 pairs\n"),
+    (
+        "chart C and { state A { } state B { } }",
+        "ok 3 states 0 junctions 0 transitions 0 pairs\n",
+    ),
+    // The list of A and the list of the root both reach j, whose two transitions make a pair
+    // with each of them.
+    (
+        "chart C or { inner -> @j; default -> A; junction j { [true] -> A; -> B; }\
+         state A { outer -> @j; } state B { } }",
+        "ok 3 states 1 junctions 5 transitions 7 pairs\n",
+    ),
+];
 
 #[test]
 fn counts(rt: HostRuntime) -> Result<(), Fail> {
-    let cases = [
-        (LAMP, "ok 3 states 0 junctions 3 transitions 3 pairs\n"),
-        (
-            "chart C and { state A { } state B { } }",
-            "ok 3 states 0 junctions 0 transitions 0 pairs\n",
-        ),
-        // The list of A and the list of the root both reach j, whose two transitions make a pair
-        // with each of them.
-        (
-            "chart C or { inner -> @j; default -> A; junction j { [true] -> A; -> B; }\
-             state A { outer -> @j; } state B { } }",
-            "ok 3 states 1 junctions 5 transitions 7 pairs\n",
-        ),
-    ];
-    for (chart, out) in cases {
+    for &(chart, out) in COUNTS {
         check(&rt, "check c", chart, "", (Status::Ok, out, ""))?;
     }
     Ok(())
 }
 
+/// Words that read the chart.
+const OF_CHARTS: &[&str] = &["check c", "rules c e", "compile c", "run c e"];
+
+/// Refused charts with their lines.
+const REFUSALS: &[(&str, &str)] = &[
+    ("chart Lamp or {", "chart 1:16: 3 Expected\n"),
+    (
+        "chart C { local n : int8; event local n; default -> A; state A { } }",
+        "chart 1:39: 9 NameTwice\n",
+    ),
+    (
+        "chart C { default -> B; state A { } }",
+        "chart 1:22: 10 UnknownName\n",
+    ),
+    (
+        "chart C { local n : int64; default -> A; state A { during { n = n * n; } } }",
+        "chart 1:67: 13 TooWide\n",
+    ),
+    ("chart C or { }", "chart 1:7: 17 EmptyComposition\n"),
+    (
+        "chart C and { state P { outer -> Q; } state Q { } }",
+        "chart 1:34: 23 CrossesRegions\n",
+    ),
+];
+
 #[test]
 fn refusals(rt: HostRuntime) -> Result<(), Fail> {
-    let cases = [
-        ("chart Lamp or {", "chart 1:16: 3 Expected\n"),
-        (
-            "chart C { local n : int8; event local n; default -> A; state A { } }",
-            "chart 1:39: 9 NameTwice\n",
-        ),
-        (
-            "chart C { default -> B; state A { } }",
-            "chart 1:22: 10 UnknownName\n",
-        ),
-        (
-            "chart C { local n : int64; default -> A; state A { during { n = n * n; } } }",
-            "chart 1:67: 13 TooWide\n",
-        ),
-        ("chart C or { }", "chart 1:7: 17 EmptyComposition\n"),
-        (
-            "chart C and { state P { outer -> Q; } state Q { } }",
-            "chart 1:34: 23 CrossesRegions\n",
-        ),
-    ];
-    for (chart, err) in cases {
-        for line in ["check c", "rules c e", "compile c", "run c e"] {
+    for &(chart, err) in REFUSALS {
+        for &line in OF_CHARTS {
             check(&rt, line, chart, "GO\n", (Status::Refused, "", err))?;
         }
     }
@@ -127,23 +136,32 @@ const FAULTS: &[(&str, &str)] = &[
     ),
 ];
 
-/// The first fault of a text is the one that `check` tells.
 #[test]
 fn first_faults(rt: HostRuntime) -> Result<(), Fail> {
-    for (chart, line) in FAULTS {
-        let fault = match chart_fault(rt.alloc(), chart.as_bytes())? {
-            Some(fault) => format!(in rt.alloc(); "{fault}")?,
-            None => String::new(rt.alloc()),
-        };
-        assert_eq!(rt; fault.as_str(), *line);
-        let err = format!(in rt.alloc(); "{line}\n")?;
-        check(
-            &rt,
-            "check c",
-            chart,
-            "",
-            (Status::Refused, "", err.as_str()),
-        )?;
+    for &(chart, line) in FAULTS {
+        check_fault(&rt, chart, line)?;
     }
     Ok(())
+}
+
+/// The first fault of a text is the one that `check` tells.
+fn check_fault(rt: &(impl AllocGlobal + Abort), chart: &str, line: &str) -> Result<(), Fail> {
+    let fault = first_fault(rt.alloc(), chart)?;
+    assert_eq!(rt; fault.as_str(), line);
+    let err = format!(in rt.alloc(); "{line}\n")?;
+    check(
+        rt,
+        "check c",
+        chart,
+        "",
+        (Status::Refused, "", err.as_str()),
+    )
+}
+
+/// The first fault of a chart's text as it is shown, or nothing.
+fn first_fault(alloc: Global, chart: &str) -> Result<String, Fail> {
+    match chart_fault(alloc, chart.as_bytes())? {
+        Some(fault) => Ok(format!(in alloc; "{fault}")?),
+        None => Ok(String::new(alloc)),
+    }
 }

@@ -1,52 +1,67 @@
 //! Code texts that the program writes, runs and upgrades, and that it refuses.
 use crate::rows::{START, check};
-use crate::setup::{CODE, LAMP, files, words};
-use chart_command::chart_main;
+use crate::setup::{CODE, LAMP, Ran, files, run};
 use flow_base::{MemSink, Status};
+use std::alloc::Global;
+use std::process::Abort;
 use std::str;
 use std::test::Fail;
 
 #[test]
 fn compiled_chart(rt: HostRuntime) -> Result<(), Fail> {
-    let alloc = rt.alloc();
-    let mut inputs = files(alloc, LAMP, "", &[])?;
-    let mut out = MemSink::new(alloc, 16_384, 64, Vec::new(alloc))?;
-    let mut err = MemSink::new(alloc, 4096, 64, Vec::new(alloc))?;
-    let words = words(alloc, "compile c")?;
-    let status = chart_main(alloc, &words, &mut inputs, &mut out, &mut err);
-    assert_eq!(rt; status, Status::Ok);
-    assert!(rt; err.bytes().is_empty());
-    let Ok(code) = str::from_utf8(out.bytes()) else {
-        panic!(rt; "{:?}", out.bytes());
-    };
+    let ran = compile(rt.alloc(), LAMP)?;
+    let code = code_of(&rt, &ran);
     let trace = "0 start [Off] - - ok\n1 GO [On] - - ok\n2 GO [Off] - - ok\n3 tick [Off] - - ok\n";
-    for (events, want) in [("", START), ("GO\nGO\ntick\n", trace)] {
-        check(&rt, "exec c e", code, events, (Status::Ok, want, ""))?;
-    }
-    Ok(())
+    check(&rt, "exec c e", code, "", (Status::Ok, START, ""))?;
+    check(
+        &rt,
+        "exec c e",
+        code,
+        "GO\nGO\ntick\n",
+        (Status::Ok, trace, ""),
+    )
 }
+
+/// Compiles a chart.
+fn compile(alloc: Global, chart: &str) -> Result<Ran, Fail> {
+    let inputs = files(alloc, chart, "", &[])?;
+    let out = MemSink::new(alloc, 16_384, 64, Vec::new(alloc))?;
+    let err = MemSink::new(alloc, 4096, 64, Vec::new(alloc))?;
+    Ok(run(alloc, "compile c", inputs, out, err)?)
+}
+
+/// The code that a run wrote, which succeeded.
+fn code_of<'a>(rt: &impl Abort, ran: &'a Ran) -> &'a str {
+    assert_eq!(rt; ran.status, Status::Ok);
+    assert!(rt; ran.err.bytes().is_empty());
+    let Ok(code) = str::from_utf8(ran.out.bytes()) else {
+        panic!(rt; "{:?}", ran.out.bytes());
+    };
+    code
+}
+
+/// A text of the code, what stands in its place, and why that is refused.
+const REFUSED: &[(&str, &str, &str)] = &[
+    ("flowcode 1\n", "flowcode 7\n", "code: 4 Version\n"),
+    ("procs 2 0 1\n", "procs 2 0 01\n", "code 9: 1 BadLine\n"),
+    ("clear 1\n", "keep 1\n", "code 17: 1 BadLine\n"),
+    (
+        "clear 1\n",
+        "call 1 -\n",
+        "code: 6 Form 3 CallNotLower 1.2\n",
+    ),
+    ("mark 2\n", "mark 3\n", "code: 6 Form 1 BadNumber 1.3\n"),
+    ("end\n", "", "code: 2 Truncated\n"),
+    ("end\n", "end\nend\n", "code 25: 3 Trailing\n"),
+];
 
 #[test]
 fn refused_code(rt: HostRuntime) -> Result<(), Fail> {
-    let alloc = rt.alloc();
-    let cases = [
-        ("flowcode 1\n", "flowcode 7\n", "code: 4 Version\n"),
-        ("procs 2 0 1\n", "procs 2 0 01\n", "code 9: 1 BadLine\n"),
-        ("clear 1\n", "keep 1\n", "code 17: 1 BadLine\n"),
-        (
-            "clear 1\n",
-            "call 1 -\n",
-            "code: 6 Form 3 CallNotLower 1.2\n",
-        ),
-        ("mark 2\n", "mark 3\n", "code: 6 Form 1 BadNumber 1.3\n"),
-        ("end\n", "", "code: 2 Truncated\n"),
-        ("end\n", "end\nend\n", "code 25: 3 Trailing\n"),
-    ];
-    for (old, new, err) in cases {
-        let text = CODE.replace(alloc, old, new)?;
-        for line in ["exec c e", "upgrade c"] {
-            check(&rt, line, text.as_str(), "GO\n", (Status::Refused, "", err))?;
-        }
+    for &(old, new, err) in REFUSED {
+        let text = CODE.replace(rt.alloc(), old, new)?;
+        let want = (Status::Refused, "", err);
+        check(&rt, "exec c e", text.as_str(), "GO\n", want)?;
+        check(&rt, "upgrade c", text.as_str(), "GO\n", want)?;
     }
     Ok(())
 }

@@ -1,10 +1,11 @@
 //! Devices that fail, and devices that never do.
 ghost use Rattle.std.specs.Prelude.{◌≢◌};
 
-use crate::setup::{CODE, LAMP, file, files, words};
+use crate::rows::{COMMANDS, START};
+use crate::setup::{CODE, LAMP, compare, file, files, run, words};
 use chart_command::chart_main;
 use flow_base::{MemSink, Sink, Status, SureInputs, SureSink};
-use std::alloc::Global;
+use std::alloc::{AllocError, Global};
 use std::process::Abort;
 use std::test::Fail;
 
@@ -34,83 +35,66 @@ fn sure_devices(rt: HostRuntime) -> Result<(), Fail> {
     Ok(())
 }
 
-/// Runs the program with the listed reads of the event file, writes of the output and of the line
-/// failing.
+/// Which reads of the event file, writes of the output and writes of the line fail.
+type Fails<'a> = (&'a [u64], &'a [u64], &'a [u64]);
+
+/// Runs the program with the listed reads and writes failing.
 fn check(
     rt: &(impl AllocGlobal + Abort),
     line: &str,
     text: &str,
-    fails: (&[u64], &[u64], &[u64]),
+    fails: Fails<'_>,
     want: (Status, &str, &str),
 ) -> Result<(), Fail> {
     let alloc = rt.alloc();
-    let mut inputs = files(alloc, text, "GO\nGO\nGO\n", fails.0)?;
-    let mut out = MemSink::new(alloc, 4096, 4096, Vec::from_slice(alloc, fails.1)?)?;
-    let mut err = MemSink::new(alloc, 4096, 4096, Vec::from_slice(alloc, fails.2)?)?;
-    let words = words(alloc, line)?;
-    let status = chart_main(alloc, &words, &mut inputs, &mut out, &mut err);
-    assert_eq!(rt; status, want.0, "{line}: {fails:?}");
-    assert_eq!(rt; out.bytes(), want.1.as_bytes(), "{line}: {fails:?}");
-    assert_eq!(rt; err.bytes(), want.2.as_bytes(), "{line}: {fails:?}");
+    let inputs = files(alloc, text, "GO\nGO\nGO\n", fails.0)?;
+    let out = MemSink::new(alloc, 4096, 4096, Vec::from_slice(alloc, fails.1)?)?;
+    let err = MemSink::new(alloc, 4096, 4096, Vec::from_slice(alloc, fails.2)?)?;
+    let ran = run(alloc, line, inputs, out, err)?;
+    let row = row(alloc, line, fails)?;
+    compare(rt, row.as_str(), &ran, want);
     Ok(())
 }
 
+/// The name of a row.
+fn row(alloc: Global, line: &str, fails: Fails<'_>) -> Result<String, AllocError> {
+    format!(in alloc; "{line}: {:?} {:?} {:?}", fails.0, fails.1, fails.2)
+}
+
+/// The trace of `GO` twice.
+const GIVEN: &str = "0 start [Off] - - ok\n1 GO [On] - - ok\n2 GO [Off] - - ok\n";
+
+const FAILS: &[(Fails<'_>, (Status, &str, &str))] = &[
+    ((&[3], &[], &[]), (Status::Read, GIVEN, "read fault\n")),
+    ((&[], &[1], &[]), (Status::Write, "", "write fault\n")),
+    ((&[], &[2], &[]), (Status::Write, START, "write fault\n")),
+    // A failing line changes nothing else.
+    ((&[], &[2], &[1]), (Status::Write, START, "")),
+];
+
 #[test]
 fn failing_devices(rt: HostRuntime) -> Result<(), Fail> {
-    let start = "0 start [Off] - - ok\n";
-    let given = "0 start [Off] - - ok\n1 GO [On] - - ok\n2 GO [Off] - - ok\n";
-    // All read the event file line by line.
-    for (line, text) in [("rules c e", LAMP), ("exec c e", CODE), ("run c e", LAMP)] {
-        check(
-            &rt,
-            line,
-            text,
-            (&[3], &[], &[]),
-            (Status::Read, given, "read fault\n"),
-        )?;
-        check(
-            &rt,
-            line,
-            text,
-            (&[], &[1], &[]),
-            (Status::Write, "", "write fault\n"),
-        )?;
-        check(
-            &rt,
-            line,
-            text,
-            (&[], &[2], &[]),
-            (Status::Write, start, "write fault\n"),
-        )?;
-        // A failing line changes nothing else.
-        check(
-            &rt,
-            line,
-            text,
-            (&[], &[2], &[1]),
-            (Status::Write, start, ""),
-        )?;
+    for &(line, text) in COMMANDS {
+        for &(fails, want) in FAILS {
+            check(&rt, line, text, fails, want)?;
+        }
     }
     Ok(())
 }
 
+/// Commands that make a text whole before anything is written, in one piece.
+const TEXTS: &[(&str, &str)] = &[
+    ("check c", LAMP),
+    ("compile c", LAMP),
+    ("fmt c", LAMP),
+    ("upgrade c", CODE),
+];
+
 #[test]
 fn failing_writes_of_a_text(rt: HostRuntime) -> Result<(), Fail> {
-    // The text is made whole before anything is written, in one piece.
-    let cases = [
-        ("check c", LAMP),
-        ("compile c", LAMP),
-        ("fmt c", LAMP),
-        ("upgrade c", CODE),
-    ];
-    for (line, text) in cases {
-        check(
-            &rt,
-            line,
-            text,
-            (&[], &[1], &[]),
-            (Status::Write, "", "write fault\n"),
-        )?;
+    let want = (Status::Write, "", "write fault\n");
+    for &(line, text) in TEXTS {
+        check(&rt, line, text, (&[], &[1], &[]), want)?;
     }
     Ok(())
 }

@@ -5,7 +5,7 @@ use flow_base::Status;
 use std::test::Fail;
 
 /// Each production, precedence and normalisation.
-const TEXTS: [(&str, &str); 7] = [
+const TEXTS: &[(&str, &str)] = &[
     (
         LAMP,
         "chart Lamp or {\n  event input GO;\n  default -> Off;\n  state Off {\n    outer GO -> On;\n  }\n  state On {\n    outer GO -> Off;\n  }\n}\n",
@@ -51,29 +51,31 @@ const TEXTS: [(&str, &str); 7] = [
 
 #[test]
 fn canonical_texts(rt: HostRuntime) -> Result<(), Fail> {
-    for (text, want) in TEXTS {
+    for &(text, want) in TEXTS {
         check(&rt, "fmt c", text, "", (Status::Ok, want, ""))?;
         check(&rt, "fmt c", want, "", (Status::Ok, want, ""))?;
     }
     Ok(())
 }
 
+/// Texts that are no chart, with their lines.
+const REFUSED: &[(&str, &str)] = &[
+    ("", "chart 1:1: 3 Expected\n"),
+    ("Ã", "chart 1:1: 1 BadByte\n"),
+    (
+        "chart C or {\n  state A { }\n\t# }",
+        "chart 3:2: 2 BadToken\n",
+    ),
+    (
+        "chart C { entry { a = 0.1; } }",
+        "chart 1:23: 5 LiteralNotBinary\n",
+    ),
+    ("chart C { } }", "chart 1:13: 3 Expected\n"),
+];
+
 #[test]
 fn refused_texts(rt: HostRuntime) -> Result<(), Fail> {
-    let cases = [
-        ("", "chart 1:1: 3 Expected\n"),
-        ("Ã", "chart 1:1: 1 BadByte\n"),
-        (
-            "chart C or {\n  state A { }\n\t# }",
-            "chart 3:2: 2 BadToken\n",
-        ),
-        (
-            "chart C { entry { a = 0.1; } }",
-            "chart 1:23: 5 LiteralNotBinary\n",
-        ),
-        ("chart C { } }", "chart 1:13: 3 Expected\n"),
-    ];
-    for (text, err) in cases {
+    for &(text, err) in REFUSED {
         check(&rt, "fmt c", text, "", (Status::Refused, "", err))?;
     }
     Ok(())

@@ -1,8 +1,10 @@
 //! Files, words and charts that the tests share.
 ghost use Rattle.std.specs.Prelude.{◌<◌};
 
-use flow_base::{MemFile, MemInputs};
+use chart_command::chart_main;
+use flow_base::{MemFile, MemInputs, MemSink, Status};
 use std::alloc::{AllocError, Global};
+use std::process::Abort;
 
 /// The chart of the lamp.
 pub const LAMP: &str =
@@ -73,4 +75,37 @@ pub fn words(alloc: Global, line: &str) -> Result<Vec<String>, AllocError> {
         words.push(String::from_str(alloc, word)?)?;
     }
     Ok(words)
+}
+
+/// What a run of the program left.
+#[derive(Drop)]
+pub struct Ran {
+    pub status: Status,
+    pub out: MemSink,
+    pub err: MemSink,
+}
+
+/// Runs the program with the words of a line over files and sinks.
+pub fn run(
+    alloc: Global,
+    line: &str,
+    mut inputs: MemInputs,
+    mut out: MemSink,
+    mut err: MemSink,
+) -> Result<Ran, AllocError> {
+    let words = words(alloc, line)?;
+    let status = chart_main(alloc, &words, &mut inputs, &mut out, &mut err);
+    Ok(Ran { status, out, err })
+}
+
+/// Compares status, output and line of the run that `row` names.
+pub fn compare(rt: &impl Abort, row: &str, ran: &Ran, want: (Status, &str, &str)) {
+    assert_eq!(rt; ran.status, want.0, "{row}");
+    compare_bytes(rt, row, ran.out.bytes(), want.1);
+    compare_bytes(rt, row, ran.err.bytes(), want.2);
+}
+
+/// Compares what was written with the text that is wanted.
+fn compare_bytes(rt: &impl Abort, row: &str, bytes: &[u8], want: &str) {
+    assert_eq!(rt; bytes, want.as_bytes(), "{row}");
 }

@@ -8,6 +8,7 @@ use flow_base::{
 use std::alloc::{AllocError, Global};
 use std::fs;
 use std::io::{self, Write};
+use std::process::Abort;
 use std::test::Fail;
 
 fn file(
@@ -36,20 +37,22 @@ fn files(alloc: Global) -> Result<Vec<MemFile>, AllocError> {
     Ok(files)
 }
 
+/// Depths and steps, and whether they are in range.
+const BOUNDS: &[(u32, u32, bool)] = &[
+    (1, 1, true),
+    (32, 50_000, true),
+    (0, 1, false),
+    (1, 0, false),
+    (33, 1, false),
+    (32, 50_001, false),
+];
+
 #[test]
 fn bounds_are_made_in_range(rt: HostRuntime) {
-    let cases = [
-        (1, 1, true),
-        (32, 50_000, true),
-        (0, 1, false),
-        (1, 0, false),
-        (33, 1, false),
-        (32, 50_001, false),
-    ];
-    for (depth, steps, is_made) in cases {
+    for (depth, steps, is_made) in BOUNDS {
         assert_eq!(rt;
-            Bounds::make(depth, steps).is_some(),
-            is_made,
+            Bounds::make(*depth, *steps).is_some(),
+            *is_made,
             "at {depth} and {steps}"
         );
     }
@@ -66,25 +69,27 @@ fn texts_and_lists_keep_what_they_get(rt: HostRuntime) -> Result<(), Fail> {
     Ok(())
 }
 
+/// Reads of `files` in their order: the name, the answer and the bytes.
+const READS: &[(&str, Result<usize, Failed>, &[u8])] = &[
+    ("a", Ok(2), b"he"),
+    ("b", Ok(2), b"by"),
+    ("b", Err(Failed), b""),
+    ("c", Err(Failed), b""),
+    ("a", Ok(2), b"ll"),
+    ("a", Ok(1), b"o"),
+    ("a", Ok(0), b""),
+    ("b", Ok(1), b"e"),
+];
+
 #[test]
 fn reads_give_the_next_bytes_or_fail(rt: HostRuntime) -> Result<(), Fail> {
     let mut inputs = MemInputs::new(files(rt.alloc())?);
-    let cases: [(&str, Result<usize, Failed>, &[u8]); 8] = [
-        ("a", Ok(2), b"he"),
-        ("b", Ok(2), b"by"),
-        ("b", Err(Failed), b""),
-        ("c", Err(Failed), b""),
-        ("a", Ok(2), b"ll"),
-        ("a", Ok(1), b"o"),
-        ("a", Ok(0), b""),
-        ("b", Ok(1), b"e"),
-    ];
-    for (name, answer, bytes) in cases {
+    for (name, answer, bytes) in READS {
         let mut buffer = [0u8; 4];
         let result = inputs.read(name, &mut buffer);
-        assert_eq!(rt; result, answer, "of {name}");
+        assert_eq!(rt; result, *answer, "of {name}");
         if let Ok(count) = result {
-            assert_eq!(rt; &buffer[..count], bytes, "of {name}");
+            assert_eq!(rt; &buffer[..count], *bytes, "of {name}");
         }
     }
     Ok(())
@@ -100,41 +105,50 @@ fn sure_reads_never_fail(rt: HostRuntime) -> Result<(), Fail> {
     Ok(())
 }
 
+/// Names and limits, and what `read_whole` gives.
+const WHOLE_READS: &[(&str, usize, Result<&[u8], ReadEnd>)] = &[
+    ("a", 5, Ok(b"hello")),
+    ("a", 9, Ok(b"hello")),
+    ("a", 4, Err(ReadEnd::TooLong)),
+    ("a", 0, Err(ReadEnd::TooLong)),
+    ("b", 9, Err(ReadEnd::Failed)),
+    ("c", 9, Err(ReadEnd::Failed)),
+];
+
 #[test]
 fn files_are_read_whole_up_to_the_limit(rt: HostRuntime) -> Result<(), Fail> {
-    let cases: [(&str, usize, Result<&[u8], ReadEnd>); 6] = [
-        ("a", 5, Ok(b"hello")),
-        ("a", 9, Ok(b"hello")),
-        ("a", 4, Err(ReadEnd::TooLong)),
-        ("a", 0, Err(ReadEnd::TooLong)),
-        ("b", 9, Err(ReadEnd::Failed)),
-        ("c", 9, Err(ReadEnd::Failed)),
-    ];
-    for (name, limit, wanted) in cases {
+    for (name, limit, wanted) in WHOLE_READS {
         let mut inputs = MemInputs::new(files(rt.alloc())?);
-        match read_whole(rt.alloc(), &mut inputs, name, limit) {
-            Ok(text) => assert_eq!(rt; Ok(text.as_slice()), wanted, "{name} up to {limit}"),
-            Err(end) => assert_eq!(rt; Err(end), wanted, "{name} up to {limit}"),
+        match read_whole(rt.alloc(), &mut inputs, name, *limit) {
+            Ok(text) => assert_eq!(rt; Ok(text.as_slice()), *wanted, "{name} up to {limit}"),
+            Err(end) => assert_eq!(rt; Err(end), *wanted, "{name} up to {limit}"),
         }
     }
     Ok(())
 }
 
+/// Writes in their order: the piece, the answer and what the sink has then.
+const WRITES: &[(&[u8], Result<usize, Failed>, &[u8])] = &[
+    (b"wxyz", Ok(3), b"wxy"),
+    (b"z", Err(Failed), b"wxy"),
+    (b"abc", Ok(2), b"wxyab"),
+    (b"c", Err(Failed), b"wxyab"),
+    (b"", Ok(0), b"wxyab"),
+    (b"d", Err(Failed), b"wxyab"),
+];
+
+/// Asserts what writes to a sink give, and what it has after each.
+fn check_writes(rt: &impl Abort, sink: &mut MemSink) {
+    for (piece, answer, bytes) in WRITES {
+        assert_eq!(rt; sink.write(piece), *answer, "of {piece:?}");
+        assert_eq!(rt; sink.bytes(), *bytes, "after {piece:?}");
+    }
+}
+
 #[test]
 fn writes_take_a_front_or_fail(rt: HostRuntime) -> Result<(), Fail> {
     let mut sink = MemSink::new(rt.alloc(), 5, 3, Vec::from_slice(rt.alloc(), &[2u64])?)?;
-    let cases: [(&[u8], Result<usize, Failed>, &[u8]); 6] = [
-        (b"wxyz", Ok(3), b"wxy"),
-        (b"z", Err(Failed), b"wxy"),
-        (b"abc", Ok(2), b"wxyab"),
-        (b"c", Err(Failed), b"wxyab"),
-        (b"", Ok(0), b"wxyab"),
-        (b"d", Err(Failed), b"wxyab"),
-    ];
-    for (piece, answer, bytes) in cases {
-        assert_eq!(rt; sink.write(piece), answer, "of {piece:?}");
-        assert_eq!(rt; sink.bytes(), bytes, "after {piece:?}");
-    }
+    check_writes(&rt, &mut sink);
     let mut sink = MemSink::new(rt.alloc(), 5, 2, Vec::new(rt.alloc()))?;
     assert_eq!(rt; write_all(&mut sink, b"abc"), Ok(()));
     assert_eq!(rt; write_all(&mut sink, b"def"), Err(Failed));
@@ -143,25 +157,27 @@ fn writes_take_a_front_or_fail(rt: HostRuntime) -> Result<(), Fail> {
     Ok(())
 }
 
+/// Reads of the system in their order: the name, the answer and the bytes.
+const SYSTEM_READS: &[(&str, Result<usize, Failed>, &[u8])] = &[
+    ("there.txt", Ok(3), b"abc"),
+    ("missing.txt", Err(Failed), b""),
+    ("there.txt", Ok(2), b"de"),
+    ("there.txt", Ok(0), b""),
+    ("there.txt", Ok(0), b""),
+    ("missing.txt", Err(Failed), b""),
+];
+
 #[test]
 fn files_of_the_system_are_read_once(rt: HostRuntime) -> Result<(), Fail> {
     let alloc = rt.alloc();
     fs::write(&rt, "there.txt", "abcde")?;
     let mut inputs = RealInputs::new(&rt, alloc);
-    let cases: [(&str, Result<usize, Failed>, &[u8]); 6] = [
-        ("there.txt", Ok(3), b"abc"),
-        ("missing.txt", Err(Failed), b""),
-        ("there.txt", Ok(2), b"de"),
-        ("there.txt", Ok(0), b""),
-        ("there.txt", Ok(0), b""),
-        ("missing.txt", Err(Failed), b""),
-    ];
-    for (name, answer, bytes) in cases {
+    for (name, answer, bytes) in SYSTEM_READS {
         let mut buffer = [0u8; 3];
         let result = inputs.read(name, &mut buffer);
-        assert_eq!(rt; result, answer, "of {name}");
+        assert_eq!(rt; result, *answer, "of {name}");
         if let Ok(count) = result {
-            assert_eq!(rt; &buffer[..count], bytes, "of {name}");
+            assert_eq!(rt; &buffer[..count], *bytes, "of {name}");
         }
     }
     let mut inputs = RealInputs::new(&rt, alloc);
@@ -222,21 +238,23 @@ impl Write for ByteWriter {
     }
 }
 
+/// Rooms of a writer, the answer to five bytes, and the bytes that it takes.
+const ROOMS: &[(usize, Result<(), Failed>, &[u8])] = &[
+    (9, Ok(()), b"abcde"),
+    (3, Err(Failed), b"abc"),
+    (0, Err(Failed), b""),
+];
+
 #[test]
 fn short_writes_are_gone_on_with_until_one_fails(rt: HostRuntime) -> Result<(), Fail> {
-    let cases: [(usize, Result<(), Failed>, &[u8]); 3] = [
-        (9, Ok(()), b"abcde"),
-        (3, Err(Failed), b"abc"),
-        (0, Err(Failed), b""),
-    ];
-    for (room, answer, bytes) in cases {
+    for (room, answer, bytes) in ROOMS {
         let mut writer = ByteWriter {
             bytes: Vec::new(rt.alloc()),
-            room,
+            room: *room,
         };
         let mut sink = RealSink::new(&mut writer);
-        assert_eq!(rt; write_all(&mut sink, b"abcde"), answer, "with room {room}");
-        assert_eq!(rt; writer.bytes.as_slice(), bytes, "with room {room}");
+        assert_eq!(rt; write_all(&mut sink, b"abcde"), *answer, "with room {room}");
+        assert_eq!(rt; writer.bytes.as_slice(), *bytes, "with room {room}");
     }
     Ok(())
 }

@@ -12,5 +12,6 @@ pub mod ErasedLemmas
 pub mod ChartLemmas
 pub mod LeastLemmas
 pub mod PairLemmas
+pub mod UnionLemmas
 pub mod FirstLemmas
 pub mod FaultLemmas

@@ -1,4 +1,6 @@
 //! Reads and writes that fail.
+ghost use Rattle.std.specs.Prelude.{◌<◌};
+
 use crate::setup::{Devices, Ran, compare_end, run_text};
 use flow_base::{Inputs, MemInputs};
 use std::process::Abort;
@@ -42,25 +44,30 @@ fn compare_front(rt: &impl Abort, row: &str, ran: &Ran) {
     assert!(rt; TRACE.as_bytes().starts_with(ran.out.bytes()), "{row}");
 }
 
-/// Each line of the trace takes 5 writes. Up to the fifth no byte of the file may be read.
+/// The first line of the trace takes 5 writes, and up to the fifth no byte of the file may be read.
+/// The other lines take 5 writes each, and 15 together where their events are read at once.
 #[test]
 fn a_failed_write_leaves_a_front(rt: HostRuntime) -> Result<(), Fail> {
     for write in 1..21u64 {
-        check_write(&rt, write)?;
+        check_write(&rt, 3, write)?;
+        check_write(&rt, 4096, write)?;
     }
     Ok(())
 }
 
-/// Over a sink of which that write fails, less than the trace is written.
-fn check_write(rt: &(impl AllocGlobal + Abort), write: u64) -> Result<(), Fail> {
+/// Over a file that comes in pieces of that size, and a sink of which that write fails, less than
+/// the trace is written.
+fn check_write(rt: &(impl AllocGlobal + Abort), read_size: usize, write: u64) -> Result<(), Fail>
+    requires { 0 < read_size }
+{
     let devices = Devices {
-        read_size: 3,
+        read_size,
         failing_reads: &[],
         write_size: 7,
         failing_writes: &[write],
     };
     let mut ran = run_text(rt.alloc(), b"GO\nGO\nGO\n", &devices)?;
-    let row = format!(in rt.alloc(); "write {write}")?;
+    let row = format!(in rt.alloc(); "write {write}, reads of {read_size}")?;
     compare_end(rt, row.as_str(), ran.answer, Err(DriveEnd::Write));
     assert!(rt; ran.out.bytes().len() < TRACE.len(), "{row}");
     compare_front(rt, row.as_str(), &ran);

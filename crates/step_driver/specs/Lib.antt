@@ -2,3 +2,4 @@ pub mod Traces
 pub mod Driving
 pub mod Causes
 pub mod Parts
+pub mod Ending

@@ -1,7 +1,5 @@
 -- What the parts of the driver answer.
-use Rattle.std.specs.Prelude.{◌≡◌, ◌≢◌, ℕ, nat_le, ◌+◌, Bool, true, false, List, Option, Some, None, Result, Ok, Err}
-use Rattle.std.specs.Io.KnownBytes.{append_known}
-use Rattle.flow_base.specs.Bytes.{AppendsProperFront}
+use Rattle.std.specs.Prelude.{◌≡◌, ◌≢◌, ℕ, nat_le, ◌+◌, ◌⊎◌, Bool, true, false, List, [], Option, Some, None, Result, Ok, Err}
 use Rattle.flow_base.specs.declared.fault.Fault.{Fault}
 use Rattle.active_config.specs.Tree.{Tree}
 use Rattle.actions.specs.Engines.{fault_of}
@@ -11,38 +9,38 @@ use Rattle.actions.specs.World.{World}
 use Rattle.actions.specs.declared.engine.Halt.{Halt}
 use Rattle.actions.specs.declared.engine.Halt.TheVariants as halts
 use Rattle.step_text.specs.NextLine.{Nexts}
-use Rattle.step_text.specs.Reading.{Reading}
+use Rattle.step_text.specs.Pieces.{Held, Passed, CutOff, nothing_held}
+use Rattle.step_text.specs.Reading.{Reading, is_ready}
 use Rattle.step_text.specs.Trace.{trace_line}
 use Rattle.step_text.specs.declared.fault.LineFault.{LineFault}
 use Rattle.step_text.specs.declared.fault.LineFault.TheVariants as line_faults
 use Rattle.step_text.specs.declared.limits.TheConstants.{EVENT_LIMIT}
+use Rattle.step_text.specs.declared.line_reader.LineEnd.{LineEnd}
 use Rattle.step_text.specs.declared.line_reader.LineEnd.TheVariants as line_ends
 use Rattle.step_driver.specs.declared.driver.DriveEnd.{DriveEnd}
 use Rattle.step_driver.specs.declared.driver.DriveEnd.TheVariants as ends
 
--- the line of the trace was written for how a call of an engine ended
-abbrev pub EndWritten : ℕ → Result (Unit {0}) Halt → (Option Fault → List ℕ) → Option (List ℕ) → Option (List ℕ) → Result (Unit {0}) DriveEnd → Type 0
-EndWritten index end line before after (Ok done) = (end ≡ Ok tt) × (after ≡ append_known before (line None))
-EndWritten index end line before after (Err (ends.Line number fault)) = ⊥
-EndWritten index end line before after (Err (ends.Fault i fault)) =
-    (i ≡ index) × (end ≡ Err (halts.Fault fault)) × (after ≡ append_known before (line (Some fault)))
-EndWritten index end line before after (Err ends.Read) = ⊥
-EndWritten index end line before after (Err ends.Write) = (end ≢ Err halts.Memory) × AppendsProperFront before after (line (fault_of end))
-EndWritten index end line before after (Err ends.TooManyLines) = ⊥
-EndWritten index end line before after (Err ends.FileTooLong) = ⊥
-EndWritten index end line before after (Err ends.Memory) = (end ≡ Err halts.Memory) × (after ≡ before)
+-- the line of the trace was put for how a call of an engine ended
+abbrev pub EndPut : ℕ → Result (Unit {0}) Halt → (Option Fault → List ℕ) → (List ℕ → Type 0) → Result (Unit {0}) DriveEnd → Type 0
+EndPut index end line puts (Ok done) = (end ≡ Ok tt) × puts (line None)
+EndPut index end line puts (Err (ends.Line number fault)) = ⊥
+EndPut index end line puts (Err (ends.Fault i fault)) = (i ≡ index) × (end ≡ Err (halts.Fault fault)) × puts (line (Some fault))
+EndPut index end line puts (Err ends.Read) = ⊥
+EndPut index end line puts (Err ends.Write) = (end ≢ Err halts.Memory) × puts (line (fault_of end))
+EndPut index end line puts (Err ends.TooManyLines) = ⊥
+EndPut index end line puts (Err ends.FileTooLong) = ⊥
+EndPut index end line puts (Err ends.Memory) = (end ≡ Err halts.Memory) × puts []
 
--- the start or an event gave that world by its definition, and its line was written
-abbrev pub Done : (World → Option Fault → Type 0) → (World → Option Fault → List ℕ) → ℕ → World → Option (List ℕ) → Option (List ℕ) → Result (Unit {0}) DriveEnd → Type 0
-Done gives line index w before after (Ok done) = gives w None × (after ≡ append_known before (line w None))
-Done gives line index w before after (Err (ends.Line number fault)) = ⊥
-Done gives line index w before after (Err (ends.Fault i fault)) =
-    (i ≡ index) × gives w (Some fault) × (after ≡ append_known before (line w (Some fault)))
-Done gives line index w before after (Err ends.Read) = ⊥
-Done gives line index w before after (Err ends.Write) = (fault : Option Fault) × gives w fault × AppendsProperFront before after (line w fault)
-Done gives line index w before after (Err ends.TooManyLines) = ⊥
-Done gives line index w before after (Err ends.FileTooLong) = ⊥
-Done gives line index w before after (Err ends.Memory) = after ≡ before
+-- the start or an event gave that world by its definition, and its line was put
+abbrev pub Done : (World → Option Fault → Type 0) → (World → Option Fault → List ℕ) → ℕ → World → (List ℕ → Type 0) → Result (Unit {0}) DriveEnd → Type 0
+Done gives line index w puts (Ok done) = gives w None × puts (line w None)
+Done gives line index w puts (Err (ends.Line number fault)) = ⊥
+Done gives line index w puts (Err (ends.Fault i fault)) = (i ≡ index) × gives w (Some fault) × puts (line w (Some fault))
+Done gives line index w puts (Err ends.Read) = ⊥
+Done gives line index w puts (Err ends.Write) = (fault : Option Fault) × gives w fault × puts (line w fault)
+Done gives line index w puts (Err ends.TooManyLines) = ⊥
+Done gives line index w puts (Err ends.FileTooLong) = ⊥
+Done gives line index w puts (Err ends.Memory) = puts []
 
 -- the answer without the index
 abbrev pub without_index : Result ℕ DriveEnd → Result (Unit {0}) DriveEnd
@@ -55,17 +53,17 @@ IsNextIndex index (Ok next) = next ≡ index
 IsNextIndex index (Err end) = Unit {0}
 
 -- an event is processed unless it is one too many
-abbrev pub Tried : Bool → ReactionRelation → Tree → Names → ℕ → EventWithInputs → World → World → Option (List ℕ) → Option (List ℕ) → Result ℕ DriveEnd → Type 0
-Tried true react t n index event w w' before after result = (result ≡ Err ends.TooManyLines) × (after ≡ before)
-Tried false react t n index event w w' before after result =
-    Done (ReactsWithInputs react w event) (λ x f. trace_line t n x (index + 1) event.event f) (index + 1) w' before after (without_index result)
+abbrev pub Tried : Bool → ReactionRelation → Tree → Names → ℕ → EventWithInputs → World → World → (List ℕ → Type 0) → Result ℕ DriveEnd → Type 0
+Tried true react t n index event w w' puts result = (result ≡ Err ends.TooManyLines) × puts []
+Tried false react t n index event w w' puts result =
+    Done (ReactsWithInputs react w event) (λ x f. trace_line t n x (index + 1) event.event f) (index + 1) w' puts (without_index result)
     × IsNextIndex (index + 1) result
 
 -- a line was read, and what it says was done
-abbrev pub LineTaken : ReactionRelation → Tree → Names → ℕ → ℕ → Result (Option EventWithInputs) LineFault → World → World → Option (List ℕ) → Option (List ℕ) → Result ℕ DriveEnd → Type 0
-LineTaken react t n number index (Ok None) w w' before after result = (result ≡ Ok index) × (w' ≡ w) × (after ≡ before)
-LineTaken react t n number index (Ok (Some event)) w w' before after result = Tried (nat_le EVENT_LIMIT index) react t n index event w w' before after result
-LineTaken react t n number index (Err fault) w w' before after result = (result ≡ Err (ends.Line number fault)) × (after ≡ before)
+abbrev pub LineTaken : ReactionRelation → Tree → Names → ℕ → ℕ → Result (Option EventWithInputs) LineFault → World → World → (List ℕ → Type 0) → Result ℕ DriveEnd → Type 0
+LineTaken react t n number index (Ok None) w w' puts result = (result ≡ Ok index) × (w' ≡ w) × puts []
+LineTaken react t n number index (Ok (Some event)) w w' puts result = Tried (nat_le EVENT_LIMIT index) react t n index event w w' puts result
+LineTaken react t n number index (Err fault) w w' puts result = (result ≡ Err (ends.Line number fault)) × puts []
 
 -- the next line of the file, or why there is none
 abbrev pub Follows : Reading → Reading → Option (List ℕ) → Option (List ℕ) → Result Bool DriveEnd → Type 0
@@ -74,7 +72,25 @@ Follows old new before after (Err (ends.Line number fault)) =
     (number ≡ new.number) × (fault ≡ line_faults.LineTooLong) × Nexts old new before after (Err line_ends.TooLong)
 Follows old new before after (Err (ends.Fault index fault)) = ⊥
 Follows old new before after (Err ends.Read) = Nexts old new before after (Err line_ends.Read)
-Follows old new before after (Err ends.Write) = ⊥
+Follows old new before after (Err ends.Write) = (new ≡ old) × (after ≡ before)
 Follows old new before after (Err ends.TooManyLines) = ⊥
 Follows old new before after (Err ends.FileTooLong) = Nexts old new before after (Err line_ends.FileTooLong)
 Follows old new before after (Err ends.Memory) = ⊥
+
+-- the answer for what the reader found at the line of that number
+abbrev pub found_or_end : ℕ → Result Bool LineEnd → Result Bool DriveEnd
+found_or_end number (Ok found) = Ok found
+found_or_end number (Err line_ends.Read) = Err ends.Read
+found_or_end number (Err line_ends.TooLong) = Err (ends.Line number line_faults.LineTooLong)
+found_or_end number (Err line_ends.FileTooLong) = Err ends.FileTooLong
+
+-- what is kept was written, and it is told whether that failed
+abbrev pub Flushes : Bool → Option (List ℕ) → Option (List ℕ) → ℕ → ℕ → Held → Held → Type 0
+Flushes false wrote wrote' f f' held held' = Passed wrote wrote' f f' held.bytes [] × (held' ≡ nothing_held)
+Flushes true wrote wrote' f f' held held' = CutOff wrote wrote' f f' held.bytes × (held'.failed ≡ true)
+
+-- The bytes at hand told what comes next, and nothing was read or written. Or what is kept was written before a read.
+abbrev pub Moves : Bool → Reading → Option (List ℕ) → Option (List ℕ) → Option (List ℕ) → Option (List ℕ) → ℕ → ℕ → Held → Held → Type 0
+Moves failed r before after wrote wrote' f f' held held' =
+    (is_ready r ≡ true) × (after ≡ before) × (wrote' ≡ wrote) × (f' ≡ f) × (held' ≡ held) × (failed ≡ false)
+    ⊎ Flushes failed wrote wrote' f f' held held'

@@ -3,15 +3,17 @@ ghost use Rattle.std.specs.Prelude.{◌≡◌, ◌≢◌, ◌<◌, ◌^◌, leng
 ghost use Rattle.flow_base.specs.Causes.{OthersKept, NoneFalls};
 ghost use Rattle.actions.specs.Engines.{Fresh};
 ghost use Rattle.step_text.specs.LineValues.{IsMadeFor};
+ghost use Rattle.step_text.specs.Pieces.{nothing_held};
 ghost use Rattle.step_text.specs.Reading.{unused};
 ghost use Rattle.step_driver.specs.Causes as causes;
 ghost use Rattle.step_driver.specs.Driving as spec;
-ghost use Rattle.step_driver.specs.Parts.{Follows};
+ghost use Rattle.step_driver.specs.Ending.{LinesEnd};
+ghost use Rattle.step_driver.specs.Parts.{Follows, Flushes, Moves, found_or_end};
 
 use crate::events::{run_line, run_start};
 use actions::Engine;
 use flow_base::{Fault, Inputs, Sink};
-use step_text::{InputVals, LineEnd, LineFault, LineReader};
+use step_text::{InputVals, LineEnd, LineFault, LineReader, Pieces};
 use thiserror::Error;
 
 /// Why a run over an event file ended before the end of the file.
@@ -41,9 +43,10 @@ pub enum DriveEnd {
     Memory,
 }
 
-/// Runs an engine over the events of a file: it starts the engine, and then takes line by line. The
-/// line of the trace for the start, and for each event, is written before the next line of the file
-/// is asked for.
+/// Runs an engine over the events of a file: it starts the engine, and then takes line by line.
+/// Before it reads the file, the line of the trace for the start, and for each event so far, has
+/// been written. Lines whose events are at hand together are written together, `PIECE_SIZE` bytes at
+/// once.
 ///
 /// After `Read`, the trace of the events in the whole lines that were given has been written; after
 /// `Write` a front of the trace, and after `Memory` whole lines of it. After every other answer the
@@ -86,31 +89,124 @@ pub fn drive<G: Engine, I: Inputs, O: Sink>(
     ensures writes { causes.HasWriteCause (O.faults out.old) (O.faults out.new) result }
     ensures memory { IsTrue G.never_wants_memory → result ≢ Err DriveEnd.Memory }
 {
-    run_start::<G, O>(engine, out)?;
+    let mut pieces = Pieces::new();
+    let end = run_lines::<G, I, O>(engine, inputs, name, lines, vals, &mut pieces, out);
+    if pieces.has_failed() {
+        return end;
+    }
+    match pieces.finish(out) {
+        Ok(()) => end,
+        Err(_) => Err(DriveEnd::Write),
+    }
+}
+
+/// Starts the engine, and takes line by line. What is kept of the trace is still to be written,
+/// where no write failed.
+fn run_lines<G: Engine, I: Inputs, O: Sink>(
+    engine: &mut G,
+    inputs: &mut I,
+    name: &str,
+    lines: &mut LineReader,
+    vals: &mut InputVals,
+    pieces: &mut Pieces,
+    out: &mut O,
+) -> Result<(), DriveEnd>
+    requires fresh { G.stage engine.old ≡ Fresh }
+    requires few { length (G.declared (G.program engine.old)).events < 2 ^ 32 }
+    requires few_data { length (G.declared (G.program engine.old)).vars < 2 ^ 32 }
+    requires unused { lines.old ≡ unused }
+    requires vals { IsMadeFor (G.declared (G.program engine.old)) vals.old }
+    requires empty { pieces.old ≡ nothing_held }
+    ensures ends { LinesEnd (causes.is_write result)
+        (G.Starts (G.program engine.old)) (G.Reacts (G.program engine.old))
+        (G.tree (G.program engine.old)) (G.declared (G.program engine.old))
+        (O.wrote out.old) (O.wrote out.new) (O.faults out.old) (O.faults out.new)
+        (I.left inputs.old name.now) (I.left inputs.new name.now) pieces.new.bytes result }
+    ensures failed { pieces.new.failed ≡ causes.is_write result }
+    ensures program { G.program engine.new ≡ G.program engine.old }
+    ensures others { OthersKept name.now (I.left inputs.old) (I.left inputs.new) }
+    ensures counts { NoneFalls (I.faults inputs.old) (I.faults inputs.new) }
+    ensures reads { causes.HasReadCause name.now (I.faults inputs.old) (I.faults inputs.new) result }
+    ensures memory { IsTrue G.never_wants_memory → result ≢ Err DriveEnd.Memory }
+{
+    run_start::<G, O>(engine, pieces, out)?;
     let mut index = 0;
-    'lines: while next_line(inputs, name, lines)? {
-        index = run_line::<G, O>(engine, lines.line(), lines.number(), index, vals, out)?;
+    'lines: while next_line(inputs, name, lines, pieces, out)? {
+        index = run_line::<G, O>(
+            engine,
+            lines.line(),
+            lines.number(),
+            index,
+            vals,
+            pieces,
+            out,
+        )?;
     }
     Ok(())
 }
 
-/// Takes the next line of the file.
+/// Takes the next line of the file. What is kept of the trace is written before a read.
 #[inline(always)]
-fn next_line<I: Inputs>(
+fn next_line<I: Inputs, O: Sink>(
     inputs: &mut I,
     name: &str,
     lines: &mut LineReader,
+    pieces: &mut Pieces,
+    out: &mut O,
 ) -> Result<bool, DriveEnd>
-    requires { lines.old.failed ≡ false }
+    requires lines { lines.old.failed ≡ false }
+    requires usable { pieces.old.failed ≡ false }
     ensures next { Follows lines.old lines.new (I.left inputs.old name.now) (I.left inputs.new name.now) result }
+    ensures moves { Moves (causes.is_write result) lines.old
+        (I.left inputs.old name.now) (I.left inputs.new name.now)
+        (O.wrote out.old) (O.wrote out.new) (O.faults out.old) (O.faults out.new) pieces.old pieces.new }
     ensures others { OthersKept name.now (I.left inputs.old) (I.left inputs.new) }
     ensures counts { NoneFalls (I.faults inputs.old) (I.faults inputs.new) }
     ensures reads { causes.HasReadCause name.now (I.faults inputs.old) (I.faults inputs.new) result }
 {
-    match lines.next_line(inputs, name) {
+    match lines.line_at_hand() {
+        Some(found) => end_of(found, lines.number()),
+        None => read_line(inputs, name, lines, pieces, out),
+    }
+}
+
+/// Writes what is kept, and then reads on to the end of the next line.
+#[cold]
+#[inline(never)]
+fn read_line<I: Inputs, O: Sink>(
+    inputs: &mut I,
+    name: &str,
+    lines: &mut LineReader,
+    pieces: &mut Pieces,
+    out: &mut O,
+) -> Result<bool, DriveEnd>
+    requires lines { lines.old.failed ≡ false }
+    requires usable { pieces.old.failed ≡ false }
+    ensures next { Follows lines.old lines.new (I.left inputs.old name.now) (I.left inputs.new name.now) result }
+    ensures flushes { Flushes (causes.is_write result)
+        (O.wrote out.old) (O.wrote out.new) (O.faults out.old) (O.faults out.new) pieces.old pieces.new }
+    ensures others { OthersKept name.now (I.left inputs.old) (I.left inputs.new) }
+    ensures counts { NoneFalls (I.faults inputs.old) (I.faults inputs.new) }
+    ensures reads { causes.HasReadCause name.now (I.faults inputs.old) (I.faults inputs.new) result }
+{
+    match pieces.finish(out) {
+        Ok(()) => {
+            let found = lines.next_line(inputs, name);
+            end_of(found, lines.number())
+        }
+        Err(_) => Err(DriveEnd::Write),
+    }
+}
+
+/// The answer for the line of that number.
+#[inline(always)]
+fn end_of(found: Result<bool, LineEnd>, number: u64) -> Result<bool, DriveEnd>
+    ensures { result ≡ found_or_end number found }
+{
+    match found {
         Ok(found) => Ok(found),
         Err(LineEnd::Read) => Err(DriveEnd::Read),
-        Err(LineEnd::TooLong) => Err(DriveEnd::Line(lines.number(), LineFault::LineTooLong)),
+        Err(LineEnd::TooLong) => Err(DriveEnd::Line(number, LineFault::LineTooLong)),
         Err(LineEnd::FileTooLong) => Err(DriveEnd::FileTooLong),
     }
 }

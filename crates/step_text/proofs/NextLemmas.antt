@@ -9,7 +9,7 @@ use Rattle.step_text.specs.Lines.{line_length, without_return, IsPlain, spelled}
 use Rattle.step_text.specs.NextLine.{Fills, Takes, Then, Nexts, NextOf, NextTold}
 use Rattle.step_text.specs.Reading.{Reading, cut_at, is_ready}
 use Rattle.step_text.specs.declared.cuts.Cut.TheVariants as cuts
-use Rattle.step_text.specs.declared.limits.TheConstants.{LINE_LIMIT, FILE_LIMIT}
+use Rattle.step_text.specs.declared.limits.TheConstants.{LINE_LIMIT, FILE_LIMIT, BUFFER_SIZE}
 use Rattle.step_text.specs.declared.line_reader.LineEnd.{LineEnd}
 use Rattle.step_text.specs.declared.line_reader.LineEnd.TheVariants as ends
 use Rattle.step_text.proofs.LineLemmas.{line_length-plain, line_length-append}
@@ -133,3 +133,21 @@ then_takes mid new (Ok found) ready t = (ready, t)
 then_takes mid new (Err ends.TooLong) ready t = (ready, t)
 then_takes mid new (Err ends.FileTooLong) ready t = (ready, t)
 then_takes mid new (Err ends.Read) ready t = absurd t
+
+-- what was taken of the bytes at hand, without a read
+pub next_at_hand : (old new : Reading) (result : Result Bool LineEnd) (left : Option (List ℕ)) → is_ready old ≡ true → length old.pending ≤ BUFFER_SIZE
+    → old.at + length old.pending ≤ FILE_LIMIT + 1 → Takes old new result → Nexts old new left left result
+next_at_hand old new result left ready room file t = record {
+  mid = old;
+  fills = record {
+    bytes = refl;
+    kept = λ _. (refl, refl);
+    ended = λ yes no. absurd (cc);
+    number = refl;
+    at = refl;
+    failed = refl;
+  };
+  room = room;
+  file = file;
+  answer = then_takes old new result ready t;
+}

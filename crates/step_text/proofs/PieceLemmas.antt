@@ -1,15 +1,12 @@
 -- A text that goes out in pieces.
-use Rattle.std.proofs.Common.{◌≡◌, ℕ, ◌+◌, ◌≤◌, Bool, true, false, List, [], ◌∷◌, ◌++◌, length, take, drop, Option, Some, None, Result, Ok, Err, refl, sym, ap, ◌∙◌, arith, append_assoc, append-nil, length-append}
+use Rattle.std.proofs.Common.{◌≡◌, ℕ, ◌+◌, ◌≤◌, Bool, true, false, List, [], ◌∷◌, ◌++◌, length, take, drop, Option, Some, None, refl, sym, ap, ◌∙◌, subst, arith, append_assoc, append-nil, length-append}
 use Rattle.std.specs.Io.KnownBytes.{append_known}
 use Rattle.std.proofs.lemmas.List.{take-append-le, take-append-drop, take_at, length-take-le}
 use Rattle.std.proofs.Math.Seq.{take-append-add}
 use Rattle.flow_base.specs.Bytes.{AppendsProperFront}
 use Rattle.flow_base.specs.Causes.{Rose}
 use Rattle.flow_base.proofs.Pieces.{append_known-append}
-use Rattle.flow_base.specs.Causes.{HasCause}
-use Rattle.std.specs.Prelude.{OnOk, OnErr}
-use Rattle.flow_base.specs.declared.inputs.Failed.{Failed}
-use Rattle.step_text.specs.Pieces.{Held, Passed, CutOff, Written, Ends, kept, nothing_held}
+use Rattle.step_text.specs.Pieces.{Held, Passed, CutOff, Written, Puts, kept}
 
 -- what was kept is written
 pub flushed : (w w1 w2 : Option (List ℕ)) (f f1 f2 : ℕ) (text held : List ℕ) → Passed w w1 f f1 text held
@@ -94,28 +91,26 @@ pub passed : (w w1 : Option (List ℕ)) (f f1 : ℕ) (text : List ℕ) (held : H
     → Passed w w1 f f1 text held.bytes
 passed w w1 f f1 text held e h = rw e at h
 
-append_nothing : (w : Option (List ℕ)) → w ≡ append_known w []
+-- nothing more is written
+pub append_nothing : (w : Option (List ℕ)) → w ≡ append_known w []
 append_nothing None = refl
 append_nothing (Some bytes) = ap (λ (z : List ℕ). Some z) (sym (append-nil bytes))
 
--- at first nothing is written and nothing is kept
-pub starts : (w : Option (List ℕ)) (f : ℕ) (held : Held) → held ≡ nothing_held → Written w w f f [] held
-starts w f held is = rw is (record { sent = []; parts = refl; written = append_nothing w; count = refl })
+-- a write failed
+pub cut_off : (w w1 : Option (List ℕ)) (f f1 : ℕ) (text : List ℕ) (held : Held) → held.failed ≡ true → Written w w1 f f1 text held
+    → CutOff w w1 f f1 text
+cut_off w w1 f f1 text held e h = rw e at h
 
--- a text that was written whole
-pub ends_ok : (w w1 : Option (List ℕ)) (f f1 : ℕ) (text : List ℕ) (result : Result (Unit {0}) Failed) → Ends w w1 f f1 text result
-    → OnOk result (w1 ≡ append_known w text)
-ends_ok w w1 f f1 text (Ok done) p = p.written ∙ ap (append_known w) (sym (p.parts ∙ append-nil p.sent))
-ends_ok w w1 f f1 text (Err failed) p = tt
+-- what is kept is still to be written
+pub kept_now : (w : Option (List ℕ)) (f : ℕ) (held : Held) → held.failed ≡ false → Written w w f f held.bytes held
+kept_now w f held e = rw e (record { sent = []; parts = refl; written = append_nothing w; count = refl })
 
--- a text that a failed write cut off
-pub ends_failed : (w w1 : Option (List ℕ)) (f f1 : ℕ) (text : List ℕ) (result : Result (Unit {0}) Failed) → Ends w w1 f f1 text result
-    → OnErr result (AppendsProperFront w w1 text)
-ends_failed w w1 f f1 text (Ok done) p = tt
-ends_failed w w1 f f1 text (Err failed) p = p.front
+-- nothing was put
+pub nothing_put : (w w1 : Option (List ℕ)) (f f1 : ℕ) (old new : Held) → w1 ≡ w → f1 ≡ f → new ≡ old → Puts w w1 f f1 old new []
+nothing_put w w1 f f1 old new wrote count held = λ w0 f0 all h.
+    rw (wrote, count, held) (subst (λ (z : List ℕ). Written w0 w f0 f z old) (sym (append-nil all)) h)
 
--- the count rose only there
-pub ends_cause : (w w1 : Option (List ℕ)) (f f1 : ℕ) (text : List ℕ) (result : Result (Unit {0}) Failed) → Ends w w1 f f1 text result
-    → HasCause f f1 result
-ends_cause w w1 f f1 text (Ok done) p = record { later = omega (arith, p.count); failed = tt; ok = p.count }
-ends_cause w w1 f f1 text (Err failed) p = record { later = p.later; failed = p.count; ok = tt }
+-- a text was put after what is kept
+pub put_after : (w w1 : Option (List ℕ)) (f f1 : ℕ) (old new : Held) (text : List ℕ) → old.failed ≡ false → Puts w w1 f f1 old new text
+    → Written w w1 f f1 (old.bytes ++ text) new
+put_after w w1 f f1 old new text open' puts = puts w f old.bytes (kept_now w f old open')

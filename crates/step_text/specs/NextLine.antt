@@ -1,5 +1,5 @@
 -- What the next line of a file is, whatever pieces its bytes come in.
-use Rattle.std.specs.Prelude.{◌≡◌, ℕ, ◌+◌, ◌<◌, ◌≤◌, Bool, true, false, List, [], ◌++◌, length, take, drop, IfSome, Option, Some, Result, Ok, Err}
+use Rattle.std.specs.Prelude.{◌≡◌, ℕ, ◌+◌, ◌<◌, ◌≤◌, Bool, true, false, List, [], ◌++◌, length, take, drop, IfSome, Option, Some, None, Result, Ok, Err}
 use Rattle.std.specs.Io.KnownBytes.{prepend_known, IsAtEnd}
 use Rattle.flow_base.specs.Causes.{Rose, AllStay}
 use Rattle.step_text.specs.declared.cuts.Cut.TheVariants as cuts
@@ -117,3 +117,8 @@ pub record Nexts (old new : Reading) (before after : Option (List ℕ)) (result 
   pub room : length mid.pending ≤ BUFFER_SIZE
   pub file : mid.at + length mid.pending ≤ FILE_LIMIT + 1
   pub answer : Then mid new result
+
+-- what the bytes at hand alone give: the same as a call that reads nothing, or nothing where they don't tell what comes next
+abbrev pub AtHand : Reading → Reading → Option (Result Bool LineEnd) → Type 0
+AtHand old new None = (is_ready old ≡ false) × (new ≡ old)
+AtHand old new (Some result) = (is_ready old ≡ true) × ((left : Option (List ℕ)) → Nexts old new left left result)

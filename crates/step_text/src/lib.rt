@@ -24,4 +24,5 @@ pub use fault::LineFault;
 pub use input_vals::InputVals;
 pub use limits::{BUFFER_SIZE, EVENT_LIMIT, FILE_LIMIT, LINE_LIMIT, PIECE_SIZE};
 pub use line_reader::{LineEnd, LineReader};
-pub use trace::write_trace;
+pub use pieces::Pieces;
+pub use trace::put_trace;

@@ -12,8 +12,8 @@ pub const EVENT_LIMIT: u64 = 1_000_000;
 /// How many bytes of an event file are kept at once.
 pub const BUFFER_SIZE: usize = 8192;
 
-/// The most bytes of a trace line that are written at once.
-pub const PIECE_SIZE: usize = 512;
+/// The most bytes of a trace that are kept before they are written, and that are written at once.
+pub const PIECE_SIZE: usize = 8192;
 
 /// The most names that are compared one by one, where a table takes longer.
 pub(crate) const FEW_NAMES: usize = 8;

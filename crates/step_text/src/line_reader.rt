@@ -118,6 +118,21 @@ impl LineReader {
         self.number
     }
 
+    /// Takes the next line where the bytes at hand tell what comes next, and answers as `next_line`
+    /// does. Otherwise it takes nothing and answers `None`: then only a read can tell.
+    #[inline(always)]
+    pub fn line_at_hand(&mut self) -> Option<Result<bool, LineEnd>>
+        requires { self.old.failed ≡ false }
+        ensures { next.AtHand self.old self.new result }
+    {
+        let plain_length = self.plain_length();
+        if self.is_ready(plain_length) {
+            Some(self.take_line(plain_length))
+        } else {
+            None
+        }
+    }
+
     /// Takes the next line, and answers true; at the end of the file it answers false.
     ///
     /// It reads only where the bytes at hand don't tell what comes next, so never while a whole

@@ -1,4 +1,4 @@
-//! Lines that go out in pieces.
+//! A trace that goes out in pieces.
 ghost use Rattle.std.specs.Prelude.{◌≡◌, length, decimal};
 
 use crate::limits::PIECE_SIZE;
@@ -6,10 +6,10 @@ use flow_base::{Failed, Sink, write_all};
 use itoa::{Buffer, write_digits};
 use std::marker::Model;
 
-/// The bytes of a line that are still to be written, and whether a write failed. After a failed
-/// write nothing more is written, and there is room for no more.
+/// The bytes of a trace that are still to be written, at most `PIECE_SIZE`, and whether a write
+/// failed. After a failed write nothing more is written, and there is room for no more.
 #[derive(Drop)]
-pub(crate) struct Pieces {
+pub struct Pieces {
     buffer: [u8; PIECE_SIZE],
     len: usize,
     failed: bool,
@@ -28,7 +28,7 @@ impl Model for Pieces {
 }
 
 impl Pieces {
-    ghost use Rattle.std.specs.Prelude.{◌≡◌, ◌++◌, ◌∷◌, [], ◌+◌, ◌^◌, ◌<◌, ◌≤◌, ℕ, List, Option, length, decimal, false, IsTrue};
+    ghost use Rattle.std.specs.Prelude.{◌≡◌, ◌++◌, ◌∷◌, [], ◌+◌, ◌^◌, ◌<◌, ◌≤◌, ℕ, List, Option, length, decimal, true, false, IsTrue, OnOk, OnErr};
     ghost use Rattle.step_text.specs.Pieces.{Written, Puts, Ends, nothing_held, kept};
 
     /// No bytes.
@@ -40,6 +40,14 @@ impl Pieces {
             len: 0,
             failed: false,
         }
+    }
+
+    /// Whether a write failed.
+    #[inline(always)]
+    pub fn has_failed(&self) -> bool
+        ensures { result ≡ self.now.failed }
+    {
+        self.failed
     }
 
     /// Whether there is room for no more.
@@ -79,7 +87,7 @@ impl Pieces {
 
     /// Puts a text after what is there.
     #[inline(always)]
-    pub fn put<O: Sink>(&mut self, text: &[u8], out: &mut O)
+    pub(crate) fn put<O: Sink>(&mut self, text: &[u8], out: &mut O)
         ensures { Puts (O.wrote out.old) (O.wrote out.new) (O.faults out.old) (O.faults out.new)
             self.old self.new text.now }
     {
@@ -104,7 +112,7 @@ impl Pieces {
 
     /// Puts a byte after what is there.
     #[inline(always)]
-    pub fn put_byte<O: Sink>(&mut self, byte: u8, out: &mut O)
+    pub(crate) fn put_byte<O: Sink>(&mut self, byte: u8, out: &mut O)
         ensures { Puts (O.wrote out.old) (O.wrote out.new) (O.faults out.old) (O.faults out.new)
             self.old self.new (byte ∷ []) }
     {
@@ -117,7 +125,7 @@ impl Pieces {
 
     /// Puts a byte and then a text after what is there.
     #[inline(always)]
-    pub fn put_led<O: Sink>(&mut self, byte: u8, text: &[u8], out: &mut O)
+    pub(crate) fn put_led<O: Sink>(&mut self, byte: u8, text: &[u8], out: &mut O)
         ensures { Puts (O.wrote out.old) (O.wrote out.new) (O.faults out.old) (O.faults out.new)
             self.old self.new (byte ∷ text.now) }
     {
@@ -133,7 +141,7 @@ impl Pieces {
     /// Puts the digits of a whole number after what is there. They are counted first, so that
     /// they are written where they stay.
     #[inline(always)]
-    pub fn put_digits<O: Sink>(&mut self, number: u64, out: &mut O)
+    pub(crate) fn put_digits<O: Sink>(&mut self, number: u64, out: &mut O)
         ensures { Puts (O.wrote out.old) (O.wrote out.new) (O.faults out.old) (O.faults out.new)
             self.old self.new (decimal number) }
     {
@@ -243,9 +251,11 @@ impl Pieces {
         self.len = end;
     }
 
-    /// Writes the rest.
+    /// Writes what is kept. An error comes only where a write failed, now or before.
     pub fn finish<O: Sink>(&mut self, out: &mut O) -> Result<(), Failed>
-        ensures { (w : Option (List ℕ)) (f : ℕ) (all : List ℕ)
+        ensures kept { OnOk result (self.new ≡ nothing_held) }
+        ensures failed { OnErr result (self.new.failed ≡ true) }
+        ensures written { (w : Option (List ℕ)) (f : ℕ) (all : List ℕ)
             → Written w (O.wrote out.old) f (O.faults out.old) all self.old
             → Ends w (O.wrote out.new) f (O.faults out.new) all result }
     {

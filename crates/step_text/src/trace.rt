@@ -1,8 +1,5 @@
 //! The lines of a trace.
-ghost use Rattle.std.specs.Prelude.{◌≡◌, ◌<◌, ◌^◌, ◌++◌, codes, decimal, length, OnOk, OnErr};
-ghost use Rattle.std.specs.Io.KnownBytes.{append_known};
-ghost use Rattle.flow_base.specs.Bytes.{AppendsProperFront};
-ghost use Rattle.flow_base.specs.Causes.{HasCause};
+ghost use Rattle.std.specs.Prelude.{◌<◌, ◌^◌, ◌++◌, codes, decimal, length};
 ghost use Rattle.actions.specs.Engines.{IsFaultOf};
 ghost use Rattle.actions.specs.Names.{names_of};
 ghost use Rattle.actions.specs.World.{Fits};
@@ -13,37 +10,14 @@ use crate::pieces::Pieces;
 use crate::trace_parts::{event_word, put_data, put_outputs, put_result};
 use crate::trace_states::put_states;
 use actions::{Event, Names, View};
-use flow_base::{Failed, Fault, Sink};
+use flow_base::{Fault, Sink};
 
-/// Writes the line of a trace for the start or an event: its index, its word, the active states,
-/// the values, what was put out, and how it ended.
+/// Puts the line of a trace for the start or an event: its index, its word, the active states, the
+/// values, what was put out, and how it ended.
 ///
-/// The line goes out in pieces of `PIECE_SIZE` bytes and a rest. An error comes only where a write
-/// failed, and then a front of the line was written that isn't all of it. It takes no memory.
-pub fn write_trace<O: Sink>(
-    index: u64,
-    event: Event,
-    view: &View<'_>,
-    fault: Option<Fault>,
-    out: &mut O,
-) -> Result<(), Failed>
-    requires fits { Fits view.now.shape.now (names_of view.now.names.now) (spec.world_of view.now) }
-    requires few { length (names_of view.now.names.now).vars < 2 ^ 32 }
-    requires event { spec.IsEventOf (names_of view.now.names.now) event }
-    requires fault { IsFaultOf (names_of view.now.names.now) fault }
-    ensures ok { OnOk result (O.wrote out.new ≡ append_known (O.wrote out.old)
-        (spec.trace_line view.now.shape.now (names_of view.now.names.now) (spec.world_of view.now) index event fault)) }
-    ensures failed { OnErr result (AppendsProperFront (O.wrote out.old) (O.wrote out.new)
-        (spec.trace_line view.now.shape.now (names_of view.now.names.now) (spec.world_of view.now) index event fault)) }
-    ensures cause { HasCause (O.faults out.old) (O.faults out.new) result }
-{
-    let mut pieces = Pieces::new();
-    put_line(index, event, view, fault, &mut pieces, out);
-    pieces.finish(out)
-}
-
-/// Puts the line.
-fn put_line<O: Sink>(
+/// What there is no room for goes to the sink at once. After a failed write nothing more is put.
+/// It takes no memory.
+pub fn put_trace<O: Sink>(
     index: u64,
     event: Event,
     view: &View<'_>,

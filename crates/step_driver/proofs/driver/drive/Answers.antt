@@ -1,63 +1,63 @@
-use Rattle.std.proofs.Common.{refl, ◌∙◌}
-use Rattle.std.proofs.lemmas.Result.{err_from_is_err_and}
-use Rattle.step_driver.proofs.Driven.{driven_start, start_ends, all_driven, lines_end, line_driven, line_fails}
+use Rattle.std.proofs.Common.{◌≡◌, false, sym, ◌∙◌}
+use Rattle.step_text.proofs.PieceLemmas.{kept_now}
+use Rattle.step_driver.specs.Causes.{is_write}
+use Rattle.step_driver.proofs.Buffered.{finished, not_finished}
 use Rattle.step_driver.proofs.driver.drive.Goals as goal
 
--- the start isn't taken, or its line can't be written
-pub returns-in_err-run_start-clause-drives : goal.returns-in_err-run_start-clause-drives
-returns-in_err-run_start-clause-drives g c =
-    let p = err_from_is_err_and c.from_residual.result c.from_residual.ensures.1 in
-    rw (p.1, p.2) (start_ends _ _ _ _ _ _ _ refl c.in_err-run_start.ensures.done)
+-- what is kept at the end was written
+pub returns-in-Ok-clause-drives : goal.returns-in-Ok-clause-drives
+returns-in-Ok-clause-drives g c =
+    let lines = c.run_lines-end in
+    let held = lines.new.pieces in
+    let usable : held.failed ≡ false = sym c.has_failed.ensures ∙ c.if-has_failed.false in
+    let whole : is_write lines.result ≡ false = sym lines.ensures.failed ∙ usable in
+    let s = lines.ensures.ends in
+    let stopped = rw whole at s in
+    finished _ _ _ _ _ _ _ _ _ _ _ _ held.bytes lines.result stopped (c.in-Ok.ensures.written _ _ held.bytes (kept_now _ _ held usable))
 
-pub lines-init : goal.lines-init
-lines-init g c = record {
-  driven = driven_start _ _ _ _ _ _ _ _ _ c.requires.unused c.in_ok-run_start.ensures.done;
-  program = c.in_ok-run_start.ensures.program;
-  running = c.in_ok-run_start.ensures.stage;
-  vals = c.requires.vals;
-  others = λ other ne. refl;
-  counts = λ other. refl;
-  writes = c.in_ok-run_start.ensures.writes.others refl;
-}
+pub returns-in-Ok-clause-writes : goal.returns-in-Ok-clause-writes
+returns-in-Ok-clause-writes g c =
+    let lines = c.run_lines-end in
+    let held = lines.new.pieces in
+    let usable : held.failed ≡ false = sym c.has_failed.ensures ∙ c.if-has_failed.false in
+    let whole : is_write lines.result ≡ false = sym lines.ensures.failed ∙ usable in
+    let s = lines.ensures.ends in
+    let stopped = rw whole at s in
+    let passed = c.in-Ok.ensures.written (g.O.Sink.wrote lines.new.out) (g.O.Sink.faults lines.new.out) held.bytes (kept_now _ _ held usable) in
+    record { fault = λ is. absurd (cc); others = λ _. passed.count ∙ stopped.count }
 
--- the next line can't be taken
-pub returns-in_err-next_line-clause-drives : goal.returns-in_err-next_line-clause-drives
-returns-in_err-next_line-clause-drives g c =
-    let p = err_from_is_err_and c.from_residual-in_err-next_line.result c.from_residual-in_err-next_line.ensures.1 in
-    rw (p.1, p.2) (lines_end _ _ _ _ _ _ _ _ _ _ _ _ _ _ c.lines.invariant.driven c.in_err-next_line.ensures.next)
+-- what is kept at the end can't be written
+pub returns-in-Err-clause-drives : goal.returns-in-Err-clause-drives
+returns-in-Err-clause-drives g c =
+    let lines = c.run_lines-end in
+    let held = lines.new.pieces in
+    let usable : held.failed ≡ false = sym c.has_failed.ensures ∙ c.if-has_failed.false in
+    let whole : is_write lines.result ≡ false = sym lines.ensures.failed ∙ usable in
+    let s = lines.ensures.ends in
+    let stopped = rw whole at s in
+    (not_finished _ _ _ _ _ _ _ _ _ _ _ _ held.bytes lines.result (g.met.G.Engine.one_start (g.G.Engine.program c.args.engine.now)) whole stopped
+    (c.in-Err.ensures.written _ _ held.bytes (kept_now _ _ held usable))).0
 
--- the run ends at a line
-pub returns-in_err-index-clause-drives : goal.returns-in_err-index-clause-drives
-returns-in_err-index-clause-drives g c =
-    let p = err_from_is_err_and c.from_residual-in_err-index.result c.from_residual-in_err-index.ensures.1 in
-    let n = c.in_ok-next_line.ensures.next in
-    let next = rw c.if-branch.true at n in
-    let t = c.in_err-index.ensures.taken in
-    let taken = rw (c.lines.invariant.program, c.line.ensures, c.number.ensures) at t in
-    rw (p.1, p.2) (line_fails _ _ _ _ _ _ _ _ _ _ _ _ _ _ _ _ (g.met.G.Engine.one_start (g.G.Engine.program c.args.engine.now)) c.lines.invariant.driven next taken)
+pub returns-in-Err-clause-reads : goal.returns-in-Err-clause-reads
+returns-in-Err-clause-reads g c =
+    let lines = c.run_lines-end in
+    let held = lines.new.pieces in
+    let usable : held.failed ≡ false = sym c.has_failed.ensures ∙ c.if-has_failed.false in
+    let whole : is_write lines.result ≡ false = sym lines.ensures.failed ∙ usable in
+    let s = lines.ensures.ends in
+    let stopped = rw whole at s in
+    let k = not_finished _ _ _ _ _ _ _ _ _ _ _ _ held.bytes lines.result (g.met.G.Engine.one_start (g.G.Engine.program c.args.engine.now)) whole stopped
+    (c.in-Err.ensures.written _ _ held.bytes (kept_now _ _ held usable)) in
+    record { fault = λ is. absurd (cc); others = λ _. lines.ensures.reads.others k.1 }
 
--- one line more
-pub lines-preserved : goal.lines-preserved
-lines-preserved g c =
-    let inv = c.lines.invariant in
-    let n = c.in_ok-next_line.ensures.next in
-    let next = rw c.if-branch.true at n in
-    let t = c.in_ok-index.ensures.taken in
-    let taken = rw (inv.program, c.line.ensures, c.number.ensures) at t in
-    let stay = c.in_ok-next_line.ensures.reads.others refl in
-    record {
-      driven = line_driven _ _ _ _ _ _ _ _ _ _ _ _ _ _ _ _ inv.driven next taken;
-      program = c.in_ok-index.ensures.program ∙ inv.program;
-      running = c.in_ok-index.ensures.stage;
-      vals = let v = c.in_ok-index.ensures.vals in rw inv.program at v;
-      others = λ other ne. c.in_ok-next_line.ensures.others other ne ∙ inv.others other ne;
-      counts = λ other. stay other ∙ inv.counts other;
-      writes = c.in_ok-index.ensures.writes.others refl ∙ inv.writes;
-    }
-
--- no line is left
-pub returns-clause-drives : goal.returns-clause-drives
-returns-clause-drives g c =
-    let n = c.in_ok-next_line.ensures.next in
-    let next = rw c.if-branch.false at n in
-    all_driven _ _ _ _ _ _ _ _ _ _ _ _ _ c.lines.invariant.driven next
+pub returns-in-Err-clause-writes : goal.returns-in-Err-clause-writes
+returns-in-Err-clause-writes g c =
+    let lines = c.run_lines-end in
+    let held = lines.new.pieces in
+    let usable : held.failed ≡ false = sym c.has_failed.ensures ∙ c.if-has_failed.false in
+    let whole : is_write lines.result ≡ false = sym lines.ensures.failed ∙ usable in
+    let s = lines.ensures.ends in
+    let stopped = rw whole at s in
+    let k = not_finished _ _ _ _ _ _ _ _ _ _ _ _ held.bytes lines.result (g.met.G.Engine.one_start (g.G.Engine.program c.args.engine.now)) whole stopped
+    (c.in-Err.ensures.written _ _ held.bytes (kept_now _ _ held usable)) in
+    record { fault = λ _. k.2; others = λ is. absurd (cc) }

@@ -5,7 +5,7 @@ use Rattle.actions.specs.Names.{names_of}
 use Rattle.step_text.specs.Pieces.{Written}
 use Rattle.step_text.specs.Trace.{line_of, event_word, event_name, path_of, active_states, value_texts, listed, result_word}
 use Rattle.step_text.proofs.PutLemmas.{line_parts}
-use Rattle.step_text.proofs.trace.put_line.Goals as goal
+use Rattle.step_text.proofs.trace.put_trace.Goals as goal
 
 -- the parts make the line
 pub returns : goal.returns

@@ -3,23 +3,23 @@ use Rattle.step_text.specs.LineValues.{IsMadeFor}
 use Rattle.step_text.specs.declared.limits.TheConstants.{FILE_LIMIT}
 use Rattle.flow_base.specs.Causes.{OthersKept, AllStay}
 use Rattle.actions.specs.Engines.{Running}
-use Rattle.step_driver.proofs.Driven.{Driven}
-use Rattle.step_driver.proofs.driver.drive.Given as goal
+use Rattle.step_driver.proofs.Buffered.{Buffered}
+use Rattle.step_driver.proofs.driver.run_lines.Given as goal
 
--- the lines so far were taken and their trace was written, and no read or write failed
+-- the lines so far were taken, their trace was written or is kept, and no read or write failed
 abbrev pub invariant-lines : goal.invariant-lines
 invariant-lines g l =
     let e = g.G.Engine in
     let p = e.program l.fn.engine in
     record {
-      driven : Driven (e.Starts p) (e.Reacts p) (e.tree p) (e.declared p) (g.O.Sink.wrote l.fn.out) (g.O.Sink.wrote l.out)
-          (g.I.Inputs.left l.fn.inputs l.name) (g.I.Inputs.left l.inputs l.name) l.lines (e.world l.engine) l.index;
+      driven : Buffered (e.Starts p) (e.Reacts p) (e.tree p) (e.declared p) (g.O.Sink.wrote l.fn.out) (g.O.Sink.wrote l.out)
+          (g.O.Sink.faults l.fn.out) (g.O.Sink.faults l.out)
+          (g.I.Inputs.left l.fn.inputs l.name) (g.I.Inputs.left l.inputs l.name) l.pieces l.lines (e.world l.engine) l.index;
       program : e.program l.engine ≡ p;
       running : e.stage l.engine ≡ Running;
       vals : IsMadeFor (e.declared p) l.vals;
       others : OthersKept l.name (g.I.Inputs.left l.fn.inputs) (g.I.Inputs.left l.inputs);
       counts : AllStay (g.I.Inputs.faults l.fn.inputs) (g.I.Inputs.faults l.inputs);
-      writes : g.O.Sink.faults l.out ≡ g.O.Sink.faults l.fn.out;
     }
 
 -- each line takes bytes of the file

@@ -1,0 +1,68 @@
+use Rattle.std.proofs.Common.{refl, ◌∙◌}
+use Rattle.std.proofs.lemmas.Result.{err_from_is_err_and}
+use Rattle.step_driver.proofs.Buffered.{start_stops, buffered_start, next_stops, between, line_stops, line_buffered, end_stops}
+use Rattle.step_driver.proofs.driver.run_lines.Goals as goal
+
+-- the start isn't taken, or its line can't be written
+pub returns-in_err-run_start-clause-ends : goal.returns-in_err-run_start-clause-ends
+returns-in_err-run_start-clause-ends g c =
+    let p = err_from_is_err_and c.from_residual.result c.from_residual.ensures.1 in
+    let e = c.in_err-run_start.ensures in
+    rw (p.1, p.2) (start_stops _ _ _ _ _ _ _ _ _ _ _ _ _ (g.met.G.Engine.one_start (g.G.Engine.program c.args.engine.now)) c.requires.empty e.failed e.reads e.done)
+
+pub lines-init : goal.lines-init
+lines-init g c = record {
+  driven = buffered_start _ _ _ _ _ _ _ _ _ _ _ _ _ c.requires.unused c.requires.empty c.in_ok-run_start.ensures.failed c.in_ok-run_start.ensures.done;
+  program = c.in_ok-run_start.ensures.program;
+  running = c.in_ok-run_start.ensures.stage;
+  vals = c.requires.vals;
+  others = λ other ne. refl;
+  counts = λ other. refl;
+}
+
+-- the next line can't be taken
+pub returns-in_err-next_line-clause-ends : goal.returns-in_err-next_line-clause-ends
+returns-in_err-next_line-clause-ends g c =
+    let p = err_from_is_err_and c.from_residual-in_err-next_line.result c.from_residual-in_err-next_line.ensures.1 in
+    let n = c.in_err-next_line.ensures in
+    rw (p.1, p.2) (next_stops _ _ _ _ _ _ _ _ _ _ _ _ _ _ _ _ _ _ _ _
+    (g.met.G.Engine.one_start (g.G.Engine.program c.args.engine.now)) c.lines.invariant.driven n.next n.moves)
+
+-- the run ends at a line
+pub returns-in_err-index-clause-ends : goal.returns-in_err-index-clause-ends
+returns-in_err-index-clause-ends g c =
+    let p = err_from_is_err_and c.from_residual-in_err-index.result c.from_residual-in_err-index.ensures.1 in
+    let inv = c.lines.invariant in
+    let n = c.in_ok-next_line.ensures.next in
+    let next = rw c.if-branch.true at n in
+    let b = between _ _ _ _ _ _ _ _ _ _ _ _ _ _ _ _ _ _ _ inv.driven next c.in_ok-next_line.ensures.moves in
+    let e = c.in_err-index.ensures in
+    let t = e.taken in
+    let taken = rw (inv.program, c.line.ensures, c.number.ensures) at t in
+    rw (p.1, p.2) (line_stops _ _ _ _ _ _ _ _ _ _ _ _ _ _ _ _ _ _ _ _ _ (g.met.G.Engine.one_start (g.G.Engine.program c.args.engine.now)) b e.failed e.reads taken)
+
+-- one line more
+pub lines-preserved : goal.lines-preserved
+lines-preserved g c =
+    let inv = c.lines.invariant in
+    let n = c.in_ok-next_line.ensures.next in
+    let next = rw c.if-branch.true at n in
+    let b = between _ _ _ _ _ _ _ _ _ _ _ _ _ _ _ _ _ _ _ inv.driven next c.in_ok-next_line.ensures.moves in
+    let t = c.in_ok-index.ensures.taken in
+    let taken = rw (inv.program, c.line.ensures, c.number.ensures) at t in
+    let stay = c.in_ok-next_line.ensures.reads.others refl in
+    record {
+      driven = line_buffered _ _ _ _ _ _ _ _ _ _ _ _ _ _ _ _ _ _ _ _ _ b c.in_ok-index.ensures.failed taken;
+      program = c.in_ok-index.ensures.program ∙ inv.program;
+      running = c.in_ok-index.ensures.stage;
+      vals = let v = c.in_ok-index.ensures.vals in rw inv.program at v;
+      others = λ other ne. c.in_ok-next_line.ensures.others other ne ∙ inv.others other ne;
+      counts = λ other. stay other ∙ inv.counts other;
+    }
+
+-- no line is left
+pub returns-clause-ends : goal.returns-clause-ends
+returns-clause-ends g c =
+    let n = c.in_ok-next_line.ensures.next in
+    let next = rw c.if-branch.false at n in
+    end_stops _ _ _ _ _ _ _ _ _ _ _ _ _ _ _ _ _ _ _ c.lines.invariant.driven next c.in_ok-next_line.ensures.moves

@@ -5,10 +5,10 @@
 
 All of them run the 20,000 events and must write the same trace, byte for byte, before anything is measured; a difference is an
 error. Instructions are counted by valgrind's tool callgrind over the first 5,000 events, less those of a run without events.
-The time is the least processor time of five runs over the event file ten times, less that without events. `flowc` writes each
-line of the trace before it reads the next event. In the rows `by lines` the others do so too; else they write many lines at
-once. What isn't installed is skipped, and a line says so. With --functions it prints too how the instructions of `exec` and of
-`rules` are distributed. It works in a temporary folder, and is no test of speed: no ratio is an error."""
+The time is the least processor time of five runs over the event file ten times, less that without events. `flowc` reads and
+writes 8 KiB at once, the others read the whole file and write 60 KiB at once. What isn't installed is skipped, and a line says
+so. With --functions it prints too how the instructions of `exec` and of `rules` are distributed. It works in a temporary folder,
+and is no test of speed: no ratio is an error."""
 import collections
 import os
 import re
@@ -26,10 +26,7 @@ BUILT = os.path.join(HERE, '..', 'crates', 'flowc', 'out', 'flowc')
 MACHINES = os.path.join(HERE, 'machines')
 COUNTED, TIMES, RUNS, SHOWN = 5_000, 10, 5, 24
 
-LINE_BY_LINE = '-DLINE_BY_LINE'
-
-OTHERS = {'C switch': 'C', 'Boost.Statechart': 'Boost', 'Boost, by lines': 'Boost, lines', 'Qt SCXML, C++': 'Qt, C++',
-          'Qt SCXML, ECMAScript': 'Qt, ECMA'}
+OTHERS = {'C switch': 'C', 'Boost.Statechart': 'Boost', 'Qt SCXML, C++': 'Qt, C++', 'Qt SCXML, ECMAScript': 'Qt, ECMA'}
 
 
 class Skipped(Exception):
@@ -46,11 +43,11 @@ def output(words, folder):
     return subprocess.run(words, cwd=folder, check=True, stdout=subprocess.PIPE, timeout=LONGEST).stdout
 
 
-def build_switch(regions, folder, name='switch', *flags):
+def build_switch(regions, folder):
     need('gcc')
     write(folder, 'switch.c', switch_in_c.source(regions))
-    output(['gcc', '-O2', *flags, '-I', MACHINES, 'switch.c', '-o', name], folder)
-    return ['./' + name]
+    output(['gcc', '-O2', '-I', MACHINES, 'switch.c', '-o', 'switch'], folder)
+    return ['./switch']
 
 
 def build_silent(folder):
@@ -61,14 +58,14 @@ def build_silent(folder):
     return ['./silent']
 
 
-def build_boost(regions, folder, name='boost', *flags):
+def build_boost(regions, folder):
     need('g++')
     header = '#include <boost/statechart/state_machine.hpp>\n'
     if subprocess.run(['g++', '-E', '-x', 'c++', '-'], input=header.encode(), capture_output=True).returncode != 0:
         raise Skipped('Boost.Statechart is not installed (libboost1.81-dev, or libboost-dev)')
     write(folder, 'boost.cpp', boost_statechart.source(regions))
-    output(['g++', '-O2', '-DNDEBUG', *flags, '-I', MACHINES, 'boost.cpp', '-o', name], folder)
-    return ['./' + name]
+    output(['g++', '-O2', '-DNDEBUG', '-I', MACHINES, 'boost.cpp', '-o', 'boost'], folder)
+    return ['./boost']
 
 
 def build_qt(regions, folder, data):
@@ -158,8 +155,6 @@ def all_programs(program, folder):
     builds = {
         'C switch': build_switch,
         'Boost.Statechart': build_boost,
-        'C switch, by lines': lambda *given: build_switch(*given, 'switch_by_lines', LINE_BY_LINE),
-        'Boost, by lines': lambda *given: build_boost(*given, 'boost_by_lines', LINE_BY_LINE),
         'Qt SCXML, C++': lambda *given: build_qt(*given, qt_scxml.Cpp),
         'Qt SCXML, ECMAScript': lambda *given: build_qt(*given, qt_scxml.EcmaScript),
     }

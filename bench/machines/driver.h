@@ -1,6 +1,5 @@
 /* Reads an event file and writes the trace of a generated case. The program that includes this defines REGIONS and STATES
-   before, and the two functions `start` and `react` behind. It is C and C++. With LINE_BY_LINE each line of the trace is
-   written before the next event is looked at, as `flowc` does; without it lines are written 60 KiB at a time. */
+   before, and the two functions `start` and `react` behind. It is C and C++. Lines are written 60 KiB at a time. */
 #include <stdint.h>
 #include <stdio.h>
 #include <stdlib.h>
@@ -76,9 +75,6 @@ static void put_line(long index, const char *event, size_t length) {
         put_number(world.n[region]);
     }
     put(" - ok\n", 6);
-#ifdef LINE_BY_LINE
-    flush();
-#endif
 }
 
 static char *whole_file(const char *name) {

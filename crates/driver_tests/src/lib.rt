@@ -5,6 +5,8 @@
 #[cfg(test)]
 mod devices;
 #[cfg(test)]
+mod engine;
+#[cfg(test)]
 mod files;
 #[cfg(test)]
 mod limits;

@@ -42,26 +42,40 @@ impl fmt::Display for Answer {
             Answer::Number(Num { mantissa, frac }) => write!(f, "{mantissa} {frac}"),
             Answer::Mantissa(mantissa) => write!(f, "{mantissa}"),
             Answer::Order(order) => write!(f, "{order:?}"),
-            Answer::Text(buf, len) => {
-                for byte in buf.iter().take(*len) {
-                    f.write_char(char::from(*byte))?;
-                }
-                write!(f, " {len}")
-            }
-            Answer::Made(scale) => {
-                let sign = if scale.signed { 's' } else { 'u' };
-                let width = scale.width;
-                let frac = scale.frac;
-                write!(f, "{sign}{width}.{frac}")
-            }
-            Answer::Zero => write!(f, "Zero"),
-            Answer::Overflow => write!(f, "Overflow"),
-            Answer::Nothing => write!(f, "None"),
+            Answer::Text(buf, len) => write_text(f, buf, *len),
+            Answer::Made(scale) => write_scale(f, *scale),
+            Answer::Zero => f.write_str("Zero"),
+            Answer::Overflow => f.write_str("Overflow"),
+            Answer::Nothing => f.write_str("None"),
             Answer::Fault(fault) => write!(f, "{fault:?}"),
-            Answer::OutOfConditions => write!(f, "out of conditions"),
-            Answer::NotACall => write!(f, "not a call"),
+            Answer::OutOfConditions => f.write_str("out of conditions"),
+            Answer::NotACall => f.write_str("not a call"),
         }
     }
+}
+
+/// The first bytes of a text, and how many they are.
+fn write_text<W: fmt::Write>(
+    f: &mut fmt::Formatter<W>,
+    buf: &[u8; TEXT_LIMIT],
+    len: usize,
+) -> fmt::Result {
+    for byte in buf.iter().take(len) {
+        f.write_char(char::from(*byte))?;
+    }
+    write!(f, " {len}")
+}
+
+/// A scale, as it is written in a call.
+fn write_scale<W: fmt::Write>(f: &mut fmt::Formatter<W>, scale: Scale) -> fmt::Result {
+    let Scale {
+        signed,
+        width,
+        frac,
+        ..
+    } = scale;
+    let sign = if signed { 's' } else { 'u' };
+    write!(f, "{sign}{width}.{frac}")
 }
 
 /// What a line answers: `read TEXT`, where the text is all after the first blank, or a call.

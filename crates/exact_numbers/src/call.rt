@@ -42,26 +42,44 @@ pub fn read_call(name: &str, arguments: &str) -> Option<Call> {
 /// The call of that name, whose arguments are the next words.
 fn next_call(name: &str, words: &mut SplitWhitespace<'_>) -> Option<Call> {
     match name {
-        "add" => Some(Call::Add(next_num(words)?, next_num(words)?)),
-        "sub" => Some(Call::Sub(next_num(words)?, next_num(words)?)),
-        "mul" => Some(Call::Mul(next_num(words)?, next_num(words)?)),
-        "div" => Some(Call::Div(next_num(words)?, next_num(words)?)),
-        "compare" => Some(Call::Compare(next_num(words)?, next_num(words)?)),
-        "neg" => Some(Call::Neg(next_num(words)?)),
-        "fit" => Some(Call::Fit(
-            next_num(words)?,
-            read_scale(words.next()?)?,
-            read_mode(words.next()?)?,
-        )),
-        "exact" => Some(Call::Exact(next_num(words)?, read_scale(words.next()?)?)),
-        "write" => Some(Call::Write(next_num(words)?)),
-        "scale" => Some(Call::Make(
-            read_sign(words.next()?)?,
-            words.next()?.parse().ok()?,
-            words.next()?.parse().ok()?,
-        )),
+        "add" => next_pair(words).map(|(a, b)| Call::Add(a, b)),
+        "sub" => next_pair(words).map(|(a, b)| Call::Sub(a, b)),
+        "mul" => next_pair(words).map(|(a, b)| Call::Mul(a, b)),
+        "div" => next_pair(words).map(|(a, b)| Call::Div(a, b)),
+        "compare" => next_pair(words).map(|(a, b)| Call::Compare(a, b)),
+        "neg" => next_num(words).map(Call::Neg),
+        "fit" => next_fit(words),
+        "exact" => next_exact(words),
+        "write" => next_num(words).map(Call::Write),
+        "scale" => next_scale(words),
         _ => None,
     }
+}
+
+/// The two numbers that are the next words.
+fn next_pair(words: &mut SplitWhitespace<'_>) -> Option<(Num, Num)> {
+    let first = next_num(words)?;
+    Some((first, next_num(words)?))
+}
+
+/// The call `fit`, whose arguments are the next words.
+fn next_fit(words: &mut SplitWhitespace<'_>) -> Option<Call> {
+    let number = next_num(words)?;
+    let scale = read_scale(words.next()?)?;
+    Some(Call::Fit(number, scale, read_mode(words.next()?)?))
+}
+
+/// The call `exact`, whose arguments are the next words.
+fn next_exact(words: &mut SplitWhitespace<'_>) -> Option<Call> {
+    let number = next_num(words)?;
+    Some(Call::Exact(number, read_scale(words.next()?)?))
+}
+
+/// The call `scale`, whose arguments are the next words.
+fn next_scale(words: &mut SplitWhitespace<'_>) -> Option<Call> {
+    let signed = read_sign(words.next()?)?;
+    let width = words.next()?.parse().ok()?;
+    Some(Call::Make(signed, width, words.next()?.parse().ok()?))
 }
 
 /// The number whose mantissa and fraction are the next words.

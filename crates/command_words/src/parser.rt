@@ -1,6 +1,6 @@
 //! The parser of the words.
 ghost use Rattle.std.specs.Prelude.{◌≡◌, IfOk, false};
-ghost use Rattle.clap.specs.Words.{app_of, rule_of};
+ghost use Rattle.clap.specs.Words.{App, app_of, rule_of, with_subcommand};
 ghost use Rattle.command_words.specs.Parser.{Builds, bare_app, program_app, file_rule, option_rule};
 ghost use Rattle.command_words.specs.Parser.{file_app, number_app, run_app};
 
@@ -14,23 +14,25 @@ use std::alloc::{AllocError, Global};
 pub(crate) fn program<'a>(alloc: Global) -> Result<Command<'a>, AllocError>
     ensures { IfOk result (λ parser. app_of parser ≡ program_app) }
 {
-    let check = with_file(alloc, "check")?;
-    let fmt = with_file(alloc, "fmt")?;
-    let rules = with_run(alloc, "rules")?;
-    let compile = with_file(alloc, "compile")?;
-    let exec = with_run(alloc, "exec")?;
-    let run = with_run(alloc, "run")?;
-    let upgrade = with_file(alloc, "upgrade")?;
-    let selftest = with_number(alloc, "selftest")?;
-    bare(alloc)
-        .subcommand(check)?
-        .subcommand(fmt)?
-        .subcommand(rules)?
-        .subcommand(compile)?
-        .subcommand(exec)?
-        .subcommand(run)?
-        .subcommand(upgrade)?
-        .subcommand(selftest)
+    let parser = with_command(bare(alloc), with_file(alloc, "check"))?;
+    let parser = with_command(parser, with_file(alloc, "fmt"))?;
+    let parser = with_command(parser, with_run(alloc, "rules"))?;
+    let parser = with_command(parser, with_file(alloc, "compile"))?;
+    let parser = with_command(parser, with_run(alloc, "exec"))?;
+    let parser = with_command(parser, with_run(alloc, "run"))?;
+    let parser = with_command(parser, with_file(alloc, "upgrade"))?;
+    with_command(parser, with_number(alloc, "selftest"))
+}
+
+/// The parser with one more command, where there was memory for it.
+fn with_command<'a>(
+    parser: Command<'a>,
+    command: Result<Command<'a>, AllocError>,
+) -> Result<Command<'a>, AllocError>
+    ensures { (app : App) → IfOk command.entry (Builds app)
+        → IfOk result (λ more. app_of more ≡ with_subcommand (app_of parser.entry) app.top) }
+{
+    parser.subcommand(command?)
 }
 
 /// A program that has no help and no version, and wants a command.

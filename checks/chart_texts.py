@@ -1,7 +1,7 @@
 #!/usr/bin/env python3
 r"""Answers a table of chart texts from the rules of the language, which stand in words in chart_syntax.py.
 
-    python3 checks/chart_texts.py < crates/chart_texts/stdin | diff - crates/chart_texts/stdout
+    python3 checks/chart_texts.py < checks/chart_table.txt | diff - checks/chart_answers.txt
 
 A line is one text, in which `\n`, `\t`, `\r`, `\\` and `\xHH` stand for bytes, and its answer is one line: the canonical
 text with each end of a line written as `\n`, or the refusal `chart L:C: N Kind`. `not a text` is answered where a backslash

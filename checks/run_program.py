@@ -1,13 +1,15 @@
 #!/usr/bin/env python3
-r"""Answers tables by the built program, in the form in which chart_check.py and chart_rules.py answer them.
+r"""Answers tables by the built program, in the form in which chart_texts.py, chart_check.py and chart_rules.py answer them.
 
+    python3 checks/run_program.py PROGRAM fmt < texts | diff - answers
     python3 checks/run_program.py PROGRAM check < texts | diff - answers
     python3 checks/run_program.py PROGRAM rules < runs | diff - answers
     python3 checks/run_program.py PROGRAM compiled < runs
     python3 checks/run_program.py PROGRAM docs PAGE..
     python3 checks/run_program.py PROGRAM traces FOLDER..
 
-`check` runs `PROGRAM check` on each text and prints its one line, from standard output or standard error. `rules`
+`fmt` runs `PROGRAM fmt` on each text and prints the canonical text in one line, or the line of standard error. `check` runs
+`PROGRAM check` on each text and prints its one line, from standard output or standard error. `rules`
 runs `PROGRAM rules` on each run of the table, whose first field has the bounds, depth and steps, or `-` for the usual
 ones, and prints status, standard output and standard error. `compiled` runs `PROGRAM rules`, `PROGRAM run`, and
 `PROGRAM exec` on the code that `PROGRAM compile` writes, on each run of the table, and prints those whose answers
@@ -23,7 +25,7 @@ import tempfile
 import tables
 from programs import ended, status_text
 
-OF_TABLES, OF_NAMES = ('check', 'rules', 'compiled'), ('docs', 'traces')     # the words alone, and those before names
+OF_TABLES, OF_NAMES = ('fmt', 'check', 'rules', 'compiled'), ('docs', 'traces')     # the words alone, and those before names
 
 
 def line_of(text):
@@ -51,6 +53,13 @@ def check_answer(program, text):
     if ran.status not in (0, 1):
         return status_text(ran)
     return (ran.out + ran.error).rstrip('\n')
+
+
+def fmt_answer(program, text):
+    ran = program.run('fmt', text)
+    if ran.status == 0:
+        return line_of(ran.out)
+    return ran.error.rstrip('\n') if ran.status == 1 else status_text(ran)
 
 
 def options_of(bounds):
@@ -131,7 +140,9 @@ def table_fields():
 def print_answers(program, command):
     """Writes the answer to each line of a table."""
     for fields in table_fields():
-        if command == 'check':
+        if command == 'fmt':
+            print(fmt_answer(program, tables.unescaped(fields[0])))
+        elif command == 'check':
             print(check_answer(program, tables.unescaped(fields[0])))
         else:
             print(rules_answer(program, fields[0], tables.unescaped(fields[1]), tables.unescaped(fields[2])))
@@ -145,7 +156,7 @@ def main(words):
         return 2
     with tempfile.TemporaryDirectory() as folder:
         program = Program(words[0], folder)
-        if words[1] in ('check', 'rules'):
+        if words[1] in ('fmt', 'check', 'rules'):
             print_answers(program, words[1])
             return 0
         if words[1] == 'compiled':

@@ -14,6 +14,26 @@ use Rattle.code_fields.specs.Fields.{kept, or_else, numeral, number_of, number_b
 
 -- ---- tokens
 
+-- the operator of a token that calculates
+abbrev pub calculation_of : List ℕ → Option Operator
+calculation_of token =
+    if bytes_eq token (codes "+") then Some (operators.Bin ops.Add) else
+    if bytes_eq token (codes "-") then Some (operators.Bin ops.Sub) else
+    if bytes_eq token (codes "*") then Some (operators.Bin ops.Mul) else
+    if bytes_eq token (codes "/") then Some (operators.Bin ops.Div) else
+    None
+
+-- the operator of a token that compares or calculates
+abbrev pub comparison_of : List ℕ → Option Operator
+comparison_of token =
+    if bytes_eq token (codes "==") then Some (operators.Bin ops.Eq) else
+    if bytes_eq token (codes "!=") then Some (operators.Bin ops.Ne) else
+    if bytes_eq token (codes "<") then Some (operators.Bin ops.Lt) else
+    if bytes_eq token (codes "<=") then Some (operators.Bin ops.Le) else
+    if bytes_eq token (codes ">") then Some (operators.Bin ops.Gt) else
+    if bytes_eq token (codes ">=") then Some (operators.Bin ops.Ge) else
+    calculation_of token
+
 -- the operator of a token
 unfoldable pub operator_of : List ℕ → Option Operator
 operator_of token =
@@ -21,17 +41,7 @@ operator_of token =
     if bytes_eq token (codes "!") then Some operators.Not else
     if bytes_eq token (codes "||") then Some (operators.Bin ops.Or) else
     if bytes_eq token (codes "&&") then Some (operators.Bin ops.And) else
-    if bytes_eq token (codes "==") then Some (operators.Bin ops.Eq) else
-    if bytes_eq token (codes "!=") then Some (operators.Bin ops.Ne) else
-    if bytes_eq token (codes "<") then Some (operators.Bin ops.Lt) else
-    if bytes_eq token (codes "<=") then Some (operators.Bin ops.Le) else
-    if bytes_eq token (codes ">") then Some (operators.Bin ops.Gt) else
-    if bytes_eq token (codes ">=") then Some (operators.Bin ops.Ge) else
-    if bytes_eq token (codes "+") then Some (operators.Bin ops.Add) else
-    if bytes_eq token (codes "-") then Some (operators.Bin ops.Sub) else
-    if bytes_eq token (codes "*") then Some (operators.Bin ops.Mul) else
-    if bytes_eq token (codes "/") then Some (operators.Bin ops.Div) else
-    None
+    comparison_of token
 
 -- a fraction of at most 32
 abbrev pub frac_of : List ℕ → Option ℕ

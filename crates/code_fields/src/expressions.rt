@@ -6,7 +6,7 @@ ghost use Rattle.code_fields.specs.Views as views;
 
 use crate::cuts::{Field, field_of};
 use crate::operators::{Operator, atom_of, operator_of};
-use actions::Expr;
+use actions::{Expr, Op};
 use state_tree::limits::OPERATOR_LIMIT;
 use std::alloc::{AllocError, Global};
 
@@ -74,15 +74,28 @@ fn front_of(
     let Some(second) = front_of(alloc, rest, depth, first.left)? else {
         return Ok(None);
     };
-    Ok(Some(Front {
+    Ok(Some(joined(alloc, op, first.expr, second)?))
+}
+
+/// An operator between its first operand and its second.
+fn joined(
+    alloc: Global,
+    op: Op,
+    first: Expr,
+    second: Front<'_>,
+) -> Result<Front<'_>, AllocError>
+    ensures { IfOk result (λ front.
+        views.front_of front ≡ spec.with_second op (expr_of first) (views.front_of second.entry)) }
+{
+    Ok(Front {
         expr: Expr::Bin(
             op,
-            Box::new(alloc, first.expr)?,
+            Box::new(alloc, first)?,
             Box::new(alloc, second.expr)?,
         ),
         left: second.left,
         rest: second.rest,
-    }))
+    })
 }
 
 /// A token that is no operator.

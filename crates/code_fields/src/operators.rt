@@ -35,7 +35,16 @@ pub fn operator_of(token: &[u8]) -> Option<Operator>
         Some(Operator::Bin(Op::Or))
     } else if token == b"&&".as_slice() {
         Some(Operator::Bin(Op::And))
-    } else if token == b"==".as_slice() {
+    } else {
+        comparison_of(token)
+    }
+}
+
+/// The operator of a token that compares or calculates, if it is one.
+fn comparison_of(token: &[u8]) -> Option<Operator>
+    ensures { result ≡ spec.comparison_of token.now }
+{
+    if token == b"==".as_slice() {
         Some(Operator::Bin(Op::Eq))
     } else if token == b"!=".as_slice() {
         Some(Operator::Bin(Op::Ne))
@@ -47,7 +56,16 @@ pub fn operator_of(token: &[u8]) -> Option<Operator>
         Some(Operator::Bin(Op::Gt))
     } else if token == b">=".as_slice() {
         Some(Operator::Bin(Op::Ge))
-    } else if token == b"+".as_slice() {
+    } else {
+        calculation_of(token)
+    }
+}
+
+/// The operator of a token that calculates, if it is one.
+fn calculation_of(token: &[u8]) -> Option<Operator>
+    ensures { result ≡ spec.calculation_of token.now }
+{
+    if token == b"+".as_slice() {
         Some(Operator::Bin(Op::Add))
     } else if token == b"-".as_slice() {
         Some(Operator::Bin(Op::Sub))

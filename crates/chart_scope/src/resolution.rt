@@ -17,6 +17,7 @@ use actions::Names;
 use active_config::Shape;
 use chart_places::{OwnedJunction, PlacedState, Scopes, junctions_of, shape_of, survey};
 use chart_tree::{ChartText, FormFault, Found};
+use flow_base::Memory;
 use resolved_tree::Resolved;
 use std::alloc::{AllocError, Global};
 
@@ -75,6 +76,49 @@ fn resolve_in(
     }
 }
 
+/// The scopes of the names of a chart text, given its states and junctions.
+fn scopes_in<'a>(
+    alloc: Global,
+    chart: &'a ChartText,
+    states: &[PlacedState<'a>],
+    junctions: &[OwnedJunction<'a>],
+) -> Result<Scopes<'a>, Memory>
+    requires few { length states.now < 2 ^ 32 }
+    requires states { map placed_of states.now ≡ placed_states (chart_of chart.now).root }
+    requires junctions { map owned_of junctions.now
+        ≡ placed_junctions (placed_states (chart_of chart.now).root) }
+    ensures { IfOk result (λ p. p ≡ scopes_of (chart_of chart.now)) }
+{
+    let shape = shape_of(alloc, states)?;
+    Scopes::make(alloc, shape, states, junctions, chart)
+}
+
+/// The resolved chart of a chart text, given its states and junctions.
+fn resolve_placed(
+    alloc: Global,
+    chart: &ChartText,
+    states: &[PlacedState<'_>],
+    junctions: &[OwnedJunction<'_>],
+) -> Result<Resolved, FormFault>
+    requires states { map placed_of states.now ≡ placed_states (chart_of chart.now).root }
+    requires junctions { map owned_of junctions.now
+        ≡ placed_junctions (placed_states (chart_of chart.now).root) }
+    requires few_states { length states.now < 2 ^ 32 }
+    requires few_junctions { length junctions.now < 2 ^ 32 }
+    requires few_events { length (chart_of chart.now).events < 2 ^ 32 }
+    requires few_vars { length (chart_of chart.now).vars < 2 ^ 32 }
+    ensures resolved { IfOk result (λ r. IsResolved (chart_of chart.now) (resolved_of r)) }
+    ensures refused { IfErr result (Refuses (chart_of chart.now)) }
+{
+    let Ok(shape) = shape_of(alloc, states) else {
+        return Err(FormFault::Memory);
+    };
+    let Ok(scopes) = scopes_in(alloc, chart, states, junctions) else {
+        return Err(FormFault::Memory);
+    };
+    resolve_in(alloc, &scopes, shape, chart, states, junctions)
+}
+
 /// The resolved chart of a chart text, or the first fault of its names, by place, and at one place
 /// by number.
 pub fn resolve(alloc: Global, chart: &ChartText) -> Result<Resolved, FormFault>
@@ -91,14 +135,5 @@ pub fn resolve(alloc: Global, chart: &ChartText) -> Result<Resolved, FormFault>
     let Ok(junctions) = junctions_of(alloc, &states) else {
         return Err(FormFault::Memory);
     };
-    let Ok(shape) = shape_of(alloc, &states) else {
-        return Err(FormFault::Memory);
-    };
-    let Ok(tree) = shape_of(alloc, &states) else {
-        return Err(FormFault::Memory);
-    };
-    let Ok(scopes) = Scopes::make(alloc, tree, &states, &junctions, chart) else {
-        return Err(FormFault::Memory);
-    };
-    resolve_in(alloc, &scopes, shape, chart, &states, &junctions)
+    resolve_placed(alloc, chart, &states, &junctions)
 }

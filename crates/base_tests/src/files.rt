@@ -1,40 +1,43 @@
 //! Tests of what no contract says: that calls succeed, and what the file system gives and takes.
 ghost use Rattle.std.specs.Prelude.{◌<◌};
 
+use crate::same::{same, same_bytes};
 use flow_base::{
     Bounds, Failed, Inputs, List, MemFile, MemInputs, MemSink, ReadEnd, RealInputs, RealSink, Sink,
     SureInputs, SureSink, Text, read_whole, write_all,
 };
-use std::alloc::{AllocError, Global};
+use std::alloc::Global;
 use std::fs;
 use std::io::{self, Write};
 use std::process::Abort;
-use std::test::Fail;
 
+/// A file of that name and those bytes, which gives at most `piece` bytes at a read.
 fn file(
+    rt: &impl Abort,
     alloc: Global,
     name: &str,
     bytes: &[u8],
     piece: usize,
     fail: &[u64],
-) -> Result<MemFile, AllocError>
+) -> MemFile
     requires { 0 < piece }
 {
-    Ok(MemFile::new(
-        String::from_str(alloc, name)?,
-        Vec::from_slice(alloc, bytes)?,
+    MemFile::new(
+        String::from_str(alloc, name).expect(rt, "memory"),
+        Vec::from_slice(alloc, bytes).expect(rt, "memory"),
         piece,
-        Vec::from_slice(alloc, fail)?,
-    ))
+        Vec::from_slice(alloc, fail).expect(rt, "memory"),
+    )
 }
 
 /// Two files named a, the first of which is read, and one named b, whose second read fails.
-fn files(alloc: Global) -> Result<Vec<MemFile>, AllocError> {
-    let mut files = Vec::new(alloc);
-    files.push(file(alloc, "a", b"hello", 2, &[])?)?;
-    files.push(file(alloc, "a", b"other", 9, &[])?)?;
-    files.push(file(alloc, "b", b"bye", 2, &[2])?)?;
-    Ok(files)
+fn files(rt: &impl Abort, alloc: Global) -> Vec<MemFile> {
+    let files = [
+        file(rt, alloc, "a", b"hello", 2, &[]),
+        file(rt, alloc, "a", b"other", 9, &[]),
+        file(rt, alloc, "b", b"bye", 2, &[2]),
+    ];
+    Vec::from_array(alloc, files).expect(rt, "memory")
 }
 
 /// Depths and steps, and whether they are in range.
@@ -49,28 +52,69 @@ const BOUNDS: &[(u32, u32, bool)] = &[
 
 #[test]
 fn bounds_are_made_in_range(rt: HostRuntime) {
-    for (depth, steps, is_made) in BOUNDS {
-        assert_eq!(rt;
-            Bounds::make(*depth, *steps).is_some(),
-            *is_made,
-            "at {depth} and {steps}"
-        );
+    for row in BOUNDS {
+        let (depth, steps, _) = *row;
+        let made = (depth, steps, Bounds::make(depth, steps).is_some());
+        same(&rt, &made, row, "whether bounds are made");
     }
-    assert_eq!(rt; Bounds::make(8, 10_000), Some(Bounds::usual()));
 }
 
 #[test]
-fn texts_and_lists_keep_what_they_get(rt: HostRuntime) -> Result<(), Fail> {
-    let text = Text::of(String::from_str(rt.alloc(), "red")?);
-    assert_eq!(rt; text.text(), "red");
-    let mut list = List::of(Vec::from_slice(rt.alloc(), &[1u32, 2])?);
-    list.push(3)?;
-    assert_eq!(rt; list.items(), [1u32, 2, 3].as_slice());
-    Ok(())
+fn the_usual_bounds_are_made(rt: HostRuntime) {
+    same(
+        &rt,
+        &Bounds::make(8, 10_000),
+        &Some(Bounds::usual()),
+        "usual",
+    );
 }
 
-/// Reads of `files` in their order: the name, the answer and the bytes.
-const READS: &[(&str, Result<usize, Failed>, &[u8])] = &[
+#[test]
+fn texts_keep_what_they_get(rt: HostRuntime) {
+    let text = Text::of(String::from_str(rt.alloc(), "red").expect(&rt, "memory"));
+    same(&rt, &text.text(), &"red", "the text");
+}
+
+/// A list of two items, and then a third.
+fn three(rt: &impl Abort, alloc: Global) -> List<u32> {
+    let two = Vec::from_slice(alloc, &[1u32, 2]).expect(rt, "memory");
+    let mut list = List::of(two);
+    list.push(3).expect(rt, "memory");
+    list
+}
+
+#[test]
+fn lists_keep_what_they_get(rt: HostRuntime) {
+    let list = three(&rt, rt.alloc());
+    same(&rt, &list.items(), &[1u32, 2, 3].as_slice(), "the items");
+}
+
+/// A read: the name, the answer and the bytes.
+type ReadRow = (&'static str, Result<usize, Failed>, &'static [u8]);
+
+/// Reads once, and gives the answer and the bytes that came.
+fn read_once<'a, I: Inputs>(
+    inputs: &mut I,
+    name: &str,
+    buffer: &'a mut [u8],
+) -> (Result<usize, Failed>, &'a [u8]) {
+    match inputs.read(name, buffer) {
+        Ok(count) => (Ok(count), &buffer[..count]),
+        Err(Failed) => (Err(Failed), &[]),
+    }
+}
+
+/// Asserts what reads into a buffer give, in their order.
+fn check_reads<I: Inputs>(rt: &impl Abort, inputs: &mut I, buffer: &mut [u8], reads: &[ReadRow]) {
+    for row in reads {
+        let (answer, bytes) = read_once(inputs, row.0, buffer);
+        same(rt, &answer, &row.1, row.0);
+        same_bytes(rt, bytes, row.2, row.0);
+    }
+}
+
+/// Reads of `files` in their order.
+const READS: &[ReadRow] = &[
     ("a", Ok(2), b"he"),
     ("b", Ok(2), b"by"),
     ("b", Err(Failed), b""),
@@ -82,83 +126,114 @@ const READS: &[(&str, Result<usize, Failed>, &[u8])] = &[
 ];
 
 #[test]
-fn reads_give_the_next_bytes_or_fail(rt: HostRuntime) -> Result<(), Fail> {
-    let mut inputs = MemInputs::new(files(rt.alloc())?);
-    for (name, answer, bytes) in READS {
-        let mut buffer = [0u8; 4];
-        let result = inputs.read(name, &mut buffer);
-        assert_eq!(rt; result, *answer, "of {name}");
-        if let Ok(count) = result {
-            assert_eq!(rt; &buffer[..count], *bytes, "of {name}");
-        }
-    }
-    Ok(())
+fn reads_give_the_next_bytes_or_fail(rt: HostRuntime) {
+    let mut inputs = MemInputs::new(files(&rt, rt.alloc()));
+    check_reads(&rt, &mut inputs, &mut [0u8; 4], READS);
 }
 
-#[test]
-fn sure_reads_never_fail(rt: HostRuntime) -> Result<(), Fail> {
-    let mut inputs = SureInputs::new(files(rt.alloc())?);
-    for (name, wanted) in [("b", 2), ("b", 1), ("b", 0), ("c", 0), ("a", 2)] {
-        let mut buffer = [0u8; 4];
-        assert_eq!(rt; inputs.read(name, &mut buffer), Ok(wanted), "of {name}");
-    }
-    Ok(())
-}
-
-/// Names and limits, and what `read_whole` gives.
-const WHOLE_READS: &[(&str, usize, Result<&[u8], ReadEnd>)] = &[
-    ("a", 5, Ok(b"hello")),
-    ("a", 9, Ok(b"hello")),
-    ("a", 4, Err(ReadEnd::TooLong)),
-    ("a", 0, Err(ReadEnd::TooLong)),
-    ("b", 9, Err(ReadEnd::Failed)),
-    ("c", 9, Err(ReadEnd::Failed)),
+/// Reads of `files` where none fails, in their order.
+const SURE_READS: &[ReadRow] = &[
+    ("b", Ok(2), b"by"),
+    ("b", Ok(1), b"e"),
+    ("b", Ok(0), b""),
+    ("c", Ok(0), b""),
+    ("a", Ok(2), b"he"),
 ];
 
 #[test]
-fn files_are_read_whole_up_to_the_limit(rt: HostRuntime) -> Result<(), Fail> {
-    for (name, limit, wanted) in WHOLE_READS {
-        let mut inputs = MemInputs::new(files(rt.alloc())?);
-        match read_whole(rt.alloc(), &mut inputs, name, *limit) {
-            Ok(text) => assert_eq!(rt; Ok(text.as_slice()), *wanted, "{name} up to {limit}"),
-            Err(end) => assert_eq!(rt; Err(end), *wanted, "{name} up to {limit}"),
-        }
+fn sure_reads_never_fail(rt: HostRuntime) {
+    let mut inputs = SureInputs::new(files(&rt, rt.alloc()));
+    check_reads(&rt, &mut inputs, &mut [0u8; 4], SURE_READS);
+}
+
+/// A name, and then a limit, what `read_whole` answers up to it, and the bytes that it gives.
+type WholeRow = (&'static str, (usize, Result<(), ReadEnd>, &'static [u8]));
+
+/// Files of `files` read whole.
+const WHOLE_READS: &[WholeRow] = &[
+    ("a", (5, Ok(()), b"hello")),
+    ("a", (9, Ok(()), b"hello")),
+    ("a", (4, Err(ReadEnd::TooLong), b"")),
+    ("a", (0, Err(ReadEnd::TooLong), b"")),
+    ("b", (9, Err(ReadEnd::Failed), b"")),
+    ("c", (9, Err(ReadEnd::Failed), b"")),
+];
+
+/// What `read_whole` answers, and the bytes that it gives.
+fn whole<I: Inputs>(
+    alloc: Global,
+    inputs: &mut I,
+    name: &str,
+    limit: usize,
+) -> (Result<(), ReadEnd>, Vec<u8>) {
+    match read_whole(alloc, inputs, name, limit) {
+        Ok(text) => (Ok(()), text),
+        Err(end) => (Err(end), Vec::new(alloc)),
     }
-    Ok(())
+}
+
+/// Asserts what `read_whole` gives.
+fn check_whole<I: Inputs>(rt: &impl Abort, alloc: Global, inputs: &mut I, row: &WholeRow) {
+    let (name, wanted) = row;
+    let limit = wanted.0;
+    let (answer, bytes) = whole(alloc, inputs, name, limit);
+    same(rt, &(limit, answer, bytes.as_slice()), wanted, name);
+}
+
+#[test]
+fn files_are_read_whole_up_to_the_limit(rt: HostRuntime) {
+    for row in WHOLE_READS {
+        let mut inputs = MemInputs::new(files(&rt, rt.alloc()));
+        check_whole(&rt, rt.alloc(), &mut inputs, row);
+    }
 }
 
 /// Writes in their order: the piece, the answer and what the sink has then.
-const WRITES: &[(&[u8], Result<usize, Failed>, &[u8])] = &[
-    (b"wxyz", Ok(3), b"wxy"),
-    (b"z", Err(Failed), b"wxy"),
-    (b"abc", Ok(2), b"wxyab"),
-    (b"c", Err(Failed), b"wxyab"),
-    (b"", Ok(0), b"wxyab"),
-    (b"d", Err(Failed), b"wxyab"),
+const WRITES: &[(&str, Result<usize, Failed>, &[u8])] = &[
+    ("wxyz", Ok(3), b"wxy"),
+    ("z", Err(Failed), b"wxy"),
+    ("abc", Ok(2), b"wxyab"),
+    ("c", Err(Failed), b"wxyab"),
+    ("", Ok(0), b"wxyab"),
+    ("d", Err(Failed), b"wxyab"),
 ];
 
 /// Asserts what writes to a sink give, and what it has after each.
 fn check_writes(rt: &impl Abort, sink: &mut MemSink) {
-    for (piece, answer, bytes) in WRITES {
-        assert_eq!(rt; sink.write(piece), *answer, "of {piece:?}");
-        assert_eq!(rt; sink.bytes(), *bytes, "after {piece:?}");
+    for row in WRITES {
+        same(rt, &sink.write(row.0.as_bytes()), &row.1, row.0);
+        same_bytes(rt, sink.bytes(), row.2, row.0);
     }
 }
 
-#[test]
-fn writes_take_a_front_or_fail(rt: HostRuntime) -> Result<(), Fail> {
-    let mut sink = MemSink::new(rt.alloc(), 5, 3, Vec::from_slice(rt.alloc(), &[2u64])?)?;
-    check_writes(&rt, &mut sink);
-    let mut sink = MemSink::new(rt.alloc(), 5, 2, Vec::new(rt.alloc()))?;
-    assert_eq!(rt; write_all(&mut sink, b"abc"), Ok(()));
-    assert_eq!(rt; write_all(&mut sink, b"def"), Err(Failed));
-    assert_eq!(rt; sink.bytes(), b"abcde".as_slice());
-    assert_eq!(rt; SureSink::new().write(b"abc"), Ok(3));
-    Ok(())
+/// A sink with room for 5 bytes.
+fn sink_of_five(rt: &impl Abort, alloc: Global, piece: usize, fail: &[u64]) -> MemSink
+    requires { 0 < piece }
+{
+    let fail = Vec::from_slice(alloc, fail).expect(rt, "memory");
+    MemSink::new(alloc, 5, piece, fail).expect(rt, "memory")
 }
 
-/// Reads of the system in their order: the name, the answer and the bytes.
-const SYSTEM_READS: &[(&str, Result<usize, Failed>, &[u8])] = &[
+#[test]
+fn writes_take_a_front_or_fail(rt: HostRuntime) {
+    check_writes(&rt, &mut sink_of_five(&rt, rt.alloc(), 3, &[2]));
+}
+
+#[test]
+fn whole_writes_end_where_the_room_does(rt: HostRuntime) {
+    let mut sink = sink_of_five(&rt, rt.alloc(), 2, &[]);
+    let answers = [write_all(&mut sink, b"abc"), write_all(&mut sink, b"def")];
+    same(&rt, &answers, &[Ok(()), Err(Failed)], "two pieces");
+    same_bytes(&rt, sink.bytes(), b"abcde", "what is written");
+}
+
+#[test]
+fn a_sure_sink_takes_everything(rt: HostRuntime) {
+    same(&rt, &SureSink::new().write(b"abc"), &Ok(3), "three bytes");
+}
+
+/// Reads of the system in their order.
+const SYSTEM_READS: &[ReadRow] = &[
     ("there.txt", Ok(3), b"abc"),
     ("missing.txt", Err(Failed), b""),
     ("there.txt", Ok(2), b"de"),
@@ -168,34 +243,37 @@ const SYSTEM_READS: &[(&str, Result<usize, Failed>, &[u8])] = &[
 ];
 
 #[test]
-fn files_of_the_system_are_read_once(rt: HostRuntime) -> Result<(), Fail> {
-    let alloc = rt.alloc();
-    fs::write(&rt, "there.txt", "abcde")?;
-    let mut inputs = RealInputs::new(&rt, alloc);
-    for (name, answer, bytes) in SYSTEM_READS {
-        let mut buffer = [0u8; 3];
-        let result = inputs.read(name, &mut buffer);
-        assert_eq!(rt; result, *answer, "of {name}");
-        if let Ok(count) = result {
-            assert_eq!(rt; &buffer[..count], *bytes, "of {name}");
-        }
-    }
-    let mut inputs = RealInputs::new(&rt, alloc);
-    let text = read_whole(alloc, &mut inputs, "there.txt", 5)?;
-    assert_eq!(rt; text.as_slice(), b"abcde".as_slice());
-    Ok(())
+fn files_of_the_system_are_read_once(rt: HostRuntime) {
+    fs::write(&rt, "there.txt", "abcde").expect(&rt, "written");
+    let mut inputs = RealInputs::new(&rt, rt.alloc());
+    check_reads(&rt, &mut inputs, &mut [0u8; 3], SYSTEM_READS);
+    let mut inputs = RealInputs::new(&rt, rt.alloc());
+    check_whole(
+        &rt,
+        rt.alloc(),
+        &mut inputs,
+        &("there.txt", (5, Ok(()), b"abcde")),
+    );
 }
 
 #[test]
 fn a_directory_is_a_read_fault(rt: HostRuntime) {
     let mut inputs = RealInputs::new(&rt, rt.alloc());
+    check_unread(&rt, &mut inputs, ".");
+    check_unread(&rt, &mut inputs, ".");
+    check_whole(
+        &rt,
+        rt.alloc(),
+        &mut inputs,
+        &(".", (9, Err(ReadEnd::Failed), b"")),
+    );
+}
+
+/// Asserts that a read fails and leaves its buffer.
+fn check_unread<I: Inputs>(rt: &impl Abort, inputs: &mut I, name: &str) {
     let mut buffer = [7u8; 3];
-    for _ in 0..2 {
-        assert_eq!(rt; inputs.read(".", &mut buffer), Err(Failed));
-        assert_eq!(rt; buffer, [7, 7, 7]);
-    }
-    let end = read_whole(rt.alloc(), &mut inputs, ".", 9).err();
-    assert_eq!(rt; end, Some(ReadEnd::Failed));
+    let answer = inputs.read(name, &mut buffer);
+    same(rt, &(answer, buffer), &(Err(Failed), [7, 7, 7]), name);
 }
 
 /// Takes nothing.
@@ -245,30 +323,40 @@ const ROOMS: &[(usize, Result<(), Failed>, &[u8])] = &[
     (0, Err(Failed), b""),
 ];
 
-#[test]
-fn short_writes_are_gone_on_with_until_one_fails(rt: HostRuntime) -> Result<(), Fail> {
-    for (room, answer, bytes) in ROOMS {
-        let mut writer = ByteWriter {
-            bytes: Vec::new(rt.alloc()),
-            room: *room,
-        };
-        let mut sink = RealSink::new(&mut writer);
-        assert_eq!(rt; write_all(&mut sink, b"abcde"), *answer, "with room {room}");
-        assert_eq!(rt; writer.bytes.as_slice(), *bytes, "with room {room}");
-    }
-    Ok(())
+/// What a writer of that room answers to five bytes, and the bytes that it takes.
+fn short_write(alloc: Global, room: usize) -> (Result<(), Failed>, Vec<u8>) {
+    let mut writer = ByteWriter {
+        bytes: Vec::new(alloc),
+        room,
+    };
+    let answer = write_all(&mut RealSink::new(&mut writer), b"abcde");
+    (answer, writer.bytes)
 }
 
 #[test]
-fn writers_of_the_system_are_written(rt: HostRuntime) -> Result<(), Fail> {
-    let mut sink = RealSink::new(fs::create(&rt, "written.txt")?);
-    assert_eq!(rt; write_all(&mut sink, b"abcde"), Ok(()));
-    assert_eq!(rt;
-        fs::read(&rt, "written.txt")?.as_slice(),
-        b"abcde".as_slice()
-    );
+fn short_writes_are_gone_on_with_until_one_fails(rt: HostRuntime) {
+    for row in ROOMS {
+        let (answer, bytes) = short_write(rt.alloc(), row.0);
+        same(
+            &rt,
+            &(row.0, answer, bytes.as_slice()),
+            row,
+            "a writer of that room",
+        );
+    }
+}
+
+#[test]
+fn writers_of_the_system_are_written(rt: HostRuntime) {
+    let mut sink = RealSink::new(fs::create(&rt, "written.txt").expect(&rt, "created"));
+    same(&rt, &write_all(&mut sink, b"abcde"), &Ok(()), "five bytes");
+    let written = fs::read(&rt, "written.txt").expect(&rt, "read");
+    same_bytes(&rt, &written, b"abcde", "what is written");
+}
+
+#[test]
+fn a_write_that_takes_nothing_is_a_fault(rt: HostRuntime) {
     let mut full = RealSink::new(FullWriter);
-    assert_eq!(rt; full.write(b""), Ok(0));
-    assert_eq!(rt; full.write(b"a"), Err(Failed));
-    Ok(())
+    let answers = [full.write(b""), full.write(b"a")];
+    same(&rt, &answers, &[Ok(0), Err(Failed)], "no byte and one");
 }

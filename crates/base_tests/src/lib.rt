@@ -6,4 +6,6 @@ mod files;
 #[cfg(test)]
 mod marks;
 #[cfg(test)]
+mod same;
+#[cfg(test)]
 mod tokens;

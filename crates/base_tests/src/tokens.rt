@@ -1,45 +1,52 @@
 //! Texts and what they are cut into, worked by hand.
 ghost use Rattle.std.specs.Prelude.{◌<◌, ◌^◌, length};
 
+use crate::same::same;
 use chart_lexer::{is_name, lex};
 use std::alloc::{AllocError, Global};
-use std::fmt::Write;
+use std::fmt::{Debug, Write};
 use std::process::Abort;
-use std::test::Fail;
+use token_grammar::{Span, Token};
 
-/// Each token as KIND@LINE:COLUMN+BYTES, and then what stands after them.
+/// Appends KIND@LINE:COLUMN.
+fn show<T: Debug>(line: &mut String, kind: &T, at: Span) -> Result<(), AllocError> {
+    write!(line, "{kind:?}@{}:{}", at.line, at.column)
+}
+
+/// Appends a token as KIND@LINE:COLUMN+BYTES.
+fn show_token(line: &mut String, token: &Token<'_>) -> Result<(), AllocError> {
+    show(line, &token.kind, token.at)?;
+    write!(line, "+{} ", token.text.len())
+}
+
+/// Each token, and then what stands after them.
 fn shown(alloc: Global, text: &[u8]) -> Result<String, AllocError>
     requires { length text.now < 2 ^ 31 }
 {
     let lexed = lex(alloc, text)?;
     let mut line = String::new(alloc);
     for token in &lexed.tokens {
-        let bytes = token.text.len();
-        write!(
-            line,
-            "{:?}@{}:{}+{bytes} ",
-            token.kind, token.at.line, token.at.column
-        )?;
+        show_token(&mut line, token)?;
     }
-    write!(
-        line,
-        "{:?}@{}:{}",
-        lexed.stop, lexed.at.line, lexed.at.column
-    )?;
+    show(&mut line, &lexed.stop, lexed.at)?;
     Ok(line)
 }
 
-/// Asserts what each text is cut into.
-fn check(rt: &impl Abort, alloc: Global, cases: &[(&[u8], &str)]) -> Result<(), AllocError> {
-    for (text, want) in cases {
-        assert!(rt; text.len() < 1_000, "a text for {want} is too long");
-        assert_eq!(rt;
-            shown(alloc, text)?.as_str(),
-            *want,
-            "where {want} is wanted"
-        );
+/// What a text is cut into, where it isn't too long.
+fn cut(alloc: Global, text: &[u8]) -> Result<String, AllocError> {
+    if text.len() < 1_000 {
+        shown(alloc, text)
+    } else {
+        String::from_str(alloc, "too long")
     }
-    Ok(())
+}
+
+/// Asserts what each text is cut into.
+fn check(rt: &impl Abort, alloc: Global, cases: &[(&[u8], &str)]) {
+    for (text, want) in cases {
+        let found = cut(alloc, text).expect(rt, "memory");
+        same(rt, &found.as_str(), want, "what it is cut into");
+    }
 }
 
 /// Words and names, and what each text is cut into.
@@ -89,8 +96,8 @@ const WORDS: &[(&[u8], &str)] = &[
 ];
 
 #[test]
-fn cuts_words(rt: HostRuntime) -> Result<(), Fail> {
-    Ok(check(&rt, rt.alloc(), WORDS)?)
+fn cuts_words(rt: HostRuntime) {
+    check(&rt, rt.alloc(), WORDS);
 }
 
 /// Symbols, and what each text is cut into.
@@ -124,8 +131,8 @@ const SYMBOLS: &[(&[u8], &str)] = &[
 ];
 
 #[test]
-fn cuts_symbols(rt: HostRuntime) -> Result<(), Fail> {
-    Ok(check(&rt, rt.alloc(), SYMBOLS)?)
+fn cuts_symbols(rt: HostRuntime) {
+    check(&rt, rt.alloc(), SYMBOLS);
 }
 
 /// Numbers, and what each text is cut into.
@@ -152,8 +159,8 @@ const NUMBERS: &[(&[u8], &str)] = &[
 ];
 
 #[test]
-fn cuts_numbers(rt: HostRuntime) -> Result<(), Fail> {
-    Ok(check(&rt, rt.alloc(), NUMBERS)?)
+fn cuts_numbers(rt: HostRuntime) {
+    check(&rt, rt.alloc(), NUMBERS);
 }
 
 /// Lines, tabs, comments and bytes of no token, and what each text is cut into.
@@ -176,8 +183,8 @@ const PLACES: &[(&[u8], &str)] = &[
 ];
 
 #[test]
-fn gives_places(rt: HostRuntime) -> Result<(), Fail> {
-    Ok(check(&rt, rt.alloc(), PLACES)?)
+fn gives_places(rt: HostRuntime) {
+    check(&rt, rt.alloc(), PLACES);
 }
 
 /// Texts, and whether each is a name.
@@ -202,7 +209,7 @@ const NAMES: &[(&[u8], bool)] = &[
 
 #[test]
 fn knows_names(rt: HostRuntime) {
-    for (text, want) in NAMES {
-        assert_eq!(rt; is_name(text), *want, "{text:?}");
+    for row in NAMES {
+        same(&rt, &(row.0, is_name(row.0)), row, "whether it is a name");
     }
 }

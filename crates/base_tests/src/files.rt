@@ -92,12 +92,13 @@ fn lists_keep_what_they_get(rt: HostRuntime) {
 /// A read: the name, the answer and the bytes.
 type ReadRow = (&'static str, Result<usize, Failed>, &'static [u8]);
 
-/// Reads once, and gives the answer and the bytes that came.
+/// Reads once into the cleared buffer, and gives the answer and the bytes that came.
 fn read_once<'a, I: Inputs>(
     inputs: &mut I,
     name: &str,
     buffer: &'a mut [u8],
 ) -> (Result<usize, Failed>, &'a [u8]) {
+    buffer.fill(0);
     match inputs.read(name, buffer) {
         Ok(count) => (Ok(count), &buffer[..count]),
         Err(Failed) => (Err(Failed), &[]),
@@ -242,31 +243,24 @@ const SYSTEM_READS: &[ReadRow] = &[
     ("missing.txt", Err(Failed), b""),
 ];
 
-#[test]
-fn files_of_the_system_are_read_once(rt: HostRuntime) {
-    fs::write(&rt, "there.txt", "abcde").expect(&rt, "written");
-    let mut inputs = RealInputs::new(&rt, rt.alloc());
-    check_reads(&rt, &mut inputs, &mut [0u8; 3], SYSTEM_READS);
-    let mut inputs = RealInputs::new(&rt, rt.alloc());
-    check_whole(
-        &rt,
-        rt.alloc(),
-        &mut inputs,
-        &("there.txt", (5, Ok(()), b"abcde")),
-    );
+/// A file of the system read whole.
+const SYSTEM_WHOLE: &WholeRow = &("there.txt", (5, Ok(()), b"abcde"));
+
+/// A directory read as a file.
+const DIRECTORY_WHOLE: &WholeRow = &(".", (9, Err(ReadEnd::Failed), b""));
+
+/// Asserts what the files of the system give, in pieces and whole.
+fn check_system<I: Inputs>(rt: &impl Abort, alloc: Global, pieces: &mut I, at_once: &mut I) {
+    check_reads(rt, pieces, &mut [0u8; 3], SYSTEM_READS);
+    check_whole(rt, alloc, at_once, SYSTEM_WHOLE);
 }
 
 #[test]
-fn a_directory_is_a_read_fault(rt: HostRuntime) {
-    let mut inputs = RealInputs::new(&rt, rt.alloc());
-    check_unread(&rt, &mut inputs, ".");
-    check_unread(&rt, &mut inputs, ".");
-    check_whole(
-        &rt,
-        rt.alloc(),
-        &mut inputs,
-        &(".", (9, Err(ReadEnd::Failed), b"")),
-    );
+fn files_of_the_system_are_read_once(rt: HostRuntime) {
+    fs::write(&rt, "there.txt", "abcde").expect(&rt, "written");
+    let mut pieces = RealInputs::new(&rt, rt.alloc());
+    let mut at_once = RealInputs::new(&rt, rt.alloc());
+    check_system(&rt, rt.alloc(), &mut pieces, &mut at_once);
 }
 
 /// Asserts that a read fails and leaves its buffer.
@@ -274,6 +268,19 @@ fn check_unread<I: Inputs>(rt: &impl Abort, inputs: &mut I, name: &str) {
     let mut buffer = [7u8; 3];
     let answer = inputs.read(name, &mut buffer);
     same(rt, &(answer, buffer), &(Err(Failed), [7, 7, 7]), name);
+}
+
+/// Asserts that a directory isn't read.
+fn check_directory<I: Inputs>(rt: &impl Abort, alloc: Global, inputs: &mut I) {
+    check_unread(rt, inputs, ".");
+    check_unread(rt, inputs, ".");
+    check_whole(rt, alloc, inputs, DIRECTORY_WHOLE);
+}
+
+#[test]
+fn a_directory_is_a_read_fault(rt: HostRuntime) {
+    let mut inputs = RealInputs::new(&rt, rt.alloc());
+    check_directory(&rt, rt.alloc(), &mut inputs);
 }
 
 /// Takes nothing.

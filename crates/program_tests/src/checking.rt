@@ -1,11 +1,9 @@
 //! Charts that are accepted, with their counts, and charts that are refused.
-use crate::rows::check;
+use crate::rows::{check, check_lines};
 use crate::setup::LAMP;
 use accepted_charts::chart_fault;
 use flow_base::Status;
-use std::alloc::Global;
 use std::process::Abort;
-use std::test::Fail;
 
 /// Accepted charts with their counts.
 const COUNTS: &[(&str, &str)] = &[
@@ -24,11 +22,10 @@ const COUNTS: &[(&str, &str)] = &[
 ];
 
 #[test]
-fn counts(rt: HostRuntime) -> Result<(), Fail> {
+fn counts(rt: HostRuntime) {
     for &(chart, out) in COUNTS {
-        check(&rt, "check c", chart, "", (Status::Ok, out, ""))?;
+        check(&rt, "check c", chart, "", (Status::Ok, out, ""));
     }
-    Ok(())
 }
 
 /// Words that read the chart.
@@ -57,111 +54,101 @@ const REFUSALS: &[(&str, &str)] = &[
 ];
 
 #[test]
-fn refusals(rt: HostRuntime) -> Result<(), Fail> {
+fn refusals(rt: HostRuntime) {
     for &(chart, err) in REFUSALS {
-        for &line in OF_CHARTS {
-            check(&rt, line, chart, "GO\n", (Status::Refused, "", err))?;
-        }
+        check_lines(&rt, OF_CHARTS, chart, "GO\n", (Status::Refused, "", err));
     }
-    Ok(())
 }
 
 /// A chart text with each kind of fault of names, types and structure but that of too many pairs.
 const FAULTS: &[(&str, &str)] = &[
     (
         "chart C { default -> nobody; state A { } ",
-        "chart 1:42: 3 Expected",
+        "chart 1:42: 3 Expected\n",
     ),
     (
         "chart C or { local a : sfix16_En8; default -> A; state A { during { a = 0.1; } } }",
-        "chart 1:73: 5 LiteralNotBinary",
+        "chart 1:73: 5 LiteralNotBinary\n",
     ),
     (
         "chart C { event input E; event local E; default -> A; state A { } }",
-        "chart 1:38: 9 NameTwice",
+        "chart 1:38: 9 NameTwice\n",
     ),
     (
         "chart C { default -> B; state A { } }",
-        "chart 1:22: 10 UnknownName",
+        "chart 1:22: 10 UnknownName\n",
     ),
     (
         "chart C { local n : int8; default -> A; state A { outer n -> A; } }",
-        "chart 1:57: 11 WrongKind",
+        "chart 1:57: 11 WrongKind\n",
     ),
     (
         "chart C { local b : bool = -0; default -> A; state A { } }",
-        "chart 1:28: 12 TypeClash",
+        "chart 1:28: 12 TypeClash\n",
     ),
     (
         "chart C { local n : int64; default -> A; state A { during { n = n * n; } } }",
-        "chart 1:67: 13 TooWide",
+        "chart 1:67: 13 TooWide\n",
     ),
     (
         "chart C { input x : int8; default -> A; state A { during { x = 1; } } }",
-        "chart 1:60: 14 AssignsInput",
+        "chart 1:60: 14 AssignsInput\n",
     ),
     (
         "chart C { event output o; state A { } state B or { } state D { outer o -> A; } }",
-        "chart 1:70: 15 EventKind",
+        "chart 1:70: 15 EventKind\n",
     ),
     (
         "chart C { local n : int8 = 128; default -> A; state A { } }",
-        "chart 1:28: 16 InitRange",
+        "chart 1:28: 16 InitRange\n",
     ),
-    ("chart C { }", "chart 1:7: 17 EmptyComposition"),
-    ("chart C { state A { } }", "chart 1:7: 18 DefaultMissing"),
+    ("chart C { }", "chart 1:7: 17 EmptyComposition\n"),
+    ("chart C { state A { } }", "chart 1:7: 18 DefaultMissing\n"),
     (
         "chart C and { default [true] -> A; state A { } }",
-        "chart 1:15: 19 DefaultUnwanted",
+        "chart 1:15: 19 DefaultUnwanted\n",
     ),
     (
         "chart C { default [true] -> A; state A { } }",
-        "chart 1:11: 20 DefaultOpen",
+        "chart 1:11: 20 DefaultOpen\n",
     ),
     (
         "chart C { default -> A; state A { default -> A; state K { } } }",
-        "chart 1:46: 21 DefaultLeaves",
+        "chart 1:46: 21 DefaultLeaves\n",
     ),
     (
         "chart C { default -> A; state A { inner -> B; } state B { } }",
-        "chart 1:44: 22 InnerLeaves",
+        "chart 1:44: 22 InnerLeaves\n",
     ),
     (
         "chart C and { state P { outer -> P; } }",
-        "chart 1:34: 23 CrossesRegions",
+        "chart 1:34: 23 CrossesRegions\n",
     ),
     (
         "chart C and { state A { } history; }",
-        "chart 1:27: 26 HistoryUnwanted",
+        "chart 1:27: 26 HistoryUnwanted\n",
     ),
 ];
 
 #[test]
-fn first_faults(rt: HostRuntime) -> Result<(), Fail> {
+fn first_faults(rt: HostRuntime) {
     for &(chart, line) in FAULTS {
-        check_fault(&rt, chart, line)?;
+        check_fault(&rt, chart, line);
     }
-    Ok(())
 }
 
 /// The first fault of a text is the one that `check` tells.
-fn check_fault(rt: &(impl AllocGlobal + Abort), chart: &str, line: &str) -> Result<(), Fail> {
-    let fault = first_fault(rt.alloc(), chart)?;
-    assert_eq!(rt; fault.as_str(), line);
-    let err = format!(in rt.alloc(); "{line}\n")?;
-    check(
-        rt,
-        "check c",
-        chart,
-        "",
-        (Status::Refused, "", err.as_str()),
-    )
+fn check_fault(rt: &(impl AllocGlobal + Abort), chart: &str, line: &str) {
+    assert!(rt;
+        first_fault(rt, chart).as_str() == line,
+        "{chart}: not {line}"
+    );
+    check(rt, "check c", chart, "", (Status::Refused, "", line));
 }
 
-/// The first fault of a chart's text as it is shown, or nothing.
-fn first_fault(alloc: Global, chart: &str) -> Result<String, Fail> {
-    match chart_fault(alloc, chart.as_bytes())? {
-        Some(fault) => Ok(format!(in alloc; "{fault}")?),
-        None => Ok(String::new(alloc)),
-    }
+/// The line of the first fault of a chart's text.
+fn first_fault(rt: &(impl AllocGlobal + Abort), chart: &str) -> String {
+    let answer = chart_fault(rt.alloc(), chart.as_bytes()).expect(rt, "memory");
+    let fault = answer.expect(rt, "a fault");
+    format!(in rt.alloc(); "{fault}\n").expect(rt, "memory")
 }

@@ -1,43 +1,45 @@
 //! Code texts that the program writes, runs and upgrades, and that it refuses.
 use crate::rows::{START, check};
-use crate::setup::{CODE, LAMP, Ran, files, run};
-use flow_base::{MemSink, Status};
-use std::alloc::Global;
+use crate::setup::{Answer, CODE, LAMP, Ran, files, run, sink};
+use flow_base::Status;
 use std::process::Abort;
 use std::str;
-use std::test::Fail;
 
 #[test]
-fn compiled_chart(rt: HostRuntime) -> Result<(), Fail> {
-    let ran = compile(rt.alloc(), LAMP)?;
+fn compiled_chart(rt: HostRuntime) {
+    let ran = compile(&rt, LAMP);
     let code = code_of(&rt, &ran);
     let trace = "0 start [Off] - - ok\n1 GO [On] - - ok\n2 GO [Off] - - ok\n3 tick [Off] - - ok\n";
-    check(&rt, "exec c e", code, "", (Status::Ok, START, ""))?;
+    check(&rt, "exec c e", code, "", (Status::Ok, START, ""));
     check(
         &rt,
         "exec c e",
         code,
         "GO\nGO\ntick\n",
         (Status::Ok, trace, ""),
-    )
+    );
 }
 
 /// Compiles a chart.
-fn compile(alloc: Global, chart: &str) -> Result<Ran, Fail> {
-    let inputs = files(alloc, chart, "", &[])?;
-    let out = MemSink::new(alloc, 16_384, 64, Vec::new(alloc))?;
-    let err = MemSink::new(alloc, 4096, 64, Vec::new(alloc))?;
-    Ok(run(alloc, "compile c", inputs, out, err)?)
+fn compile(rt: &(impl AllocGlobal + Abort), chart: &str) -> Ran {
+    let inputs = files(rt, chart, "", &[]);
+    run(
+        rt,
+        "compile c",
+        inputs,
+        sink(rt, 16_384, 64, &[]),
+        sink(rt, 4096, 64, &[]),
+    )
 }
 
 /// The code that a run wrote, which succeeded.
 fn code_of<'a>(rt: &impl Abort, ran: &'a Ran) -> &'a str {
-    assert_eq!(rt; ran.status, Status::Ok);
-    assert!(rt; ran.err.bytes().is_empty());
-    let Ok(code) = str::from_utf8(ran.out.bytes()) else {
-        panic!(rt; "{:?}", ran.out.bytes());
-    };
-    code
+    let (status, err) = (ran.status, ran.err.bytes());
+    assert!(rt;
+        status == Status::Ok && err.is_empty(),
+        "{status:?} {err:?}"
+    );
+    str::from_utf8(ran.out.bytes()).expect(rt, "a text")
 }
 
 /// A text of the code, what stands in its place, and why that is refused.
@@ -56,25 +58,28 @@ const REFUSED: &[(&str, &str, &str)] = &[
 ];
 
 #[test]
-fn refused_code(rt: HostRuntime) -> Result<(), Fail> {
+fn refused_code(rt: HostRuntime) {
     for &(old, new, err) in REFUSED {
-        let text = CODE.replace(rt.alloc(), old, new)?;
-        let want = (Status::Refused, "", err);
-        check(&rt, "exec c e", text.as_str(), "GO\n", want)?;
-        check(&rt, "upgrade c", text.as_str(), "GO\n", want)?;
+        check_replaced(&rt, old, new, (Status::Refused, "", err));
     }
-    Ok(())
+}
+
+/// Neither `exec` nor `upgrade` takes the code with that text in place of the old.
+fn check_replaced(rt: &(impl AllocGlobal + Abort), old: &str, new: &str, want: Answer<'_>) {
+    let text = CODE.replace(rt.alloc(), old, new).expect(rt, "memory");
+    check(rt, "exec c e", text.as_str(), "GO\n", want);
+    check(rt, "upgrade c", text.as_str(), "GO\n", want);
 }
 
 #[test]
-fn upgraded_code(rt: HostRuntime) -> Result<(), Fail> {
-    let alloc = rt.alloc();
-    let second = CODE.replace(alloc, "flowcode 1\n", "flowcode 2\n")?;
+fn upgraded_code(rt: HostRuntime) {
+    let second = CODE.replace(rt.alloc(), "flowcode 1\n", "flowcode 2\n");
+    let second = second.expect(&rt, "memory");
     let want = second.as_str();
-    check(&rt, "upgrade c", CODE, "", (Status::Ok, want, ""))?;
-    check(&rt, "upgrade c", want, "", (Status::Ok, want, ""))?;
+    check(&rt, "upgrade c", CODE, "", (Status::Ok, want, ""));
+    check(&rt, "upgrade c", want, "", (Status::Ok, want, ""));
     let trace = "0 start [Off] - - ok\n1 GO [On] - - ok\n";
-    check(&rt, "exec c e", want, "GO\n", (Status::Ok, trace, ""))
+    check(&rt, "exec c e", want, "GO\n", (Status::Ok, trace, ""));
 }
 
 /// Code with an input, a local datum and an output event. Each event adds the input to the datum
@@ -100,34 +105,42 @@ const COUNTER: &str = "\
     ret 0\n\
     end\n";
 
-#[test]
-fn data_and_outputs(rt: HostRuntime) -> Result<(), Fail> {
-    let events = "ADD x=1.5\nADD\ntick x=0\n";
-    let trace = "0 start [] x=0,sum=0.5 - ok\n\
-        1 ADD [] x=1.5,sum=2 - ok\n\
-        2 ADD [] x=1.5,sum=3.5 BIG ok\n\
-        3 tick [] x=0,sum=3.5 BIG ok\n";
-    check(&rt, "exec c e", COUNTER, events, (Status::Ok, trace, ""))?;
-    let events = "ADD x=63\nADD\nADD\n";
-    let trace = "0 start [] x=0,sum=0.5 - ok\n\
-        1 ADD [] x=63,sum=63.5 BIG ok\n\
-        2 ADD [] x=63,sum=63.5 - overflow sum\n";
-    check(
-        &rt,
-        "exec c e",
-        COUNTER,
-        events,
-        (Status::RunFault, trace, "run 2: overflow sum\n"),
-    )?;
-    check(
-        &rt,
-        "exec c e",
-        COUNTER,
+/// Event files of the counter with their answers.
+const COUNTS: &[(&str, Answer<'_>)] = &[
+    (
+        "ADD x=1.5\nADD\ntick x=0\n",
+        (
+            Status::Ok,
+            "0 start [] x=0,sum=0.5 - ok\n\
+             1 ADD [] x=1.5,sum=2 - ok\n\
+             2 ADD [] x=1.5,sum=3.5 BIG ok\n\
+             3 tick [] x=0,sum=3.5 BIG ok\n",
+            "",
+        ),
+    ),
+    (
+        "ADD x=63\nADD\nADD\n",
+        (
+            Status::RunFault,
+            "0 start [] x=0,sum=0.5 - ok\n\
+             1 ADD [] x=63,sum=63.5 BIG ok\n\
+             2 ADD [] x=63,sum=63.5 - overflow sum\n",
+            "run 2: overflow sum\n",
+        ),
+    ),
+    (
         "ADD x=0.25\n",
         (
             Status::Refused,
             "0 start [] x=0,sum=0.5 - ok\n",
             "event 1: 6 BadValue\n",
         ),
-    )
+    ),
+];
+
+#[test]
+fn data_and_outputs(rt: HostRuntime) {
+    for &(events, want) in COUNTS {
+        check(&rt, "exec c e", COUNTER, events, want);
+    }
 }

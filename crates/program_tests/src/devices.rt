@@ -2,12 +2,11 @@
 ghost use Rattle.std.specs.Prelude.{◌≢◌};
 
 use crate::rows::{COMMANDS, START};
-use crate::setup::{CODE, LAMP, compare, file, files, run, words};
+use crate::setup::{Answer, CODE, Fails, LAMP, compare, file, files, run, sink, words};
 use chart_command::chart_main;
-use flow_base::{MemSink, Sink, Status, SureInputs, SureSink};
-use std::alloc::{AllocError, Global};
+use flow_base::{Sink, Status, SureInputs, SureSink};
+use std::alloc::Global;
 use std::process::Abort;
-use std::test::Fail;
 
 /// Over inputs and an output that never fail, neither a read nor a write fault is answered.
 fn sure_status<E: Sink>(
@@ -24,19 +23,14 @@ fn sure_status<E: Sink>(
 }
 
 #[test]
-fn sure_devices(rt: HostRuntime) -> Result<(), Fail> {
-    let alloc = rt.alloc();
-    let mut sources = Vec::new(alloc);
-    sources.push(file(alloc, "c", LAMP, 9, &[1])?)?;
-    let mut inputs = SureInputs::new(sources);
-    let words = words(alloc, "rules c e")?;
-    let status = sure_status(alloc, &words, &mut inputs, &mut SureSink::new());
-    assert_eq!(rt; status, Status::Ok);
-    Ok(())
+fn sure_devices(rt: HostRuntime) {
+    let files = [file(&rt, "c", LAMP, 9, &[1])];
+    let files = Vec::from_array(rt.alloc(), files).expect(&rt, "memory");
+    let mut inputs = SureInputs::new(files);
+    let words = words(&rt, "rules c e");
+    let status = sure_status(rt.alloc(), &words, &mut inputs, &mut SureSink::new());
+    assert!(rt; status == Status::Ok, "{status:?}");
 }
-
-/// Which reads of the event file, writes of the output and writes of the line fail.
-type Fails<'a> = (&'a [u64], &'a [u64], &'a [u64]);
 
 /// Runs the program with the listed reads and writes failing.
 fn check(
@@ -44,27 +38,21 @@ fn check(
     line: &str,
     text: &str,
     fails: Fails<'_>,
-    want: (Status, &str, &str),
-) -> Result<(), Fail> {
-    let alloc = rt.alloc();
-    let inputs = files(alloc, text, "GO\nGO\nGO\n", fails.0)?;
-    let out = MemSink::new(alloc, 4096, 4096, Vec::from_slice(alloc, fails.1)?)?;
-    let err = MemSink::new(alloc, 4096, 4096, Vec::from_slice(alloc, fails.2)?)?;
-    let ran = run(alloc, line, inputs, out, err)?;
-    let row = row(alloc, line, fails)?;
-    compare(rt, row.as_str(), &ran, want);
-    Ok(())
+    want: Answer<'_>,
+) {
+    let inputs = files(rt, text, EVENTS, fails.0);
+    let out = sink(rt, 4096, 4096, fails.1);
+    let ran = run(rt, line, inputs, out, sink(rt, 4096, 4096, fails.2));
+    compare(rt, (line, EVENTS, fails), &ran, want);
 }
 
-/// The name of a row.
-fn row(alloc: Global, line: &str, fails: Fails<'_>) -> Result<String, AllocError> {
-    format!(in alloc; "{line}: {:?} {:?} {:?}", fails.0, fails.1, fails.2)
-}
+/// The event file.
+const EVENTS: &str = "GO\nGO\nGO\n";
 
 /// The trace of `GO` twice.
 const GIVEN: &str = "0 start [Off] - - ok\n1 GO [On] - - ok\n2 GO [Off] - - ok\n";
 
-const FAILS: &[(Fails<'_>, (Status, &str, &str))] = &[
+const FAILS: &[(Fails<'_>, Answer<'_>)] = &[
     ((&[3], &[], &[]), (Status::Read, GIVEN, "read fault\n")),
     ((&[], &[1], &[]), (Status::Write, "", "write fault\n")),
     ((&[], &[2], &[]), (Status::Write, START, "write fault\n")),
@@ -73,13 +61,17 @@ const FAILS: &[(Fails<'_>, (Status, &str, &str))] = &[
 ];
 
 #[test]
-fn failing_devices(rt: HostRuntime) -> Result<(), Fail> {
+fn failing_devices(rt: HostRuntime) {
     for &(line, text) in COMMANDS {
-        for &(fails, want) in FAILS {
-            check(&rt, line, text, fails, want)?;
-        }
+        check_fails(&rt, line, text);
     }
-    Ok(())
+}
+
+/// Runs a command of the lamp with each list of failing reads and writes.
+fn check_fails(rt: &(impl AllocGlobal + Abort), line: &str, text: &str) {
+    for &(fails, want) in FAILS {
+        check(rt, line, text, fails, want);
+    }
 }
 
 /// Commands that make a text whole before anything is written, in one piece.
@@ -91,10 +83,9 @@ const TEXTS: &[(&str, &str)] = &[
 ];
 
 #[test]
-fn failing_writes_of_a_text(rt: HostRuntime) -> Result<(), Fail> {
+fn failing_writes_of_a_text(rt: HostRuntime) {
     let want = (Status::Write, "", "write fault\n");
     for &(line, text) in TEXTS {
-        check(&rt, line, text, (&[], &[1], &[]), want)?;
+        check(&rt, line, text, (&[], &[1], &[]), want);
     }
-    Ok(())
 }

@@ -1,8 +1,7 @@
 //! Charts, event files and words with their answers.
-use crate::setup::{CODE, LAMP, compare, files, run};
-use flow_base::{MemSink, Status};
+use crate::setup::{Answer, CODE, LAMP, compare, files, run, sink};
+use flow_base::Status;
 use std::process::Abort;
-use std::test::Fail;
 
 /// Runs the program with these words over a chart or code, and compares status, output and line.
 pub fn check(
@@ -10,16 +9,30 @@ pub fn check(
     line: &str,
     text: &str,
     events: &str,
-    want: (Status, &str, &str),
-) -> Result<(), Fail> {
-    let alloc = rt.alloc();
-    let inputs = files(alloc, text, events, &[])?;
-    let out = MemSink::new(alloc, 4096, 5, Vec::new(alloc))?;
-    let err = MemSink::new(alloc, 4096, 4096, Vec::new(alloc))?;
-    let ran = run(alloc, line, inputs, out, err)?;
-    let row = format!(in alloc; "{line}: {events:?}")?;
-    compare(rt, row.as_str(), &ran, want);
-    Ok(())
+    want: Answer<'_>,
+) {
+    let inputs = files(rt, text, events, &[]);
+    let ran = run(
+        rt,
+        line,
+        inputs,
+        sink(rt, 4096, 5, &[]),
+        sink(rt, 4096, 4096, &[]),
+    );
+    compare(rt, (line, events, (&[], &[], &[])), &ran, want);
+}
+
+/// The same answer for each of these words.
+pub fn check_lines(
+    rt: &(impl AllocGlobal + Abort),
+    lines: &[&str],
+    text: &str,
+    events: &str,
+    want: Answer<'_>,
+) {
+    for &line in lines {
+        check(rt, line, text, events, want);
+    }
 }
 
 /// The first line of the trace of the lamp.
@@ -28,7 +41,7 @@ pub const START: &str = "0 start [Off] - - ok\n";
 /// Commands that run the lamp, over its chart or its code.
 pub const COMMANDS: &[(&str, &str)] = &[("rules c e", LAMP), ("exec c e", CODE), ("run c e", LAMP)];
 
-const EVENT_FILES: &[(&str, (Status, &str, &str))] = &[
+const EVENT_FILES: &[(&str, Answer<'_>)] = &[
     ("", (Status::Ok, START, "")),
     (
         "GO\nGO\ntick\n",
@@ -69,13 +82,17 @@ const EVENT_FILES: &[(&str, (Status, &str, &str))] = &[
 ];
 
 #[test]
-fn event_files(rt: HostRuntime) -> Result<(), Fail> {
-    for &(events, want) in EVENT_FILES {
-        for &(line, text) in COMMANDS {
-            check(&rt, line, text, events, want)?;
-        }
+fn event_files(rt: HostRuntime) {
+    for &(line, text) in COMMANDS {
+        check_events(&rt, line, text);
     }
-    Ok(())
+}
+
+/// Runs a command of the lamp over each event file.
+fn check_events(rt: &(impl AllocGlobal + Abort), line: &str, text: &str) {
+    for &(events, want) in EVENT_FILES {
+        check(rt, line, text, events, want);
+    }
 }
 
 const USAGE: &str =
@@ -114,73 +131,62 @@ const OTHER_WORDS: &[&str] = &[
 ];
 
 #[test]
-fn other_words(rt: HostRuntime) -> Result<(), Fail> {
-    let usage = (Status::Usage, "", USAGE);
-    for &line in OTHER_WORDS {
-        check(&rt, line, LAMP, "", usage)?;
-    }
-    Ok(())
+fn other_words(rt: HostRuntime) {
+    check_lines(&rt, OTHER_WORDS, LAMP, "", (Status::Usage, "", USAGE));
 }
 
 #[test]
-fn words_of_files(rt: HostRuntime) -> Result<(), Fail> {
+fn words_of_files(rt: HostRuntime) {
     // The empty word names a file, which isn't there.
-    check(
-        &rt,
-        "rules c ",
-        LAMP,
-        "",
-        (Status::Read, START, "read fault\n"),
-    )?;
+    let absent = (Status::Read, START, "read fault\n");
+    check(&rt, "rules c ", LAMP, "", absent);
     // One file in both places is given once.
-    check(&rt, "rules c c", LAMP, "", (Status::Ok, START, ""))
+    check(&rt, "rules c c", LAMP, "", (Status::Ok, START, ""));
 }
 
 /// Each tick sends an event under which the chart sends again, until sends nest too deep.
 const NEST: &str =
     "chart C or { event local L; local n : int8; default -> A; state A { during { n = n + 1; send L; } } }";
 
-/// Options and files, the trace, and the line.
-const BOUNDS: &[(&str, &str, &str)] = &[
+/// Words with their options, the trace, and the line.
+const BOUNDS: &[(&[&str], Answer<'_>)] = &[
     (
-        "c e",
-        "0 start [A] n=0 - ok\n1 tick [A] n=9 - depth\n",
-        "run 1: depth\n",
+        &["rules c e", "run c e"],
+        (
+            Status::RunFault,
+            "0 start [A] n=0 - ok\n1 tick [A] n=9 - depth\n",
+            "run 1: depth\n",
+        ),
     ),
     (
-        "--depth 3 c e",
-        "0 start [A] n=0 - ok\n1 tick [A] n=4 - depth\n",
-        "run 1: depth\n",
+        &["rules --depth 3 c e", "run --depth 3 c e"],
+        (
+            Status::RunFault,
+            "0 start [A] n=0 - ok\n1 tick [A] n=4 - depth\n",
+            "run 1: depth\n",
+        ),
     ),
     (
-        "c --depth=+032 e",
-        "0 start [A] n=0 - ok\n1 tick [A] n=33 - depth\n",
-        "run 1: depth\n",
+        &["rules c --depth=+032 e", "run c --depth=+032 e"],
+        (
+            Status::RunFault,
+            "0 start [A] n=0 - ok\n1 tick [A] n=33 - depth\n",
+            "run 1: depth\n",
+        ),
     ),
     (
-        "--steps 2 c -- e",
-        "0 start [A] n=0 - ok\n1 tick [A] n=3 - steps\n",
-        "run 1: steps\n",
+        &["rules --steps 2 c -- e", "run --steps 2 c -- e"],
+        (
+            Status::RunFault,
+            "0 start [A] n=0 - ok\n1 tick [A] n=3 - steps\n",
+            "run 1: steps\n",
+        ),
     ),
 ];
 
 #[test]
-fn bounds(rt: HostRuntime) -> Result<(), Fail> {
-    for &(options, out, line) in BOUNDS {
-        check_bound(&rt, "rules ", options, (Status::RunFault, out, line))?;
-        check_bound(&rt, "run ", options, (Status::RunFault, out, line))?;
+fn bounds(rt: HostRuntime) {
+    for &(lines, want) in BOUNDS {
+        check_lines(&rt, lines, NEST, "tick\n", want);
     }
-    Ok(())
-}
-
-/// Runs the program with this command and these options over a chart whose sends nest.
-fn check_bound(
-    rt: &(impl AllocGlobal + Abort),
-    command: &str,
-    options: &str,
-    want: (Status, &str, &str),
-) -> Result<(), Fail> {
-    let mut words = String::from_str(rt.alloc(), command)?;
-    words.push_str(options)?;
-    check(rt, words.as_str(), NEST, "tick\n", want)
 }

@@ -1,9 +1,7 @@
 //! Charts that run by the rules and as compiled code, with their traces.
-use crate::rows::check;
+use crate::rows::{check, check_lines};
 use flow_base::Status;
-use std::alloc::{AllocError, Global};
 use std::process::Abort;
-use std::test::Fail;
 
 /// Nested states, a junction, a broadcast, an event that is put out, and inputs.
 const CHART: &str = "\
@@ -21,23 +19,15 @@ const CHART: &str = "\
 
 const START: &str = "0 start [A] x=0,n=0 - ok\n";
 
-/// Runs a chart by the rules and as compiled code.
-fn check_run(
-    rt: &(impl AllocGlobal + Abort),
-    chart: &str,
-    events: &str,
-    want: (Status, &str, &str),
-) -> Result<(), Fail> {
-    check(rt, "rules c e", chart, events, want)?;
-    check(rt, "run c e", chart, events, want)
-}
+/// Words that run a chart by the rules and as compiled code.
+const RUNS: &[&str] = &["rules c e", "run c e"];
 
 #[test]
-fn events_with_inputs(rt: HostRuntime) -> Result<(), Fail> {
+fn events_with_inputs(rt: HostRuntime) {
     let events = "# idle\n\nGO x=1\r\nGO x=2.5\ntick\n  GO\n";
     let trace = "0 start [A] x=0,n=0 - ok\n1 GO [A] x=1,n=0 - ok\n2 GO [B,B/P] x=2.5,n=2 - ok\n\
         3 tick [B,B/Q] x=2.5,n=2 DONE ok\n4 GO [B,B/P] x=2.5,n=2 - ok\n";
-    check_run(&rt, CHART, events, (Status::Ok, trace, ""))
+    check_lines(&rt, RUNS, CHART, events, (Status::Ok, trace, ""));
 }
 
 /// Event files that are refused at a line, and what is said then.
@@ -52,27 +42,17 @@ const REFUSED: &[(&str, &str)] = &[
 ];
 
 #[test]
-fn refused_lines(rt: HostRuntime) -> Result<(), Fail> {
+fn refused_lines(rt: HostRuntime) {
     for &(events, err) in REFUSED {
-        check_run(&rt, CHART, events, (Status::Refused, START, err))?;
+        check_lines(&rt, RUNS, CHART, events, (Status::Refused, START, err));
     }
-    Ok(())
 }
 
 #[test]
-fn a_long_line(rt: HostRuntime) -> Result<(), Fail> {
-    let long = line_of_spaces(rt.alloc(), 4097)?;
+fn a_long_line(rt: HostRuntime) {
+    let long = " ".repeat(rt.alloc(), 4097).expect(&rt, "memory");
     let want = (Status::Refused, START, "event 1: 1 LineTooLong\n");
-    check(&rt, "rules c e", CHART, long.as_str(), want)
-}
-
-/// That many spaces.
-fn line_of_spaces(alloc: Global, count: usize) -> Result<String, AllocError> {
-    let mut line = String::new(alloc);
-    for _space in 0..count {
-        line.push_str(" ")?;
-    }
-    Ok(line)
+    check(&rt, "rules c e", CHART, long.as_str(), want);
 }
 
 /// Charts and events, the trace, and the fault that ends it.
@@ -105,9 +85,8 @@ const FAULTS: &[(&str, &str, &str, &str)] = &[
 ];
 
 #[test]
-fn faults_of_runs(rt: HostRuntime) -> Result<(), Fail> {
+fn faults_of_runs(rt: HostRuntime) {
     for &(chart, events, out, err) in FAULTS {
-        check_run(&rt, chart, events, (Status::RunFault, out, err))?;
+        check_lines(&rt, RUNS, chart, events, (Status::RunFault, out, err));
     }
-    Ok(())
 }

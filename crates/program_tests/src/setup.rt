@@ -3,7 +3,6 @@ ghost use Rattle.std.specs.Prelude.{◌<◌};
 
 use chart_command::chart_main;
 use flow_base::{MemFile, MemInputs, MemSink, Status};
-use std::alloc::{AllocError, Global};
 use std::process::Abort;
 
 /// The chart of the lamp.
@@ -39,42 +38,45 @@ pub const CODE: &str = "\
 
 /// A file that is read in pieces; the listed reads of it fail.
 pub fn file(
-    alloc: Global,
+    rt: &(impl AllocGlobal + Abort),
     name: &str,
     text: &str,
     piece: usize,
     fail: &[u64],
-) -> Result<MemFile, AllocError>
+) -> MemFile
     requires { 0 < piece }
 {
-    Ok(MemFile::new(
-        String::from_str(alloc, name)?,
-        Vec::from_slice(alloc, text.as_bytes())?,
-        piece,
-        Vec::from_slice(alloc, fail)?,
-    ))
+    let name = String::from_str(rt.alloc(), name).expect(rt, "memory");
+    let bytes = Vec::from_slice(rt.alloc(), text.as_bytes()).expect(rt, "memory");
+    MemFile::new(name, bytes, piece, numbers(rt, fail))
+}
+
+/// The numbers of reads or writes.
+fn numbers(rt: &(impl AllocGlobal + Abort), numbers: &[u64]) -> Vec<u64> {
+    Vec::from_slice(rt.alloc(), numbers).expect(rt, "memory")
 }
 
 /// A chart or code in the file `c` and events in the file `e`; the listed reads of `e` fail.
-pub fn files(
-    alloc: Global,
-    text: &str,
-    events: &str,
-    fail: &[u64],
-) -> Result<MemInputs, AllocError> {
-    let mut files = Vec::new(alloc);
-    files.push(file(alloc, "c", text, 7, &[])?)?;
-    files.push(file(alloc, "e", events, 3, fail)?)?;
-    Ok(MemInputs::new(files))
+pub fn files(rt: &(impl AllocGlobal + Abort), text: &str, events: &str, fail: &[u64]) -> MemInputs {
+    let files = [file(rt, "c", text, 7, &[]), file(rt, "e", events, 3, fail)];
+    MemInputs::new(Vec::from_array(rt.alloc(), files).expect(rt, "memory"))
+}
+
+/// A sink of that room, which takes pieces of a size; the listed writes to it fail.
+pub fn sink(rt: &(impl AllocGlobal + Abort), room: usize, piece: usize, fail: &[u64]) -> MemSink
+    requires { 0 < piece }
+{
+    MemSink::new(rt.alloc(), room, piece, numbers(rt, fail)).expect(rt, "memory")
 }
 
 /// The words of a line, which a space separates.
-pub fn words(alloc: Global, line: &str) -> Result<Vec<String>, AllocError> {
-    let mut words = Vec::new(alloc);
+pub fn words(rt: &(impl AllocGlobal + Abort), line: &str) -> Vec<String> {
+    let mut words = Vec::new(rt.alloc());
     for word in line.split(' ') {
-        words.push(String::from_str(alloc, word)?)?;
+        let word = String::from_str(rt.alloc(), word).expect(rt, "memory");
+        words.push(word).expect(rt, "memory");
     }
-    Ok(words)
+    words
 }
 
 /// What a run of the program left.
@@ -87,25 +89,38 @@ pub struct Ran {
 
 /// Runs the program with the words of a line over files and sinks.
 pub fn run(
-    alloc: Global,
+    rt: &(impl AllocGlobal + Abort),
     line: &str,
     mut inputs: MemInputs,
     mut out: MemSink,
     mut err: MemSink,
-) -> Result<Ran, AllocError> {
-    let words = words(alloc, line)?;
-    let status = chart_main(alloc, &words, &mut inputs, &mut out, &mut err);
-    Ok(Ran { status, out, err })
+) -> Ran {
+    let words = words(rt, line);
+    let status = chart_main(rt.alloc(), &words, &mut inputs, &mut out, &mut err);
+    Ran { status, out, err }
 }
 
-/// Compares status, output and line of the run that `row` names.
-pub fn compare(rt: &impl Abort, row: &str, ran: &Ran, want: (Status, &str, &str)) {
-    assert_eq!(rt; ran.status, want.0, "{row}");
-    compare_bytes(rt, row, ran.out.bytes(), want.1);
-    compare_bytes(rt, row, ran.err.bytes(), want.2);
+/// Status, output and line of a run.
+pub type Answer<'a> = (Status, &'a str, &'a str);
+
+/// Which reads of the event file, writes of the output and writes of the line fail.
+pub type Fails<'a> = (&'a [u64], &'a [u64], &'a [u64]);
+
+/// The words of a run, its event file, and what fails.
+pub type Row<'a> = (&'a str, &'a str, Fails<'a>);
+
+/// Compares status, output and line of the run of a row.
+pub fn compare(rt: &impl Abort, row: Row<'_>, ran: &Ran, want: Answer<'_>) {
+    let (status, out, err) = (ran.status, ran.out.bytes(), ran.err.bytes());
+    assert!(rt;
+        is_answer(ran, want),
+        "{row:?}: {status:?} {out:?} {err:?}, not {want:?}"
+    );
 }
 
-/// Compares what was written with the text that is wanted.
-fn compare_bytes(rt: &impl Abort, row: &str, bytes: &[u8], want: &str) {
-    assert_eq!(rt; bytes, want.as_bytes(), "{row}");
+/// Whether a run left that status, output and line.
+fn is_answer(ran: &Ran, want: Answer<'_>) -> bool {
+    ran.status == want.0
+        && ran.out.bytes() == want.1.as_bytes()
+        && ran.err.bytes() == want.2.as_bytes()
 }

@@ -1,63 +1,100 @@
 //! Charts that are accepted, with their counts, and charts that are refused.
-use crate::rows::{check, check_lines};
-use crate::setup::LAMP;
+use crate::rows::{Group, check, check_groups};
+use crate::setup::{Answer, LAMP, compare};
 use accepted_charts::chart_fault;
 use flow_base::Status;
 use std::process::Abort;
 
-/// Accepted charts with their counts.
-const COUNTS: &[(&str, &str)] = &[
-    (LAMP, "ok 3 states 0 junctions 3 transitions 3 pairs\n"),
-    (
-        "chart C and { state A { } state B { } }",
-        "ok 3 states 0 junctions 0 transitions 0 pairs\n",
-    ),
-    // The list of A and the list of the root both reach j, whose two transitions make a pair
-    // with each of them.
-    (
-        "chart C or { inner -> @j; default -> A; junction j { [true] -> A; -> B; }\
-         state A { outer -> @j; } state B { } }",
-        "ok 3 states 1 junctions 5 transitions 7 pairs\n",
-    ),
-];
-
-#[test]
-fn counts(rt: HostRuntime) {
-    for &(chart, out) in COUNTS {
-        check(&rt, "check c", chart, "", (Status::Ok, out, ""));
-    }
-}
+const CHECK: &[&str] = &["check c"];
 
 /// Words that read the chart.
 const OF_CHARTS: &[&str] = &["check c", "rules c e", "compile c", "run c e"];
 
-/// Refused charts with their lines.
-const REFUSALS: &[(&str, &str)] = &[
-    ("chart Lamp or {", "chart 1:16: 3 Expected\n"),
+/// Accepted charts with their counts, and refused charts with their lines.
+const GROUPS: &[Group<'_>] = &[
     (
+        CHECK,
+        LAMP,
+        &[(
+            "",
+            (
+                Status::Ok,
+                "ok 3 states 0 junctions 3 transitions 3 pairs\n",
+                "",
+            ),
+        )],
+    ),
+    (
+        CHECK,
+        "chart C and { state A { } state B { } }",
+        &[(
+            "",
+            (
+                Status::Ok,
+                "ok 3 states 0 junctions 0 transitions 0 pairs\n",
+                "",
+            ),
+        )],
+    ),
+    // The list of A and the list of the root both reach j, whose two transitions make a pair
+    // with each of them.
+    (
+        CHECK,
+        "chart C or { inner -> @j; default -> A; junction j { [true] -> A; -> B; }\
+         state A { outer -> @j; } state B { } }",
+        &[(
+            "",
+            (
+                Status::Ok,
+                "ok 3 states 1 junctions 5 transitions 7 pairs\n",
+                "",
+            ),
+        )],
+    ),
+    (
+        OF_CHARTS,
+        "chart Lamp or {",
+        &[("GO\n", (Status::Refused, "", "chart 1:16: 3 Expected\n"))],
+    ),
+    (
+        OF_CHARTS,
         "chart C { local n : int8; event local n; default -> A; state A { } }",
-        "chart 1:39: 9 NameTwice\n",
+        &[("GO\n", (Status::Refused, "", "chart 1:39: 9 NameTwice\n"))],
     ),
     (
+        OF_CHARTS,
         "chart C { default -> B; state A { } }",
-        "chart 1:22: 10 UnknownName\n",
+        &[(
+            "GO\n",
+            (Status::Refused, "", "chart 1:22: 10 UnknownName\n"),
+        )],
     ),
     (
+        OF_CHARTS,
         "chart C { local n : int64; default -> A; state A { during { n = n * n; } } }",
-        "chart 1:67: 13 TooWide\n",
+        &[("GO\n", (Status::Refused, "", "chart 1:67: 13 TooWide\n"))],
     ),
-    ("chart C or { }", "chart 1:7: 17 EmptyComposition\n"),
     (
+        OF_CHARTS,
+        "chart C or { }",
+        &[(
+            "GO\n",
+            (Status::Refused, "", "chart 1:7: 17 EmptyComposition\n"),
+        )],
+    ),
+    (
+        OF_CHARTS,
         "chart C and { state P { outer -> Q; } state Q { } }",
-        "chart 1:34: 23 CrossesRegions\n",
+        &[(
+            "GO\n",
+            (Status::Refused, "", "chart 1:34: 23 CrossesRegions\n"),
+        )],
     ),
 ];
 
 #[test]
-fn refusals(rt: HostRuntime) {
-    for &(chart, err) in REFUSALS {
-        check_lines(&rt, OF_CHARTS, chart, "GO\n", (Status::Refused, "", err));
-    }
+fn counts_and_refusals(rt: HostRuntime) {
+    check_groups(&rt, GROUPS);
 }
 
 /// A chart text with each kind of fault of names, types and structure but that of too many pairs.
@@ -133,17 +170,21 @@ const FAULTS: &[(&str, &str)] = &[
 #[test]
 fn first_faults(rt: HostRuntime) {
     for &(chart, line) in FAULTS {
-        check_fault(&rt, chart, line);
+        check_fault(&rt, chart, (Status::Refused, "", line));
     }
 }
 
 /// The first fault of a text is the one that `check` tells.
-fn check_fault(rt: &(impl AllocGlobal + Abort), chart: &str, line: &str) {
-    assert!(rt;
-        first_fault(rt, chart).as_str() == line,
-        "{chart}: not {line}"
+fn check_fault(rt: &(impl AllocGlobal + Abort), chart: &str, want: Answer<'_>) {
+    let line = first_fault(rt, chart);
+    compare(
+        rt,
+        "chart_fault",
+        chart,
+        (Status::Refused, &[], line.as_bytes()),
+        want,
     );
-    check(rt, "check c", chart, "", (Status::Refused, "", line));
+    check(rt, "check c", chart, "", want);
 }
 
 /// The line of the first fault of a chart's text.

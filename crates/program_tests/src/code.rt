@@ -1,43 +1,45 @@
 //! Code texts that the program writes, runs and upgrades, and that it refuses.
-use crate::rows::{START, check};
-use crate::setup::{Answer, CODE, LAMP, Ran, files, run, sink};
+use crate::rows::{EXEC, Group, START, check_groups, check_lines, check_rows};
+use crate::setup::{Answer, CODE, LAMP, Ran, compare, files, run, sink};
 use flow_base::Status;
 use std::process::Abort;
 use std::str;
 
+/// Event files of the lamp.
+const EVENT_FILES: &[(&str, Answer<'_>)] = &[
+    ("", (Status::Ok, START, "")),
+    (
+        "GO\nGO\ntick\n",
+        (
+            Status::Ok,
+            "0 start [Off] - - ok\n1 GO [On] - - ok\n2 GO [Off] - - ok\n3 tick [Off] - - ok\n",
+            "",
+        ),
+    ),
+];
+
 #[test]
 fn compiled_chart(rt: HostRuntime) {
     let ran = compile(&rt, LAMP);
-    let code = code_of(&rt, &ran);
-    let trace = "0 start [Off] - - ok\n1 GO [On] - - ok\n2 GO [Off] - - ok\n3 tick [Off] - - ok\n";
-    check(&rt, "exec c e", code, "", (Status::Ok, START, ""));
-    check(
-        &rt,
-        "exec c e",
-        code,
-        "GO\nGO\ntick\n",
-        (Status::Ok, trace, ""),
-    );
+    check_rows(&rt, EXEC, code_of(&rt, &ran), EVENT_FILES);
 }
 
 /// Compiles a chart.
 fn compile(rt: &(impl AllocGlobal + Abort), chart: &str) -> Ran {
-    let inputs = files(rt, chart, "", &[]);
-    run(
-        rt,
-        "compile c",
-        inputs,
-        sink(rt, 16_384, 64, &[]),
-        sink(rt, 4096, 64, &[]),
-    )
+    let out = sink(rt, 16_384, 64, &[]);
+    let err = sink(rt, 4096, 64, &[]);
+    run(rt, "compile c", files(rt, chart, "", &[]), out, err)
 }
 
 /// The code that a run wrote, which succeeded.
 fn code_of<'a>(rt: &impl Abort, ran: &'a Ran) -> &'a str {
-    let (status, err) = (ran.status, ran.err.bytes());
-    assert!(rt;
-        status == Status::Ok && err.is_empty(),
-        "{status:?} {err:?}"
+    let want = (Status::Ok, "", "");
+    compare(
+        rt,
+        "compile c",
+        "",
+        (ran.status, &[], ran.err.bytes()),
+        want,
     );
     str::from_utf8(ran.out.bytes()).expect(rt, "a text")
 }
@@ -67,20 +69,35 @@ fn refused_code(rt: HostRuntime) {
 /// Neither `exec` nor `upgrade` takes the code with that text in place of the old.
 fn check_replaced(rt: &(impl AllocGlobal + Abort), old: &str, new: &str, want: Answer<'_>) {
     let text = CODE.replace(rt.alloc(), old, new).expect(rt, "memory");
-    check(rt, "exec c e", text.as_str(), "GO\n", want);
-    check(rt, "upgrade c", text.as_str(), "GO\n", want);
+    check_lines(rt, &["exec c e", "upgrade c"], text.as_str(), "GO\n", want);
 }
 
-#[test]
-fn upgraded_code(rt: HostRuntime) {
-    let second = CODE.replace(rt.alloc(), "flowcode 1\n", "flowcode 2\n");
-    let second = second.expect(&rt, "memory");
-    let want = second.as_str();
-    check(&rt, "upgrade c", CODE, "", (Status::Ok, want, ""));
-    check(&rt, "upgrade c", want, "", (Status::Ok, want, ""));
-    let trace = "0 start [Off] - - ok\n1 GO [On] - - ok\n";
-    check(&rt, "exec c e", want, "GO\n", (Status::Ok, trace, ""));
-}
+/// Code of the lamp in format 2.
+const SECOND: &str = "\
+    flowcode 2\n\
+    states 3\n\
+    s - or Lamp\n\
+    s 0 leaf Off\n\
+    s 0 leaf On\n\
+    data 0\n\
+    events 1\n\
+    e input GO\n\
+    procs 2 0 1\n\
+    p 3\n\
+    mark 0\n\
+    mark 1\n\
+    ret 0\n\
+    p 9\n\
+    unless 7 event 0\n\
+    unless 3 on 1\n\
+    clear 1\n\
+    mark 2\n\
+    ret 0\n\
+    unless 2 on 2\n\
+    clear 2\n\
+    mark 1\n\
+    ret 0\n\
+    end\n";
 
 /// Code with an input, a local datum and an output event. Each event adds the input to the datum
 /// and puts the output out where the sum is over 2.
@@ -138,9 +155,24 @@ const COUNTS: &[(&str, Answer<'_>)] = &[
     ),
 ];
 
+const UPGRADE: &[&str] = &["upgrade c"];
+
+/// The upgraded code of the lamp, and the counter over its event files.
+const GROUPS: &[Group<'_>] = &[
+    (UPGRADE, CODE, &[("", (Status::Ok, SECOND, ""))]),
+    (UPGRADE, SECOND, &[("", (Status::Ok, SECOND, ""))]),
+    (
+        EXEC,
+        SECOND,
+        &[(
+            "GO\n",
+            (Status::Ok, "0 start [Off] - - ok\n1 GO [On] - - ok\n", ""),
+        )],
+    ),
+    (EXEC, COUNTER, COUNTS),
+];
+
 #[test]
-fn data_and_outputs(rt: HostRuntime) {
-    for &(events, want) in COUNTS {
-        check(&rt, "exec c e", COUNTER, events, want);
-    }
+fn upgrades_data_and_outputs(rt: HostRuntime) {
+    check_groups(&rt, GROUPS);
 }

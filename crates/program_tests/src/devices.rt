@@ -1,8 +1,8 @@
 //! Devices that fail, and devices that never do.
 ghost use Rattle.std.specs.Prelude.{◌≢◌};
 
-use crate::rows::{COMMANDS, START};
-use crate::setup::{Answer, CODE, Fails, LAMP, compare, file, files, run, sink, words};
+use crate::rows::START;
+use crate::setup::{Answer, CODE, Fails, LAMP, check_run, compare, file, words};
 use chart_command::chart_main;
 use flow_base::{Sink, Status, SureInputs, SureSink};
 use std::alloc::Global;
@@ -24,55 +24,26 @@ fn sure_status<E: Sink>(
 
 #[test]
 fn sure_devices(rt: HostRuntime) {
-    let files = [file(&rt, "c", LAMP, 9, &[1])];
-    let files = Vec::from_array(rt.alloc(), files).expect(&rt, "memory");
-    let mut inputs = SureInputs::new(files);
+    let mut inputs = sure_inputs(&rt);
     let words = words(&rt, "rules c e");
     let status = sure_status(rt.alloc(), &words, &mut inputs, &mut SureSink::new());
-    assert!(rt; status == Status::Ok, "{status:?}");
+    compare(
+        &rt,
+        "rules c e",
+        "",
+        (status, &[], &[]),
+        (Status::Ok, "", ""),
+    );
 }
 
-/// Runs the program with the listed reads and writes failing.
-fn check(
-    rt: &(impl AllocGlobal + Abort),
-    line: &str,
-    text: &str,
-    fails: Fails<'_>,
-    want: Answer<'_>,
-) {
-    let inputs = files(rt, text, EVENTS, fails.0);
-    let out = sink(rt, 4096, 4096, fails.1);
-    let ran = run(rt, line, inputs, out, sink(rt, 4096, 4096, fails.2));
-    compare(rt, (line, EVENTS, fails), &ran, want);
+/// The chart of the lamp, whose first read would fail, and no events.
+fn sure_inputs(rt: &(impl AllocGlobal + Abort)) -> SureInputs {
+    let files = [file(rt, "c", LAMP, 9, &[1])];
+    SureInputs::new(Vec::from_array(rt.alloc(), files).expect(rt, "memory"))
 }
 
-/// The event file.
-const EVENTS: &str = "GO\nGO\nGO\n";
-
-/// The trace of `GO` twice.
-const GIVEN: &str = "0 start [Off] - - ok\n1 GO [On] - - ok\n2 GO [Off] - - ok\n";
-
-const FAILS: &[(Fails<'_>, Answer<'_>)] = &[
-    ((&[3], &[], &[]), (Status::Read, GIVEN, "read fault\n")),
-    ((&[], &[1], &[]), (Status::Write, "", "write fault\n")),
-    ((&[], &[2], &[]), (Status::Write, START, "write fault\n")),
-    // A failing line changes nothing else.
-    ((&[], &[2], &[1]), (Status::Write, START, "")),
-];
-
-#[test]
-fn failing_devices(rt: HostRuntime) {
-    for &(line, text) in COMMANDS {
-        check_fails(&rt, line, text);
-    }
-}
-
-/// Runs a command of the lamp with each list of failing reads and writes.
-fn check_fails(rt: &(impl AllocGlobal + Abort), line: &str, text: &str) {
-    for &(fails, want) in FAILS {
-        check(rt, line, text, fails, want);
-    }
-}
+/// Commands that run the lamp, over its chart or its code.
+const COMMANDS: &[(&str, &str)] = &[("rules c e", LAMP), ("exec c e", CODE), ("run c e", LAMP)];
 
 /// Commands that make a text whole before anything is written, in one piece.
 const TEXTS: &[(&str, &str)] = &[
@@ -82,10 +53,50 @@ const TEXTS: &[(&str, &str)] = &[
     ("upgrade c", CODE),
 ];
 
+/// The trace of `GO` twice.
+const GIVEN: &str = "0 start [Off] - - ok\n1 GO [On] - - ok\n2 GO [Off] - - ok\n";
+
+/// Commands with a chart or code, what fails, and the answer.
+const FAILS: &[(&[(&str, &str)], Fails<'_>, Answer<'_>)] = &[
+    (
+        COMMANDS,
+        (&[3], &[], &[]),
+        (Status::Read, GIVEN, "read fault\n"),
+    ),
+    (
+        COMMANDS,
+        (&[], &[1], &[]),
+        (Status::Write, "", "write fault\n"),
+    ),
+    (
+        COMMANDS,
+        (&[], &[2], &[]),
+        (Status::Write, START, "write fault\n"),
+    ),
+    // A failing line changes nothing else.
+    (COMMANDS, (&[], &[2], &[1]), (Status::Write, START, "")),
+    (
+        TEXTS,
+        (&[], &[1], &[]),
+        (Status::Write, "", "write fault\n"),
+    ),
+];
+
 #[test]
-fn failing_writes_of_a_text(rt: HostRuntime) {
-    let want = (Status::Write, "", "write fault\n");
-    for &(line, text) in TEXTS {
-        check(&rt, line, text, (&[], &[1], &[]), want);
+fn failing_devices(rt: HostRuntime) {
+    for &(commands, fails, want) in FAILS {
+        check_fails(&rt, commands, fails, want);
+    }
+}
+
+/// The same answer for each of these commands, with the listed reads and writes failing.
+fn check_fails(
+    rt: &(impl AllocGlobal + Abort),
+    commands: &[(&str, &str)],
+    fails: Fails<'_>,
+    want: Answer<'_>,
+) {
+    for &(line, text) in commands {
+        check_run(rt, line, text, "GO\nGO\nGO\n", 4096, fails, want);
     }
 }

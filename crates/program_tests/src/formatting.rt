@@ -1,5 +1,5 @@
 //! Chart texts with their canonical texts, which stay as they are.
-use crate::rows::check;
+use crate::rows::{Group, check, check_groups};
 use crate::setup::LAMP;
 use flow_base::Status;
 
@@ -56,24 +56,41 @@ fn canonical_texts(rt: HostRuntime) {
     }
 }
 
+const FMT: &[&str] = &["fmt c"];
+
 /// Texts that are no chart, with their lines.
-const REFUSED: &[(&str, &str)] = &[
-    ("", "chart 1:1: 3 Expected\n"),
-    ("Ã", "chart 1:1: 1 BadByte\n"),
+const REFUSED: &[Group<'_>] = &[
     (
+        FMT,
+        "",
+        &[("", (Status::Refused, "", "chart 1:1: 3 Expected\n"))],
+    ),
+    (
+        FMT,
+        "Ã",
+        &[("", (Status::Refused, "", "chart 1:1: 1 BadByte\n"))],
+    ),
+    (
+        FMT,
         "chart C or {\n  state A { }\n\t# }",
-        "chart 3:2: 2 BadToken\n",
+        &[("", (Status::Refused, "", "chart 3:2: 2 BadToken\n"))],
     ),
     (
+        FMT,
         "chart C { entry { a = 0.1; } }",
-        "chart 1:23: 5 LiteralNotBinary\n",
+        &[(
+            "",
+            (Status::Refused, "", "chart 1:23: 5 LiteralNotBinary\n"),
+        )],
     ),
-    ("chart C { } }", "chart 1:13: 3 Expected\n"),
+    (
+        FMT,
+        "chart C { } }",
+        &[("", (Status::Refused, "", "chart 1:13: 3 Expected\n"))],
+    ),
 ];
 
 #[test]
 fn refused_texts(rt: HostRuntime) {
-    for &(text, err) in REFUSED {
-        check(&rt, "fmt c", text, "", (Status::Refused, "", err));
-    }
+    check_groups(&rt, REFUSED);
 }

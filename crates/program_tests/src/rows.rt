@@ -1,25 +1,28 @@
 //! Charts, event files and words with their answers.
-use crate::setup::{Answer, CODE, LAMP, compare, files, run, sink};
+use crate::setup::{Answer, CODE, LAMP, check_run};
 use flow_base::Status;
 use std::process::Abort;
 
-/// Runs the program with these words over a chart or code, and compares status, output and line.
-pub fn check(
+/// Words, a chart or code, and event files with the answers of each of these words.
+pub type Group<'a> = (&'a [&'a str], &'a str, &'a [(&'a str, Answer<'a>)]);
+
+/// Compares the answers of groups.
+pub fn check_groups(rt: &(impl AllocGlobal + Abort), groups: &[Group<'_>]) {
+    for &(lines, text, rows) in groups {
+        check_rows(rt, lines, text, rows);
+    }
+}
+
+/// Compares the answers of these words over a chart or code with each event file.
+pub fn check_rows(
     rt: &(impl AllocGlobal + Abort),
-    line: &str,
+    lines: &[&str],
     text: &str,
-    events: &str,
-    want: Answer<'_>,
+    rows: &[(&str, Answer<'_>)],
 ) {
-    let inputs = files(rt, text, events, &[]);
-    let ran = run(
-        rt,
-        line,
-        inputs,
-        sink(rt, 4096, 5, &[]),
-        sink(rt, 4096, 4096, &[]),
-    );
-    compare(rt, (line, events, (&[], &[], &[])), &ran, want);
+    for &(events, want) in rows {
+        check_lines(rt, lines, text, events, want);
+    }
 }
 
 /// The same answer for each of these words.
@@ -35,12 +38,27 @@ pub fn check_lines(
     }
 }
 
+/// Runs the program with these words over a chart or code, and compares status, output and line.
+pub fn check(
+    rt: &(impl AllocGlobal + Abort),
+    line: &str,
+    text: &str,
+    events: &str,
+    want: Answer<'_>,
+) {
+    check_run(rt, line, text, events, 5, (&[], &[], &[]), want);
+}
+
 /// The first line of the trace of the lamp.
 pub const START: &str = "0 start [Off] - - ok\n";
 
-/// Commands that run the lamp, over its chart or its code.
-pub const COMMANDS: &[(&str, &str)] = &[("rules c e", LAMP), ("exec c e", CODE), ("run c e", LAMP)];
+/// Words that run a chart by the rules and as compiled code.
+pub const RUNS: &[&str] = &["rules c e", "run c e"];
 
+/// Words that run code.
+pub const EXEC: &[&str] = &["exec c e"];
+
+/// Event files of the lamp.
 const EVENT_FILES: &[(&str, Answer<'_>)] = &[
     ("", (Status::Ok, START, "")),
     (
@@ -81,20 +99,6 @@ const EVENT_FILES: &[(&str, Answer<'_>)] = &[
     ),
 ];
 
-#[test]
-fn event_files(rt: HostRuntime) {
-    for &(line, text) in COMMANDS {
-        check_events(&rt, line, text);
-    }
-}
-
-/// Runs a command of the lamp over each event file.
-fn check_events(rt: &(impl AllocGlobal + Abort), line: &str, text: &str) {
-    for &(events, want) in EVENT_FILES {
-        check(rt, line, text, events, want);
-    }
-}
-
 const USAGE: &str =
     "usage: flowc check CHART, fmt CHART, rules CHART EVENTS, compile CHART, exec CODE EVENTS, run CHART EVENTS, upgrade CODE, selftest N; --depth D, --steps S\n";
 
@@ -130,63 +134,74 @@ const OTHER_WORDS: &[&str] = &[
     "--help",
 ];
 
-#[test]
-fn other_words(rt: HostRuntime) {
-    check_lines(&rt, OTHER_WORDS, LAMP, "", (Status::Usage, "", USAGE));
-}
-
-#[test]
-fn words_of_files(rt: HostRuntime) {
-    // The empty word names a file, which isn't there.
-    let absent = (Status::Read, START, "read fault\n");
-    check(&rt, "rules c ", LAMP, "", absent);
-    // One file in both places is given once.
-    check(&rt, "rules c c", LAMP, "", (Status::Ok, START, ""));
-}
-
 /// Each tick sends an event under which the chart sends again, until sends nest too deep.
 const NEST: &str =
     "chart C or { event local L; local n : int8; default -> A; state A { during { n = n + 1; send L; } } }";
 
-/// Words with their options, the trace, and the line.
-const BOUNDS: &[(&[&str], Answer<'_>)] = &[
+/// The lamp and its code over event files, words that name no command, words of files, and bounds.
+const GROUPS: &[Group<'_>] = &[
+    (RUNS, LAMP, EVENT_FILES),
+    (EXEC, CODE, EVENT_FILES),
+    (OTHER_WORDS, LAMP, &[("", (Status::Usage, "", USAGE))]),
+    // The empty word names a file, which isn't there.
+    (
+        &["rules c "],
+        LAMP,
+        &[("", (Status::Read, START, "read fault\n"))],
+    ),
+    // One file in both places is given once.
+    (&["rules c c"], LAMP, &[("", (Status::Ok, START, ""))]),
     (
         &["rules c e", "run c e"],
-        (
-            Status::RunFault,
-            "0 start [A] n=0 - ok\n1 tick [A] n=9 - depth\n",
-            "run 1: depth\n",
-        ),
+        NEST,
+        &[(
+            "tick\n",
+            (
+                Status::RunFault,
+                "0 start [A] n=0 - ok\n1 tick [A] n=9 - depth\n",
+                "run 1: depth\n",
+            ),
+        )],
     ),
     (
         &["rules --depth 3 c e", "run --depth 3 c e"],
-        (
-            Status::RunFault,
-            "0 start [A] n=0 - ok\n1 tick [A] n=4 - depth\n",
-            "run 1: depth\n",
-        ),
+        NEST,
+        &[(
+            "tick\n",
+            (
+                Status::RunFault,
+                "0 start [A] n=0 - ok\n1 tick [A] n=4 - depth\n",
+                "run 1: depth\n",
+            ),
+        )],
     ),
     (
         &["rules c --depth=+032 e", "run c --depth=+032 e"],
-        (
-            Status::RunFault,
-            "0 start [A] n=0 - ok\n1 tick [A] n=33 - depth\n",
-            "run 1: depth\n",
-        ),
+        NEST,
+        &[(
+            "tick\n",
+            (
+                Status::RunFault,
+                "0 start [A] n=0 - ok\n1 tick [A] n=33 - depth\n",
+                "run 1: depth\n",
+            ),
+        )],
     ),
     (
         &["rules --steps 2 c -- e", "run --steps 2 c -- e"],
-        (
-            Status::RunFault,
-            "0 start [A] n=0 - ok\n1 tick [A] n=3 - steps\n",
-            "run 1: steps\n",
-        ),
+        NEST,
+        &[(
+            "tick\n",
+            (
+                Status::RunFault,
+                "0 start [A] n=0 - ok\n1 tick [A] n=3 - steps\n",
+                "run 1: steps\n",
+            ),
+        )],
     ),
 ];
 
 #[test]
-fn bounds(rt: HostRuntime) {
-    for &(lines, want) in BOUNDS {
-        check_lines(&rt, lines, NEST, "tick\n", want);
-    }
+fn words_and_event_files(rt: HostRuntime) {
+    check_groups(&rt, GROUPS);
 }

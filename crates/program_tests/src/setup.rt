@@ -87,6 +87,9 @@ pub struct Ran {
     pub err: MemSink,
 }
 
+/// Status, output and line of a run.
+pub type Answer<'a> = (Status, &'a str, &'a str);
+
 /// Runs the program with the words of a line over files and sinks.
 pub fn run(
     rt: &(impl AllocGlobal + Abort),
@@ -100,27 +103,42 @@ pub fn run(
     Ran { status, out, err }
 }
 
-/// Status, output and line of a run.
-pub type Answer<'a> = (Status, &'a str, &'a str);
-
 /// Which reads of the event file, writes of the output and writes of the line fail.
 pub type Fails<'a> = (&'a [u64], &'a [u64], &'a [u64]);
 
-/// The words of a run, its event file, and what fails.
-pub type Row<'a> = (&'a str, &'a str, Fails<'a>);
-
-/// Compares status, output and line of the run of a row.
-pub fn compare(rt: &impl Abort, row: Row<'_>, ran: &Ran, want: Answer<'_>) {
-    let (status, out, err) = (ran.status, ran.out.bytes(), ran.err.bytes());
-    assert!(rt;
-        is_answer(ran, want),
-        "{row:?}: {status:?} {out:?} {err:?}, not {want:?}"
+/// Runs the program, whose output takes pieces of a size, and compares what it left.
+pub fn check_run(
+    rt: &(impl AllocGlobal + Abort),
+    line: &str,
+    text: &str,
+    events: &str,
+    piece: usize,
+    fails: Fails<'_>,
+    want: Answer<'_>,
+)
+    requires { 0 < piece }
+{
+    let inputs = files(rt, text, events, fails.0);
+    let out = sink(rt, 4096, piece, fails.1);
+    let err = sink(rt, 4096, 4096, fails.2);
+    let ran = run(rt, line, inputs, out, err);
+    compare(
+        rt,
+        line,
+        events,
+        (ran.status, ran.out.bytes(), ran.err.bytes()),
+        want,
     );
 }
 
-/// Whether a run left that status, output and line.
-fn is_answer(ran: &Ran, want: Answer<'_>) -> bool {
-    ran.status == want.0
-        && ran.out.bytes() == want.1.as_bytes()
-        && ran.err.bytes() == want.2.as_bytes()
+/// Compares what a run with these words over that event file left.
+pub fn compare(
+    rt: &impl Abort,
+    line: &str,
+    events: &str,
+    got: (Status, &[u8], &[u8]),
+    want: Answer<'_>,
+) {
+    let want = (want.0, want.1.as_bytes(), want.2.as_bytes());
+    assert!(rt; got == want, "{line}: {events:?}: {got:?}, not {want:?}");
 }

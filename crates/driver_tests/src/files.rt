@@ -4,7 +4,6 @@ ghost use Rattle.std.specs.Prelude.{◌<◌};
 use crate::setup::{Devices, compare_end, run_text};
 use flow_base::Fault;
 use std::process::Abort;
-use std::test::Fail;
 use step_driver::DriveEnd;
 use step_text::LineFault;
 
@@ -113,13 +112,12 @@ const ROWS: &[(&str, Result<(), DriveEnd>, &str)] = &[
 ];
 
 #[test]
-fn files_are_answered(rt: HostRuntime) -> Result<(), Fail> {
+fn files_are_answered(rt: HostRuntime) {
     for &(text, answer, trace) in ROWS {
-        shows(&rt, text, 1, answer, trace)?;
-        shows(&rt, text, 3, answer, trace)?;
-        shows(&rt, text, 4096, answer, trace)?;
+        shows(&rt, text, 1, answer, trace);
+        shows(&rt, text, 3, answer, trace);
+        shows(&rt, text, 4096, answer, trace);
     }
-    Ok(())
 }
 
 /// A run over that text, in pieces of that size, has that answer, and that trace after the line
@@ -130,20 +128,27 @@ fn shows(
     piece: usize,
     answer: Result<(), DriveEnd>,
     trace: &str,
-) -> Result<(), Fail>
+)
     requires { 0 < piece }
 {
-    let alloc = rt.alloc();
     let devices = Devices {
         read_size: piece,
         failing_reads: &[],
         write_size: 7,
         failing_writes: &[],
     };
-    let ran = run_text(alloc, text.as_bytes(), &devices)?;
-    let row = format!(in alloc; "of {text:?} in pieces of {piece}")?;
-    compare_end(rt, row.as_str(), ran.answer, answer);
-    let want = format!(in alloc; "0 start [] by=0,count=0 - ok\n{trace}")?;
-    assert_eq!(rt; ran.out.bytes(), want.as_bytes(), "{row}");
-    Ok(())
+    let ran = run_text(rt, text.as_bytes(), &devices);
+    compare_end(rt, text, (0, piece), ran.answer, answer);
+    let want = whole_trace(rt, trace);
+    compare_trace(rt, text, ran.out.bytes(), want.as_bytes());
+}
+
+/// The line with index 0 and the trace after it.
+fn whole_trace(rt: &(impl AllocGlobal + Abort), trace: &str) -> String {
+    format!(in rt.alloc(); "0 start [] by=0,count=0 - ok\n{trace}").expect(rt, "memory")
+}
+
+/// Compares the trace of a file with the one that is wanted.
+fn compare_trace(rt: &impl Abort, text: &str, got: &[u8], want: &[u8]) {
+    assert!(rt; got == want, "{text:?}: {got:?}, not {want:?}");
 }

@@ -4,23 +4,21 @@ ghost use Rattle.std.specs.Prelude.{◌<◌};
 use crate::setup::{Devices, compare_end, run, run_text};
 use fixed_point::Scale;
 use flow_base::{MemFile, SureInputs, SureSink};
-use std::alloc::{AllocError, Global};
 use std::process::Abort;
-use std::test::Fail;
 use step_driver::DriveEnd;
 use step_text::LineFault;
 
 /// A file of `GO` and then a second line of that many bytes, all of them `byte`, and `tail` after
 /// it.
-fn text(alloc: Global, byte: u8, count: usize, tail: &str) -> Result<Vec<u8>, AllocError> {
-    let mut bytes = Vec::from_slice(alloc, b"GO\n")?;
+fn text(rt: &(impl AllocGlobal + Abort), byte: u8, count: usize, tail: &str) -> Vec<u8> {
+    let mut bytes = Vec::from_slice(rt.alloc(), b"GO\n").expect(rt, "memory");
     for _place in 0..count {
-        bytes.push(byte)?;
+        bytes.push(byte).expect(rt, "memory");
     }
-    for byte in tail.as_bytes() {
-        bytes.push(*byte)?;
-    }
-    Ok(bytes)
+    bytes
+        .extend_from_slice(tail.as_bytes())
+        .expect(rt, "memory");
+    bytes
 }
 
 const LONG: Result<(), DriveEnd> = Err(DriveEnd::Line(2, LineFault::LineTooLong));
@@ -43,15 +41,25 @@ const LINES: &[(u8, usize, &str, Result<(), DriveEnd>)] = &[
 ];
 
 #[test]
-fn lines_at_the_limit(rt: HostRuntime) -> Result<(), Fail> {
+fn lines_at_the_limit(rt: HostRuntime) {
     for &(byte, count, tail, answer) in LINES {
-        let bytes = text(rt.alloc(), byte, count, tail)?;
-        let row = format!(in rt.alloc(); "{count} bytes {byte} and {tail:?}")?;
-        ends(&rt, &bytes, 1, answer, row.as_str())?;
-        ends(&rt, &bytes, 3, answer, row.as_str())?;
-        ends(&rt, &bytes, 4096, answer, row.as_str())?;
+        check_line(&rt, byte, count, tail, answer);
     }
-    Ok(())
+}
+
+/// A run over a file with that second line, in pieces of three sizes, has that answer.
+fn check_line(
+    rt: &(impl AllocGlobal + Abort),
+    byte: u8,
+    count: usize,
+    tail: &str,
+    answer: Result<(), DriveEnd>,
+) {
+    let bytes = text(rt, byte, count, tail);
+    let row = format!(in rt.alloc(); "{count} bytes {byte} and {tail:?}").expect(rt, "memory");
+    ends(rt, &bytes, 1, answer, row.as_str());
+    ends(rt, &bytes, 3, answer, row.as_str());
+    ends(rt, &bytes, 4096, answer, row.as_str());
 }
 
 /// A run over these bytes, in pieces of that size, has that answer.
@@ -61,7 +69,7 @@ fn ends(
     piece: usize,
     answer: Result<(), DriveEnd>,
     row: &str,
-) -> Result<(), Fail>
+)
     requires { 0 < piece }
 {
     let devices = Devices {
@@ -70,54 +78,43 @@ fn ends(
         write_size: 1000,
         failing_writes: &[],
     };
-    let ran = run_text(rt.alloc(), bytes, &devices)?;
-    let row = format!(in rt.alloc(); "{row} in pieces of {piece}")?;
-    compare_end(rt, row.as_str(), ran.answer, answer);
-    Ok(())
+    let ran = run_text(rt, bytes, &devices);
+    compare_end(rt, row, (0, piece), ran.answer, answer);
 }
 
-/// A file of lines, each of which is that text and a newline.
-fn lines(alloc: Global, line: &str, count: usize) -> Result<SureInputs, AllocError> {
-    let name = String::from_str(alloc, "events")?;
-    let mut bytes = Vec::new(alloc);
-    for _line in 0..count {
-        bytes.extend_from_slice(line.as_bytes())?;
-        bytes.push(b'\n')?;
-    }
-    let events = MemFile::new(name, bytes, 8192, Vec::new(alloc));
-    Ok(SureInputs::new(vec![in alloc; events]?))
+/// A file of lines, each of which is that text with its newline.
+fn lines(rt: &(impl AllocGlobal + Abort), line: &str, count: usize) -> SureInputs {
+    let name = String::from_str(rt.alloc(), "events").expect(rt, "memory");
+    let bytes = line
+        .as_bytes()
+        .repeat(rt.alloc(), count)
+        .expect(rt, "memory");
+    let events = MemFile::new(name, bytes, 8192, Vec::new(rt.alloc()));
+    SureInputs::new(Vec::from_array(rt.alloc(), [events]).expect(rt, "memory"))
 }
 
 #[test]
-fn a_million_events(rt: HostRuntime) -> Result<(), Fail> {
-    let scale = Scale::make(true, 8, 0).ok_or("a scale")?;
-    ends_after(&rt, scale, 1_000_000, Ok(()))?;
-    ends_after(&rt, scale, 1_000_001, Err(DriveEnd::TooManyLines))
+fn a_million_events(rt: HostRuntime) {
+    ends_after(&rt, "tick\n", 1_000_000, Ok(()));
+    ends_after(&rt, "tick\n", 1_000_001, Err(DriveEnd::TooManyLines));
 }
 
-/// A run over a file of that many ticks has that answer.
+/// A run over a file of that many such lines has that answer.
 fn ends_after(
     rt: &(impl AllocGlobal + Abort),
-    scale: Scale,
+    line: &str,
     count: usize,
     answer: Result<(), DriveEnd>,
-) -> Result<(), Fail> {
-    let mut inputs = lines(rt.alloc(), "tick", count)?;
-    let mut out = SureSink::new();
-    let got = run(rt.alloc(), scale, &mut inputs, &mut out)?;
-    let row = format!(in rt.alloc(); "{count}")?;
-    compare_end(rt, row.as_str(), got, answer);
-    Ok(())
+) {
+    let scale = Scale::make(true, 8, 0).expect(rt, "a scale");
+    let mut inputs = lines(rt, line, count);
+    let got = run(rt, scale, &mut inputs, &mut SureSink::new());
+    compare_end(rt, line, (0, count), got, answer);
 }
 
 #[test]
-fn a_file_that_is_one_line_too_long(rt: HostRuntime) -> Result<(), Fail> {
-    let scale = Scale::make(true, 8, 0).ok_or("a scale")?;
+fn a_file_that_is_one_line_too_long(rt: HostRuntime) {
     // 64 bytes a line, the newline included
-    let line = "# 3456789012345678901234567890123456789012345678901234567890123";
-    let mut inputs = lines(rt.alloc(), line, 1_048_577)?;
-    let mut out = SureSink::new();
-    let got = run(rt.alloc(), scale, &mut inputs, &mut out)?;
-    compare_end(&rt, line, got, Err(DriveEnd::FileTooLong));
-    Ok(())
+    let line = "# 3456789012345678901234567890123456789012345678901234567890123\n";
+    ends_after(&rt, line, 1_048_577, Err(DriveEnd::FileTooLong));
 }

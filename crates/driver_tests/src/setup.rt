@@ -3,9 +3,8 @@ ghost use Rattle.std.specs.Prelude.{◌<◌};
 
 use actions::Engine;
 use fixed_point::Scale;
-use flow_base::{Bounds, Inputs, MemFile, MemInputs, MemSink, Memory, Sink};
+use flow_base::{Bounds, Inputs, MemFile, MemInputs, MemSink, Sink};
 use sample_engine::Counter;
-use std::alloc::Global;
 use std::process::Abort;
 use step_driver::{DriveEnd, drive};
 use step_text::{InputVals, LineReader};
@@ -13,16 +12,17 @@ use step_text::{InputVals, LineReader};
 /// Runs the sample chart, whose event `GO` puts out `DONE` twice, over the file `events`. Its
 /// numbers have that scale.
 pub fn run<I: Inputs, O: Sink>(
-    alloc: Global,
+    rt: &(impl AllocGlobal + Abort),
     scale: Scale,
     inputs: &mut I,
     out: &mut O,
-) -> Result<Result<(), DriveEnd>, Memory> {
+) -> Result<(), DriveEnd> {
     let bounds = Bounds { depth: 1, steps: 2 };
-    let mut counter = Counter::make(alloc, bounds, scale, 2)?;
-    let mut lines = LineReader::make(alloc)?;
-    let mut vals = InputVals::make(alloc, counter.view().names)?;
-    Ok(drive(&mut counter, inputs, "events", &mut lines, &mut vals, out))
+    let mut counter = Counter::make(rt.alloc(), bounds, scale, 2).expect(rt, "memory");
+    let mut lines = LineReader::make(rt.alloc()).expect(rt, "memory");
+    let vals = InputVals::make(rt.alloc(), counter.view().names);
+    let mut vals = vals.expect(rt, "memory");
+    drive(&mut counter, inputs, "events", &mut lines, &mut vals, out)
 }
 
 /// How files and sinks behave: the most that one read gives and one write takes, and which of them
@@ -44,52 +44,52 @@ pub struct Ran {
 }
 
 /// Runs the sample chart over a text, with numbers of 8 bits of which 4 are fraction bits.
-pub fn run_text(alloc: Global, text: &[u8], devices: &Devices<'_>) -> Result<Ran, Memory>
+pub fn run_text(rt: &(impl AllocGlobal + Abort), text: &[u8], devices: &Devices<'_>) -> Ran
     requires reads { 0 < devices.now.read_size }
     requires writes { 0 < devices.now.write_size }
 {
-    let Some(scale) = Scale::make(true, 8, 4) else {
-        return Err(Memory);
-    };
-    let mut inputs = file(alloc, text, devices)?;
-    let Ok(fail) = Vec::from_slice(alloc, devices.failing_writes) else {
-        return Err(Memory);
-    };
-    let mut out = MemSink::new(alloc, 1000, devices.write_size, fail)?;
-    let answer = run(alloc, scale, &mut inputs, &mut out)?;
-    Ok(Ran {
+    let scale = Scale::make(true, 8, 4).expect(rt, "a scale");
+    let mut inputs = file(rt, text, devices);
+    let mut out = sink(rt, devices);
+    let answer = run(rt, scale, &mut inputs, &mut out);
+    Ran {
         answer,
         inputs,
         out,
-    })
-}
-
-/// The file `events`.
-fn file(alloc: Global, text: &[u8], devices: &Devices<'_>) -> Result<MemInputs, Memory>
-    requires { 0 < devices.now.read_size }
-{
-    let Ok(name) = String::from_str(alloc, "events") else {
-        return Err(Memory);
-    };
-    let Ok(bytes) = Vec::from_slice(alloc, text) else {
-        return Err(Memory);
-    };
-    let Ok(fail) = Vec::from_slice(alloc, devices.failing_reads) else {
-        return Err(Memory);
-    };
-    let file = MemFile::new(name, bytes, devices.read_size, fail);
-    match vec![in alloc; file] {
-        Ok(files) => Ok(MemInputs::new(files)),
-        Err(_) => Err(Memory),
     }
 }
 
-/// Compares the answer of the run that `row` names.
+/// The file `events`.
+fn file(rt: &(impl AllocGlobal + Abort), text: &[u8], devices: &Devices<'_>) -> MemInputs
+    requires { 0 < devices.now.read_size }
+{
+    let name = String::from_str(rt.alloc(), "events").expect(rt, "memory");
+    let bytes = Vec::from_slice(rt.alloc(), text).expect(rt, "memory");
+    let fail = numbers(rt, devices.failing_reads);
+    let files = [MemFile::new(name, bytes, devices.read_size, fail)];
+    MemInputs::new(Vec::from_array(rt.alloc(), files).expect(rt, "memory"))
+}
+
+/// A sink of 1000 bytes.
+fn sink(rt: &(impl AllocGlobal + Abort), devices: &Devices<'_>) -> MemSink
+    requires { 0 < devices.now.write_size }
+{
+    let fail = numbers(rt, devices.failing_writes);
+    MemSink::new(rt.alloc(), 1000, devices.write_size, fail).expect(rt, "memory")
+}
+
+/// The numbers of reads or writes.
+fn numbers(rt: &(impl AllocGlobal + Abort), numbers: &[u64]) -> Vec<u64> {
+    Vec::from_slice(rt.alloc(), numbers).expect(rt, "memory")
+}
+
+/// Compares the answer of the run that a word and two numbers name.
 pub fn compare_end(
     rt: &impl Abort,
     row: &str,
+    numbers: (u64, usize),
     got: Result<(), DriveEnd>,
     want: Result<(), DriveEnd>,
 ) {
-    assert_eq!(rt; got, want, "{row}");
+    assert!(rt; got == want, "{row} {numbers:?}: {got:?}, not {want:?}");
 }

@@ -1,6 +1,6 @@
 //! Code texts that the program writes, runs and upgrades, and that it refuses.
 use crate::rows::{EXEC, Group, START, check_groups, check_lines, check_rows};
-use crate::setup::{Answer, CODE, LAMP, Ran, compare, files, run, sink};
+use crate::setup::{Answer, CODE, LAMP, Ran, SURE, compare, run};
 use flow_base::Status;
 use std::process::Abort;
 use std::str;
@@ -20,15 +20,8 @@ const EVENT_FILES: &[(&str, Answer<'_>)] = &[
 
 #[test]
 fn compiled_chart(rt: HostRuntime) {
-    let ran = compile(&rt, LAMP);
+    let ran = run(&rt, "compile c", LAMP, "", 64, SURE);
     check_rows(&rt, EXEC, code_of(&rt, &ran), EVENT_FILES);
-}
-
-/// Compiles a chart.
-fn compile(rt: &(impl AllocGlobal + Abort), chart: &str) -> Ran {
-    let out = sink(rt, 16_384, 64, &[]);
-    let err = sink(rt, 4096, 64, &[]);
-    run(rt, "compile c", files(rt, chart, "", &[]), out, err)
 }
 
 /// The code that a run wrote, which succeeded.

@@ -1,5 +1,5 @@
 //! Charts, event files and words with their answers.
-use crate::setup::{Answer, CODE, LAMP, check_run};
+use crate::setup::{Answer, CODE, LAMP, SURE, check_run};
 use flow_base::Status;
 use std::process::Abort;
 
@@ -46,7 +46,7 @@ pub fn check(
     events: &str,
     want: Answer<'_>,
 ) {
-    check_run(rt, line, text, events, 5, (&[], &[], &[]), want);
+    check_run(rt, line, text, events, 5, SURE, want);
 }
 
 /// The first line of the trace of the lamp.

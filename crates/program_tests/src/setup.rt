@@ -57,16 +57,16 @@ fn numbers(rt: &(impl AllocGlobal + Abort), numbers: &[u64]) -> Vec<u64> {
 }
 
 /// A chart or code in the file `c` and events in the file `e`; the listed reads of `e` fail.
-pub fn files(rt: &(impl AllocGlobal + Abort), text: &str, events: &str, fail: &[u64]) -> MemInputs {
+fn files(rt: &(impl AllocGlobal + Abort), text: &str, events: &str, fail: &[u64]) -> MemInputs {
     let files = [file(rt, "c", text, 7, &[]), file(rt, "e", events, 3, fail)];
     MemInputs::new(Vec::from_array(rt.alloc(), files).expect(rt, "memory"))
 }
 
-/// A sink of that room, which takes pieces of a size; the listed writes to it fail.
-pub fn sink(rt: &(impl AllocGlobal + Abort), room: usize, piece: usize, fail: &[u64]) -> MemSink
+/// A sink that takes pieces of a size; the listed writes to it fail.
+fn sink(rt: &(impl AllocGlobal + Abort), piece: usize, fail: &[u64]) -> MemSink
     requires { 0 < piece }
 {
-    MemSink::new(rt.alloc(), room, piece, numbers(rt, fail)).expect(rt, "memory")
+    MemSink::new(rt.alloc(), 16_384, piece, numbers(rt, fail)).expect(rt, "memory")
 }
 
 /// The words of a line, which a space separates.
@@ -90,23 +90,33 @@ pub struct Ran {
 /// Status, output and line of a run.
 pub type Answer<'a> = (Status, &'a str, &'a str);
 
-/// Runs the program with the words of a line over files and sinks.
+/// Which reads of the event file, writes of the output and writes of the line fail.
+pub type Fails<'a> = (&'a [u64], &'a [u64], &'a [u64]);
+
+/// No read and no write fails.
+pub const SURE: Fails<'_> = (&[], &[], &[]);
+
+/// Runs the program with the words of a line over a text and events. Its output takes pieces of a
+/// size.
 pub fn run(
     rt: &(impl AllocGlobal + Abort),
     line: &str,
-    mut inputs: MemInputs,
-    mut out: MemSink,
-    mut err: MemSink,
-) -> Ran {
+    text: &str,
+    events: &str,
+    piece: usize,
+    fails: Fails<'_>,
+) -> Ran
+    requires { 0 < piece }
+{
     let words = words(rt, line);
+    let mut inputs = files(rt, text, events, fails.0);
+    let mut out = sink(rt, piece, fails.1);
+    let mut err = sink(rt, 4096, fails.2);
     let status = chart_main(rt.alloc(), &words, &mut inputs, &mut out, &mut err);
     Ran { status, out, err }
 }
 
-/// Which reads of the event file, writes of the output and writes of the line fail.
-pub type Fails<'a> = (&'a [u64], &'a [u64], &'a [u64]);
-
-/// Runs the program, whose output takes pieces of a size, and compares what it left.
+/// Runs the program so, and compares what it left.
 pub fn check_run(
     rt: &(impl AllocGlobal + Abort),
     line: &str,
@@ -118,10 +128,7 @@ pub fn check_run(
 )
     requires { 0 < piece }
 {
-    let inputs = files(rt, text, events, fails.0);
-    let out = sink(rt, 4096, piece, fails.1);
-    let err = sink(rt, 4096, 4096, fails.2);
-    let ran = run(rt, line, inputs, out, err);
+    let ran = run(rt, line, text, events, piece, fails);
     compare(
         rt,
         line,

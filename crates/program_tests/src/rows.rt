@@ -99,6 +99,17 @@ const EVENT_FILES: &[(&str, Answer<'_>)] = &[
     ),
 ];
 
+#[test]
+fn event_files(rt: HostRuntime) {
+    check_event_files(&rt, RUNS, LAMP);
+    check_event_files(&rt, EXEC, CODE);
+}
+
+/// Compares the answers of these words over the chart or the code of the lamp.
+fn check_event_files(rt: &(impl AllocGlobal + Abort), lines: &[&str], text: &str) {
+    check_rows(rt, lines, text, EVENT_FILES);
+}
+
 const USAGE: &str =
     "usage: flowc check CHART, fmt CHART, rules CHART EVENTS, compile CHART, exec CODE EVENTS, run CHART EVENTS, upgrade CODE, selftest N; --depth D, --steps S\n";
 
@@ -138,10 +149,8 @@ const OTHER_WORDS: &[&str] = &[
 const NEST: &str =
     "chart C or { event local L; local n : int8; default -> A; state A { during { n = n + 1; send L; } } }";
 
-/// The lamp and its code over event files, words that name no command, words of files, and bounds.
+/// Words that name no command, words of files, and bounds.
 const GROUPS: &[Group<'_>] = &[
-    (RUNS, LAMP, EVENT_FILES),
-    (EXEC, CODE, EVENT_FILES),
     (OTHER_WORDS, LAMP, &[("", (Status::Usage, "", USAGE))]),
     // The empty word names a file, which isn't there.
     (
@@ -202,6 +211,6 @@ const GROUPS: &[Group<'_>] = &[
 ];
 
 #[test]
-fn words_and_event_files(rt: HostRuntime) {
+fn words_and_bounds(rt: HostRuntime) {
     check_groups(&rt, GROUPS);
 }

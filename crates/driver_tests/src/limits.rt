@@ -82,15 +82,22 @@ fn ends(
     compare_end(rt, row, (0, piece), ran.answer, answer);
 }
 
-/// A file of lines, each of which is that text with its newline.
+/// A file of that many lines, each of which is that text with its newline.
 fn lines(rt: &(impl AllocGlobal + Abort), line: &str, count: usize) -> SureInputs {
     let name = String::from_str(rt.alloc(), "events").expect(rt, "memory");
-    let bytes = line
-        .as_bytes()
-        .repeat(rt.alloc(), count)
-        .expect(rt, "memory");
-    let events = MemFile::new(name, bytes, 8192, Vec::new(rt.alloc()));
+    let events = MemFile::new(name, repeated(rt, line, count), 8192, Vec::new(rt.alloc()));
     SureInputs::new(Vec::from_array(rt.alloc(), [events]).expect(rt, "memory"))
+}
+
+/// The bytes of a text, that number of times.
+fn repeated(rt: &(impl AllocGlobal + Abort), text: &str, count: usize) -> Vec<u8> {
+    let mut bytes = Vec::new(rt.alloc());
+    for _time in 0..count {
+        bytes
+            .extend_from_slice(text.as_bytes())
+            .expect(rt, "memory");
+    }
+    bytes
 }
 
 #[test]

@@ -1,5 +1,6 @@
 //! A run over a file in memory.
-ghost use Rattle.std.specs.Prelude.{◌<◌};
+ghost use Rattle.std.specs.Prelude.{◌≡◌, ◌<◌, ◌^◌, length};
+ghost use Rattle.actions.specs.Engines.{Fresh};
 
 use actions::Engine;
 use fixed_point::Scale;
@@ -19,10 +20,24 @@ pub fn run<I: Inputs, O: Sink>(
 ) -> Result<(), DriveEnd> {
     let bounds = Bounds { depth: 1, steps: 2 };
     let mut counter = Counter::make(rt.alloc(), bounds, scale, 2).expect(rt, "memory");
+    run_engine(rt, &mut counter, inputs, out)
+}
+
+/// Runs an engine over the file `events`.
+fn run_engine<G: Engine, I: Inputs, O: Sink>(
+    rt: &(impl AllocGlobal + Abort),
+    engine: &mut G,
+    inputs: &mut I,
+    out: &mut O,
+) -> Result<(), DriveEnd>
+    requires fresh { G.stage engine.old ≡ Fresh }
+    requires few { length (G.declared (G.program engine.old)).events < 2 ^ 32 }
+    requires few_data { length (G.declared (G.program engine.old)).vars < 2 ^ 32 }
+{
     let mut lines = LineReader::make(rt.alloc()).expect(rt, "memory");
-    let vals = InputVals::make(rt.alloc(), counter.view().names);
+    let vals = InputVals::make(rt.alloc(), engine.view().names);
     let mut vals = vals.expect(rt, "memory");
-    drive(&mut counter, inputs, "events", &mut lines, &mut vals, out)
+    drive(engine, inputs, "events", &mut lines, &mut vals, out)
 }
 
 /// How files and sinks behave: the most that one read gives and one write takes, and which of them

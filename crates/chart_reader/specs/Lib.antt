@@ -8,3 +8,4 @@ pub mod Answer
 pub mod Told
 pub mod Items
 pub mod Heads
+pub mod Parts

@@ -1,9 +1,12 @@
 //! What may stand in a state or the chart.
 ghost use Rattle.std.specs.Prelude.{◌≡◌};
+ghost use Rattle.flow_base.specs.Lists.{items_of};
+ghost use Rattle.chart_tree.specs.Views.{block_of, trans_of};
 ghost use Rattle.chart_grammar.specs.Limits as limits;
 ghost use Rattle.chart_grammar.specs.States as states;
 ghost use Rattle.chart_reader.specs.Heads.{in_state_heads, in_chart_heads};
 ghost use Rattle.chart_reader.specs.Items.{item_of, seen_of};
+ghost use Rattle.chart_reader.specs.Parts.{action_named, trans_named};
 
 use crate::group::Group;
 use chart_tree::{EventText, JunctionText, StateText, StmtText, TransText, VarText};
@@ -35,6 +38,30 @@ pub(crate) enum Item {
     Event(EventText),
     /// The declaration of a datum.
     Var(VarText),
+}
+
+impl Item {
+    /// The action that its keyword names.
+    pub fn action(keyword: Kind, block: List<StmtText>) -> Item
+        ensures { item_of result ≡ action_named keyword (block_of (items_of block)) }
+    {
+        match keyword {
+            Kind::Entry => Item::Entry(block),
+            Kind::During => Item::During(block),
+            _ => Item::Exit(block),
+        }
+    }
+
+    /// The transition that its keyword names.
+    pub fn trans(keyword: Kind, trans: TransText) -> Item
+        ensures { item_of result ≡ trans_named keyword (trans_of trans) }
+    {
+        match keyword {
+            Kind::Outer => Item::Outer(trans),
+            Kind::Inner => Item::Inner(trans),
+            _ => Item::Default(trans),
+        }
+    }
 }
 
 /// Which of the three actions there are so far, and whether there is the word `history`.

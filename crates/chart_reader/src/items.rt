@@ -1,21 +1,21 @@
 //! Junctions, and what may stand in a state or the chart.
 ghost use Rattle.std.specs.Prelude.{◌≡◌, map};
-ghost use Rattle.flow_base.specs.Lists.{items_of};
 ghost use Rattle.token_grammar.specs.Token.{lexemes, Gives};
 ghost use Rattle.token_grammar.specs.Grammar.{is, heads};
-ghost use Rattle.chart_tree.specs.Views.{block_of, trans_of, junction_of};
+ghost use Rattle.chart_tree.specs.Views.{trans_of, junction_of};
 ghost use Rattle.chart_grammar.specs.Limits.{usual};
 ghost use Rattle.chart_grammar.specs.States as states;
 ghost use Rattle.chart_reader.specs.Counts.{counts_of};
-ghost use Rattle.chart_reader.specs.Items.{item_of, seen_of, Statements};
+ghost use Rattle.chart_reader.specs.Items.{item_of, seen_of};
+ghost use Rattle.chart_reader.specs.Parts.{action_named, trans_named};
 ghost use Rattle.chart_reader.specs.Told.{told};
 
 use crate::content::{Item, Seen};
 use crate::group::Group;
 use crate::reader::Reader;
-use chart_tree::{JunctionText, STATE_DEPTH_LIMIT, StmtText, TransText};
+use chart_tree::{JunctionText, STATE_DEPTH_LIMIT, TransText};
 use flow_base::List;
-use token_grammar::{Kind, ReadError, Span};
+use token_grammar::{Kind, ReadError};
 
 impl<'t, 'a> Reader<'t, 'a> {
     /// The transitions of a junction.
@@ -55,34 +55,53 @@ impl<'t, 'a> Reader<'t, 'a> {
         })
     }
 
-    /// The block of an action, after its keyword.
-    #[tactic(auto, unfolding(chart_grammar::specs::States::action_item))]
-    fn keyword_block(&mut self, keyword: Kind) -> Result<List<StmtText>, ReadError>
-        ensures { (item : Statements → states.Item) → Gives
-            (λ b. record {
-              value = item (block_of (items_of b));
-              counts = counts_of self.new.counts;
-            }) result (lexemes self.new.rest.now)
-            ((states.action_item usual keyword item (counts_of self.old.counts)).reads
+    /// A junction as an item.
+    #[tactic(auto, unfolding(chart_grammar::specs::States::junction_item))]
+    fn junction_item(&mut self) -> Result<Item, ReadError>
+        ensures { Gives (λ x. record { value = item_of x; counts = counts_of self.new.counts })
+            result (lexemes self.new.rest.now)
+            ((states.junction_item usual (counts_of self.old.counts)).reads
             (lexemes self.old.rest.now)) }
+    {
+        Ok(Item::Junction(self.junction()?))
+    }
+
+    /// An action, with its keyword.
+    #[tactic(auto, unfolding(chart_grammar::specs::States::action_item))]
+    fn action_item(&mut self, keyword: Kind) -> Result<Item, ReadError>
+        ensures { Gives (λ x. record { value = item_of x; counts = counts_of self.new.counts })
+            result (lexemes self.new.rest.now)
+            ((states.action_item usual keyword (action_named keyword)
+            (counts_of self.old.counts)).reads (lexemes self.old.rest.now)) }
     {
         self.token(keyword)?;
         let block = self.block()?;
-        Ok(block)
+        Ok(Item::action(keyword, block))
+    }
+
+    /// A transition of a state, with its keyword.
+    #[tactic(auto, unfolding(chart_grammar::specs::States::trans_item))]
+    fn trans_item(&mut self, keyword: Kind) -> Result<Item, ReadError>
+        ensures { Gives (λ x. record { value = item_of x; counts = counts_of self.new.counts })
+            result (lexemes self.new.rest.now)
+            ((states.trans_item usual keyword (trans_named keyword)
+            (counts_of self.old.counts)).reads (lexemes self.old.rest.now)) }
+    {
+        let trans = self.keyword_trans(keyword)?;
+        Ok(Item::trans(keyword, trans))
     }
 
     /// The word `history` and its semicolon.
     #[tactic(auto, unfolding(chart_grammar::specs::States::history_item))]
-    fn history(&mut self) -> Result<Span, ReadError>
-        ensures { Gives
-            (λ at. record { value = states.History at; counts = counts_of self.new.counts })
+    fn history(&mut self) -> Result<Item, ReadError>
+        ensures { Gives (λ x. record { value = item_of x; counts = counts_of self.new.counts })
             result (lexemes self.new.rest.now)
             ((states.history_item (counts_of self.old.counts)).reads
             (lexemes self.old.rest.now)) }
     {
         let at = self.token(Kind::History)?.at;
         self.token(Kind::Semicolon)?;
-        Ok(at)
+        Ok(Item::History(at))
     }
 
     /// Whether an item of a state is at hand, after those that were seen.
@@ -109,7 +128,7 @@ impl<'t, 'a> Reader<'t, 'a> {
 
     /// An item of a state, with states nested at most `depth` deep in it.
     #[cycle(state)]
-    #[tactic(auto, unfolding(chart_grammar::specs::States::item, chart_grammar::specs::States::trans_item, chart_grammar::specs::States::junction_item))]
+    #[tactic(auto, unfolding(chart_grammar::specs::States::item))]
     fn item(&mut self, depth: u32) -> Result<Item, ReadError>
         ensures { Gives (λ x. record { value = item_of x; counts = counts_of self.new.counts })
             result (lexemes self.new.rest.now)
@@ -118,21 +137,21 @@ impl<'t, 'a> Reader<'t, 'a> {
             (lexemes self.old.rest.now)) }
     {
         if self.is_at(Kind::Entry) {
-            Ok(Item::Entry(self.keyword_block(Kind::Entry)?))
+            self.action_item(Kind::Entry)
         } else if self.is_at(Kind::During) {
-            Ok(Item::During(self.keyword_block(Kind::During)?))
+            self.action_item(Kind::During)
         } else if self.is_at(Kind::Exit) {
-            Ok(Item::Exit(self.keyword_block(Kind::Exit)?))
+            self.action_item(Kind::Exit)
         } else if self.is_at(Kind::History) {
-            Ok(Item::History(self.history()?))
+            self.history()
         } else if self.is_at(Kind::Outer) {
-            Ok(Item::Outer(self.keyword_trans(Kind::Outer)?))
+            self.trans_item(Kind::Outer)
         } else if self.is_at(Kind::Inner) {
-            Ok(Item::Inner(self.keyword_trans(Kind::Inner)?))
+            self.trans_item(Kind::Inner)
         } else if self.is_at(Kind::Default) {
-            Ok(Item::Default(self.keyword_trans(Kind::Default)?))
+            self.trans_item(Kind::Default)
         } else if self.is_at(Kind::Junction) {
-            Ok(Item::Junction(self.junction()?))
+            self.junction_item()
         } else {
             Ok(Item::State(self.state(depth)?))
         }
@@ -160,7 +179,7 @@ impl<'t, 'a> Reader<'t, 'a> {
     }
 
     /// An item of the chart.
-    #[tactic(auto, unfolding(chart_grammar::specs::States::chart_item, chart_grammar::specs::States::trans_item, chart_grammar::specs::States::junction_item, chart_grammar::specs::States::event_item, chart_grammar::specs::States::variable_item))]
+    #[tactic(auto, unfolding(chart_grammar::specs::States::chart_item, chart_grammar::specs::States::event_item, chart_grammar::specs::States::variable_item))]
     fn chart_item(&mut self) -> Result<Item, ReadError>
         ensures { Gives (λ x. record { value = item_of x; counts = counts_of self.new.counts })
             result (lexemes self.new.rest.now)
@@ -169,17 +188,17 @@ impl<'t, 'a> Reader<'t, 'a> {
             (lexemes self.old.rest.now)) }
     {
         if self.is_at(Kind::Entry) {
-            Ok(Item::Entry(self.keyword_block(Kind::Entry)?))
+            self.action_item(Kind::Entry)
         } else if self.is_at(Kind::During) {
-            Ok(Item::During(self.keyword_block(Kind::During)?))
+            self.action_item(Kind::During)
         } else if self.is_at(Kind::History) {
-            Ok(Item::History(self.history()?))
+            self.history()
         } else if self.is_at(Kind::Inner) {
-            Ok(Item::Inner(self.keyword_trans(Kind::Inner)?))
+            self.trans_item(Kind::Inner)
         } else if self.is_at(Kind::Default) {
-            Ok(Item::Default(self.keyword_trans(Kind::Default)?))
+            self.trans_item(Kind::Default)
         } else if self.is_at(Kind::Junction) {
-            Ok(Item::Junction(self.junction()?))
+            self.junction_item()
         } else if self.is_at(Kind::Event) {
             Ok(Item::Event(self.event()?))
         } else if self.is_at_one_of(Group::Kinds) {

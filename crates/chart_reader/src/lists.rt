@@ -1,5 +1,5 @@
 //! The items of a state in their lists.
-ghost use Rattle.std.specs.Prelude.{◌≡◌, map, IfOk, OnOk};
+ghost use Rattle.std.specs.Prelude.{◌≡◌, [], ◌∷◌, ◌++◌, map, IfOk, OnOk};
 ghost use Rattle.chart_tree.specs.Trees as trees;
 ghost use Rattle.chart_tree.specs.Views.{state_of, chart_of};
 ghost use Rattle.chart_grammar.specs.States as states;
@@ -45,6 +45,14 @@ fn comp_with(comp: CompText, children: &[StateText]) -> CompText
     }
 }
 
+/// Adds an item to a list.
+fn add<T: Drop>(list: &mut Vec<T>, item: T) -> Result<(), AllocError>
+    ensures { OnOk result (list.new.items ≡ list.old.items ++ item ∷ []) }
+{
+    list.push(item)?;
+    Ok(())
+}
+
 impl Lists {
     /// The lists of a state without items.
     fn empty(alloc: Global, name: NameText, comp: CompText) -> Lists
@@ -73,19 +81,30 @@ impl Lists {
             (sorted_of self.new ≡ states.put (item_of item) (sorted_of self.old)) }
     {
         match item {
-            Item::Entry(block) => self.entry = block,
-            Item::During(block) => self.during = block,
-            Item::Exit(block) => self.exit = block,
-            Item::History(at) => self.history = Some(at),
-            Item::Outer(trans) => self.outer.push(trans)?,
-            Item::Inner(trans) => self.inner.push(trans)?,
-            Item::Default(trans) => self.default.push(trans)?,
-            Item::Junction(junction) => self.junctions.push(junction)?,
-            Item::State(state) => self.states.push(state)?,
-            Item::Event(event) => self.events.push(event)?,
-            Item::Var(var) => self.vars.push(var)?,
+            Item::Entry(block) => {
+                self.entry = block;
+                Ok(())
+            }
+            Item::During(block) => {
+                self.during = block;
+                Ok(())
+            }
+            Item::Exit(block) => {
+                self.exit = block;
+                Ok(())
+            }
+            Item::History(at) => {
+                self.history = Some(at);
+                Ok(())
+            }
+            Item::Outer(trans) => add(&mut self.outer, trans),
+            Item::Inner(trans) => add(&mut self.inner, trans),
+            Item::Default(trans) => add(&mut self.default, trans),
+            Item::Junction(junction) => add(&mut self.junctions, junction),
+            Item::State(state) => add(&mut self.states, state),
+            Item::Event(event) => add(&mut self.events, event),
+            Item::Var(var) => add(&mut self.vars, var),
         }
-        Ok(())
     }
 
     /// The items in their lists.

@@ -4,10 +4,12 @@ ghost use Rattle.std.specs.Option.{option_map};
 ghost use Rattle.token_grammar.specs.Token.{lexeme, lexemes, Gives};
 ghost use Rattle.token_grammar.specs.Grammar.{is, one_of, allowed, at_first, first_place};
 ghost use Rattle.flow_base.specs.Lists.{items_of};
+ghost use Rattle.chart_tree.specs.Trees.{Dest, Trans};
 ghost use Rattle.chart_tree.specs.Views.{block_of, dest_of, guard_of, trans_of};
-ghost use Rattle.chart_grammar.specs.Limits.{usual, transition_refused, after_transition};
+ghost use Rattle.chart_grammar.specs.Limits.{Counted, usual, transition_refused, after_transition};
 ghost use Rattle.chart_grammar.specs.Transitions as grammar;
 ghost use Rattle.chart_reader.specs.Counts.{counts_of};
+ghost use Rattle.chart_reader.specs.Parts as parts;
 
 use crate::group::Group;
 use crate::reader::Reader;
@@ -128,21 +130,36 @@ impl<'t, 'a> Reader<'t, 'a> {
         }
     }
 
-    /// A transition, which gets that place.
-    #[tactic(auto, unfolding(chart_grammar::specs::Transitions::trans))]
-    pub fn trans(&mut self, at: Span) -> Result<TransText, ReadError>
-        ensures { Gives (λ t. record { value = trans_of t; counts = counts_of self.new.counts })
-            result (lexemes self.new.rest.now)
-            ((grammar.trans usual (counts_of self.old.counts) at).reads
-            (lexemes self.old.rest.now)) }
+    /// The destination of a transition, after its arrow.
+    #[tactic(auto, unfolding(crate::specs::Parts::arrow_dest))]
+    fn arrow_dest(&mut self) -> Result<DestText, ReadError>
+        ensures read { (make : Dest → Counted Trans) → Gives (λ d. make (dest_of d)) result
+            (lexemes self.new.rest.now)
+            ((parts.arrow_dest make).reads (lexemes self.old.rest.now)) }
+        ensures counts { self.new.counts ≡ self.old.counts }
     {
-        let event = self.maybe_event()?;
-        let guard = self.maybe_guard()?;
-        let cond = self.maybe_block()?;
-        let act = self.maybe_action()?;
         self.token(Kind::Arrow)?;
         let dest = self.dest()?;
         self.token(Kind::Semicolon)?;
+        Ok(dest)
+    }
+
+    /// What follows the event and the guard of a transition.
+    #[tactic(auto, unfolding(crate::specs::Parts::trans_rest))]
+    fn trans_rest(
+        &mut self,
+        at: Span,
+        event: Option<NameText>,
+        guard: Option<GuardText>,
+    ) -> Result<TransText, ReadError>
+        ensures { Gives (λ t. record { value = trans_of t; counts = counts_of self.new.counts })
+            result (lexemes self.new.rest.now)
+            ((parts.trans_rest (counts_of self.old.counts) at event
+            (option_map guard_of guard)).reads (lexemes self.old.rest.now)) }
+    {
+        let cond = self.maybe_block()?;
+        let act = self.maybe_action()?;
+        let dest = self.arrow_dest()?;
         Ok(TransText {
             at,
             event,
@@ -151,6 +168,19 @@ impl<'t, 'a> Reader<'t, 'a> {
             act,
             dest,
         })
+    }
+
+    /// A transition, which gets that place.
+    #[tactic(auto, unfolding(chart_grammar::specs::Transitions::trans, crate::specs::Parts::trans_rest, crate::specs::Parts::arrow_dest))]
+    pub fn trans(&mut self, at: Span) -> Result<TransText, ReadError>
+        ensures { Gives (λ t. record { value = trans_of t; counts = counts_of self.new.counts })
+            result (lexemes self.new.rest.now)
+            ((grammar.trans usual (counts_of self.old.counts) at).reads
+            (lexemes self.old.rest.now)) }
+    {
+        let event = self.maybe_event()?;
+        let guard = self.maybe_guard()?;
+        self.trans_rest(at, event, guard)
     }
 
     /// The place of the token at hand.

@@ -1,0 +1,42 @@
+-- Parts of productions that the reader reads by methods of their own. What is made of a part is given, so that
+-- the production is read as it stands.
+use Rattle.std.specs.Prelude.{List, Option}
+use Rattle.token_grammar.specs.declared.token.Kind.{Kind}
+use Rattle.token_grammar.specs.declared.token.Kind.TheVariants as kinds
+use Rattle.token_grammar.specs.declared.token.Span.{Span}
+use Rattle.token_grammar.specs.Grammar.{Grammar, token, give, ◌>>=◌, ◌>>◌}
+use Rattle.chart_tree.specs.declared.name.NameText.{NameText}
+use Rattle.chart_tree.specs.Trees.{Stmt, Dest, Guard, Trans}
+use Rattle.chart_grammar.specs.Limits.{Counts, Counted, usual}
+use Rattle.chart_grammar.specs.Transitions.{dest, maybe_block, maybe_action, after_stmts}
+use Rattle.chart_grammar.specs.States.{Item, Entry, During, Exit, Outer, Inner, Default}
+
+-- '->' dest ';'
+unfoldable pub arrow_dest : {X : Type 0} → (Dest → X) → Grammar X
+arrow_dest make = do
+  token kinds.Arrow
+  dest ← dest
+  token kinds.Semicolon
+  give (make dest)
+
+-- block? ('/' block)? '->' dest ';': a transition after its event and its guard
+unfoldable pub trans_rest : Counts → Span → Option NameText → Option Guard → Grammar (Counted Trans)
+trans_rest n at event guard = do
+  cond ← maybe_block usual n
+  act ← maybe_action usual (after_stmts n cond)
+  arrow_dest (λ dest. record {
+    value = record { at = at; event = event; guard = guard; cond = cond; act = act; dest = dest };
+    counts = after_stmts (after_stmts n cond) act;
+  })
+
+-- the action that its keyword names: `entry`, `during` or else `exit`
+abbrev pub action_named : Kind → List Stmt → Item
+action_named kinds.Entry = Entry
+action_named kinds.During = During
+action_named _ = Exit
+
+-- the transition that its keyword names: `outer`, `inner` or else `default`
+abbrev pub trans_named : Kind → Trans → Item
+trans_named kinds.Outer = Outer
+trans_named kinds.Inner = Inner
+trans_named _ = Default

@@ -11,6 +11,12 @@ use Rattle.chart_grammar.specs.Limits.{Counts, Counted, usual}
 use Rattle.chart_grammar.specs.Transitions.{dest, maybe_block, maybe_action, after_stmts}
 use Rattle.chart_grammar.specs.States.{Item, Entry, During, Exit, Outer, Inner, Default}
 
+-- a token of that kind, after which the value is given
+abbrev pub closed_by : {X : Type 0} → Kind → X → Grammar X
+closed_by kind value = do
+  token kind
+  give value
+
 -- '->' dest ';'
 unfoldable pub arrow_dest : {X : Type 0} → (Dest → X) → Grammar X
 arrow_dest make = do

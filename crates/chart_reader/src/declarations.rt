@@ -166,11 +166,11 @@ impl<'t, 'a> Reader<'t, 'a> {
         self.counts = self.counts.after_event();
         let token = self.one_of(Group::Kinds)?;
         let name = self.name()?;
-        self.token(Kind::Semicolon)?;
-        Ok(EventText {
+        let event = EventText {
             kind: event_word(token.kind),
             name,
-        })
+        };
+        self.closed_by(Kind::Semicolon, event)
     }
 
     /// The declaration of a datum.
@@ -188,12 +188,12 @@ impl<'t, 'a> Reader<'t, 'a> {
         self.token(Kind::Colon)?;
         let sort = self.sort()?;
         let init = self.maybe_init(sort, name.at)?;
-        self.token(Kind::Semicolon)?;
-        Ok(VarText {
+        let var = VarText {
             kind: var_word(token.kind),
             name,
             sort,
             init,
-        })
+        };
+        self.closed_by(Kind::Semicolon, var)
     }
 }

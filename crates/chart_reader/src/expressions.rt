@@ -141,8 +141,7 @@ impl<'t, 'a> Reader<'t, 'a> {
     {
         self.opening(before)?;
         let inner = self.chain(Level::Disjunctions, depth, before + 1)?;
-        self.token(Kind::CloseParen)?;
-        Ok(inner)
+        self.closed_by(Kind::CloseParen, inner)
     }
 
     /// An expression.

@@ -48,11 +48,11 @@ impl<'t, 'a> Reader<'t, 'a> {
         let name = self.name()?;
         self.token(Kind::OpenBrace)?;
         let list = self.junction_list()?;
-        self.token(Kind::CloseBrace)?;
-        Ok(JunctionText {
+        let junction = JunctionText {
             name,
             list: List::of(list),
-        })
+        };
+        self.closed_by(Kind::CloseBrace, junction)
     }
 
     /// A junction as an item.
@@ -100,8 +100,7 @@ impl<'t, 'a> Reader<'t, 'a> {
             (lexemes self.old.rest.now)) }
     {
         let at = self.token(Kind::History)?.at;
-        self.token(Kind::Semicolon)?;
-        Ok(Item::History(at))
+        self.closed_by(Kind::Semicolon, Item::History(at))
     }
 
     /// Whether an item of a state is at hand, after those that were seen.

@@ -190,11 +190,11 @@ impl<'t, 'a> Reader<'t, 'a> {
         let at = self.token(Kind::In)?.at;
         self.token(Kind::OpenParen)?;
         let path = self.path()?;
-        self.token(Kind::CloseParen)?;
-        Ok(Operand {
+        let active = Operand {
             expr: ExprText::Active(path, at),
             operators: before,
-        })
+        };
+        self.closed_by(Kind::CloseParen, active)
     }
 
     /// An operand without an operator, where `before` operators and parentheses stand before it.

@@ -4,6 +4,7 @@ ghost use Rattle.token_grammar.specs.Token.{lexeme, lexemes, Gives};
 ghost use Rattle.token_grammar.specs.Grammar.{is, heads, token, one_of, allowed};
 ghost use Rattle.chart_reader.specs.Groups.{set_of};
 ghost use Rattle.chart_reader.specs.Named.{AreNamed};
+ghost use Rattle.chart_reader.specs.Parts as parts;
 
 use crate::counts::Counts;
 use crate::group::Group;
@@ -64,6 +65,16 @@ impl<'t, 'a> Reader<'t, 'a> {
         } else {
             Err(ReadError::Fault(Fault::Expected))
         }
+    }
+
+    /// Takes the token at hand, where it is of that kind, and gives the value that ends with it.
+    pub fn closed_by<T: Drop>(&mut self, kind: Kind, value: T) -> Result<T, ReadError>
+        ensures read { Gives (λ v. v) result (lexemes self.new.rest.now)
+            ((parts.closed_by kind value).reads (lexemes self.old.rest.now)) }
+        ensures counts { self.new.counts ≡ self.old.counts }
+    {
+        self.token(kind)?;
+        Ok(value)
     }
 
     /// Takes the token at hand, where it is of the group.

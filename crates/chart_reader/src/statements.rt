@@ -25,8 +25,7 @@ impl<'t, 'a> Reader<'t, 'a> {
         let name = self.name()?;
         self.token(Kind::Assign)?;
         let value = self.expr()?;
-        self.token(Kind::Semicolon)?;
-        Ok(StmtText::Assign(name, value))
+        self.closed_by(Kind::Semicolon, StmtText::Assign(name, value))
     }
 
     #[tactic(auto, unfolding(chart_grammar::specs::Transitions::target))]
@@ -61,8 +60,7 @@ impl<'t, 'a> Reader<'t, 'a> {
         self.token(Kind::Send)?;
         let name = self.name()?;
         let to = self.maybe_target()?;
-        self.token(Kind::Semicolon)?;
-        Ok(StmtText::Send(name, to))
+        self.closed_by(Kind::Semicolon, StmtText::Send(name, to))
     }
 
     #[tactic(auto, unfolding(chart_grammar::specs::Transitions::emit))]
@@ -73,8 +71,7 @@ impl<'t, 'a> Reader<'t, 'a> {
     {
         self.token(Kind::Emit)?;
         let name = self.name()?;
-        self.token(Kind::Semicolon)?;
-        Ok(StmtText::Emit(name))
+        self.closed_by(Kind::Semicolon, StmtText::Emit(name))
     }
 
     #[tactic(auto, unfolding(chart_grammar::specs::Transitions::stmt))]

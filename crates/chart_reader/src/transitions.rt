@@ -58,8 +58,7 @@ impl<'t, 'a> Reader<'t, 'a> {
     {
         let at = self.token(Kind::OpenBracket)?.at;
         let expr = self.expr()?;
-        self.token(Kind::CloseBracket)?;
-        Ok(GuardText { expr, at })
+        self.closed_by(Kind::CloseBracket, GuardText { expr, at })
     }
 
     #[tactic(auto, unfolding(chart_grammar::specs::Transitions::maybe_event))]
@@ -140,8 +139,7 @@ impl<'t, 'a> Reader<'t, 'a> {
     {
         self.token(Kind::Arrow)?;
         let dest = self.dest()?;
-        self.token(Kind::Semicolon)?;
-        Ok(dest)
+        self.closed_by(Kind::Semicolon, dest)
     }
 
     /// What follows the event and the guard of a transition.

@@ -1,5 +1,5 @@
 //! The items of a state in their lists.
-ghost use Rattle.std.specs.Prelude.{◌≡◌, [], ◌∷◌, ◌++◌, map, IfOk, OnOk};
+ghost use Rattle.std.specs.Prelude.{◌≡◌, ◌∷◌, map, reverse, IfOk, OnOk};
 ghost use Rattle.chart_tree.specs.Trees as trees;
 ghost use Rattle.chart_tree.specs.Views.{state_of, chart_of};
 ghost use Rattle.chart_grammar.specs.States as states;
@@ -45,9 +45,9 @@ fn comp_with(comp: CompText, children: &[StateText]) -> CompText
     }
 }
 
-/// Adds an item to a list.
+/// Adds an item to a list that has its last item first.
 fn add<T: Drop>(list: &mut Vec<T>, item: T) -> Result<(), AllocError>
-    ensures { OnOk result (list.new.items ≡ list.old.items ++ item ∷ []) }
+    ensures { OnOk result (reverse list.new.items ≡ item ∷ reverse list.old.items) }
 {
     list.push(item)?;
     Ok(())

@@ -6,8 +6,11 @@ use Rattle.token_grammar.specs.declared.token.Kind.TheVariants as kinds
 use Rattle.token_grammar.specs.declared.token.Span.{Span}
 use Rattle.token_grammar.specs.Grammar.{Grammar, token, give, ◌>>=◌, ◌>>◌}
 use Rattle.chart_tree.specs.declared.name.NameText.{NameText}
-use Rattle.chart_tree.specs.Trees.{Stmt, Dest, Guard, Trans}
+use Rattle.chart_tree.specs.declared.chart.VarWord.{VarWord}
+use Rattle.chart_tree.specs.Trees.{Stmt, Dest, Guard, Trans, Var}
 use Rattle.chart_grammar.specs.Limits.{Counts, Counted, usual}
+use Rattle.chart_grammar.specs.Types.{sort}
+use Rattle.chart_grammar.specs.Declarations.{maybe_init}
 use Rattle.chart_grammar.specs.Transitions.{dest, maybe_block, maybe_action, after_stmts}
 use Rattle.chart_grammar.specs.States.{Item, Entry, During, Exit, Outer, Inner, Default}
 
@@ -34,6 +37,15 @@ trans_rest n at event guard = do
     value = record { at = at; event = event; guard = guard; cond = cond; act = act; dest = dest };
     counts = after_stmts (after_stmts n cond) act;
   })
+
+-- ':' type ('=' init)? ';': the declaration of a datum after its word and its name
+unfoldable pub variable_rest : VarWord → NameText → Grammar Var
+variable_rest word name = do
+  token kinds.Colon
+  sort ← sort
+  init ← maybe_init usual sort name.at
+  token kinds.Semicolon
+  give (record { kind = word; name = name; sort = sort; init = init })
 
 -- the action that its keyword names: `entry`, `during` or else `exit`
 abbrev pub action_named : Kind → List Stmt → Item

@@ -5,11 +5,12 @@ ghost use Rattle.chart_tree.specs.Views.{sort_of, var_of};
 ghost use Rattle.chart_grammar.specs.Limits.{usual, after_event, after_variable};
 ghost use Rattle.chart_grammar.specs.Declarations as spec;
 ghost use Rattle.chart_reader.specs.Counts.{counts_of};
+ghost use Rattle.chart_reader.specs.Parts as parts;
 
 use crate::group::Group;
 use crate::reader::Reader;
 use crate::words::lit_of;
-use chart_tree::{EventText, EventWord, InitText, LitText, SortText, VarText, VarWord};
+use chart_tree::{EventText, EventWord, InitText, LitText, NameText, SortText, VarText, VarWord};
 use token_grammar::{Kind, ReadError, Span};
 
 /// Who raises an event, by the kind of its word.
@@ -173,8 +174,27 @@ impl<'t, 'a> Reader<'t, 'a> {
         self.closed_by(Kind::Semicolon, event)
     }
 
+    /// What follows the word and the name of a datum.
+    #[tactic(auto, unfolding(crate::specs::Parts::variable_rest))]
+    fn variable_rest(&mut self, word: VarWord, name: NameText) -> Result<VarText, ReadError>
+        ensures read { Gives var_of result (lexemes self.new.rest.now)
+            ((parts.variable_rest word name).reads (lexemes self.old.rest.now)) }
+        ensures counts { self.new.counts ≡ self.old.counts }
+    {
+        self.token(Kind::Colon)?;
+        let sort = self.sort()?;
+        let init = self.maybe_init(sort, name.at)?;
+        let var = VarText {
+            kind: word,
+            name,
+            sort,
+            init,
+        };
+        self.closed_by(Kind::Semicolon, var)
+    }
+
     /// The declaration of a datum.
-    #[tactic(auto, unfolding(chart_grammar::specs::Declarations::variable))]
+    #[tactic(auto, unfolding(chart_grammar::specs::Declarations::variable, crate::specs::Parts::variable_rest))]
     pub fn variable(&mut self) -> Result<VarText, ReadError>
         ensures read { Gives var_of result (lexemes self.new.rest.now)
             ((spec.variable usual (counts_of self.old.counts)).reads (lexemes self.old.rest.now)) }
@@ -185,15 +205,6 @@ impl<'t, 'a> Reader<'t, 'a> {
         let token = self.allowed_one_of(Group::Kinds, refused)?;
         self.counts = self.counts.after_variable();
         let name = self.name()?;
-        self.token(Kind::Colon)?;
-        let sort = self.sort()?;
-        let init = self.maybe_init(sort, name.at)?;
-        let var = VarText {
-            kind: var_word(token.kind),
-            name,
-            sort,
-            init,
-        };
-        self.closed_by(Kind::Semicolon, var)
+        self.variable_rest(var_word(token.kind), name)
     }
 }

@@ -102,8 +102,9 @@ impl<'t, 'a> Reader<'t, 'a> {
         ensures counts { self.new.counts ≡ self.old.counts }
     {
         match refused {
+            None => self.token(kind),
             Some(fault) if self.is_at(kind) => Err(ReadError::Fault(fault)),
-            _ => self.token(kind),
+            Some(_) => Err(ReadError::Fault(Fault::Expected)),
         }
     }
 
@@ -119,8 +120,9 @@ impl<'t, 'a> Reader<'t, 'a> {
         ensures counts { self.new.counts ≡ self.old.counts }
     {
         match refused {
+            None => self.one_of(group),
             Some(fault) if self.is_at_one_of(group) => Err(ReadError::Fault(fault)),
-            _ => self.one_of(group),
+            Some(_) => Err(ReadError::Fault(Fault::Expected)),
         }
     }
 }

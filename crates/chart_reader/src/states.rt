@@ -22,11 +22,9 @@ impl<'t, 'a> Reader<'t, 'a> {
         ensures counts { self.new.counts ≡ self.old.counts }
     {
         if self.is_at(Kind::Or) {
-            self.token(Kind::Or)?;
-            Ok(CompText::Or)
+            self.closed_by(Kind::Or, CompText::Or)
         } else {
-            self.token(Kind::And)?;
-            Ok(CompText::And)
+            self.closed_by(Kind::And, CompText::And)
         }
     }
 

@@ -2,7 +2,7 @@
 use Rattle.std.specs.Prelude.{List, [], ◌∷◌, map, reverse}
 use Rattle.flow_base.specs.Lists.{items_of}
 use Rattle.chart_tree.specs.declared.state.StateText.{StateText}
-use Rattle.chart_tree.specs.Trees.{Stmt, States, NoState, MoreStates}
+use Rattle.chart_tree.specs.Trees.{States, NoState, MoreStates}
 use Rattle.chart_tree.specs.Views.{block_of, trans_of, junction_of, state_of, var_of}
 use Rattle.chart_grammar.specs.Limits.{Counts}
 use Rattle.chart_grammar.specs.States as grammar
@@ -11,10 +11,6 @@ use Rattle.chart_reader.specs.declared.content.Item.{Item}
 use Rattle.chart_reader.specs.declared.content.Item.TheVariants as items
 use Rattle.chart_reader.specs.declared.content.Seen.{Seen}
 use Rattle.chart_reader.specs.declared.lists.Lists.{Lists}
-
--- the statements of a block
-abbrev pub Statements : Type 0
-Statements = List Stmt
 
 -- an item of the code
 abbrev pub item_of : Item → grammar.Item

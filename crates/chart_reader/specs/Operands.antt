@@ -1,21 +1,10 @@
--- Operands and levels of operators of the code as contracts see them.
-use Rattle.chart_tree.specs.Views.{expr_of}
+-- Levels of operators of the code as contracts see them.
 use Rattle.chart_grammar.specs.Limits.{usual}
-use Rattle.chart_grammar.specs.Expressions.{Operand, Tail, Operands, product, sum, comparison, conjunction}
+use Rattle.chart_grammar.specs.Expressions.{Operands, product, sum, comparison, conjunction}
 use Rattle.chart_reader.specs.declared.group.Group.{Group}
 use Rattle.chart_reader.specs.declared.group.Group.TheVariants as groups
-use Rattle.chart_reader.specs.declared.operands.Operand as declared
-use Rattle.chart_reader.specs.declared.operands.Tail as declared_tail
 use Rattle.chart_reader.specs.declared.operands.Level.{Level}
 use Rattle.chart_reader.specs.declared.operands.Level.TheVariants as levels
-
--- an operand
-abbrev pub operand_of : declared.Operand → Operand
-operand_of o = record { expr = expr_of o.expr; operators = o.operators }
-
--- an operator with the operand after it
-abbrev pub tail_of : declared_tail.Tail → Tail
-tail_of t = record { word = t.word; at = t.at; right = operand_of t.right }
 
 -- the operators of a level
 abbrev pub group_of : Level → Group

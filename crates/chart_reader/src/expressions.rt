@@ -5,11 +5,13 @@ ghost use Rattle.chart_tree.specs.Views.{expr_of};
 ghost use Rattle.chart_grammar.specs.Limits.{usual};
 ghost use Rattle.chart_grammar.specs.Expressions as grammar;
 ghost use Rattle.chart_reader.specs.Groups.{set_of};
-ghost use Rattle.chart_reader.specs.Operands.{operand_of, tail_of, group_of, below};
+ghost use Rattle.chart_operands.specs.Operands.{operand_of, tail_of};
+ghost use Rattle.chart_reader.specs.Operands.{group_of, below};
 
 use crate::group::Group;
-use crate::operands::{Level, Operand, Tail, bin_word, un_word, with_tail};
+use crate::operands::Level;
 use crate::reader::Reader;
+use chart_operands::{Operand, Tail, bin_word, un_word, with_tail};
 use chart_tree::{ExprText, OPERATOR_LIMIT};
 use token_grammar::{Fault, Kind, ReadError, Thing};
 

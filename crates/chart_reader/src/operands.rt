@@ -1,5 +1,5 @@
-//! Operands without an operator, and unary and binary operators.
-ghost use Rattle.std.specs.Prelude.{◌≡◌, ◌<◌, IfOk, OnOk};
+//! Operands without an operator, and the levels of operators.
+ghost use Rattle.std.specs.Prelude.{◌≡◌, ◌<◌, OnOk};
 ghost use Rattle.token_grammar.specs.Token.{lexeme, lexemes, Gives};
 ghost use Rattle.token_grammar.specs.declared.token.Kind.TheVariants as kinds;
 ghost use Rattle.token_grammar.specs.Grammar.{is};
@@ -7,35 +7,16 @@ ghost use Rattle.chart_tree.specs.declared.limits.TheConstants.{OPERATOR_LIMIT};
 ghost use Rattle.chart_grammar.specs.Limits.{usual};
 ghost use Rattle.chart_grammar.specs.Expressions as grammar;
 ghost use Rattle.chart_reader.specs.Groups.{set_of};
-ghost use Rattle.chart_reader.specs.Operands.{operand_of, tail_of, group_of};
+ghost use Rattle.chart_operands.specs.Operands.{operand_of};
+ghost use Rattle.chart_reader.specs.Operands.{group_of};
 
 use crate::counts::one_more;
 use crate::group::Group;
 use crate::reader::Reader;
 use crate::words::lit_of;
-use chart_tree::{BinWord, ExprText, UnWord};
-use std::alloc::{AllocError, Global};
-use token_grammar::{Kind, ReadError, Span, Thing, Token};
-
-/// An expression, and how many operators and opening parentheses there are up to its end.
-#[derive(Drop)]
-pub(crate) struct Operand {
-    /// The expression.
-    pub expr: ExprText,
-    /// How many operators and opening parentheses, at most `OPERATOR_LIMIT`.
-    pub operators: u32,
-}
-
-/// A binary operator, and the second of its operands.
-#[derive(Drop)]
-pub(crate) struct Tail {
-    /// The operator.
-    pub word: BinWord,
-    /// Where it stands.
-    pub at: Span,
-    /// The operand after it.
-    pub right: Operand,
-}
+use chart_operands::Operand;
+use chart_tree::ExprText;
+use token_grammar::{Kind, ReadError, Thing, Token};
 
 /// The levels of binary operators, from the tightest to the loosest. The operands of a level are
 /// built with the operators of tighter levels.
@@ -66,55 +47,6 @@ impl Level {
             Level::Disjunctions => Group::Disjunctions,
         }
     }
-}
-
-/// The word of a binary operator.
-pub(crate) fn bin_word(kind: Kind) -> BinWord
-    ensures { result ≡ grammar.bin_word kind }
-{
-    match kind {
-        Kind::OrOr => BinWord::Or,
-        Kind::AndAnd => BinWord::And,
-        Kind::EqualEqual => BinWord::Eq,
-        Kind::NotEqual => BinWord::Ne,
-        Kind::Less => BinWord::Lt,
-        Kind::LessEqual => BinWord::Le,
-        Kind::Greater => BinWord::Gt,
-        Kind::GreaterEqual => BinWord::Ge,
-        Kind::Plus => BinWord::Add,
-        Kind::Minus => BinWord::Sub,
-        Kind::Star => BinWord::Mul,
-        _ => BinWord::Div,
-    }
-}
-
-/// The word of a unary operator.
-pub(crate) fn un_word(kind: Kind) -> UnWord
-    ensures { result ≡ grammar.un_word kind }
-{
-    if kind == Kind::Minus {
-        UnWord::Neg
-    } else {
-        UnWord::Not
-    }
-}
-
-/// The operand with one operator more.
-pub(crate) fn with_tail(alloc: Global, left: Operand, tail: Tail) -> Result<Operand, AllocError>
-    ensures { IfOk result (λ o.
-        operand_of o ≡ grammar.with_tail (operand_of left) (tail_of tail)) }
-{
-    let Tail { word, at, right } = tail;
-    let expr = ExprText::Binary(
-        word,
-        Box::new(alloc, left.expr)?,
-        Box::new(alloc, right.expr)?,
-        at,
-    );
-    Ok(Operand {
-        expr,
-        operators: right.operators,
-    })
 }
 
 impl<'t, 'a> Reader<'t, 'a> {

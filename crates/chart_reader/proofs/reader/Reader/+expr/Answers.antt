@@ -10,7 +10,8 @@ use Rattle.chart_grammar.proofs.ChainLoop.{chain_begins, chain_fails_first, chai
 use Rattle.chart_grammar.proofs.ExpressionLaws.{fine_unary}
 use Rattle.chart_grammar.proofs.ReadingLaws.{unary_plain, unary_stop, unary_nested}
 use Rattle.chart_reader.specs.Groups.{set_of}
-use Rattle.chart_reader.specs.Operands.{operand_of, group_of}
+use Rattle.chart_operands.specs.Operands.{operand_of}
+use Rattle.chart_reader.specs.Operands.{group_of}
 use Rattle.chart_reader.proofs.OperandLemmas.{fine_below, chain_on}
 use Rattle.chart_reader.proofs.reader.Reader.+expr.Goals as goal
 

@@ -4,7 +4,8 @@ use Rattle.chart_grammar.specs.Limits.{usual}
 use Rattle.chart_grammar.specs.Expressions.{tails, chain, unary}
 use Rattle.chart_grammar.proofs.ChainLoop.{resumed}
 use Rattle.chart_reader.specs.Groups.{set_of}
-use Rattle.chart_reader.specs.Operands.{operand_of, group_of, below}
+use Rattle.chart_operands.specs.Operands.{operand_of}
+use Rattle.chart_reader.specs.Operands.{group_of, below}
 use Rattle.chart_reader.proofs.Ranks.{rank}
 use Rattle.chart_reader.proofs.reader.Reader.+expr.Given as goal
 

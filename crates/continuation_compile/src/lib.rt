@@ -9,6 +9,7 @@ mod blocks;
 mod counts;
 mod draft;
 mod numbering;
+mod offsets;
 mod parts;
 mod reached;
 mod searches;

@@ -8,11 +8,9 @@ ghost use Rattle.chart_layout.specs.Ends as ends;
 ghost use Rattle.chart_layout.specs.Places as places;
 ghost use Rattle.continuation_compile.specs.Numberings.{chart_in, IsNumbering};
 
-use crate::counts::{
-    below_counts, group_sizes, junction_parts_sizes, list_parts_size, lists_sizes, reached_counts,
-    state_parts_sizes,
-};
-use crate::tables::{entry, sums_before};
+use crate::counts::{below_counts, list_parts_size, reached_counts};
+use crate::offsets::{groups_before, junction_parts_before, lists_before, parts_before};
+use crate::tables::entry;
 use flow_base::{List, Memory};
 use state_tree::{Chart, ListKind};
 use std::alloc::Global;
@@ -45,16 +43,11 @@ pub fn number<'a>(alloc: Global, chart: &'a Chart) -> Result<Numbering<'a>, Memo
 {
     let below = below_counts(alloc, chart.shape())?;
     let outer = reached_counts(alloc, chart, ListKind::Outer)?;
-    let inner = reached_counts(alloc, chart, ListKind::Inner)?;
     let default = reached_counts(alloc, chart, ListKind::Default)?;
-    let state_sizes = state_parts_sizes(alloc, chart)?;
-    let parts = sums_before(alloc, &state_sizes)?;
-    let junction_sizes = junction_parts_sizes(alloc, chart)?;
-    let junction_parts = sums_before(alloc, &junction_sizes)?;
-    let firing_sizes = group_sizes(alloc, &below, &default)?;
-    let groups = sums_before(alloc, &firing_sizes)?;
-    let list_sizes = lists_sizes(alloc, &outer, &inner)?;
-    let lists = sums_before(alloc, &list_sizes)?;
+    let parts = parts_before(alloc, chart)?;
+    let junction_parts = junction_parts_before(alloc, chart)?;
+    let groups = groups_before(alloc, chart, &below, &default)?;
+    let lists = lists_before(alloc, chart, &outer)?;
     Ok(Numbering {
         chart,
         below,

@@ -78,21 +78,12 @@ fn front_of(
 }
 
 /// An operator between its first operand and its second.
-fn joined(
-    alloc: Global,
-    op: Op,
-    first: Expr,
-    second: Front<'_>,
-) -> Result<Front<'_>, AllocError>
+fn joined(alloc: Global, op: Op, first: Expr, second: Front<'_>) -> Result<Front<'_>, AllocError>
     ensures { IfOk result (λ front.
         views.front_of front ≡ spec.with_second op (expr_of first) (views.front_of second.entry)) }
 {
     Ok(Front {
-        expr: Expr::Bin(
-            op,
-            Box::new(alloc, first)?,
-            Box::new(alloc, second.expr)?,
-        ),
+        expr: Expr::Bin(op, Box::new(alloc, first)?, Box::new(alloc, second.expr)?),
         left: second.left,
         rest: second.rest,
     })

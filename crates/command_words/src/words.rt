@@ -1,7 +1,9 @@
 //! The words of the command line.
 ghost use Rattle.std.specs.Prelude.{◌≡◌, IfOk, option_map};
-ghost use Rattle.clap.specs.Words.{subcommand_rows_of};
-ghost use Rattle.command_words.specs.Found.{command_found};
+ghost use Rattle.clap.specs.Words.{found_of, rows_of, subcommand_rows_of};
+ghost use Rattle.command_words.specs.Commands as spec;
+ghost use Rattle.command_words.specs.Found.{command_found, file_found, found_named};
+ghost use Rattle.command_words.specs.Found.{number_found, run_found};
 ghost use Rattle.command_words.specs.Seen.{command_seen};
 ghost use Rattle.command_words.specs.Words.{command_of};
 
@@ -60,24 +62,90 @@ fn command_in<'a>(matches: &ArgMatches<'a>) -> Option<Command<'a>>
     ensures { option_map command_seen result ≡ command_found (subcommand_rows_of matches.now) }
 {
     let (name, given) = matches.subcommand()?;
+    named(name, given)
+}
+
+/// The command of that name with what is given to it.
+fn named<'a>(name: &str, given: &ArgMatches<'a>) -> Option<Command<'a>>
+    ensures { option_map command_seen result
+        ≡ found_named name.now (rows_of (found_of given.now)) }
+{
     match name {
-        "check" => Some(Command::Check(text_in(given, "first")?)),
-        "fmt" => Some(Command::Fmt(text_in(given, "first")?)),
-        "rules" => {
-            let (chart, events) = files_in(given)?;
-            Some(Command::Rules(chart, events, bounds_in(given)?))
-        }
-        "compile" => Some(Command::Compile(text_in(given, "first")?)),
-        "exec" => {
-            let (code, events) = files_in(given)?;
-            Some(Command::Exec(code, events, bounds_in(given)?))
-        }
-        "run" => {
-            let (chart, events) = files_in(given)?;
-            Some(Command::Run(chart, events, bounds_in(given)?))
-        }
-        "upgrade" => Some(Command::Upgrade(text_in(given, "first")?)),
-        "selftest" => Some(Command::Selftest(number_in(given, "first")?)),
+        "check" => check_in(given),
+        "fmt" => fmt_in(given),
+        "rules" => rules_in(given),
+        "compile" => compile_in(given),
+        "exec" => exec_in(given),
+        "run" => run_in(given),
+        "upgrade" => upgrade_in(given),
+        "selftest" => selftest_in(given),
         _ => None,
     }
+}
+
+/// The command `check` with its file.
+fn check_in<'a>(given: &ArgMatches<'a>) -> Option<Command<'a>>
+    ensures { option_map command_seen result
+        ≡ file_found spec.Check (rows_of (found_of given.now)) }
+{
+    Some(Command::Check(text_in(given, "first")?))
+}
+
+/// The command `fmt` with its file.
+fn fmt_in<'a>(given: &ArgMatches<'a>) -> Option<Command<'a>>
+    ensures { option_map command_seen result
+        ≡ file_found spec.Fmt (rows_of (found_of given.now)) }
+{
+    Some(Command::Fmt(text_in(given, "first")?))
+}
+
+/// The command `rules` with its files and bounds.
+fn rules_in<'a>(given: &ArgMatches<'a>) -> Option<Command<'a>>
+    ensures { option_map command_seen result
+        ≡ run_found spec.Rules (rows_of (found_of given.now)) }
+{
+    let (chart, events) = files_in(given)?;
+    Some(Command::Rules(chart, events, bounds_in(given)?))
+}
+
+/// The command `compile` with its file.
+fn compile_in<'a>(given: &ArgMatches<'a>) -> Option<Command<'a>>
+    ensures { option_map command_seen result
+        ≡ file_found spec.Compile (rows_of (found_of given.now)) }
+{
+    Some(Command::Compile(text_in(given, "first")?))
+}
+
+/// The command `exec` with its files and bounds.
+fn exec_in<'a>(given: &ArgMatches<'a>) -> Option<Command<'a>>
+    ensures { option_map command_seen result
+        ≡ run_found spec.Exec (rows_of (found_of given.now)) }
+{
+    let (code, events) = files_in(given)?;
+    Some(Command::Exec(code, events, bounds_in(given)?))
+}
+
+/// The command `run` with its files and bounds.
+fn run_in<'a>(given: &ArgMatches<'a>) -> Option<Command<'a>>
+    ensures { option_map command_seen result
+        ≡ run_found spec.Run (rows_of (found_of given.now)) }
+{
+    let (chart, events) = files_in(given)?;
+    Some(Command::Run(chart, events, bounds_in(given)?))
+}
+
+/// The command `upgrade` with its file.
+fn upgrade_in<'a>(given: &ArgMatches<'a>) -> Option<Command<'a>>
+    ensures { option_map command_seen result
+        ≡ file_found spec.Upgrade (rows_of (found_of given.now)) }
+{
+    Some(Command::Upgrade(text_in(given, "first")?))
+}
+
+/// The command `selftest` with its number.
+fn selftest_in<'a>(given: &ArgMatches<'a>) -> Option<Command<'a>>
+    ensures { option_map command_seen result
+        ≡ number_found spec.Selftest (rows_of (found_of given.now)) }
+{
+    Some(Command::Selftest(number_in(given, "first")?))
 }

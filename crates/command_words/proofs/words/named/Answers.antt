@@ -1,0 +1,38 @@
+use Rattle.std.proofs.Common.{◌≡◌, Bool, true, false, refl, sym, codes, List, None}
+use Rattle.std.specs.Str.{bytes_eq}
+use Rattle.std.proofs.lemmas.Slice.Eq.{bytes_eq-Decides}
+use Rattle.clap.specs.Words.{Row, found_of, rows_of}
+use Rattle.command_words.specs.Numbers.{Text}
+use Rattle.command_words.specs.Found.{found_named}
+use Rattle.command_words.proofs.words.named.Goals as goal
+
+-- a text that is another isn't equal by the test
+differs : (a b : Text) → (b ≡ a → ⊥) → bytes_eq a b ≡ false
+differs a b bad = go (bytes_eq a b) refl
+  where
+    go : (t : Bool) → bytes_eq a b ≡ t → t ≡ false
+    go true e = absurd (bad (sym ((bytes_eq-Decides a b).0 e)))
+    go false e = refl
+
+-- no command has this name
+no_command : (name : Text) (rows : List Row) → (name ≡ codes "check" → ⊥) → (name ≡ codes "fmt" → ⊥)
+    → (name ≡ codes "rules" → ⊥) → (name ≡ codes "compile" → ⊥) → (name ≡ codes "exec" → ⊥) → (name ≡ codes "run" → ⊥)
+    → (name ≡ codes "upgrade" → ⊥) → (name ≡ codes "selftest" → ⊥) → found_named name rows ≡ None
+no_command name rows a b c d e f g h =
+    rw (
+      differs (codes "check") name a,
+      differs (codes "fmt") name b,
+      differs (codes "rules") name c,
+      differs (codes "compile") name d,
+      differs (codes "exec") name e,
+      differs (codes "run") name f,
+      differs (codes "upgrade") name g,
+      differs (codes "selftest") name h,
+    ) refl
+
+-- the name is none of the program's
+pub returns-in_default : goal.returns-in_default
+returns-in_default c =
+    sym (no_command c.args.name.now (rows_of (found_of c.args.given.now)) c.in_default.not-check c.in_default.not-fmt
+    c.in_default.not-rules c.in_default.not-compile c.in_default.not-exec c.in_default.not-run
+    c.in_default.not-upgrade c.in_default.not-selftest)

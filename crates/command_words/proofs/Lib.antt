@@ -1,4 +1,5 @@
 pub mod NumberLemmas
+pub mod ParserLemmas
 pub mod RowLemmas
 pub mod WordForms
 pub mod LeafRules

@@ -49,6 +49,13 @@ bare_app = record (new_app (codes "flowc")) {
   };
 }
 
+-- the program with the first of its commands
+abbrev pub first_app : App
+first_app = fold with_subcommand bare_app (
+    (file_app (codes "check")).top ∷ (file_app (codes "fmt")).top ∷ (run_app (codes "rules")).top
+    ∷ (file_app (codes "compile")).top ∷ []
+    )
+
 -- the program with its commands
 abbrev pub program_app : App
 program_app = fold with_subcommand bare_app (

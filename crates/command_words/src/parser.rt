@@ -2,7 +2,7 @@
 ghost use Rattle.std.specs.Prelude.{◌≡◌, IfOk, false};
 ghost use Rattle.clap.specs.Words.{App, app_of, rule_of, with_subcommand};
 ghost use Rattle.command_words.specs.Parser.{Builds, bare_app, program_app, file_rule, option_rule};
-ghost use Rattle.command_words.specs.Parser.{file_app, number_app, run_app};
+ghost use Rattle.command_words.specs.Parser.{file_app, first_app, number_app, run_app};
 
 use crate::words::NUMBER_LIMIT;
 use clap::builder::ValueParser;
@@ -14,14 +14,21 @@ use std::alloc::{AllocError, Global};
 pub(crate) fn program<'a>(alloc: Global) -> Result<Command<'a>, AllocError>
     ensures { IfOk result (λ parser. app_of parser ≡ program_app) }
 {
-    let parser = with_command(bare(alloc), with_file(alloc, "check"))?;
-    let parser = with_command(parser, with_file(alloc, "fmt"))?;
-    let parser = with_command(parser, with_run(alloc, "rules"))?;
-    let parser = with_command(parser, with_file(alloc, "compile"))?;
+    let parser = first_commands(alloc)?;
     let parser = with_command(parser, with_run(alloc, "exec"))?;
     let parser = with_command(parser, with_run(alloc, "run"))?;
     let parser = with_command(parser, with_file(alloc, "upgrade"))?;
     with_command(parser, with_number(alloc, "selftest"))
+}
+
+/// The parser with the first of its commands.
+fn first_commands<'a>(alloc: Global) -> Result<Command<'a>, AllocError>
+    ensures { IfOk result (λ parser. app_of parser ≡ first_app) }
+{
+    let parser = with_command(bare(alloc), with_file(alloc, "check"))?;
+    let parser = with_command(parser, with_file(alloc, "fmt"))?;
+    let parser = with_command(parser, with_run(alloc, "rules"))?;
+    with_command(parser, with_file(alloc, "compile"))
 }
 
 /// The parser with one more command, where there was memory for it.

@@ -28,11 +28,15 @@ Builds app parser = (app_of parser ≡ app) × ((out-Command parser).has_globals
 abbrev pub file_app : Text → App
 file_app name = with_rule (new_app name) (file_rule (codes "first"))
 
+-- a command of two files
+abbrev pub files_app : Text → App
+files_app name = with_rule (file_app name) (file_rule (codes "second"))
+
 -- a command of two files, which takes bounds
 abbrev pub run_app : Text → App
-run_app name = with_rule (with_rule
-    (with_rule (with_rule (new_app name) (file_rule (codes "first"))) (file_rule (codes "second")))
-    (option_rule (codes "depth") DEPTH_LIMIT)) (option_rule (codes "steps") STEP_LIMIT)
+run_app name =
+    with_rule (with_rule (files_app name) (option_rule (codes "depth") DEPTH_LIMIT))
+    (option_rule (codes "steps") STEP_LIMIT)
 
 -- a command of one number
 abbrev pub number_app : Text → App

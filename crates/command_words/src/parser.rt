@@ -2,7 +2,7 @@
 ghost use Rattle.std.specs.Prelude.{◌≡◌, IfOk, false};
 ghost use Rattle.clap.specs.Words.{App, app_of, rule_of, with_subcommand};
 ghost use Rattle.command_words.specs.Parser.{Builds, bare_app, program_app, file_rule, option_rule};
-ghost use Rattle.command_words.specs.Parser.{file_app, first_app, number_app, run_app};
+ghost use Rattle.command_words.specs.Parser.{file_app, files_app, first_app, number_app, run_app};
 
 use crate::words::NUMBER_LIMIT;
 use clap::builder::ValueParser;
@@ -64,11 +64,16 @@ fn with_file<'a>(alloc: Global, name: &'a str) -> Result<Command<'a>, AllocError
 fn with_run<'a>(alloc: Global, name: &'a str) -> Result<Command<'a>, AllocError>
     ensures { IfOk result (Builds (run_app name.entry.now)) }
 {
-    Command::new(alloc, name)
-        .arg(file(alloc, "first"))?
-        .arg(file(alloc, "second"))?
+    with_files(alloc, name)?
         .arg(bound(alloc, "depth", DEPTH_LIMIT))?
         .arg(bound(alloc, "steps", STEP_LIMIT))
+}
+
+/// A command of two files.
+fn with_files<'a>(alloc: Global, name: &'a str) -> Result<Command<'a>, AllocError>
+    ensures { IfOk result (Builds (files_app name.entry.now)) }
+{
+    with_file(alloc, name)?.arg(file(alloc, "second"))
 }
 
 /// A command of one number, up to `NUMBER_LIMIT`.

@@ -1,13 +1,16 @@
 -- The next line, where the bytes to come are told: what the bytes at hand tell is what the whole text tells.
-use Rattle.std.proofs.Common.{◌≡◌, ℕ, ◌+◌, ◌<◌, ◌≤◌, Bool, true, false, List, [], ◌∷◌, ◌++◌, length, take, drop, Option, Some, None, Result, Ok, Err, refl, sym, ap, ◌∙◌, subst, arith, append_assoc, append-nil, length-append}
-use Rattle.std.specs.Prelude.{IfSome}
+use Rattle.std.proofs.Common.{◌≡◌, ℕ, ◌+◌, ◌<◌, ◌≤◌, Bool, true, false, List, [], ◌∷◌, ◌++◌, length, take, drop, Option, Some, None, Result, Ok, Err, refl, sym, ap, ◌∙◌, subst, arith, append_assoc, append-nil, length-append, length-drop}
+use Rattle.std.specs.Prelude.{◌-◌, ◌||◌, cond, slice_range, IfSome, OnOk, OnErr}
+use Rattle.std.specs.Result.{is_err}
 use Rattle.std.specs.Io.KnownBytes.{prepend_known, IsAtEnd}
 use Rattle.std.proofs.lemmas.Bool.Decides.{nat_tests}
-use Rattle.std.proofs.lemmas.List.{take_at, take_all}
+use Rattle.std.proofs.lemmas.List.{take_at, take_all, length-take-le}
 use Rattle.std.proofs.Math.ListN.{drop_of_length-le}
+use Rattle.flow_base.specs.Causes.{AllStay, NoneFalls}
+use Rattle.flow_base.proofs.Pieces.{one_taken}
 use Rattle.step_text.specs.Lines.{line_length, without_return, IsPlain, spelled}
-use Rattle.step_text.specs.NextLine.{Fills, Takes, Then, Nexts, NextOf, NextTold}
-use Rattle.step_text.specs.Reading.{Reading, cut_at, is_ready}
+use Rattle.step_text.specs.NextLine.{Fills, Takes, Then, Nexts, NextOf, NextTold, HasReadCause}
+use Rattle.step_text.specs.Reading.{Reading, ReadsMore, cut_at, is_enough, is_ready}
 use Rattle.step_text.specs.declared.cuts.Cut.TheVariants as cuts
 use Rattle.step_text.specs.declared.limits.TheConstants.{LINE_LIMIT, FILE_LIMIT, BUFFER_SIZE}
 use Rattle.step_text.specs.declared.line_reader.LineEnd.{LineEnd}
@@ -151,3 +154,112 @@ next_at_hand old new result left ready room file t = record {
   file = file;
   answer = then_takes old new result ready t;
 }
+
+-- ---- a read
+
+-- what is so after an answer
+pub on_ok : {T E P : Type 0} (result : Result T E) → is_err result ≡ false → OnOk result P → P
+on_ok (Ok v) is p = p
+on_ok (Err e) is p = absurd (cc)
+
+pub on_err : {T E P : Type 0} (result : Result T E) → is_err result ≡ true → OnErr result P → P
+on_err (Ok v) is p = absurd (cc)
+on_err (Err e) is p = p
+
+-- two facts, after an error or not
+pub err_both : {T E P Q : Type 0} (result : Result T E) → P → Q → OnErr result (P × Q)
+err_both (Ok v) p q = tt
+err_both (Err e) p q = (p, q)
+
+-- where more bytes are wanted, the end wasn't met, and no more than a line is at hand
+wanted_at : (ended : Bool) (at n held : ℕ) → (ended || is_enough at n held) ≡ false
+    → (ended ≡ false) × (held ≤ LINE_LIMIT) × (at + held ≤ FILE_LIMIT)
+wanted_at true at n held e = absurd (cc)
+wanted_at false at n held e = (refl, grind (arith, nat_tests), grind (arith, nat_tests))
+
+wanted_more : (r : Reading) → is_ready r ≡ false → (r.ended ≡ false) × (length r.pending ≤ LINE_LIMIT) × (r.at + length r.pending ≤ FILE_LIMIT)
+wanted_more r e = wanted_at r.ended r.at (line_length r.pending) (length r.pending) e
+
+-- then a read has room for more
+pub wanted_window : (r : Reading) (buffer : List ℕ) (start end at : ℕ) → slice_range buffer start end ≡ r.pending → at ≡ r.at → end ≤ length buffer
+    → is_ready r ≡ false → (end - start ≤ LINE_LIMIT) × (at + (end - start) ≤ FILE_LIMIT)
+wanted_window r buffer start end at was is within wanted =
+    let w = wanted_more r wanted in
+    let n = end - start in
+    let fits : n ≤ length (drop start buffer) = omega (arith, length-drop start buffer) in
+    let len : length r.pending ≡ n = ap length (sym was) ∙ length-take-le n (drop start buffer) fits in
+    (omega (arith, w.1, len), omega (arith, w.2, len, is))
+
+-- no read yet
+pub fills_nothing : (r : Reading) (left : Option (List ℕ)) → Fills r r left left
+fills_nothing r left = record {
+  bytes = refl;
+  kept = λ _. (refl, refl);
+  ended = λ yes no. absurd (cc);
+  number = refl;
+  at = refl;
+  failed = refl;
+}
+
+-- one read more
+pub fills_more : (old mid new : Reading) (before between after : Option (List ℕ)) → Fills old mid before between → is_ready mid ≡ false
+    → ReadsMore mid new between after → Fills old new before after
+fills_more old mid new before between after fills wanted more = record {
+  bytes = one_taken (prepend_known old.pending before) between after mid.pending more.piece new.pending fills.bytes more.bytes more.pending;
+  kept = λ ready.
+      let yes : is_ready mid ≡ true = ap is_ready (fills.kept ready).0 ∙ ready in absurd (let no = sym yes ∙ wanted in cc);
+  ended = λ yes no. (more.ended yes).1;
+  number = more.number ∙ fills.number;
+  at = more.at ∙ fills.at;
+  failed = more.failed ∙ fills.failed;
+}
+
+falls_at : (was is : Bool) (held more : ℕ) → was ≡ false → held ≤ LINE_LIMIT → (is ≡ false → held < more)
+    → cond is 0 (LINE_LIMIT + 1 - more) < cond was 0 (LINE_LIMIT + 1 - held)
+falls_at was true held more e le some = rw e (omega arith)
+falls_at was false held more e le some = rw e (let k = some refl in omega arith)
+
+-- a read ends the bytes, or less room is left
+pub falls_more : (mid new : Reading) (between after : Option (List ℕ)) → is_ready mid ≡ false → ReadsMore mid new between after
+    → cond new.ended 0 (LINE_LIMIT + 1 - length new.pending) < cond mid.ended 0 (LINE_LIMIT + 1 - length mid.pending)
+falls_more mid new between after wanted more =
+    let w = wanted_more mid wanted in
+    let len : length new.pending ≡ length mid.pending + length more.piece = ap length more.pending ∙ length-append mid.pending more.piece in
+    falls_at mid.ended new.ended (length mid.pending) (length new.pending) w.0 w.1 (λ e. let some = more.some e in omega arith)
+
+-- a read that failed
+pub next_fails : {T E : Type 0} (old mid read new : Reading) (before between after : Option (List ℕ)) (result : Result T E)
+    → Fills old mid before between → is_ready mid ≡ false → length mid.pending ≤ BUFFER_SIZE → mid.at + length mid.pending ≤ FILE_LIMIT + 1
+    → is_err result ≡ true → OnErr result ((read ≡ record mid { line = [] }) × (after ≡ between)) → new ≡ record read { failed = true }
+    → Nexts old new before after (Err ends.Read)
+next_fails old mid read new before between after result fills wanted room file failed left is =
+    let fails : (read ≡ record mid { line = [] }) × (after ≡ between) = on_err result failed left in
+    let e : new ≡ record mid { line = []; failed = true } = is ∙ ap (λ (r : Reading). record r { failed = true }) fails.0 in
+    record {
+      mid = mid;
+      fills = subst (λ (left : Option (List ℕ)). Fills old mid before left) (sym fails.1) fills;
+      room = room;
+      file = file;
+      answer = record {
+        wanted = wanted;
+        line = ap (λ (r : Reading). r.line) e;
+        number = ap (λ (r : Reading). r.number) e;
+        at = ap (λ (r : Reading). r.at) e;
+        pending = ap (λ (r : Reading). r.pending) e;
+        ended = ap (λ (r : Reading). r.ended) e;
+        failed = ap (λ (r : Reading). r.failed) e;
+      };
+    }
+
+-- ---- counts
+
+pub none_falls : (before after : List ℕ → ℕ) → AllStay before after → NoneFalls before after
+none_falls before after same other = omega (arith, same other)
+
+-- what was taken is no read fault
+pub takes_cause : (name : List ℕ) (before after : List ℕ → ℕ) (mid new : Reading) (result : Result Bool LineEnd) → AllStay before after
+    → Takes mid new result → HasReadCause name before after result
+takes_cause name before after mid new (Ok found) same t = same
+takes_cause name before after mid new (Err ends.TooLong) same t = same
+takes_cause name before after mid new (Err ends.FileTooLong) same t = same
+takes_cause name before after mid new (Err ends.Read) same t = absurd t

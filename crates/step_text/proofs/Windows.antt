@@ -1,5 +1,5 @@
 -- The bytes at hand: a window into the buffer.
-use Rattle.std.proofs.Common.{◌≡◌, ℕ, ◌+◌, ◌-◌, ◌<◌, ◌≤◌, Bool, true, false, nat_lt, ◌||◌, List, [], ◌∷◌, ◌++◌, length, take, drop, refl, sym, ap, ◌∙◌, arith, take-append-drop, append_assoc, length-append, length-drop}
+use Rattle.std.proofs.Common.{◌≡◌, ℕ, ◌+◌, ◌-◌, ◌<◌, ◌≤◌, Bool, true, false, nat_lt, ◌||◌, List, [], ◌∷◌, ◌++◌, length, take, drop, refl, sym, ap, ◌∙◌, arith, take-append-drop, append_assoc, append-nil, length-append, length-drop}
 use Rattle.std.specs.Prelude.{slice_range, if◌then◌else◌}
 use Rattle.std.specs.List.{copy_within}
 use Rattle.std.proofs.Math.Seq.{take-append-add}
@@ -53,6 +53,21 @@ read_after b0 b1 shown piece rest pending start end k n len moved is same within
     ∙ take-take (end - start + n) len (put_mid (end - start) k shown piece ++ rest) room
     ∙ put_after (end - start) k n shown piece rest fits le
     ∙ ap (λ (z : List ℕ). z ++ take n piece) front
+
+-- the window after a read that failed: the bytes at hand
+pub read_none : (b0 b1 shown piece rest : List ℕ) (start end k len : ℕ) → b1 ≡ copy_within b0 start end 0 → shown ≡ b1
+    → length b1 ≡ length b0 → end ≤ length b0 → end - start ≤ len
+    → slice_range (take len (put_mid (end - start) k shown piece ++ rest)) 0 (end - start) ≡ slice_range b0 start end
+read_none b0 b1 shown piece rest start end k len moved is same within room =
+    let zero : end - start + 0 ≡ end - start = omega arith in
+    ap (slice_range (take len (put_mid (end - start) k shown piece ++ rest)) 0) (sym zero)
+    ∙ read_after b0 b1 shown piece rest (slice_range b0 start end) start end k 0 len moved is same within (omega arith) (omega arith) refl
+    ∙ append-nil (slice_range b0 start end)
+
+-- the length of a list whose front was written
+pub length_written : (front items : List ℕ) (len : ℕ) → len ≤ length items → length (take len (front ++ drop (length front) items)) ≡ len
+length_written front items len le =
+    length-take-le len (front ++ drop (length front) items) (omega (arith, length-append front (drop (length front) items), length-drop (length front) items))
 
 -- ---- what a cut says
 

@@ -1,9 +1,72 @@
-use Rattle.std.proofs.Common.{◌≡◌, ◌+◌, ◌-◌, ◌≤◌, ◌<◌, take, length, ap, arith}
+use Rattle.std.proofs.Common.{◌≡◌, ◌+◌, ◌-◌, ◌≤◌, ◌<◌, List, ℕ, [], take, length, ap, ◌∙◌, arith}
 use Rattle.std.proofs.lemmas.Bool.Decides.{nat_tests}
 use Rattle.std.proofs.lemmas.List.{length-take-le}
 use Rattle.step_text.specs.Reading.{Reading}
-use Rattle.step_text.proofs.Windows.{read_after}
+use Rattle.step_text.proofs.NextLemmas.{err_both, wanted_window}
+use Rattle.step_text.proofs.Windows.{read_after, read_none, length_written}
 use Rattle.step_text.proofs.line_reader.LineReader.read_more.Goals as goal
+
+pub read_size-size-requires-clause-held : goal.read_size-size-requires-clause-held
+read_size-size-requires-clause-held g c =
+    let v = c.self.view_is in
+    (wanted_window c.args.self.now c.self.inside.buffer.items c.self.inside.start c.self.inside.end c.self.inside.at
+    (ap (λ (r : Reading). r.pending) v) (ap (λ (r : Reading). r.at) v) (omega arith) c.requires.wanted).0
+
+pub read_size-size-requires-clause-file : goal.read_size-size-requires-clause-file
+read_size-size-requires-clause-file g c =
+    let v = c.self.view_is in
+    (wanted_window c.args.self.now c.self.inside.buffer.items c.self.inside.start c.self.inside.end c.self.inside.at
+    (ap (λ (r : Reading). r.pending) v) (ap (λ (r : Reading). r.at) v) (omega arith) c.requires.wanted).1
+
+-- the read failed
+
+pub invariant_of-self : goal.invariant_of-self
+invariant_of-self g c =
+    let placed = c.self.invariant in
+    let len : length c.copy_within.new.self.items ≡ length c.self.inside.buffer.items = omega (arith, c.copy_within.ensures.len) in
+    record {
+      room = length_written _ c.copy_within.new.self.items _ (omega (arith, c.copy_within.ensures.len)) ∙ omega (arith, c.copy_within.ensures.len);
+      line = omega arith;
+      line_within = omega arith;
+      pending = omega arith;
+      pending_within = omega arith;
+      file = omega (arith, placed.file);
+      numbered = placed.numbered;
+      few = placed.few;
+    }
+
+pub returns-in_err-count-clause-failed : goal.returns-in_err-count-clause-failed
+returns-in_err-count-clause-failed g c =
+    let inside = c.self.inside in
+    let window = read_none inside.buffer.items c.copy_within.new.self.items c.deref_mut.result.now c.read.new.buf _ inside.start inside.end _ c.copy_within.new.self.len
+      c.copy_within.ensures.items c.deref_mut.ensures.value (omega arith) (omega arith) (omega (arith, c.copy_within.ensures.len)) in
+    let shown : List ℕ → Reading = λ pending. record {
+      line = [];
+      number = inside.number;
+      at = inside.at;
+      pending = pending;
+      ended = inside.ended;
+      failed = inside.failed;
+    } in
+    err_both c.from_residual.result (ap shown window ∙ ap (λ (r : Reading). record r { line = [] }) c.self.view_is) c.in_err-count.ensures.bytes
+
+-- a piece was read
+
+pub invariant_of-self-2 : goal.invariant_of-self-2
+invariant_of-self-2 g c =
+    let placed = c.self.invariant in
+    let n = c.in_ok-count.count in
+    let bound : n ≤ length c.read.new.buf = c.in_ok-count.ensures.bound.0 in
+    record {
+      room = length_written _ c.copy_within.new.self.items _ (omega (arith, c.copy_within.ensures.len)) ∙ omega (arith, c.copy_within.ensures.len);
+      line = omega arith;
+      line_within = omega arith;
+      pending = omega arith;
+      pending_within = omega (arith, c.read.auto.buf, c.read_size-size.ensures.room);
+      file = omega (arith, c.read.auto.buf, c.read_size-size.ensures.file);
+      numbered = placed.numbered;
+      few = placed.few;
+    }
 
 pub returns-clause-read : goal.returns-clause-read
 returns-clause-read g c =

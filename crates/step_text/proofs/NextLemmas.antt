@@ -137,19 +137,23 @@ then_takes mid new (Err ends.TooLong) ready t = (ready, t)
 then_takes mid new (Err ends.FileTooLong) ready t = (ready, t)
 then_takes mid new (Err ends.Read) ready t = absurd t
 
+-- no read yet
+pub fills_nothing : (r : Reading) (left : Option (List ℕ)) → Fills r r left left
+fills_nothing r left = record {
+  bytes = refl;
+  kept = λ _. (refl, refl);
+  ended = λ yes no. absurd (cc);
+  number = refl;
+  at = refl;
+  failed = refl;
+}
+
 -- what was taken of the bytes at hand, without a read
 pub next_at_hand : (old new : Reading) (result : Result Bool LineEnd) (left : Option (List ℕ)) → is_ready old ≡ true → length old.pending ≤ BUFFER_SIZE
     → old.at + length old.pending ≤ FILE_LIMIT + 1 → Takes old new result → Nexts old new left left result
 next_at_hand old new result left ready room file t = record {
   mid = old;
-  fills = record {
-    bytes = refl;
-    kept = λ _. (refl, refl);
-    ended = λ yes no. absurd (cc);
-    number = refl;
-    at = refl;
-    failed = refl;
-  };
+  fills = fills_nothing old left;
   room = room;
   file = file;
   answer = then_takes old new result ready t;
@@ -177,7 +181,8 @@ wanted_at : (ended : Bool) (at n held : ℕ) → (ended || is_enough at n held) 
 wanted_at true at n held e = absurd (cc)
 wanted_at false at n held e = (refl, grind (arith, nat_tests), grind (arith, nat_tests))
 
-wanted_more : (r : Reading) → is_ready r ≡ false → (r.ended ≡ false) × (length r.pending ≤ LINE_LIMIT) × (r.at + length r.pending ≤ FILE_LIMIT)
+wanted_more : (r : Reading) → is_ready r ≡ false
+    → (r.ended ≡ false) × (length r.pending ≤ LINE_LIMIT) × (r.at + length r.pending ≤ FILE_LIMIT)
 wanted_more r e = wanted_at r.ended r.at (line_length r.pending) (length r.pending) e
 
 -- then a read has room for more
@@ -189,17 +194,6 @@ wanted_window r buffer start end at was is within wanted =
     let fits : n ≤ length (drop start buffer) = omega (arith, length-drop start buffer) in
     let len : length r.pending ≡ n = ap length (sym was) ∙ length-take-le n (drop start buffer) fits in
     (omega (arith, w.1, len), omega (arith, w.2, len, is))
-
--- no read yet
-pub fills_nothing : (r : Reading) (left : Option (List ℕ)) → Fills r r left left
-fills_nothing r left = record {
-  bytes = refl;
-  kept = λ _. (refl, refl);
-  ended = λ yes no. absurd (cc);
-  number = refl;
-  at = refl;
-  failed = refl;
-}
 
 -- one read more
 pub fills_more : (old mid new : Reading) (before between after : Option (List ℕ)) → Fills old mid before between → is_ready mid ≡ false
@@ -253,6 +247,7 @@ next_fails old mid read new before between after result fills wanted room file f
 
 -- ---- counts
 
+-- counts that stay don't fall
 pub none_falls : (before after : List ℕ → ℕ) → AllStay before after → NoneFalls before after
 none_falls before after same other = omega (arith, same other)
 

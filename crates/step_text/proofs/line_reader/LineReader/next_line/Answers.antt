@@ -1,4 +1,4 @@
-use Rattle.std.proofs.Common.{◌≡◌, ◌≤◌, ℕ, true, false, refl, sym, ap, ◌∙◌, subst, rules}
+use Rattle.std.proofs.Common.{◌≡◌, ◌≤◌, true, false, refl, sym, ap, ◌∙◌, subst, rules}
 use Rattle.std.specs.Result.{is_err}
 use Rattle.flow_base.specs.Causes.{Rose}
 use Rattle.step_text.specs.Reading.{Reading, is_ready}
@@ -50,12 +50,14 @@ returns-then-is_err-clause-others g c = λ other no. c.read_more.ensures.others 
 
 pub returns-then-is_err-clause-counts : goal.returns-then-is_err-clause-counts
 returns-then-is_err-clause-counts g c = λ other.
-    subst (λ n. n ≤ g.I.Inputs.faults c.read_more.new.inputs other) (c.pieces.invariant.counts other) (c.read_more.ensures.counts other)
+    subst (λ n. n ≤ g.I.Inputs.faults c.read_more.new.inputs other) (c.pieces.invariant.counts other)
+    (c.read_more.ensures.counts other)
 
 pub returns-then-is_err-clause-cause : goal.returns-then-is_err-clause-cause
 returns-then-is_err-clause-cause g c =
     let failed : is_err c.read_more.result ≡ true = sym c.is_err.ensures.value ∙ c.if-is_err.true in
-    subst (λ n. Rose n (g.I.Inputs.faults c.read_more.new.inputs c.args.name.now)) (c.pieces.invariant.counts c.args.name.now)
+    subst (λ n. Rose n (g.I.Inputs.faults c.read_more.new.inputs c.args.name.now))
+    (c.pieces.invariant.counts c.args.name.now)
     (on_err _ failed c.read_more.ensures.cause.failed)
 
 -- a piece was read
@@ -103,8 +105,10 @@ pub returns-clause-others : goal.returns-clause-others
 returns-clause-others g c = c.pieces.invariant.others
 
 pub returns-clause-counts : goal.returns-clause-counts
-returns-clause-counts g c = none_falls (g.I.Inputs.faults c.args.inputs.now) (g.I.Inputs.faults c.pieces.inputs) c.pieces.invariant.counts
+returns-clause-counts g c =
+    none_falls (g.I.Inputs.faults c.args.inputs.now) (g.I.Inputs.faults c.pieces.inputs) c.pieces.invariant.counts
 
 pub returns-clause-cause : goal.returns-clause-cause
 returns-clause-cause g c =
-    takes_cause c.args.name.now _ _ c.pieces.self c.take_line.new.self c.take_line.result c.pieces.invariant.counts c.take_line.ensures
+    takes_cause c.args.name.now _ _ c.pieces.self c.take_line.new.self c.take_line.result c.pieces.invariant.counts
+    c.take_line.ensures

@@ -9,13 +9,15 @@ use Rattle.step_text.proofs.line_reader.LineReader.read_more.Goals as goal
 pub read_size-size-requires-clause-held : goal.read_size-size-requires-clause-held
 read_size-size-requires-clause-held g c =
     let v = c.self.view_is in
-    (wanted_window c.args.self.now c.self.inside.buffer.items c.self.inside.start c.self.inside.end c.self.inside.at
+    let inside = c.self.inside in
+    (wanted_window c.args.self.now inside.buffer.items inside.start inside.end inside.at
     (ap (λ (r : Reading). r.pending) v) (ap (λ (r : Reading). r.at) v) (omega arith) c.requires.wanted).0
 
 pub read_size-size-requires-clause-file : goal.read_size-size-requires-clause-file
 read_size-size-requires-clause-file g c =
     let v = c.self.view_is in
-    (wanted_window c.args.self.now c.self.inside.buffer.items c.self.inside.start c.self.inside.end c.self.inside.at
+    let inside = c.self.inside in
+    (wanted_window c.args.self.now inside.buffer.items inside.start inside.end inside.at
     (ap (λ (r : Reading). r.pending) v) (ap (λ (r : Reading). r.at) v) (omega arith) c.requires.wanted).1
 
 -- the read failed
@@ -23,9 +25,9 @@ read_size-size-requires-clause-file g c =
 pub invariant_of-self : goal.invariant_of-self
 invariant_of-self g c =
     let placed = c.self.invariant in
-    let len : length c.copy_within.new.self.items ≡ length c.self.inside.buffer.items = omega (arith, c.copy_within.ensures.len) in
     record {
-      room = length_written _ c.copy_within.new.self.items _ (omega (arith, c.copy_within.ensures.len)) ∙ omega (arith, c.copy_within.ensures.len);
+      room = length_written _ c.copy_within.new.self.items _ (omega (arith, c.copy_within.ensures.len))
+          ∙ omega (arith, c.copy_within.ensures.len);
       line = omega arith;
       line_within = omega arith;
       pending = omega arith;
@@ -38,8 +40,10 @@ invariant_of-self g c =
 pub returns-in_err-count-clause-failed : goal.returns-in_err-count-clause-failed
 returns-in_err-count-clause-failed g c =
     let inside = c.self.inside in
-    let window = read_none inside.buffer.items c.copy_within.new.self.items c.deref_mut.result.now c.read.new.buf _ inside.start inside.end _ c.copy_within.new.self.len
-      c.copy_within.ensures.items c.deref_mut.ensures.value (omega arith) (omega arith) (omega (arith, c.copy_within.ensures.len)) in
+    let moved = c.copy_within.new.self in
+    let window = read_none inside.buffer.items moved.items c.deref_mut.result.now c.read.new.buf _ inside.start inside.end
+    _ moved.len c.copy_within.ensures.items c.deref_mut.ensures.value (omega arith) (omega arith)
+    (omega (arith, c.copy_within.ensures.len)) in
     let shown : List ℕ → Reading = λ pending. record {
       line = [];
       number = inside.number;
@@ -48,7 +52,8 @@ returns-in_err-count-clause-failed g c =
       ended = inside.ended;
       failed = inside.failed;
     } in
-    err_both c.from_residual.result (ap shown window ∙ ap (λ (r : Reading). record r { line = [] }) c.self.view_is) c.in_err-count.ensures.bytes
+    err_both c.from_residual.result (ap shown window ∙ ap (λ (r : Reading). record r { line = [] }) c.self.view_is)
+    c.in_err-count.ensures.bytes
 
 -- a piece was read
 
@@ -58,7 +63,8 @@ invariant_of-self-2 g c =
     let n = c.in_ok-count.count in
     let bound : n ≤ length c.read.new.buf = c.in_ok-count.ensures.bound.0 in
     record {
-      room = length_written _ c.copy_within.new.self.items _ (omega (arith, c.copy_within.ensures.len)) ∙ omega (arith, c.copy_within.ensures.len);
+      room = length_written _ c.copy_within.new.self.items _ (omega (arith, c.copy_within.ensures.len))
+          ∙ omega (arith, c.copy_within.ensures.len);
       line = omega arith;
       line_within = omega arith;
       pending = omega arith;

@@ -12,15 +12,15 @@ use Rattle.chart_grammar.proofs.TextLaws.{text_only}
 use Rattle.chart_reader.specs.Text.{tokens_of, Spells}
 use Rattle.chart_print.specs.Canonical.{canonical}
 use Rattle.chart_print.proofs.PlacesLemmas.{canonical-apart}
-use Rattle.canonical_claims.specs.Terms.{IsChart}
-use Rattle.canonical_claims.specs.Claims.{AreCut, TransitionClaims, ChartClaims}
-use Rattle.canonical_numbers.proofs.Claims.{number_claims}
-use Rattle.canonical_expressions.proofs.Claims.{expression_claims}
-use Rattle.canonical_transitions.proofs.Claims.{transition_claims}
-use Rattle.canonical_charts.proofs.Claims.{chart_claims}
-use Rattle.canonical_tokens.proofs.CutTokens.{tokens_are_cut}
-use Rattle.canonical_tokens.proofs.ChartPieces.{words_are_cut}
-use Rattle.canonical_tokens.proofs.NoComments.{none_left_out}
+use Rattle.canonical_text.specs.Terms.{IsChart}
+use Rattle.canonical_text.specs.Claims.{AreCut, TransitionClaims, ChartClaims}
+use Rattle.canonical_text.proofs.NumberClaims.{number_claims}
+use Rattle.canonical_text.proofs.ExpressionClaims.{expression_claims}
+use Rattle.canonical_text.proofs.TransitionClaims.{transition_claims}
+use Rattle.canonical_text.proofs.ChartClaims.{chart_claims}
+use Rattle.canonical_text.proofs.CutTokens.{tokens_are_cut}
+use Rattle.canonical_text.proofs.ChartPieces.{words_are_cut}
+use Rattle.canonical_text.proofs.NoComments.{none_left_out}
 use Rattle.chart_format.specs.Text.{SpellsAgain, IsKept, IsFormatted}
 
 -- what is cut from a text is still that when some of it is left out

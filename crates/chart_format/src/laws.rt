@@ -3,7 +3,7 @@ ghost use Rattle.std.specs.Prelude.{ℕ, List};
 ghost use Rattle.chart_tree.specs.Trees.{Chart};
 ghost use Rattle.chart_reader.specs.Text.{Spells};
 ghost use Rattle.chart_print.specs.Canonical.{canonical};
-ghost use Rattle.canonical_claims.specs.Terms.{IsChart};
+ghost use Rattle.canonical_text.specs.Terms.{IsChart};
 ghost use Rattle.chart_format.specs.Text.{IsKept};
 
 /// The canonical text of a chart that some text spells, however long it is, spells that chart again

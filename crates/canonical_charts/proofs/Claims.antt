@@ -1,8 +1,0 @@
--- What is proved of charts, from what is proved of names and of their parts.
-use Rattle.canonical_claims.specs.Claims.{ExpressionClaims, TransitionClaims, ChartClaims}
-use Rattle.canonical_charts.proofs.ChartsSpelled.{chart_spelled}
-use Rattle.canonical_charts.proofs.ChartsHave.{chart_has}
-
--- every chart that is spelled has what charts have, and the words of its canonical text spell it again
-pub chart_claims : ExpressionClaims → TransitionClaims → ChartClaims
-chart_claims e t = record { chart_has = chart_has e t; chart_spelled = chart_spelled e t }

@@ -1,9 +1,0 @@
-pub mod ItemLists
-pub mod PartsSpelled
-pub mod ItemsSpelled
-pub mod StatesSpelled
-pub mod ChartsSpelled
-pub mod SortedItems
-pub mod ItemsHave
-pub mod ChartsHave
-pub mod Claims

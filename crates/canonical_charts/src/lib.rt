@@ -1,2 +1,0 @@
-//! States and charts: the words of their canonical texts spell them.
-#![tactic(auto)]

@@ -1,9 +1,0 @@
-pub mod NumberLengths
-pub mod CutTokens
-pub mod Seams
-pub mod PieceFronts
-pub mod PiecesCut
-pub mod ExpressionPieces
-pub mod TransitionPieces
-pub mod ChartPieces
-pub mod NoComments

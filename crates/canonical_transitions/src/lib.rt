@@ -1,2 +1,0 @@
-//! Blocks, transitions, junctions and declarations: the words of their canonical texts spell them.
-#![tactic(auto)]

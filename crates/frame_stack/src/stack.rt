@@ -158,6 +158,9 @@ impl FrameStack {
         ensures there { n ≤ self.old.spare → IsOk result × (self.new ≡ self.old) }
         ensures frames { self.new.frames ≡ self.old.frames }
         ensures spare { IsOk result → n ≤ self.new.spare }
+
+        // No chunk is taken that isn't needed.
+        ensures few { self.old.spare < n → self.new.spare < n + CHUNK }
         ensures kept { self.old.spare ≤ self.new.spare }
         ensures refused { OnErr result (self.new ≡ self.old) }
     {

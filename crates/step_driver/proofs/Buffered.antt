@@ -13,15 +13,15 @@ use Rattle.actions.specs.Names.{Names}
 use Rattle.actions.specs.Runs.{StartRelation, ReactionRelation}
 use Rattle.actions.specs.World.{World}
 use Rattle.actions.specs.declared.event.Event.TheVariants.{Start}
-use Rattle.step_text.specs.EventFile.{event_file}
-use Rattle.step_text.specs.EventLines.{event_of_line}
-use Rattle.step_text.specs.NextLine.{Nexts}
-use Rattle.step_text.specs.Pieces.{Held, Passed, CutOff, Written, Puts, Ends, nothing_held}
-use Rattle.step_text.specs.Reading.{Reading, unused, is_ready}
-use Rattle.step_text.specs.Trace.{trace_line}
-use Rattle.step_text.proofs.PieceLemmas.{append_nothing, cut_off, kept_now, passed, put_after}
-use Rattle.step_text.specs.declared.line_reader.LineEnd.{LineEnd}
-use Rattle.step_text.specs.declared.line_reader.LineEnd.TheVariants as line_ends
+use Rattle.event_file.specs.EventFile.{event_file}
+use Rattle.event_file.specs.EventLines.{event_of_line}
+use Rattle.event_file.specs.NextLine.{Nexts}
+use Rattle.trace_text.specs.Pieces.{Held, Passed, CutOff, Written, Puts, Ends, nothing_held}
+use Rattle.event_file.specs.Reading.{Reading, unused, is_ready}
+use Rattle.trace_text.specs.Trace.{trace_line}
+use Rattle.trace_text.proofs.PieceLemmas.{append_nothing, cut_off, kept_now, passed, put_after}
+use Rattle.event_file.specs.declared.line_reader.LineEnd.{LineEnd}
+use Rattle.event_file.specs.declared.line_reader.LineEnd.TheVariants as line_ends
 use Rattle.step_driver.specs.declared.driver.DriveEnd.{DriveEnd}
 use Rattle.step_driver.specs.declared.driver.DriveEnd.TheVariants as ends
 use Rattle.step_driver.specs.Causes.{is_read, is_write}

@@ -3,7 +3,7 @@
 use Rattle.std.proofs.Common.{◌≡◌, ℕ, ◌+◌, ◌<◌, ◌≤◌, Bool, true, false, nat_le, List, [], ◌∷◌, ◌++◌, length, Option, Some, None, Result, Ok, Err, refl, sym, ap, ◌∙◌, subst, arith, append_assoc, append-nil, length-append, inl, inr}
 use Rattle.actions.specs.Runs.{EventWithInputs, StartRelation, ReactionRelation, ReactsWithInputs}
 use Rattle.step_driver.specs.Parts.{Done, Tried, LineTaken, Follows}
-use Rattle.step_text.specs.declared.limits.TheConstants.{FILE_LIMIT, EVENT_LIMIT, BUFFER_SIZE}
+use Rattle.event_file.specs.declared.limits.TheConstants.{FILE_LIMIT, EVENT_LIMIT, BUFFER_SIZE}
 use Rattle.std.specs.Io.KnownBytes.{append_known}
 use Rattle.std.proofs.lemmas.Bool.Decides.{nat_tests}
 use Rattle.flow_base.specs.declared.fault.Fault.{Fault}
@@ -12,14 +12,14 @@ use Rattle.active_config.specs.Tree.{Tree}
 use Rattle.actions.specs.Names.{Names}
 use Rattle.actions.specs.World.{World}
 use Rattle.actions.specs.declared.event.Event.TheVariants.{Start}
-use Rattle.step_text.specs.declared.fault.LineFault.{LineFault}
-use Rattle.step_text.specs.declared.fault.LineFault.TheVariants as line_faults
-use Rattle.step_text.specs.EventFile.{EventFile, Stop, AtEnd, AtLine, AtEvent, AtLimit, event_file}
-use Rattle.step_text.specs.EventLines.{event_of_line}
-use Rattle.step_text.specs.NextLine.{Nexts}
-use Rattle.step_text.specs.Reading.{Reading, unused}
-use Rattle.step_text.specs.Trace.{trace_line}
-use Rattle.step_text.proofs.LineLemmas.{line_length-le}
+use Rattle.event_file.specs.declared.fault.LineFault.{LineFault}
+use Rattle.event_file.specs.declared.fault.LineFault.TheVariants as line_faults
+use Rattle.event_file.specs.EventFile.{EventFile, Stop, AtEnd, AtLine, AtEvent, AtLimit, event_file}
+use Rattle.event_file.specs.EventLines.{event_of_line}
+use Rattle.event_file.specs.NextLine.{Nexts}
+use Rattle.event_file.specs.Reading.{Reading, unused}
+use Rattle.trace_text.specs.Trace.{trace_line}
+use Rattle.event_file.proofs.LineLemmas.{line_length-le}
 use Rattle.step_driver.specs.declared.driver.DriveEnd.{DriveEnd}
 use Rattle.step_driver.specs.declared.driver.DriveEnd.TheVariants as ends
 use Rattle.step_driver.specs.Traces.{Ran, RunFault}
@@ -87,7 +87,7 @@ driven_start start react t n left r w fresh starts = record {
 }
 
 -- the text of a file of which nothing was taken
-first_text : (left : Option (List ℕ)) → (text : List ℕ) × IsText left text
+pub first_text : (left : Option (List ℕ)) → (text : List ℕ) × IsText left text
 first_text None = ([], tt)
 first_text (Some bytes) = (bytes, refl)
 
@@ -256,7 +256,7 @@ lines_end start react t n wrote before left left' r r' w index text ends.Memory 
 
 -- ---- a line that was taken
 
-line_says : (start : StartRelation) (react : ReactionRelation) (t : Tree) (n : Names) (before left left' : Option (List ℕ)) (r r' : Reading) (w : World) (index : ℕ) (text : List ℕ)
+pub line_says : (start : StartRelation) (react : ReactionRelation) (t : Tree) (n : Names) (before left left' : Option (List ℕ)) (r r' : Reading) (w : World) (index : ℕ) (text : List ℕ)
     → (d : Driven start react t n before left r w index text) → Nexts r r' left left' (Ok true) → LineSays n before d.events r' left'
 line_says start react t n before left left' r r' w index text d next =
     reads_line n before d.events next.mid r' left' (reads_fills n before d.events r next.mid left left' d.reads next.fills) next.answer.1
@@ -275,7 +275,7 @@ line_driven start react t n before left left' r r' w w' index next_index text P 
 
     by_count : (event : EventWithInputs) (b : Bool) → nat_le EVENT_LIMIT index ≡ b → event_of_line n r'.line ≡ Ok (Some event)
         → Tried b react t n index event w w' P (Ok next_index) → (put : List ℕ) × P put × Driven start react t n before left' r' w' next_index (text ++ put)
-    by_count event true many is (bad, _) = absurd (cc)
+    by_count event true many is (bad, _, _) = absurd (cc)
     by_count event false few is (done, one) =
         let line : List ℕ = trace_line t n w' (index + 1) event.event None in
         let small : nat_le EVENT_LIMIT (length d.events) ≡ false = ap (nat_le EVENT_LIMIT) d.counted ∙ few in
@@ -307,7 +307,7 @@ line_driven start react t n before left left' r r' w w' index next_index text P 
           },
         )
     by_said (Ok (Some event)) is h = by_count event (nat_le EVENT_LIMIT index) refl is h
-    by_said (Err fault) is (bad, _) = absurd (cc)
+    by_said (Err fault) is (bad, _, _) = absurd (cc)
 
 -- the line was taken, and the run ends
 pub line_fails : (start : StartRelation) (react : ReactionRelation) (t : Tree) (n : Names) (before left left' : Option (List ℕ)) (r r' : Reading)
@@ -407,7 +407,7 @@ line_fails start react t n before left left' r r' w w' index text P end d next t
     by_count : (event : EventWithInputs) (b : Bool) → nat_le EVENT_LIMIT index ≡ b → event_of_line n r'.line ≡ Ok (Some event)
         → Tried b react t n index event w w' P (Err end)
         → (put : List ℕ) × P put × EndOf (is_write {T = Unit {0}} (Err end)) start react t n before left' (text ++ put) (Err end)
-    by_count event true many is (bad, puts) =
+    by_count event true many is (bad, _, puts) =
         let big : nat_le EVENT_LIMIT (length d.events) ≡ true = ap (nat_le EVENT_LIMIT) d.counted ∙ many in
         let same : end ≡ ends.TooManyLines = let e = bad in cc in
         let file = whole_too_many n before d.events r' left' event says is big in (
@@ -424,7 +424,7 @@ line_fails start react t n before left left' r r' w w' index text P end d next t
         → (put : List ℕ) × P put × EndOf (is_write {T = Unit {0}} (Err end)) start react t n before left' (text ++ put) (Err end)
     by_said (Ok None) is (bad, _, _) = absurd (cc)
     by_said (Ok (Some event)) is h = by_count event (nat_le EVENT_LIMIT index) refl is h
-    by_said (Err fault) is (bad, puts) =
+    by_said (Err fault) is (bad, _, puts) =
         let same : end ≡ ends.Line r'.number fault = let e = bad in cc in
         let file = whole_refused n before d.events r' left' fault says is in (
           [],

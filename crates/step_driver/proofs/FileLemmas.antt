@@ -1,22 +1,22 @@
 -- The events of a file, as its lines are taken one after the other.
 use Rattle.std.proofs.Common.{◌≡◌, ℕ, ◌+◌, ◌<◌, ◌≤◌, ◌⊎◌, Bool, true, false, nat_lt, nat_le, ◌||◌, List, [], ◌∷◌, ◌++◌, length, take, drop, Option, Some, None, Result, Ok, Err, refl, sym, ap, ◌∙◌, subst, arith, append_assoc, append-nil, length-append, inl, inr}
 use Rattle.actions.specs.Runs.{EventWithInputs}
-use Rattle.step_text.specs.declared.limits.TheConstants.{LINE_LIMIT, FILE_LIMIT, EVENT_LIMIT}
+use Rattle.event_file.specs.declared.limits.TheConstants.{LINE_LIMIT, FILE_LIMIT, EVENT_LIMIT}
 use Rattle.std.specs.Io.KnownBytes.{prepend_known, IsAtEnd}
 use Rattle.std.proofs.lemmas.Bool.Decides.{nat_tests}
 use Rattle.std.proofs.lemmas.List.{length-take-le}
 use Rattle.flow_base.proofs.Pieces.{prepend_known-append}
 use Rattle.actions.specs.Names.{Names}
-use Rattle.step_text.specs.declared.fault.LineFault.{LineFault}
-use Rattle.step_text.specs.declared.fault.LineFault.TheVariants as faults
-use Rattle.step_text.specs.EventFile.{EventFile, Stop, AtEnd, AtLine, AtEvent, AtLimit, stopped, begun_by, with_line, with_limit, events_of, event_file}
-use Rattle.step_text.specs.EventLines.{event_of_line}
-use Rattle.step_text.specs.Limits.{Limit, TooLong, PastFile, line_limit}
-use Rattle.step_text.specs.Lines.{lines_of, line_length, without_return, IsPlain, spelled}
-use Rattle.step_text.specs.NextLine.{TakesLine, IsTooLong, IsPastFile, Fills}
-use Rattle.step_text.specs.Reading.{Reading, unused, is_enough, is_ready}
-use Rattle.step_text.proofs.NextLemmas.{kept_at_end}
-use Rattle.step_text.proofs.LineLemmas.{line_length-le, lines_of-closed, lines_of-open, lines_of-first, line_length-append, plain_all}
+use Rattle.event_file.specs.declared.fault.LineFault.{LineFault}
+use Rattle.event_file.specs.declared.fault.LineFault.TheVariants as faults
+use Rattle.event_file.specs.EventFile.{EventFile, Stop, AtEnd, AtLine, AtEvent, AtLimit, stopped, begun_by, with_line, with_limit, events_of, event_file}
+use Rattle.event_file.specs.EventLines.{event_of_line}
+use Rattle.event_file.specs.Limits.{Limit, TooLong, PastFile, line_limit}
+use Rattle.event_file.specs.Lines.{lines_of, line_length, without_return, IsPlain, spelled}
+use Rattle.event_file.specs.NextLine.{TakesLine, IsTooLong, IsPastFile, Fills}
+use Rattle.event_file.specs.Reading.{Reading, unused, is_enough, is_ready}
+use Rattle.event_file.proofs.NextLemmas.{kept_at_end}
+use Rattle.event_file.proofs.LineLemmas.{line_length-le, lines_of-closed, lines_of-open, lines_of-first, line_length-append, plain_all}
 use Rattle.step_driver.specs.Driving.{IsText, is_closed, HasWhole}
 
 -- the events of a text that begins at that place of the file

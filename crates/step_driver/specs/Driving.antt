@@ -8,10 +8,10 @@ use Rattle.actions.specs.Names.{Names}
 use Rattle.actions.specs.Runs.{EventWithInputs, StartRelation, ReactionRelation}
 use Rattle.actions.specs.World.{World}
 use Rattle.actions.specs.declared.event.Event.TheVariants.{Start}
-use Rattle.step_text.specs.EventFile.{Stop, AtEnd, AtLine, AtEvent, AtLimit, event_file}
-use Rattle.step_text.specs.Lines.{IsPlain}
-use Rattle.step_text.specs.Trace.{trace_line}
-use Rattle.step_text.specs.declared.limits.TheConstants.{LINE_LIMIT, FILE_LIMIT, BUFFER_SIZE}
+use Rattle.event_file.specs.EventFile.{Stop, AtEnd, AtLine, AtEvent, AtLimit, event_file}
+use Rattle.event_file.specs.Lines.{IsPlain}
+use Rattle.trace_text.specs.Trace.{trace_line}
+use Rattle.event_file.specs.declared.limits.TheConstants.{LINE_LIMIT, FILE_LIMIT, BUFFER_SIZE}
 use Rattle.step_driver.specs.Traces.{RunFault, Ran}
 use Rattle.step_driver.specs.declared.driver.DriveEnd.{DriveEnd}
 use Rattle.step_driver.specs.declared.driver.DriveEnd.TheVariants as ends

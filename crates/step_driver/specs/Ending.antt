@@ -7,7 +7,7 @@ use Rattle.actions.specs.Names.{Names}
 use Rattle.actions.specs.Runs.{StartRelation, ReactionRelation}
 use Rattle.actions.specs.World.{World}
 use Rattle.actions.specs.declared.event.Event.TheVariants.{Start}
-use Rattle.step_text.specs.Trace.{trace_line}
+use Rattle.trace_text.specs.Trace.{trace_line}
 use Rattle.step_driver.specs.Causes.{is_read}
 use Rattle.step_driver.specs.Driving.{Seen, Drives, TakesNoMore}
 use Rattle.step_driver.specs.declared.driver.DriveEnd.{DriveEnd}

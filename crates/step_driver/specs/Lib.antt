@@ -3,3 +3,4 @@ pub mod Driving
 pub mod Causes
 pub mod Parts
 pub mod Ending
+pub mod Leaving

@@ -8,15 +8,15 @@ use Rattle.actions.specs.Runs.{EventWithInputs, ReactionRelation, ReactsWithInpu
 use Rattle.actions.specs.World.{World}
 use Rattle.actions.specs.declared.engine.Halt.{Halt}
 use Rattle.actions.specs.declared.engine.Halt.TheVariants as halts
-use Rattle.step_text.specs.NextLine.{Nexts}
-use Rattle.step_text.specs.Pieces.{Held, Passed, CutOff, nothing_held}
-use Rattle.step_text.specs.Reading.{Reading, is_ready}
-use Rattle.step_text.specs.Trace.{trace_line}
-use Rattle.step_text.specs.declared.fault.LineFault.{LineFault}
-use Rattle.step_text.specs.declared.fault.LineFault.TheVariants as line_faults
-use Rattle.step_text.specs.declared.limits.TheConstants.{EVENT_LIMIT}
-use Rattle.step_text.specs.declared.line_reader.LineEnd.{LineEnd}
-use Rattle.step_text.specs.declared.line_reader.LineEnd.TheVariants as line_ends
+use Rattle.event_file.specs.NextLine.{Nexts}
+use Rattle.trace_text.specs.Pieces.{Held, Passed, CutOff, nothing_held}
+use Rattle.event_file.specs.Reading.{Reading, is_ready}
+use Rattle.trace_text.specs.Trace.{trace_line}
+use Rattle.event_file.specs.declared.fault.LineFault.{LineFault}
+use Rattle.event_file.specs.declared.fault.LineFault.TheVariants as line_faults
+use Rattle.event_file.specs.declared.limits.TheConstants.{EVENT_LIMIT}
+use Rattle.event_file.specs.declared.line_reader.LineEnd.{LineEnd}
+use Rattle.event_file.specs.declared.line_reader.LineEnd.TheVariants as line_ends
 use Rattle.step_driver.specs.declared.driver.DriveEnd.{DriveEnd}
 use Rattle.step_driver.specs.declared.driver.DriveEnd.TheVariants as ends
 
@@ -52,18 +52,18 @@ abbrev pub IsNextIndex : ℕ → Result ℕ DriveEnd → Type 0
 IsNextIndex index (Ok next) = next ≡ index
 IsNextIndex index (Err end) = Unit {0}
 
--- an event is processed unless it is one too many
+-- an event is processed unless it is one too many, which leaves the world
 abbrev pub Tried : Bool → ReactionRelation → Tree → Names → ℕ → EventWithInputs → World → World → (List ℕ → Type 0) → Result ℕ DriveEnd → Type 0
-Tried true react t n index event w w' puts result = (result ≡ Err ends.TooManyLines) × puts []
+Tried true react t n index event w w' puts result = (result ≡ Err ends.TooManyLines) × (w' ≡ w) × puts []
 Tried false react t n index event w w' puts result =
     Done (ReactsWithInputs react w event) (λ x f. trace_line t n x (index + 1) event.event f) (index + 1) w' puts (without_index result)
     × IsNextIndex (index + 1) result
 
--- a line was read, and what it says was done
+-- a line was read, and what it says was done; a line that isn't an event, or that is refused, leaves the world
 abbrev pub LineTaken : ReactionRelation → Tree → Names → ℕ → ℕ → Result (Option EventWithInputs) LineFault → World → World → (List ℕ → Type 0) → Result ℕ DriveEnd → Type 0
 LineTaken react t n number index (Ok None) w w' puts result = (result ≡ Ok index) × (w' ≡ w) × puts []
 LineTaken react t n number index (Ok (Some event)) w w' puts result = Tried (nat_le EVENT_LIMIT index) react t n index event w w' puts result
-LineTaken react t n number index (Err fault) w w' puts result = (result ≡ Err (ends.Line number fault)) × puts []
+LineTaken react t n number index (Err fault) w w' puts result = (result ≡ Err (ends.Line number fault)) × (w' ≡ w) × puts []
 
 -- the next line of the file, or why there is none
 abbrev pub Follows : Reading → Reading → Option (List ℕ) → Option (List ℕ) → Result Bool DriveEnd → Type 0

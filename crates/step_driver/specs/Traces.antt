@@ -6,7 +6,7 @@ use Rattle.actions.specs.Names.{Names}
 use Rattle.actions.specs.Runs.{EventWithInputs, Moment, StartRelation, ReactionRelation, Runs}
 use Rattle.actions.specs.declared.event.Event.{Event}
 use Rattle.actions.specs.declared.event.Event.TheVariants.{Start}
-use Rattle.step_text.specs.Trace.{trace_line}
+use Rattle.trace_text.specs.Trace.{trace_line}
 
 -- the line of a moment
 abbrev pub moment_line : Tree → Names → ℕ → Event → Moment → List ℕ

@@ -2,19 +2,21 @@
 ghost use Rattle.std.specs.Prelude.{◌≡◌, ◌≢◌, ◌<◌, ◌^◌, length, false, IsTrue, Err};
 ghost use Rattle.flow_base.specs.Causes.{OthersKept, NoneFalls};
 ghost use Rattle.actions.specs.Engines.{Fresh};
-ghost use Rattle.step_text.specs.LineValues.{IsMadeFor};
-ghost use Rattle.step_text.specs.Pieces.{nothing_held};
-ghost use Rattle.step_text.specs.Reading.{unused};
+ghost use Rattle.event_file.specs.LineValues.{IsMadeFor};
+ghost use Rattle.trace_text.specs.Pieces.{nothing_held};
+ghost use Rattle.event_file.specs.Reading.{unused};
 ghost use Rattle.step_driver.specs.Causes as causes;
 ghost use Rattle.step_driver.specs.Driving as spec;
 ghost use Rattle.step_driver.specs.Ending.{LinesEnd};
+ghost use Rattle.step_driver.specs.Leaving.{Leaves};
 ghost use Rattle.step_driver.specs.Parts.{Follows, Flushes, Moves, found_or_end};
 
 use crate::events::{run_line, run_start};
 use actions::Engine;
+use event_file::{InputVals, LineEnd, LineFault, LineReader};
 use flow_base::{Fault, Inputs, Sink};
-use step_text::{InputVals, LineEnd, LineFault, LineReader, Pieces};
 use thiserror::Error;
+use trace_text::Pieces;
 
 /// Why a run over an event file ended before the end of the file.
 #[derive(Clone, Copy, Debug, PartialEq, Eq, Error)]
@@ -56,8 +58,9 @@ pub enum DriveEnd {
 /// back by a further read. After every other error no more was taken of the file than lines whose
 /// trace has been written, and `BUFFER_SIZE` bytes after them.
 ///
-/// Nothing is said of the engine afterwards but its program, and nothing of the reader and of the
-/// values.
+/// Afterwards the engine is in the world to which its run over those events led: a line that is
+/// refused leaves the world as it was. Nothing is said of its world after `Memory`, nor after `Write`
+/// where it may want memory. Nothing is said of the reader and of the values.
 pub fn drive<G: Engine, I: Inputs, O: Sink>(
     engine: &mut G,
     inputs: &mut I,
@@ -80,6 +83,9 @@ pub fn drive<G: Engine, I: Inputs, O: Sink>(
           left_after = I.left inputs.new name.now;
         })
         result }
+    ensures leaves { Leaves (G.Starts (G.program engine.old)) (G.Reacts (G.program engine.old))
+        (G.declared (G.program engine.old)) (I.left inputs.old name.now) (I.left inputs.new name.now)
+        G.never_wants_memory (G.world engine.new) result }
     ensures program { G.program engine.new ≡ G.program engine.old }
 
     // No other file is read, and no count changes without its fault.
@@ -122,6 +128,9 @@ fn run_lines<G: Engine, I: Inputs, O: Sink>(
         (G.tree (G.program engine.old)) (G.declared (G.program engine.old))
         (O.wrote out.old) (O.wrote out.new) (O.faults out.old) (O.faults out.new)
         (I.left inputs.old name.now) (I.left inputs.new name.now) pieces.new.bytes result }
+    ensures leaves { Leaves (G.Starts (G.program engine.old)) (G.Reacts (G.program engine.old))
+        (G.declared (G.program engine.old)) (I.left inputs.old name.now) (I.left inputs.new name.now)
+        G.never_wants_memory (G.world engine.new) result }
     ensures failed { pieces.new.failed ≡ causes.is_write result }
     ensures program { G.program engine.new ≡ G.program engine.old }
     ensures others { OthersKept name.now (I.left inputs.old) (I.left inputs.new) }

@@ -2,18 +2,19 @@
 ghost use Rattle.std.specs.Prelude.{◌≡◌, ◌≢◌, ◌<◌, ◌≤◌, ◌^◌, ◌+◌, length, false, IsTrue, Err, OnOk, None};
 ghost use Rattle.actions.specs.Engines.{Fresh, Running, CanReactTo, IsFaultOf, fault_of};
 ghost use Rattle.actions.specs.declared.event.Event.TheVariants.{Start as AtStart};
-ghost use Rattle.step_text.specs.EventLines.{event_of_line};
-ghost use Rattle.step_text.specs.LineValues.{IsMadeFor};
-ghost use Rattle.step_text.specs.Pieces.{Puts};
-ghost use Rattle.step_text.specs.Trace.{IsEventOf, trace_line};
+ghost use Rattle.event_file.specs.EventLines.{event_of_line};
+ghost use Rattle.event_file.specs.LineValues.{IsMadeFor};
+ghost use Rattle.trace_text.specs.Pieces.{Puts};
+ghost use Rattle.trace_text.specs.Trace.{IsEventOf, trace_line};
 ghost use Rattle.actions.specs.Runs.{AreInputValues, AreSet, ReactsWithInputs};
 ghost use Rattle.step_driver.specs.Causes as causes;
 ghost use Rattle.step_driver.specs.Parts as spec;
 
 use crate::driver::DriveEnd;
 use actions::{Engine, Event, Halt};
+use event_file::{EVENT_LIMIT, InputVals, event_line};
 use flow_base::Sink;
-use step_text::{EVENT_LIMIT, InputVals, Pieces, event_line, put_trace};
+use trace_text::{Pieces, put_trace};
 
 /// Starts the engine, and puts the first line of the trace.
 pub(crate) fn run_start<G: Engine, O: Sink>(

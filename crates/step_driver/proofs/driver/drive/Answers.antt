@@ -1,7 +1,8 @@
 use Rattle.std.proofs.Common.{◌≡◌, false, sym, ◌∙◌}
-use Rattle.step_text.proofs.PieceLemmas.{kept_now}
+use Rattle.trace_text.proofs.PieceLemmas.{kept_now}
 use Rattle.step_driver.specs.Causes.{is_write}
 use Rattle.step_driver.proofs.Buffered.{finished, not_finished}
+use Rattle.step_driver.proofs.LeavingLemmas.{cut_leaves}
 use Rattle.step_driver.proofs.driver.drive.Goals as goal
 
 -- what is kept at the end was written
@@ -61,3 +62,15 @@ returns-in-Err-clause-writes g c =
     let k = not_finished _ _ _ _ _ _ _ _ _ _ _ _ held.bytes lines.result (g.met.G.Engine.one_start (g.G.Engine.program c.args.engine.now)) whole stopped
     (c.in-Err.ensures.written _ _ held.bytes (kept_now _ _ held usable)) in
     record { fault = λ _. k.2; others = λ is. absurd (cc) }
+
+pub returns-in-Err-clause-leaves : goal.returns-in-Err-clause-leaves
+returns-in-Err-clause-leaves g c =
+    let lines = c.run_lines-end in
+    let held = lines.new.pieces in
+    let usable : held.failed ≡ false = sym c.has_failed.ensures ∙ c.if-has_failed.false in
+    let whole : is_write lines.result ≡ false = sym lines.ensures.failed ∙ usable in
+    let s = lines.ensures.ends in
+    let stopped = rw whole at s in
+    let k = not_finished _ _ _ _ _ _ _ _ _ _ _ _ held.bytes lines.result (g.met.G.Engine.one_start (g.G.Engine.program c.args.engine.now)) whole stopped
+    (c.in-Err.ensures.written _ _ held.bytes (kept_now _ _ held usable)) in
+    cut_leaves _ _ _ _ _ _ _ lines.result k.1 lines.ensures.memory lines.ensures.leaves

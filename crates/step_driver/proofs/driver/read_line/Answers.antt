@@ -1,4 +1,4 @@
-use Rattle.step_text.proofs.PieceLemmas.{kept_now}
+use Rattle.trace_text.proofs.PieceLemmas.{kept_now}
 use Rattle.step_driver.proofs.Buffered.{flush_done}
 use Rattle.step_driver.proofs.driver.read_line.Goals as goal
 

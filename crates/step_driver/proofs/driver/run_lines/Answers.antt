@@ -1,6 +1,8 @@
 use Rattle.std.proofs.Common.{refl, ◌∙◌}
 use Rattle.std.proofs.lemmas.Result.{err_from_is_err_and}
+use Rattle.trace_text.specs.Pieces.{Puts}
 use Rattle.step_driver.proofs.Buffered.{start_stops, buffered_start, next_stops, between, line_stops, line_buffered, end_stops}
+use Rattle.step_driver.proofs.LeavingLemmas.{start_leaves, end_leaves, next_leaves, line_leaves}
 use Rattle.step_driver.proofs.driver.run_lines.Goals as goal
 
 -- the start isn't taken, or its line can't be written
@@ -66,3 +68,33 @@ returns-clause-ends g c =
     let n = c.in_ok-next_line.ensures.next in
     let next = rw c.if-branch.false at n in
     end_stops _ _ _ _ _ _ _ _ _ _ _ _ _ _ _ _ _ _ _ c.lines.invariant.driven next c.in_ok-next_line.ensures.moves
+
+-- ---- where the engine is
+
+pub returns-in_err-run_start-clause-leaves : goal.returns-in_err-run_start-clause-leaves
+returns-in_err-run_start-clause-leaves g c =
+    let p = err_from_is_err_and c.from_residual.result c.from_residual.ensures.1 in
+    let program = g.G.Engine.program c.args.engine.now in
+    rw (p.1, p.2) (start_leaves (g.G.Engine.Starts program) (g.G.Engine.Reacts program) (g.G.Engine.tree program) (g.G.Engine.declared program)
+    _ g.G.Engine.never_wants_memory _ (Puts _ _ _ _ _ _) _ c.in_err-run_start.ensures.done)
+
+pub returns-in_err-next_line-clause-leaves : goal.returns-in_err-next_line-clause-leaves
+returns-in_err-next_line-clause-leaves g c =
+    let p = err_from_is_err_and c.from_residual-in_err-next_line.result c.from_residual-in_err-next_line.ensures.1 in
+    rw (p.1, p.2) (next_leaves _ _ _ _ _ _ _ _ _ _ _ _ _ _ c.lines.invariant.driven.driven c.in_err-next_line.ensures.next)
+
+pub returns-in_err-index-clause-leaves : goal.returns-in_err-index-clause-leaves
+returns-in_err-index-clause-leaves g c =
+    let p = err_from_is_err_and c.from_residual-in_err-index.result c.from_residual-in_err-index.ensures.1 in
+    let inv = c.lines.invariant in
+    let n = c.in_ok-next_line.ensures.next in
+    let next = rw c.if-branch.true at n in
+    let t = c.in_err-index.ensures.taken in
+    let taken = rw (inv.program, c.line.ensures, c.number.ensures) at t in
+    rw (p.1, p.2) (line_leaves _ _ _ _ _ _ _ _ _ _ _ _ _ _ _ _ inv.driven.driven next taken)
+
+pub returns-clause-leaves : goal.returns-clause-leaves
+returns-clause-leaves g c =
+    let n = c.in_ok-next_line.ensures.next in
+    let next = rw c.if-branch.false at n in
+    end_leaves _ _ _ _ _ _ _ g.G.Engine.never_wants_memory _ _ _ _ _ c.lines.invariant.driven.driven next

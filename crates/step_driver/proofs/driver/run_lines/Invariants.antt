@@ -1,6 +1,6 @@
 use Rattle.std.proofs.Common.{◌≡◌, ◌-◌}
-use Rattle.step_text.specs.LineValues.{IsMadeFor}
-use Rattle.step_text.specs.declared.limits.TheConstants.{FILE_LIMIT}
+use Rattle.event_file.specs.LineValues.{IsMadeFor}
+use Rattle.event_file.specs.declared.limits.TheConstants.{FILE_LIMIT}
 use Rattle.flow_base.specs.Causes.{OthersKept, AllStay}
 use Rattle.actions.specs.Engines.{Running}
 use Rattle.step_driver.proofs.Buffered.{Buffered}

@@ -1,0 +1,10 @@
+pub mod SearchLemmas
+pub mod LineLemmas
+pub mod Windows
+pub mod Taking
+pub mod NextLemmas
+pub mod TokenLemmas
+pub mod ShortLemmas
+pub mod ValueLemmas
+pub mod NamedLemmas
+pub mod TableLemmas

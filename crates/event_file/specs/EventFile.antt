@@ -1,0 +1,58 @@
+-- The events of a file, and where they stop.
+use Rattle.std.specs.Prelude.{ℕ, ◌+◌, nat_lt, nat_le, Bool, List, [], ◌∷◌, length, Option, Some, None, Result, Ok, Err, if◌then◌else◌}
+use Rattle.actions.specs.Names.{Names}
+use Rattle.event_file.specs.declared.fault.LineFault.{LineFault}
+use Rattle.event_file.specs.declared.fault.LineFault.TheVariants as faults
+use Rattle.event_file.specs.declared.limits.TheConstants.{FILE_LIMIT, EVENT_LIMIT}
+use Rattle.event_file.specs.EventLines.{event_of_line}
+use Rattle.event_file.specs.Limits.{Limit, TooLong, PastFile, line_limit}
+use Rattle.event_file.specs.Lines.{lines_of, without_return}
+use Rattle.actions.specs.Runs.{EventWithInputs}
+
+-- where the events of a file stop: at its end, before the line of a number with its fault, before an event that is one
+-- too many, or before a line that holds the first byte that a file has no room for
+pub data Stop : Type 0 where
+  AtEnd : Stop
+  AtLine : ℕ → LineFault → Stop
+  AtEvent : Stop
+  AtLimit : Stop
+
+-- the events before the first stop, and that stop
+pub record EventFile : Type 0 where
+  pub events : List EventWithInputs
+  pub stop : Stop
+
+-- no event, and that stop
+abbrev pub stopped : Stop → EventFile
+stopped stop = record { events = []; stop = stop }
+
+-- an event in front
+abbrev pub begun_by : EventWithInputs → EventFile → EventFile
+begun_by event file = record { events = event ∷ file.events; stop = file.stop }
+
+-- The file from a line on, by what that line says: its number, the count of events before it, and what the later lines
+-- make of the count after it.
+abbrev pub with_line : ℕ → ℕ → Result (Option EventWithInputs) LineFault → (ℕ → EventFile) → EventFile
+with_line number count (Err fault) later = stopped (AtLine number fault)
+with_line number count (Ok None) later = later count
+with_line number count (Ok (Some event)) later =
+    if nat_le EVENT_LIMIT count then stopped AtEvent else begun_by event (later (count + 1))
+
+-- the file from a line on, unless the line passes a limit
+abbrev pub with_limit : Option Limit → ℕ → EventFile → EventFile
+with_limit (Some TooLong) number file = stopped (AtLine number faults.LineTooLong)
+with_limit (Some PastFile) number file = stopped AtLimit
+with_limit None number file = file
+
+-- The events of lines: the first of them begins after `at` bytes of the file, has that number, and has `count` events before
+-- it; long says whether the file has more bytes than it may.
+unfoldable pub events_of : Names → Bool → ℕ → ℕ → ℕ → List (List ℕ) → EventFile
+events_of n long at number count [] = stopped AtEnd
+events_of n long at number count (raw ∷ raws) =
+    with_limit (line_limit long at (length raw)) number
+    (with_line number count (event_of_line n (without_return raw))
+    (λ next. events_of n long (at + (length raw + 1)) (number + 1) next raws))
+
+-- The events of a file.
+abbrev pub event_file : Names → List ℕ → EventFile
+event_file n bytes = events_of n (nat_lt FILE_LIMIT (length bytes)) 0 1 0 (lines_of bytes)

@@ -1,0 +1,12 @@
+pub mod Lines
+pub mod Limits
+pub mod Faults
+pub mod InputValues
+pub mod ShortNumbers
+pub mod NameTables
+pub mod LineValues
+pub mod EventLines
+pub mod EventFile
+pub mod Reading
+pub mod NextLine
+pub mod LineParts

@@ -1,0 +1,6 @@
+pub mod PieceLemmas
+pub mod JoinLemmas
+pub mod PutLemmas
+pub mod PathLemmas
+pub mod StateLemmas
+pub mod DataLemmas

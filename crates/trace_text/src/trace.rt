@@ -1,0 +1,83 @@
+//! The lines of a trace.
+ghost use Rattle.std.specs.Prelude.{◌≡◌, ◌<◌, ◌^◌, ◌++◌, codes, decimal, length, OnOk, OnErr};
+ghost use Rattle.std.specs.Io.KnownBytes.{append_known};
+ghost use Rattle.flow_base.specs.Bytes.{AppendsProperFront};
+ghost use Rattle.flow_base.specs.Causes.{HasCause};
+ghost use Rattle.actions.specs.Engines.{IsFaultOf};
+ghost use Rattle.actions.specs.Names.{names_of};
+ghost use Rattle.actions.specs.World.{Fits};
+ghost use Rattle.trace_text.specs.Pieces.{Puts};
+ghost use Rattle.trace_text.specs.Trace as spec;
+
+use crate::pieces::Pieces;
+use crate::trace_parts::{event_word, put_data, put_outputs, put_result};
+use crate::trace_states::put_states;
+use actions::{Event, Names, View};
+use flow_base::{Failed, Fault, Sink};
+
+/// Writes the line of a trace for the start or an event, in pieces of `PIECE_SIZE` bytes and what
+/// is left at its end. After an error a proper front of the line was written. It takes no memory.
+///
+/// Many lines that are written together are put by `put_trace`.
+pub fn write_trace<O: Sink>(
+    index: u64,
+    event: Event,
+    view: &View<'_>,
+    fault: Option<Fault>,
+    out: &mut O,
+) -> Result<(), Failed>
+    requires fits { Fits view.now.shape.now (names_of view.now.names.now) (spec.world_of view.now) }
+    requires few { length (names_of view.now.names.now).vars < 2 ^ 32 }
+    requires event { spec.IsEventOf (names_of view.now.names.now) event }
+    requires fault { IsFaultOf (names_of view.now.names.now) fault }
+    ensures ok { OnOk result (O.wrote out.new ≡ append_known (O.wrote out.old)
+        (spec.trace_line view.now.shape.now (names_of view.now.names.now) (spec.world_of view.now) index event fault)) }
+    ensures failed { OnErr result (AppendsProperFront (O.wrote out.old) (O.wrote out.new)
+        (spec.trace_line view.now.shape.now (names_of view.now.names.now) (spec.world_of view.now) index event fault)) }
+    ensures cause { HasCause (O.faults out.old) (O.faults out.new) result }
+{
+    let mut pieces = Pieces::new();
+    put_trace(index, event, view, fault, &mut pieces, out);
+    pieces.finish(out)
+}
+
+/// Puts the line of a trace for the start or an event: its index, its word, the active states, the
+/// values, what was put out, and how it ended.
+///
+/// What there is no room for goes to the sink at once. After a failed write nothing more is put.
+/// It takes no memory.
+pub fn put_trace<O: Sink>(
+    index: u64,
+    event: Event,
+    view: &View<'_>,
+    fault: Option<Fault>,
+    pieces: &mut Pieces,
+    out: &mut O,
+)
+    requires fits { Fits view.now.shape.now (names_of view.now.names.now) (spec.world_of view.now) }
+    requires few { length (names_of view.now.names.now).vars < 2 ^ 32 }
+    requires event { spec.IsEventOf (names_of view.now.names.now) event }
+    requires fault { IsFaultOf (names_of view.now.names.now) fault }
+    ensures { Puts (O.wrote out.old) (O.wrote out.new) (O.faults out.old) (O.faults out.new)
+        pieces.old pieces.new
+        (spec.trace_line view.now.shape.now (names_of view.now.names.now) (spec.world_of view.now) index event fault) }
+{
+    put_head(index, event_word(view.names, event), pieces, out);
+    pieces.put(b" [", out);
+    put_states(view.shape, view.names, view.marks, pieces, out);
+    pieces.put(b"] ", out);
+    put_data(view.names, view.vals, pieces, out);
+    pieces.put_byte(b' ', out);
+    put_outputs(view.names, view.outputs, pieces, out);
+    pieces.put_byte(b' ', out);
+    put_result(view.names, fault, pieces, out);
+}
+
+/// Puts the index and the word of an event.
+fn put_head<O: Sink>(index: u64, event: &str, pieces: &mut Pieces, out: &mut O)
+    ensures { Puts (O.wrote out.old) (O.wrote out.new) (O.faults out.old) (O.faults out.new)
+        pieces.old pieces.new (decimal index ++ codes " " ++ event.now) }
+{
+    pieces.put_digits(index, out);
+    pieces.put_led(b' ', event.as_bytes(), out);
+}

@@ -5,14 +5,14 @@ use Rattle.chart_tree.specs.declared.fault.FormFault.TheVariants as faults
 use Rattle.chart_tree.specs.Trees.{Chart}
 use Rattle.chart_reader.specs.Text.{Spells}
 use Rattle.chart_format.proofs.Formatted.{spelled_has}
-use Rattle.state_tree.specs.Chart as plain
-use Rattle.state_tree.specs.Valid.{IsValid}
+use Rattle.checked_chart.specs.Chart as plain
+use Rattle.checked_chart.specs.Valid.{IsValid}
 use Rattle.resolved_tree.specs.Promise as promise
 use Rattle.resolved_tree.specs.Resolved.{Resolved}
 use Rattle.chart_scope.specs.Names as names
 use Rattle.chart_scope.specs.Resolution.{IsResolved}
 use Rattle.chart_check.specs.Check as check
-use Rattle.chart_promises.proofs.PromiseLemmas.{keeps_promise}
+use Rattle.accepted_charts.proofs.PromiseLemmas.{keeps_promise}
 use Rattle.chart_check.proofs.PassLemmas.{sound_valid}
 use Rattle.accepted_charts.specs.Accepted.{IsAccepted, Refuses, OfNames, OfChart}
 

@@ -1,3 +1,13 @@
+pub mod ListLemmas
+pub mod SizeLemmas
+pub mod LiteralLemmas
+pub mod ScopeLemmas
+pub mod UseLemmas
+pub mod PlacedLemmas
+pub mod DistinctLemmas
+pub mod NameLemmas
+pub mod ThereLemmas
+pub mod PromiseLemmas
 pub mod AcceptLemmas
 pub mod OneAnswer
 pub mod SomeAnswer

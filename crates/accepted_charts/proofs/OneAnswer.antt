@@ -22,7 +22,7 @@ use Rattle.chart_tree.specs.Trees.{ScaleParts}
 use Rattle.chart_tree.specs.Views.{parts_of}
 use Rattle.chart_reader.specs.Text.{Spells}
 use Rattle.chart_reader.proofs.OneRefusal.{one_chart, refused_spells_none, one_refusal}
-use Rattle.state_tree.specs.Chart.{Chart}
+use Rattle.checked_chart.specs.Chart.{Chart}
 use Rattle.resolved_tree.specs.Faults.{first_of, first_with}
 use Rattle.resolved_tree.specs.Plain.{chart_of}
 use Rattle.resolved_tree.specs.Resolved as resolved

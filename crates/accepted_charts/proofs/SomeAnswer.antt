@@ -11,11 +11,11 @@ use Rattle.chart_tree.specs.declared.fault.FormKind.{FormKind}
 use Rattle.chart_tree.specs.declared.first.Found.{Found}
 use Rattle.chart_tree.specs.Trees as trees
 use Rattle.chart_tree.specs.Trees.{FlagSort, NumberSort}
-use Rattle.canonical_claims.specs.Terms.{IsSort, IsVar, IsChart}
+use Rattle.canonical_text.specs.Terms.{IsSort, IsVar, IsChart}
 use Rattle.chart_reader.specs.Text.{Spells}
 use Rattle.chart_reader.proofs.OneRefusal.{spells_or_refused}
 use Rattle.chart_format.proofs.Formatted.{spelled_has}
-use Rattle.state_tree.specs.Chart.{Chart}
+use Rattle.checked_chart.specs.Chart.{Chart}
 use Rattle.chart_places.specs.Placed.{Placed, placed_states, placed_tree, placed_junctions}
 use Rattle.chart_places.specs.Scopes.{scopes_of}
 use Rattle.resolved_tree.specs.Faults.{first_of}

@@ -7,7 +7,7 @@ use Rattle.chart_tree.specs.declared.fault.FormFault.TheVariants as faults
 use Rattle.chart_tree.specs.First.{at_place}
 use Rattle.chart_tree.specs.Trees as trees
 use Rattle.chart_reader.specs.Text.{Spells, IsRefusal}
-use Rattle.state_tree.specs.Chart.{Chart}
+use Rattle.checked_chart.specs.Chart.{Chart}
 use Rattle.resolved_tree.specs.Resolved.{Resolved}
 use Rattle.chart_scope.specs.Names as names
 use Rattle.chart_scope.specs.Resolution.{IsResolved}

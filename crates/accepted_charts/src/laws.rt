@@ -2,8 +2,8 @@
 ghost use Rattle.std.specs.Prelude.{◌≡◌, ◌⊎◌, ℕ, List};
 ghost use Rattle.token_grammar.specs.declared.token.Span.{Span};
 ghost use Rattle.chart_tree.specs.declared.fault.FormKind.{FormKind};
-ghost use Rattle.state_tree.specs.Chart.{Chart};
-ghost use Rattle.state_tree.specs.Valid.{IsValid};
+ghost use Rattle.checked_chart.specs.Chart.{Chart};
+ghost use Rattle.checked_chart.specs.Valid.{IsValid};
 ghost use Rattle.accepted_charts.specs.Accepted.{IsAccepted, IsFirstFault};
 
 /// A text is accepted as at most one chart, it has at most one first fault, and a text that is

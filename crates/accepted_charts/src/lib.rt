@@ -5,18 +5,20 @@
 #![tactic(auto)]
 
 ghost use Rattle.std.specs.Prelude.{◌≡◌, IfOk, IfErr};
-ghost use Rattle.state_tree.specs.Kept.{chart_of};
+ghost use Rattle.checked_chart.specs.Kept.{chart_of};
 ghost use Rattle.accepted_charts.specs.Accepted.{IsAccepted, Refuses, IsFaultOf};
 
 mod laws;
+mod promise_laws;
 
 use chart_check::check;
 use chart_reader::read_chart;
 use chart_scope::resolve;
 use chart_tree::FormFault;
+use checked_chart::Chart;
 use flow_base::Memory;
 pub use laws::{a_text_has_one_answer, a_text_is_accepted_or_refused, accepted_charts_are_valid};
-use state_tree::Chart;
+pub use promise_laws::{chart_texts_are_small, resolved_charts_keep_their_promise};
 use std::alloc::Global;
 
 /// The chart of a text that has no fault.

@@ -9,8 +9,8 @@ use Rattle.chart_tree.specs.declared.first.Found.{Found}
 use Rattle.chart_tree.specs.First.{at_place, IsFirst, comes_before, is_before}
 use Rattle.chart_tree.specs.Form.{form_number}
 use Rattle.chart_structure.specs.Net.{Net, name_of}
-use Rattle.state_tree.specs.declared.limits.TheConstants.{PAIR_LIMIT}
-use Rattle.state_tree.specs.declared.parts.ListKind.{ListKind}
+use Rattle.checked_chart.specs.declared.limits.TheConstants.{PAIR_LIMIT}
+use Rattle.checked_chart.specs.declared.parts.ListKind.{ListKind}
 use Rattle.chart_structure.specs.declared.net.Arrow.{Arrow}
 use Rattle.chart_structure.specs.Structure.{StateFault, EmptyState, EmptyChart, Missing, Unwanted, UnwantedHistory}
 use Rattle.chart_structure.specs.Structure.{ListFault, Open, LeavesDefault, LeavesInner, CrossesInner, CrossesOuter}
@@ -23,8 +23,8 @@ use Rattle.resolved_tree.specs.Promise.{KeepsPromise}
 use Rattle.resolved_tree.specs.Resolved.{Resolved}
 use Rattle.resolved_tree.proofs.FirstLemmas.{none_found}
 use Rattle.chart_types.specs.Types.{type_faults}
-use Rattle.chart_nets.specs.Nets.{net_of}
-use Rattle.chart_validity.proofs.NetLemmas.{is_net}
+use Rattle.chart_check.specs.Nets.{net_of}
+use Rattle.chart_check.proofs.NetLemmas.{is_net}
 use Rattle.chart_check.specs.Check.{IsSound, IsFirstOf, OfTypes, OfStructure, OfPairs}
 
 -- ---- the order of faults

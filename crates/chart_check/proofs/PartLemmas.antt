@@ -6,10 +6,10 @@ use Rattle.actions.specs.declared.names.Var.{Var}
 use Rattle.actions.specs.Names.{Names}
 use Rattle.active_config.specs.Tree.{Tree}
 use Rattle.chart_tree.specs.declared.sort.InitText.{InitText}
-use Rattle.state_tree.specs.declared.parts.StateParts.{StateParts}
-use Rattle.state_tree.specs.declared.parts.Trans.{Trans}
-use Rattle.state_tree.specs.Chart as charts
-use Rattle.state_tree.specs.Views.{node_seen, list_seen, chart_seen}
+use Rattle.checked_chart.specs.declared.parts.StateParts.{StateParts}
+use Rattle.checked_chart.specs.declared.parts.Trans.{Trans}
+use Rattle.checked_chart.specs.Chart as charts
+use Rattle.checked_chart.specs.Views.{node_seen, list_seen, chart_seen}
 use Rattle.resolved_tree.specs.Plain.{with_init, with_inits}
 
 -- what holds of all items, seen by a function, holds of each

@@ -4,16 +4,16 @@ use Rattle.active_config.specs.Tree.{state_count}
 use Rattle.chart_tree.specs.declared.first.Found.{Found}
 use Rattle.chart_structure.specs.Net.{Net}
 use Rattle.chart_structure.specs.Pass as structure
-use Rattle.state_tree.specs.Chart.{Chart}
-use Rattle.state_tree.specs.Valid.{IsValid}
+use Rattle.checked_chart.specs.Chart.{Chart}
+use Rattle.checked_chart.specs.Valid.{IsValid}
 use Rattle.resolved_tree.specs.Faults.{first_of}
 use Rattle.resolved_tree.specs.Plain.{chart_of}
 use Rattle.resolved_tree.specs.Promise.{KeepsPromise}
 use Rattle.resolved_tree.specs.Resolved.{Resolved}
 use Rattle.resolved_tree.proofs.FirstLemmas.{none_found}
 use Rattle.chart_types.specs.Types.{type_faults}
-use Rattle.chart_nets.specs.Nets.{net_of}
-use Rattle.chart_validity.proofs.ChartLemmas.{chart_valid}
+use Rattle.chart_check.specs.Nets.{net_of}
+use Rattle.chart_check.proofs.ChartLemmas.{chart_valid}
 use Rattle.chart_check.specs.Check.{IsSound, IsFirstOf, OfTypes, OfStructure, OfPairs, IsAnswer}
 
 -- the net of a resolved chart has no more states than a chart may have

@@ -8,9 +8,9 @@ use Rattle.chart_structure.specs.Structure.{StructureFault, PairFault}
 use Rattle.resolved_tree.specs.Faults.{first_of}
 use Rattle.resolved_tree.specs.Plain.{chart_of}
 use Rattle.resolved_tree.specs.Resolved.{Resolved}
-use Rattle.state_tree.specs.Chart.{Chart}
+use Rattle.checked_chart.specs.Chart.{Chart}
 use Rattle.chart_types.specs.Types.{type_faults}
-use Rattle.chart_nets.specs.Nets.{net_of}
+use Rattle.chart_check.specs.Nets.{net_of}
 
 -- a resolved chart without faults of types, of structure, and of the number of pairs
 pub record IsSound (r : Resolved) : Type 0 where

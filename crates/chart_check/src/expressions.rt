@@ -8,7 +8,7 @@ ghost use Rattle.resolved_tree.specs.Plain as plain;
 ghost use Rattle.resolved_tree.specs.Promise.{IsInRange, IsStmt};
 ghost use Rattle.resolved_tree.specs.Resolved.{Resolved};
 ghost use Rattle.resolved_tree.specs.Views.{expr_of, stmt_of, block_of};
-ghost use Rattle.state_tree.specs.Views.{block_seen};
+ghost use Rattle.checked_chart.specs.Views.{block_seen};
 
 use actions::{Expr, Op, Stmt};
 use chart_tree::{BinWord, LitText, UnWord};

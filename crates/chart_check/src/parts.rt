@@ -24,16 +24,16 @@ ghost use Rattle.resolved_tree.specs.Views.{
   state_of,
   resolved_of,
 };
-ghost use Rattle.state_tree.specs.Views.{trans_seen, list_seen, node_seen, chart_seen};
+ghost use Rattle.checked_chart.specs.Views.{trans_seen, list_seen, node_seen, chart_seen};
 
 use crate::expressions::{plain_block, plain_expr};
 use crate::inits::with_inits;
+use crate::resolved_net::plain_dest;
 use actions::{Expr, Names};
 use active_config::Shape;
-use chart_nets::plain_dest;
+use checked_chart::{StateParts, Trans};
 use flow_base::{List, Memory};
 use resolved_tree::{Ref, Resolved, ResolvedGuard, ResolvedJunction, ResolvedState, ResolvedTrans};
-use state_tree::{StateParts, Trans};
 use std::alloc::{AllocError, Global};
 
 /// The number of an event, where there is one.

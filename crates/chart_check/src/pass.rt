@@ -1,6 +1,6 @@
 //! The check of a resolved chart.
 ghost use Rattle.std.specs.Prelude.{◌≡◌, None, IfOk, IfErr};
-ghost use Rattle.state_tree.specs.Kept.{chart_of};
+ghost use Rattle.checked_chart.specs.Kept.{chart_of};
 ghost use Rattle.resolved_tree.specs.Faults.{first_of};
 ghost use Rattle.resolved_tree.specs.Promise.{KeepsPromise};
 ghost use Rattle.resolved_tree.specs.Views.{resolved_of};
@@ -8,13 +8,13 @@ ghost use Rattle.chart_types.specs.Types.{type_faults};
 ghost use Rattle.chart_check.specs.Check.{IsAnswer, IsChecked, IsSound, Refuses};
 
 use crate::parts::chart_parts;
-use chart_nets::net_of;
+use crate::resolved_net::net_of;
 use chart_structure::first_fault;
 use chart_tree::{FormFault, Found};
 use chart_types::first_type_fault;
+use checked_chart::Chart;
 use flow_base::Memory;
 use resolved_tree::Resolved;
-use state_tree::Chart;
 use std::alloc::Global;
 
 /// The first fault of a resolved chart without faults of types, none where it is sound.

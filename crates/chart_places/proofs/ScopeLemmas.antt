@@ -10,7 +10,7 @@ use Rattle.std.proofs.lemmas.Option.{slice_get-map, get_or_from_slice_get}
 use Rattle.std.proofs.lemmas.Slice.Eq.{bytes_eq-Decides}
 use Rattle.active_config.specs.Tree.{Tree, IsTree, state_count, parent_of, is_child, children_below, children_of, ancestors}
 use Rattle.active_config.proofs.RangeLemmas.{find-filter}
-use Rattle.state_tree.proofs.Walks.{and_above, parent_and_above}
+use Rattle.checked_chart.proofs.Walks.{and_above, parent_and_above}
 use Rattle.chart_tree.specs.declared.name.NameText.{NameText}
 use Rattle.chart_places.specs.Scopes.{JunctionName, Scopes, or_else, is_named, child_named, named_in, state_named, is_junction_of, junction_named, junction_in, junction_at, number_from, place_of, nowhere}
 use Rattle.chart_places.specs.Tables.{Declared, is_declared, declared_from, declared_in, names_in, owners_in, junction_entry, scopes_seen, IsOwned, IsFree, AreTables}

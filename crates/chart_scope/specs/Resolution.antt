@@ -17,7 +17,7 @@ use Rattle.chart_tree.specs.declared.chart.VarWord.TheVariants as var_words
 use Rattle.chart_tree.specs.Trees as trees
 use Rattle.chart_tree.specs.Trees.{Sort, FlagSort, NumberSort, Chart}
 use Rattle.chart_tree.specs.Views.{parts_of}
-use Rattle.state_tree.specs.Valid.{HasFlagMode}
+use Rattle.checked_chart.specs.Valid.{HasFlagMode}
 use Rattle.chart_places.specs.Placed.{Placed, Owned, placed_states, placed_tree, placed_junctions, placed_word}
 use Rattle.chart_places.specs.Scopes.{Scopes, scopes_of}
 use Rattle.resolved_tree.specs.Resolved as resolved

@@ -12,17 +12,17 @@ use Rattle.token_grammar.specs.declared.token.Span.{Span}
 use Rattle.active_config.specs.declared.comp.Comp.TheVariants.{Leaf, Or}
 use Rattle.active_config.specs.Tree.{Tree, IsTree, state_count, comp_of, children_of}
 use Rattle.actions.specs.Exprs.{Expr}
-use Rattle.state_tree.specs.declared.limits.TheConstants.{PAIR_LIMIT}
-use Rattle.state_tree.specs.declared.parts.Dest.{Dest}
-use Rattle.state_tree.specs.declared.parts.Dest.TheVariants.{State, Junction}
-use Rattle.state_tree.specs.declared.parts.ListKind.{ListKind}
-use Rattle.state_tree.specs.declared.parts.ListKind.TheVariants.{Outer, Inner, Default}
-use Rattle.state_tree.specs.Chart as charts
-use Rattle.state_tree.specs.Chart.{Chart, Trans, node, junction}
-use Rattle.state_tree.specs.Reached as chart_reached
-use Rattle.state_tree.specs.Reached.{weight}
-use Rattle.state_tree.specs.Valid as chart_valid
-use Rattle.state_tree.specs.Valid.{MayLead, LeadsWell, HasStructure}
+use Rattle.checked_chart.specs.declared.limits.TheConstants.{PAIR_LIMIT}
+use Rattle.checked_chart.specs.declared.parts.Dest.{Dest}
+use Rattle.checked_chart.specs.declared.parts.Dest.TheVariants.{State, Junction}
+use Rattle.checked_chart.specs.declared.parts.ListKind.{ListKind}
+use Rattle.checked_chart.specs.declared.parts.ListKind.TheVariants.{Outer, Inner, Default}
+use Rattle.checked_chart.specs.Chart as charts
+use Rattle.checked_chart.specs.Chart.{Chart, Trans, node, junction}
+use Rattle.checked_chart.specs.Reached as chart_reached
+use Rattle.checked_chart.specs.Reached.{weight}
+use Rattle.checked_chart.specs.Valid as chart_valid
+use Rattle.checked_chart.specs.Valid.{MayLead, LeadsWell, HasStructure}
 use Rattle.chart_structure.specs.declared.net.Arrow.{Arrow}
 use Rattle.chart_structure.specs.Net.{Net, nowhere, no_node, no_junction, node_list, word_of, history_of, list_of}
 use Rattle.chart_structure.specs.Net.{junction_count, junction_list}

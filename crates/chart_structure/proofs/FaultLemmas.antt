@@ -12,10 +12,10 @@ use Rattle.chart_tree.specs.declared.fault.FormKind.{FormKind}
 use Rattle.chart_tree.specs.declared.fault.FormKind.TheVariants as kinds
 use Rattle.chart_tree.specs.declared.first.Found.{Found}
 use Rattle.chart_tree.specs.First.{at_place}
-use Rattle.state_tree.specs.declared.parts.Dest.TheVariants.{State}
-use Rattle.state_tree.specs.declared.parts.ListKind.{ListKind}
-use Rattle.state_tree.specs.declared.parts.ListKind.TheVariants.{Outer, Inner, Default}
-use Rattle.state_tree.specs.Homes.{home_of}
+use Rattle.checked_chart.specs.declared.parts.Dest.TheVariants.{State}
+use Rattle.checked_chart.specs.declared.parts.ListKind.{ListKind}
+use Rattle.checked_chart.specs.declared.parts.ListKind.TheVariants.{Outer, Inner, Default}
+use Rattle.checked_chart.specs.Homes.{home_of}
 use Rattle.chart_structure.specs.declared.net.Arrow.{Arrow}
 use Rattle.chart_structure.specs.Net.{Net, IsNet, IsDest, word_of, name_of, history_of, list_of}
 use Rattle.chart_structure.specs.Net.{junction_count, junction_list, junction_name}

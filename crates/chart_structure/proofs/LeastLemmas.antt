@@ -3,7 +3,7 @@ use Rattle.std.proofs.Common.{◌≡◌, ◌≢◌, ◌⊎◌, ℕ, zero, suc, �
 use Rattle.std.proofs.Common.{Decides, inl, inr, refl, sym, ap, ◌∙◌, subst, arith}
 use Rattle.std.proofs.lemmas.Bool.{and_parts, and_from, or_left, or_right, not_from_false, true_from_ne_false}
 use Rattle.std.proofs.lemmas.Bool.Decides.{nat_tests, not_from_Decides, Decides-below_or}
-use Rattle.state_tree.specs.Reached.{weight}
+use Rattle.checked_chart.specs.Reached.{weight}
 use Rattle.chart_structure.proofs.WeightLemmas.{weight_more, weight_ones}
 
 -- ---- tests

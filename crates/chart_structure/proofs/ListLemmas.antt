@@ -8,8 +8,8 @@ use Rattle.active_config.specs.Tree.{state_count, is_below}
 use Rattle.chart_tree.specs.declared.fault.FormKind.TheVariants as kinds
 use Rattle.chart_tree.specs.declared.first.Found.{Found}
 use Rattle.chart_tree.specs.First.{at_place, IsOne, Passed}
-use Rattle.state_tree.specs.declared.parts.ListKind.{ListKind}
-use Rattle.state_tree.specs.declared.parts.ListKind.TheVariants.{Outer, Inner, Default}
+use Rattle.checked_chart.specs.declared.parts.ListKind.{ListKind}
+use Rattle.checked_chart.specs.declared.parts.ListKind.TheVariants.{Outer, Inner, Default}
 use Rattle.chart_structure.specs.declared.net.Arrow.{Arrow}
 use Rattle.chart_structure.specs.Net.{Net, word_of, list_of, junction_list, junction_name}
 use Rattle.chart_structure.specs.Marks.{IsIn}

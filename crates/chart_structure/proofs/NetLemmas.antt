@@ -2,7 +2,7 @@
 use Rattle.std.proofs.Common.{subst, ◌≡◌, ℕ, ◌<◌, List, length, get_or, sym, ap, ◌∙◌, arith}
 use Rattle.std.proofs.lemmas.List.{get_or-map, length-map}
 use Rattle.active_config.specs.Tree.{Tree, IsTree, state_count}
-use Rattle.state_tree.specs.declared.parts.ListKind.{ListKind}
+use Rattle.checked_chart.specs.declared.parts.ListKind.{ListKind}
 use Rattle.chart_structure.specs.declared.net.Arrow.{Arrow}
 use Rattle.chart_structure.specs.declared.net.Node as code_node
 use Rattle.chart_structure.specs.declared.net.JunctionNode as code_junction

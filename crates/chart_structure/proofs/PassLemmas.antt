@@ -8,10 +8,10 @@ use Rattle.active_config.specs.Tree.{state_count}
 use Rattle.chart_tree.specs.declared.fault.FormKind.TheVariants as kinds
 use Rattle.chart_tree.specs.declared.first.Found.{Found}
 use Rattle.chart_structure.specs.declared.net.Arrow.{Arrow}
-use Rattle.state_tree.specs.Reached.{weight}
-use Rattle.state_tree.specs.declared.limits.TheConstants.{PAIR_LIMIT}
-use Rattle.state_tree.specs.declared.parts.ListKind.{ListKind}
-use Rattle.state_tree.specs.declared.parts.ListKind.TheVariants.{Outer, Inner, Default}
+use Rattle.checked_chart.specs.Reached.{weight}
+use Rattle.checked_chart.specs.declared.limits.TheConstants.{PAIR_LIMIT}
+use Rattle.checked_chart.specs.declared.parts.ListKind.{ListKind}
+use Rattle.checked_chart.specs.declared.parts.ListKind.TheVariants.{Outer, Inner, Default}
 use Rattle.chart_structure.specs.Net.{Net, name_of, list_of, junction_count, junction_list, junction_name}
 use Rattle.chart_structure.specs.Marks.{has_mark, IsIn, greatest_count, IsWalk}
 use Rattle.chart_structure.specs.Reached.{Reached, Meets, Itself, AtJunction, size_of, ArePairs, StatePairs, PairsBelow}

@@ -12,8 +12,8 @@ use Rattle.chart_tree.specs.declared.fault.FormKind.{FormKind}
 use Rattle.chart_tree.specs.declared.fault.FormKind.TheVariants as kinds
 use Rattle.chart_tree.specs.declared.first.Found.{Found}
 use Rattle.chart_tree.specs.First.{at_place, IsOne, Passed}
-use Rattle.state_tree.specs.declared.parts.ListKind.TheVariants.{Default}
-use Rattle.state_tree.specs.Chart.{is_or}
+use Rattle.checked_chart.specs.declared.parts.ListKind.TheVariants.{Default}
+use Rattle.checked_chart.specs.Chart.{is_or}
 use Rattle.chart_structure.specs.declared.net.Arrow.{Arrow}
 use Rattle.chart_structure.specs.Net.{Net, word_of, name_of, history_of, list_of}
 use Rattle.chart_structure.specs.Structure.{StateFault, EmptyState, EmptyChart, Missing, Unwanted, UnwantedHistory}

@@ -11,12 +11,12 @@ use Rattle.active_config.specs.Tree.{Tree, IsTree, state_count, comp_of, childre
 use Rattle.active_config.specs.Tree.{is_at_or_below}
 use Rattle.active_config.proofs.PathLemmas.{above_of_below, path_le, parent_lt}
 use Rattle.chart_tree.specs.declared.first.Found.{Found}
-use Rattle.state_tree.specs.declared.limits.TheConstants.{PAIR_LIMIT}
-use Rattle.state_tree.specs.declared.parts.ListKind.{ListKind}
-use Rattle.state_tree.specs.declared.parts.ListKind.TheVariants.{Outer, Inner, Default}
-use Rattle.state_tree.specs.Homes.{common_above, or_root, home_of}
-use Rattle.state_tree.specs.Valid.{MayLead}
-use Rattle.state_tree.proofs.Walks.{below_is}
+use Rattle.checked_chart.specs.declared.limits.TheConstants.{PAIR_LIMIT}
+use Rattle.checked_chart.specs.declared.parts.ListKind.{ListKind}
+use Rattle.checked_chart.specs.declared.parts.ListKind.TheVariants.{Outer, Inner, Default}
+use Rattle.checked_chart.specs.Homes.{common_above, or_root, home_of}
+use Rattle.checked_chart.specs.Valid.{MayLead}
+use Rattle.checked_chart.proofs.Walks.{below_is}
 use Rattle.chart_structure.specs.declared.net.Arrow.{Arrow}
 use Rattle.chart_structure.specs.Net.{Net, IsNet, Has, IsDest, word_of, history_of, list_of}
 use Rattle.chart_structure.specs.Reached.{Reached, Directly, Through, Meets, Itself, AtJunction}

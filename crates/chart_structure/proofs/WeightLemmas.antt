@@ -2,7 +2,7 @@
 use Rattle.std.proofs.Common.{◌≡◌, ◌≢◌, ℕ, zero, suc, ◌+◌, ◌≤◌, ◌<◌, Bool, true, false, refl, sym, ap, subst, cond}
 use Rattle.std.proofs.Common.{arith, ⊎_elim}
 use Rattle.std.proofs.lemmas.Bool.{cases_lt}
-use Rattle.state_tree.specs.Reached.{weight}
+use Rattle.checked_chart.specs.Reached.{weight}
 
 -- sets that have the same numbers below the limit weigh the same
 pub weight_same : (p q : ℕ → Bool) (w : ℕ → ℕ) (n : ℕ) → ((i : ℕ) → i < n → q i ≡ p i) → weight q w n ≡ weight p w n

@@ -3,7 +3,7 @@ use Rattle.std.specs.Prelude.{◌||◌, ℕ, List, Bool, Option, Some, None, map
 use Rattle.std.specs.List.{range_with_len}
 use Rattle.std.specs.Option.{is_some}
 use Rattle.active_config.specs.Tree.{state_count, comp_of}
-use Rattle.state_tree.specs.Chart.{Chart, Trans, node}
+use Rattle.checked_chart.specs.Chart.{Chart, Trans, node}
 use Rattle.chart_structure.specs.declared.net.Arrow.{Arrow}
 use Rattle.chart_structure.specs.Net.{Node, JunctionNode, Net, nowhere}
 

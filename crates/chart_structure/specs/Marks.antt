@@ -1,6 +1,6 @@
 -- Marking the junctions that are reached from a list. Each list has a mark of its own, a number.
 use Rattle.std.specs.Prelude.{◌≡◌, ◌==◌, ◌+◌, ◌-◌, ◌^◌, ◌<◌, ◌≤◌, ℕ, Bool, true, List, length, min, slice_index}
-use Rattle.state_tree.specs.Reached.{weight}
+use Rattle.checked_chart.specs.Reached.{weight}
 use Rattle.chart_structure.specs.declared.net.Arrow.{Arrow}
 use Rattle.chart_structure.specs.Net.{Net, junction_count}
 use Rattle.chart_structure.specs.Reached.{Reached, LeadsTo, size_of}

@@ -1,9 +1,9 @@
 -- Which junctions are reached from a list, and how many pairs of a list and a transition there are.
 use Rattle.std.specs.Prelude.{◌≡◌, ◌+◌, ◌↔◌, ℕ, zero, suc, Bool, List, length, IsTrue, if◌then◌else◌}
 use Rattle.active_config.specs.Tree.{state_count}
-use Rattle.state_tree.specs.declared.parts.Dest.TheVariants.{Junction}
-use Rattle.state_tree.specs.declared.parts.ListKind.TheVariants.{Outer, Inner, Default}
-use Rattle.state_tree.specs.Reached.{weight}
+use Rattle.checked_chart.specs.declared.parts.Dest.TheVariants.{Junction}
+use Rattle.checked_chart.specs.declared.parts.ListKind.TheVariants.{Outer, Inner, Default}
+use Rattle.checked_chart.specs.Reached.{weight}
 use Rattle.chart_structure.specs.declared.net.Arrow.{Arrow}
 use Rattle.chart_structure.specs.Net.{Net, list_of, junction_count, junction_list, Has}
 

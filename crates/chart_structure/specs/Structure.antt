@@ -6,11 +6,11 @@ use Rattle.active_config.specs.Tree.{state_count, children_of, is_below, is_at_o
 use Rattle.chart_tree.specs.declared.fault.FormKind.TheVariants as kinds
 use Rattle.chart_tree.specs.declared.first.Found.{Found}
 use Rattle.chart_tree.specs.First.{at_place}
-use Rattle.state_tree.specs.declared.limits.TheConstants.{PAIR_LIMIT}
-use Rattle.state_tree.specs.declared.parts.Dest.TheVariants.{State}
-use Rattle.state_tree.specs.declared.parts.ListKind.{ListKind}
-use Rattle.state_tree.specs.declared.parts.ListKind.TheVariants.{Outer, Inner, Default}
-use Rattle.state_tree.specs.Homes.{home_of}
+use Rattle.checked_chart.specs.declared.limits.TheConstants.{PAIR_LIMIT}
+use Rattle.checked_chart.specs.declared.parts.Dest.TheVariants.{State}
+use Rattle.checked_chart.specs.declared.parts.ListKind.{ListKind}
+use Rattle.checked_chart.specs.declared.parts.ListKind.TheVariants.{Outer, Inner, Default}
+use Rattle.checked_chart.specs.Homes.{home_of}
 use Rattle.chart_structure.specs.declared.net.Arrow.{Arrow}
 use Rattle.chart_structure.specs.Net.{Net, Has, word_of, name_of, history_of, list_of, junction_list, junction_name}
 use Rattle.chart_structure.specs.Reached.{Reached, Meets, NetPairs}

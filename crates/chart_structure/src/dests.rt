@@ -5,7 +5,7 @@ ghost use Rattle.active_config.specs.Tree.{state_count};
 ghost use Rattle.chart_tree.specs.declared.fault.FormKind.{FormKind};
 ghost use Rattle.chart_tree.specs.declared.first.Found.{Found};
 ghost use Rattle.chart_tree.specs.First.{at_place, IsOne, Passed};
-ghost use Rattle.state_tree.specs.Chart as charts;
+ghost use Rattle.checked_chart.specs.Chart as charts;
 ghost use Rattle.chart_structure.specs.declared.net.Arrow.{Arrow};
 ghost use Rattle.chart_structure.specs.Net as spec;
 ghost use Rattle.chart_structure.specs.Reached.{Meets};
@@ -16,7 +16,7 @@ use crate::kept::with_fault;
 use crate::net::{Arrow, Net};
 use active_config::{Comp, Shape};
 use chart_tree::{FormKind, Found};
-use state_tree::{Dest, ListKind, outer_home};
+use checked_chart::{Dest, ListKind, outer_home};
 
 /// Whether a composition word is an OR.
 pub fn is_or(word: Comp) -> bool

@@ -4,7 +4,7 @@ ghost use Rattle.active_config.specs.Tree.{state_count};
 ghost use Rattle.chart_tree.specs.declared.fault.FormKind.TheVariants as kinds;
 ghost use Rattle.chart_tree.specs.declared.first.Found.{Found};
 ghost use Rattle.chart_tree.specs.First.{at_place, IsOne, Passed};
-ghost use Rattle.state_tree.specs.declared.parts.ListKind.TheVariants.{Default};
+ghost use Rattle.checked_chart.specs.declared.parts.ListKind.TheVariants.{Default};
 ghost use Rattle.chart_structure.specs.declared.net.Arrow.{Arrow};
 ghost use Rattle.chart_structure.specs.Marks.{IsIn};
 ghost use Rattle.chart_structure.specs.Net as spec;
@@ -14,7 +14,7 @@ ghost use Rattle.chart_structure.specs.Structure.{IsLast, ListFault, StructureFa
 use crate::dests::with_dests;
 use crate::net::{Arrow, Net};
 use chart_tree::{FormKind, Found, keep};
-use state_tree::ListKind;
+use checked_chart::ListKind;
 
 /// Whether a list has no transitions.
 pub fn is_empty(list: &[Arrow]) -> bool

@@ -1,6 +1,6 @@
 //! The net of a chart: its tree of states, and where its transitions lead.
 use active_config::{Comp, Shape};
-use state_tree::{Dest, ListKind};
+use checked_chart::{Dest, ListKind};
 use std::marker::Model;
 use token_grammar::Span;
 

@@ -14,8 +14,8 @@ use crate::net::Net;
 use crate::reach::reached_from;
 use crate::states::with_state;
 use chart_tree::{FormKind, Found};
-use state_tree::ListKind;
-use state_tree::limits::PAIR_LIMIT;
+use checked_chart::ListKind;
+use checked_chart::limits::PAIR_LIMIT;
 use std::alloc::{AllocError, Global};
 
 /// What the pass finds.

@@ -6,7 +6,7 @@ ghost use Rattle.chart_structure.specs.Marks.{has_mark, IsIn, IsWalk, Grows, Mar
 ghost use Rattle.chart_structure.specs.Reached.{Reached, LeadsTo};
 
 use crate::net::{Arrow, Net};
-use state_tree::Dest;
+use checked_chart::Dest;
 use std::alloc::{AllocError, Global};
 
 /// What is reached from a list.

@@ -7,7 +7,7 @@ ghost use Rattle.chart_tree.specs.declared.fault.FormKind.{FormKind};
 ghost use Rattle.chart_tree.specs.declared.fault.FormKind.TheVariants as kinds;
 ghost use Rattle.chart_tree.specs.declared.first.Found.{Found};
 ghost use Rattle.chart_tree.specs.First.{at_place, IsOne, Passed};
-ghost use Rattle.state_tree.specs.declared.parts.ListKind.TheVariants.{Default};
+ghost use Rattle.checked_chart.specs.declared.parts.ListKind.TheVariants.{Default};
 ghost use Rattle.chart_structure.specs.declared.net.Arrow.{Arrow};
 ghost use Rattle.chart_structure.specs.Net as spec;
 ghost use Rattle.chart_structure.specs.Structure.{StateFault, StructureFault};
@@ -19,7 +19,7 @@ use crate::lists::is_empty;
 use crate::net::Net;
 use active_config::Comp;
 use chart_tree::{FormKind, Found, keep};
-use state_tree::ListKind;
+use checked_chart::ListKind;
 
 /// Whether a composition word is a leaf.
 fn is_leaf(word: Comp) -> bool

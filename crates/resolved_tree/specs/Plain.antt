@@ -19,9 +19,9 @@ use Rattle.chart_tree.specs.declared.expr.BinWord.{BinWord}
 use Rattle.chart_tree.specs.declared.expr.BinWord.TheVariants as binary
 use Rattle.chart_tree.specs.declared.sort.InitText.{InitText}
 use Rattle.chart_tree.specs.declared.sort.InitText.TheVariants as inits
-use Rattle.state_tree.specs.declared.parts.Dest.{Dest}
-use Rattle.state_tree.specs.declared.parts.Dest.TheVariants as dests
-use Rattle.state_tree.specs.Chart as charts
+use Rattle.checked_chart.specs.declared.parts.Dest.{Dest}
+use Rattle.checked_chart.specs.declared.parts.Dest.TheVariants as dests
+use Rattle.checked_chart.specs.Chart as charts
 use Rattle.resolved_tree.specs.declared.resolved.Ref.{Ref}
 use Rattle.resolved_tree.specs.declared.resolved.ResolvedDest.{ResolvedDest}
 use Rattle.resolved_tree.specs.declared.resolved.ResolvedDest.TheVariants as to

@@ -8,12 +8,12 @@ use Rattle.active_config.specs.Tree.{IsTree, state_count, comp_of, children_of, 
 use Rattle.chart_tree.specs.declared.name.LitText.{LitText}
 use Rattle.chart_tree.specs.declared.sort.InitText.{InitText}
 use Rattle.chart_tree.specs.declared.sort.InitText.TheVariants as inits
-use Rattle.state_tree.specs.declared.limits.TheConstants.{STATE_LIMIT, STATE_DEPTH_LIMIT, JUNCTION_LIMIT, TRANSITION_LIMIT}
-use Rattle.state_tree.specs.declared.limits.TheConstants.{VARIABLE_LIMIT, EVENT_LIMIT, ITEM_LIMIT, STATEMENT_LIMIT, OPERATOR_LIMIT}
-use Rattle.state_tree.specs.Chart as charts
-use Rattle.state_tree.specs.Counts.{transition_count, item_count}
-use Rattle.state_tree.specs.Expressions.{operator_count}
-use Rattle.state_tree.specs.Valid.{HasNames, HasFlagMode}
+use Rattle.checked_chart.specs.declared.limits.TheConstants.{STATE_LIMIT, STATE_DEPTH_LIMIT, JUNCTION_LIMIT, TRANSITION_LIMIT}
+use Rattle.checked_chart.specs.declared.limits.TheConstants.{VARIABLE_LIMIT, EVENT_LIMIT, ITEM_LIMIT, STATEMENT_LIMIT, OPERATOR_LIMIT}
+use Rattle.checked_chart.specs.Chart as charts
+use Rattle.checked_chart.specs.Counts.{transition_count, item_count}
+use Rattle.checked_chart.specs.Expressions.{operator_count}
+use Rattle.checked_chart.specs.Valid.{HasNames, HasFlagMode}
 use Rattle.resolved_tree.specs.declared.resolved.Ref.{Ref}
 use Rattle.resolved_tree.specs.declared.resolved.ResolvedDest.{ResolvedDest}
 use Rattle.resolved_tree.specs.declared.resolved.ResolvedDest.TheVariants as to

@@ -2,7 +2,7 @@ use Rattle.std.proofs.lemmas.Result.{err_from_is_err_and}
 use Rattle.chart_tree.specs.Views.{chart_of}
 use Rattle.resolved_tree.specs.Views.{resolved_of}
 use Rattle.chart_format.proofs.Formatted.{spelled_has}
-use Rattle.chart_promises.proofs.PromiseLemmas.{is_small_text}
+use Rattle.accepted_charts.proofs.PromiseLemmas.{is_small_text}
 use Rattle.accepted_charts.proofs.AcceptLemmas.{promised, of_names, refused}
 use Rattle.accepted_charts.proofs.accept_chart.Goals as goal
 

@@ -5,7 +5,7 @@ use Rattle.actions.specs.Trees as seen
 use Rattle.resolved_tree.specs.Plain as plain
 use Rattle.resolved_tree.specs.Promise.{IsStmt}
 use Rattle.resolved_tree.specs.Views.{stmt_of, block_of}
-use Rattle.chart_nets.proofs.MapLemmas.{map_map}
+use Rattle.chart_check.proofs.MapLemmas.{map_map}
 use Rattle.chart_check.proofs.PartLemmas.{all_at}
 use Rattle.chart_check.proofs.expressions.plain_block.Goals as goal
 

@@ -6,8 +6,8 @@ use Rattle.resolved_tree.specs.Plain as plain
 use Rattle.resolved_tree.specs.Promise.{AreTrans, IsStateOf}
 use Rattle.resolved_tree.specs.Resolved.{Junction}
 use Rattle.resolved_tree.specs.Views.{state_of, junction_of, resolved_of}
-use Rattle.state_tree.specs.Views.{list_seen}
-use Rattle.chart_nets.proofs.MapLemmas.{map_map}
+use Rattle.checked_chart.specs.Views.{list_seen}
+use Rattle.chart_check.proofs.MapLemmas.{map_map}
 use Rattle.chart_check.proofs.PartLemmas.{names_with, chart_made}
 use Rattle.chart_check.proofs.parts.build.Goals as goal
 

@@ -4,7 +4,7 @@ use Rattle.resolved_tree.specs.Plain as plain
 use Rattle.resolved_tree.specs.Promise.{AreTrans}
 use Rattle.resolved_tree.specs.Resolved.{Junction}
 use Rattle.resolved_tree.specs.Views.{junction_of}
-use Rattle.chart_nets.proofs.MapLemmas.{map_map}
+use Rattle.chart_check.proofs.MapLemmas.{map_map}
 use Rattle.chart_check.proofs.PartLemmas.{all_at}
 use Rattle.chart_check.proofs.parts.plain_junctions.Goals as goal
 

@@ -2,7 +2,7 @@ use Rattle.std.proofs.Common.{◌≡◌, map, take}
 use Rattle.flow_base.specs.Lists.{items_of}
 use Rattle.resolved_tree.specs.Plain as plain
 use Rattle.resolved_tree.specs.Views.{list_of}
-use Rattle.state_tree.specs.Views.{list_seen}
+use Rattle.checked_chart.specs.Views.{list_seen}
 use Rattle.chart_check.proofs.parts.plain_junctions.Given as goal
 
 -- the lists of the junctions so far are made

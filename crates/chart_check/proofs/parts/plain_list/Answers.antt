@@ -4,7 +4,7 @@ use Rattle.flow_base.specs.Lists.{items_of}
 use Rattle.resolved_tree.specs.Plain as plain
 use Rattle.resolved_tree.specs.Promise.{IsTrans}
 use Rattle.resolved_tree.specs.Views.{trans_of, list_of}
-use Rattle.chart_nets.proofs.MapLemmas.{map_map}
+use Rattle.chart_check.proofs.MapLemmas.{map_map}
 use Rattle.chart_check.proofs.PartLemmas.{all_at}
 use Rattle.chart_check.proofs.parts.plain_list.Goals as goal
 

@@ -1,7 +1,7 @@
 use Rattle.std.proofs.Common.{◌≡◌, map, take}
 use Rattle.resolved_tree.specs.Plain as plain
 use Rattle.resolved_tree.specs.Views.{trans_of}
-use Rattle.state_tree.specs.Views.{trans_seen}
+use Rattle.checked_chart.specs.Views.{trans_seen}
 use Rattle.chart_check.proofs.parts.plain_list.Given as goal
 
 -- the transitions so far are made

@@ -3,7 +3,7 @@ use Rattle.std.proofs.lemmas.List.{take_all}
 use Rattle.resolved_tree.specs.Plain as plain
 use Rattle.resolved_tree.specs.Promise.{IsStateOf}
 use Rattle.resolved_tree.specs.Views.{state_of}
-use Rattle.chart_nets.proofs.MapLemmas.{map_map}
+use Rattle.chart_check.proofs.MapLemmas.{map_map}
 use Rattle.chart_check.proofs.PartLemmas.{all_at}
 use Rattle.chart_check.proofs.parts.plain_nodes.Goals as goal
 

@@ -1,7 +1,7 @@
 use Rattle.std.proofs.Common.{◌≡◌, map, take}
 use Rattle.resolved_tree.specs.Plain as plain
 use Rattle.resolved_tree.specs.Views.{state_of}
-use Rattle.state_tree.specs.Views.{node_seen}
+use Rattle.checked_chart.specs.Views.{node_seen}
 use Rattle.chart_check.proofs.parts.plain_nodes.Given as goal
 
 -- the states so far are made

@@ -1,5 +1,5 @@
 use Rattle.std.proofs.Common.{◌≡◌, Option, ℕ, Some, None, sym, ap, ◌∙◌}
-use Rattle.state_tree.proofs.Walks.{and_above}
+use Rattle.checked_chart.proofs.Walks.{and_above}
 use Rattle.chart_places.specs.Tables.{declared_in, declared_from}
 use Rattle.chart_places.proofs.ScopeLemmas.{nearest_next, within_below}
 use Rattle.chart_places.proofs.scopes.nearest.Goals as goal

@@ -1,6 +1,6 @@
 use Rattle.std.proofs.Common.{◌≡◌, ◌<◌, ◌∷◌, ℕ, Some}
 use Rattle.active_config.specs.Tree.{ancestors, state_count}
-use Rattle.state_tree.proofs.Walks.{and_above, behind}
+use Rattle.checked_chart.proofs.Walks.{and_above, behind}
 use Rattle.chart_places.specs.Tables.{declared_in}
 use Rattle.chart_places.proofs.scopes.nearest.Given as goal
 

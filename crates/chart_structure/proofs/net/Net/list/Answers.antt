@@ -1,5 +1,5 @@
 use Rattle.std.proofs.Common.{arith, ◌≡◌}
-use Rattle.state_tree.specs.declared.parts.ListKind.TheVariants.{Outer, Inner, Default}
+use Rattle.checked_chart.specs.declared.parts.ListKind.TheVariants.{Outer, Inner, Default}
 use Rattle.chart_structure.specs.Net.{list_of}
 use Rattle.chart_structure.proofs.NetLemmas.{node_within, list_is, list_dests}
 use Rattle.chart_structure.proofs.net.Net.list.Goals as goal

@@ -1,4 +1,0 @@
-pub mod MapLemmas
-pub mod TreeLemmas
-pub mod NetLemmas
-pub mod ChartLemmas

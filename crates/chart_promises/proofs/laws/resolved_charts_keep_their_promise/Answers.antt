@@ -1,5 +1,0 @@
-use Rattle.chart_promises.proofs.PromiseLemmas.{keeps_promise}
-use Rattle.chart_promises.proofs.laws.resolved_charts_keep_their_promise.Goals as goal
-
-pub returns : goal.returns
-returns c x r is res = keeps_promise x r is res.resolves res.faultless

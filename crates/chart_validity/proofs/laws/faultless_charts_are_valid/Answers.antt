@@ -1,5 +1,0 @@
-use Rattle.chart_validity.proofs.ChartLemmas.{chart_valid}
-use Rattle.chart_validity.proofs.laws.faultless_charts_are_valid.Goals as goal
-
-pub returns : goal.returns
-returns c = chart_valid

@@ -13,10 +13,10 @@ use Rattle.actions.specs.Runs.{Moment}
 use Rattle.actions.specs.World.{World, world_before}
 use Rattle.actions.proofs.InputLemmas.{input_value, IsInputSet-fits}
 use Rattle.actions.proofs.WorldLemmas.{world_before_fits}
-use Rattle.run_work.specs.Work.{Run}
-use Rattle.state_tree.specs.Chart.{Chart}
-use Rattle.state_tree.specs.Kept.{Kept, chart_of}
-use Rattle.state_tree.specs.Valid.{IsValid}
+use Rattle.actions.specs.Work.{Run}
+use Rattle.checked_chart.specs.Chart.{Chart}
+use Rattle.checked_chart.specs.Kept.{Kept, chart_of}
+use Rattle.checked_chart.specs.Valid.{IsValid}
 use Rattle.sos_rules.specs.Reactions as rules
 use Rattle.sos_rules.proofs.Faults.{start_faults, reaction_faults}
 use Rattle.sos_interpreter.specs.Charts.{FitsChart}

@@ -4,7 +4,7 @@ use Rattle.flow_base.specs.declared.fault.Fault.{Fault}
 use Rattle.actions.specs.declared.engine.Halt.{Halt}
 use Rattle.actions.specs.declared.engine.Halt.TheVariants as halts
 use Rattle.actions.specs.World.{World}
-use Rattle.run_work.specs.Work.{Run, Ended, Faulted}
+use Rattle.actions.specs.Work.{Run, Ended, Faulted}
 use Rattle.sos_interpreter.specs.Gives.{Does}
 use Rattle.sos_interpreter.specs.Settled.{Settled, Continues}
 use Rattle.sos_interpreter.specs.Gives.{Gives}

@@ -12,9 +12,9 @@ use Rattle.active_config.specs.Marks.{is_on, is_bare, active_child, can_mark}
 use Rattle.actions.specs.Exprs.{Expr, Stmt, Assign, Send, SendTo, Emit}
 use Rattle.actions.specs.World.{World, put_out, Life, On, Bare}
 use Rattle.actions.specs.declared.event.Event.TheVariants.{Named}
-use Rattle.run_work.specs.Changes.{set_mark}
-use Rattle.run_work.specs.Work.{Run, Ended, Faulted, then_do, give, choose, nothing, if_some, End, Done, Cut, Now}
-use Rattle.run_work.specs.Work.{deeper}
+use Rattle.actions.specs.Changes.{set_mark}
+use Rattle.actions.specs.Work.{Run, Ended, Faulted, then_do, give, choose, nothing, if_some, End, Done, Cut, Now}
+use Rattle.actions.specs.Work.{deeper}
 use Rattle.sos_interpreter.proofs.Settling.{settled_on, settling, settled_next, settled_now, settled_is, settled_then}
 use Rattle.sos_interpreter.proofs.Settling.{settled_fault, settled_true, settled_false, settled_some, settled_none}
 use Rattle.sos_interpreter.specs.Settled.{Settled}
@@ -25,11 +25,11 @@ use Rattle.sos_rules.specs.Processing.{from_child, after_outer, after_inner, go_
 use Rattle.sos_rules.specs.Rules.{upto}
 use Rattle.sos_rules.specs.Searches.{is_enabled, at_dest, visit, after_junction, assign, pay, while_alive, statement}
 use Rattle.sos_rules.specs.Searches.{receives, receiver}
-use Rattle.state_tree.specs.Chart.{Chart, Trans, node, junction}
-use Rattle.state_tree.specs.Homes.{child_toward, path_in, home_of}
-use Rattle.state_tree.specs.declared.parts.Dest.{Dest}
-use Rattle.state_tree.specs.declared.parts.Dest.TheVariants.{State, Junction}
-use Rattle.state_tree.specs.declared.parts.ListKind.TheVariants.{Outer}
+use Rattle.checked_chart.specs.Chart.{Chart, Trans, node, junction}
+use Rattle.checked_chart.specs.Homes.{child_toward, path_in, home_of}
+use Rattle.checked_chart.specs.declared.parts.Dest.{Dest}
+use Rattle.checked_chart.specs.declared.parts.Dest.TheVariants.{State, Junction}
+use Rattle.checked_chart.specs.declared.parts.ListKind.TheVariants.{Outer}
 
 module _ (c : Chart) (b : Bounds) (now : Now) where
   -- a block: its end, one statement more, a life that is over, and a fault

@@ -4,16 +4,16 @@ use Rattle.flow_base.specs.declared.bounds.Bounds.{Bounds}
 use Rattle.flow_base.specs.declared.fault.Fault.{Fault}
 use Rattle.actions.specs.Exprs.{Stmt}
 use Rattle.actions.specs.World.{World, Life}
-use Rattle.run_work.specs.Work.{Run, Ended, Faulted, then_do, Now, Done}
+use Rattle.actions.specs.Work.{Run, Ended, Faulted, then_do, Now, Done}
 use Rattle.sos_interpreter.proofs.Paths.{search_end, search_disabled, search_goes, dest_visit}
 use Rattle.sos_interpreter.proofs.Settling.{settled_now}
 use Rattle.sos_interpreter.specs.Settled.{Settled}
 use Rattle.sos_rules.specs.Parts.{Found, Fire, DeadEnd, No, Stop}
 use Rattle.sos_rules.specs.Rules.{upto}
 use Rattle.sos_rules.specs.Searches.{after_junction, is_enabled, pay}
-use Rattle.state_tree.specs.Chart.{Chart, Trans, junction}
-use Rattle.state_tree.specs.Views.{list_seen, block_seen}
-use Rattle.state_tree.specs.declared.parts.Dest.TheVariants.{Junction}
+use Rattle.checked_chart.specs.Chart.{Chart, Trans, junction}
+use Rattle.checked_chart.specs.Views.{list_seen, block_seen}
+use Rattle.checked_chart.specs.declared.parts.Dest.TheVariants.{Junction}
 use Rattle.sos_interpreter.specs.declared.searches.Place.{Place}
 
 -- what the whole search gives, where the search of the newest junction's list gives q

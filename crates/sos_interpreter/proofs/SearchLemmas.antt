@@ -7,7 +7,7 @@ use Rattle.flow_base.specs.declared.fault.Fault.{Fault}
 use Rattle.actions.specs.declared.expr.Stmt.{Stmt}
 use Rattle.actions.specs.Exprs as exprs
 use Rattle.actions.specs.World.{World, Life}
-use Rattle.run_work.specs.Work.{Run, Ended, Faulted, Now}
+use Rattle.actions.specs.Work.{Run, Ended, Faulted, Now}
 use Rattle.sos_interpreter.proofs.Halts.{ended_as}
 use Rattle.sos_interpreter.proofs.Paths.{search_guard_fault, search_block_fault, search_stop, search_goes, dest_state}
 use Rattle.sos_interpreter.proofs.Paths.{dest_fault, dest_dead_end}
@@ -23,12 +23,12 @@ use Rattle.sos_rules.specs.Finds.{AreActions}
 use Rattle.sos_rules.specs.Parts.{Found, Fire, DeadEnd, No, Stop}
 use Rattle.sos_rules.specs.Rules.{upto}
 use Rattle.sos_rules.specs.Searches.{is_enabled, pay, at_dest}
-use Rattle.state_tree.specs.Chart as charts
-use Rattle.state_tree.specs.Valid.{AreStmts}
-use Rattle.state_tree.specs.Views.{block_seen, list_seen, trans_seen}
-use Rattle.state_tree.specs.declared.parts.Dest.{Dest}
-use Rattle.state_tree.specs.declared.parts.Dest.TheVariants.{State, Junction}
-use Rattle.state_tree.specs.declared.parts.Trans.{Trans}
+use Rattle.checked_chart.specs.Chart as charts
+use Rattle.checked_chart.specs.Valid.{AreStmts}
+use Rattle.checked_chart.specs.Views.{block_seen, list_seen, trans_seen}
+use Rattle.checked_chart.specs.declared.parts.Dest.{Dest}
+use Rattle.checked_chart.specs.declared.parts.Dest.TheVariants.{State, Junction}
+use Rattle.checked_chart.specs.declared.parts.Trans.{Trans}
 
 -- what is asked of every element holds of an empty list
 pub of_none : {A : Type 0} (P : A → Type 0) {all : List A} → all ≡ [] → AllByRecursion P all

@@ -3,7 +3,7 @@ use Rattle.flow_base.specs.declared.fault.Fault.{Fault}
 use Rattle.std.proofs.Common.{◌≡◌, ℕ, zero, suc, ◌≤◌, max, Option, Some, None, Bool, true, false, refl, ap, ◌∙◌, subst}
 use Rattle.std.proofs.Common.{arith}
 use Rattle.actions.specs.World.{World}
-use Rattle.run_work.specs.Work.{Run, Ended, Faulted, Work, then_do, choose, if_some}
+use Rattle.actions.specs.Work.{Run, Ended, Faulted, Work, then_do, choose, if_some}
 use Rattle.sos_interpreter.specs.Settled.{Settled, settled}
 
 -- an outcome that needs no height

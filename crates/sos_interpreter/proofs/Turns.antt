@@ -13,9 +13,9 @@ use Rattle.actions.specs.declared.expr.Stmt.{Stmt}
 use Rattle.actions.specs.Exprs as exprs
 use Rattle.actions.specs.Trees.{stmt_of}
 use Rattle.actions.specs.World.{World, Life, Bare}
-use Rattle.state_tree.specs.Chart as rules
-use Rattle.state_tree.specs.Homes.{path_in}
-use Rattle.run_work.specs.Work.{Run, Ended, Faulted, End, Done, Cut, Now}
+use Rattle.checked_chart.specs.Chart as rules
+use Rattle.checked_chart.specs.Homes.{path_in}
+use Rattle.actions.specs.Work.{Run, Ended, Faulted, End, Done, Cut, Now}
 use Rattle.sos_interpreter.proofs.Halts.{continues_same}
 use Rattle.sos_interpreter.proofs.Paths.{enter_each_end, enter_each_more, enter_each_fault, each_end, each_off}
 use Rattle.sos_interpreter.proofs.Paths.{each_stay, each_fault, each_out, play_end, play_skip, play_pay_fault}
@@ -25,8 +25,8 @@ use Rattle.sos_interpreter.specs.Settled.{Settled, Continues}
 use Rattle.sos_rules.specs.Parts.{Went, Stay, Out}
 use Rattle.sos_rules.specs.Rules.{upto}
 use Rattle.sos_rules.specs.Searches.{statement, pay}
-use Rattle.state_tree.proofs.Walks.{Stands, from_none, from_some, back_none, back_some}
-use Rattle.state_tree.specs.Views.{block_seen}
+use Rattle.checked_chart.proofs.Walks.{Stands, from_none, from_some, back_none, back_some}
+use Rattle.checked_chart.specs.Views.{block_seen}
 
 -- what is left of a list begins with the item at hand
 pub drop_more : {A B : Type 0} (f : A → B) (xs : List A) (i : ℕ) (x : A) → i < length xs → x ≡ get_or xs i x

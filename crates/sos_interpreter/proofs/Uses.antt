@@ -6,14 +6,14 @@ use Rattle.flow_base.specs.declared.fault.Fault.{Fault}
 use Rattle.active_config.specs.Tree.{IsTree}
 use Rattle.actions.specs.Exprs.{Stmt}
 use Rattle.actions.specs.World.{World, Life}
-use Rattle.run_work.specs.Changes.{paid_in, set_mark, keep_in}
-use Rattle.run_work.specs.Work.{Run, Ended, End, Now, change_or_fault}
+use Rattle.actions.specs.Changes.{paid_in, set_mark, keep_in}
+use Rattle.actions.specs.Work.{Run, Ended, End, Now, change_or_fault}
 use Rattle.sos_rules.proofs.Keeps.{Finishes, ended, faulted, unfinished, Closed, upto_keep}
 use Rattle.sos_rules.proofs.Settles.{paid_ok, assigned_used}
 use Rattle.sos_interpreter.specs.Settled.{Settled, settled}
 use Rattle.sos_rules.specs.Rules.{upto}
 use Rattle.sos_rules.specs.Searches.{pay}
-use Rattle.state_tree.specs.Chart.{Chart, is_remembered}
+use Rattle.checked_chart.specs.Chart.{Chart, is_remembered}
 use Rattle.sos_rules.specs.Moves.{keep_if, entered_in}
 
 -- keeping what is remembered costs nothing

@@ -13,13 +13,13 @@ use Rattle.active_config.specs.declared.comp.Comp.TheVariants.{Or}
 use Rattle.active_config.specs.Marks.{is_last, last_of}
 use Rattle.std.specs.Prelude.{Option, IfSome}
 use Rattle.active_config.specs.Tree.{IsTree, state_count}
-use Rattle.state_tree.proofs.Trees.{child_is}
+use Rattle.checked_chart.proofs.Trees.{child_is}
 use Rattle.std.specs.List.{find}
 use Rattle.std.specs.Option.{option_map_or}
 use Rattle.std.specs.Prelude.{IsSomeAnd, if◌then◌else◌}
 use Rattle.active_config.specs.Tree.{children_of}
-use Rattle.state_tree.specs.Chart.{Chart, node, is_or, has_history, is_remembered, may_return}
-use Rattle.run_work.specs.Changes.{set_mark, keep_in}
+use Rattle.checked_chart.specs.Chart.{Chart, node, is_or, has_history, is_remembered, may_return}
+use Rattle.actions.specs.Changes.{set_mark, keep_in}
 use Rattle.sos_rules.specs.Moves.{entered_in, remembered}
 use Rattle.sos_rules.proofs.MarkedStates.{remembering_parent, history_or, entered_done}
 use Rattle.actions.specs.declared.expr.Value.{Value}
@@ -29,8 +29,8 @@ use Rattle.actions.specs.Exprs.{Expr}
 use Rattle.actions.specs.Names.{Names}
 use Rattle.actions.specs.declared.names.Var.{Var}
 use Rattle.actions.specs.declared.engine.Halt.{Halt}
-use Rattle.run_work.specs.Changes.{paid_in, assigned_in, truth_of, assigned_value, with_data, truth}
-use Rattle.run_work.specs.Work.{Ended, Faulted, flag_or_fault, change_or_fault}
+use Rattle.actions.specs.Changes.{paid_in, assigned_in, truth_of, assigned_value, with_data, truth}
+use Rattle.actions.specs.Work.{Ended, Faulted, flag_or_fault, change_or_fault}
 use Rattle.sos_interpreter.specs.Gives.{Does, halted}
 use Rattle.sos_rules.specs.Searches.{pay, assign}
 use Rattle.std.specs.Prelude.{slice_get}

@@ -2,7 +2,7 @@
 use Rattle.std.specs.Prelude.{ℕ, ◌<◌}
 use Rattle.active_config.specs.Tree.{state_count}
 use Rattle.actions.specs.World.{World, Fits, Life, On, Bare}
-use Rattle.state_tree.specs.Chart.{Chart}
+use Rattle.checked_chart.specs.Chart.{Chart}
 
 -- a state of the chart
 abbrev pub IsState : Chart → ℕ → Type 0

@@ -5,8 +5,8 @@ use Rattle.flow_base.specs.declared.fault.Fault.{Fault}
 use Rattle.actions.specs.declared.event.Event.{Event}
 use Rattle.actions.specs.Engines.{Stage, Fresh, Running, Over}
 use Rattle.actions.specs.World.{World, world_before}
-use Rattle.state_tree.specs.Chart.{Chart}
-use Rattle.state_tree.specs.Kept.{Kept, chart_of}
+use Rattle.checked_chart.specs.Chart.{Chart}
+use Rattle.checked_chart.specs.Kept.{Kept, chart_of}
 use Rattle.sos_rules.specs.Reactions as rules
 use Rattle.sos_interpreter.specs.Charts.{FitsChart}
 use Rattle.sos_interpreter.specs.declared.engine.Phase.{Phase}

@@ -1,6 +1,6 @@
 -- What a piece of work gives from some height on.
 use Rattle.std.specs.Prelude.{◌≡◌, ℕ, ◌≤◌}
-use Rattle.run_work.specs.Work.{Run}
+use Rattle.actions.specs.Work.{Run}
 
 -- from some height on, m gives this outcome
 pub data Settled {A : Type 0} (m : ℕ → Run A) (r : Run A) : Type 0 where

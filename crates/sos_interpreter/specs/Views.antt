@@ -1,8 +1,8 @@
 -- The values of the code as the rules see them.
 use Rattle.std.specs.Prelude.{ℕ, ◌==◌, map, if◌then◌else◌}
 use Rattle.actions.specs.World as worlds
-use Rattle.run_work.specs.Work as work
-use Rattle.state_tree.specs.Views.{block_seen}
+use Rattle.actions.specs.Work as work
+use Rattle.checked_chart.specs.Views.{block_seen}
 use Rattle.sos_rules.specs.Parts as rules
 use Rattle.sos_interpreter.specs.declared.blocks.End.{End}
 use Rattle.sos_interpreter.specs.declared.blocks.End.TheVariants as ends

@@ -1,10 +1,10 @@
 //! What an action does: its statements in order, and the events that they send.
 ghost use Rattle.std.specs.Prelude.{◌≡◌, IfSome};
 ghost use Rattle.actions.specs.Trees.{stmt_of};
-ghost use Rattle.state_tree.specs.Kept.{chart_of};
-ghost use Rattle.state_tree.specs.Valid.{IsStmt, AreStmts};
-ghost use Rattle.state_tree.specs.Views.{block_seen};
-ghost use Rattle.run_work.specs.Work as work;
+ghost use Rattle.checked_chart.specs.Kept.{chart_of};
+ghost use Rattle.checked_chart.specs.Valid.{IsStmt, AreStmts};
+ghost use Rattle.checked_chart.specs.Views.{block_seen};
+ghost use Rattle.actions.specs.Work as work;
 ghost use Rattle.sos_rules.specs.Rules.{upto};
 ghost use Rattle.sos_rules.specs.Searches as searches;
 ghost use Rattle.sos_interpreter.specs.Charts.{IsState, IsLife, FitsChart};
@@ -14,8 +14,8 @@ ghost use Rattle.sos_interpreter.specs.Views.{life_seen, now_of, end_of};
 use crate::processing::process;
 use crate::world::{Life, LiveWorld};
 use actions::{Event, Halt, Stmt};
+use checked_chart::Chart;
 use flow_base::{Bounds, Fault};
-use state_tree::Chart;
 use std::alloc::Global;
 
 /// How a block ends.

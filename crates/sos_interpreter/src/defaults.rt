@@ -1,5 +1,5 @@
 //! Entering a child of an OR by default.
-ghost use Rattle.state_tree.specs.Kept.{chart_of};
+ghost use Rattle.checked_chart.specs.Kept.{chart_of};
 ghost use Rattle.sos_rules.specs.Moves as moves;
 ghost use Rattle.sos_rules.specs.Rules.{upto};
 ghost use Rattle.sos_interpreter.specs.Charts.{IsState, FitsChart};
@@ -12,8 +12,8 @@ use crate::firings::play;
 use crate::searches::{Found, search};
 use crate::world::{Life, LiveWorld};
 use actions::Halt;
+use checked_chart::{Chart, ListKind};
 use flow_base::Bounds;
-use state_tree::{Chart, ListKind};
 use std::alloc::Global;
 
 /// Enters a remembered child by default; where there is none, the default list decides.

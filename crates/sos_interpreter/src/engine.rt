@@ -2,8 +2,8 @@
 use crate::reactions;
 use crate::world::LiveWorld;
 use actions::{Engine, Event, Halt, Value, View};
+use checked_chart::Chart;
 use flow_base::{Bounds, Memory};
-use state_tree::Chart;
 use std::alloc::Global;
 use std::marker::Model;
 

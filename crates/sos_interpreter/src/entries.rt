@@ -1,8 +1,8 @@
 //! Entering states.
 ghost use Rattle.active_config.specs.Tree.{comp_of, children_of};
-ghost use Rattle.state_tree.specs.Homes as homes;
-ghost use Rattle.state_tree.specs.Kept.{chart_of};
-ghost use Rattle.run_work.specs.Work as work;
+ghost use Rattle.checked_chart.specs.Homes as homes;
+ghost use Rattle.checked_chart.specs.Kept.{chart_of};
+ghost use Rattle.actions.specs.Work as work;
 ghost use Rattle.sos_rules.specs.Moves as moves;
 ghost use Rattle.sos_rules.specs.Rules.{upto};
 ghost use Rattle.sos_interpreter.specs.Charts.{IsState, FitsChart};
@@ -14,8 +14,8 @@ use crate::defaults::defaults;
 use crate::world::{Life, LiveWorld};
 use actions::Halt;
 use active_config::Comp;
+use checked_chart::{BlockKind, Chart};
 use flow_base::Bounds;
-use state_tree::{BlockKind, Chart};
 use std::alloc::Global;
 
 /// Enters a state, on the path to d.

@@ -1,7 +1,7 @@
 //! Leaving states.
 ghost use Rattle.std.specs.Prelude.{reverse};
 ghost use Rattle.active_config.specs.Tree.{comp_of, children_of};
-ghost use Rattle.state_tree.specs.Kept.{chart_of};
+ghost use Rattle.checked_chart.specs.Kept.{chart_of};
 ghost use Rattle.sos_rules.specs.Moves as moves;
 ghost use Rattle.sos_rules.specs.Rules.{upto};
 ghost use Rattle.sos_interpreter.specs.Charts.{IsState, FitsChart};
@@ -12,8 +12,8 @@ use crate::blocks::{End, Now, run_block};
 use crate::world::{Life, LiveWorld};
 use actions::Halt;
 use active_config::Comp;
+use checked_chart::{BlockKind, Chart};
 use flow_base::Bounds;
-use state_tree::{BlockKind, Chart};
 use std::alloc::Global;
 
 /// Leaves a state, its children first.

@@ -1,7 +1,7 @@
 //! What a firing does: its actions run, and it is taken.
 ghost use Rattle.std.specs.Prelude.{map};
-ghost use Rattle.state_tree.specs.Kept.{chart_of};
-ghost use Rattle.state_tree.specs.Views.{block_seen};
+ghost use Rattle.checked_chart.specs.Kept.{chart_of};
+ghost use Rattle.checked_chart.specs.Views.{block_seen};
 ghost use Rattle.sos_rules.specs.Finds.{AreActions};
 ghost use Rattle.sos_rules.specs.Rules.{upto};
 ghost use Rattle.sos_interpreter.specs.Charts.{IsState, FitsChart};
@@ -13,8 +13,8 @@ use crate::entries::enter_toward;
 use crate::exits::exit_active;
 use crate::world::{Life, LiveWorld};
 use actions::{Halt, Stmt};
+use checked_chart::Chart;
 use flow_base::Bounds;
-use state_tree::Chart;
 use std::alloc::Global;
 
 /// Runs the actions of a firing; each that isn't empty costs a step.

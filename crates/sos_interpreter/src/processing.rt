@@ -1,7 +1,7 @@
 //! Processing an active state.
 ghost use Rattle.std.specs.Prelude.{◌≡◌};
 ghost use Rattle.active_config.specs.Tree.{comp_of, children_of};
-ghost use Rattle.state_tree.specs.Kept.{chart_of};
+ghost use Rattle.checked_chart.specs.Kept.{chart_of};
 ghost use Rattle.sos_rules.specs.Processing as processing;
 ghost use Rattle.sos_rules.specs.Rules.{upto};
 ghost use Rattle.sos_interpreter.specs.Charts.{IsState, FitsChart};
@@ -14,8 +14,8 @@ use crate::searches::{Found, search};
 use crate::world::{Life, LiveWorld};
 use actions::Halt;
 use active_config::Comp;
+use checked_chart::{BlockKind, Chart, ListKind};
 use flow_base::Bounds;
-use state_tree::{BlockKind, Chart, ListKind};
 use std::alloc::Global;
 
 /// How processing ends.

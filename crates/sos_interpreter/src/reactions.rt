@@ -1,7 +1,7 @@
 //! What a chart does at its start and at each event.
 ghost use Rattle.std.specs.Prelude.{◌≡◌};
 ghost use Rattle.actions.specs.Engines.{AnswersBy, fault_of, IsFaultOf};
-ghost use Rattle.state_tree.specs.Kept.{chart_of};
+ghost use Rattle.checked_chart.specs.Kept.{chart_of};
 ghost use Rattle.sos_interpreter.specs.Charts.{FitsChart};
 ghost use Rattle.sos_interpreter.specs.Engine.{first_world, Starts, Reacts};
 
@@ -10,8 +10,8 @@ use crate::entries::enter;
 use crate::processing::process;
 use crate::world::LiveWorld;
 use actions::{Event, Halt};
+use checked_chart::Chart;
 use flow_base::Bounds;
-use state_tree::Chart;
 use std::alloc::Global;
 
 /// Enters the root.

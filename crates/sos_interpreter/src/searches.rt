@@ -1,9 +1,9 @@
 //! The search of a list of transitions, and what it finds.
 ghost use Rattle.std.specs.Prelude.{◌≡◌, ◌≢◌, Err, ◌++◌, ◌∷◌, [], map, IfOk, IfErr, OnOk};
 ghost use Rattle.actions.specs.declared.engine.Halt.TheVariants as halts;
-ghost use Rattle.state_tree.specs.Kept.{chart_of};
-ghost use Rattle.state_tree.specs.Valid.{IsTrans, AreTrans};
-ghost use Rattle.state_tree.specs.Views.{block_seen, list_seen, trans_seen};
+ghost use Rattle.checked_chart.specs.Kept.{chart_of};
+ghost use Rattle.checked_chart.specs.Valid.{IsTrans, AreTrans};
+ghost use Rattle.checked_chart.specs.Views.{block_seen, list_seen, trans_seen};
 ghost use Rattle.sos_rules.specs.Finds.{IsFound};
 ghost use Rattle.sos_rules.specs.Rules.{upto};
 ghost use Rattle.sos_rules.specs.Searches as searches;
@@ -14,8 +14,8 @@ ghost use Rattle.sos_interpreter.specs.Views.{life_seen, now_of, found_of};
 use crate::blocks::{End, Now, run_block};
 use crate::world::{Life, LiveWorld};
 use actions::{Event, Halt, Stmt};
+use checked_chart::{Chart, Dest, Trans};
 use flow_base::Bounds;
-use state_tree::{Chart, Dest, Trans};
 use std::alloc::Global;
 
 /// What a search finds.

@@ -4,20 +4,20 @@ use Rattle.std.proofs.Common.{arith}
 use Rattle.flow_base.specs.declared.bounds.Bounds.{Bounds}
 use Rattle.actions.specs.Exprs.{Stmt}
 use Rattle.actions.specs.World.{World, Life}
-use Rattle.run_work.specs.Work.{Run, Ended, Faulted, Unfinished, Work, then_do, choose, give, End, Done, Cut, Now}
+use Rattle.actions.specs.Work.{Run, Ended, Faulted, Unfinished, Work, then_do, choose, give, End, Done, Cut, Now}
 use Rattle.sos_rules.specs.Finds.{IsFind, Finds}
 use Rattle.sos_rules.specs.Parts.{Found, Fire, DeadEnd, No, Stop, Parts}
 use Rattle.sos_rules.specs.Searches.{event_fits, guard_holds, is_enabled, after_junction, visit, at_dest}
 use Rattle.sos_rules.specs.Searches.{after_condition}
 use Rattle.sos_rules.specs.Rules.{upto}
-use Rattle.state_tree.specs.Chart.{Chart, Trans, junction, list_of}
-use Rattle.state_tree.specs.Reached.{LeadsTo, Reached, Directly, Through}
-use Rattle.state_tree.specs.Valid.{IsValid, Closes}
-use Rattle.state_tree.specs.declared.parts.ListKind.TheVariants.{Default}
+use Rattle.checked_chart.specs.Chart.{Chart, Trans, junction, list_of}
+use Rattle.checked_chart.specs.Reached.{LeadsTo, Reached, Directly, Through}
+use Rattle.checked_chart.specs.Valid.{IsValid, Closes}
+use Rattle.checked_chart.specs.declared.parts.ListKind.TheVariants.{Default}
 use Rattle.active_config.specs.declared.comp.Comp.TheVariants.{Or}
 use Rattle.active_config.specs.Tree.{state_count, comp_of}
-use Rattle.state_tree.specs.declared.parts.Dest.{Dest}
-use Rattle.state_tree.specs.declared.parts.Dest.TheVariants.{State, Junction}
+use Rattle.checked_chart.specs.declared.parts.Dest.{Dest}
+use Rattle.checked_chart.specs.declared.parts.Dest.TheVariants.{State, Junction}
 
 -- a destination from which a search goes on: a state, or a junction that is good
 abbrev LeadsInto : (ℕ → Type 0) → Dest → Type 0

@@ -5,8 +5,8 @@ use Rattle.active_config.specs.declared.comp.Comp.{Comp}
 use Rattle.active_config.specs.declared.comp.Comp.TheVariants.{Leaf, Or, And}
 use Rattle.actions.specs.Exprs.{Stmt, Assign, Send, SendTo, Emit}
 use Rattle.actions.specs.World.{World, Life}
-use Rattle.run_work.specs.Work.{Run, Ended, Faulted, Unfinished, Work, then_do, choose, if_some, if_done, End, Done}
-use Rattle.run_work.specs.Work.{Cut, Now}
+use Rattle.actions.specs.Work.{Run, Ended, Faulted, Unfinished, Work, then_do, choose, if_some, if_done, End, Done}
+use Rattle.actions.specs.Work.{Cut, Now}
 use Rattle.sos_rules.specs.Parts.{Found, Fire, DeadEnd, No, Stop, Went, Stay, Out, Parts}
 use Rattle.sos_rules.specs.Searches.{statement, block_rule, send_rule, search_rule, after_junction, visit, at_dest}
 use Rattle.sos_rules.specs.Searches.{after_condition, play_rule}
@@ -15,9 +15,9 @@ use Rattle.sos_rules.specs.Moves.{enter_each_rule, after_default, defaults_rule,
 use Rattle.sos_rules.specs.Processing.{process_children, after_inner, go_on_inside, after_outer, process_rule}
 use Rattle.sos_rules.specs.Processing.{after_region, process_each_rule}
 use Rattle.sos_rules.specs.Rules.{rules, upto}
-use Rattle.state_tree.specs.Chart.{Chart, Trans}
-use Rattle.state_tree.specs.declared.parts.Dest.{Dest}
-use Rattle.state_tree.specs.declared.parts.Dest.TheVariants.{State, Junction}
+use Rattle.checked_chart.specs.Chart.{Chart, Trans}
+use Rattle.checked_chart.specs.declared.parts.Dest.{Dest}
+use Rattle.checked_chart.specs.declared.parts.Dest.TheVariants.{State, Junction}
 
 -- the second is the first, if the first is over
 pub data Extends {A : Type 0} : Run A → Run A → Type 0 where

@@ -26,10 +26,10 @@ use Rattle.actions.specs.Values.{Valued, with_value, number_of, quotient_value, 
 use Rattle.actions.specs.World.{World, world_before, begun, put_out, Life, On, Bare, paid}
 use Rattle.actions.specs.Runs.{Moment}
 use Rattle.active_config.specs.Marks.{Configuration}
-use Rattle.run_work.specs.Changes.{set_mark, paid_in, with_data, assigned_value, assigned_in, truth, truth_of}
-use Rattle.run_work.specs.Work.{Run, Ended, Faulted, Unfinished, Work, ◌>>=◌, ◌>>◌, give, nothing, fault, change}
-use Rattle.run_work.specs.Work.{deeper, then_do, choose, if_some, End, Done, Cut, if_done, Now, change_or_fault}
-use Rattle.run_work.specs.Work.{flag_or_fault}
+use Rattle.actions.specs.Changes.{set_mark, paid_in, with_data, assigned_value, assigned_in, truth, truth_of}
+use Rattle.actions.specs.Work.{Run, Ended, Faulted, Unfinished, Work, ◌>>=◌, ◌>>◌, give, nothing, fault, change}
+use Rattle.actions.specs.Work.{deeper, then_do, choose, if_some, End, Done, Cut, if_done, Now, change_or_fault}
+use Rattle.actions.specs.Work.{flag_or_fault}
 use Rattle.sos_rules.specs.Finds.{AreActions, IsFound}
 use Rattle.sos_rules.specs.Moves.{if_bare, exit_active, exit_children, exit_rule, exit_each_rule, enter_toward}
 use Rattle.sos_rules.specs.Moves.{enter_inside, enter_rule, enter_each_rule, after_default, defaults_rule, take_rule}
@@ -42,12 +42,12 @@ use Rattle.sos_rules.specs.Rules.{rules, upto}
 use Rattle.sos_rules.specs.Searches.{pay, assign, guard_holds, event_fits, is_enabled, receiver, receives, while_alive}
 use Rattle.sos_rules.specs.Searches.{statement, block_rule, send_rule, search_rule, after_junction, visit, at_dest}
 use Rattle.sos_rules.specs.Searches.{after_condition, play_rule}
-use Rattle.state_tree.proofs.PartsLemmas.{node_valid, junction_valid}
-use Rattle.state_tree.specs.Chart.{Chart, Trans, node, junction}
-use Rattle.state_tree.specs.Homes.{child_toward}
-use Rattle.state_tree.specs.Valid.{AreStmts, AreTrans, CanAssign, IsStmt, IsTrans, IsDest, IsValid}
-use Rattle.state_tree.specs.declared.parts.Dest.{Dest}
-use Rattle.state_tree.specs.declared.parts.Dest.TheVariants.{State, Junction}
+use Rattle.checked_chart.proofs.PartsLemmas.{node_valid, junction_valid}
+use Rattle.checked_chart.specs.Chart.{Chart, Trans, node, junction}
+use Rattle.checked_chart.specs.Homes.{child_toward}
+use Rattle.checked_chart.specs.Valid.{AreStmts, AreTrans, CanAssign, IsStmt, IsTrans, IsDest, IsValid}
+use Rattle.checked_chart.specs.declared.parts.Dest.{Dest}
+use Rattle.checked_chart.specs.declared.parts.Dest.TheVariants.{State, Junction}
 
 -- any answer will do
 abbrev pub Any : {A : Type 0} → A → Type 0

@@ -11,11 +11,11 @@ use Rattle.active_config.specs.Marks.{is_bare, active_child, can_mark, IsConsist
 use Rattle.active_config.proofs.MarksLemmas.{cleared}
 use Rattle.actions.specs.Exprs.{Expr, Stmt, Assign, Send, SendTo, Emit}
 use Rattle.actions.specs.World.{World, put_out, Life}
-use Rattle.run_work.specs.Changes.{paid_in, assigned_in, truth_of, set_mark}
-use Rattle.run_work.specs.Work.{Run, Ended, Faulted, Unfinished, Work, then_do, choose, change_or_fault, flag_or_fault}
-use Rattle.run_work.specs.Work.{if_some, if_done, End, Done, Cut, Now}
+use Rattle.actions.specs.Changes.{paid_in, assigned_in, truth_of, set_mark}
+use Rattle.actions.specs.Work.{Run, Ended, Faulted, Unfinished, Work, then_do, choose, change_or_fault, flag_or_fault}
+use Rattle.actions.specs.Work.{if_some, if_done, End, Done, Cut, Now}
 use Rattle.sos_rules.proofs.MarkedStates.{all_reverse, active_is_child, entered_consistent}
-use Rattle.run_work.proofs.ChangeLemmas.{kept, paid_keeps, assigned_keeps}
+use Rattle.actions.proofs.ChangeLemmas.{kept, paid_keeps, assigned_keeps}
 use Rattle.sos_rules.specs.Parts.{Found, Fire, DeadEnd, No, Stop, Went, Stay, Out, Parts}
 use Rattle.sos_rules.specs.Moves.{entered_in, exit_active, exit_children, if_bare, exit_rule, exit_each_rule}
 use Rattle.sos_rules.specs.Moves.{enter_toward, enter_inside, enter_rule, enter_each_rule, after_default, defaults_rule}
@@ -25,10 +25,10 @@ use Rattle.sos_rules.specs.Searches.{send_rule, search_rule, after_junction, vis
 use Rattle.sos_rules.specs.Processing.{from_child, process_children, after_inner, go_on_inside, after_outer}
 use Rattle.sos_rules.specs.Processing.{process_rule, after_region, process_each_rule}
 use Rattle.sos_rules.specs.Rules.{rules, upto}
-use Rattle.state_tree.proofs.Trees.{IsChild, all_map, children_are}
-use Rattle.state_tree.specs.Chart.{Chart, Trans}
-use Rattle.state_tree.specs.declared.parts.Dest.{Dest}
-use Rattle.state_tree.specs.declared.parts.Dest.TheVariants.{State, Junction}
+use Rattle.checked_chart.proofs.Trees.{IsChild, all_map, children_are}
+use Rattle.checked_chart.specs.Chart.{Chart, Trans}
+use Rattle.checked_chart.specs.declared.parts.Dest.{Dest}
+use Rattle.checked_chart.specs.declared.parts.Dest.TheVariants.{State, Junction}
 
 -- P holds of the world at the end, also of a fault
 pub data Finishes (P : World → Type 0) {A : Type 0} : Run A → Type 0 where

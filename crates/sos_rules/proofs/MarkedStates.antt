@@ -16,9 +16,9 @@ use Rattle.active_config.proofs.MarksLemmas as MarksLemmas
 use Rattle.active_config.proofs.MarksLemmas.{marked, is_on-with_mark_same, is_on-with_mark_other, can_mark_off}
 use Rattle.active_config.proofs.MarksLemmas.{is_on-with_last, is_bare-with_last}
 use Rattle.actions.specs.World.{World}
-use Rattle.run_work.specs.Changes.{set_mark, keep_in}
-use Rattle.state_tree.specs.Chart.{Chart, has_history, is_remembered, may_return, node, is_or}
-use Rattle.state_tree.proofs.Trees.{IsChild, parent_below, children_are, all_map, find_all}
+use Rattle.actions.specs.Changes.{set_mark, keep_in}
+use Rattle.checked_chart.specs.Chart.{Chart, has_history, is_remembered, may_return, node, is_or}
+use Rattle.checked_chart.proofs.Trees.{IsChild, parent_below, children_are, all_map, find_all}
 use Rattle.sos_rules.specs.Moves.{keep_if, entered_in}
 
 -- what all items of two lists have, all items of both together have

@@ -16,15 +16,15 @@ use Rattle.active_config.proofs.MarksLemmas.{on_after_mark, on_after_clear, alon
 use Rattle.active_config.proofs.MarksLemmas.{last_of-with_mark, last_of-with_last_same, last_of-with_last_other}
 use Rattle.active_config.proofs.MarksLemmas.{is_on-with_last, marked, cleared}
 use Rattle.actions.specs.World.{World}
-use Rattle.run_work.specs.Changes.{set_mark, keep_in}
+use Rattle.actions.specs.Changes.{set_mark, keep_in}
 use Rattle.sos_rules.proofs.Keeps.{Closed}
 use Rattle.sos_rules.proofs.MarkedStates.{on_is_state, history_or, remembering_parent, is_remembered_by}
 use Rattle.sos_rules.proofs.MarkedStates.{entered_consistent}
-use Rattle.run_work.proofs.ChangeLemmas.{kept, paid_keeps, assigned_keeps}
+use Rattle.actions.proofs.ChangeLemmas.{kept, paid_keeps, assigned_keeps}
 use Rattle.sos_rules.specs.Memory.{Remembers}
 use Rattle.sos_rules.specs.Moves.{keep_if, entered_in, remembered}
-use Rattle.state_tree.proofs.Trees.{IsChild, children_are, find_all, parent_below}
-use Rattle.state_tree.specs.Chart.{Chart, has_history, is_remembered, may_return}
+use Rattle.checked_chart.proofs.Trees.{IsChild, children_are, find_all, parent_below}
+use Rattle.checked_chart.specs.Chart.{Chart, has_history, is_remembered, may_return}
 
 -- ---- the rules keep it
 

@@ -9,9 +9,9 @@ use Rattle.actions.specs.declared.event.Event.{Event}
 use Rattle.actions.specs.declared.event.Event.TheVariants.{Start}
 use Rattle.actions.specs.Runs.{Moment}
 use Rattle.actions.specs.World.{World, world_before, begun, Bare}
-use Rattle.run_work.specs.Work.{Run, Now, nothing}
-use Rattle.run_work.proofs.ChangeLemmas.{kept, paid_keeps, assigned_keeps}
-use Rattle.state_tree.specs.Chart.{Chart, node}
+use Rattle.actions.specs.Work.{Run, Now, nothing}
+use Rattle.actions.proofs.ChangeLemmas.{kept, paid_keeps, assigned_keeps}
+use Rattle.checked_chart.specs.Chart.{Chart, node}
 use Rattle.sos_rules.specs.Memory.{Remembers}
 use Rattle.sos_rules.specs.Moves.{entered_in, enter_rule, enter_inside}
 use Rattle.sos_rules.specs.Parts.{Parts}

@@ -6,9 +6,9 @@ use Rattle.std.specs.List.{AllByRecursion}
 use Rattle.std.proofs.lemmas.Bool.Decides.{nat_tests}
 use Rattle.actions.specs.Data.{Datum, assigned}
 use Rattle.actions.specs.Values.{Valued, value_of}
-use Rattle.run_work.specs.Changes.{with_data, assigned_value, paid_in, assigned_in, truth_of, set_mark, keep_in}
-use Rattle.run_work.specs.Work.{Run, Ended, Faulted, Work, ◌>>=◌, then_do, give, fault, choose, change_or_fault}
-use Rattle.run_work.specs.Work.{flag_or_fault, if_some, if_done, End, Done, Cut, Now, deeper}
+use Rattle.actions.specs.Changes.{with_data, assigned_value, paid_in, assigned_in, truth_of, set_mark, keep_in}
+use Rattle.actions.specs.Work.{Run, Ended, Faulted, Work, ◌>>=◌, then_do, give, fault, choose, change_or_fault}
+use Rattle.actions.specs.Work.{flag_or_fault, if_some, if_done, End, Done, Cut, Now, deeper}
 use Rattle.sos_rules.proofs.MarkedStates.{active_is_child, returns_to_child, all_reverse}
 use Rattle.sos_rules.specs.Parts.{Found, Fire, DeadEnd, No, Stop, Went, Stay, Out}
 use Rattle.sos_rules.specs.Moves.{keep_if, entered_in, exit_active, exit_children, enter_toward, enter_inside}
@@ -18,11 +18,11 @@ use Rattle.sos_rules.specs.Searches.{visit, at_dest, after_condition}
 use Rattle.sos_rules.specs.Processing.{from_child, process_children, after_inner, go_on_inside, after_outer}
 use Rattle.sos_rules.specs.Processing.{after_region}
 use Rattle.sos_rules.specs.Rules.{upto}
-use Rattle.state_tree.proofs.Trees.{IsChild, children_are, toward_is_child, all_map}
-use Rattle.state_tree.specs.Chart.{Chart, Trans, is_remembered, junction}
-use Rattle.state_tree.specs.Homes.{child_toward}
-use Rattle.state_tree.specs.declared.parts.Dest.{Dest}
-use Rattle.state_tree.specs.declared.parts.Dest.TheVariants.{State, Junction}
+use Rattle.checked_chart.proofs.Trees.{IsChild, children_are, toward_is_child, all_map}
+use Rattle.checked_chart.specs.Chart.{Chart, Trans, is_remembered, junction}
+use Rattle.checked_chart.specs.Homes.{child_toward}
+use Rattle.checked_chart.specs.declared.parts.Dest.{Dest}
+use Rattle.checked_chart.specs.declared.parts.Dest.TheVariants.{State, Junction}
 use Rattle.flow_base.specs.declared.bounds.Bounds.{Bounds}
 use Rattle.flow_base.specs.declared.fault.Fault.{Fault}
 use Rattle.flow_base.specs.declared.fault.Fault.TheVariants as faults_of

@@ -3,9 +3,9 @@ use Rattle.std.specs.Prelude.{◌<◌, List}
 use Rattle.std.specs.List.{AllByRecursion}
 use Rattle.active_config.specs.Tree.{state_count}
 use Rattle.actions.specs.Exprs.{Stmt}
-use Rattle.state_tree.specs.Chart.{Chart}
-use Rattle.state_tree.specs.Valid.{AreStmts}
-use Rattle.run_work.specs.Work.{Run, Ended, Faulted, Unfinished}
+use Rattle.checked_chart.specs.Chart.{Chart}
+use Rattle.checked_chart.specs.Valid.{AreStmts}
+use Rattle.actions.specs.Work.{Run, Ended, Faulted, Unfinished}
 use Rattle.sos_rules.specs.Parts.{Found, Fire, DeadEnd, No, Stop}
 
 -- a destination was found, or the search was stopped by an early return

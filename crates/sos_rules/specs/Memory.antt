@@ -2,7 +2,7 @@
 use Rattle.std.specs.Prelude.{◌≡◌, ℕ, Some, true}
 use Rattle.active_config.specs.Tree.{parent_of}
 use Rattle.active_config.specs.Marks.{Configuration, is_on, last_of, IsConsistent}
-use Rattle.state_tree.specs.Chart.{Chart, has_history}
+use Rattle.checked_chart.specs.Chart.{Chart, has_history}
 
 -- an OR with history remembers its active child, and no other state remembers anything
 pub record Remembers (c : Chart) (marks : Configuration) : Type 0 where

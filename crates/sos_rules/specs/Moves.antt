@@ -7,10 +7,10 @@ use Rattle.active_config.specs.Marks.{is_on, is_bare, active_child, can_mark, is
 use Rattle.active_config.specs.Tree.{Tree, comp_of, children_of}
 use Rattle.actions.specs.Exprs.{Stmt}
 use Rattle.actions.specs.World.{World, Bare}
-use Rattle.run_work.specs.Changes.{set_mark, keep_in}
-use Rattle.run_work.specs.Work.{Work, ◌>>=◌, ◌>>◌, nothing, test, look, change, choose, if_some, if_done, Now}
-use Rattle.state_tree.specs.Chart.{Chart, node, is_remembered, may_return}
-use Rattle.state_tree.specs.Homes.{child_toward, path_in}
+use Rattle.actions.specs.Changes.{set_mark, keep_in}
+use Rattle.actions.specs.Work.{Work, ◌>>=◌, ◌>>◌, nothing, test, look, change, choose, if_some, if_done, Now}
+use Rattle.checked_chart.specs.Chart.{Chart, node, is_remembered, may_return}
+use Rattle.checked_chart.specs.Homes.{child_toward, path_in}
 use Rattle.sos_rules.specs.Parts.{Found, Fire, DeadEnd, No, Stop, Parts}
 
 -- a parent with history remembers the state

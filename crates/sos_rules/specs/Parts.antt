@@ -2,8 +2,8 @@
 use Rattle.std.specs.Prelude.{ℕ, List, Option}
 use Rattle.actions.specs.Exprs.{Stmt}
 use Rattle.actions.specs.World.{Life}
-use Rattle.run_work.specs.Work.{Unfinished, Work, End, Now}
-use Rattle.state_tree.specs.Chart.{Trans}
+use Rattle.actions.specs.Work.{Unfinished, Work, End, Now}
+use Rattle.checked_chart.specs.Chart.{Trans}
 
 -- what a search of a list finds. Fire: a firing, that is, a path of transitions to a destination, with its transition
 -- actions; DeadEnd: an empty junction; No: nothing; Stop: it was stopped by an early return

@@ -5,10 +5,10 @@ use Rattle.active_config.specs.declared.comp.Comp.TheVariants.{Leaf, Or, And}
 use Rattle.active_config.specs.Marks.{is_on, active_child}
 use Rattle.active_config.specs.Tree.{comp_of, children_of}
 use Rattle.actions.specs.World.{On}
-use Rattle.run_work.specs.Work.{Work, ◌>>=◌, ◌>>◌, give, test, look, choose, if_some, if_done, Now}
-use Rattle.state_tree.specs.declared.parts.ListKind.TheVariants.{Outer}
-use Rattle.state_tree.specs.Chart.{Chart, node}
-use Rattle.state_tree.specs.Homes.{home_of}
+use Rattle.actions.specs.Work.{Work, ◌>>=◌, ◌>>◌, give, test, look, choose, if_some, if_done, Now}
+use Rattle.checked_chart.specs.declared.parts.ListKind.TheVariants.{Outer}
+use Rattle.checked_chart.specs.Chart.{Chart, node}
+use Rattle.checked_chart.specs.Homes.{home_of}
 use Rattle.sos_rules.specs.Parts.{Found, Fire, DeadEnd, No, Stop, Went, Stay, Out, Parts}
 
 -- an answer of a child of an OR: a firing whose home is the OR ends at the OR, and any other is passed on

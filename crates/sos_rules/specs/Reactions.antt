@@ -6,9 +6,9 @@ use Rattle.actions.specs.declared.event.Event.{Event}
 use Rattle.actions.specs.declared.event.Event.TheVariants.{Start}
 use Rattle.actions.specs.Runs.{Moment, EventWithInputs, StartRelation, ReactionRelation, Runs}
 use Rattle.actions.specs.World.{World, world_before, begun}
-use Rattle.run_work.specs.Work.{Run, Ended, Faulted, Unfinished}
-pub use Rattle.run_work.specs.Work.{from_outside}
-use Rattle.state_tree.specs.Chart.{Chart}
+use Rattle.actions.specs.Work.{Run, Ended, Faulted, Unfinished}
+pub use Rattle.actions.specs.Work.{from_outside}
+use Rattle.checked_chart.specs.Chart.{Chart}
 use Rattle.sos_rules.specs.Parts.{Went}
 use Rattle.sos_rules.specs.Rules.{upto}
 

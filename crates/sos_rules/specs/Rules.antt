@@ -1,7 +1,7 @@
 -- The rules of a run, closed by one recursion: what derivations of at most some height give.
 use Rattle.std.specs.Prelude.{ℕ, zero, suc}
 use Rattle.flow_base.specs.declared.bounds.Bounds.{Bounds}
-use Rattle.state_tree.specs.Chart.{Chart}
+use Rattle.checked_chart.specs.Chart.{Chart}
 use Rattle.sos_rules.specs.Moves.{exit_rule, exit_each_rule, enter_rule, enter_each_rule, defaults_rule, take_rule}
 use Rattle.sos_rules.specs.Parts.{Parts, no_parts}
 use Rattle.sos_rules.specs.Processing.{process_rule, process_each_rule}

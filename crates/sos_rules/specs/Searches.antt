@@ -7,12 +7,12 @@ use Rattle.active_config.specs.Tree.{Tree}
 use Rattle.actions.specs.declared.event.Event.{Event}
 use Rattle.actions.specs.Exprs.{Expr, Stmt, Assign, Send, SendTo, Emit}
 use Rattle.actions.specs.World.{World, put_out, Life, Bare, lives}
-use Rattle.run_work.specs.Changes.{paid_in, assigned_in, truth_of}
-use Rattle.run_work.specs.Work.{Work, ◌>>=◌, ◌>>◌, give, nothing, fault, test, change, change_or_fault, flag_or_fault}
-use Rattle.run_work.specs.Work.{choose, End, Done, Cut, if_done, Now, is_event, deeper}
-use Rattle.state_tree.specs.declared.parts.Dest.{Dest}
-use Rattle.state_tree.specs.declared.parts.Dest.TheVariants.{State, Junction}
-use Rattle.state_tree.specs.Chart.{Chart, Trans, junction}
+use Rattle.actions.specs.Changes.{paid_in, assigned_in, truth_of}
+use Rattle.actions.specs.Work.{Work, ◌>>=◌, ◌>>◌, give, nothing, fault, test, change, change_or_fault, flag_or_fault}
+use Rattle.actions.specs.Work.{choose, End, Done, Cut, if_done, Now, is_event, deeper}
+use Rattle.checked_chart.specs.declared.parts.Dest.{Dest}
+use Rattle.checked_chart.specs.declared.parts.Dest.TheVariants.{State, Junction}
+use Rattle.checked_chart.specs.Chart.{Chart, Trans, junction}
 use Rattle.sos_rules.specs.Parts.{Found, Fire, DeadEnd, No, Stop, Parts}
 
 -- ---- actions

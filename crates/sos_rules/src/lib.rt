@@ -1,6 +1,6 @@
 //! The operational rules of a run: what a chart does at its start and at each event.
 //!
-//! The rules are definitions over the chart of `state_tree` and the world of `actions`. Read them
+//! The rules are definitions over the chart of `checked_chart` and the world of `actions`. Read them
 //! in this order: `specs/Parts.antt`, the pieces of work that there are; `specs/Searches.antt`,
 //! actions, sends and the search of a list; `specs/Moves.antt`, leaving and entering states and
 //! taking a firing; `specs/Processing.antt`, what an active state does; `specs/Rules.antt`, how a

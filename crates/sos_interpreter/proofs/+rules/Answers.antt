@@ -4,7 +4,7 @@ use Rattle.std.specs.Prelude.{nat_le, ◌==◌}
 use Rattle.std.proofs.lemmas.Bool.Decides.{nat_tests}
 use Rattle.active_config.specs.Marks.{is_on, is_bare, can_mark}
 use Rattle.actions.specs.Trees.{stmt_of}
-use Rattle.run_work.specs.Work.{Ended, Done, nothing, if_some}
+use Rattle.actions.specs.Work.{Ended, Done, nothing, if_some}
 use Rattle.sos_interpreter.proofs.Halts.{failed_through, failed_does, nothing_of, passed, ended_as, settled_at}
 use Rattle.sos_interpreter.proofs.Measure.{visit_falls}
 use Rattle.sos_interpreter.proofs.Paths.{enter_no, enter_fault, enter_cut, enter_done, inside_leaf, inside_or}
@@ -36,11 +36,11 @@ use Rattle.sos_interpreter.specs.Settled.{Settled}
 use Rattle.sos_interpreter.specs.Views.{now_of, end_of, went_of, found_of}
 use Rattle.sos_rules.specs.Rules.{upto}
 use Rattle.sos_rules.specs.Searches.{receiver, receives}
-use Rattle.state_tree.proofs.Walks.{stands_first, stands_next, stands_last, stands_prev, ahead_falls}
-use Rattle.state_tree.specs.Homes.{child_toward}
-use Rattle.state_tree.specs.Kept.{chart_of}
-use Rattle.state_tree.specs.Valid.{AreTrans, AreStmts, IsStmt, IsDest}
-use Rattle.state_tree.specs.Views.{block_seen, list_seen, trans_seen}
+use Rattle.checked_chart.proofs.Walks.{stands_first, stands_next, stands_last, stands_prev, ahead_falls}
+use Rattle.checked_chart.specs.Homes.{child_toward}
+use Rattle.checked_chart.specs.Kept.{chart_of}
+use Rattle.checked_chart.specs.Valid.{AreTrans, AreStmts, IsStmt, IsDest}
+use Rattle.checked_chart.specs.Views.{block_seen, list_seen, trans_seen}
 use Rattle.sos_interpreter.proofs.+rules.Goals as goal
 
 -- ---- blocks and sends

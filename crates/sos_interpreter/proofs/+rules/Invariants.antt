@@ -7,10 +7,10 @@ use Rattle.sos_interpreter.specs.Charts.{FitsChart}
 use Rattle.sos_interpreter.specs.Settled.{Continues}
 use Rattle.sos_interpreter.specs.Views.{life_seen, now_of}
 use Rattle.sos_rules.specs.Rules.{upto}
-use Rattle.state_tree.proofs.Walks.{Stands, ahead, behind}
-use Rattle.state_tree.specs.Kept.{chart_of}
-use Rattle.state_tree.specs.Valid.{AreTrans, AreStmts}
-use Rattle.state_tree.specs.Views.{block_seen, list_seen}
+use Rattle.checked_chart.proofs.Walks.{Stands, ahead, behind}
+use Rattle.checked_chart.specs.Kept.{chart_of}
+use Rattle.checked_chart.specs.Valid.{AreTrans, AreStmts}
+use Rattle.checked_chart.specs.Views.{block_seen, list_seen}
 use Rattle.sos_interpreter.proofs.+rules.Given as goal
 
 -- ---- measures: the depth left, and at one depth what a call stands over

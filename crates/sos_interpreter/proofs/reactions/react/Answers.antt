@@ -1,9 +1,9 @@
 use Rattle.std.proofs.Common.{ℕ, Err, refl, subst}
 use Rattle.actions.specs.World.{World}
-use Rattle.run_work.specs.Work.{Ended}
+use Rattle.actions.specs.Work.{Ended}
 use Rattle.sos_rules.specs.Reactions.{from_outside, react_upto}
 use Rattle.sos_rules.specs.Rules.{upto}
-use Rattle.state_tree.specs.Kept.{chart_of}
+use Rattle.checked_chart.specs.Kept.{chart_of}
 use Rattle.sos_interpreter.specs.Gives.{Gives}
 use Rattle.sos_interpreter.specs.Settled.{Settled}
 use Rattle.sos_interpreter.specs.Views.{went_of}

@@ -3,7 +3,7 @@ use Rattle.actions.specs.declared.event.Event.TheVariants.{Start}
 use Rattle.actions.specs.World.{World}
 use Rattle.sos_rules.specs.Reactions.{from_outside, start_upto}
 use Rattle.sos_rules.specs.Rules.{upto}
-use Rattle.state_tree.specs.Kept.{chart_of}
+use Rattle.checked_chart.specs.Kept.{chart_of}
 use Rattle.sos_interpreter.specs.Gives.{Gives}
 use Rattle.sos_interpreter.proofs.EngineLemmas.{answered_unit, started_fault}
 use Rattle.sos_interpreter.proofs.reactions.start.Goals as goal

@@ -1,6 +1,6 @@
 use Rattle.std.proofs.Common.{map, refl, ap, arith}
 use Rattle.sos_interpreter.proofs.Turns.{gathered, gathered_one}
-use Rattle.state_tree.specs.Views.{block_seen}
+use Rattle.checked_chart.specs.Views.{block_seen}
 use Rattle.sos_interpreter.proofs.searches.actions_on.Goals as goal
 
 pub loop-place-init : goal.loop-place-init

@@ -1,5 +1,5 @@
 use Rattle.std.proofs.Common.{◌≡◌, map, take}
-use Rattle.state_tree.specs.Views.{block_seen}
+use Rattle.checked_chart.specs.Views.{block_seen}
 use Rattle.sos_interpreter.proofs.searches.actions_on.Given as goal
 
 abbrev pub invariant-loop-place : goal.invariant-loop-place

@@ -1,7 +1,7 @@
 use Rattle.sos_interpreter.proofs.Worlds.{or_history, no_history}
 use Rattle.active_config.specs.declared.comp.Comp.TheVariants.{Leaf, And}
 use Rattle.std.proofs.Common.{◌∙◌, sym, refl}
-use Rattle.state_tree.specs.Kept.{chart_of}
+use Rattle.checked_chart.specs.Kept.{chart_of}
 use Rattle.sos_interpreter.proofs.world.has_history.Goals as goal
 
 pub returns-in-Or : goal.returns-in-Or

@@ -1,6 +1,6 @@
 use Rattle.sos_interpreter.proofs.Worlds.{remembered_by, remembered_none}
 use Rattle.std.proofs.Common.{◌∙◌, sym}
-use Rattle.state_tree.specs.Kept.{chart_of}
+use Rattle.checked_chart.specs.Kept.{chart_of}
 use Rattle.sos_interpreter.proofs.world.is_remembered.Goals as goal
 
 pub returns-in-None : goal.returns-in-None

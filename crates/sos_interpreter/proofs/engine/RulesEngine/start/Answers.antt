@@ -1,6 +1,6 @@
 use Rattle.std.proofs.Common.{subst}
 use Rattle.actions.specs.Engines.{fault_of, IsFaultOf}
-use Rattle.state_tree.specs.Kept.{chart_of}
+use Rattle.checked_chart.specs.Kept.{chart_of}
 use Rattle.sos_interpreter.specs.Engine.{EngineState}
 use Rattle.sos_interpreter.proofs.engine.RulesEngine.start.Goals as goal
 

@@ -6,7 +6,7 @@ use Rattle.actions.specs.Values.{value_of, HasSort}
 use Rattle.actions.specs.World.{World}
 use Rattle.sos_interpreter.proofs.Worlds.{assign_did, assign_fits, assign_no_value, declared_sort}
 use Rattle.sos_interpreter.specs.Charts.{FitsChart}
-use Rattle.state_tree.specs.Kept.{chart_of}
+use Rattle.checked_chart.specs.Kept.{chart_of}
 use Rattle.sos_interpreter.proofs.world.LiveWorld.assign.Goals as goal
 
 pub assign-requires-clause-there : goal.assign-requires-clause-there

@@ -2,7 +2,7 @@ use Rattle.std.proofs.Common.{ap, ◌∙◌, sym}
 use Rattle.active_config.specs.declared.comp.Comp.TheVariants.{Leaf, Or, And}
 use Rattle.active_config.specs.Tree.{parent_of, comp_of}
 use Rattle.sos_interpreter.proofs.Worlds.{can_on, can_root, can_below}
-use Rattle.state_tree.specs.Kept.{chart_of}
+use Rattle.checked_chart.specs.Kept.{chart_of}
 use Rattle.sos_interpreter.proofs.world.LiveWorld.can_mark.Goals as goal
 
 pub returns-then-on : goal.returns-then-on

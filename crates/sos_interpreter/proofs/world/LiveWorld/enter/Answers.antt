@@ -4,8 +4,8 @@ use Rattle.active_config.specs.declared.comp.Comp.TheVariants.{Or}
 use Rattle.active_config.specs.Marks.{Configuration, with_last}
 use Rattle.active_config.specs.Tree.{Tree, parent_of, comp_of}
 use Rattle.actions.specs.World.{World}
-use Rattle.run_work.specs.Changes.{set_mark, keep_in}
-use Rattle.state_tree.specs.Kept.{chart_of}
+use Rattle.actions.specs.Changes.{set_mark, keep_in}
+use Rattle.checked_chart.specs.Kept.{chart_of}
 use Rattle.sos_interpreter.proofs.Worlds.{remembering_or, entered_kept, entered_plain}
 use Rattle.sos_interpreter.proofs.world.LiveWorld.enter.Goals as goal
 

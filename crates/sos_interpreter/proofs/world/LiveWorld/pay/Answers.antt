@@ -1,7 +1,7 @@
 use Rattle.std.proofs.Common.{◌≡◌, ◌+◌, ap, ◌∙◌, sym, arith}
 use Rattle.std.proofs.lemmas.Bool.Decides.{nat_tests}
 use Rattle.actions.specs.World.{World}
-use Rattle.run_work.specs.Work.{Ended}
+use Rattle.actions.specs.Work.{Ended}
 use Rattle.sos_interpreter.proofs.Worlds.{pay_spent, pay_left}
 use Rattle.sos_interpreter.proofs.world.LiveWorld.pay.Goals as goal
 

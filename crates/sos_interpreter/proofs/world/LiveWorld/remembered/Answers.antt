@@ -2,7 +2,7 @@ use Rattle.std.proofs.Common.{ap, ◌∙◌, sym}
 use Rattle.active_config.specs.Marks.{last_of}
 use Rattle.active_config.specs.Tree.{Tree, comp_of}
 use Rattle.actions.specs.World.{World}
-use Rattle.state_tree.specs.Kept.{chart_of}
+use Rattle.checked_chart.specs.Kept.{chart_of}
 use Rattle.sos_rules.proofs.MarkedStates.{history_or}
 use Rattle.sos_rules.proofs.Memory.{remembered_is_last}
 use Rattle.sos_interpreter.proofs.Worlds.{remembers_none, last_is_below}

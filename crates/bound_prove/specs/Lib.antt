@@ -1,0 +1,17 @@
+pub mod Needs
+pub mod Reaches
+pub mod Cells
+pub mod Roots
+pub mod Uses
+pub mod Certs
+pub mod Searches
+pub mod Tables
+pub mod Colourings
+pub mod Lookups
+pub mod Homes
+pub mod Firings
+pub mod Processes
+pub mod Checks
+pub mod Waiting
+pub mod WorkLeft
+pub mod Finding

@@ -1,0 +1,8 @@
+use Rattle.std.proofs.Common.{refl}
+use Rattle.code_shrink.proofs.SearchLemmas.{finds_new}
+use Rattle.code_shrink.proofs.search.Search.find.Goals as goal
+
+pub returns-in-Ok : goal.returns-in-Ok
+returns-in-Ok c =
+    finds_new c.args.proc c.args.self.now _ c.requires (cc (c.index.ensures, c.if-index.false)) refl
+    c.in-Ok.ensures.items

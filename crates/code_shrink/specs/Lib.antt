@@ -1,0 +1,10 @@
+pub mod Follows
+pub mod Neat
+pub mod Smaller
+pub mod Whole
+pub mod Shrunk
+pub mod Ways
+pub mod Kept
+pub mod Numbers
+pub mod Slides
+pub mod Search

@@ -1,0 +1,25 @@
+//! Smaller code of the same meaning.
+//!
+//! The public call is `shrink`, whose one clause is `IsShrunk` of `specs/Shrunk.antt`. Read
+//! `specs/Neat.antt`, what neat code is; `specs/Smaller.antt` and `specs/Whole.antt`, how code is
+//! made smaller; and `specs/Follows.antt`, when a procedure does what another one does.
+#![tactic(auto)]
+
+mod constants;
+mod kept;
+mod laws;
+mod live;
+mod numbers;
+mod places;
+mod renamed;
+mod search;
+mod shrinking;
+mod smaller;
+mod tables;
+mod ways;
+
+pub use laws::{copies_run_as_their_code, what_is_reached_is_shrunk_code};
+pub use shrinking::shrink;
+
+/// The code, with the world below it.
+pub use code_language as form;

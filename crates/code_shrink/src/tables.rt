@@ -1,0 +1,64 @@
+//! Copies of what a code declares.
+ghost use Rattle.std.specs.Prelude.{◌≡◌, IfOk};
+ghost use Rattle.flow_base.specs.Lists.{items_of};
+
+use actions::{EventDecl, Var};
+use code_language::RawState;
+use flow_base::{List, Memory, Text};
+use std::alloc::Global;
+
+/// An equal text.
+fn copy_text(alloc: Global, text: &Text) -> Result<Text, Memory>
+    ensures { IfOk result (λ copy. copy ≡ text.now) }
+{
+    match String::from_str(alloc, text.text()) {
+        Ok(text) => Ok(Text::of(text)),
+        Err(_) => Err(Memory),
+    }
+}
+
+/// A list of equal states.
+pub(crate) fn copy_states(alloc: Global, states: &[RawState]) -> Result<List<RawState>, Memory>
+    ensures { IfOk result (λ copies. items_of copies ≡ states.now) }
+{
+    let mut copies = List::of(Vec::new(alloc));
+    for state in states {
+        copies.push(RawState {
+            parent: state.parent,
+            comp: state.comp,
+            name: copy_text(alloc, &state.name)?,
+        })?;
+    }
+    Ok(copies)
+}
+
+/// A list of equal data.
+pub(crate) fn copy_vars(alloc: Global, vars: &[Var]) -> Result<List<Var>, Memory>
+    ensures { IfOk result (λ copies. items_of copies ≡ vars.now) }
+{
+    let mut copies = List::of(Vec::new(alloc));
+    for var in vars {
+        copies.push(Var {
+            name: copy_text(alloc, &var.name)?,
+            kind: var.kind,
+            sort: var.sort,
+            mode: var.mode,
+            init: var.init,
+        })?;
+    }
+    Ok(copies)
+}
+
+/// A list of equal events.
+pub(crate) fn copy_events(alloc: Global, events: &[EventDecl]) -> Result<List<EventDecl>, Memory>
+    ensures { IfOk result (λ copies. items_of copies ≡ events.now) }
+{
+    let mut copies = List::of(Vec::new(alloc));
+    for event in events {
+        copies.push(EventDecl {
+            name: copy_text(alloc, &event.name)?,
+            kind: event.kind,
+        })?;
+    }
+    Ok(copies)
+}

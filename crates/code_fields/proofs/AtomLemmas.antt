@@ -8,7 +8,7 @@ use Rattle.std.proofs.lemmas.Bool.Decides.{nat_tests}
 use Rattle.std.proofs.lemmas.Option.{cond_some, option_and_then_some}
 use Rattle.fixed_point.specs.declared.num.Num.{Num}
 use Rattle.actions.specs.Exprs.{Expr, Lit, Flag, Read, Active}
-use Rattle.state_tree.specs.Expressions.{IsLiteral, operator_count}
+use Rattle.checked_chart.specs.Expressions.{IsLiteral, operator_count}
 use Rattle.code_fields.specs.Cuts.{Parts, parts_at}
 use Rattle.code_fields.specs.Spelling.{IsNumber, HasNumbers, flag_word, literal_word, expr_words}
 use Rattle.code_fields.specs.Fields.{kept, or_else, numeral, number_of, number_behind, behind}

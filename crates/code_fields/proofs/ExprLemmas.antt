@@ -5,8 +5,8 @@ use Rattle.std.specs.Prelude.{codes, option_map, option_and_then}
 use Rattle.std.proofs.lemmas.Option.{none-some, same_Some, option_and_then_some}
 use Rattle.actions.specs.declared.expr.Op.{Op}
 use Rattle.actions.specs.Exprs.{Expr, Lit, Flag, Read, Active, Neg, Not, Bin}
-use Rattle.state_tree.specs.declared.limits.TheConstants.{OPERATOR_LIMIT}
-use Rattle.state_tree.specs.Expressions.{operator_count}
+use Rattle.checked_chart.specs.declared.limits.TheConstants.{OPERATOR_LIMIT}
+use Rattle.checked_chart.specs.Expressions.{operator_count}
 use Rattle.code_fields.specs.declared.operators.Operator.{Operator}
 use Rattle.code_fields.specs.declared.operators.Operator.TheVariants as operators
 use Rattle.code_fields.specs.Cuts.{Field, field_of, joined}

@@ -6,7 +6,7 @@ use Rattle.fixed_point.specs.declared.num.Num.{Num}
 use Rattle.actions.specs.declared.expr.Op.{Op}
 use Rattle.actions.specs.declared.expr.Op.TheVariants as ops
 use Rattle.actions.specs.Exprs.{Expr, Lit, Flag, Read, Active, Neg, Not, Bin}
-use Rattle.state_tree.specs.declared.limits.TheConstants.{OPERATOR_LIMIT}
+use Rattle.checked_chart.specs.declared.limits.TheConstants.{OPERATOR_LIMIT}
 use Rattle.code_fields.specs.declared.operators.Operator.{Operator}
 use Rattle.code_fields.specs.declared.operators.Operator.TheVariants as operators
 use Rattle.code_fields.specs.Cuts.{Parts, parts_at, Field, field_of}

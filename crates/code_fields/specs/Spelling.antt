@@ -20,8 +20,8 @@ use Rattle.actions.specs.declared.names.Var.{Var}
 use Rattle.actions.specs.declared.names.VarKind.{VarKind}
 use Rattle.actions.specs.declared.names.VarKind.TheVariants as var_kinds
 use Rattle.actions.specs.Exprs.{Expr, Lit, Flag, Read, Active, Neg, Not, Bin}
-use Rattle.state_tree.specs.declared.limits.TheConstants.{OPERATOR_LIMIT}
-use Rattle.state_tree.specs.Expressions.{IsLiteral, operator_count}
+use Rattle.checked_chart.specs.declared.limits.TheConstants.{OPERATOR_LIMIT}
+use Rattle.checked_chart.specs.Expressions.{IsLiteral, operator_count}
 
 -- a number that a line can have
 abbrev pub IsNumber : ℕ → Type 0

@@ -3,7 +3,7 @@ use Rattle.std.proofs.Common.{◌≡◌, ℕ, ◌+◌, ◌^◌, ◌<◌, List, �
 use Rattle.std.specs.Prelude.{codes, decimal, option_map, option_and_then}
 use Rattle.std.proofs.lemmas.Option.{none-some, option_and_then_some}
 use Rattle.actions.specs.Exprs.{Expr}
-use Rattle.code_form.specs.Instrs.{Cond, On, Bare, OnHome, BareHome, Current, Result, Test, Last}
+use Rattle.code_language.specs.Instrs.{Cond, On, Bare, OnHome, BareHome, Current, Result, Test, Last}
 use Rattle.code_fields.specs.Cuts.{Parts, parts_at}
 use Rattle.code_fields.specs.Spelling.{IsNumber, IsExpr, expr_words}
 use Rattle.code_fields.specs.Fields.{number_of}

@@ -4,8 +4,8 @@ use Rattle.std.proofs.Common.{◌∙◌, subst, arith}
 use Rattle.std.specs.Prelude.{codes, decimal, option_map, option_and_then}
 use Rattle.std.proofs.lemmas.Option.{none-some, cond_some, option_and_then_some}
 use Rattle.actions.specs.Exprs.{Expr}
-use Rattle.code_form.specs.Instrs.{Cond, Instr, Assign, Emit, Mark, Clear, Keep, Unless, Skip, Call, Visit, Send, SendTo}
-use Rattle.code_form.specs.Instrs.{Play, Home, Begin, Pass, Ret}
+use Rattle.code_language.specs.Instrs.{Cond, Instr, Assign, Emit, Mark, Clear, Keep, Unless, Skip, Call, Visit, Send, SendTo}
+use Rattle.code_language.specs.Instrs.{Play, Home, Begin, Pass, Ret}
 use Rattle.code_fields.specs.Cuts.{Parts, parts_at}
 use Rattle.code_fields.specs.Spelling.{IsNumber, expr_words}
 use Rattle.code_fields.specs.Fields.{kept, number_of, word_then}

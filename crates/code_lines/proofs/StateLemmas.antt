@@ -3,7 +3,7 @@ use Rattle.std.proofs.Common.{◌≡◌, ℕ, Bool, true, false, List, ◌∷◌
 use Rattle.std.specs.Prelude.{codes, option_map, option_and_then}
 use Rattle.std.proofs.lemmas.Option.{cond_some, option_and_then_some}
 use Rattle.active_config.specs.declared.comp.Comp.{Comp}
-use Rattle.code_form.specs.declared.code.RawState.{RawState}
+use Rattle.code_language.specs.declared.code.RawState.{RawState}
 use Rattle.code_fields.specs.Spelling.{IsName, comp_word}
 use Rattle.code_fields.specs.Fields.{kept, behind, name_of, word_then, comp_of}
 use Rattle.code_fields.proofs.CutLemmas.{option_map_some, word_then-line, word_then-some}

@@ -1,5 +1,5 @@
 -- What contracts see of the values of the reader.
-use Rattle.code_form.specs.declared.code.RawState.{RawState}
+use Rattle.code_language.specs.declared.code.RawState.{RawState}
 use Rattle.code_lines.specs.declared.states.StateParts.{StateParts}
 
 -- a state with the bytes of its name

@@ -1,9 +1,9 @@
 //! The two formats of code texts.
 ghost use Rattle.std.specs.Prelude.{◌≡◌};
-ghost use Rattle.code_form.specs.Code.{instr_of, cond_of};
+ghost use Rattle.code_language.specs.Code.{instr_of, cond_of};
 ghost use Rattle.code_lines.specs.Spelling as spec;
 
-use code_form::{Cond, Instr};
+use code_language::{Cond, Instr};
 
 /// The format of a code text, which its first line names.
 #[derive(Clone, Copy, Debug, PartialEq, Eq)]

@@ -1,13 +1,13 @@
 //! The lines of instructions.
 ghost use Rattle.std.specs.Prelude.{◌≡◌, option_map, IfOk};
-ghost use Rattle.code_form.specs.Code as code;
+ghost use Rattle.code_language.specs.Code as code;
 ghost use Rattle.code_lines.specs.Fields as spec;
 
 use crate::format::{Format, is_in};
 use crate::states::note_of;
 use crate::words::{CondWord, PlainWord, Word, cond_word_of, word_of};
 use code_fields::{cut_at, expr_of, number_of};
-use code_form::{Cond, Instr};
+use code_language::{Cond, Instr};
 use std::alloc::{AllocError, Global};
 
 /// The instruction of a line, if it is one of that format.

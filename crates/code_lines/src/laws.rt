@@ -1,7 +1,7 @@
 //! What spellings promise, for all states and instructions at once.
 ghost use Rattle.std.specs.Prelude.{◌≡◌, ℕ, Bool, true, List, Some};
-ghost use Rattle.code_form.specs.declared.code.RawState.{RawState};
-ghost use Rattle.code_form.specs.Instrs.{Instr};
+ghost use Rattle.code_language.specs.declared.code.RawState.{RawState};
+ghost use Rattle.code_language.specs.Instrs.{Instr};
 ghost use Rattle.code_lines.specs.declared.format.Format.{Format};
 ghost use Rattle.code_lines.specs.Spelling.{IsState, state_line, IsInstr, instr_line};
 ghost use Rattle.code_lines.specs.Fields.{parent_stands, state_at, instr_in};

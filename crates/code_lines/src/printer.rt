@@ -1,10 +1,10 @@
 //! The lines of states and instructions, printed.
 ghost use Rattle.std.specs.Prelude.{◌≡◌, ◌++◌, ◌∷◌, [], decimal, string_bytes, OnOk};
-ghost use Rattle.code_form.specs.Code as code;
+ghost use Rattle.code_language.specs.Code as code;
 ghost use Rattle.code_lines.specs.Spelling as spec;
 
 use code_fields::{comp_word, print_expr, print_name, print_number};
-use code_form::{Cond, Instr, RawState};
+use code_language::{Cond, Instr, RawState};
 use std::alloc::AllocError;
 
 /// Appends the line of a state.

@@ -6,7 +6,7 @@ ghost use Rattle.code_lines.specs.Views as views;
 
 use active_config::Comp;
 use code_fields::{behind, comp_of, cut_at, name_of, name_text, number_of};
-use code_form::RawState;
+use code_language::RawState;
 use std::alloc::{AllocError, Global};
 
 /// A state, whose name stands in its line.

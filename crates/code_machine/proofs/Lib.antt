@@ -7,6 +7,7 @@ pub mod Jumped
 pub mod Noted
 pub mod Obeyed
 pub mod Operated
+pub mod ShortRuns
 pub mod Steps
 pub mod Tested
 pub mod TreeLemmas

@@ -1,7 +1,7 @@
 //! The engine that runs code.
 ghost use Rattle.std.specs.Prelude.{◌≡◌};
 ghost use Rattle.actions.specs.Names.{Names};
-ghost use Rattle.code_counts.specs.Moments.{IsEvent};
+ghost use Rattle.code_costs.specs.Moments.{IsEvent};
 ghost use Rattle.code_machine.specs.Engine.{halted};
 ghost use Rattle.code_machine.specs.Frames.{event_of, IsSmall};
 
@@ -10,7 +10,7 @@ use crate::making::{load, new_state};
 use crate::running::process;
 use crate::state::MachineState;
 use actions::{Engine, Event, Halt, Value, View, store};
-use code_form::Code;
+use code_language::Code;
 use flow_base::{Bounds, Fault, Memory};
 use std::alloc::Global;
 use std::marker::Model;
@@ -89,7 +89,7 @@ impl Model for Machine {
 
 impl Machine {
     ghost use Rattle.std.specs.Prelude.{IfOk};
-    ghost use Rattle.code_form.specs.Code.{code_of};
+    ghost use Rattle.code_language.specs.Code.{code_of};
     ghost use Rattle.code_machine.specs.Engine.{IsFresh};
 
     /// A machine before its start. It has all memory that its events will need.
@@ -108,8 +108,10 @@ impl Machine {
 }
 
 impl Engine for Machine {
-    ghost use Rattle.std.specs.Prelude.{◌≡◌, true};
-    ghost use Rattle.code_machine.specs.Engine.{Program, program_of, Starts, Reacts};
+    ghost use Rattle.std.specs.Prelude.{◌≡◌, ◌≢◌, true, Err};
+    ghost use Rattle.actions.specs.declared.engine.Halt.TheVariants as halts;
+    ghost use Rattle.actions.specs.Engines.{Fresh, Running, CanReactTo, AnswersBy, fault_of, IsFaultOf, stage_after};
+    ghost use Rattle.code_machine.specs.Engine.{Program, program_of, Starts, Reacts, StartsShortly, ReactsShortly};
     ghost use Rattle.code_machine.specs.EngineLaws as laws;
 
     ghost Program = { Program };
@@ -130,7 +132,16 @@ impl Engine for Machine {
 
     ghost stage = { λ r. r.stage };
 
-    fn start(&mut self) -> Result<(), Halt> {
+    /// Starts the run. It takes no memory, and at most `most_instructions` instructions of the code.
+    fn start(&mut self) -> Result<(), Halt>
+        requires fresh { self.old.stage ≡ Fresh }
+        ensures defined { AnswersBy (Starts (program_of self.old) self.new.world) result }
+        ensures short { AnswersBy (StartsShortly (program_of self.old) self.new.world) result }
+        ensures fault { IsFaultOf (program_of self.old).code.names (fault_of result) }
+        ensures program { program_of self.new ≡ program_of self.old }
+        ensures stage { self.new.stage ≡ stage_after result }
+        ensures memory { result ≢ Err halts.Memory }
+    {
         let proc = self.code.start;
         let end = halting(process(&self.code, &mut self.state, proc, 0));
         self.phase = Phase::after(&end);
@@ -141,7 +152,18 @@ impl Engine for Machine {
         store(&mut self.state.vals, datum, value);
     }
 
-    fn react(&mut self, event: Event) -> Result<(), Halt> {
+    /// Processes a tick or an input event. It takes no memory, and at most `most_instructions`
+    /// instructions of the code.
+    fn react(&mut self, event: Event) -> Result<(), Halt>
+        requires running { self.old.stage ≡ Running }
+        requires event { CanReactTo (program_of self.old).code.names event }
+        ensures defined { AnswersBy (Reacts (program_of self.old) self.old.world event self.new.world) result }
+        ensures short { AnswersBy (ReactsShortly (program_of self.old) self.old.world event self.new.world) result }
+        ensures fault { IsFaultOf (program_of self.old).code.names (fault_of result) }
+        ensures program { program_of self.new ≡ program_of self.old }
+        ensures stage { self.new.stage ≡ stage_after result }
+        ensures memory { result ≢ Err halts.Memory }
+    {
         let proc = self.code.react;
         let number = number_of(event);
         let end = halting(process(&self.code, &mut self.state, proc, number));

@@ -1,6 +1,6 @@
 //! Runs well-formed code, and takes no memory once the machine is made.
 //!
-//! `Machine` is an engine whose starts and reactions are those of `code_form`. Read
+//! `Machine` is an engine whose starts and reactions are those of `code_language`. Read
 //! `specs/Frames.antt` and `specs/States.antt` first: what the fields of the machine stand for, and
 //! what each instruction does. Then read `specs/Operations.antt`: an operation is what the loop of
 //! a run does for the instruction at a place, either what that instruction says, or at once what it

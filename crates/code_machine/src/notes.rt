@@ -14,9 +14,9 @@ ghost use Rattle.std.specs.Prelude.{
   IfSome,
 };
 ghost use Rattle.active_config.specs.Tree.{state_count};
-ghost use Rattle.run_work.specs.Changes.{paid_in};
-ghost use Rattle.code_form.specs.Instrs as instrs;
-ghost use Rattle.code_form.specs.Machine.{act, fresh, if_ok, later, machine, noted, Goes};
+ghost use Rattle.actions.specs.Changes.{paid_in};
+ghost use Rattle.code_language.specs.Instrs as instrs;
+ghost use Rattle.code_language.specs.Machine.{act, fresh, if_ok, later, machine, noted, Goes};
 ghost use Rattle.code_machine.specs.Frames.{seen, AreCalls};
 ghost use Rattle.code_machine.specs.States.{
   program_in,

@@ -1,9 +1,9 @@
 //! Sends of events.
 ghost use Rattle.std.specs.Prelude.{◌≡◌, ◌+◌, ◌-◌, ◌<◌, ◌^◌, ◌∷◌, suc, length, Some, None};
 ghost use Rattle.active_config.specs.Tree.{state_count};
-ghost use Rattle.run_work.specs.Work.{deeper};
-ghost use Rattle.code_form.specs.Instrs as instrs;
-ghost use Rattle.code_form.specs.Machine.{act, fresh, next};
+ghost use Rattle.actions.specs.Work.{deeper};
+ghost use Rattle.code_language.specs.Instrs as instrs;
+ghost use Rattle.code_language.specs.Machine.{act, fresh, next};
 ghost use Rattle.code_machine.specs.Frames.{seen};
 ghost use Rattle.code_machine.specs.States.{
   program_in,

@@ -1,6 +1,6 @@
 //! What a run changes.
 ghost use Rattle.std.specs.Prelude.{◌≡◌, ◌+◌, ◌≤◌, true};
-ghost use Rattle.run_work.specs.Changes.{paid_in};
+ghost use Rattle.actions.specs.Changes.{paid_in};
 ghost use Rattle.code_machine.specs.States.{world_of, Paid};
 
 use actions::Vals;
@@ -43,7 +43,7 @@ pub(crate) enum Move {
 }
 
 /// Pays one step, or finds that none is left.
-#[tactic(auto, unfolding(run_work::specs::Changes::paid_in))]
+#[tactic(auto, unfolding(actions::specs::Changes::paid_in))]
 #[inline(always)]
 pub(crate) fn pay(bounds: Bounds, m: &mut MachineState) -> bool
     ensures paid { Paid (paid_in bounds (world_of m.old)) result m.old m.new }

@@ -3,9 +3,9 @@ use Rattle.std.proofs.Common.{◌≡◌, ◌≢◌, ◌⊎◌, ℕ, ◌+◌, Boo
 use Rattle.std.proofs.Common.{Option, Some, None, Result, Ok, Err, inl, inr, refl}
 use Rattle.std.specs.Prelude.{◌==◌, not, codes, if◌then◌else◌}
 use Rattle.std.specs.List.{starts_with}
-use Rattle.code_form.specs.declared.fault.CodeFault.{CodeFault}
-use Rattle.code_form.specs.WellFormed.{IsCode, IsFirstFault}
-use Rattle.code_form.proofs.DecideLemmas.{formed_or_faulty}
+use Rattle.code_language.specs.declared.fault.CodeFault.{CodeFault}
+use Rattle.code_language.specs.WellFormed.{IsCode, IsFirstFault}
+use Rattle.code_language.proofs.DecideLemmas.{formed_or_faulty}
 use Rattle.code_text.specs.declared.fault.CodeTextFault.{CodeTextFault}
 use Rattle.code_text.specs.declared.fault.CodeTextFault.TheVariants as faults
 use Rattle.code_text.specs.declared.limits.TheConstants.{TEXT_LIMIT}

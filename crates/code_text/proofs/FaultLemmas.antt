@@ -4,11 +4,11 @@ use Rattle.std.proofs.Common.{Result, Ok, Err, refl, sym, ap, ◌∙◌, subst, 
 use Rattle.std.specs.Prelude.{if◌then◌else◌, codes, IfOk, MatchResult}
 use Rattle.std.specs.List.{starts_with}
 use Rattle.std.proofs.lemmas.Bool.Decides.{nat_tests}
-use Rattle.code_form.specs.declared.code.RawCode.{RawCode}
-use Rattle.code_form.specs.declared.fault.CodeFault.{CodeFault}
-use Rattle.code_form.specs.Code.{code_of}
-use Rattle.code_form.specs.WellFormed.{IsCode, IsFirstFault}
-use Rattle.code_form.proofs.AcceptLemmas.{no_first_fault}
+use Rattle.code_language.specs.declared.code.RawCode.{RawCode}
+use Rattle.code_language.specs.declared.fault.CodeFault.{CodeFault}
+use Rattle.code_language.specs.Code.{code_of}
+use Rattle.code_language.specs.WellFormed.{IsCode, IsFirstFault}
+use Rattle.code_language.proofs.AcceptLemmas.{no_first_fault}
 use Rattle.code_lines.specs.declared.format.Format.{Format}
 use Rattle.code_text.specs.declared.expected.Expected.{Expected}
 use Rattle.code_text.specs.declared.fault.CodeTextFault.{CodeTextFault}

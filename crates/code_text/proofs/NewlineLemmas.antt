@@ -2,8 +2,8 @@
 use Rattle.std.proofs.Common.{ℕ, false, List, [], ◌∷◌, ◌++◌, length, map, refl}
 use Rattle.std.specs.Prelude.{codes, decimal}
 use Rattle.std.specs.List.{flat_map, AllByRecursion}
-use Rattle.code_form.specs.declared.code.RawState.{RawState}
-use Rattle.code_form.specs.Instrs.{Instr}
+use Rattle.code_language.specs.declared.code.RawState.{RawState}
+use Rattle.code_language.specs.Instrs.{Instr}
 use Rattle.code_fields.specs.Spelling.{IsNumber, IsVar, var_line, IsEvent, event_line}
 use Rattle.code_fields.proofs.LineLemmas.{var_line-is, event_line-is}
 use Rattle.code_fields.proofs.NewlineLemmas.{IsLine, line_tested, line_then, word_line}

@@ -20,21 +20,21 @@ use Rattle.actions.specs.declared.names.Sort.TheVariants as sorts
 use Rattle.actions.specs.declared.names.Var.{Var}
 use Rattle.actions.specs.Data.{is_mantissa_of}
 use Rattle.actions.specs.Exprs.{Expr, Lit, Flag, Read, Active, Neg, Not, Bin}
-use Rattle.state_tree.specs.declared.limits.TheConstants.{OPERATOR_LIMIT}
-use Rattle.state_tree.specs.Expressions.{IsLiteral, operator_count}
-use Rattle.state_tree.specs.Valid.{HasFlagMode}
-use Rattle.code_form.specs.declared.code.RawCode.{RawCode}
-use Rattle.code_form.specs.declared.code.RawState.{RawState}
-use Rattle.code_form.specs.declared.fault.CodeFault.{CodeFault}
-use Rattle.code_form.specs.declared.fault.CodeKind.{CodeKind}
-use Rattle.code_form.specs.declared.limits.TheConstants.{PROC_LIMIT, INSTR_LIMIT}
-use Rattle.code_form.specs.Code.{Code, Procedures, code_of, tree_of_states}
-use Rattle.code_form.specs.Tables.{IsTable}
-use Rattle.code_form.specs.Instrs.{Cond, On, Bare, OnHome, BareHome, Current, Result, Test, Last, Instr, Assign, Emit}
-use Rattle.code_form.specs.Instrs.{Mark, Clear, Keep, Unless, Skip, Call, Visit, Send, SendTo, Play, Home, Begin, Pass, Ret}
-use Rattle.code_form.specs.WellFormed.{Known, first_of, unless, expr_known, cond_known, instr_known, has_literals}
-use Rattle.code_form.specs.WellFormed.{is_plain, cond_typed, instr_typed, instr_fault, instrs_fault, proc_fault, procs_fault}
-use Rattle.code_form.specs.WellFormed.{too_many, starts_known, later_fault, known_of, IsCode}
+use Rattle.checked_chart.specs.declared.limits.TheConstants.{OPERATOR_LIMIT}
+use Rattle.checked_chart.specs.Expressions.{IsLiteral, operator_count}
+use Rattle.checked_chart.specs.Valid.{HasFlagMode}
+use Rattle.code_language.specs.declared.code.RawCode.{RawCode}
+use Rattle.code_language.specs.declared.code.RawState.{RawState}
+use Rattle.code_language.specs.declared.fault.CodeFault.{CodeFault}
+use Rattle.code_language.specs.declared.fault.CodeKind.{CodeKind}
+use Rattle.code_language.specs.declared.limits.TheConstants.{PROC_LIMIT, INSTR_LIMIT}
+use Rattle.code_language.specs.Code.{Code, Procedures, code_of, tree_of_states}
+use Rattle.code_language.specs.Tables.{IsTable}
+use Rattle.code_language.specs.Instrs.{Cond, On, Bare, OnHome, BareHome, Current, Result, Test, Last, Instr, Assign, Emit}
+use Rattle.code_language.specs.Instrs.{Mark, Clear, Keep, Unless, Skip, Call, Visit, Send, SendTo, Play, Home, Begin, Pass, Ret}
+use Rattle.code_language.specs.WellFormed.{Known, first_of, unless, expr_known, cond_known, instr_known, has_literals}
+use Rattle.code_language.specs.WellFormed.{is_plain, cond_typed, instr_typed, instr_fault, instrs_fault, proc_fault, procs_fault}
+use Rattle.code_language.specs.WellFormed.{too_many, starts_known, later_fault, known_of, IsCode}
 use Rattle.code_fields.specs.Spelling.{IsNumber, IsVar, IsEvent, is_init_of, HasNumbers as ExprHasNumbers, IsExpr}
 use Rattle.code_lines.specs.declared.format.Format.TheVariants as formats
 use Rattle.code_lines.specs.Spelling.{HasParent, CondHasWords, HasWords, HasNumbers, cond_is_in, is_in, IsInstr}

@@ -1,6 +1,6 @@
 -- How the faults of a text are printed.
 use Rattle.std.specs.Prelude.{ℕ, List, [], ◌++◌, Option, Some, None, codes, decimal}
-use Rattle.code_form.specs.Form.{code_fault_text}
+use Rattle.code_language.specs.Form.{code_fault_text}
 use Rattle.code_text.specs.declared.fault.CodeTextFault.{CodeTextFault}
 use Rattle.code_text.specs.declared.fault.CodeTextFault.TheVariants as faults
 

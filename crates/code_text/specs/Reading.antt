@@ -6,9 +6,9 @@ use Rattle.std.specs.List.{starts_with}
 use Rattle.std.specs.Str.{bytes_eq}
 use Rattle.actions.specs.declared.names.EventDecl.{EventDecl}
 use Rattle.actions.specs.declared.names.Var.{Var}
-use Rattle.code_form.specs.declared.code.RawState.{RawState}
-use Rattle.code_form.specs.Instrs.{Instr}
-use Rattle.code_form.specs.WellFormed.{IsFirstFault}
+use Rattle.code_language.specs.declared.code.RawState.{RawState}
+use Rattle.code_language.specs.Instrs.{Instr}
+use Rattle.code_language.specs.WellFormed.{IsFirstFault}
 use Rattle.code_fields.specs.Fields.{number_of, number_behind, behind, word_then, var_of, event_of}
 use Rattle.code_lines.specs.declared.format.Format.{Format}
 use Rattle.code_lines.specs.declared.format.Format.TheVariants as formats

@@ -3,9 +3,9 @@ use Rattle.std.specs.Prelude.{◌≡◌, ℕ, Bool, true, false, List, [], ◌�
 use Rattle.std.specs.List.{flat_map, AllByRecursion}
 use Rattle.actions.specs.declared.names.EventDecl.{EventDecl}
 use Rattle.actions.specs.declared.names.Var.{Var}
-use Rattle.code_form.specs.declared.code.RawState.{RawState}
-use Rattle.code_form.specs.Code.{Procedures}
-use Rattle.code_form.specs.Instrs.{Instr}
+use Rattle.code_language.specs.declared.code.RawState.{RawState}
+use Rattle.code_language.specs.Code.{Procedures}
+use Rattle.code_language.specs.Instrs.{Instr}
 use Rattle.code_fields.specs.Spelling.{IsNumber, IsVar, var_line, IsEvent, event_line}
 use Rattle.code_lines.specs.declared.format.Format.{Format}
 use Rattle.code_lines.specs.declared.format.Format.TheVariants as formats

@@ -1,9 +1,9 @@
 -- What contracts see of the values of the reader.
 use Rattle.std.specs.Prelude.{◌≡◌, ◌≢◌, ℕ, List, Bool, true, false, map, Option, Some, None, Result, Ok, Err}
 use Rattle.flow_base.specs.Lists.{items_of}
-use Rattle.code_form.specs.declared.code.RawCode.{RawCode}
-use Rattle.code_form.specs.Code.{code_of, instr_of, instrs_of}
-use Rattle.code_form.specs.WellFormed.{IsCode}
+use Rattle.code_language.specs.declared.code.RawCode.{RawCode}
+use Rattle.code_language.specs.Code.{code_of, instr_of, instrs_of}
+use Rattle.code_language.specs.WellFormed.{IsCode}
 use Rattle.code_text.specs.Reading.{Partial, Procs, spelled, IsCause}
 use Rattle.code_text.specs.Written.{written_of}
 use Rattle.code_text.specs.declared.fault.CodeTextFault.{CodeTextFault}

@@ -3,9 +3,9 @@ use Rattle.std.specs.Prelude.{List, map}
 use Rattle.flow_base.specs.Lists.{items_of}
 use Rattle.actions.specs.declared.names.EventDecl.{EventDecl}
 use Rattle.actions.specs.declared.names.Var.{Var}
-use Rattle.code_form.specs.declared.code.RawCode.{RawCode}
-use Rattle.code_form.specs.declared.code.RawState.{RawState}
-use Rattle.code_form.specs.Code.{Code, Procedures, tree_of_states, instrs_of}
+use Rattle.code_language.specs.declared.code.RawCode.{RawCode}
+use Rattle.code_language.specs.declared.code.RawState.{RawState}
+use Rattle.code_language.specs.Code.{Code, Procedures, tree_of_states, instrs_of}
 
 -- the states, the data, the events and the procedures
 pub record Written : Type 0 where

@@ -4,7 +4,7 @@ ghost use Rattle.arrayvec.specs.ArrayString.{array_string_len};
 ghost use Rattle.code_text.specs.Form.{fault_number, fault_name, fault_line, line_words, fault_head, fault_text};
 
 use arrayvec::ArrayString;
-use code_form::{CODE_FAULT_ROOM, CodeFault};
+use code_language::{CODE_FAULT_ROOM, CodeFault};
 use itoa::Buffer;
 use thiserror::Error;
 

@@ -1,7 +1,7 @@
 //! What the spelling of code promises, for all code at once.
 ghost use Rattle.std.specs.Prelude.{◌≡◌, ◌≢◌, ◌⊎◌, ◌≤◌, ℕ, List, [], ◌∷◌, ◌++◌, length, Ok};
 ghost use Rattle.std.specs.List.{AllByRecursion};
-ghost use Rattle.code_form.specs.WellFormed.{IsCode};
+ghost use Rattle.code_language.specs.WellFormed.{IsCode};
 ghost use Rattle.code_lines.specs.declared.format.Format.{Format};
 ghost use Rattle.code_lines.specs.declared.format.Format.TheVariants.{Two};
 ghost use Rattle.code_lines.specs.Spelling.{HasNumbers};

@@ -9,7 +9,7 @@ use crate::counts::{format_of, procs_of};
 use crate::expected::{Expected, event_next, head_next, root_next, state_next, var_next};
 use actions::{EventDecl, Var};
 use code_fields::{event_of, number_behind, var_of};
-use code_form::{Instr, RawCode, RawState};
+use code_language::{Instr, RawCode, RawState};
 use code_lines::{Format, instr_in, state_at};
 use flow_base::List;
 use std::alloc::{AllocError, Global};

@@ -3,7 +3,7 @@ ghost use Rattle.std.specs.Prelude.{◌≡◌, ◌++◌, ◌∷◌, [], length, 
 ghost use Rattle.std.specs.Prelude.{IfOk, OnOk};
 ghost use Rattle.std.specs.List.{flat_map, AllByRecursion};
 ghost use Rattle.flow_base.specs.Lists.{items_of};
-ghost use Rattle.code_form.specs.Code.{instr_of, instrs_of};
+ghost use Rattle.code_language.specs.Code.{instr_of, instrs_of};
 ghost use Rattle.code_lines.specs.Spelling.{state_line, instr_line, HasNumbers, HasParent};
 ghost use Rattle.code_fields.specs.Spelling.{var_line, event_line};
 ghost use Rattle.code_lines.specs.declared.format.Format.TheVariants.{Two};
@@ -12,7 +12,7 @@ ghost use Rattle.code_text.specs.Written.{written_of};
 
 use actions::{EventDecl, Var};
 use code_fields::{print_event, print_number, print_var};
-use code_form::{Code, Instr, RawCode, RawState};
+use code_language::{Code, Instr, RawCode, RawState};
 use code_lines::{print_instr, print_state};
 use flow_base::{List, Memory};
 use std::alloc::{AllocError, Global};

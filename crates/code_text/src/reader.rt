@@ -1,8 +1,8 @@
 //! Code from its text.
 ghost use Rattle.std.specs.Prelude.{◌≡◌, ◌<◌, ◌≤◌, [], length, IfSome, IfOk, IfErr, Ok};
 ghost use Rattle.std.specs.Prelude.{MatchOption, MatchResult};
-ghost use Rattle.code_form.specs.Code.{code_of};
-ghost use Rattle.code_form.specs.WellFormed.{IsCode};
+ghost use Rattle.code_language.specs.Code.{code_of};
+ghost use Rattle.code_language.specs.WellFormed.{IsCode};
 ghost use Rattle.code_lines.specs.declared.format.Format as declared;
 ghost use Rattle.code_text.specs.Lines.{cut_of, line_then};
 ghost use Rattle.code_text.specs.Reading as spec;
@@ -15,7 +15,7 @@ use crate::limits::TEXT_LIMIT;
 use crate::partial::Partial;
 use crate::refusal::{is_whole, refusal};
 use code_fields::{Parts, cut_at};
-use code_form::{Code, CodeEnd, RawCode, accept};
+use code_language::{Code, CodeEnd, RawCode, accept};
 use std::alloc::Global;
 
 /// The code that a text spells in one of the formats, if it is well formed.

@@ -3,7 +3,7 @@ use Rattle.std.specs.Prelude.{Some, IsOk}
 use Rattle.actions.specs.Data.{Datum}
 use Rattle.actions.specs.Trees.{expr_of}
 use Rattle.actions.specs.World.{World}
-use Rattle.code_form.specs.Machine.{Goes, Stops, machine, next}
+use Rattle.code_language.specs.Machine.{Goes, Stops, machine, next}
 use Rattle.code_machine.specs.Frames.{seen}
 use Rattle.code_machine.specs.States.{code_in, world_of, now_of, below}
 use Rattle.code_machine.proofs.Assigned.{assign_no_value, assign_no_room, assign_kept}

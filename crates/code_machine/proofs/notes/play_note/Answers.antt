@@ -1,5 +1,5 @@
 use Rattle.std.proofs.Common.{◌≡◌, ◌+◌, ◌∷◌, suc, length, None, sym, ap, ◌∙◌, arith}
-use Rattle.code_form.specs.Machine.{Goes, machine, if_ok, fresh}
+use Rattle.code_language.specs.Machine.{Goes, machine, if_ok, fresh}
 use Rattle.code_machine.specs.Frames.{seen, calls_of}
 use Rattle.code_machine.specs.States.{world_of, now_of, below}
 use Rattle.code_machine.proofs.Words.{calls_length}

@@ -1,7 +1,7 @@
 use Rattle.std.proofs.Common.{arith}
 use Rattle.std.specs.List.{AllByRecursion}
 use Rattle.flow_base.specs.Lists.{items_of}
-use Rattle.code_form.specs.Code.{instrs_of}
+use Rattle.code_language.specs.Code.{instrs_of}
 use Rattle.code_lines.specs.Spelling.{HasNumbers}
 use Rattle.code_text.specs.Spelling.{proc_lines}
 use Rattle.code_text.proofs.LoopLemmas.{lines_printed, holds_from}

@@ -2,7 +2,7 @@ use Rattle.std.proofs.Common.{◌≡◌, ◌++◌, map, drop}
 use Rattle.std.specs.Prelude.{string_bytes}
 use Rattle.std.specs.List.{flat_map, AllByRecursion}
 use Rattle.flow_base.specs.Lists.{items_of}
-use Rattle.code_form.specs.Code.{instrs_of}
+use Rattle.code_language.specs.Code.{instrs_of}
 use Rattle.code_lines.specs.Spelling.{HasNumbers}
 use Rattle.code_text.specs.Spelling.{text_of, proc_lines}
 use Rattle.code_text.proofs.printer.print_each_proc.Given as goal

@@ -1,5 +1,5 @@
 use Rattle.std.proofs.Common.{◌≡◌, ◌++◌, ◌∷◌, [], ap, ◌∙◌, append_assoc, arith, List, ℕ}
-use Rattle.code_form.specs.Code.{instr_of}
+use Rattle.code_language.specs.Code.{instr_of}
 use Rattle.code_lines.specs.Spelling.{instr_line, HasNumbers}
 use Rattle.code_text.proofs.LoopLemmas.{view_printed, holds_from}
 use Rattle.code_text.proofs.printer.print_instrs.Goals as goal

@@ -1,7 +1,7 @@
 use Rattle.std.proofs.Common.{◌≡◌, ◌++◌, map, drop}
 use Rattle.std.specs.Prelude.{string_bytes}
 use Rattle.std.specs.List.{AllByRecursion}
-use Rattle.code_form.specs.Code.{instrs_of}
+use Rattle.code_language.specs.Code.{instrs_of}
 use Rattle.code_lines.specs.Spelling.{instr_line, HasNumbers}
 use Rattle.code_text.specs.Spelling.{text_of}
 use Rattle.code_text.proofs.printer.print_instrs.Given as goal

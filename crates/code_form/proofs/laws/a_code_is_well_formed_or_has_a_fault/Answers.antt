@@ -1,5 +1,0 @@
-use Rattle.code_form.proofs.DecideLemmas.{formed_or_faulty}
-use Rattle.code_form.proofs.laws.a_code_is_well_formed_or_has_a_fault.Goals as goal
-
-pub returns : goal.returns
-returns c = formed_or_faulty

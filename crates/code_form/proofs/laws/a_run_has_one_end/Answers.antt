@@ -1,5 +1,0 @@
-use Rattle.code_form.proofs.RunLemmas.{one_end}
-use Rattle.code_form.proofs.laws.a_run_has_one_end.Goals as goal
-
-pub returns : goal.returns
-returns c = one_end

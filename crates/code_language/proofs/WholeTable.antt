@@ -1,0 +1,238 @@
+-- What is declared is a table where all its tests hold.
+use Rattle.std.proofs.Common.{◌≡◌, ℕ, ◌≤◌, ◌||◌, ◌&&◌, not, Bool, true, false, cond, List, [], ◌∷◌, ◌++◌, length}
+use Rattle.std.proofs.Common.{map, Option, Some, None, is_some, refl, sym, ap, ◌∙◌, subst, arith}
+use Rattle.std.specs.Prelude.{◌↔◌, IsTrue, IfOk, Result, Ok, Err, nat_le, bytes_eq}
+use Rattle.std.specs.List.{list_all, AllByRecursion}
+use Rattle.std.proofs.lemmas.Bool.{and_parts}
+use Rattle.std.proofs.lemmas.Bool.Decides.{nat_tests}
+use Rattle.fixed_point.specs.declared.fitting.Mode.{Mode}
+use Rattle.fixed_point.specs.declared.fitting.Mode.TheVariants.{Saturate, Wrap, Error}
+use Rattle.flow_base.specs.Lists.{items_of}
+use Rattle.flow_base.specs.Names.{index_of, after, are_distinct}
+use Rattle.chart_lexer.specs.Words.{is_name}
+use Rattle.active_config.specs.Tree.{Tree, IsTree}
+use Rattle.active_config.proofs.TestLemmas.{false_where}
+use Rattle.actions.specs.Data.{is_mantissa_of}
+use Rattle.actions.specs.declared.names.EventDecl.{EventDecl}
+use Rattle.actions.specs.declared.names.Sort.{Sort}
+use Rattle.actions.specs.declared.names.Sort.TheVariants.{Flag, Number}
+use Rattle.actions.specs.declared.names.Var.{Var}
+use Rattle.checked_chart.specs.declared.limits.TheConstants.{STATE_LIMIT, VARIABLE_LIMIT}
+use Rattle.checked_chart.specs.Valid.{HasFlagMode}
+use Rattle.code_language.specs.declared.code.RawCode.{RawCode}
+use Rattle.code_language.specs.declared.code.RawState.{RawState}
+use Rattle.code_language.specs.Acceptance.{IsShallow, AreStates, are_few, are_names, names_var, names_event, vars_differ}
+use Rattle.code_language.specs.Acceptance.{events_differ}
+use Rattle.code_language.specs.Acceptance.{is_flag_mode, has_value, is_declared, has_no_twins, has_parents}
+use Rattle.code_language.specs.Code.{code_of, tree_of_states}
+use Rattle.code_language.specs.Tables.{IsTable}
+use Rattle.code_language.proofs.FaultLemmas.{states_counted}
+use Rattle.code_language.proofs.ListLemmas.{list_all-map}
+use Rattle.code_language.proofs.TableLemmas.{tree_parents}
+use Rattle.code_language.proofs.SiblingLemmas.{siblings_differ, no_twins}
+
+-- ---- the states, with two tests
+
+-- in a tree that is not too deep the names of siblings decide
+pub states_are : (states : List RawState) (t : Tree) (twins : Bool) → (t ≡ tree_of_states states) × IsTree t
+    → IsShallow t → twins ≡ has_no_twins states → IsTrue twins ↔ AreStates states
+states_are states t twins is shallow e = (
+  λ h. record {
+    tree = subst IsTree is.0 is.1;
+    depth = subst IsShallow is.0 shallow;
+    siblings = siblings_differ states (sym e ∙ h);
+  },
+  λ (h : AreStates states). e ∙ no_twins states h.tree h.siblings,
+)
+
+-- one that is too deep has no right states
+pub states_deep : (states : List RawState) (t : Tree) → (t ≡ tree_of_states states) × IsTree t → (IsShallow t → ⊥)
+    → IsTrue false ↔ AreStates states
+states_deep states t is deep = false_where (λ (h : AreStates states). deep (subst IsShallow (sym is.0) h.depth))
+
+-- without their parents the states are no tree
+pub no_states : (states : List RawState) → has_parents states ≡ false → IsTrue false ↔ AreStates states
+no_states states h =
+    false_where (λ (a : AreStates states). let t = tree_parents states a.tree in absurd (differ (has_parents states) t h))
+  where
+    differ : (b : Bool) → b ≡ true → b ≡ false → ⊥
+    differ true t h = absurd (cc h)
+    differ false t h = absurd (cc t)
+
+-- ---- the whole table
+
+-- a test of a limit
+le_of : (a b : ℕ) → nat_le a b ≡ true → a ≤ b
+le_of a b h = grind (arith, nat_tests)
+
+-- and back
+le_test : (a b : ℕ) → a ≤ b → nat_le a b ≡ true
+le_test a b h = grind (arith, nat_tests)
+
+-- two tests that hold together
+both_true : (a b : Bool) → a ≡ true → b ≡ true → (a && b) ≡ true
+both_true true b h k = k
+both_true false b h k = absurd (cc h)
+
+-- a place counted on from one more name is there where the place is
+some_after : (o : Option ℕ) → is_some (after o) ≡ is_some o
+some_after None = refl
+some_after (Some n) = refl
+
+-- the first name is the one, or the rest has it
+found : (same : Bool) (o : Option ℕ) (t : Bool) → is_some o ≡ t → is_some (cond same (Some 0) (after o)) ≡ (same || t)
+found true o t h = refl
+found false o t h = some_after o ∙ h
+
+-- three tests of which one holds
+or_assoc : (a b c : Bool) → (a || (b || c)) ≡ ((a || b) || c)
+or_assoc true b c = refl
+or_assoc false b c = refl
+
+-- three tests that all hold
+and_assoc : (a b c : Bool) → (a && (b && c)) ≡ ((a && b) && c)
+and_assoc true b c = refl
+and_assoc false b c = refl
+
+-- names of the data and the events in one list
+names_index : (name : List ℕ) (vars : List Var) (events : List EventDecl)
+    → is_some (index_of name (map (λ (v : Var). v.name) vars ++ map (λ (e : EventDecl). e.name) events))
+    ≡ (names_var name vars || names_event name events)
+names_index name [] [] = refl
+names_index name [] (e ∷ es) = found (bytes_eq e.name name) _ _ (names_index name [] es)
+names_index name (v ∷ vs) es =
+    found (bytes_eq v.name name) _ _ (names_index name vs es)
+    ∙ or_assoc (bytes_eq v.name name) (names_var name vs) (names_event name es)
+
+-- names of events differ by pairs
+events_distinct : (es : List EventDecl) → are_distinct (map (λ (e : EventDecl). e.name) es) ≡ events_differ es
+events_distinct [] = refl
+events_distinct (e ∷ es) =
+    ap (λ b. not b && are_distinct (map (λ (e : EventDecl). e.name) es)) (names_index e.name [] es)
+    ∙ ap (λ b. not (names_event e.name es) && b) (events_distinct es)
+
+-- names of data and events differ by pairs
+names_distinct : (vs : List Var) (es : List EventDecl)
+    → are_distinct (map (λ (v : Var). v.name) vs ++ map (λ (e : EventDecl). e.name) es) ≡ (vars_differ vs es && events_differ es)
+names_distinct [] es = events_distinct es
+names_distinct (v ∷ vs) es =
+    ap (λ b. not b && are_distinct (map (λ (v : Var). v.name) vs ++ map (λ (e : EventDecl). e.name) es)) (names_index v.name vs es)
+    ∙ ap (λ b. not (names_var v.name vs || names_event v.name es) && b) (names_distinct vs es)
+    ∙ and_assoc (not (names_var v.name vs || names_event v.name es)) (vars_differ vs es) (events_differ es)
+
+-- NAMEs of the data and the events in one list
+all_append : (xs ys : List (List ℕ)) → list_all is_name (xs ++ ys) ≡ (list_all is_name xs && list_all is_name ys)
+all_append [] ys = refl
+all_append (x ∷ xs) ys = ap (λ b. is_name x && b) (all_append xs ys)
+    ∙ and_assoc (is_name x) (list_all is_name xs) (list_all is_name ys)
+
+-- first values and modes
+value_of : (sort : Sort) (mode : Mode) → is_flag_mode sort mode ≡ true → sort ≡ Flag → mode ≡ Saturate
+value_of Flag Saturate h e = refl
+value_of Flag Wrap h e = absurd (cc h)
+value_of Flag Error h e = absurd (cc h)
+value_of (Number scale) mode h e = absurd (cc e)
+
+-- and back
+mode_of : (sort : Sort) (mode : Mode) → (sort ≡ Flag → mode ≡ Saturate) → is_flag_mode sort mode ≡ true
+mode_of Flag Saturate h = refl
+mode_of Flag Wrap h = absurd (let e = h refl in cc e)
+mode_of Flag Error h = absurd (let e = h refl in cc e)
+mode_of (Number scale) mode h = refl
+
+-- first values and modes, one by one
+inits_of : (vars : List Var) → list_all has_value vars ≡ true
+    → AllByRecursion (λ v. IsTrue (is_mantissa_of v.sort v.init)) vars × AllByRecursion HasFlagMode vars
+inits_of [] h = (tt, tt)
+inits_of (v ∷ vs) h =
+    let both = and_parts (has_value v) _ h in
+    let here = and_parts (is_mantissa_of v.sort v.init) _ both.0 in
+    let rest = inits_of vs both.1 in
+    ((here.0, rest.0), (value_of v.sort v.mode here.1, rest.1))
+
+-- and back
+values_of : (vars : List Var) → AllByRecursion (λ v. IsTrue (is_mantissa_of v.sort v.init)) vars
+    → AllByRecursion HasFlagMode vars → list_all has_value vars ≡ true
+values_of [] h k = refl
+values_of (v ∷ vs) h k =
+    both_true _ _ (both_true _ _ h.0 (mode_of v.sort v.mode k.0)) (values_of vs h.1 k.1)
+
+-- where the rest is declared and the states are right, the whole is a table
+pub table_is : (raw : RawCode) → is_declared raw ≡ true → AreStates (items_of raw.states)
+    → IsTable (code_of raw).tree (code_of raw).names
+table_is raw h are =
+    let states = items_of raw.states in
+    let vars = items_of raw.vars in
+    let events = items_of raw.events in
+    let a = and_parts (are_few (length states) (length vars) (length events)) _ h in
+    let b = and_parts (are_names states vars events) _ a.1 in
+    let few = and_parts (nat_le (length states) STATE_LIMIT) _ a.0 in
+    let fewer = and_parts (nat_le (length vars) VARIABLE_LIMIT) _ few.1 in
+    let n1 = and_parts (list_all (λ (s : RawState). is_name s.name) states) _ b.0 in
+    let n2 = and_parts (list_all (λ (v : Var). is_name v.name) vars) _ n1.1 in
+    let n3 = and_parts (list_all (λ (e : EventDecl). is_name e.name) events) _ n2.1 in
+    let values = inits_of vars b.1 in
+    let count = states_counted states in
+    let in_limit = le_of (length states) STATE_LIMIT few.0 in
+    record {
+      tree = are.tree;
+      states = omega (arith, count, in_limit);
+      depth = are.depth;
+      vars = le_of _ _ fewer.0;
+      events = le_of _ _ fewer.1;
+      names = record {
+        states = list_all-map is_name (λ (s : RawState). s.name) states ∙ n1.0;
+        declared = all_append (map (λ (v : Var). v.name) vars) (map (λ (e : EventDecl). e.name) events)
+            ∙ both_true _ _ (list_all-map is_name (λ (v : Var). v.name) vars ∙ n2.0)
+            (list_all-map is_name (λ (e : EventDecl). e.name) events ∙ n3.0);
+        distinct = names_distinct vars events ∙ n3.1;
+        siblings = are.siblings;
+      };
+      inits = values.0;
+      flags = values.1;
+    }
+
+-- and of a table the rest is declared
+pub table_declared : (raw : RawCode) → IsTable (code_of raw).tree (code_of raw).names → is_declared raw ≡ true
+table_declared raw h =
+    let states = items_of raw.states in
+    let vars = items_of raw.vars in
+    let events = items_of raw.events in
+    let count = states_counted states in
+    let in_limit = h.states in
+    let few : length states ≤ STATE_LIMIT = omega (arith, count, in_limit) in
+    let names = and_parts (list_all is_name (map (λ (v : Var). v.name) vars)) _
+    (sym (all_append (map (λ (v : Var). v.name) vars) (map (λ (e : EventDecl). e.name) events)) ∙ h.names.declared) in
+    both_true _ _ (both_true _ _ (le_test _ _ few) (both_true _ _ (le_test _ _ h.vars) (le_test _ _ h.events)))
+    (both_true _ _ (both_true _ _ (sym (list_all-map is_name (λ (s : RawState). s.name) states) ∙ h.names.states)
+    (both_true _ _ (sym (list_all-map is_name (λ (v : Var). v.name) vars) ∙ names.0)
+    (both_true _ _ (sym (list_all-map is_name (λ (e : EventDecl). e.name) events) ∙ names.1)
+    (sym (names_distinct vars events) ∙ h.names.distinct))))
+    (values_of vars h.inits h.flags))
+
+-- and the states are right
+pub table_states : (raw : RawCode) → IsTable (code_of raw).tree (code_of raw).names → AreStates (items_of raw.states)
+table_states raw h = record { tree = h.tree; depth = h.depth; siblings = h.names.siblings }
+
+-- where the rest isn't declared, or where it is, by the states
+pub no_table : (raw : RawCode) → is_declared raw ≡ false → IsTrue false ↔ IsTable (code_of raw).tree (code_of raw).names
+no_table raw h =
+    false_where (λ (a : IsTable (code_of raw).tree (code_of raw).names).
+    let t = table_declared raw a in absurd (differ (is_declared raw) t h))
+  where
+    differ : (b : Bool) → b ≡ true → b ≡ false → ⊥
+    differ true t h = absurd (cc h)
+    differ false t h = absurd (cc t)
+
+-- where it is declared the states decide
+pub table_by_states : (raw : RawCode) (b : Bool) → is_declared raw ≡ true → IsTrue b ↔ AreStates (items_of raw.states)
+    → IsTrue b ↔ IsTable (code_of raw).tree (code_of raw).names
+table_by_states raw b h s =
+    (λ e. table_is raw h (s.0 e), λ (a : IsTable (code_of raw).tree (code_of raw).names). s.1 (table_states raw a))
+
+-- the same for what a call gives
+pub table_result : {E : Type 0} (raw : RawCode) (r : Result Bool E) → is_declared raw ≡ true
+    → IfOk r (λ b. IsTrue b ↔ AreStates (items_of raw.states))
+    → IfOk r (λ b. IsTrue b ↔ IsTable (code_of raw).tree (code_of raw).names)
+table_result raw (Ok b) h s = table_by_states raw b h s
+table_result raw (Err e) h s = tt

@@ -1,0 +1,72 @@
+//! Accepts code exactly where it is well formed.
+ghost use Rattle.std.specs.Prelude.{◌≡◌, IfOk, IfErr, IsOkUnless};
+ghost use Rattle.code_language.specs.Code.{code_of};
+ghost use Rattle.code_language.specs.Kept.{IsKept};
+ghost use Rattle.code_language.specs.WellFormed.{IsCode, IsCause};
+
+use crate::code::{Code, RawCode};
+use crate::fault::{CodeEnd, CodeFault, CodeKind};
+use crate::faults::{procs_fault, too_many};
+use crate::heights::greatest_height;
+use crate::naming::starts_known;
+use crate::tables::is_table;
+use crate::works::greatest_work;
+use flow_base::Memory;
+use std::alloc::Global;
+
+/// The code as accepted, or its first fault. `Memory` only where memory was refused.
+///
+/// Its time grows with the code; only the names, of which there are at most so many, are compared
+/// pair by pair.
+pub fn accept(alloc: Global, raw: RawCode) -> Result<Code, CodeEnd>
+    ensures accepted { IfOk result (λ code. code ≡ raw) }
+    ensures only { IsCode (code_of raw) → IsOkUnless result CodeEnd.Memory }
+    ensures refused { IfErr result (λ end. IsCause (code_of raw) end) }
+{
+    match measured(alloc, &raw) {
+        Ok(most) => Ok(Code::of(raw, most.height, most.work)),
+        Err(end) => Err(end),
+    }
+}
+
+/// The greatest height and the greatest work of procedures.
+#[derive(Clone, Copy)]
+struct Measures {
+    height: u32,
+    work: u64,
+}
+
+/// The measures of well-formed code, or why it isn't accepted.
+fn measured(alloc: Global, raw: &RawCode) -> Result<Measures, CodeEnd>
+    ensures kept { IfOk result (λ most. IsKept (code_of raw.now) most.height most.work) }
+    ensures refused { IfErr result (λ end. IsCause (code_of raw.now) end) }
+{
+    if too_many(raw) {
+        return Err(of_code(CodeKind::TooManyProcs));
+    }
+    match is_table(alloc, raw) {
+        Ok(true) => {}
+        Ok(false) => return Err(of_code(CodeKind::BadTable)),
+        Err(Memory) => return Err(CodeEnd::Memory),
+    }
+    if !starts_known(raw) {
+        return Err(of_code(CodeKind::BadNumber));
+    }
+    if let Some(fault) = procs_fault(raw) {
+        return Err(CodeEnd::Fault(fault));
+    }
+    let height = greatest_height(alloc, raw.procs.items())?;
+    let work = greatest_work(alloc, raw.procs.items())?;
+    Ok(Measures { height, work })
+}
+
+/// A fault of the code that is in no procedure.
+fn of_code(kind: CodeKind) -> CodeEnd
+    ensures { result ≡ CodeEnd.Fault (record { kind = kind; proc = 0; place = 0 }) }
+{
+    CodeEnd::Fault(CodeFault {
+        kind,
+        proc: 0,
+        place: 0,
+    })
+}

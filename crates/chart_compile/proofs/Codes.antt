@@ -4,8 +4,8 @@ use Rattle.active_config.specs.Tree.{Tree}
 use Rattle.actions.specs.declared.names.EventDecl.{EventDecl}
 use Rattle.actions.specs.declared.names.Var.{Var}
 use Rattle.actions.specs.Names.{Names}
-use Rattle.code_form.specs.Code.{Code, Procedures}
-use Rattle.code_form.specs.Instrs.{Instr}
+use Rattle.code_language.specs.Code.{Code, Procedures}
+use Rattle.code_language.specs.Instrs.{Instr}
 
 -- names are the same where their lists are
 pub same_names : (n m : Names) → n.states ≡ m.states → n.vars ≡ m.vars → n.events ≡ m.events → n ≡ m

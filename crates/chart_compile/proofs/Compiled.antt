@@ -1,8 +1,8 @@
 -- The code of a valid chart is small, and runs as the chart.
 use Rattle.std.proofs.Common.{◌≡◌, sym, subst}
-use Rattle.state_tree.specs.Chart.{Chart}
-use Rattle.state_tree.specs.Valid.{IsValid}
-use Rattle.code_form.specs.Code.{Code}
+use Rattle.checked_chart.specs.Chart.{Chart}
+use Rattle.checked_chart.specs.Valid.{IsValid}
+use Rattle.code_language.specs.Code.{Code}
 use Rattle.chart_layout.specs.Bodies.{code_of_chart}
 use Rattle.chart_layout.proofs.Whole.{code_runs}
 use Rattle.layout_soundness.proofs.Few.{procedures_few}

@@ -1,12 +1,12 @@
 -- When the code of a chart is well formed.
 use Rattle.std.proofs.Common.{◌≡◌, true, false, None}
-use Rattle.code_form.specs.declared.fault.CodeKind.TheVariants as kinds
-use Rattle.code_form.specs.declared.limits.TheConstants.{HEIGHT_LIMIT, WORK_LIMIT}
-use Rattle.code_form.specs.Code.{Code}
-use Rattle.code_form.specs.Measures.{heights, works}
-use Rattle.code_form.specs.Tables.{IsTable}
-use Rattle.code_form.specs.WellFormed.{IsCode, too_many, starts_known, known_of, procs_fault, first_over}
-use Rattle.code_form.proofs.AcceptLemmas.{fault_of_works}
+use Rattle.code_language.specs.declared.fault.CodeKind.TheVariants as kinds
+use Rattle.code_language.specs.declared.limits.TheConstants.{HEIGHT_LIMIT, WORK_LIMIT}
+use Rattle.code_language.specs.Code.{Code}
+use Rattle.code_language.specs.Measures.{heights, works}
+use Rattle.code_language.specs.Tables.{IsTable}
+use Rattle.code_language.specs.WellFormed.{IsCode, too_many, starts_known, known_of, procs_fault, first_over}
+use Rattle.code_language.proofs.AcceptLemmas.{fault_of_works}
 
 -- code is well formed where each of the tests finds nothing
 pub is_code : (k : Code) → too_many k.procedures.procs ≡ false → IsTable k.tree k.names

@@ -3,14 +3,14 @@ use Rattle.std.specs.Prelude.{◌↔◌, ◌≤◌, ◌+◌, ◌*◌, ℕ, suc, 
 use Rattle.flow_base.specs.declared.bounds.Bounds.{Bounds}
 use Rattle.active_config.specs.Tree.{state_count}
 use Rattle.actions.specs.Runs.{EventWithInputs, Moment}
-use Rattle.state_tree.specs.declared.limits.TheConstants.{STATE_DEPTH_LIMIT}
-use Rattle.state_tree.specs.Chart.{Chart}
-use Rattle.state_tree.specs.Counts.{transition_count, item_count}
-use Rattle.state_tree.specs.Reached.{ChartPairs}
+use Rattle.checked_chart.specs.declared.limits.TheConstants.{STATE_DEPTH_LIMIT}
+use Rattle.checked_chart.specs.Chart.{Chart}
+use Rattle.checked_chart.specs.Counts.{transition_count, item_count}
+use Rattle.checked_chart.specs.Reached.{ChartPairs}
 use Rattle.sos_rules.specs.Reactions.{RulesRun}
-use Rattle.code_form.specs.Code.{Code}
-use Rattle.code_form.specs.Measures.{greatest, heights, works}
-use Rattle.code_form.specs.Reactions.{CodeRun}
+use Rattle.code_language.specs.Code.{Code}
+use Rattle.code_language.specs.Measures.{greatest, heights, works}
+use Rattle.code_language.specs.Reactions.{CodeRun}
 use Rattle.layout_soundness.specs.Counts.{filled_blocks}
 
 -- how large it is: S states, P pairs, B actions that aren't empty, T transitions and I items give at most

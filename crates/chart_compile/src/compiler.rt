@@ -1,18 +1,18 @@
 //! The code of a chart.
 ghost use Rattle.std.specs.Prelude.{◌≡◌, IfOk};
-ghost use Rattle.state_tree.specs.Kept.{chart_of};
-ghost use Rattle.code_form.specs.Code.{code_of};
+ghost use Rattle.checked_chart.specs.Kept.{chart_of};
+ghost use Rattle.code_language.specs.Code.{code_of};
 ghost use Rattle.chart_layout.specs.Bodies.{code_of_chart};
 ghost use Rattle.chart_compile.specs.Compiled.{IsSmall, RunsAs};
 
 use crate::laws::the_code_of_a_chart_is_well_formed;
 use crate::tables::states;
 use actions::copy_names;
-use code_form::{Code, CodeEnd, RawCode, accept};
+use checked_chart::Chart;
+use code_language::{Code, CodeEnd, RawCode, accept};
 use continuation_compile::number;
 use flow_base::Memory;
 use state_compile::procedures;
-use state_tree::Chart;
 use std::alloc::Global;
 
 /// The code of a chart, before it is accepted. `Memory` only where memory was refused.

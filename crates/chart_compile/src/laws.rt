@@ -1,7 +1,7 @@
 //! What holds of the code of every valid chart as a whole.
-ghost use Rattle.state_tree.specs.Chart.{Chart};
-ghost use Rattle.state_tree.specs.Valid.{IsValid};
-ghost use Rattle.code_form.specs.WellFormed.{IsCode};
+ghost use Rattle.checked_chart.specs.Chart.{Chart};
+ghost use Rattle.checked_chart.specs.Valid.{IsValid};
+ghost use Rattle.code_language.specs.WellFormed.{IsCode};
 ghost use Rattle.chart_layout.specs.Bodies.{code_of_chart};
 
 use layout_heights::the_code_of_a_chart_is_low;

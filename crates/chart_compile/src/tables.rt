@@ -1,12 +1,12 @@
 //! The table of the states of a chart's code.
 ghost use Rattle.std.specs.Prelude.{◌≡◌, map, IfOk};
 ghost use Rattle.flow_base.specs.Lists.{items_of};
-ghost use Rattle.state_tree.specs.Kept.{chart_of};
-ghost use Rattle.code_form.specs.Code.{tree_of_states};
+ghost use Rattle.checked_chart.specs.Kept.{chart_of};
+ghost use Rattle.code_language.specs.Code.{tree_of_states};
 
-use code_form::RawState;
+use checked_chart::Chart;
+use code_language::RawState;
 use flow_base::{List, Memory, Text};
-use state_tree::Chart;
 use std::alloc::Global;
 
 /// An equal text.

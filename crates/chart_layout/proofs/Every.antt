@@ -4,10 +4,10 @@ use Rattle.std.proofs.Common.{sym, ap, subst, arith}
 use Rattle.std.specs.Prelude.{slice_get}
 use Rattle.std.specs.List.{AllByRecursion}
 use Rattle.active_config.specs.Tree.{state_count}
-use Rattle.state_tree.specs.declared.parts.ListKind.{ListKind}
-use Rattle.state_tree.specs.declared.parts.ListKind.TheVariants.{Outer, Inner, Default}
-use Rattle.state_tree.specs.Chart.{Chart, Trans, list_of, junction, junction_count}
-use Rattle.state_tree.specs.Valid.{IsValid}
+use Rattle.checked_chart.specs.declared.parts.ListKind.{ListKind}
+use Rattle.checked_chart.specs.declared.parts.ListKind.TheVariants.{Outer, Inner, Default}
+use Rattle.checked_chart.specs.Chart.{Chart, Trans, list_of, junction, junction_count}
+use Rattle.checked_chart.specs.Valid.{IsValid}
 use Rattle.chart_layout.specs.Orders.{sum_to, sum_between, span}
 use Rattle.chart_layout.specs.Ends.{end_of, below_count}
 use Rattle.chart_layout.specs.ReachedJunctions.{has, place_of, reached}

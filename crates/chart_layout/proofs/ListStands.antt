@@ -5,14 +5,14 @@ use Rattle.std.specs.Prelude.{slice_get, slice_index_or}
 use Rattle.std.proofs.lemmas.Option.{slice_get-map}
 use Rattle.active_config.specs.Tree.{state_count}
 use Rattle.actions.specs.Exprs.{Expr, Stmt}
-use Rattle.state_tree.specs.declared.parts.ListKind.{ListKind}
-use Rattle.state_tree.specs.declared.parts.ListKind.TheVariants.{Outer, Inner, Default}
-use Rattle.state_tree.specs.Chart.{Chart, Trans, list_of, life_of}
-use Rattle.code_form.specs.Code.{Procedures, instructions}
-use Rattle.code_form.specs.Instrs.{Cond}
-use Rattle.code_form.specs.Instrs as instrs
-use Rattle.code_steps.specs.Reach.{HasAt}
-use Rattle.code_steps.proofs.Places.{has_whole}
+use Rattle.checked_chart.specs.declared.parts.ListKind.{ListKind}
+use Rattle.checked_chart.specs.declared.parts.ListKind.TheVariants.{Outer, Inner, Default}
+use Rattle.checked_chart.specs.Chart.{Chart, Trans, list_of, life_of}
+use Rattle.code_language.specs.Code.{Procedures, instructions}
+use Rattle.code_language.specs.Instrs.{Cond}
+use Rattle.code_language.specs.Instrs as instrs
+use Rattle.code_simulation.specs.Reach.{HasAt}
+use Rattle.code_simulation.proofs.Places.{has_whole}
 use Rattle.chart_procedures.specs.Compiled.{GuardBy, PartBy, BlockAt, PartsAt, EachAt}
 use Rattle.chart_procedures.specs.ListProcedures.{Search}
 use Rattle.chart_procedures.specs.Numbers.{Numbers, TransNumbers, condition_of, first_of_parts, other_parts}

@@ -1,12 +1,12 @@
 -- There are no more reached junctions than pairs of a list and a transition.
 use Rattle.std.proofs.Common.{ℕ, zero, suc, ◌+◌, ◌≤◌, List, [], ◌∷◌, length, arith}
 use Rattle.active_config.specs.Tree.{state_count}
-use Rattle.state_tree.specs.declared.parts.Dest.{Dest}
-use Rattle.state_tree.specs.declared.parts.Dest.TheVariants.{State, Junction}
-use Rattle.state_tree.specs.declared.parts.ListKind.TheVariants.{Outer, Inner, Default}
-use Rattle.state_tree.specs.Chart.{Chart, Trans, list_of, junction, junction_count}
-use Rattle.state_tree.specs.Reached.{ArePairs, PairsBelow, ChartPairs}
-use Rattle.state_tree.specs.Valid.{IsValid, AreTrans}
+use Rattle.checked_chart.specs.declared.parts.Dest.{Dest}
+use Rattle.checked_chart.specs.declared.parts.Dest.TheVariants.{State, Junction}
+use Rattle.checked_chart.specs.declared.parts.ListKind.TheVariants.{Outer, Inner, Default}
+use Rattle.checked_chart.specs.Chart.{Chart, Trans, list_of, junction, junction_count}
+use Rattle.checked_chart.specs.Reached.{ArePairs, PairsBelow, ChartPairs}
+use Rattle.checked_chart.specs.Valid.{IsValid, AreTrans}
 use Rattle.chart_layout.specs.Orders.{sum_to}
 use Rattle.chart_layout.specs.Places.{reached_count, reached_total}
 use Rattle.chart_layout.specs.ReachedJunctions.{has, with_junction, junctions_to, reached}

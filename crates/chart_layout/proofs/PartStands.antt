@@ -2,8 +2,8 @@
 use Rattle.std.proofs.Common.{ℕ, ◌+◌, ◌*◌, ◌<◌, List, [], ◌∷◌, ◌++◌, length, Option, Some, None, refl, arith}
 use Rattle.active_config.specs.Tree.{state_count}
 use Rattle.actions.specs.Exprs.{Expr, Stmt}
-use Rattle.state_tree.specs.declared.parts.ListKind.{ListKind}
-use Rattle.state_tree.specs.Chart.{Chart, Trans, list_of, junction, junction_count}
+use Rattle.checked_chart.specs.declared.parts.ListKind.{ListKind}
+use Rattle.checked_chart.specs.Chart.{Chart, Trans, list_of, junction, junction_count}
 use Rattle.chart_procedures.specs.Compiled.{GuardBy, PartBy}
 use Rattle.chart_procedures.specs.Numbers.{TransNumbers, first_of_parts, other_parts}
 use Rattle.chart_layout.specs.Keys.{Key, Guard, ConditionOn, ConditionBare, Action, guard_keys, condition_keys}

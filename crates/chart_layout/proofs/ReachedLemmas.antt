@@ -3,14 +3,14 @@ use Rattle.std.proofs.Common.{◌≡◌, ℕ, zero, suc, ◌+◌, ◌<◌, ◌�
 use Rattle.std.proofs.Common.{ap, ◌∙◌, subst, arith}
 use Rattle.std.specs.Prelude.{slice_index_or, nat_eq, ◌||◌}
 use Rattle.std.specs.List.{AllByRecursion}
-use Rattle.state_tree.specs.declared.parts.Dest.{Dest}
-use Rattle.state_tree.specs.declared.parts.Dest.TheVariants.{State, Junction}
-use Rattle.state_tree.specs.declared.parts.ListKind.{ListKind}
-use Rattle.state_tree.specs.declared.parts.ListKind.TheVariants.{Outer, Inner, Default}
-use Rattle.state_tree.specs.Chart.{Chart, Trans, list_of, junction, junction_count}
-use Rattle.state_tree.specs.Reached.{LeadsTo, Reached, Directly, Through}
-use Rattle.state_tree.specs.Valid.{IsValid, IsDest, AreTrans}
-use Rattle.state_tree.proofs.PartsLemmas.{node_valid, junction_valid}
+use Rattle.checked_chart.specs.declared.parts.Dest.{Dest}
+use Rattle.checked_chart.specs.declared.parts.Dest.TheVariants.{State, Junction}
+use Rattle.checked_chart.specs.declared.parts.ListKind.{ListKind}
+use Rattle.checked_chart.specs.declared.parts.ListKind.TheVariants.{Outer, Inner, Default}
+use Rattle.checked_chart.specs.Chart.{Chart, Trans, list_of, junction, junction_count}
+use Rattle.checked_chart.specs.Reached.{LeadsTo, Reached, Directly, Through}
+use Rattle.checked_chart.specs.Valid.{IsValid, IsDest, AreTrans}
+use Rattle.checked_chart.proofs.PartsLemmas.{node_valid, junction_valid}
 use Rattle.chart_layout.specs.ReachedJunctions.{has, place_of, sum_over, with_junction, junctions_to, reached}
 use Rattle.chart_layout.specs.ReachedJunctions.{AreReached}
 use Rattle.chart_layout.proofs.Found.{eq_same, all_has, place_get}

@@ -2,9 +2,9 @@
 use Rattle.std.proofs.Common.{ℕ, suc, ◌+◌, ◌-◌, ◌*◌, ◌<◌, List, [], ◌∷◌, ◌++◌, length}
 use Rattle.std.proofs.Common.{arith}
 use Rattle.active_config.specs.Tree.{state_count}
-use Rattle.state_tree.specs.declared.parts.ListKind.{ListKind}
-use Rattle.state_tree.specs.declared.parts.ListKind.TheVariants.{Outer, Inner, Default}
-use Rattle.state_tree.specs.Chart.{Chart, list_of, junction, junction_count}
+use Rattle.checked_chart.specs.declared.parts.ListKind.{ListKind}
+use Rattle.checked_chart.specs.declared.parts.ListKind.TheVariants.{Outer, Inner, Default}
+use Rattle.checked_chart.specs.Chart.{Chart, list_of, junction, junction_count}
 use Rattle.chart_layout.specs.Orders.{sum_to, sum_between}
 use Rattle.chart_layout.specs.Keys.{Key, EndMark, parts_keys, action_keys_of, process_keys, state_parts_keys}
 use Rattle.chart_layout.specs.Keys.{junction_parts_keys, lists_keys, group_keys, all_actions, all_state_parts}

@@ -4,9 +4,9 @@ use Rattle.std.proofs.Common.{arith, length-append}
 use Rattle.std.proofs.lemmas.List.{length-map}
 use Rattle.active_config.specs.Tree.{state_count}
 use Rattle.actions.specs.Exprs.{Expr, Stmt}
-use Rattle.state_tree.specs.declared.parts.ListKind.{ListKind}
-use Rattle.state_tree.specs.declared.parts.ListKind.TheVariants.{Outer, Inner, Default}
-use Rattle.state_tree.specs.Chart.{Chart, Trans, list_of, junction, junction_count}
+use Rattle.checked_chart.specs.declared.parts.ListKind.{ListKind}
+use Rattle.checked_chart.specs.declared.parts.ListKind.TheVariants.{Outer, Inner, Default}
+use Rattle.checked_chart.specs.Chart.{Chart, Trans, list_of, junction, junction_count}
 use Rattle.chart_layout.specs.Orders.{sum_to, span}
 use Rattle.chart_layout.specs.Ends.{below_count}
 use Rattle.chart_layout.specs.ReachedJunctions.{reached}

@@ -4,7 +4,7 @@ use Rattle.std.proofs.Common.{subst, arith}
 use Rattle.std.specs.Prelude.{nat_eq, nat_lt, ◌||◌, if◌then◌else◌}
 use Rattle.std.specs.List.{AllByRecursion}
 use Rattle.std.proofs.lemmas.Bool.Decides.{nat_tests}
-use Rattle.state_tree.specs.Reached.{weight}
+use Rattle.checked_chart.specs.Reached.{weight}
 use Rattle.chart_layout.specs.ReachedJunctions.{has, Distinct, sum_over}
 use Rattle.chart_layout.proofs.Found.{eq_is}
 

@@ -4,13 +4,13 @@ use Rattle.std.proofs.lemmas.List.{length-map}
 use Rattle.flow_base.specs.declared.bounds.Bounds.{Bounds}
 use Rattle.active_config.specs.Tree.{state_count}
 use Rattle.actions.specs.Runs.{EventWithInputs, Moment}
-use Rattle.state_tree.specs.declared.parts.ListKind.{ListKind}
-use Rattle.state_tree.specs.Chart.{Chart, list_of, junction}
-use Rattle.state_tree.specs.Reached.{Reached}
-use Rattle.state_tree.specs.Valid.{IsValid}
+use Rattle.checked_chart.specs.declared.parts.ListKind.{ListKind}
+use Rattle.checked_chart.specs.Chart.{Chart, list_of, junction}
+use Rattle.checked_chart.specs.Reached.{Reached}
+use Rattle.checked_chart.specs.Valid.{IsValid}
 use Rattle.sos_rules.specs.Reactions.{RulesRun}
-use Rattle.code_form.specs.Code.{Procedures}
-use Rattle.code_form.specs.Reactions.{CodeRun}
+use Rattle.code_language.specs.Code.{Procedures}
+use Rattle.code_language.specs.Reactions.{CodeRun}
 use Rattle.chart_procedures.specs.Compiled.{Compiled, EachAt, ListCompiled, ListsCompiled}
 use Rattle.chart_procedures.specs.ListProcedures.{search_of}
 use Rattle.chart_procedures.specs.Numbers.{Numbers, ListNumbers}

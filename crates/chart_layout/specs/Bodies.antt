@@ -1,10 +1,10 @@
 -- The instructions of each procedure, and the code of a chart.
 use Rattle.std.specs.Prelude.{List, ◌∷◌, map}
 use Rattle.active_config.specs.Tree.{comp_of}
-use Rattle.state_tree.specs.Chart.{Chart, node, list_of, junction, is_remembered, may_return}
-use Rattle.code_form.specs.Code.{Code, Procedures}
-use Rattle.code_form.specs.Instrs.{Instr}
-use Rattle.code_form.specs.Instrs as instrs
+use Rattle.checked_chart.specs.Chart.{Chart, node, list_of, junction, is_remembered, may_return}
+use Rattle.code_language.specs.Code.{Code, Procedures}
+use Rattle.code_language.specs.Instrs.{Instr}
+use Rattle.code_language.specs.Instrs as instrs
 use Rattle.chart_procedures.specs.ListProcedures.{search_of, list_code, junction_code}
 use Rattle.chart_procedures.specs.StateProcedures.{end_code, block_code, guard_code, leave_code, exit_code}
 use Rattle.chart_procedures.specs.StateProcedures.{enter_code, defaults_code, arrive_code, take_code, process_code}

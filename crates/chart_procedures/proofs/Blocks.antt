@@ -7,22 +7,22 @@ use Rattle.active_config.specs.Marks.{is_on, IsConsistent}
 use Rattle.active_config.proofs.MarksLemmas.{bare_is_on}
 use Rattle.actions.specs.Exprs.{Stmt, Assign, Send, SendTo, Emit}
 use Rattle.actions.specs.World.{World, Life, On, Bare, lives}
-use Rattle.run_work.specs.Work.{◌>>◌, nothing, give, choose, if_done, End, Done, Cut, Now, deeper}
-use Rattle.run_work.proofs.ChangeLemmas.{kept, paid_keeps, assigned_keeps}
-use Rattle.state_tree.specs.Chart.{Chart}
-use Rattle.state_tree.specs.Valid.{IsValid}
+use Rattle.actions.specs.Work.{◌>>◌, nothing, give, choose, if_done, End, Done, Cut, Now, deeper}
+use Rattle.actions.proofs.ChangeLemmas.{kept, paid_keeps, assigned_keeps}
+use Rattle.checked_chart.specs.Chart.{Chart}
+use Rattle.checked_chart.specs.Valid.{IsValid}
 use Rattle.sos_rules.specs.Parts.{Parts}
 use Rattle.sos_rules.specs.Searches.{while_alive, statement, block_rule, send_rule}
 use Rattle.sos_rules.specs.Rules.{rules}
 use Rattle.sos_rules.proofs.MarkedStates.{on_is_state, root_on}
 use Rattle.sos_rules.proofs.Keeps.{Keeps, Consistent, consistent_closed, statement_finishes}
-use Rattle.code_form.specs.Instrs.{Instr}
-use Rattle.code_form.specs.Code.{Procedures, fetch}
-use Rattle.code_form.specs.Machine.{Program, Frame, Machine, machine, fresh, next, sent}
-use Rattle.code_form.specs.Instrs as instrs
-use Rattle.code_steps.specs.Reach.{Aim, Meets, returns, Any, HasAt}
-use Rattle.code_steps.proofs.Joins.{here, on_to, meets_end, then_meets, then_meets_with, choose_meets}
-use Rattle.code_steps.proofs.Steps.{go_skip, go_ret, go_assign, go_emit, go_send, go_send_to}
+use Rattle.code_language.specs.Instrs.{Instr}
+use Rattle.code_language.specs.Code.{Procedures, fetch}
+use Rattle.code_language.specs.Machine.{Program, Frame, Machine, machine, fresh, next, sent}
+use Rattle.code_language.specs.Instrs as instrs
+use Rattle.code_simulation.specs.Reach.{Aim, Meets, returns, Any, HasAt}
+use Rattle.code_simulation.proofs.Joins.{here, on_to, meets_end, then_meets, then_meets_with, choose_meets}
+use Rattle.code_simulation.proofs.Steps.{go_skip, go_ret, go_assign, go_emit, go_send, go_send_to}
 use Rattle.chart_procedures.specs.Numbers.{Numbers}
 use Rattle.chart_procedures.specs.StateProcedures.{require, life_test, state_of_life, block_code}
 use Rattle.chart_procedures.specs.Kinds.{running, Targets, Tells, DoesBlock, DoesSend, AllDo, program}

@@ -11,26 +11,26 @@ use Rattle.active_config.specs.Marks.{Configuration, is_on, is_bare, can_mark, t
 use Rattle.active_config.proofs.PathLemmas.{is_at_or_below-same}
 use Rattle.active_config.proofs.MarksLemmas.{can_mark_off}
 use Rattle.actions.specs.World.{World, Bare}
-use Rattle.run_work.specs.Work.{Work, ◌>>=◌, ◌>>◌, nothing, change, choose, if_some, if_done, End, Done, Cut, Now}
-use Rattle.run_work.specs.Changes.{set_mark, keep_in}
-use Rattle.run_work.proofs.ChangeLemmas.{mark_done}
-use Rattle.state_tree.specs.Chart.{Chart, node, is_remembered}
-use Rattle.state_tree.specs.Valid.{IsValid}
-use Rattle.state_tree.specs.Homes.{child_toward, path_in}
-use Rattle.state_tree.proofs.Trees.{IsChild, all_map, children_are, toward_is_child}
+use Rattle.actions.specs.Work.{Work, ◌>>=◌, ◌>>◌, nothing, change, choose, if_some, if_done, End, Done, Cut, Now}
+use Rattle.actions.specs.Changes.{set_mark, keep_in}
+use Rattle.actions.proofs.ChangeLemmas.{mark_done}
+use Rattle.checked_chart.specs.Chart.{Chart, node, is_remembered}
+use Rattle.checked_chart.specs.Valid.{IsValid}
+use Rattle.checked_chart.specs.Homes.{child_toward, path_in}
+use Rattle.checked_chart.proofs.Trees.{IsChild, all_map, children_are, toward_is_child}
 use Rattle.sos_rules.specs.Parts.{Parts}
 use Rattle.sos_rules.specs.Moves.{keep_if, entered_in, enter_toward, enter_inside, enter_rule, enter_each_rule}
 use Rattle.sos_rules.specs.Rules.{rules}
 use Rattle.sos_rules.proofs.MarkedStates.{entered_bare, marked_bare, entered_consistent, can_mark_root}
 use Rattle.sos_rules.proofs.Keeps.{Keeps, Consistent}
-use Rattle.code_form.specs.Code.{Procedures, fetch}
-use Rattle.code_form.specs.Machine.{Program, Frame, machine, fresh, next, past}
-use Rattle.code_form.specs.Instrs as instrs
-use Rattle.code_steps.specs.Reach.{Reaches, Meets, returns, Any, HasAt}
-use Rattle.code_steps.proofs.Joins.{on_to, meets_on, meets_more, then_meets_with, choose_meets}
-use Rattle.code_steps.proofs.Steps.{go_call, go_home, go_mark, go_keep, go_skip, go_ret}
-use Rattle.code_steps.proofs.Tests.{yes_on, no_on, yes_bare, no_bare, yes_on_home, no_on_home, yes_bare_home}
-use Rattle.code_steps.proofs.Tests.{no_bare_home}
+use Rattle.code_language.specs.Code.{Procedures, fetch}
+use Rattle.code_language.specs.Machine.{Program, Frame, machine, fresh, next, past}
+use Rattle.code_language.specs.Instrs as instrs
+use Rattle.code_simulation.specs.Reach.{Reaches, Meets, returns, Any, HasAt}
+use Rattle.code_simulation.proofs.Joins.{on_to, meets_on, meets_more, then_meets_with, choose_meets}
+use Rattle.code_simulation.proofs.Steps.{go_call, go_home, go_mark, go_keep, go_skip, go_ret}
+use Rattle.code_simulation.proofs.Tests.{yes_on, no_on, yes_bare, no_bare, yes_on_home, no_on_home, yes_bare_home}
+use Rattle.code_simulation.proofs.Tests.{no_bare_home}
 use Rattle.chart_procedures.specs.Numbers.{Numbers}
 use Rattle.chart_procedures.specs.StateProcedures.{toward_code, enters_code, takes_test, parent_test, inside_code}
 use Rattle.chart_procedures.specs.StateProcedures.{keep_code, active_entry_code, entry_code}

@@ -8,23 +8,23 @@ use Rattle.active_config.specs.declared.comp.Comp.TheVariants.{Leaf, Or, And}
 use Rattle.active_config.specs.Tree.{state_count, comp_of, children_of}
 use Rattle.active_config.specs.Marks.{is_on, is_bare, active_child}
 use Rattle.actions.specs.World.{World, Bare}
-use Rattle.run_work.specs.Work.{◌>>=◌, nothing, change, if_some, if_done, End, Done, Cut, Now}
-use Rattle.run_work.specs.Changes.{set_mark, clear_in}
-use Rattle.run_work.proofs.ChangeLemmas.{clear_done, clear_not}
-use Rattle.state_tree.specs.Chart.{Chart, node}
-use Rattle.state_tree.specs.Valid.{IsValid}
-use Rattle.state_tree.proofs.Trees.{IsChild, all_map, children_are}
+use Rattle.actions.specs.Work.{◌>>=◌, nothing, change, if_some, if_done, End, Done, Cut, Now}
+use Rattle.actions.specs.Changes.{set_mark, clear_in}
+use Rattle.actions.proofs.ChangeLemmas.{clear_done, clear_not}
+use Rattle.checked_chart.specs.Chart.{Chart, node}
+use Rattle.checked_chart.specs.Valid.{IsValid}
+use Rattle.checked_chart.proofs.Trees.{IsChild, all_map, children_are}
 use Rattle.sos_rules.specs.Parts.{Parts}
 use Rattle.sos_rules.specs.Moves.{if_bare, exit_children, exit_rule, exit_each_rule}
 use Rattle.sos_rules.specs.Rules.{rules}
 use Rattle.sos_rules.proofs.MarkedStates.{all_reverse}
 use Rattle.sos_rules.proofs.Keeps.{Keeps, Consistent, exit_children_finishes, consistent_closed}
-use Rattle.code_form.specs.Code.{Procedures}
-use Rattle.code_form.specs.Machine.{Program, Frame, machine, fresh}
-use Rattle.code_steps.specs.Reach.{Reaches, Meets, returns, Any, HasAt}
-use Rattle.code_steps.proofs.Joins.{on_to, meets_on, meets_more, then_meets, then_meets_with, choose_meets}
-use Rattle.code_steps.proofs.Steps.{go_call, go_home, go_clear, go_skip, go_ret}
-use Rattle.code_steps.proofs.Tests.{yes_on, no_on, yes_on_home, no_on_home, yes_bare_home, no_bare_home}
+use Rattle.code_language.specs.Code.{Procedures}
+use Rattle.code_language.specs.Machine.{Program, Frame, machine, fresh}
+use Rattle.code_simulation.specs.Reach.{Reaches, Meets, returns, Any, HasAt}
+use Rattle.code_simulation.proofs.Joins.{on_to, meets_on, meets_more, then_meets, then_meets_with, choose_meets}
+use Rattle.code_simulation.proofs.Steps.{go_call, go_home, go_clear, go_skip, go_ret}
+use Rattle.code_simulation.proofs.Tests.{yes_on, no_on, yes_on_home, no_on_home, yes_bare_home, no_bare_home}
 use Rattle.chart_procedures.specs.Numbers.{Numbers}
 use Rattle.chart_procedures.specs.StateProcedures.{active_code, each_code, leave_code}
 use Rattle.chart_procedures.specs.Kinds.{running, Tells, DoesExit, DoesExitEach, AllDo, program}

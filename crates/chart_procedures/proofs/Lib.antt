@@ -9,7 +9,6 @@ pub mod Processes
 pub mod Blocks
 pub mod Whole
 pub mod Noted
-pub mod Searching
 pub mod Searches
 pub mod Lists
 pub mod Runs

@@ -5,30 +5,32 @@ use Rattle.flow_base.specs.declared.bounds.Bounds.{Bounds}
 use Rattle.flow_base.specs.declared.fault.Fault.{Fault}
 use Rattle.actions.specs.Exprs.{Expr}
 use Rattle.actions.specs.World.{World}
-use Rattle.run_work.specs.Work.{flag_or_fault, Now}
-use Rattle.run_work.specs.Changes.{truth_of}
-use Rattle.state_tree.specs.Chart.{Chart, list_of, life_of}
-use Rattle.state_tree.specs.declared.parts.ListKind.{ListKind}
-use Rattle.state_tree.specs.declared.parts.ListKind.TheVariants.{Outer, Inner, Default}
-use Rattle.state_tree.specs.Homes.{home_of}
-use Rattle.state_tree.specs.Valid.{IsValid}
-use Rattle.state_tree.specs.Reached.{Reached}
+use Rattle.actions.specs.Work.{flag_or_fault, Now}
+use Rattle.actions.specs.Changes.{truth_of}
+use Rattle.checked_chart.specs.Chart.{Chart, Trans, list_of, life_of}
+use Rattle.checked_chart.specs.declared.parts.ListKind.{ListKind}
+use Rattle.checked_chart.specs.declared.parts.ListKind.TheVariants.{Outer, Inner, Default}
+use Rattle.checked_chart.specs.Homes.{home_of}
+use Rattle.checked_chart.specs.Valid.{IsValid}
+use Rattle.checked_chart.specs.Reached.{Reached}
 use Rattle.sos_rules.specs.Parts.{Found, Fire, DeadEnd, No, Stop, Parts}
 use Rattle.sos_rules.specs.Rules.{upto}
-use Rattle.code_form.specs.Code.{Procedures}
-use Rattle.code_form.specs.Machine.{Program, Frame, machine, fresh}
-use Rattle.code_steps.specs.Reach.{Reaches, Arrives, Meets, HasAt, with_note, pending}
-use Rattle.code_steps.proofs.Joins.{here, on_to, meets_on, meets_end, meets_fall, meets_more}
-use Rattle.code_steps.proofs.Steps.{go_begin, go_ret}
-use Rattle.code_steps.proofs.Tests.{yes_test, no_test, fall_test}
-use Rattle.chart_procedures.specs.Numbers.{Numbers, ListNumbers}
+use Rattle.code_language.specs.Code.{Procedures}
+use Rattle.code_language.specs.Machine.{Program, Frame, machine, fresh}
+use Rattle.code_simulation.specs.Reach.{Reaches, Arrives, Meets, HasAt, with_note, pending}
+use Rattle.code_simulation.proofs.Joins.{here, on_to, meets_on, meets_end, meets_fall, meets_more}
+use Rattle.code_simulation.proofs.Steps.{go_begin, go_ret}
+use Rattle.code_simulation.proofs.Tests.{yes_test, no_test, fall_test}
+use Rattle.chart_procedures.specs.Numbers.{Numbers, TransNumbers, ListNumbers}
 use Rattle.chart_procedures.specs.StateProcedures.{guard_code}
 use Rattle.chart_procedures.specs.Kinds.{AreNotes, EndFacts, end_at, finds, DoesBlock, program}
 use Rattle.chart_procedures.specs.ListProcedures.{context_of, Search, search_of}
 use Rattle.chart_procedures.specs.Compiled.{ListsCompiled}
-use Rattle.chart_procedures.proofs.Known.{HasResults, Meaning, flag_number, DoesGuard, PartsDo, meaning_of}
-use Rattle.chart_procedures.proofs.Searching.{onto, notes_of, Searcher, searching, EndFactsFrom, end_from, FactsFrom}
-use Rattle.chart_procedures.proofs.Searching.{found_from}
+use Rattle.chart_procedures.specs.SearchParts.{HasResults, Meaning, flag_number, DoesGuard, PartsDo, Told}
+use Rattle.chart_procedures.specs.SearchParts.{told_meaning, ListStands}
+use Rattle.chart_procedures.proofs.Known.{meaning_of}
+use Rattle.chart_procedures.specs.SearchFrames.{onto, notes_of, Searcher, searching, EndFactsFrom, end_from, FactsFrom}
+use Rattle.chart_procedures.specs.SearchFrames.{found_from, SearchesFrom}
 use Rattle.chart_procedures.proofs.Whole.{SearchesDo}
 use Rattle.chart_procedures.proofs.Noted.{pending_onto}
 use Rattle.chart_procedures.proofs.Searches.{lists}
@@ -144,3 +146,20 @@ module _ (c : Chart) (valid : IsValid c) (b : Bounds) (k : Procedures) (N : Numb
           (λ f v y. said s kind J now tag fs f v y));
     };
   }
+
+-- ---- a list in any code
+
+-- a list does its search, whatever the procedures of its firings and of its end do
+pub searches_from : (c : Chart) (b : Bounds) (k : Procedures) (S : Search) (told : Told) (height proc : ℕ)
+    (list : List Trans) (numbers : List TransNumbers) (junction_numbers : ℕ → List TransNumbers)
+    → ListStands c b k S told height proc list numbers junction_numbers
+    → SearchesFrom (program c b k) (told_meaning c b k S told height) S (upto c b height) proc list
+searches_from c b k S told height proc list numbers junction_numbers h = record {
+  by = λ w ok l now r tag base fs.
+      let does =
+      lists c h.tree b k (told_meaning c b k S told height) S h.results junction_numbers h.junctions height
+      (λ m lt. record { guard = λ q e g. g; condition = λ q ss g. g m lt }) in
+      meets_on (go_begin h.code.0)
+      (does.by list numbers (record { proc = proc; tag = tag; base = length fs; now = now; below = fs }) 1 h.parts
+      h.code.1 w ok l r);
+}

@@ -3,16 +3,16 @@ use Rattle.std.proofs.Common.{◌≡◌, ℕ, ◌≤◌, List, [], ◌∷◌, �
 use Rattle.std.proofs.Common.{append_assoc}
 use Rattle.std.proofs.lemmas.List.{append-nil}
 use Rattle.actions.specs.Exprs.{Stmt}
-use Rattle.state_tree.specs.Chart.{life_of}
-use Rattle.state_tree.specs.declared.parts.ListKind.{ListKind}
-use Rattle.state_tree.specs.declared.parts.ListKind.TheVariants.{Outer, Inner, Default}
-use Rattle.code_form.specs.Machine.{Frame}
-use Rattle.code_steps.specs.Reach.{with_note, pending}
-use Rattle.code_steps.proofs.Notes.{pending_at, pending_past}
+use Rattle.checked_chart.specs.Chart.{life_of}
+use Rattle.checked_chart.specs.declared.parts.ListKind.{ListKind}
+use Rattle.checked_chart.specs.declared.parts.ListKind.TheVariants.{Outer, Inner, Default}
+use Rattle.code_language.specs.Machine.{Frame}
+use Rattle.code_simulation.specs.Reach.{with_note, pending}
+use Rattle.code_simulation.proofs.Notes.{pending_at, pending_past}
 use Rattle.chart_procedures.specs.StateProcedures.{state_of_life}
 use Rattle.chart_procedures.specs.Kinds.{NotesBy}
 use Rattle.chart_procedures.specs.Compiled.{PartBy}
-use Rattle.chart_procedures.proofs.Searching.{onto, notes_of}
+use Rattle.chart_procedures.specs.SearchFrames.{onto, notes_of}
 
 -- ---- one transition more
 

@@ -2,14 +2,14 @@
 use Rattle.std.proofs.Common.{◌≡◌, ℕ, true, false, List, ◌∷◌, Some, ap, ◌∙◌}
 use Rattle.active_config.specs.Marks.{is_on, is_bare}
 use Rattle.actions.specs.World.{World, Life, On, Bare, lives}
-use Rattle.run_work.specs.Work.{Run, Ended, Now}
+use Rattle.actions.specs.Work.{Run, Ended, Now}
 use Rattle.sos_rules.proofs.Keeps.{Finishes, ended, faulted, unfinished}
-use Rattle.code_form.specs.Code.{fetch}
-use Rattle.code_form.specs.Machine.{Program, Frame, Machine, machine, next, past}
-use Rattle.code_form.specs.Instrs as instrs
-use Rattle.code_steps.specs.Reach.{Reaches, Arrives, Meets, returns, Any}
-use Rattle.code_steps.proofs.Joins.{meets_end, Leaves, Leaving}
-use Rattle.code_steps.proofs.Tests.{yes_on_home, no_on_home, yes_bare_home, no_bare_home}
+use Rattle.code_language.specs.Code.{fetch}
+use Rattle.code_language.specs.Machine.{Program, Frame, Machine, machine, next, past}
+use Rattle.code_language.specs.Instrs as instrs
+use Rattle.code_simulation.specs.Reach.{Reaches, Arrives, Meets, returns, Any}
+use Rattle.code_simulation.proofs.Joins.{meets_end, Leaves, Leaving}
+use Rattle.code_simulation.proofs.Tests.{yes_on_home, no_on_home, yes_bare_home, no_bare_home}
 use Rattle.chart_procedures.specs.StateProcedures.{life_test, state_of_life}
 
 module _ {C : Program} {w : World} {now : Now} {r : ℕ} {f : Frame} {fs : List Frame} {k : ℕ} where

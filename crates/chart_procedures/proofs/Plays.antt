@@ -9,21 +9,21 @@ use Rattle.active_config.specs.Tree.{state_count}
 use Rattle.active_config.specs.Marks.{is_bare, IsConsistent}
 use Rattle.actions.specs.Exprs.{Stmt}
 use Rattle.actions.specs.World.{World, Bare}
-use Rattle.run_work.specs.Work.{if_done, End, Done, Cut, Now}
-use Rattle.run_work.proofs.ChangeLemmas.{kept, paid_keeps}
-use Rattle.state_tree.specs.Chart.{Chart}
-use Rattle.state_tree.specs.Valid.{IsValid}
+use Rattle.actions.specs.Work.{if_done, End, Done, Cut, Now}
+use Rattle.actions.proofs.ChangeLemmas.{kept, paid_keeps}
+use Rattle.checked_chart.specs.Chart.{Chart}
+use Rattle.checked_chart.specs.Valid.{IsValid}
 use Rattle.sos_rules.specs.Parts.{Parts}
 use Rattle.sos_rules.specs.Searches.{play_rule}
 use Rattle.sos_rules.specs.Rules.{rules}
 use Rattle.sos_rules.proofs.Keeps.{Keeps, Consistent}
-use Rattle.code_form.specs.Code.{Procedures, fetch}
-use Rattle.code_form.specs.Machine.{Program, Frame, machine, later, noted}
-use Rattle.code_form.specs.Instrs as instrs
-use Rattle.code_steps.specs.Reach.{Meets, pending}
-use Rattle.code_steps.proofs.Notes.{IsHead, noted_head}
-use Rattle.code_steps.proofs.Joins.{meets_end, then_meets_with}
-use Rattle.code_steps.proofs.Steps.{go_play_none, go_play_lame, go_play}
+use Rattle.code_language.specs.Code.{Procedures, fetch}
+use Rattle.code_language.specs.Machine.{Program, Frame, machine, later, noted}
+use Rattle.code_language.specs.Instrs as instrs
+use Rattle.code_simulation.specs.Reach.{Meets, pending}
+use Rattle.code_simulation.proofs.Notes.{IsHead, noted_head}
+use Rattle.code_simulation.proofs.Joins.{meets_end, then_meets_with}
+use Rattle.code_simulation.proofs.Steps.{go_play_none, go_play_lame, go_play}
 use Rattle.chart_procedures.specs.Numbers.{Numbers}
 use Rattle.chart_procedures.specs.Kinds.{aimed, Tells, AreNotes, HasBlock, behind, DoesPlay, AllDo, program}
 use Rattle.chart_procedures.specs.Compiled.{Compiled}

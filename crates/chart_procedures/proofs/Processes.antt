@@ -11,23 +11,23 @@ use Rattle.active_config.specs.Tree.{state_count, comp_of, children_of}
 use Rattle.active_config.specs.Marks.{is_on, active_child}
 use Rattle.actions.specs.declared.event.Event.{Event}
 use Rattle.actions.specs.World.{World, On}
-use Rattle.run_work.specs.Work.{◌>>=◌, give, if_some, if_done, End, Done, Cut, Now}
-use Rattle.state_tree.specs.Chart.{Chart, node}
-use Rattle.state_tree.specs.Valid.{IsValid}
-use Rattle.state_tree.specs.declared.parts.ListKind.TheVariants.{Outer, Inner}
-use Rattle.state_tree.specs.Homes.{home_of}
-use Rattle.state_tree.proofs.Trees.{IsChild, all_map, children_are}
+use Rattle.actions.specs.Work.{◌>>=◌, give, if_some, if_done, End, Done, Cut, Now}
+use Rattle.checked_chart.specs.Chart.{Chart, node}
+use Rattle.checked_chart.specs.Valid.{IsValid}
+use Rattle.checked_chart.specs.declared.parts.ListKind.TheVariants.{Outer, Inner}
+use Rattle.checked_chart.specs.Homes.{home_of}
+use Rattle.checked_chart.proofs.Trees.{IsChild, all_map, children_are}
 use Rattle.sos_rules.specs.Parts.{Found, Fire, DeadEnd, No, Stop, Went, Stay, Out, Parts}
 use Rattle.sos_rules.specs.Processing.{from_child, process_children, after_inner, go_on_inside, after_outer}
 use Rattle.sos_rules.specs.Processing.{process_rule, after_region, process_each_rule}
 use Rattle.sos_rules.specs.Rules.{rules}
 use Rattle.sos_rules.proofs.Keeps.{Keeps, Consistent}
-use Rattle.code_form.specs.Code.{Procedures}
-use Rattle.code_form.specs.Machine.{Program, Frame, machine, fresh}
-use Rattle.code_steps.specs.Reach.{Reaches, Aim, Meets, leaves, HasAt}
-use Rattle.code_steps.proofs.Joins.{on_to, meets_on, meets_end, then_meets, then_meets_with, choose_meets}
-use Rattle.code_steps.proofs.Steps.{go_call, go_home, go_skip, go_ret, go_pass, go_pass_zero}
-use Rattle.code_steps.proofs.Tests.{yes_on, no_on, yes_on_home, no_on_home, yes_result, no_result}
+use Rattle.code_language.specs.Code.{Procedures}
+use Rattle.code_language.specs.Machine.{Program, Frame, machine, fresh}
+use Rattle.code_simulation.specs.Reach.{Reaches, Aim, Meets, leaves, HasAt}
+use Rattle.code_simulation.proofs.Joins.{on_to, meets_on, meets_end, then_meets, then_meets_with, choose_meets}
+use Rattle.code_simulation.proofs.Steps.{go_call, go_home, go_skip, go_ret, go_pass, go_pass_zero}
+use Rattle.code_simulation.proofs.Tests.{yes_on, no_on, yes_on_home, no_on_home, yes_result, no_result}
 use Rattle.chart_procedures.specs.Numbers.{Numbers}
 use Rattle.chart_procedures.specs.StateProcedures.{went_result, active_child_code, regions_code, children_code}
 use Rattle.chart_procedures.specs.Kinds.{running, Tells, FoundFacts, found_at, DoesProcess, DoesProcessEach, AllDo}

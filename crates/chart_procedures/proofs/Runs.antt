@@ -12,19 +12,19 @@ use Rattle.actions.specs.declared.expr.Value.{Value}
 use Rattle.actions.specs.Runs.{Moment, EventWithInputs, StartRelation, ReactionRelation, AreSet, ReactsWithInputs}
 use Rattle.actions.specs.Runs.{UnlessFaulted, GoesOn, Runs}
 use Rattle.actions.specs.World.{World, world_before, begun}
-use Rattle.run_work.specs.Work.{Run, Ended, Faulted, Unfinished, Now, from_outside}
-use Rattle.state_tree.specs.Chart.{Chart}
-use Rattle.state_tree.specs.Valid.{IsValid}
+use Rattle.actions.specs.Work.{Run, Ended, Faulted, Unfinished, Now, from_outside}
+use Rattle.checked_chart.specs.Chart.{Chart}
+use Rattle.checked_chart.specs.Valid.{IsValid}
 use Rattle.sos_rules.specs.Reactions.{moment_of, Gives, start_upto, react_upto, HasOne, IsRunning, RulesRun}
 use Rattle.sos_rules.specs.Rules.{upto}
 use Rattle.sos_rules.specs.Reactions as rules
 use Rattle.sos_rules.proofs.Reactions.{one_start, one_reaction, start_keeps, reaction_keeps}
-use Rattle.code_form.specs.Code.{Code, Procedures}
-use Rattle.code_form.specs.Machine.{Program, Machine, machine, fresh}
-use Rattle.code_form.specs.Reactions.{Leads, first_frame, CodeRun}
-use Rattle.code_form.specs.Reactions as code
-use Rattle.code_steps.specs.Reach.{Meets, returns, Any}
-use Rattle.code_steps.proofs.Endings.{reached_leads, falls_leads, one_end}
+use Rattle.code_language.specs.Code.{Code, Procedures}
+use Rattle.code_language.specs.Machine.{Program, Machine, machine, fresh}
+use Rattle.code_language.specs.Reactions.{Leads, first_frame, CodeRun}
+use Rattle.code_language.specs.Reactions as code
+use Rattle.code_simulation.specs.Reach.{Meets, returns, Any}
+use Rattle.code_simulation.proofs.Endings.{reached_leads, falls_leads, one_end}
 use Rattle.chart_procedures.specs.Compiled.{Compiled, ListsCompiled}
 use Rattle.chart_procedures.specs.Kinds.{program, AllDo}
 use Rattle.chart_procedures.specs.Numbers.{Numbers, ListNumbers}

@@ -6,36 +6,36 @@ use Rattle.active_config.specs.Tree.{IsTree}
 use Rattle.active_config.specs.Marks.{IsConsistent}
 use Rattle.actions.specs.Exprs.{Expr, Stmt}
 use Rattle.actions.specs.World.{World, Life, lives}
-use Rattle.run_work.specs.Work.{◌>>=◌, then_do, give, choose, End, Done, Cut, Now, is_event}
-use Rattle.run_work.proofs.ChangeLemmas.{kept, paid_keeps}
-use Rattle.state_tree.specs.Chart.{junction, Chart, Trans, life_of}
-use Rattle.state_tree.specs.declared.parts.Dest.{Dest}
-use Rattle.state_tree.specs.declared.parts.Dest.TheVariants.{State, Junction}
+use Rattle.actions.specs.Work.{◌>>=◌, then_do, give, choose, End, Done, Cut, Now, is_event}
+use Rattle.actions.proofs.ChangeLemmas.{kept, paid_keeps}
+use Rattle.checked_chart.specs.Chart.{junction, Chart, Trans, life_of}
+use Rattle.checked_chart.specs.declared.parts.Dest.{Dest}
+use Rattle.checked_chart.specs.declared.parts.Dest.TheVariants.{State, Junction}
 use Rattle.sos_rules.specs.Parts.{Found, Fire, DeadEnd, No, Stop, Parts}
 use Rattle.sos_rules.specs.Searches.{event_fits, guard_holds, after_junction, visit, at_dest, after_condition}
 use Rattle.sos_rules.specs.Searches.{search_rule}
 use Rattle.sos_rules.specs.Rules.{upto}
 use Rattle.sos_rules.proofs.Keeps.{Keeps, Consistent, consistent_closed, upto_keep}
-use Rattle.code_form.specs.Instrs.{Instr}
-use Rattle.code_form.specs.Code.{Procedures, fetch}
-use Rattle.code_form.specs.Machine.{Program, Frame, Machine, machine, fresh}
-use Rattle.code_form.specs.Instrs as instrs
-use Rattle.code_steps.specs.Reach.{Reaches, Aim, Arrives, Meets, HasAt, with_note, Answer}
-use Rattle.code_steps.proofs.Places.{has_front, has_back}
-use Rattle.code_steps.proofs.Joins.{here, on_to, meets_on, meets_end, meets_unfinished, meets_more, then_meets}
-use Rattle.code_steps.proofs.Joins.{then_meets_with, choose_meets}
-use Rattle.code_steps.proofs.Steps.{go_skip, go_call, go_ret, go_pass, go_pass_zero, go_visit}
-use Rattle.code_steps.proofs.Tests.{yes_result, no_result, yes_current, no_current}
+use Rattle.code_language.specs.Instrs.{Instr}
+use Rattle.code_language.specs.Code.{Procedures, fetch}
+use Rattle.code_language.specs.Machine.{Program, Frame, Machine, machine, fresh}
+use Rattle.code_language.specs.Instrs as instrs
+use Rattle.code_simulation.specs.Reach.{Reaches, Aim, Arrives, Meets, HasAt, with_note, Answer}
+use Rattle.code_simulation.proofs.Places.{has_front, has_back}
+use Rattle.code_simulation.proofs.Joins.{here, on_to, meets_on, meets_end, meets_unfinished, meets_more, then_meets}
+use Rattle.code_simulation.proofs.Joins.{then_meets_with, choose_meets}
+use Rattle.code_simulation.proofs.Steps.{go_skip, go_call, go_ret, go_pass, go_pass_zero, go_visit}
+use Rattle.code_simulation.proofs.Tests.{yes_result, no_result, yes_current, no_current}
 use Rattle.chart_procedures.specs.Numbers.{TransNumbers, condition_of, first_of_parts, other_parts}
 use Rattle.chart_procedures.specs.StateProcedures.{require, life_test}
 use Rattle.chart_procedures.specs.Kinds.{running, Tells, program}
 use Rattle.chart_procedures.specs.ListProcedures.{Search, dest_code, condition_code, guarded_code, event_code}
 use Rattle.chart_procedures.specs.ListProcedures.{lead_code, trans_code, list_code, empty_code, junction_code}
 use Rattle.chart_procedures.specs.Compiled.{GuardBy, PartBy}
-use Rattle.chart_procedures.proofs.Known.{HasResults, Meaning, DestBy, PartsBy, EachBy, MayEnd, JunctionBy, flag_number}
-use Rattle.chart_procedures.proofs.Known.{PartsDo}
-use Rattle.chart_procedures.proofs.Searching.{notes_of, Searcher, searching, EndFactsFrom, end_from, FactsFrom}
-use Rattle.chart_procedures.proofs.Searching.{found_from, finds_from}
+use Rattle.chart_procedures.specs.SearchParts.{HasResults, Meaning, DestBy, PartsBy, EachBy, MayEnd, flag_number}
+use Rattle.chart_procedures.specs.SearchParts.{HasJunctions, PartsDo}
+use Rattle.chart_procedures.specs.SearchFrames.{notes_of, Searcher, searching, EndFactsFrom, end_from, FactsFrom}
+use Rattle.chart_procedures.specs.SearchFrames.{found_from, finds_from}
 use Rattle.chart_procedures.proofs.Pieces.{yes_life, no_life, keeping}
 use Rattle.chart_procedures.proofs.Noted.{one_note, more_notes, home_is}
 
@@ -61,10 +61,6 @@ pub record DoesList (C : Program) (P : Meaning) (S : Search) (p : Parts) : Type 
       → (w : World) → IsConsistent C.tree w.marks → lives C.tree (life_of S.state S.kind) w.marks ≡ true → (r : ℕ)
       → Meets C (machine w R.now r (searching S R i ∷ R.below)) (finds_from C P S R)
       (p.search (life_of S.state S.kind) ts R.now w)
-
--- the junctions that the list comes to have their procedures
-abbrev pub HasJunctions : Chart → Procedures → Meaning → Search → (ℕ → List TransNumbers) → Type 0
-HasJunctions c k P S qs = (j : ℕ) → P.junction j → JunctionBy k P S (S.junction j) (junction c j) (qs j)
 
 module _ (c : Chart) (b : Bounds) (k : Procedures) (P : Meaning) (S : Search) (results : HasResults S)
     (qs_of : ℕ → List TransNumbers) (junctions : HasJunctions c k P S qs_of) (p : Parts) (keep : Keeps (Consistent c) p)

@@ -13,24 +13,24 @@ use Rattle.active_config.specs.Marks.{is_bare, is_last}
 use Rattle.active_config.proofs.PathLemmas.{is_at_or_below-same}
 use Rattle.actions.specs.Exprs.{Stmt}
 use Rattle.actions.specs.World.{World, Bare}
-use Rattle.run_work.specs.Work.{Work, ◌>>=◌, then_do, nothing, choose, if_some, if_done, End, Done, Cut, Now}
-use Rattle.state_tree.specs.Chart.{Chart, node, may_return}
-use Rattle.state_tree.specs.Valid.{IsValid}
-use Rattle.state_tree.specs.declared.parts.ListKind.TheVariants.{Default}
-use Rattle.state_tree.specs.Homes.{child_toward}
-use Rattle.state_tree.proofs.Trees.{IsChild, all_map}
+use Rattle.actions.specs.Work.{Work, ◌>>=◌, then_do, nothing, choose, if_some, if_done, End, Done, Cut, Now}
+use Rattle.checked_chart.specs.Chart.{Chart, node, may_return}
+use Rattle.checked_chart.specs.Valid.{IsValid}
+use Rattle.checked_chart.specs.declared.parts.ListKind.TheVariants.{Default}
+use Rattle.checked_chart.specs.Homes.{child_toward}
+use Rattle.checked_chart.proofs.Trees.{IsChild, all_map}
 use Rattle.sos_rules.specs.Parts.{Found, Fire, DeadEnd, No, Stop, Parts}
 use Rattle.sos_rules.specs.Moves.{if_bare, exit_active, exit_children, enter_toward, after_default, default_search}
 use Rattle.sos_rules.specs.Moves.{defaults_rule, take_rule}
 use Rattle.sos_rules.specs.Rules.{rules}
 use Rattle.sos_rules.proofs.MarkedStates.{may_return_are}
 use Rattle.sos_rules.proofs.Keeps.{Keeps, Consistent, consistent_closed, exit_active_finishes}
-use Rattle.code_form.specs.Code.{Procedures}
-use Rattle.code_form.specs.Machine.{Program, Frame, machine, fresh, later}
-use Rattle.code_steps.specs.Reach.{Reaches, Meets, returns, Any, pending, with_note, HasAt}
-use Rattle.code_steps.proofs.Joins.{on_to, meets_on, meets_more, then_meets_with, choose_meets}
-use Rattle.code_steps.proofs.Steps.{go_call, go_home, go_skip, go_ret, go_play_lame}
-use Rattle.code_steps.proofs.Tests.{yes_last, no_last, yes_bare_home, no_bare_home}
+use Rattle.code_language.specs.Code.{Procedures}
+use Rattle.code_language.specs.Machine.{Program, Frame, machine, fresh, later}
+use Rattle.code_simulation.specs.Reach.{Reaches, Meets, returns, Any, pending, with_note, HasAt}
+use Rattle.code_simulation.proofs.Joins.{on_to, meets_on, meets_more, then_meets_with, choose_meets}
+use Rattle.code_simulation.proofs.Steps.{go_call, go_home, go_skip, go_ret, go_play_lame}
+use Rattle.code_simulation.proofs.Tests.{yes_last, no_last, yes_bare_home, no_bare_home}
 use Rattle.chart_procedures.specs.Numbers.{Numbers}
 use Rattle.chart_procedures.specs.StateProcedures.{search_code, return_code}
 use Rattle.chart_procedures.specs.Kinds.{running, aimed, IsPath, Tells, AreNotes, FoundFacts, found_at, DoesDefaults}

@@ -12,23 +12,24 @@ use Rattle.active_config.specs.Tree.{Tree, IsTree, state_count, comp_of, ancesto
 use Rattle.active_config.proofs.PathLemmas.{Path, Here, Up, above_of_below, parent_before, path_le}
 use Rattle.active_config.proofs.PathLemmas.{parent_lt, of_path}
 use Rattle.actions.specs.Exprs.{Stmt, Assign, Send, SendTo, Emit}
-use Rattle.state_tree.specs.declared.parts.Dest.{Dest}
-use Rattle.state_tree.specs.declared.parts.Dest.TheVariants.{State, Junction}
-use Rattle.state_tree.specs.declared.parts.ListKind.{ListKind}
-use Rattle.state_tree.specs.declared.parts.ListKind.TheVariants.{Outer, Inner, Default}
-use Rattle.state_tree.specs.Chart.{Chart, Trans, node, list_of, junction}
-use Rattle.state_tree.specs.Homes.{common_above, or_root, home_of}
-use Rattle.state_tree.specs.Reached.{LeadsTo, Reached, Directly, Through, Meets, Itself, AtJunction}
-use Rattle.state_tree.specs.Valid.{IsValid, AreStmts, AreTrans, IsDest, Closes, MayLead, LeadsWell}
-use Rattle.state_tree.proofs.PartsLemmas.{node_valid, junction_valid}
-use Rattle.state_tree.proofs.Walks.{below_is}
-use Rattle.code_form.specs.Code.{Procedures}
-use Rattle.code_form.specs.Instrs.{Cond}
+use Rattle.checked_chart.specs.declared.parts.Dest.{Dest}
+use Rattle.checked_chart.specs.declared.parts.Dest.TheVariants.{State, Junction}
+use Rattle.checked_chart.specs.declared.parts.ListKind.{ListKind}
+use Rattle.checked_chart.specs.declared.parts.ListKind.TheVariants.{Outer, Inner, Default}
+use Rattle.checked_chart.specs.Chart.{Chart, Trans, node, list_of, junction}
+use Rattle.checked_chart.specs.Homes.{common_above, or_root, home_of}
+use Rattle.checked_chart.specs.Reached.{LeadsTo, Reached, Directly, Through, Meets, Itself, AtJunction}
+use Rattle.checked_chart.specs.Valid.{IsValid, AreStmts, AreTrans, IsDest, Closes, MayLead, LeadsWell}
+use Rattle.checked_chart.proofs.PartsLemmas.{node_valid, junction_valid}
+use Rattle.checked_chart.proofs.Walks.{below_is}
+use Rattle.code_language.specs.Code.{Procedures}
+use Rattle.code_language.specs.Instrs.{Cond}
 use Rattle.chart_procedures.specs.Compiled.{PartBy, BlockAt, EachAt, ListCompiled}
 use Rattle.chart_procedures.specs.Kinds.{Targets, HasBlock, IsDestination}
 use Rattle.chart_procedures.specs.ListProcedures.{Search, context_of, search_of}
 use Rattle.chart_procedures.specs.Numbers.{Numbers, TransNumbers, ListNumbers, other_parts}
-use Rattle.chart_procedures.proofs.Known.{Meaning, DestBy, EachBy, MayEnd, JunctionBy, meaning_of}
+use Rattle.chart_procedures.specs.SearchParts.{Meaning, DestBy, EachBy, MayEnd, JunctionBy}
+use Rattle.chart_procedures.proofs.Known.{meaning_of}
 
 -- ---- statements
 

@@ -2,13 +2,13 @@
 use Rattle.std.proofs.Common.{◌≡◌, ℕ, zero, suc, ◌<◌, subst, arith, ⊎_elim}
 use Rattle.std.proofs.lemmas.Bool.{cases_lt}
 use Rattle.flow_base.specs.declared.bounds.Bounds.{Bounds}
-use Rattle.state_tree.specs.Chart.{Chart}
-use Rattle.state_tree.specs.Valid.{IsValid}
+use Rattle.checked_chart.specs.Chart.{Chart}
+use Rattle.checked_chart.specs.Valid.{IsValid}
 use Rattle.sos_rules.specs.Rules.{upto}
 use Rattle.sos_rules.proofs.Keeps.{Consistent, consistent_closed, upto_keep}
-use Rattle.code_form.specs.Code.{Procedures}
-use Rattle.code_form.specs.Machine.{Program}
-use Rattle.code_steps.proofs.Joins.{meets_unfinished}
+use Rattle.code_language.specs.Code.{Procedures}
+use Rattle.code_language.specs.Machine.{Program}
+use Rattle.code_simulation.proofs.Joins.{meets_unfinished}
 use Rattle.chart_procedures.specs.Numbers.{Numbers}
 use Rattle.chart_procedures.specs.Kinds.{DoesBlock, DoesSearch, AllDo, program}
 use Rattle.chart_procedures.specs.Compiled.{Compiled}

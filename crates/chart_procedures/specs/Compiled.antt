@@ -2,13 +2,13 @@
 use Rattle.std.specs.Prelude.{◌≡◌, ◌<◌, ℕ, List, [], ◌∷◌, Option, Some, None}
 use Rattle.active_config.specs.Tree.{state_count, comp_of}
 use Rattle.actions.specs.Exprs.{Expr, Stmt}
-use Rattle.state_tree.specs.declared.parts.ListKind.{ListKind}
-use Rattle.state_tree.specs.Chart.{Chart, Trans, node, list_of, junction, life_of, is_remembered, may_return}
-use Rattle.state_tree.specs.Reached.{Reached}
-use Rattle.code_form.specs.Code.{Procedures}
-use Rattle.code_form.specs.Instrs.{Cond}
-use Rattle.code_form.specs.Instrs as instrs
-use Rattle.code_steps.specs.Reach.{HasAt}
+use Rattle.checked_chart.specs.declared.parts.ListKind.{ListKind}
+use Rattle.checked_chart.specs.Chart.{Chart, Trans, node, list_of, junction, life_of, is_remembered, may_return}
+use Rattle.checked_chart.specs.Reached.{Reached}
+use Rattle.code_language.specs.Code.{Procedures}
+use Rattle.code_language.specs.Instrs.{Cond}
+use Rattle.code_language.specs.Instrs as instrs
+use Rattle.code_simulation.specs.Reach.{HasAt}
 use Rattle.chart_procedures.specs.Kinds.{IsPath}
 use Rattle.chart_procedures.specs.ListProcedures.{Search, search_of, list_code, junction_code}
 use Rattle.chart_procedures.specs.Numbers.{Numbers, TransNumbers, ListNumbers, condition_of, first_of_parts}

@@ -8,17 +8,17 @@ use Rattle.active_config.specs.Tree.{Tree, state_count, comp_of, is_at_or_below}
 use Rattle.actions.specs.declared.event.Event.{Event}
 use Rattle.actions.specs.Exprs.{Stmt, Assign, Send, SendTo, Emit}
 use Rattle.actions.specs.World.{World, Life, lives}
-use Rattle.run_work.specs.Work.{End, Done, Cut, Now}
-use Rattle.state_tree.specs.declared.parts.ListKind.{ListKind}
-use Rattle.state_tree.specs.declared.parts.ListKind.TheVariants.{Outer, Inner, Default}
-use Rattle.state_tree.specs.Chart.{Chart, list_of, life_of}
-use Rattle.state_tree.specs.Homes.{path_in, home_of}
+use Rattle.actions.specs.Work.{End, Done, Cut, Now}
+use Rattle.checked_chart.specs.declared.parts.ListKind.{ListKind}
+use Rattle.checked_chart.specs.declared.parts.ListKind.TheVariants.{Outer, Inner, Default}
+use Rattle.checked_chart.specs.Chart.{Chart, list_of, life_of}
+use Rattle.checked_chart.specs.Homes.{path_in, home_of}
 use Rattle.sos_rules.specs.Parts.{Found, Fire, DeadEnd, No, Stop, Parts}
-use Rattle.code_form.specs.Code.{Procedures, fetch}
-use Rattle.code_form.specs.Instrs.{Cond}
-use Rattle.code_form.specs.Machine.{Program, Frame, Machine, machine, fresh, next, later}
-use Rattle.code_form.specs.Instrs as instrs
-use Rattle.code_steps.specs.Reach.{Reaches, Aim, Meets, leaves, returns, Any, HasAt, pending}
+use Rattle.code_language.specs.Code.{Procedures, fetch}
+use Rattle.code_language.specs.Instrs.{Cond}
+use Rattle.code_language.specs.Machine.{Program, Frame, Machine, machine, fresh, next, later}
+use Rattle.code_language.specs.Instrs as instrs
+use Rattle.code_simulation.specs.Reach.{Reaches, Aim, Meets, leaves, returns, Any, HasAt, pending}
 use Rattle.chart_procedures.specs.ListProcedures.{context_of, fired_result}
 use Rattle.chart_procedures.specs.Numbers.{Numbers}
 use Rattle.chart_procedures.specs.StateProcedures.{went_result, life_test, state_of_life, block_code, each_code}

@@ -3,3 +3,5 @@ pub mod StateProcedures
 pub mod ListProcedures
 pub mod Kinds
 pub mod Compiled
+pub mod SearchParts
+pub mod SearchFrames

@@ -1,15 +1,15 @@
 -- The instructions of the procedures of a list and of the junctions that are reached from it.
 use Rattle.std.specs.Prelude.{ℕ, List, [], ◌∷◌, ◌++◌, length, Option, Some, None}
 use Rattle.active_config.specs.Tree.{Tree}
-use Rattle.state_tree.specs.declared.parts.Dest.{Dest}
-use Rattle.state_tree.specs.declared.parts.Dest.TheVariants.{State, Junction}
-use Rattle.state_tree.specs.declared.parts.ListKind.{ListKind}
-use Rattle.state_tree.specs.declared.parts.ListKind.TheVariants.{Outer, Inner, Default}
-use Rattle.state_tree.specs.Chart.{Trans, life_of}
-use Rattle.state_tree.specs.Homes.{home_of}
+use Rattle.checked_chart.specs.declared.parts.Dest.{Dest}
+use Rattle.checked_chart.specs.declared.parts.Dest.TheVariants.{State, Junction}
+use Rattle.checked_chart.specs.declared.parts.ListKind.{ListKind}
+use Rattle.checked_chart.specs.declared.parts.ListKind.TheVariants.{Outer, Inner, Default}
+use Rattle.checked_chart.specs.Chart.{Trans, life_of}
+use Rattle.checked_chart.specs.Homes.{home_of}
 use Rattle.sos_rules.specs.Parts.{Out}
-use Rattle.code_form.specs.Instrs.{Cond, Instr}
-use Rattle.code_form.specs.Instrs as instrs
+use Rattle.code_language.specs.Instrs.{Cond, Instr}
+use Rattle.code_language.specs.Instrs as instrs
 use Rattle.chart_procedures.specs.Numbers.{Numbers, TransNumbers, ListNumbers, condition_of, first_of_parts}
 use Rattle.chart_procedures.specs.Numbers.{other_parts}
 use Rattle.chart_procedures.specs.StateProcedures.{went_result, require, life_test}

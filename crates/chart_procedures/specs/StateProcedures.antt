@@ -6,11 +6,11 @@ use Rattle.active_config.specs.declared.comp.Comp.TheVariants.{Leaf, Or, And}
 use Rattle.active_config.specs.Tree.{Tree, parent_of, comp_of, children_of}
 use Rattle.actions.specs.Exprs.{Expr, Stmt, Assign, Send, SendTo, Emit}
 use Rattle.actions.specs.World.{Life, On, Bare}
-use Rattle.state_tree.specs.declared.parts.ListKind.TheVariants.{Outer, Inner, Default}
-use Rattle.state_tree.specs.Homes.{child_toward, path_in}
+use Rattle.checked_chart.specs.declared.parts.ListKind.TheVariants.{Outer, Inner, Default}
+use Rattle.checked_chart.specs.Homes.{child_toward, path_in}
 use Rattle.sos_rules.specs.Parts.{Went, Stay, Out}
-use Rattle.code_form.specs.Instrs.{Cond, Instr}
-use Rattle.code_form.specs.Instrs as instrs
+use Rattle.code_language.specs.Instrs.{Cond, Instr}
+use Rattle.code_language.specs.Instrs as instrs
 use Rattle.chart_procedures.specs.Numbers.{Numbers}
 
 -- what a procedure that processes a state returns: 1 for Stay, and 3 + h for Out h; 0 says that a search found nothing,

@@ -2,15 +2,31 @@
 ghost use Rattle.std.specs.Prelude.{◌≡◌, ◌↔◌, ℕ, List};
 ghost use Rattle.flow_base.specs.declared.bounds.Bounds.{Bounds};
 ghost use Rattle.actions.specs.Runs.{EventWithInputs, Moment};
-ghost use Rattle.state_tree.specs.Chart.{Chart};
-ghost use Rattle.state_tree.specs.Valid.{IsValid};
+ghost use Rattle.checked_chart.specs.Chart.{Chart, Trans};
+ghost use Rattle.checked_chart.specs.Valid.{IsValid};
 ghost use Rattle.sos_rules.specs.Reactions.{RulesRun};
 ghost use Rattle.sos_rules.specs.Rules.{upto};
-ghost use Rattle.code_form.specs.Code.{Code, Procedures};
-ghost use Rattle.code_form.specs.Reactions.{CodeRun};
+ghost use Rattle.code_language.specs.Code.{Code, Procedures};
+ghost use Rattle.code_language.specs.Reactions.{CodeRun};
 ghost use Rattle.chart_procedures.specs.Compiled.{Compiled, ListsCompiled};
 ghost use Rattle.chart_procedures.specs.Kinds.{program, AllDo};
-ghost use Rattle.chart_procedures.specs.Numbers.{Numbers, ListNumbers};
+ghost use Rattle.chart_procedures.specs.ListProcedures.{Search};
+ghost use Rattle.chart_procedures.specs.Numbers.{Numbers, TransNumbers, ListNumbers};
+ghost use Rattle.chart_procedures.specs.SearchFrames.{SearchesFrom};
+ghost use Rattle.chart_procedures.specs.SearchParts.{Told, told_meaning, ListStands};
+
+/// A list is searched for any continuation. In all code in which the procedures of a list and of
+/// its junctions stand, and whose guards and condition actions do their work, a new frame of the
+/// list's procedure does the search of the list by the rules, at every height of derivations. It
+/// ends with a result of its frame, at a new frame of the procedure of the firing, or at one of the
+/// end procedure; below that one lie the frames of the search, and then those that were there.
+/// Nothing is assumed of the procedures of firings and of the end.
+pub fn a_list_is_searched_for_any_continuation()
+    ensures { (c : Chart) (b : Bounds) (k : Procedures) (S : Search) (told : Told) (height proc : ℕ)
+        (list : List Trans) (numbers : List TransNumbers) (junction_numbers : ℕ → List TransNumbers)
+        → ListStands c b k S told height proc list numbers junction_numbers
+        → SearchesFrom (program c b k) (told_meaning c b k S told height) S (upto c b height) proc list }
+{}
 
 /// Where the procedures of a valid chart stand at their numbers, each of them does its piece of
 /// work of the rules: it ends in the same world, in the way that is told of its kind, or with the

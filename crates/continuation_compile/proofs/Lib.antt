@@ -3,3 +3,4 @@ pub mod TableTurns
 pub mod EndTurns
 pub mod Limits
 pub mod SearchTurns
+pub mod FrontLemmas

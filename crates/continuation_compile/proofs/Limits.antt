@@ -5,11 +5,11 @@ use Rattle.std.specs.Prelude.{slice_index_or}
 use Rattle.std.proofs.lemmas.List.Sums.{sum_by-cons}
 use Rattle.active_config.specs.Tree.{Tree, IsTree, state_count}
 use Rattle.actions.specs.Exprs.{Expr, Stmt}
-use Rattle.state_tree.specs.declared.parts.ListKind.{ListKind}
-use Rattle.state_tree.specs.declared.parts.ListKind.TheVariants.{Outer, Inner, Default}
-use Rattle.state_tree.specs.Chart.{Chart, Node, Trans, node, no_node, node_list, list_of, junction, junction_count}
-use Rattle.state_tree.specs.Counts.{node_transitions}
-use Rattle.state_tree.specs.Valid.{IsValid, AreTrans}
+use Rattle.checked_chart.specs.declared.parts.ListKind.{ListKind}
+use Rattle.checked_chart.specs.declared.parts.ListKind.TheVariants.{Outer, Inner, Default}
+use Rattle.checked_chart.specs.Chart.{Chart, Node, Trans, node, no_node, node_list, list_of, junction, junction_count}
+use Rattle.checked_chart.specs.Counts.{node_transitions}
+use Rattle.checked_chart.specs.Valid.{IsValid, AreTrans}
 use Rattle.chart_layout.specs.Ends.{below_count}
 use Rattle.chart_layout.specs.Places.{guard_count, block_count, trans_size, parts_size, reached_count}
 use Rattle.chart_layout.specs.ReachedJunctions.{reached}

@@ -1,20 +1,20 @@
 -- How a transition is written.
 use Rattle.std.proofs.Common.{◌≡◌, ◌∙◌, ℕ, zero, suc, ◌+◌, ◌<◌, ◌≤◌, List, [], ◌∷◌, ◌++◌, Option, length, drop}
 use Rattle.std.proofs.Common.{get_or, refl, sym, ap, subst, arith, append_assoc}
-use Rattle.state_tree.specs.declared.parts.Dest.{Dest}
-use Rattle.state_tree.specs.declared.parts.Dest.TheVariants.{State, Junction}
-use Rattle.state_tree.specs.declared.parts.ListKind.{ListKind}
-use Rattle.state_tree.specs.declared.parts.ListKind.TheVariants.{Outer, Inner, Default}
-use Rattle.state_tree.specs.declared.parts.Trans.{Trans as DeclaredTrans}
-use Rattle.state_tree.specs.Chart.{Chart, Trans, life_of}
-use Rattle.state_tree.specs.Valid.{IsDest, AreTrans}
-use Rattle.state_tree.specs.Views.{trans_seen, list_seen}
-use Rattle.code_form.specs.Instrs.{Cond, Instr}
+use Rattle.checked_chart.specs.declared.parts.Dest.{Dest}
+use Rattle.checked_chart.specs.declared.parts.Dest.TheVariants.{State, Junction}
+use Rattle.checked_chart.specs.declared.parts.ListKind.{ListKind}
+use Rattle.checked_chart.specs.declared.parts.ListKind.TheVariants.{Outer, Inner, Default}
+use Rattle.checked_chart.specs.declared.parts.Trans.{Trans as DeclaredTrans}
+use Rattle.checked_chart.specs.Chart.{Chart, Trans, life_of}
+use Rattle.checked_chart.specs.Valid.{IsDest, AreTrans}
+use Rattle.checked_chart.specs.Views.{trans_seen, list_seen}
+use Rattle.code_language.specs.Instrs.{Cond, Instr}
 use Rattle.chart_procedures.specs.ListProcedures.{Search, dest_code, condition_code, guarded_code, event_code, trans_code}
 use Rattle.chart_procedures.specs.ListProcedures.{list_code}
 use Rattle.chart_procedures.specs.Numbers.{TransNumbers, condition_of}
 use Rattle.chart_procedures.specs.StateProcedures.{life_test}
-use Rattle.code_form.specs.Instrs as instrs
+use Rattle.code_language.specs.Instrs as instrs
 use Rattle.chart_layout.specs.Places.{trans_size, parts_size, trans_numbers, parts_numbers}
 use Rattle.continuation_compile.specs.Drafts.{test_of}
 use Rattle.continuation_compile.specs.Searches.{lasting_seen}

@@ -3,10 +3,10 @@ use Rattle.std.proofs.Common.{◌≡◌, ℕ, zero, suc, ◌+◌, ◌-◌, ◌<�
 use Rattle.std.proofs.Common.{refl, sym, ap, ◌∙◌, arith}
 use Rattle.std.specs.Prelude.{slice_get, slice_index_or}
 use Rattle.std.specs.List.{AllByRecursion}
-use Rattle.state_tree.specs.declared.parts.Dest.{Dest}
-use Rattle.state_tree.specs.declared.parts.Dest.TheVariants.{State, Junction}
-use Rattle.state_tree.specs.Chart.{Chart, Trans, junction_count}
-use Rattle.state_tree.specs.Valid.{AreTrans, IsDest}
+use Rattle.checked_chart.specs.declared.parts.Dest.{Dest}
+use Rattle.checked_chart.specs.declared.parts.Dest.TheVariants.{State, Junction}
+use Rattle.checked_chart.specs.Chart.{Chart, Trans, junction_count}
+use Rattle.checked_chart.specs.Valid.{AreTrans, IsDest}
 use Rattle.chart_layout.specs.ReachedJunctions.{has, meet_one, meet, on_some, spread, with_junction, junctions_to}
 
 -- within a list an item stands

@@ -1,11 +1,11 @@
 -- Drafts and code as contracts see them.
-use Rattle.std.specs.Prelude.{List, map}
+use Rattle.std.specs.Prelude.{◌≡◌, List, ◌++◌, map}
 use Rattle.flow_base.specs.declared.list.List.{List as Listed}
 use Rattle.flow_base.specs.Lists.{items_of}
-use Rattle.code_form.specs.declared.instr.Instr.{Instr as DeclaredInstr}
+use Rattle.code_language.specs.declared.instr.Instr.{Instr as DeclaredInstr}
 use Rattle.actions.specs.Exprs.{Stmt}
-use Rattle.code_form.specs.Code.{instrs_of}
-use Rattle.code_form.specs.Instrs.{Cond, OnHome, BareHome, Instr}
+use Rattle.code_language.specs.Code.{instrs_of}
+use Rattle.code_language.specs.Instrs.{Cond, OnHome, BareHome, Instr}
 use Rattle.continuation_compile.specs.declared.blocks.Lasting.{Lasting}
 use Rattle.continuation_compile.specs.declared.blocks.Lasting.TheVariants.{On, Bare}
 use Rattle.continuation_compile.specs.declared.draft.Draft.{Draft}
@@ -25,6 +25,10 @@ code_seen code = instrs_of (items_of code)
 -- the procedures of a draft
 abbrev pub procs_of : Draft → List (List Instr)
 procs_of d = map (λ is. instrs_of (items_of is)) (items_of d.procs)
+
+-- the first procedures are a front of the others: what was appended comes after them
+abbrev pub IsFront : List (List Instr) → List (List Instr) → Type 0
+IsFront first all = (more : List (List Instr)) × (all ≡ first ++ more)
 
 -- the test of how long an action or a search goes on
 abbrev pub test_of : Lasting → Cond

@@ -2,10 +2,10 @@
 use Rattle.std.specs.Prelude.{suc}
 use Rattle.flow_base.specs.Lists.{items_of}
 use Rattle.active_config.specs.Tree.{state_count}
-use Rattle.state_tree.specs.declared.parts.ListKind.TheVariants.{Outer, Default}
-use Rattle.state_tree.specs.Chart.{Chart, junction_count}
-use Rattle.state_tree.specs.Kept.{chart_of}
-use Rattle.state_tree.specs.Valid.{IsValid}
+use Rattle.checked_chart.specs.declared.parts.ListKind.TheVariants.{Outer, Default}
+use Rattle.checked_chart.specs.Chart.{Chart, junction_count}
+use Rattle.checked_chart.specs.Kept.{chart_of}
+use Rattle.checked_chart.specs.Valid.{IsValid}
 use Rattle.chart_layout.specs.Ends.{below_count}
 use Rattle.chart_layout.specs.Orders.{sum_to}
 use Rattle.chart_layout.specs.Places.{reached_count, state_parts_size, junction_parts_size, group_size, lists_size}

@@ -1,9 +1,9 @@
 -- Searches as contracts see them.
 use Rattle.std.specs.Prelude.{◌≡◌, ◌<◌, ◌≤◌, length}
 use Rattle.active_config.specs.Tree.{state_count}
-use Rattle.state_tree.specs.declared.parts.ListKind.{ListKind}
-use Rattle.state_tree.specs.declared.parts.ListKind.TheVariants.{Outer, Inner, Default}
-use Rattle.state_tree.specs.Chart.{Chart, list_of}
+use Rattle.checked_chart.specs.declared.parts.ListKind.{ListKind}
+use Rattle.checked_chart.specs.declared.parts.ListKind.TheVariants.{Outer, Inner, Default}
+use Rattle.checked_chart.specs.Chart.{Chart, list_of}
 use Rattle.chart_procedures.specs.ListProcedures as templates
 use Rattle.chart_layout.specs.Places.{numbers, list_numbers, list_at}
 use Rattle.chart_layout.specs.ReachedJunctions.{reached}

@@ -1,8 +1,8 @@
 //! The code of guards and of actions.
 ghost use Rattle.std.specs.Prelude.{◌≡◌, ◌++◌, ◌∷◌, [], map, OnOk};
 ghost use Rattle.actions.specs.Trees.{expr_of, stmt_of};
-ghost use Rattle.code_form.specs.Code.{cond_of};
-ghost use Rattle.state_tree.specs.Views.{block_seen, trans_seen, list_seen};
+ghost use Rattle.code_language.specs.Code.{cond_of};
+ghost use Rattle.checked_chart.specs.Views.{block_seen, trans_seen, list_seen};
 ghost use Rattle.chart_procedures.specs.StateProcedures as templates;
 ghost use Rattle.chart_layout.specs.Places.{numbers};
 ghost use Rattle.chart_layout.specs.Keys as keys;
@@ -13,9 +13,9 @@ ghost use Rattle.continuation_compile.specs.Numberings.{chart_in, IsNumbering};
 use crate::draft::{Draft, append, put, put_require, put_return};
 use crate::numbering::Numbering;
 use actions::{Expr, Stmt, copy_expr};
-use code_form::{Cond, Instr};
+use checked_chart::Trans;
+use code_language::{Cond, Instr};
 use flow_base::{List, Memory};
-use state_tree::Trans;
 use std::alloc::Global;
 
 /// How long an action or a search goes on, for the state that is the home of the call.

@@ -2,8 +2,8 @@
 ghost use Rattle.std.specs.Prelude.{◌≡◌, ◌<◌, ◌≤◌, ◌+◌, ◌*◌, length, slice_index_or, IfOk};
 ghost use Rattle.flow_base.specs.Lists.{items_of};
 ghost use Rattle.active_config.specs.Tree.{IsTree, state_count};
-ghost use Rattle.state_tree.specs.Chart.{junction_count};
-ghost use Rattle.state_tree.specs.Kept.{chart_of};
+ghost use Rattle.checked_chart.specs.Chart.{junction_count};
+ghost use Rattle.checked_chart.specs.Kept.{chart_of};
 ghost use Rattle.chart_layout.specs.Ends as ends;
 ghost use Rattle.chart_layout.specs.Places as places;
 ghost use Rattle.continuation_compile.specs.Tables.{IsTable, AreLow};
@@ -12,8 +12,8 @@ use crate::reached::reached;
 use crate::sizes::{below_count, parts_size};
 use crate::tables::entry;
 use active_config::Shape;
+use checked_chart::{Chart, ListKind};
 use flow_base::{List, Memory};
-use state_tree::{Chart, ListKind};
 use std::alloc::Global;
 
 /// How many states are strictly below each state.
@@ -51,7 +51,7 @@ pub(crate) fn reached_counts(
 pub(crate) fn list_parts_size(chart: &Chart, state: u32, kind: ListKind) -> u32
     requires { state < state_count (chart_of chart.now).tree }
     ensures size { result ≡ places.parts_size
-        (Rattle.state_tree.specs.Chart.list_of (chart_of chart.now) state kind) }
+        (Rattle.checked_chart.specs.Chart.list_of (chart_of chart.now) state kind) }
     ensures low { result ≤ 32768 }
 {
     let _ = chart.shape();

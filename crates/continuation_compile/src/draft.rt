@@ -1,11 +1,11 @@
 //! Drafts: procedures that are appended, and instructions that are appended to one.
 ghost use Rattle.std.specs.Prelude.{◌≡◌, [], ◌∷◌, ◌++◌, OnOk, OnErr, None};
-ghost use Rattle.code_form.specs.Code.{cond_of, instr_of};
-ghost use Rattle.code_form.specs.Instrs as instrs;
+ghost use Rattle.code_language.specs.Code.{cond_of, instr_of};
+ghost use Rattle.code_language.specs.Instrs as instrs;
 ghost use Rattle.chart_procedures.specs.StateProcedures as templates;
 ghost use Rattle.continuation_compile.specs.Drafts.{code_seen, procs_of};
 
-use code_form::{Cond, Instr};
+use code_language::{Cond, Instr};
 use flow_base::{List, Memory};
 
 /// Procedures, the first of which has number 0.

@@ -1,9 +1,9 @@
 //! The numbers of the procedures of a chart.
 ghost use Rattle.std.specs.Prelude.{◌≡◌, ◌<◌, ◌≤◌, ◌+◌, ◌*◌, IfOk};
 ghost use Rattle.active_config.specs.Tree.{state_count};
-ghost use Rattle.state_tree.specs.Chart.{junction_count};
-ghost use Rattle.state_tree.specs.declared.parts.ListKind.TheVariants.{Outer, Default};
-ghost use Rattle.state_tree.specs.Kept.{chart_of};
+ghost use Rattle.checked_chart.specs.Chart.{junction_count};
+ghost use Rattle.checked_chart.specs.declared.parts.ListKind.TheVariants.{Outer, Default};
+ghost use Rattle.checked_chart.specs.Kept.{chart_of};
 ghost use Rattle.chart_layout.specs.Ends as ends;
 ghost use Rattle.chart_layout.specs.Places as places;
 ghost use Rattle.continuation_compile.specs.Numberings.{chart_in, IsNumbering};
@@ -11,8 +11,8 @@ ghost use Rattle.continuation_compile.specs.Numberings.{chart_in, IsNumbering};
 use crate::counts::{below_counts, list_parts_size, reached_counts};
 use crate::offsets::{groups_before, junction_parts_before, lists_before, parts_before};
 use crate::tables::entry;
+use checked_chart::{Chart, ListKind};
 use flow_base::{List, Memory};
-use state_tree::{Chart, ListKind};
 use std::alloc::Global;
 
 /// A chart with its numbers, for each state or junction in a table.

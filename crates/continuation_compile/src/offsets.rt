@@ -2,9 +2,9 @@
 ghost use Rattle.std.specs.Prelude.{suc, IfOk};
 ghost use Rattle.flow_base.specs.Lists.{items_of};
 ghost use Rattle.active_config.specs.Tree.{state_count};
-ghost use Rattle.state_tree.specs.Chart.{junction_count};
-ghost use Rattle.state_tree.specs.declared.parts.ListKind.TheVariants.{Outer, Default};
-ghost use Rattle.state_tree.specs.Kept.{chart_of};
+ghost use Rattle.checked_chart.specs.Chart.{junction_count};
+ghost use Rattle.checked_chart.specs.declared.parts.ListKind.TheVariants.{Outer, Default};
+ghost use Rattle.checked_chart.specs.Kept.{chart_of};
 ghost use Rattle.chart_layout.specs.Ends as ends;
 ghost use Rattle.chart_layout.specs.Orders.{sum_to};
 ghost use Rattle.chart_layout.specs.Places as places;
@@ -14,8 +14,8 @@ use crate::counts::{
     group_sizes, junction_parts_sizes, lists_sizes, reached_counts, state_parts_sizes,
 };
 use crate::tables::sums_before;
+use checked_chart::{Chart, ListKind};
 use flow_base::{List, Memory};
-use state_tree::{Chart, ListKind};
 use std::alloc::Global;
 
 /// How many procedures the parts of the transitions of the states before each state have.

@@ -1,10 +1,10 @@
 //! The numbers of the parts of a transition.
 ghost use Rattle.std.specs.Prelude.{◌≡◌, ◌≤◌, ◌+◌};
-ghost use Rattle.state_tree.specs.Views.{trans_seen};
+ghost use Rattle.checked_chart.specs.Views.{trans_seen};
 ghost use Rattle.chart_procedures.specs.Numbers.{condition_of};
 ghost use Rattle.chart_layout.specs.Places.{guard_count, trans_numbers};
 
-use state_tree::{ListKind, Trans};
+use checked_chart::{ListKind, Trans};
 
 /// The number of its guard's procedure, where the first of its parts has the number `first`.
 pub(crate) fn guard_number(t: &Trans, first: u32) -> Option<u32>

@@ -2,14 +2,14 @@
 ghost use Rattle.std.specs.Prelude.{◌≡◌, ◌<◌, ◌≤◌, ◌^◌, OnOk, IfOk, length};
 ghost use Rattle.std.specs.List.{AllByRecursion};
 ghost use Rattle.flow_base.specs.Lists.{items_of};
-ghost use Rattle.state_tree.specs.Chart.{junction_count};
-ghost use Rattle.state_tree.specs.Kept.{chart_of};
-ghost use Rattle.state_tree.specs.Valid.{AreTrans};
-ghost use Rattle.state_tree.specs.Views.{list_seen};
+ghost use Rattle.checked_chart.specs.Chart.{junction_count};
+ghost use Rattle.checked_chart.specs.Kept.{chart_of};
+ghost use Rattle.checked_chart.specs.Valid.{AreTrans};
+ghost use Rattle.checked_chart.specs.Views.{list_seen};
 ghost use Rattle.chart_layout.specs.ReachedJunctions as spec;
 
+use checked_chart::{Chart, Dest, Trans};
 use flow_base::{List, Memory};
-use state_tree::{Chart, Dest, Trans};
 use std::alloc::Global;
 
 /// Whether a number is in a list.

@@ -1,16 +1,16 @@
 //! The code of lists of transitions, and of the junctions that are reached from them.
-ghost use Rattle.std.specs.Prelude.{◌≡◌, ◌<◌, ◌≤◌, ◌+◌, ◌++◌, ◌∷◌, [], map, length, OnOk};
+ghost use Rattle.std.specs.Prelude.{◌≡◌, ◌<◌, ◌≤◌, ◌+◌, ◌++◌, ◌∷◌, [], map, length, OnOk, OnErr};
 ghost use Rattle.std.specs.List.{AllByRecursion};
 ghost use Rattle.active_config.specs.Tree.{state_count};
-ghost use Rattle.state_tree.specs.Chart.{junction_count};
-ghost use Rattle.state_tree.specs.Valid.{AreTrans, IsDest};
-ghost use Rattle.state_tree.specs.Views.{list_seen, trans_seen};
+ghost use Rattle.checked_chart.specs.Chart.{junction_count};
+ghost use Rattle.checked_chart.specs.Valid.{AreTrans, IsDest};
+ghost use Rattle.checked_chart.specs.Views.{list_seen, trans_seen};
 ghost use Rattle.chart_procedures.specs.ListProcedures as templates;
-ghost use Rattle.code_form.specs.Instrs as instrs;
+ghost use Rattle.code_language.specs.Instrs as instrs;
 ghost use Rattle.chart_layout.specs.Places as places;
 ghost use Rattle.chart_layout.specs.Keys as keys;
 ghost use Rattle.chart_layout.specs.Bodies.{body};
-ghost use Rattle.continuation_compile.specs.Drafts.{Instrs, code_seen, procs_of, test_of};
+ghost use Rattle.continuation_compile.specs.Drafts.{Instrs, IsFront, code_seen, procs_of, test_of};
 ghost use Rattle.continuation_compile.specs.Numberings.{chart_in, IsNumbering};
 ghost use Rattle.continuation_compile.specs.Searches.{IsSearch, search_seen, lasting_seen};
 
@@ -20,9 +20,9 @@ use crate::numbering::Numbering;
 use crate::parts::{action_number, condition_number, guard_number};
 use crate::reached::{place_of, reached};
 use crate::sizes::trans_size;
-use code_form::{Cond, Instr};
+use checked_chart::{Dest, ListKind, Trans};
+use code_language::{Cond, Instr};
 use flow_base::{List, Memory};
-use state_tree::{Dest, ListKind, Trans};
 use std::alloc::Global;
 
 /// A list of a state, with the number of its procedure and the junctions that are reached from it.
@@ -285,9 +285,10 @@ fn append_junction(
     requires numbers { IsNumbering numbering.now }
     requires search { IsSearch (chart_in numbering.now) search.now }
     requires junction { junction < junction_count (chart_in numbering.now) }
-    ensures { OnOk result (procs_of draft.new ≡ procs_of draft.old
+    ensures ok { OnOk result (procs_of draft.new ≡ procs_of draft.old
         ++ body (chart_in numbering.now)
         (keys.JunctionOf search.now.state search.now.kind junction) ∷ []) }
+    ensures err { OnErr result (procs_of draft.new ≡ procs_of draft.old) }
 {
     let list = numbering.chart.junction(junction);
     let first = numbering.parts_of_junction(junction);
@@ -308,9 +309,10 @@ fn append_junctions(
     requires numbers { IsNumbering numbering.now }
     requires search { IsSearch (chart_in numbering.now) search.now }
     requires within { AllByRecursion (λ j. j < junction_count (chart_in numbering.now)) found.now }
-    ensures { OnOk result (procs_of draft.new ≡ procs_of draft.old
+    ensures ok { OnOk result (procs_of draft.new ≡ procs_of draft.old
         ++ map (body (chart_in numbering.now))
         (map (λ j. keys.JunctionOf search.now.state search.now.kind j) found.now)) }
+    ensures err { OnErr result (IsFront (procs_of draft.old) (procs_of draft.new)) }
 {
     for junction in found {
         append_junction(alloc, draft, numbering, search, *junction)?;
@@ -328,8 +330,9 @@ fn append_first(
 ) -> Result<(), Memory>
     requires numbers { IsNumbering numbering.now }
     requires search { IsSearch (chart_in numbering.now) search.now }
-    ensures { OnOk result (procs_of draft.new ≡ procs_of draft.old
+    ensures ok { OnOk result (procs_of draft.new ≡ procs_of draft.old
         ++ body (chart_in numbering.now) (keys.ListOf search.now.state search.now.kind) ∷ []) }
+    ensures err { OnErr result (procs_of draft.new ≡ procs_of draft.old) }
 {
     let list = numbering.chart.list(search.state, search.kind);
     let first = numbering.parts(search.state, search.kind);
@@ -341,6 +344,7 @@ fn append_first(
 }
 
 /// Appends the procedure of a list of a state, and those of the junctions that are reached from it.
+/// After an error the procedures that were there are a front of those that are there then.
 pub fn append_list(
     alloc: Global,
     draft: &mut Draft,
@@ -350,9 +354,10 @@ pub fn append_list(
 ) -> Result<(), Memory>
     requires numbers { IsNumbering numbering.now }
     requires state { state < state_count (chart_in numbering.now).tree }
-    ensures { OnOk result (procs_of draft.new ≡ procs_of draft.old
+    ensures ok { OnOk result (procs_of draft.new ≡ procs_of draft.old
         ++ map (body (chart_in numbering.now))
         (keys.search_keys (chart_in numbering.now) state kind)) }
+    ensures err { OnErr result (IsFront (procs_of draft.old) (procs_of draft.new)) }
 {
     let list = numbering.chart.list(state, kind);
     let junctions = reached(alloc, numbering.chart, list)?;

@@ -2,12 +2,12 @@
 ghost use Rattle.std.specs.Prelude.{◌≡◌, ◌<◌, ◌≤◌, ◌^◌};
 ghost use Rattle.active_config.specs.Tree.{state_count};
 ghost use Rattle.active_config.specs.Tree as trees;
-ghost use Rattle.state_tree.specs.Views.{list_seen, trans_seen};
+ghost use Rattle.checked_chart.specs.Views.{list_seen, trans_seen};
 ghost use Rattle.chart_layout.specs.Ends as ends;
 ghost use Rattle.chart_layout.specs.Places as places;
 
 use active_config::Shape;
-use state_tree::Trans;
+use checked_chart::Trans;
 
 /// How many procedures the parts of a transition have.
 #[tactic(auto, unfolding(chart_layout::specs::Places::trans_size))]

@@ -6,12 +6,12 @@ use Rattle.std.specs.List.{AllByRecursion}
 use Rattle.std.specs.Option.{option_map_or}
 use Rattle.active_config.specs.Tree.{state_count}
 use Rattle.actions.specs.Exprs.{Expr, Stmt}
-use Rattle.state_tree.specs.declared.parts.ListKind.{ListKind}
-use Rattle.state_tree.specs.Chart.{Chart, Trans, list_of, junction}
-use Rattle.state_tree.specs.Valid.{IsValid}
-use Rattle.code_form.specs.Instrs.{Instr}
-use Rattle.code_form.specs.Measures.{reckon}
-use Rattle.code_form.proofs.Reckoned.{IsMeasure, reckon_bounded}
+use Rattle.checked_chart.specs.declared.parts.ListKind.{ListKind}
+use Rattle.checked_chart.specs.Chart.{Chart, Trans, list_of, junction}
+use Rattle.checked_chart.specs.Valid.{IsValid}
+use Rattle.code_language.specs.Instrs.{Instr}
+use Rattle.code_language.specs.Measures.{reckon}
+use Rattle.code_language.proofs.Reckoned.{IsMeasure, reckon_bounded}
 use Rattle.chart_procedures.specs.Kinds.{IsPath}
 use Rattle.chart_procedures.specs.Numbers.{Numbers}
 use Rattle.chart_layout.specs.Ends.{end_of}

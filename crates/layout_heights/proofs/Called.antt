@@ -3,15 +3,15 @@ use Rattle.std.proofs.Common.{◌≡◌, ℕ, ◌<◌, true, List, [], ◌∷◌
 use Rattle.std.specs.Prelude.{IfSome}
 use Rattle.active_config.specs.Tree.{Tree, state_count}
 use Rattle.actions.specs.Exprs.{Expr, Stmt}
-use Rattle.state_tree.specs.declared.parts.Dest.{Dest}
-use Rattle.state_tree.specs.declared.parts.Dest.TheVariants.{State, Junction}
-use Rattle.state_tree.specs.declared.parts.ListKind.{ListKind}
-use Rattle.state_tree.specs.declared.parts.ListKind.TheVariants.{Outer, Inner, Default}
-use Rattle.state_tree.specs.Chart.{Chart, Trans, list_of, junction}
-use Rattle.state_tree.specs.Homes.{home_of}
-use Rattle.state_tree.specs.Reached.{Reached}
-use Rattle.state_tree.specs.Valid.{IsValid}
-use Rattle.code_form.specs.Code.{Procedures}
+use Rattle.checked_chart.specs.declared.parts.Dest.{Dest}
+use Rattle.checked_chart.specs.declared.parts.Dest.TheVariants.{State, Junction}
+use Rattle.checked_chart.specs.declared.parts.ListKind.{ListKind}
+use Rattle.checked_chart.specs.declared.parts.ListKind.TheVariants.{Outer, Inner, Default}
+use Rattle.checked_chart.specs.Chart.{Chart, Trans, list_of, junction}
+use Rattle.checked_chart.specs.Homes.{home_of}
+use Rattle.checked_chart.specs.Reached.{Reached}
+use Rattle.checked_chart.specs.Valid.{IsValid}
+use Rattle.code_language.specs.Code.{Procedures}
 use Rattle.chart_procedures.specs.Compiled.{GuardBy, PartBy, ListCompiled}
 use Rattle.chart_procedures.specs.Kinds.{IsDestination}
 use Rattle.chart_procedures.specs.ListProcedures.{Search, context_of, search_of}
@@ -28,7 +28,7 @@ use Rattle.chart_layout.proofs.PartStands.{PartsStand, EachStands, list_parts_st
 use Rattle.chart_layout.proofs.ReachedLemmas.{are_reached, reached_within, list_valid}
 use Rattle.chart_layout.proofs.StateStands.{StandsAt, take_stands, arrive_stands}
 use Rattle.chart_layout.proofs.Whole.{lists_compiled}
-use Rattle.procedure_counts.specs.Calls.{EachTrans, FiringCalls, ListCalls}
+use Rattle.layout_costs.specs.Calls.{EachTrans, FiringCalls, ListCalls}
 
 -- what a list calls for a destination: an outer or an inner list takes a firing, a default list arrives
 abbrev pub fire_key : Tree → ℕ → ListKind → ℕ → Key

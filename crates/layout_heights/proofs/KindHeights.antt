@@ -4,15 +4,15 @@ use Rattle.std.specs.Prelude.{IfSome}
 use Rattle.active_config.specs.Tree.{parent_of, state_count}
 use Rattle.active_config.proofs.PathLemmas.{is_at_or_below-same}
 use Rattle.actions.specs.Exprs.{Expr, Stmt}
-use Rattle.state_tree.specs.declared.limits.TheConstants.{STATE_DEPTH_LIMIT}
-use Rattle.state_tree.specs.declared.parts.ListKind.{ListKind}
-use Rattle.state_tree.specs.declared.parts.ListKind.TheVariants.{Outer, Inner, Default}
-use Rattle.state_tree.specs.Chart.{Chart, node, list_of, junction}
-use Rattle.state_tree.specs.Homes.{home_of}
-use Rattle.state_tree.specs.Valid.{IsValid}
-use Rattle.state_tree.proofs.Trees.{IsChild, child_is}
-use Rattle.code_form.specs.Instrs as instrs
-use Rattle.code_form.specs.Measures.{height_by}
+use Rattle.checked_chart.specs.declared.limits.TheConstants.{STATE_DEPTH_LIMIT}
+use Rattle.checked_chart.specs.declared.parts.ListKind.{ListKind}
+use Rattle.checked_chart.specs.declared.parts.ListKind.TheVariants.{Outer, Inner, Default}
+use Rattle.checked_chart.specs.Chart.{Chart, node, list_of, junction}
+use Rattle.checked_chart.specs.Homes.{home_of}
+use Rattle.checked_chart.specs.Valid.{IsValid}
+use Rattle.checked_chart.proofs.Trees.{IsChild, child_is}
+use Rattle.code_language.specs.Instrs as instrs
+use Rattle.code_language.specs.Measures.{height_by}
 use Rattle.chart_procedures.specs.Kinds.{IsPath, IsDestination}
 use Rattle.chart_procedures.specs.ListProcedures.{context_of, search_of}
 use Rattle.chart_procedures.specs.Numbers.{Numbers, ListNumbers}
@@ -23,9 +23,9 @@ use Rattle.chart_layout.specs.Keys.{Process}
 use Rattle.chart_layout.specs.Places.{numbers, list_numbers}
 use Rattle.chart_layout.specs.Bodies.{body}
 use Rattle.chart_layout.proofs.StateStands.{StandsAt}
-use Rattle.procedure_counts.specs.Heights.{StateHeights, ListHeights}
-use Rattle.procedure_counts.proofs.StateHeights.{state_heights}
-use Rattle.procedure_counts.proofs.ListHeights.{list_heights}
+use Rattle.layout_costs.specs.Heights.{StateHeights, ListHeights}
+use Rattle.layout_costs.proofs.StateHeights.{state_heights}
+use Rattle.layout_costs.proofs.ListHeights.{list_heights}
 use Rattle.layout_heights.specs.Heights.{rank, search_height, height_bound}
 use Rattle.layout_heights.proofs.Bounded.{OfEach, bound_at, at_key, end_mark_bound, enter_bound, arrive_bound}
 use Rattle.layout_heights.proofs.Bounded.{entry_bound, during_bound, exit_action_bound, leave_bound, exit_bound}

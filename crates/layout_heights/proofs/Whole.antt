@@ -1,15 +1,15 @@
 -- The heights of the procedures of the code of a chart.
 use Rattle.std.proofs.Common.{◌≡◌, ℕ, ◌+◌, ◌*◌, ◌≤◌, List, [], ◌∷◌, suc, None, arith}
 use Rattle.std.specs.Prelude.{slice_index}
-use Rattle.state_tree.specs.declared.limits.TheConstants.{STATE_DEPTH_LIMIT}
-use Rattle.state_tree.specs.Chart.{Chart}
-use Rattle.state_tree.specs.Valid.{IsValid}
-use Rattle.code_form.specs.declared.fault.CodeKind.TheVariants as kinds
-use Rattle.code_form.specs.declared.limits.TheConstants.{HEIGHT_LIMIT}
-use Rattle.code_form.specs.Measures.{height_by, heights, greatest}
-use Rattle.code_form.specs.WellFormed.{first_over}
-use Rattle.code_form.proofs.Greatest.{none_over_greatest}
-use Rattle.code_form.proofs.Measures.{height_measure}
+use Rattle.checked_chart.specs.declared.limits.TheConstants.{STATE_DEPTH_LIMIT}
+use Rattle.checked_chart.specs.Chart.{Chart}
+use Rattle.checked_chart.specs.Valid.{IsValid}
+use Rattle.code_language.specs.declared.fault.CodeKind.TheVariants as kinds
+use Rattle.code_language.specs.declared.limits.TheConstants.{HEIGHT_LIMIT}
+use Rattle.code_language.specs.Measures.{height_by, heights, greatest}
+use Rattle.code_language.specs.WellFormed.{first_over}
+use Rattle.code_language.proofs.Greatest.{none_over_greatest}
+use Rattle.code_language.proofs.Measures.{height_measure}
 use Rattle.chart_layout.specs.Keys.{Key}
 use Rattle.chart_layout.specs.Bodies.{code_of_chart}
 use Rattle.chart_layout.proofs.StateStands.{StandsAt}

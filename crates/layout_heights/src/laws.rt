@@ -1,12 +1,12 @@
 //! How high the procedures of the code of a chart are.
 ghost use Rattle.std.specs.Prelude.{◌≡◌, ◌≤◌, ◌+◌, ◌*◌, ℕ, Some, None, slice_get, slice_index};
-ghost use Rattle.state_tree.specs.declared.limits.TheConstants.{STATE_DEPTH_LIMIT};
-ghost use Rattle.state_tree.specs.Chart.{Chart};
-ghost use Rattle.state_tree.specs.Valid.{IsValid};
-ghost use Rattle.code_form.specs.declared.fault.CodeKind.TheVariants as kinds;
-ghost use Rattle.code_form.specs.declared.limits.TheConstants.{HEIGHT_LIMIT};
-ghost use Rattle.code_form.specs.Measures.{heights, greatest};
-ghost use Rattle.code_form.specs.WellFormed.{first_over};
+ghost use Rattle.checked_chart.specs.declared.limits.TheConstants.{STATE_DEPTH_LIMIT};
+ghost use Rattle.checked_chart.specs.Chart.{Chart};
+ghost use Rattle.checked_chart.specs.Valid.{IsValid};
+ghost use Rattle.code_language.specs.declared.fault.CodeKind.TheVariants as kinds;
+ghost use Rattle.code_language.specs.declared.limits.TheConstants.{HEIGHT_LIMIT};
+ghost use Rattle.code_language.specs.Measures.{heights, greatest};
+ghost use Rattle.code_language.specs.WellFormed.{first_over};
 ghost use Rattle.chart_layout.specs.Bodies.{code_of_chart};
 ghost use Rattle.chart_layout.specs.Keys.{Key, layout};
 ghost use Rattle.layout_heights.specs.Heights.{height_bound};

@@ -3,16 +3,16 @@ use Rattle.std.proofs.Common.{◌≡◌, ℕ, zero, suc, ◌+◌, ◌*◌, ◌�
 use Rattle.std.specs.Prelude.{nat_lt}
 use Rattle.std.specs.List.{list_any}
 use Rattle.active_config.specs.Tree.{state_count}
-use Rattle.state_tree.specs.declared.limits.TheConstants.{STATE_DEPTH_LIMIT}
-use Rattle.state_tree.specs.declared.parts.ListKind.{ListKind}
-use Rattle.state_tree.specs.declared.parts.ListKind.TheVariants.{Outer, Inner, Default}
-use Rattle.state_tree.specs.Chart.{Chart, list_of, junction, junction_count}
-use Rattle.state_tree.specs.Counts.{transition_count}
-use Rattle.state_tree.specs.Reached.{weight, ArePairs, PairsBelow, ChartPairs}
-use Rattle.state_tree.specs.Valid.{IsValid}
-use Rattle.code_form.specs.declared.limits.TheConstants.{PROC_LIMIT, INSTR_LIMIT}
-use Rattle.code_form.specs.Instrs.{Instr}
-use Rattle.code_form.specs.WellFormed.{too_many}
+use Rattle.checked_chart.specs.declared.limits.TheConstants.{STATE_DEPTH_LIMIT}
+use Rattle.checked_chart.specs.declared.parts.ListKind.{ListKind}
+use Rattle.checked_chart.specs.declared.parts.ListKind.TheVariants.{Outer, Inner, Default}
+use Rattle.checked_chart.specs.Chart.{Chart, list_of, junction, junction_count}
+use Rattle.checked_chart.specs.Counts.{transition_count}
+use Rattle.checked_chart.specs.Reached.{weight, ArePairs, PairsBelow, ChartPairs}
+use Rattle.checked_chart.specs.Valid.{IsValid}
+use Rattle.code_language.specs.declared.limits.TheConstants.{PROC_LIMIT, INSTR_LIMIT}
+use Rattle.code_language.specs.Instrs.{Instr}
+use Rattle.code_language.specs.WellFormed.{too_many}
 use Rattle.chart_layout.specs.Bodies.{procedures_of, code_of_chart}
 use Rattle.chart_layout.specs.Places.{below_total}
 use Rattle.chart_layout.specs.ReachedJunctions.{has, reached}
@@ -20,7 +20,7 @@ use Rattle.chart_layout.proofs.Count.{total_is}
 use Rattle.chart_layout.proofs.Pairs.{reached_pairs}
 use Rattle.chart_layout.proofs.ReachedLemmas.{are_reached, list_valid}
 use Rattle.chart_layout.proofs.Whole.{procedures_length}
-use Rattle.tree_sums.proofs.Counts.{below_counts_most}
+use Rattle.layout_sums.proofs.Counts.{below_counts_most}
 use Rattle.layout_soundness.specs.Counts.{filled_blocks}
 use Rattle.layout_soundness.proofs.Lengths.{not_over, neither, code_short}
 use Rattle.layout_soundness.proofs.PartCounts.{parts_few, parts_fourfold}

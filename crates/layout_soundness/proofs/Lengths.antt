@@ -8,14 +8,14 @@ use Rattle.std.proofs.lemmas.List.FromFn.{length-range_with_len}
 use Rattle.std.proofs.lemmas.List.Sums.{length-filter, count_by-le-length, get_or-le-sum_by}
 use Rattle.active_config.specs.Tree.{state_count, is_child, children_below, children_of}
 use Rattle.actions.specs.Exprs.{Expr, Stmt}
-use Rattle.state_tree.specs.declared.parts.ListKind.{ListKind}
-use Rattle.state_tree.specs.declared.parts.ListKind.TheVariants.{Outer, Inner, Default}
-use Rattle.state_tree.specs.Chart.{Chart, Trans, node, no_node, list_of, junction, junction_count}
-use Rattle.state_tree.specs.Counts.{node_transitions, transition_count}
-use Rattle.state_tree.specs.Valid.{IsValid, IsTrans, IsBlock}
-use Rattle.state_tree.proofs.PartsLemmas.{node_valid, junction_valid}
-use Rattle.code_form.specs.declared.limits.TheConstants.{INSTR_LIMIT}
-use Rattle.code_form.specs.Instrs.{OnHome, BareHome, Instr}
+use Rattle.checked_chart.specs.declared.parts.ListKind.{ListKind}
+use Rattle.checked_chart.specs.declared.parts.ListKind.TheVariants.{Outer, Inner, Default}
+use Rattle.checked_chart.specs.Chart.{Chart, Trans, node, no_node, list_of, junction, junction_count}
+use Rattle.checked_chart.specs.Counts.{node_transitions, transition_count}
+use Rattle.checked_chart.specs.Valid.{IsValid, IsTrans, IsBlock}
+use Rattle.checked_chart.proofs.PartsLemmas.{node_valid, junction_valid}
+use Rattle.code_language.specs.declared.limits.TheConstants.{INSTR_LIMIT}
+use Rattle.code_language.specs.Instrs.{OnHome, BareHome, Instr}
 use Rattle.chart_procedures.specs.ListProcedures.{search_of}
 use Rattle.chart_procedures.specs.Numbers.{Numbers, ListNumbers}
 use Rattle.chart_layout.specs.Bodies.{body, procedures_of}
@@ -25,9 +25,9 @@ use Rattle.chart_layout.specs.ReachedJunctions.{has, reached}
 use Rattle.chart_layout.proofs.EachFrom.{EachFrom, from_append}
 use Rattle.chart_layout.proofs.Every.{Every, every}
 use Rattle.chart_layout.proofs.ReachedLemmas.{are_reached, reached_within, list_valid}
-use Rattle.procedure_counts.specs.Lengths.{StateLengths, ListLengths}
-use Rattle.procedure_counts.proofs.StateLengths.{state_lengths}
-use Rattle.procedure_counts.proofs.ListLengths.{list_lengths}
+use Rattle.layout_costs.specs.Lengths.{StateLengths, ListLengths}
+use Rattle.layout_costs.proofs.StateLengths.{state_lengths}
+use Rattle.layout_costs.proofs.ListLengths.{list_lengths}
 
 -- a number within a limit isn't over it
 pub not_over : (limit n : ℕ) → n ≤ limit → nat_lt limit n ≡ false

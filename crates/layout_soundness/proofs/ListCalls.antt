@@ -4,14 +4,14 @@ use Rattle.std.specs.Prelude.{IfSome}
 use Rattle.std.proofs.lemmas.Bool.Decides.{nat_tests}
 use Rattle.std.proofs.lemmas.Option.{slice_get_within}
 use Rattle.active_config.specs.Tree.{state_count}
-use Rattle.state_tree.specs.declared.parts.Dest.{Dest}
-use Rattle.state_tree.specs.declared.parts.Dest.TheVariants.{State, Junction}
-use Rattle.state_tree.specs.declared.parts.ListKind.{ListKind}
-use Rattle.state_tree.specs.declared.parts.ListKind.TheVariants.{Outer, Inner, Default}
-use Rattle.state_tree.specs.Chart.{Chart, Trans, list_of, junction}
-use Rattle.state_tree.specs.Homes.{home_of}
-use Rattle.state_tree.specs.Reached.{Reached}
-use Rattle.state_tree.specs.Valid.{IsValid}
+use Rattle.checked_chart.specs.declared.parts.Dest.{Dest}
+use Rattle.checked_chart.specs.declared.parts.Dest.TheVariants.{State, Junction}
+use Rattle.checked_chart.specs.declared.parts.ListKind.{ListKind}
+use Rattle.checked_chart.specs.declared.parts.ListKind.TheVariants.{Outer, Inner, Default}
+use Rattle.checked_chart.specs.Chart.{Chart, Trans, list_of, junction}
+use Rattle.checked_chart.specs.Homes.{home_of}
+use Rattle.checked_chart.specs.Reached.{Reached}
+use Rattle.checked_chart.specs.Valid.{IsValid}
 use Rattle.chart_procedures.specs.Kinds.{IsDestination}
 use Rattle.chart_procedures.specs.ListProcedures.{Search, context_of, search_of}
 use Rattle.chart_procedures.specs.Numbers.{Numbers, TransNumbers, ListNumbers, other_parts}
@@ -23,7 +23,7 @@ use Rattle.chart_layout.specs.Places.{reached_count, groups_start, total, arrive
 use Rattle.chart_layout.proofs.Found.{place_get}
 use Rattle.chart_layout.proofs.ReachedLemmas.{has_reached, reached_within, list_valid}
 use Rattle.chart_layout.proofs.Whole.{lists_compiled}
-use Rattle.procedure_counts.specs.Calls.{EachTrans, FiringCalls, ListCalls, JunctionVisits, ListNames}
+use Rattle.layout_costs.specs.Calls.{EachTrans, FiringCalls, ListCalls, JunctionVisits, ListNames}
 use Rattle.layout_soundness.proofs.Order.{lists_from, list_from, list_end, near, take_low}
 use Rattle.layout_soundness.proofs.PartNumbers.{PartsBelow, some_below, condition_below, list_below, junction_below}
 

@@ -2,11 +2,11 @@
 -- firing in a child takes stands before what one in its parent takes.
 use Rattle.std.proofs.Common.{◌≡◌, ℕ, suc, ◌+◌, ◌-◌, ◌*◌, ◌<◌, ◌≤◌, Some, arith}
 use Rattle.active_config.specs.Tree.{state_count, parent_of}
-use Rattle.state_tree.specs.declared.parts.ListKind.{ListKind}
-use Rattle.state_tree.specs.declared.parts.ListKind.TheVariants.{Outer, Inner, Default}
-use Rattle.state_tree.specs.Chart.{Chart, list_of, junction, junction_count}
-use Rattle.state_tree.specs.Valid.{IsValid}
-use Rattle.state_tree.proofs.Trees.{child_is}
+use Rattle.checked_chart.specs.declared.parts.ListKind.{ListKind}
+use Rattle.checked_chart.specs.declared.parts.ListKind.TheVariants.{Outer, Inner, Default}
+use Rattle.checked_chart.specs.Chart.{Chart, list_of, junction, junction_count}
+use Rattle.checked_chart.specs.Valid.{IsValid}
+use Rattle.checked_chart.proofs.Trees.{child_is}
 use Rattle.chart_procedures.specs.Kinds.{IsPath}
 use Rattle.chart_procedures.specs.Numbers.{Numbers}
 use Rattle.chart_layout.specs.Orders.{sum_to}

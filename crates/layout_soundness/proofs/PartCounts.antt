@@ -4,9 +4,9 @@ use Rattle.std.specs.Prelude.{sum_by}
 use Rattle.std.proofs.lemmas.List.Sums.{sum_by-cons}
 use Rattle.active_config.specs.Tree.{state_count}
 use Rattle.actions.specs.Exprs.{Expr, Stmt}
-use Rattle.state_tree.specs.Chart.{Chart, Node, Trans, node, no_node, junction, junction_count}
-use Rattle.state_tree.specs.Counts.{node_transitions, transition_count}
-use Rattle.state_tree.specs.Valid.{IsValid}
+use Rattle.checked_chart.specs.Chart.{Chart, Node, Trans, node, no_node, junction, junction_count}
+use Rattle.checked_chart.specs.Counts.{node_transitions, transition_count}
+use Rattle.checked_chart.specs.Valid.{IsValid}
 use Rattle.chart_layout.specs.Orders.{sum_to}
 use Rattle.chart_layout.specs.Places.{guard_count, block_count, trans_size, parts_size, state_parts_size}
 use Rattle.chart_layout.specs.Places.{junction_parts_size, parts_total}

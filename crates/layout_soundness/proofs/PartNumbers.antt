@@ -3,14 +3,14 @@ use Rattle.std.proofs.Common.{ℕ, ◌+◌, ◌*◌, ◌<◌, ◌≤◌, List, [
 use Rattle.std.specs.Prelude.{IfSome}
 use Rattle.active_config.specs.Tree.{state_count}
 use Rattle.actions.specs.Exprs.{Expr, Stmt}
-use Rattle.state_tree.specs.declared.parts.ListKind.{ListKind}
-use Rattle.state_tree.specs.declared.parts.ListKind.TheVariants.{Outer, Inner, Default}
-use Rattle.state_tree.specs.Chart.{Chart, Trans, list_of, junction, junction_count}
+use Rattle.checked_chart.specs.declared.parts.ListKind.{ListKind}
+use Rattle.checked_chart.specs.declared.parts.ListKind.TheVariants.{Outer, Inner, Default}
+use Rattle.checked_chart.specs.Chart.{Chart, Trans, list_of, junction, junction_count}
 use Rattle.chart_procedures.specs.Numbers.{TransNumbers, condition_of}
 use Rattle.chart_layout.specs.Places.{guard_count, block_count, trans_size, parts_size, if_guard, if_block}
 use Rattle.chart_layout.specs.Places.{trans_numbers, parts_numbers, groups_start, parts_at, junction_parts_at}
 use Rattle.chart_layout.specs.Places.{list_numbers}
-use Rattle.procedure_counts.specs.Calls.{EachTrans}
+use Rattle.layout_costs.specs.Calls.{EachTrans}
 use Rattle.layout_soundness.proofs.Order.{parts_low, junction_parts_low}
 
 -- each number of a transition is below b

@@ -6,13 +6,13 @@ use Rattle.std.proofs.lemmas.Option.{slice_get_within}
 use Rattle.active_config.specs.Tree.{state_count}
 use Rattle.actions.specs.Exprs.{Expr, Stmt}
 use Rattle.actions.specs.World.{On, Bare}
-use Rattle.state_tree.specs.declared.parts.ListKind.{ListKind}
-use Rattle.state_tree.specs.Chart.{Chart, Trans, node, list_of, junction}
-use Rattle.state_tree.specs.Reached.{Reached}
-use Rattle.state_tree.specs.Valid.{IsValid, IsTrans, HasGuard, AreStmts}
-use Rattle.state_tree.proofs.PartsLemmas.{node_valid, junction_valid}
-use Rattle.code_form.specs.Sound.{IsProc, AreProcs}
-use Rattle.code_form.specs.WellFormed.{Known, known_of}
+use Rattle.checked_chart.specs.declared.parts.ListKind.{ListKind}
+use Rattle.checked_chart.specs.Chart.{Chart, Trans, node, list_of, junction}
+use Rattle.checked_chart.specs.Reached.{Reached}
+use Rattle.checked_chart.specs.Valid.{IsValid, IsTrans, HasGuard, AreStmts}
+use Rattle.checked_chart.proofs.PartsLemmas.{node_valid, junction_valid}
+use Rattle.code_language.specs.Sound.{IsProc, AreProcs}
+use Rattle.code_language.specs.WellFormed.{Known, known_of}
 use Rattle.chart_procedures.specs.ListProcedures.{search_of}
 use Rattle.chart_procedures.specs.Numbers.{Numbers, ListNumbers}
 use Rattle.chart_layout.specs.Bodies.{body, procedures_of, code_of_chart}
@@ -27,9 +27,9 @@ use Rattle.chart_layout.proofs.Every.{Every, every}
 use Rattle.chart_layout.proofs.ReachedLemmas.{are_reached, list_valid}
 use Rattle.chart_layout.proofs.Sizes.{layout_length}
 use Rattle.chart_layout.proofs.Whole.{procedures_length}
-use Rattle.procedure_counts.specs.Sound.{known, SoundStates, SoundLists}
-use Rattle.procedure_counts.proofs.SoundStates.{sound_states}
-use Rattle.procedure_counts.proofs.SoundLists.{sound_lists}
+use Rattle.layout_costs.specs.Sound.{known, SoundStates, SoundLists}
+use Rattle.layout_costs.proofs.SoundStates.{sound_states}
+use Rattle.layout_costs.proofs.SoundLists.{sound_lists}
 use Rattle.layout_soundness.proofs.Order.{process_low}
 use Rattle.layout_soundness.proofs.StateCalls.{leave_calls, exit_calls, enter_calls, defaults_calls, arrive_calls}
 use Rattle.layout_soundness.proofs.StateCalls.{take_calls, process_calls}

@@ -2,16 +2,16 @@
 use Rattle.std.proofs.Common.{◌≡◌, ℕ, zero, suc, ◌+◌, ◌-◌, ◌<◌, ◌≤◌, Some, refl, ap, arith}
 use Rattle.active_config.specs.Tree.{state_count, parent_of}
 use Rattle.active_config.proofs.PathLemmas.{is_at_or_below-same}
-use Rattle.state_tree.specs.declared.parts.ListKind.TheVariants.{Default}
-use Rattle.state_tree.specs.Chart.{Chart}
-use Rattle.state_tree.specs.Valid.{IsValid}
-use Rattle.state_tree.proofs.Trees.{child_is}
+use Rattle.checked_chart.specs.declared.parts.ListKind.TheVariants.{Default}
+use Rattle.checked_chart.specs.Chart.{Chart}
+use Rattle.checked_chart.specs.Valid.{IsValid}
+use Rattle.checked_chart.proofs.Trees.{child_is}
 use Rattle.chart_procedures.specs.Kinds.{IsPath}
 use Rattle.chart_procedures.specs.Numbers.{Numbers}
 use Rattle.chart_layout.specs.Ends.{below_count}
 use Rattle.chart_layout.specs.Places.{reached_count, group_at, arrive_at, numbers}
-use Rattle.procedure_counts.specs.Calls.{LeaveCalls, ExitCalls, EnterCalls, DefaultsCalls, ArriveCalls, TakeCalls}
-use Rattle.procedure_counts.specs.Calls.{ProcessCalls}
+use Rattle.layout_costs.specs.Calls.{LeaveCalls, ExitCalls, EnterCalls, DefaultsCalls, ArriveCalls, TakeCalls}
+use Rattle.layout_costs.specs.Calls.{ProcessCalls}
 use Rattle.layout_soundness.proofs.Order.{group_from, groups_before, entry_low, during_low, exit_action_low, outer_low}
 use Rattle.layout_soundness.proofs.Order.{inner_low, enter_before, exit_before}
 

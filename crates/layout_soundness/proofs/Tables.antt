@@ -3,11 +3,11 @@ use Rattle.std.proofs.Common.{◌≡◌, ℕ, ◌<◌, true, length, refl, arith
 use Rattle.std.specs.Prelude.{nat_lt}
 use Rattle.std.proofs.lemmas.Bool.{lt-ltb}
 use Rattle.active_config.proofs.PathLemmas.{is_at_or_below-same}
-use Rattle.state_tree.specs.Chart.{Chart}
-use Rattle.state_tree.specs.Valid.{IsValid}
-use Rattle.code_form.specs.Tables.{IsTable}
-use Rattle.code_form.specs.WellFormed.{starts_known}
-use Rattle.code_form.proofs.Accepted.{both_true}
+use Rattle.checked_chart.specs.Chart.{Chart}
+use Rattle.checked_chart.specs.Valid.{IsValid}
+use Rattle.code_language.specs.Tables.{IsTable}
+use Rattle.code_language.specs.WellFormed.{starts_known}
+use Rattle.code_language.proofs.Accepted.{both_true}
 use Rattle.chart_procedures.specs.Kinds.{IsPath}
 use Rattle.chart_layout.specs.Bodies.{procedures_of, code_of_chart}
 use Rattle.chart_layout.specs.Places.{total, numbers}

@@ -1,13 +1,13 @@
 //! What holds of the code of every valid chart: it is sound, and it has few procedures.
 ghost use Rattle.std.specs.Prelude.{◌≡◌, ◌≤◌, ◌+◌, ◌*◌, ℕ, None, true, false, length};
 ghost use Rattle.active_config.specs.Tree.{state_count};
-ghost use Rattle.state_tree.specs.Chart.{Chart};
-ghost use Rattle.state_tree.specs.Counts.{transition_count};
-ghost use Rattle.state_tree.specs.Reached.{ChartPairs};
-ghost use Rattle.state_tree.specs.Valid.{IsValid};
-ghost use Rattle.code_form.specs.Sound.{AreProcs};
-ghost use Rattle.code_form.specs.Tables.{IsTable};
-ghost use Rattle.code_form.specs.WellFormed.{known_of, procs_fault, starts_known, too_many};
+ghost use Rattle.checked_chart.specs.Chart.{Chart};
+ghost use Rattle.checked_chart.specs.Counts.{transition_count};
+ghost use Rattle.checked_chart.specs.Reached.{ChartPairs};
+ghost use Rattle.checked_chart.specs.Valid.{IsValid};
+ghost use Rattle.code_language.specs.Sound.{AreProcs};
+ghost use Rattle.code_language.specs.Tables.{IsTable};
+ghost use Rattle.code_language.specs.WellFormed.{known_of, procs_fault, starts_known, too_many};
 ghost use Rattle.chart_layout.specs.Bodies.{code_of_chart};
 ghost use Rattle.layout_soundness.specs.Counts.{filled_blocks};
 

@@ -15,4 +15,4 @@ pub use laws::{the_code_of_a_chart_has_few_procedures, the_code_of_a_chart_is_so
 pub use chart_layout as layout;
 
 /// What each procedure costs, and that it is sound.
-pub use procedure_counts as counts;
+pub use layout_costs as counts;

@@ -1,9 +1,9 @@
 -- The bytes of all procedures of a chart.
 use Rattle.std.proofs.Common.{◌≡◌, ℕ, suc, ◌+◌, ◌*◌, ◌<◌, ◌≤◌, arith, mul-le-mul_left, mul-le-mul_right}
 use Rattle.active_config.specs.Tree.{state_count}
-use Rattle.state_tree.specs.Chart.{Chart}
-use Rattle.state_tree.specs.Counts.{item_count}
-use Rattle.state_tree.specs.Valid.{IsValid}
+use Rattle.checked_chart.specs.Chart.{Chart}
+use Rattle.checked_chart.specs.Counts.{item_count}
+use Rattle.checked_chart.specs.Valid.{IsValid}
 use Rattle.chart_layout.specs.Keys.{EndMark, all_actions, all_state_parts, all_junction_parts, all_groups, all_lists}
 use Rattle.chart_layout.specs.Keys.{all_processes, layout}
 use Rattle.chart_layout.specs.Orders.{sum_to}
@@ -11,8 +11,8 @@ use Rattle.chart_layout.specs.Places.{below_total}
 use Rattle.chart_layout.proofs.EndsLemmas.{end_is, end_after}
 use Rattle.chart_layout.proofs.Sizes.{from_lists, from_groups, from_junction_parts, from_state_parts, from_actions}
 use Rattle.chart_layout.proofs.Sums.{sum_to_times}
-use Rattle.tree_sums.proofs.Counts.{children_count, below_counts_most}
-use Rattle.tree_sums.proofs.SumLemmas.{sum_to_most}
+use Rattle.layout_sums.proofs.Counts.{children_count, below_counts_most}
+use Rattle.layout_sums.proofs.SumLemmas.{sum_to_most}
 use Rattle.layout_text.proofs.Groups.{kids, under, entering, all_groups_size}
 use Rattle.layout_text.proofs.ListPairs.{pairs_few, reached_few}
 use Rattle.layout_text.proofs.Parts.{all_parts_size}

@@ -1,10 +1,10 @@
 -- The bytes of what firings take, of lists and of processing.
 use Rattle.std.proofs.Common.{◌≡◌, ℕ, zero, suc, ◌+◌, ◌*◌, ◌≤◌, List, [], ◌∷◌, length, map, arith}
 use Rattle.active_config.specs.Tree.{state_count, comp_of, children_of}
-use Rattle.state_tree.specs.declared.parts.ListKind.{ListKind}
-use Rattle.state_tree.specs.declared.parts.ListKind.TheVariants.{Outer, Inner, Default}
-use Rattle.state_tree.specs.Chart.{Chart, list_of, junction}
-use Rattle.state_tree.specs.Valid.{IsValid}
+use Rattle.checked_chart.specs.declared.parts.ListKind.{ListKind}
+use Rattle.checked_chart.specs.declared.parts.ListKind.TheVariants.{Outer, Inner, Default}
+use Rattle.checked_chart.specs.Chart.{Chart, list_of, junction}
+use Rattle.checked_chart.specs.Valid.{IsValid}
 use Rattle.chart_procedures.specs.ListProcedures.{search_of}
 use Rattle.chart_layout.specs.Ends.{below_count}
 use Rattle.chart_layout.specs.Keys.{Leave, Exit, Arrive, ListOf, JunctionOf, Defaults, Take, Enter}

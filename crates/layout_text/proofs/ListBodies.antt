@@ -1,16 +1,16 @@
 -- The bytes of the procedures of lists.
 use Rattle.std.proofs.Common.{◌≡◌, ℕ, ◌+◌, ◌*◌, ◌≤◌, List, [], ◌∷◌, length, Option, Some, None, arith}
-use Rattle.state_tree.specs.declared.parts.Dest.{Dest}
-use Rattle.state_tree.specs.declared.parts.Dest.TheVariants.{State, Junction}
-use Rattle.state_tree.specs.declared.parts.ListKind.{ListKind}
-use Rattle.state_tree.specs.declared.parts.ListKind.TheVariants.{Outer, Inner, Default}
-use Rattle.state_tree.specs.Chart.{Trans, life_of}
-use Rattle.code_form.specs.Instrs.{Cond, Instr, Begin}
+use Rattle.checked_chart.specs.declared.parts.Dest.{Dest}
+use Rattle.checked_chart.specs.declared.parts.Dest.TheVariants.{State, Junction}
+use Rattle.checked_chart.specs.declared.parts.ListKind.{ListKind}
+use Rattle.checked_chart.specs.declared.parts.ListKind.TheVariants.{Outer, Inner, Default}
+use Rattle.checked_chart.specs.Chart.{Trans, life_of}
+use Rattle.code_language.specs.Instrs.{Cond, Instr, Begin}
 use Rattle.chart_procedures.specs.ListProcedures.{Search, dest_code, condition_code, guarded_code, event_code}
 use Rattle.chart_procedures.specs.ListProcedures.{lead_code, trans_code, list_code, empty_code, junction_code}
 use Rattle.chart_procedures.specs.Numbers.{TransNumbers, condition_of, first_of_parts, other_parts}
 use Rattle.chart_procedures.specs.StateProcedures.{life_test}
-use Rattle.code_sizes.specs.Sizes.{cond_limit, lines_limit}
+use Rattle.layout_lines.specs.Sizes.{cond_limit, lines_limit}
 use Rattle.layout_text.proofs.Procedures.{lines_append}
 
 -- the test of a life has no expression

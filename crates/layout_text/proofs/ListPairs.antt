@@ -1,10 +1,10 @@
 -- The pairs of a list of a state and a transition that is met from it.
 use Rattle.std.proofs.Common.{ℕ, zero, suc, ◌+◌, ◌≤◌, List, length, refl, ap, arith}
 use Rattle.active_config.specs.Tree.{state_count}
-use Rattle.state_tree.specs.declared.parts.ListKind.TheVariants.{Outer, Inner, Default}
-use Rattle.state_tree.specs.Chart.{Chart, Trans, list_of, junction, junction_count}
-use Rattle.state_tree.specs.Reached.{ArePairs, StatePairs, PairsBelow}
-use Rattle.state_tree.specs.Valid.{IsValid, AreTrans}
+use Rattle.checked_chart.specs.declared.parts.ListKind.TheVariants.{Outer, Inner, Default}
+use Rattle.checked_chart.specs.Chart.{Chart, Trans, list_of, junction, junction_count}
+use Rattle.checked_chart.specs.Reached.{ArePairs, StatePairs, PairsBelow}
+use Rattle.checked_chart.specs.Valid.{IsValid, AreTrans}
 use Rattle.chart_layout.specs.Orders.{sum_to}
 use Rattle.chart_layout.specs.ReachedJunctions.{has, reached, sum_over}
 use Rattle.chart_layout.specs.Places.{reached_total}

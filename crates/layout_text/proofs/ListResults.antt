@@ -6,16 +6,16 @@ use Rattle.std.specs.List.{AllByRecursion}
 use Rattle.active_config.specs.Tree.{Tree, IsTree, state_count, comp_of, ancestors, is_below}
 use Rattle.active_config.proofs.PathLemmas.{Path, Up, above_of_below, path_le}
 use Rattle.actions.specs.Exprs.{Expr, Stmt}
-use Rattle.state_tree.specs.declared.parts.Dest.{Dest}
-use Rattle.state_tree.specs.declared.parts.Dest.TheVariants.{State, Junction}
-use Rattle.state_tree.specs.declared.parts.ListKind.{ListKind}
-use Rattle.state_tree.specs.declared.parts.ListKind.TheVariants.{Outer, Inner, Default}
-use Rattle.state_tree.specs.Chart.{Chart, Trans, node, list_of, junction, life_of, is_remembered, may_return}
-use Rattle.state_tree.specs.Homes.{common_above, or_root, home_of}
-use Rattle.state_tree.specs.Valid.{IsValid, IsTrans, IsDest, AreTrans}
-use Rattle.state_tree.proofs.PartsLemmas.{junction_valid}
-use Rattle.state_tree.proofs.Trees.{find_all}
-use Rattle.code_form.specs.Instrs.{Cond, Instr, OnHome, BareHome}
+use Rattle.checked_chart.specs.declared.parts.Dest.{Dest}
+use Rattle.checked_chart.specs.declared.parts.Dest.TheVariants.{State, Junction}
+use Rattle.checked_chart.specs.declared.parts.ListKind.{ListKind}
+use Rattle.checked_chart.specs.declared.parts.ListKind.TheVariants.{Outer, Inner, Default}
+use Rattle.checked_chart.specs.Chart.{Chart, Trans, node, list_of, junction, life_of, is_remembered, may_return}
+use Rattle.checked_chart.specs.Homes.{common_above, or_root, home_of}
+use Rattle.checked_chart.specs.Valid.{IsValid, IsTrans, IsDest, AreTrans}
+use Rattle.checked_chart.proofs.PartsLemmas.{junction_valid}
+use Rattle.checked_chart.proofs.Trees.{find_all}
+use Rattle.code_language.specs.Instrs.{Cond, Instr, OnHome, BareHome}
 use Rattle.code_fields.specs.Spelling.{IsNumber}
 use Rattle.chart_procedures.specs.ListProcedures.{Search, search_of, fired_result, dest_code, condition_code}
 use Rattle.chart_procedures.specs.ListProcedures.{guarded_code, event_code, lead_code, trans_code, list_code}

@@ -4,12 +4,12 @@ use Rattle.std.proofs.Common.{None, slice_index_or, refl, ap, ◌∙◌, sym, ar
 use Rattle.std.proofs.lemmas.List.Sums.{sum_by-cons}
 use Rattle.active_config.specs.Tree.{state_count}
 use Rattle.actions.specs.Exprs.{Expr, Stmt}
-use Rattle.state_tree.specs.declared.parts.ListKind.TheVariants.{Outer, Inner, Default}
-use Rattle.state_tree.specs.Chart.{Chart, Node, Trans, no_node, node, list_of, junction, junction_count}
-use Rattle.state_tree.specs.Counts.{trans_statements, node_transitions, node_statements}
-use Rattle.state_tree.specs.Counts.{item_count}
-use Rattle.state_tree.specs.Valid.{IsValid}
-use Rattle.code_form.specs.Instrs.{OnHome, BareHome}
+use Rattle.checked_chart.specs.declared.parts.ListKind.TheVariants.{Outer, Inner, Default}
+use Rattle.checked_chart.specs.Chart.{Chart, Node, Trans, no_node, node, list_of, junction, junction_count}
+use Rattle.checked_chart.specs.Counts.{trans_statements, node_transitions, node_statements}
+use Rattle.checked_chart.specs.Counts.{item_count}
+use Rattle.checked_chart.specs.Valid.{IsValid}
+use Rattle.code_language.specs.Instrs.{OnHome, BareHome}
 use Rattle.chart_layout.specs.Keys.{guard_keys}
 use Rattle.chart_layout.specs.Keys.{condition_keys, action_keys, trans_keys, parts_keys, action_keys_of}
 use Rattle.chart_layout.specs.Keys.{state_parts_keys}

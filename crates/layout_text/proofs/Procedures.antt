@@ -1,11 +1,11 @@
 -- The most bytes of the lines of procedures.
 use Rattle.std.proofs.Common.{◌≡◌, ℕ, zero, suc, ◌+◌, ◌*◌, ◌<◌, ◌≤◌, List, [], ◌∷◌, ◌++◌, map, refl, ap, arith, suc-mul}
-use Rattle.state_tree.specs.Chart.{Chart}
-use Rattle.code_form.specs.Instrs.{Instr}
+use Rattle.checked_chart.specs.Chart.{Chart}
+use Rattle.code_language.specs.Instrs.{Instr}
 use Rattle.chart_layout.specs.Bodies.{body}
 use Rattle.chart_layout.specs.Keys.{Key}
 use Rattle.chart_layout.specs.Orders.{sum_to, ascending, descending, span}
-use Rattle.code_sizes.specs.Sizes.{lines_limit, proc_limit, procs_limit}
+use Rattle.layout_lines.specs.Sizes.{lines_limit, proc_limit, procs_limit}
 
 -- two lists
 pub lines_append : (xs ys : List Instr) → lines_limit (xs ++ ys) ≡ lines_limit xs + lines_limit ys

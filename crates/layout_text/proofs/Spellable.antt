@@ -6,15 +6,15 @@ use Rattle.std.proofs.lemmas.Bool.Decides.{nat_tests}
 use Rattle.std.proofs.lemmas.List.{length-map}
 use Rattle.active_config.specs.Tree.{Tree, IsTree, state_count, parent_of}
 use Rattle.active_config.proofs.PathLemmas.{parent_lt}
-use Rattle.state_tree.specs.Chart.{Chart}
-use Rattle.state_tree.specs.Valid.{IsValid}
-use Rattle.code_form.specs.declared.code.RawState.{RawState}
-use Rattle.code_form.specs.declared.limits.TheConstants.{PROC_LIMIT, INSTR_LIMIT}
-use Rattle.code_form.specs.Code.{Code, tree_of_states}
-use Rattle.code_form.specs.Instrs.{Instr}
-use Rattle.code_form.specs.Tables.{IsTable}
-use Rattle.code_form.specs.WellFormed.{known_of, procs_fault, starts_known, too_many}
-use Rattle.code_form.proofs.Accepted.{no_procs_fault}
+use Rattle.checked_chart.specs.Chart.{Chart}
+use Rattle.checked_chart.specs.Valid.{IsValid}
+use Rattle.code_language.specs.declared.code.RawState.{RawState}
+use Rattle.code_language.specs.declared.limits.TheConstants.{PROC_LIMIT, INSTR_LIMIT}
+use Rattle.code_language.specs.Code.{Code, tree_of_states}
+use Rattle.code_language.specs.Instrs.{Instr}
+use Rattle.code_language.specs.Tables.{IsTable}
+use Rattle.code_language.specs.WellFormed.{known_of, procs_fault, starts_known, too_many}
+use Rattle.code_language.proofs.Accepted.{no_procs_fault}
 use Rattle.code_lines.specs.declared.format.Format.TheVariants.{Two}
 use Rattle.code_lines.specs.Spelling.{HasParent, HasNumbers}
 use Rattle.code_text.specs.Spelling.{HasItsParent, IsSpellable}

@@ -7,18 +7,18 @@ use Rattle.active_config.specs.declared.comp.Comp.{Comp}
 use Rattle.active_config.specs.declared.comp.Comp.TheVariants.{Leaf, Or, And}
 use Rattle.active_config.specs.Tree.{parent_of, comp_of, children_of}
 use Rattle.actions.specs.Exprs.{Stmt, Assign, Send, SendTo, Emit}
-use Rattle.state_tree.specs.Chart.{Chart, is_remembered, may_return}
-use Rattle.state_tree.specs.Homes.{child_toward}
-use Rattle.state_tree.specs.Valid.{IsValid}
-use Rattle.code_form.specs.Instrs.{Cond, Instr}
+use Rattle.checked_chart.specs.Chart.{Chart, is_remembered, may_return}
+use Rattle.checked_chart.specs.Homes.{child_toward}
+use Rattle.checked_chart.specs.Valid.{IsValid}
+use Rattle.code_language.specs.Instrs.{Cond, Instr}
 use Rattle.chart_procedures.specs.Numbers.{Numbers}
 use Rattle.chart_procedures.specs.StateProcedures.{block_code, active_code, each_code, leave_code, toward_code}
 use Rattle.chart_procedures.specs.StateProcedures.{enters_code, takes_test, parent_test, inside_code, keep_code}
 use Rattle.chart_procedures.specs.StateProcedures.{active_entry_code, entry_code, enter_code, return_code, search_code}
 use Rattle.chart_procedures.specs.StateProcedures.{defaults_code, arrive_code, active_child_code, regions_code}
 use Rattle.chart_procedures.specs.StateProcedures.{children_code, process_code}
-use Rattle.procedure_counts.proofs.Children.{returns_few}
-use Rattle.code_sizes.specs.Sizes.{cond_limit, lines_limit}
+use Rattle.layout_costs.proofs.Children.{returns_few}
+use Rattle.layout_lines.specs.Sizes.{cond_limit, lines_limit}
 
 module _ (c : Chart) (valid : IsValid c) (N : Numbers) where
   -- an expression for each statement, and a return

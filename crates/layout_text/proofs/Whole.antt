@@ -2,16 +2,16 @@
 use Rattle.std.proofs.Common.{◌≡◌, ◌≤◌, length, map, ap, arith}
 use Rattle.std.proofs.lemmas.List.{length-map}
 use Rattle.active_config.specs.Tree.{state_count}
-use Rattle.state_tree.specs.Chart.{Chart}
-use Rattle.state_tree.specs.Valid.{IsValid}
-use Rattle.code_form.specs.declared.code.RawState.{RawState}
-use Rattle.code_form.specs.Code.{Code}
+use Rattle.checked_chart.specs.Chart.{Chart}
+use Rattle.checked_chart.specs.Valid.{IsValid}
+use Rattle.code_language.specs.declared.code.RawState.{RawState}
+use Rattle.code_language.specs.Code.{Code}
 use Rattle.code_lines.specs.declared.format.Format.TheVariants.{Two}
 use Rattle.code_text.specs.declared.limits.TheConstants.{TEXT_LIMIT}
 use Rattle.code_text.specs.Spelling.{code_text}
 use Rattle.code_text.specs.Written.{Written, code_written}
-use Rattle.code_sizes.specs.Sizes.{procs_limit}
-use Rattle.code_sizes.proofs.Texts.{text_size}
+use Rattle.layout_lines.specs.Sizes.{procs_limit}
+use Rattle.layout_lines.proofs.Texts.{text_size}
 use Rattle.chart_layout.specs.Bodies.{body, procedures_of, code_of_chart}
 use Rattle.chart_layout.specs.Keys.{layout}
 use Rattle.layout_text.proofs.AllProcedures.{procedures_size}

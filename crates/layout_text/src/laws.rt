@@ -1,9 +1,9 @@
 //! What holds of the text of a chart's code.
 ghost use Rattle.std.specs.Prelude.{◌≡◌, ◌≤◌, length, Ok};
-ghost use Rattle.state_tree.specs.Chart.{Chart};
-ghost use Rattle.state_tree.specs.Valid.{IsValid};
-ghost use Rattle.code_form.specs.declared.code.RawCode.{RawCode};
-ghost use Rattle.code_form.specs.Code.{code_of};
+ghost use Rattle.checked_chart.specs.Chart.{Chart};
+ghost use Rattle.checked_chart.specs.Valid.{IsValid};
+ghost use Rattle.code_language.specs.declared.code.RawCode.{RawCode};
+ghost use Rattle.code_language.specs.Code.{code_of};
 ghost use Rattle.code_lines.specs.declared.format.Format.TheVariants.{Two};
 ghost use Rattle.code_text.specs.declared.limits.TheConstants.{TEXT_LIMIT};
 ghost use Rattle.code_text.specs.Reading.{spelled};

@@ -2,10 +2,10 @@
 use Rattle.std.proofs.Common.{◌≡◌, ℕ, zero, suc, ◌+◌, ◌≤◌, List, [], ◌∷◌, map, Option, Some, None, refl}
 use Rattle.std.proofs.Common.{ap, arith}
 use Rattle.std.specs.Prelude.{slice_get, slice_index}
-use Rattle.state_tree.specs.Chart.{Chart}
-use Rattle.code_form.specs.Instrs.{Instr}
-use Rattle.code_form.specs.Measures.{reckon}
-use Rattle.code_form.proofs.Reckoned.{IsMeasure, reckon_bounded}
+use Rattle.checked_chart.specs.Chart.{Chart}
+use Rattle.code_language.specs.Instrs.{Instr}
+use Rattle.code_language.specs.Measures.{reckon}
+use Rattle.code_language.proofs.Reckoned.{IsMeasure, reckon_bounded}
 use Rattle.chart_layout.specs.Bodies.{body}
 use Rattle.chart_layout.specs.Keys.{Key, layout}
 use Rattle.chart_layout.proofs.StateStands.{StandsAt}

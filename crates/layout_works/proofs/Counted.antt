@@ -4,13 +4,13 @@ use Rattle.std.proofs.Common.{suc-mul, mul-le-mul_left}
 use Rattle.std.specs.List.{AllByRecursion, sum_by}
 use Rattle.std.proofs.lemmas.List.Sums.{sum_by-cons}
 use Rattle.active_config.specs.Tree.{state_count, children_of}
-use Rattle.state_tree.specs.declared.parts.ListKind.TheVariants.{Outer, Inner, Default}
-use Rattle.state_tree.specs.Chart.{Chart, Trans, node, no_node, list_of, junction}
-use Rattle.state_tree.specs.Counts.{trans_statements, node_transitions, node_statements}
-use Rattle.state_tree.specs.Counts.{statement_count, item_count}
-use Rattle.state_tree.specs.Valid.{IsValid}
+use Rattle.checked_chart.specs.declared.parts.ListKind.TheVariants.{Outer, Inner, Default}
+use Rattle.checked_chart.specs.Chart.{Chart, Trans, node, no_node, list_of, junction}
+use Rattle.checked_chart.specs.Counts.{trans_statements, node_transitions, node_statements}
+use Rattle.checked_chart.specs.Counts.{statement_count, item_count}
+use Rattle.checked_chart.specs.Valid.{IsValid}
 use Rattle.chart_layout.specs.Orders.{sum_to}
-use Rattle.tree_sums.proofs.Counts.{children_count}
+use Rattle.layout_sums.proofs.Counts.{children_count}
 use Rattle.layout_works.specs.Works.{test_work, tests_of, exit_share, enter_share, process_share, firing_work}
 use Rattle.layout_works.proofs.Shares.{test_is, firing_is, exit_share_is, enter_share_is, process_share_is}
 use Rattle.layout_works.proofs.Sums.{at_most_sum, sum_places}

@@ -5,15 +5,15 @@ use Rattle.std.specs.Prelude.{IfSome, if◌then◌else◌}
 use Rattle.std.proofs.lemmas.List.Sums.{sum_by-cons}
 use Rattle.active_config.specs.Tree.{state_count}
 use Rattle.actions.specs.Exprs.{Expr, Stmt}
-use Rattle.state_tree.specs.declared.parts.Dest.{Dest}
-use Rattle.state_tree.specs.declared.parts.Dest.TheVariants.{State, Junction}
-use Rattle.state_tree.specs.declared.parts.ListKind.{ListKind}
-use Rattle.state_tree.specs.declared.parts.ListKind.TheVariants.{Outer, Inner, Default}
-use Rattle.state_tree.specs.Chart.{Chart, Trans, list_of, junction}
-use Rattle.state_tree.specs.Homes.{home_of}
-use Rattle.state_tree.specs.Reached.{Reached}
-use Rattle.state_tree.specs.Valid.{IsValid}
-use Rattle.code_form.specs.Measures.{work_by}
+use Rattle.checked_chart.specs.declared.parts.Dest.{Dest}
+use Rattle.checked_chart.specs.declared.parts.Dest.TheVariants.{State, Junction}
+use Rattle.checked_chart.specs.declared.parts.ListKind.{ListKind}
+use Rattle.checked_chart.specs.declared.parts.ListKind.TheVariants.{Outer, Inner, Default}
+use Rattle.checked_chart.specs.Chart.{Chart, Trans, list_of, junction}
+use Rattle.checked_chart.specs.Homes.{home_of}
+use Rattle.checked_chart.specs.Reached.{Reached}
+use Rattle.checked_chart.specs.Valid.{IsValid}
+use Rattle.code_language.specs.Measures.{work_by}
 use Rattle.chart_procedures.specs.Compiled.{GuardBy, PartBy, ListCompiled}
 use Rattle.chart_procedures.specs.Kinds.{IsPath, IsDestination}
 use Rattle.chart_procedures.specs.ListProcedures.{Search, context_of, search_of}
@@ -30,9 +30,9 @@ use Rattle.chart_layout.proofs.PartStands.{PartsStand, EachStands, list_parts_st
 use Rattle.chart_layout.proofs.ReachedLemmas.{reached_within, are_reached, list_valid}
 use Rattle.chart_layout.proofs.StateStands.{StandsAt, end_mark_stands, take_stands, arrive_stands}
 use Rattle.chart_layout.proofs.Whole.{lists_compiled}
-use Rattle.procedure_counts.specs.Calls.{FiringCalls}
-use Rattle.procedure_counts.specs.Works.{work_if, tests_work, FiringsWithin, ListWorks}
-use Rattle.procedure_counts.proofs.ListWorks.{list_works}
+use Rattle.layout_costs.specs.Calls.{FiringCalls}
+use Rattle.layout_costs.specs.Works.{work_if, tests_work, FiringsWithin, ListWorks}
+use Rattle.layout_costs.proofs.ListWorks.{list_works}
 use Rattle.layout_works.specs.Works.{test_work, tests_of, enters_below, defaults_work, firing_work, found_work}
 use Rattle.layout_works.specs.Works.{work_bound}
 use Rattle.layout_works.proofs.Shares.{test_is, firing_is}

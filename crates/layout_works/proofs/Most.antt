@@ -3,15 +3,15 @@ use Rattle.std.proofs.Common.{ℕ, suc, ◌+◌, ◌*◌, ◌<◌, ◌≤◌, Bo
 use Rattle.std.specs.Prelude.{◌==◌, if◌then◌else◌}
 use Rattle.std.specs.List.{AllByRecursion, sum_by}
 use Rattle.active_config.specs.Tree.{state_count}
-use Rattle.state_tree.specs.declared.parts.ListKind.{ListKind}
-use Rattle.state_tree.specs.declared.parts.ListKind.TheVariants.{Outer, Inner, Default}
-use Rattle.state_tree.specs.Chart.{Chart, Trans, node, list_of, junction}
-use Rattle.state_tree.specs.Counts.{trans_statements, statement_count, item_count}
-use Rattle.state_tree.specs.Valid.{IsValid}
+use Rattle.checked_chart.specs.declared.parts.ListKind.{ListKind}
+use Rattle.checked_chart.specs.declared.parts.ListKind.TheVariants.{Outer, Inner, Default}
+use Rattle.checked_chart.specs.Chart.{Chart, Trans, node, list_of, junction}
+use Rattle.checked_chart.specs.Counts.{trans_statements, statement_count, item_count}
+use Rattle.checked_chart.specs.Valid.{IsValid}
 use Rattle.chart_layout.specs.Keys.{Entry, During, ExitAction, Leave, Exit, Arrive, ListOf, JunctionOf, Defaults}
 use Rattle.chart_layout.specs.Keys.{Enter, Process}
 use Rattle.chart_layout.specs.Orders.{sum_to}
-use Rattle.tree_sums.proofs.SumLemmas.{sum_to_term}
+use Rattle.layout_sums.proofs.SumLemmas.{sum_to_term}
 use Rattle.layout_works.specs.Works.{tests_of, process_share, enters_below, defaults_work}
 use Rattle.layout_works.specs.Works.{firing_work, found_work, work_bound}
 use Rattle.layout_works.proofs.Counted.{firings_le, product_is, each_statement, state_statements, junction_statements}

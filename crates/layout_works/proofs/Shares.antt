@@ -1,12 +1,12 @@
 -- What is counted with a state: its share, and those of the states below it.
 use Rattle.std.proofs.Common.{◌≡◌, ℕ, ◌+◌, ◌*◌, ◌<◌, ◌≤◌, length, refl, arith}
 use Rattle.active_config.specs.Tree.{state_count, children_of}
-use Rattle.state_tree.specs.declared.parts.ListKind.TheVariants.{Outer, Inner, Default}
-use Rattle.state_tree.specs.Chart.{Chart, Trans, node, list_of}
-use Rattle.state_tree.specs.Valid.{IsValid}
+use Rattle.checked_chart.specs.declared.parts.ListKind.TheVariants.{Outer, Inner, Default}
+use Rattle.checked_chart.specs.Chart.{Chart, Trans, node, list_of}
+use Rattle.checked_chart.specs.Valid.{IsValid}
 use Rattle.chart_layout.specs.Orders.{sum_to}
-use Rattle.tree_sums.specs.Sums.{sum_below}
-use Rattle.tree_sums.proofs.SumsBelow.{sum_below_splits, sum_below_whole}
+use Rattle.layout_sums.specs.Sums.{sum_below}
+use Rattle.layout_sums.proofs.SumsBelow.{sum_below_splits, sum_below_whole}
 use Rattle.layout_works.specs.Works.{test_work, tests_of, exit_share, enter_share, process_share, firing_work}
 use Rattle.layout_works.specs.Works.{exits_below, enters_below, processes_below, defaults_work}
 

@@ -5,10 +5,10 @@ use Rattle.std.proofs.lemmas.Bool.Decides.{nat_tests}
 use Rattle.active_config.specs.Tree.{state_count, parent_of}
 use Rattle.active_config.proofs.ParentLemmas.{child_within}
 use Rattle.active_config.proofs.PathLemmas.{is_at_or_below-same}
-use Rattle.state_tree.specs.declared.parts.ListKind.TheVariants.{Outer, Inner, Default}
-use Rattle.state_tree.specs.Chart.{Chart, list_of}
-use Rattle.state_tree.specs.Valid.{IsValid}
-use Rattle.code_form.specs.Measures.{work_by}
+use Rattle.checked_chart.specs.declared.parts.ListKind.TheVariants.{Outer, Inner, Default}
+use Rattle.checked_chart.specs.Chart.{Chart, list_of}
+use Rattle.checked_chart.specs.Valid.{IsValid}
+use Rattle.code_language.specs.Measures.{work_by}
 use Rattle.chart_procedures.specs.Kinds.{IsPath}
 use Rattle.chart_procedures.specs.Numbers.{Numbers}
 use Rattle.chart_layout.specs.Bodies.{body}
@@ -21,10 +21,10 @@ use Rattle.chart_layout.proofs.ListStands.{list_stands}
 use Rattle.chart_layout.proofs.StateStands.{StandsAt, entry_stands, during_stands, exit_action_stands}
 use Rattle.chart_layout.proofs.StateStands.{leave_stands, exit_stands, defaults_stand, processing_stands}
 use Rattle.chart_layout.proofs.StateStands.{enter_stands, arrive_stands}
-use Rattle.procedure_counts.specs.Calls.{DefaultsCalls, ArriveCalls}
-use Rattle.procedure_counts.specs.Works.{StateWorks}
-use Rattle.procedure_counts.proofs.StateWorks.{state_works}
-use Rattle.tree_sums.specs.Sums.{sum_below}
+use Rattle.layout_costs.specs.Calls.{DefaultsCalls, ArriveCalls}
+use Rattle.layout_costs.specs.Works.{StateWorks}
+use Rattle.layout_costs.proofs.StateWorks.{state_works}
+use Rattle.layout_sums.specs.Sums.{sum_below}
 use Rattle.layout_works.specs.Works.{exit_share, enter_share, process_share, enters_below}
 use Rattle.layout_works.specs.Works.{tests_of, defaults_work, work_bound}
 use Rattle.layout_works.proofs.Shares.{defaults_is, firing_is, exit_share_is, enter_share_is, process_share_is}

@@ -8,7 +8,7 @@ use Rattle.std.proofs.lemmas.Bool.{cases_lt}
 use Rattle.std.proofs.lemmas.Bool.Decides.{nat_tests}
 use Rattle.std.proofs.lemmas.List.Sums.{sum_by-cons}
 use Rattle.active_config.specs.Tree.{Tree, IsTree, state_count, parent_of, is_child, children_below, children_of}
-use Rattle.state_tree.proofs.Trees.{child_is}
+use Rattle.checked_chart.proofs.Trees.{child_is}
 use Rattle.chart_layout.specs.Orders.{sum_to}
 
 -- ---- sums over lists

@@ -4,15 +4,15 @@ use Rattle.std.proofs.Common.{None, refl, arith, mul-le-mul_left}
 use Rattle.std.specs.Prelude.{slice_get, slice_index}
 use Rattle.active_config.specs.Tree.{state_count}
 use Rattle.actions.specs.Exprs.{Expr, Stmt}
-use Rattle.state_tree.specs.Chart.{Chart, Trans}
-use Rattle.state_tree.specs.Counts.{item_count, statement_count}
-use Rattle.state_tree.specs.Valid.{IsValid}
-use Rattle.code_form.specs.declared.fault.CodeKind.TheVariants as kinds
-use Rattle.code_form.specs.declared.limits.TheConstants.{WORK_LIMIT}
-use Rattle.code_form.specs.Measures.{greatest, work_by, works}
-use Rattle.code_form.specs.WellFormed.{first_over}
-use Rattle.code_form.proofs.Accepted.{none_over}
-use Rattle.code_form.proofs.Measures.{work_measure}
+use Rattle.checked_chart.specs.Chart.{Chart, Trans}
+use Rattle.checked_chart.specs.Counts.{item_count, statement_count}
+use Rattle.checked_chart.specs.Valid.{IsValid}
+use Rattle.code_language.specs.declared.fault.CodeKind.TheVariants as kinds
+use Rattle.code_language.specs.declared.limits.TheConstants.{WORK_LIMIT}
+use Rattle.code_language.specs.Measures.{greatest, work_by, works}
+use Rattle.code_language.specs.WellFormed.{first_over}
+use Rattle.code_language.proofs.Accepted.{none_over}
+use Rattle.code_language.proofs.Measures.{work_measure}
 use Rattle.chart_layout.specs.Bodies.{body, procedures_of, code_of_chart}
 use Rattle.chart_layout.specs.Keys.{Key}
 use Rattle.chart_layout.specs.Keys.{guard_keys, condition_keys, action_keys, trans_keys, layout}
@@ -20,8 +20,8 @@ use Rattle.chart_layout.specs.Places.{numbers}
 use Rattle.chart_layout.proofs.EachFrom.{EachFrom, from_append}
 use Rattle.chart_layout.proofs.Every.{Every, every}
 use Rattle.chart_layout.proofs.StateStands.{StandsAt}
-use Rattle.procedure_counts.specs.Works.{StateWorks}
-use Rattle.procedure_counts.proofs.StateWorks.{state_works}
+use Rattle.layout_costs.specs.Works.{StateWorks}
+use Rattle.layout_costs.proofs.StateWorks.{state_works}
 use Rattle.layout_works.specs.Works.{work_bound}
 use Rattle.layout_works.proofs.Bounded.{bound_at, bound_of, bound_none, all_bounded}
 use Rattle.layout_works.proofs.ListWorks.{list_keeps, junction_keeps}

@@ -3,13 +3,13 @@ use Rattle.std.specs.Prelude.{ℕ, ◌+◌, ◌*◌, ◌==◌, List, length, if�
 use Rattle.std.specs.List.{sum_by}
 use Rattle.active_config.specs.Tree.{state_count, children_of}
 use Rattle.actions.specs.Exprs.{Stmt}
-use Rattle.state_tree.specs.declared.parts.ListKind.{ListKind}
-use Rattle.state_tree.specs.declared.parts.ListKind.TheVariants.{Outer, Inner, Default}
-use Rattle.state_tree.specs.Chart.{Chart, Trans, node, list_of, junction}
+use Rattle.checked_chart.specs.declared.parts.ListKind.{ListKind}
+use Rattle.checked_chart.specs.declared.parts.ListKind.TheVariants.{Outer, Inner, Default}
+use Rattle.checked_chart.specs.Chart.{Chart, Trans, node, list_of, junction}
 use Rattle.chart_layout.specs.Keys.{Key, EndMark, Entry, During, ExitAction, Guard, ConditionOn, ConditionBare, Action}
 use Rattle.chart_layout.specs.Keys.{Leave, Exit, Arrive, ListOf, JunctionOf, Defaults, Take, Enter, Process}
 use Rattle.chart_layout.specs.Orders.{sum_to}
-use Rattle.tree_sums.specs.Sums.{sum_below}
+use Rattle.layout_sums.specs.Sums.{sum_below}
 
 -- ---- actions and tests
 

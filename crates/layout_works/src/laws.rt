@@ -1,13 +1,13 @@
 //! How much work the procedures of a chart's code are.
 ghost use Rattle.std.specs.Prelude.{◌≡◌, ◌≤◌, ◌*◌, ℕ, suc, Some, None, slice_get, slice_index};
 ghost use Rattle.active_config.specs.Tree.{state_count};
-ghost use Rattle.code_form.specs.declared.fault.CodeKind.TheVariants as kinds;
-ghost use Rattle.code_form.specs.declared.limits.TheConstants.{WORK_LIMIT};
-ghost use Rattle.code_form.specs.Measures.{greatest, works};
-ghost use Rattle.code_form.specs.WellFormed.{first_over};
-ghost use Rattle.state_tree.specs.Chart.{Chart};
-ghost use Rattle.state_tree.specs.Counts.{item_count};
-ghost use Rattle.state_tree.specs.Valid.{IsValid};
+ghost use Rattle.code_language.specs.declared.fault.CodeKind.TheVariants as kinds;
+ghost use Rattle.code_language.specs.declared.limits.TheConstants.{WORK_LIMIT};
+ghost use Rattle.code_language.specs.Measures.{greatest, works};
+ghost use Rattle.code_language.specs.WellFormed.{first_over};
+ghost use Rattle.checked_chart.specs.Chart.{Chart};
+ghost use Rattle.checked_chart.specs.Counts.{item_count};
+ghost use Rattle.checked_chart.specs.Valid.{IsValid};
 ghost use Rattle.chart_layout.specs.Bodies.{code_of_chart};
 ghost use Rattle.chart_layout.specs.Keys.{Key, layout};
 ghost use Rattle.layout_works.specs.Works.{work_bound};

@@ -4,8 +4,8 @@ ghost use Rattle.std.specs.List.{AllByRecursion};
 ghost use Rattle.flow_base.specs.Lists.{items_of};
 ghost use Rattle.active_config.specs.Tree as trees;
 ghost use Rattle.active_config.specs.Tree.{state_count};
-ghost use Rattle.state_tree.specs.declared.parts.ListKind.TheVariants.{Default};
-ghost use Rattle.state_tree.specs.Chart as charts;
+ghost use Rattle.checked_chart.specs.declared.parts.ListKind.TheVariants.{Default};
+ghost use Rattle.checked_chart.specs.Chart as charts;
 ghost use Rattle.chart_procedures.specs.StateProcedures as templates;
 ghost use Rattle.chart_layout.specs.Places.{numbers};
 ghost use Rattle.chart_layout.specs.Keys as keys;
@@ -16,12 +16,12 @@ ghost use Rattle.continuation_compile.specs.Numberings.{chart_in, IsNumbering};
 use crate::children::children;
 use crate::firings::put_toward;
 use active_config::Comp;
-use code_form::{Cond, Instr};
+use checked_chart::ListKind;
+use code_language::{Cond, Instr};
 use continuation_compile::{
     Draft, Numbering, append, put, put_call, put_refuse, put_require, put_return,
 };
 use flow_base::{List, Memory};
-use state_tree::ListKind;
 use std::alloc::Global;
 
 /// The number of the procedure of the entry action of a state.
@@ -46,7 +46,7 @@ fn default_list(numbering: &Numbering<'_>, state: u32) -> u32
 }
 
 /// Whether a state has history. Only an OR does.
-#[tactic(auto, unfolding(state_tree::specs::Chart::has_history))]
+#[tactic(auto, unfolding(checked_chart::specs::Chart::has_history))]
 fn has_history(numbering: &Numbering<'_>, state: u32) -> bool
     requires numbers { IsNumbering numbering.now }
     requires state { state < state_count (chart_in numbering.now).tree }
@@ -59,7 +59,7 @@ fn has_history(numbering: &Numbering<'_>, state: u32) -> bool
 }
 
 /// Whether the parent of a state has history.
-#[tactic(auto, unfolding(state_tree::specs::Chart::is_remembered))]
+#[tactic(auto, unfolding(checked_chart::specs::Chart::is_remembered))]
 fn is_remembered(numbering: &Numbering<'_>, state: u32) -> bool
     requires numbers { IsNumbering numbering.now }
     requires state { state < state_count (chart_in numbering.now).tree }
@@ -72,7 +72,7 @@ fn is_remembered(numbering: &Numbering<'_>, state: u32) -> bool
 }
 
 /// The children that a state may enter again by history.
-#[tactic(auto, unfolding(state_tree::specs::Chart::may_return))]
+#[tactic(auto, unfolding(checked_chart::specs::Chart::may_return))]
 fn may_return(alloc: Global, numbering: &Numbering<'_>, state: u32) -> Result<List<u32>, Memory>
     requires numbers { IsNumbering numbering.now }
     requires state { state < state_count (chart_in numbering.now).tree }

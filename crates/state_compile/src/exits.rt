@@ -2,7 +2,7 @@
 ghost use Rattle.std.specs.Prelude.{◌≡◌, ◌<◌, ◌++◌, ◌∷◌, [], reverse, OnOk};
 ghost use Rattle.std.specs.List.{AllByRecursion};
 ghost use Rattle.active_config.specs.Tree.{state_count, comp_of, children_of};
-ghost use Rattle.code_form.specs.Instrs as instrs;
+ghost use Rattle.code_language.specs.Instrs as instrs;
 ghost use Rattle.chart_procedures.specs.StateProcedures as templates;
 ghost use Rattle.chart_layout.specs.Bodies.{body};
 ghost use Rattle.chart_layout.specs.Keys as keys;
@@ -12,7 +12,7 @@ ghost use Rattle.continuation_compile.specs.Numberings.{chart_in, IsNumbering};
 
 use crate::children::children;
 use active_config::Comp;
-use code_form::{Cond, Instr};
+use code_language::{Cond, Instr};
 use continuation_compile::{Draft, Numbering, append, put, put_call, put_require, put_return};
 use flow_base::{List, Memory};
 use std::alloc::Global;

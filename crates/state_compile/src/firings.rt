@@ -1,13 +1,13 @@
 //! The procedures of firings.
 ghost use Rattle.std.specs.Prelude.{◌≡◌, ◌<◌, ◌==◌, ◌++◌, ◌∷◌, [], OnOk};
 ghost use Rattle.active_config.specs.Tree.{state_count};
-ghost use Rattle.state_tree.specs.Homes as homes;
+ghost use Rattle.checked_chart.specs.Homes as homes;
 ghost use Rattle.chart_procedures.specs.StateProcedures as templates;
 ghost use Rattle.chart_layout.specs.Places.{numbers};
 ghost use Rattle.continuation_compile.specs.Drafts.{code_seen, procs_of};
 ghost use Rattle.continuation_compile.specs.Numberings.{chart_in, IsNumbering};
 
-use code_form::{Cond, Instr};
+use code_language::{Cond, Instr};
 use continuation_compile::{Draft, Numbering, append, put, put_call, put_require, put_return};
 use flow_base::{List, Memory};
 use std::alloc::Global;

@@ -1,7 +1,7 @@
 //! The procedures that firings take, those of each state together.
 ghost use Rattle.std.specs.Prelude.{◌≡◌, ◌<◌, ◌≤◌, suc, ◌++◌, ◌∷◌, [], map, OnOk};
 ghost use Rattle.active_config.specs.Tree.{state_count};
-ghost use Rattle.state_tree.specs.declared.parts.ListKind.TheVariants.{Default};
+ghost use Rattle.checked_chart.specs.declared.parts.ListKind.TheVariants.{Default};
 ghost use Rattle.chart_layout.specs.Ends.{below_count, end_of};
 ghost use Rattle.chart_layout.specs.Orders.{span};
 ghost use Rattle.chart_layout.specs.Keys as keys;
@@ -12,9 +12,9 @@ ghost use Rattle.continuation_compile.specs.Numberings.{chart_in, IsNumbering};
 use crate::entries::{append_defaults, append_enter};
 use crate::exits::{append_exit, append_leave};
 use crate::firings::{append_arrive, append_take};
+use checked_chart::ListKind;
 use continuation_compile::{Draft, Numbering, append_list};
 use flow_base::Memory;
-use state_tree::ListKind;
 use std::alloc::Global;
 
 /// The number after the last state that is at or below a state.

@@ -1,9 +1,9 @@
 //! The procedures by which states are processed.
 ghost use Rattle.std.specs.Prelude.{◌≡◌, ◌<◌, ◌++◌, ◌∷◌, [], OnOk};
 ghost use Rattle.active_config.specs.Tree.{state_count, comp_of, children_of};
-ghost use Rattle.state_tree.specs.declared.parts.ListKind.TheVariants as kinds;
+ghost use Rattle.checked_chart.specs.declared.parts.ListKind.TheVariants as kinds;
 ghost use Rattle.sos_rules.specs.Parts.{Out};
-ghost use Rattle.code_form.specs.Instrs as instrs;
+ghost use Rattle.code_language.specs.Instrs as instrs;
 ghost use Rattle.chart_procedures.specs.StateProcedures as templates;
 ghost use Rattle.chart_layout.specs.Bodies.{body};
 ghost use Rattle.chart_layout.specs.Keys as keys;
@@ -13,12 +13,12 @@ ghost use Rattle.continuation_compile.specs.Numberings.{chart_in, IsNumbering};
 
 use crate::children::children;
 use active_config::Comp;
-use code_form::{Cond, Instr};
+use checked_chart::ListKind;
+use code_language::{Cond, Instr};
 use continuation_compile::{
     Draft, Numbering, append, put, put_call, put_require, put_return, put_unless_found,
 };
 use flow_base::{List, Memory};
-use state_tree::ListKind;
 use std::alloc::Global;
 
 /// The number of the procedure of the during action of a state.

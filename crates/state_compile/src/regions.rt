@@ -7,9 +7,9 @@ ghost use Rattle.continuation_compile.specs.Drafts.{procs_of};
 ghost use Rattle.continuation_compile.specs.Numberings.{chart_in, IsNumbering};
 
 use crate::processes::append_process;
+use checked_chart::{BlockKind, ListKind};
 use continuation_compile::{Draft, Lasting, Numbering, append_block, append_list, append_parts};
 use flow_base::Memory;
-use state_tree::{BlockKind, ListKind};
 use std::alloc::Global;
 
 /// Appends the procedures of the actions of a state.

@@ -1,7 +1,7 @@
 //! All procedures of a chart.
 ghost use Rattle.std.specs.Prelude.{◌≡◌, ◌++◌, ◌∷◌, [], map, OnOk, IfOk};
 ghost use Rattle.flow_base.specs.Lists.{items_of};
-ghost use Rattle.code_form.specs.Code.{instrs_of};
+ghost use Rattle.code_language.specs.Code.{instrs_of};
 ghost use Rattle.chart_procedures.specs.StateProcedures as templates;
 ghost use Rattle.chart_layout.specs.Keys as keys;
 ghost use Rattle.chart_layout.specs.Bodies.{body};
@@ -12,7 +12,7 @@ use crate::groups::append_groups;
 use crate::regions::{
     append_actions, append_junction_parts, append_lists, append_processes, append_state_parts,
 };
-use code_form::Instr;
+use code_language::Instr;
 use continuation_compile::{Draft, Numbering, append, put_return};
 use flow_base::{List, Memory};
 use std::alloc::Global;

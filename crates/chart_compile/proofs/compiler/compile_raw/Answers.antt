@@ -1,8 +1,8 @@
 use Rattle.std.proofs.Common.{◌≡◌, map, ap, ◌∙◌}
 use Rattle.actions.specs.Names.{Names, names_of}
-use Rattle.state_tree.specs.Chart.{Chart}
-use Rattle.state_tree.specs.Kept.{chart_of}
-use Rattle.code_form.specs.Code.{Code, code_of}
+use Rattle.checked_chart.specs.Chart.{Chart}
+use Rattle.checked_chart.specs.Kept.{chart_of}
+use Rattle.code_language.specs.Code.{Code, code_of}
 use Rattle.chart_layout.specs.Keys.{layout}
 use Rattle.chart_layout.specs.Places.{numbers}
 use Rattle.chart_layout.specs.Bodies.{body, procedures_of, code_of_chart}

@@ -3,8 +3,8 @@ use Rattle.flow_base.specs.Lists.{items_of}
 use Rattle.active_config.specs.declared.comp.Comp.TheVariants.{Leaf}
 use Rattle.active_config.specs.Tree.{state_count, parent_of, comp_of}
 use Rattle.actions.specs.Names.{Names}
-use Rattle.code_form.specs.declared.code.RawState.{RawState}
-use Rattle.code_form.specs.Code.{tree_of_states}
+use Rattle.code_language.specs.declared.code.RawState.{RawState}
+use Rattle.code_language.specs.Code.{tree_of_states}
 use Rattle.chart_compile.proofs.Copies.{copied_more, same_tree}
 use Rattle.chart_compile.proofs.tables.states.Goals as goal
 

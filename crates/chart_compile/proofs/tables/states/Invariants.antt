@@ -1,6 +1,6 @@
 use Rattle.std.proofs.Common.{◌≡◌, map, take}
 use Rattle.flow_base.specs.Lists.{items_of}
-use Rattle.code_form.specs.declared.code.RawState.{RawState}
+use Rattle.code_language.specs.declared.code.RawState.{RawState}
 use Rattle.chart_compile.proofs.tables.states.Given as goal
 
 -- the states so far are copied

@@ -1,5 +1,5 @@
 use Rattle.std.proofs.Common.{◌≡◌, ◌++◌, drop}
-use Rattle.state_tree.specs.Views.{block_seen}
+use Rattle.checked_chart.specs.Views.{block_seen}
 use Rattle.chart_procedures.specs.StateProcedures.{block_code}
 use Rattle.chart_layout.specs.Places.{numbers}
 use Rattle.continuation_compile.specs.Drafts.{code_seen, test_of}

@@ -1,5 +1,5 @@
 use Rattle.std.proofs.Common.{◌≡◌, ◌++◌, drop, map}
-use Rattle.state_tree.specs.Views.{list_seen}
+use Rattle.checked_chart.specs.Views.{list_seen}
 use Rattle.chart_layout.specs.Keys.{parts_keys}
 use Rattle.chart_layout.specs.Bodies.{body}
 use Rattle.continuation_compile.specs.Drafts.{procs_of}

@@ -1,6 +1,6 @@
 use Rattle.std.proofs.Common.{◌+◌, ◌∙◌, length, refl, ap, arith}
 use Rattle.flow_base.specs.Lists.{items_of}
-use Rattle.state_tree.specs.Kept.{chart_of}
+use Rattle.checked_chart.specs.Kept.{chart_of}
 use Rattle.chart_layout.specs.Places.{reached_count}
 use Rattle.chart_layout.specs.ReachedJunctions.{reached}
 use Rattle.continuation_compile.proofs.Limits.{reached_count_low}

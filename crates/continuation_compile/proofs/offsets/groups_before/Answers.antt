@@ -3,7 +3,7 @@ use Rattle.std.proofs.lemmas.Result.{IfOk-weaker}
 use Rattle.std.specs.Prelude.{slice_index_or}
 use Rattle.flow_base.specs.Lists.{items_of}
 use Rattle.active_config.specs.Tree.{state_count}
-use Rattle.state_tree.specs.Kept.{chart_of}
+use Rattle.checked_chart.specs.Kept.{chart_of}
 use Rattle.chart_layout.specs.Places.{group_size}
 use Rattle.continuation_compile.specs.Tables.{IsTable}
 use Rattle.continuation_compile.proofs.TableTurns.{table_same, table_sums}

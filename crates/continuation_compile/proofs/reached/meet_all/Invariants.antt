@@ -1,6 +1,6 @@
 use Rattle.std.proofs.Common.{◌≡◌, drop}
 use Rattle.flow_base.specs.Lists.{items_of}
-use Rattle.state_tree.specs.Views.{list_seen}
+use Rattle.checked_chart.specs.Views.{list_seen}
 use Rattle.chart_layout.specs.ReachedJunctions.{meet, junctions_to}
 use Rattle.continuation_compile.proofs.reached.meet_all.Given as goal
 

@@ -1,9 +1,9 @@
 use Rattle.std.proofs.Common.{◌≡◌, ◌-◌, ◌<◌}
 use Rattle.std.specs.List.{AllByRecursion}
 use Rattle.flow_base.specs.Lists.{items_of}
-use Rattle.state_tree.specs.Chart.{junction, junction_count}
-use Rattle.state_tree.specs.Kept.{chart_of}
-use Rattle.state_tree.specs.Views.{list_seen}
+use Rattle.checked_chart.specs.Chart.{junction, junction_count}
+use Rattle.checked_chart.specs.Kept.{chart_of}
+use Rattle.checked_chart.specs.Views.{list_seen}
 use Rattle.chart_layout.specs.ReachedJunctions.{spread, junctions_to, reached}
 use Rattle.continuation_compile.proofs.reached.reached.Given as goal
 

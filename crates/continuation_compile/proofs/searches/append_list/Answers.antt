@@ -1,13 +1,14 @@
-use Rattle.std.proofs.Common.{◌≡◌, ◌∙◌, ℕ, List, [], ◌∷◌, ◌++◌, length, map, ap, arith, append_assoc}
-use Rattle.state_tree.specs.declared.parts.ListKind.{ListKind}
-use Rattle.state_tree.specs.Chart.{Chart, list_of}
-use Rattle.code_form.specs.Instrs.{Instr}
+use Rattle.std.proofs.Common.{◌≡◌, ◌∙◌, ℕ, List, [], ◌∷◌, ◌++◌, length, map, refl, ap, arith, append_assoc}
+use Rattle.checked_chart.specs.declared.parts.ListKind.{ListKind}
+use Rattle.checked_chart.specs.Chart.{Chart, list_of}
+use Rattle.code_language.specs.Instrs.{Instr}
 use Rattle.chart_layout.specs.Bodies.{body}
 use Rattle.chart_layout.specs.Keys.{ListOf, JunctionOf, search_keys}
 use Rattle.chart_layout.specs.Places.{reached_count}
 use Rattle.chart_layout.specs.ReachedJunctions.{reached}
 use Rattle.continuation_compile.specs.Drafts.{procs_of}
 use Rattle.continuation_compile.specs.Numberings.{chart_in}
+use Rattle.continuation_compile.proofs.FrontLemmas.{on_err, front_same, front_then}
 use Rattle.continuation_compile.proofs.Limits.{reached_count_low}
 use Rattle.continuation_compile.proofs.searches.append_list.Goals as goal
 
@@ -59,10 +60,24 @@ append_junctions-requires-clause-search c =
       low = c.list-first.ensures.low;
     }
 
-pub returns : goal.returns
-returns c =
+pub returns-clause-ok : goal.returns-clause-ok
+returns-clause-ok c =
     let chart = chart_in c.args.numbering.now in
     search_done chart c.args.state c.args.kind (procs_of c.args.draft.now) (procs_of c.append_first.new.draft) _
     c.items-found.result.now
     (c.items-found.ensures ∙ c.in_ok-junctions.ensures.reached ∙ ap (reached chart) c.list-list.ensures.list)
-    c.in_ok-append_first.ensures c.in_ok-append_junctions.ensures
+    c.in_ok-append_first.ensures.ok c.in_ok-append_junctions.ensures.ok
+
+-- ---- after an error
+
+pub returns-in_err-junctions-clause-err : goal.returns-in_err-junctions-clause-err
+returns-in_err-junctions-clause-err c = on_err _ (front_same (procs_of c.args.draft.now) _ refl)
+
+pub returns-in_err-append_first-clause-err : goal.returns-in_err-append_first-clause-err
+returns-in_err-append_first-clause-err c =
+    on_err _ (front_same (procs_of c.args.draft.now) _ c.in_err-append_first.ensures.err)
+
+pub returns-in_err-append_junctions-clause-err : goal.returns-in_err-append_junctions-clause-err
+returns-in_err-append_junctions-clause-err c =
+    on_err _ (front_then (procs_of c.args.draft.now) (procs_of c.append_first.new.draft) _ _ c.in_ok-append_first.ensures.ok
+    c.in_err-append_junctions.ensures.err)

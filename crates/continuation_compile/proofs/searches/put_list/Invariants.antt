@@ -1,5 +1,5 @@
 use Rattle.std.proofs.Common.{◌≡◌, ◌+◌, ◌++◌, drop}
-use Rattle.state_tree.specs.Views.{list_seen}
+use Rattle.checked_chart.specs.Views.{list_seen}
 use Rattle.chart_procedures.specs.ListProcedures.{list_code}
 use Rattle.chart_layout.specs.Places.{parts_numbers, parts_size}
 use Rattle.continuation_compile.specs.Drafts.{code_seen}

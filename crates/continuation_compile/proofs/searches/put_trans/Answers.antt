@@ -1,5 +1,5 @@
 use Rattle.std.proofs.Common.{◌∙◌, ◌++◌, ap}
-use Rattle.state_tree.specs.Views.{trans_seen}
+use Rattle.checked_chart.specs.Views.{trans_seen}
 use Rattle.chart_procedures.specs.ListProcedures.{condition_code}
 use Rattle.chart_layout.specs.Places.{trans_numbers}
 use Rattle.continuation_compile.specs.Drafts.{code_seen, test_of}

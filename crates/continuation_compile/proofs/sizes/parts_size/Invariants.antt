@@ -1,5 +1,5 @@
 use Rattle.std.proofs.Common.{◌≡◌, ◌+◌, drop}
-use Rattle.state_tree.specs.Views.{list_seen}
+use Rattle.checked_chart.specs.Views.{list_seen}
 use Rattle.chart_layout.specs.Places.{parts_size}
 use Rattle.continuation_compile.proofs.sizes.parts_size.Given as goal
 

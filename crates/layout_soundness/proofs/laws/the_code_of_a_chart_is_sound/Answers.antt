@@ -1,5 +1,5 @@
-use Rattle.code_form.specs.WellFormed.{known_of}
-use Rattle.code_form.proofs.Accepted.{no_procs_fault}
+use Rattle.code_language.specs.WellFormed.{known_of}
+use Rattle.code_language.proofs.Accepted.{no_procs_fault}
 use Rattle.chart_layout.specs.Bodies.{code_of_chart}
 use Rattle.layout_soundness.proofs.Few.{code_few}
 use Rattle.layout_soundness.proofs.Procs.{code_sound}

@@ -4,7 +4,7 @@ use Rattle.std.specs.List.{AllByRecursion}
 use Rattle.flow_base.specs.Lists.{items_of}
 use Rattle.active_config.specs.Tree.{state_count, children_from}
 use Rattle.active_config.proofs.SiblingLemmas.{children_of-from}
-use Rattle.state_tree.proofs.Walks.{stands_first, stands_next, from_some, from_none, ahead_falls}
+use Rattle.checked_chart.proofs.Walks.{stands_first, stands_next, from_some, from_none, ahead_falls}
 use Rattle.state_compile.proofs.children.children.Goals as goal
 
 -- one more that is below n

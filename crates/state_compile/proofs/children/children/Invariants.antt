@@ -2,7 +2,7 @@ use Rattle.std.proofs.Common.{◌≡◌, ◌++◌, ◌<◌}
 use Rattle.std.specs.List.{AllByRecursion}
 use Rattle.flow_base.specs.Lists.{items_of}
 use Rattle.active_config.specs.Tree.{state_count, children_of, children_from}
-use Rattle.state_tree.proofs.Walks.{Stands, ahead}
+use Rattle.checked_chart.proofs.Walks.{Stands, ahead}
 use Rattle.state_compile.proofs.children.children.Given as goal
 
 -- those that are listed and those from where the walk stands are all

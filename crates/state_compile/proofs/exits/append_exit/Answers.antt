@@ -1,5 +1,5 @@
 use Rattle.std.proofs.Common.{◌∙◌, [], ◌∷◌, ◌++◌, ap}
-use Rattle.code_form.specs.Code.{instrs_of}
+use Rattle.code_language.specs.Code.{instrs_of}
 use Rattle.chart_procedures.specs.StateProcedures.{exit_code}
 use Rattle.chart_layout.specs.Places.{numbers}
 use Rattle.continuation_compile.specs.Drafts.{procs_of}

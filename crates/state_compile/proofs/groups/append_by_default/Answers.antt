@@ -1,5 +1,5 @@
 use Rattle.std.proofs.Common.{◌∷◌, []}
-use Rattle.state_tree.specs.declared.parts.ListKind.TheVariants.{Default}
+use Rattle.checked_chart.specs.declared.parts.ListKind.TheVariants.{Default}
 use Rattle.chart_layout.specs.Bodies.{body}
 use Rattle.chart_layout.specs.Keys.{Defaults, Arrive, search_keys}
 use Rattle.continuation_compile.specs.Drafts.{procs_of}
@@ -13,6 +13,6 @@ returns c =
     let b = body chart in
     let s = c.args.state in
     both b (search_keys chart s Default) (Defaults s ∷ Arrive s s ∷ []) (procs_of c.args.draft.now)
-    (procs_of c.append_list.new.draft) _ c.in_ok-append_list.ensures
+    (procs_of c.append_list.new.draft) _ c.in_ok-append_list.ensures.ok
     (both b (Defaults s ∷ []) (Arrive s s ∷ []) (procs_of c.append_list.new.draft)
     (procs_of c.append_defaults.new.draft) _ c.in_ok-append_defaults.ensures c.in_ok-append_arrive.ensures)

@@ -1,5 +1,5 @@
 use Rattle.std.proofs.Common.{suc, ◌++◌}
-use Rattle.state_tree.specs.declared.parts.ListKind.TheVariants.{Default}
+use Rattle.checked_chart.specs.declared.parts.ListKind.TheVariants.{Default}
 use Rattle.chart_layout.specs.Bodies.{body}
 use Rattle.chart_layout.specs.Ends.{below_count}
 use Rattle.chart_layout.specs.Keys.{Leave, Exit, Arrive, Defaults, Take, Enter, search_keys, group_keys}

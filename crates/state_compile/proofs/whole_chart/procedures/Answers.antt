@@ -1,6 +1,6 @@
 use Rattle.std.proofs.Common.{◌∙◌, ap, map}
 use Rattle.flow_base.specs.Lists.{items_of}
-use Rattle.code_form.specs.Code.{instrs_of}
+use Rattle.code_language.specs.Code.{instrs_of}
 use Rattle.chart_layout.specs.Bodies.{body}
 use Rattle.chart_layout.specs.Keys.{EndMark, layout, all_actions, all_state_parts, all_junction_parts, all_groups}
 use Rattle.chart_layout.specs.Keys.{all_lists, all_processes}

@@ -7,7 +7,7 @@ use Rattle.clap.specs.Faults.{fault_of, level_fault}
 use Rattle.clap.specs.Simple.{rows_at, subcommand_of}
 use Rattle.clap.specs.Walk.{Row, idle, nothing_held, subcommand_met}
 use Rattle.command_words.specs.Numbers.{Text}
-use Rattle.command_words.specs.Commands.{RunBounds, Command, Check, Fmt, Rules, Compile, Exec, Run, Upgrade, Selftest}
+use Rattle.command_words.specs.Commands.{RunBounds, Command, Check, Fmt, Rules, Compile, Exec, Run, Upgrade, Bound, Shrink, Selftest}
 use Rattle.command_words.specs.Reading.{nothing, read_words}
 use Rattle.command_words.specs.Words.{command_of_texts, file_command, run_command, number_command}
 use Rattle.command_words.specs.Parser.{program_app}
@@ -118,6 +118,20 @@ upgrade_agreed rest u =
     (enters (codes "upgrade") (shape_of_leaf (file_leaf (codes "upgrade"))) rest refl refl)
     (file_agreed (codes "upgrade") Upgrade rest u)
 
+-- `bounds`
+bounds_agreed : (rest : List Text) → AreUtf8 rest → Agreed (codes "bounds" ∷ rest)
+bounds_agreed rest u =
+    agreed_at (codes "bounds") (file_leaf (codes "bounds")) rest
+    (enters (codes "bounds") (shape_of_leaf (file_leaf (codes "bounds"))) rest refl refl)
+    (file_agreed (codes "bounds") Bound rest u)
+
+-- `shrink`
+shrink_agreed : (rest : List Text) → AreUtf8 rest → Agreed (codes "shrink" ∷ rest)
+shrink_agreed rest u =
+    agreed_at (codes "shrink") (file_leaf (codes "shrink")) rest
+    (enters (codes "shrink") (shape_of_leaf (file_leaf (codes "shrink"))) rest refl refl)
+    (file_agreed (codes "shrink") Shrink rest u)
+
 -- `selftest`
 selftest_agreed : (rest : List Text) → AreUtf8 rest → Agreed (codes "selftest" ∷ rest)
 selftest_agreed rest u =
@@ -136,10 +150,12 @@ agreed (name ∷ rest) u =
     none : bytes_eq (codes "check") name ≡ false → bytes_eq (codes "fmt") name ≡ false
         → bytes_eq (codes "rules") name ≡ false → bytes_eq (codes "compile") name ≡ false
         → bytes_eq (codes "exec") name ≡ false → bytes_eq (codes "run") name ≡ false
-        → bytes_eq (codes "upgrade") name ≡ false → bytes_eq (codes "selftest") name ≡ false → Agreed (name ∷ rest)
-    none a b c d e f g h =
-        let undefined : command_of_texts (name ∷ rest) ≡ None = rw (a, b, c, d, e, f, g, h) refl in
-        let unmet : subcommand_met names idle name ≡ None = rw (a, b, c, d, e, f, g, h) refl in
+        → bytes_eq (codes "upgrade") name ≡ false → bytes_eq (codes "bounds") name ≡ false
+        → bytes_eq (codes "shrink") name ≡ false
+        → bytes_eq (codes "selftest") name ≡ false → Agreed (name ∷ rest)
+    none a b c d e f g h i j =
+        let undefined : command_of_texts (name ∷ rest) ≡ None = rw (a, b, c, d, e, f, g, h, i, j) refl in
+        let unmet : subcommand_met names idle name ≡ None = rw (a, b, c, d, e, f, g, h, i, j) refl in
         subst
         (λ (o : Option Command). Answers o (fault_of program_app (name ∷ rest))
         (command_found (subcommand_of program_app (name ∷ rest))))
@@ -174,8 +190,17 @@ agreed (name ∷ rest) u =
                           where
                             upgrade : (t : Bool) → bytes_eq (codes "upgrade") name ≡ t → Agreed (name ∷ rest)
                             upgrade true g = named (codes "upgrade") g (upgrade_agreed rest u.1)
-                            upgrade false g = selftest (bytes_eq (codes "selftest") name) refl
+                            upgrade false g = bounds (bytes_eq (codes "bounds") name) refl
                               where
-                                selftest : (t : Bool) → bytes_eq (codes "selftest") name ≡ t → Agreed (name ∷ rest)
-                                selftest true h = named (codes "selftest") h (selftest_agreed rest u.1)
-                                selftest false h = none a b c d e f g h
+                                bounds : (t : Bool) → bytes_eq (codes "bounds") name ≡ t → Agreed (name ∷ rest)
+                                bounds true h = named (codes "bounds") h (bounds_agreed rest u.1)
+                                bounds false h = shrink (bytes_eq (codes "shrink") name) refl
+                                  where
+                                    shrink : (t : Bool) → bytes_eq (codes "shrink") name ≡ t → Agreed (name ∷ rest)
+                                    shrink true i = named (codes "shrink") i (shrink_agreed rest u.1)
+                                    shrink false i = selftest (bytes_eq (codes "selftest") name) refl
+                                      where
+                                        selftest : (t : Bool) → bytes_eq (codes "selftest") name ≡ t
+                                            → Agreed (name ∷ rest)
+                                        selftest true j = named (codes "selftest") j (selftest_agreed rest u.1)
+                                        selftest false j = none a b c d e f g h i j

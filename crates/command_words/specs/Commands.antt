@@ -27,6 +27,10 @@ pub data Command : Type 0 where
   Run : Text → Text → RunBounds → Command
   -- `upgrade CODE`
   Upgrade : Text → Command
+  -- `bounds CHART`
+  Bound : Text → Command
+  -- `shrink CODE`
+  Shrink : Text → Command
   -- `selftest N`
   Selftest : ℕ → Command
 
@@ -39,6 +43,8 @@ files_named (Compile first) = first ∷ []
 files_named (Exec first second bounds) = first ∷ second ∷ []
 files_named (Run first second bounds) = first ∷ second ∷ []
 files_named (Upgrade first) = first ∷ []
+files_named (Bound first) = first ∷ []
+files_named (Shrink first) = first ∷ []
 files_named (Selftest number) = []
 
 -- the files that the words name, none where they name no command

@@ -7,7 +7,7 @@ use Rattle.clap.specs.Words.{Row, first_of, one_of}
 use Rattle.command_words.specs.declared.words.TheConstants.{NUMBER_LIMIT}
 use Rattle.command_words.specs.Numbers.{Text, is_number_in, number_of}
 use Rattle.command_words.specs.Commands.{RunBounds, usual_bounds}
-use Rattle.command_words.specs.Commands.{Command, Check, Fmt, Rules, Compile, Exec, Run, Upgrade, Selftest}
+use Rattle.command_words.specs.Commands.{Command, Check, Fmt, Rules, Compile, Exec, Run, Upgrade, Bound, Shrink, Selftest}
 
 -- the number that a text denotes, if it is one of 32 bits
 abbrev pub number_in : Text → Option ℕ
@@ -58,6 +58,8 @@ found_named name rows =
     if bytes_eq (codes "exec") name then run_found Exec rows else
     if bytes_eq (codes "run") name then run_found Run rows else
     if bytes_eq (codes "upgrade") name then file_found Upgrade rows else
+    if bytes_eq (codes "bounds") name then file_found Bound rows else
+    if bytes_eq (codes "shrink") name then file_found Shrink rows else
     if bytes_eq (codes "selftest") name then number_found Selftest rows else None
 
 -- the command of a parse, from the name of its subcommand and from that one's rows

@@ -65,5 +65,6 @@ abbrev pub program_app : App
 program_app = fold with_subcommand bare_app (
     (file_app (codes "check")).top ∷ (file_app (codes "fmt")).top ∷ (run_app (codes "rules")).top
     ∷ (file_app (codes "compile")).top ∷ (run_app (codes "exec")).top ∷ (run_app (codes "run")).top
-    ∷ (file_app (codes "upgrade")).top ∷ (number_app (codes "selftest")).top ∷ []
+    ∷ (file_app (codes "upgrade")).top ∷ (file_app (codes "bounds")).top ∷ (file_app (codes "shrink")).top
+    ∷ (number_app (codes "selftest")).top ∷ []
     )

@@ -6,7 +6,7 @@ use Rattle.std.specs.Str.{bytes_eq}
 use Rattle.command_words.specs.declared.words.TheConstants.{NUMBER_LIMIT}
 use Rattle.command_words.specs.Numbers.{Text, is_number_in, number_of}
 use Rattle.command_words.specs.Commands.{RunBounds, usual_bounds}
-use Rattle.command_words.specs.Commands.{Command, Check, Fmt, Rules, Compile, Exec, Run, Upgrade, Selftest}
+use Rattle.command_words.specs.Commands.{Command, Check, Fmt, Rules, Compile, Exec, Run, Upgrade, Bound, Shrink, Selftest}
 use Rattle.command_words.specs.Reading.{Given, nothing, read_words}
 
 -- the bounds that the options set, and the usual ones where they don't
@@ -62,6 +62,8 @@ command_named name words =
     if bytes_eq (codes "exec") name then run_command Exec words else
     if bytes_eq (codes "run") name then run_command Run words else
     if bytes_eq (codes "upgrade") name then file_command Upgrade words else
+    if bytes_eq (codes "bounds") name then file_command Bound words else
+    if bytes_eq (codes "shrink") name then file_command Shrink words else
     if bytes_eq (codes "selftest") name then number_command Selftest words else None
 
 -- the first word names the command

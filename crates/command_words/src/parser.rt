@@ -18,6 +18,8 @@ pub(crate) fn program<'a>(alloc: Global) -> Result<Command<'a>, AllocError>
     let parser = with_command(parser, with_run(alloc, "exec"))?;
     let parser = with_command(parser, with_run(alloc, "run"))?;
     let parser = with_command(parser, with_file(alloc, "upgrade"))?;
+    let parser = with_command(parser, with_file(alloc, "bounds"))?;
+    let parser = with_command(parser, with_file(alloc, "shrink"))?;
     with_command(parser, with_number(alloc, "selftest"))
 }
 

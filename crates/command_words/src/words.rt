@@ -34,6 +34,10 @@ pub enum Command<'a> {
     Run(&'a str, &'a str, Bounds),
     /// `upgrade CODE`
     Upgrade(&'a str),
+    /// `bounds CHART`
+    Bound(&'a str),
+    /// `shrink CODE`
+    Shrink(&'a str),
     /// `selftest N`
     Selftest(u32),
 }
@@ -78,6 +82,8 @@ fn named<'a>(name: &str, given: &ArgMatches<'a>) -> Option<Command<'a>>
         "exec" => exec_in(given),
         "run" => run_in(given),
         "upgrade" => upgrade_in(given),
+        "bounds" => bound_in(given),
+        "shrink" => shrink_in(given),
         "selftest" => selftest_in(given),
         _ => None,
     }
@@ -140,6 +146,22 @@ fn upgrade_in<'a>(given: &ArgMatches<'a>) -> Option<Command<'a>>
         ≡ file_found spec.Upgrade (rows_of (found_of given.now)) }
 {
     Some(Command::Upgrade(text_in(given, "first")?))
+}
+
+/// The command `bounds` with its file.
+fn bound_in<'a>(given: &ArgMatches<'a>) -> Option<Command<'a>>
+    ensures { option_map command_seen result
+        ≡ file_found spec.Bound (rows_of (found_of given.now)) }
+{
+    Some(Command::Bound(text_in(given, "first")?))
+}
+
+/// The command `shrink` with its file.
+fn shrink_in<'a>(given: &ArgMatches<'a>) -> Option<Command<'a>>
+    ensures { option_map command_seen result
+        ≡ file_found spec.Shrink (rows_of (found_of given.now)) }
+{
+    Some(Command::Shrink(text_in(given, "first")?))
 }
 
 /// The command `selftest` with its number.

@@ -1,8 +1,8 @@
 //! `flowc`: runs Stateflow charts that are written as text.
 #![tactic(auto)]
 
-use chart_command::chart_main;
 use flow_base::{RealInputs, RealSink, Status, write_all};
+use flow_program::chart_main;
 use std::process::ExitCode;
 use std::{env, io};
 

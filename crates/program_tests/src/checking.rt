@@ -1,4 +1,4 @@
-//! Charts that are accepted, with their counts, and charts that are refused.
+//! Charts that are accepted, with their counts and their bounds, and charts that are refused.
 use crate::rows::{Group, check, check_groups};
 use crate::setup::{Answer, LAMP, compare};
 use accepted_charts::chart_fault;
@@ -7,8 +7,10 @@ use std::process::Abort;
 
 const CHECK: &[&str] = &["check c"];
 
+const BOUNDS: &[&str] = &["bounds c"];
+
 /// Words that read the chart.
-const OF_CHARTS: &[&str] = &["check c", "rules c e", "compile c", "run c e"];
+const OF_CHARTS: &[&str] = &["check c", "bounds c", "rules c e", "compile c", "run c e"];
 
 /// Accepted charts with their counts, and refused charts with their lines.
 const GROUPS: &[Group<'_>] = &[
@@ -50,6 +52,19 @@ const GROUPS: &[Group<'_>] = &[
                 "",
             ),
         )],
+    ),
+    (BOUNDS, LAMP, &[("", (Status::Ok, "depth 1 steps 1\n", ""))]),
+    // The send that GO makes takes a step, at depth 1, and the transition action of L another.
+    (
+        BOUNDS,
+        "chart C or { event input GO; event local L; local n : int16; default -> A;\
+         state A { outer GO { send L; } -> B; outer L / { n = 1; } -> B; } state B { } }",
+        &[("", (Status::Ok, "depth 1 steps 2\n", ""))],
+    ),
+    (
+        BOUNDS,
+        "chart C or { event local L; default -> A; state A { during { send L; } } }",
+        &[("", (Status::Ok, "no bounds\n", ""))],
     ),
     (
         OF_CHARTS,

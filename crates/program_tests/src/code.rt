@@ -1,4 +1,4 @@
-//! Code texts that the program writes, runs and upgrades, and that it refuses.
+//! Code texts that the program writes, runs, upgrades and makes smaller, and that it refuses.
 use crate::rows::{EXEC, Group, START, check_groups, check_lines, check_rows};
 use crate::setup::{Answer, CODE, LAMP, Ran, SURE, compare, run};
 use flow_base::Status;
@@ -59,10 +59,11 @@ fn refused_code(rt: HostRuntime) {
     }
 }
 
-/// Neither `exec` nor `upgrade` takes the code with that text in place of the old.
+/// None of `exec`, `upgrade` and `shrink` takes the code with that text in place of the old.
 fn check_replaced(rt: &(impl AllocGlobal + Abort), old: &str, new: &str, want: Answer<'_>) {
     let text = CODE.replace(rt.alloc(), old, new).expect(rt, "memory");
-    check_lines(rt, &["exec c e", "upgrade c"], text.as_str(), "GO\n", want);
+    let lines = &["exec c e", "upgrade c", "shrink c"];
+    check_lines(rt, lines, text.as_str(), "GO\n", want);
 }
 
 /// Code of the lamp in format 2.
@@ -148,12 +149,62 @@ const COUNTS: &[(&str, Answer<'_>)] = &[
     ),
 ];
 
+/// Code of the lamp whose reaction has a constant test, before a skip over what is never reached. No
+/// procedure calls its second one.
+const DECIDED: &str = "\
+    flowcode 1\n\
+    states 3\n\
+    s - or Lamp\n\
+    s 0 leaf Off\n\
+    s 0 leaf On\n\
+    data 0\n\
+    events 1\n\
+    e input GO\n\
+    procs 3 0 2\n\
+    p 3\n\
+    mark 0\n\
+    mark 1\n\
+    ret 0\n\
+    p 1\n\
+    ret 0\n\
+    p 4\n\
+    unless 1 expr < #1:0 #2:0\n\
+    skip 1\n\
+    clear 1\n\
+    ret 0\n\
+    end\n";
+
+/// The smaller code of the same meaning.
+const SMALLER: &str = "\
+    flowcode 2\n\
+    states 3\n\
+    s - or Lamp\n\
+    s 0 leaf Off\n\
+    s 0 leaf On\n\
+    data 0\n\
+    events 1\n\
+    e input GO\n\
+    procs 2 0 1\n\
+    p 3\n\
+    mark 0\n\
+    mark 1\n\
+    ret 0\n\
+    p 1\n\
+    ret 0\n\
+    end\n";
+
 const UPGRADE: &[&str] = &["upgrade c"];
 
-/// The upgraded code of the lamp, and the counter over its event files.
+const SHRINK: &[&str] = &["shrink c"];
+
+/// The upgraded code of the lamp, smaller code, and the counter over its event files.
 const GROUPS: &[Group<'_>] = &[
     (UPGRADE, CODE, &[("", (Status::Ok, SECOND, ""))]),
     (UPGRADE, SECOND, &[("", (Status::Ok, SECOND, ""))]),
+    (SHRINK, CODE, &[("", (Status::Ok, SECOND, ""))]),
+    (SHRINK, SECOND, &[("", (Status::Ok, SECOND, ""))]),
+    (SHRINK, DECIDED, &[("", (Status::Ok, SMALLER, ""))]),
+    (SHRINK, SMALLER, &[("", (Status::Ok, SMALLER, ""))]),
     (
         EXEC,
         SECOND,
@@ -166,6 +217,6 @@ const GROUPS: &[Group<'_>] = &[
 ];
 
 #[test]
-fn upgrades_data_and_outputs(rt: HostRuntime) {
+fn upgraded_and_smaller_code(rt: HostRuntime) {
     check_groups(&rt, GROUPS);
 }

@@ -3,8 +3,8 @@ ghost use Rattle.std.specs.Prelude.{◌≢◌};
 
 use crate::rows::START;
 use crate::setup::{Answer, CODE, Fails, LAMP, check_run, compare, file, words};
-use chart_command::chart_main;
 use flow_base::{Sink, Status, SureInputs, SureSink};
+use flow_program::chart_main;
 use std::alloc::Global;
 use std::process::Abort;
 
@@ -48,9 +48,11 @@ const COMMANDS: &[(&str, &str)] = &[("rules c e", LAMP), ("exec c e", CODE), ("r
 /// Commands that make a text whole before anything is written, in one piece.
 const TEXTS: &[(&str, &str)] = &[
     ("check c", LAMP),
+    ("bounds c", LAMP),
     ("compile c", LAMP),
     ("fmt c", LAMP),
     ("upgrade c", CODE),
+    ("shrink c", CODE),
 ];
 
 /// The trace of `GO` twice.

@@ -111,7 +111,7 @@ fn check_event_files(rt: &(impl AllocGlobal + Abort), lines: &[&str], text: &str
 }
 
 const USAGE: &str =
-    "usage: flowc check CHART, fmt CHART, rules CHART EVENTS, compile CHART, exec CODE EVENTS, run CHART EVENTS, upgrade CODE, selftest N; --depth D, --steps S\n";
+    "usage: flowc check CHART, fmt CHART, rules CHART EVENTS, compile CHART, exec CODE EVENTS, run CHART EVENTS, upgrade CODE, bounds CHART, shrink CODE, selftest N; --depth D, --steps S\n";
 
 const OTHER_WORDS: &[&str] = &[
     "",
@@ -137,6 +137,12 @@ const OTHER_WORDS: &[&str] = &[
     "compile -c",
     "fmt",
     "upgrade c e",
+    "bounds",
+    "bounds c e",
+    "bounds --depth 9 c",
+    "shrink",
+    "shrink c e",
+    "shrink --steps 9 c",
     "selftest",
     "selftest x",
     "selftest -0",

@@ -1,8 +1,8 @@
 //! Files, words and charts that the tests share.
 ghost use Rattle.std.specs.Prelude.{◌<◌};
 
-use chart_command::chart_main;
 use flow_base::{MemFile, MemInputs, MemSink, Status};
+use flow_program::chart_main;
 use std::process::Abort;
 
 /// The chart of the lamp.

@@ -7,17 +7,17 @@ use Rattle.flow_base.specs.declared.bounds.Bounds.{Bounds}
 use Rattle.actions.specs.Names.{Names}
 use Rattle.actions.specs.Runs.{EventWithInputs, Moment}
 use Rattle.actions.proofs.RunLemmas.{Runs-one}
-use Rattle.state_tree.specs.Chart.{Chart}
-use Rattle.state_tree.specs.Valid.{HasNames}
+use Rattle.checked_chart.specs.Chart.{Chart}
+use Rattle.checked_chart.specs.Valid.{HasNames}
 use Rattle.sos_rules.specs.Reactions.{Starts, Reacts, RulesRun}
-use Rattle.step_text.specs.EventFile.{Stop, AtEnd, AtLine, AtEvent, AtLimit, event_file}
+use Rattle.event_file.specs.EventFile.{Stop, AtEnd, AtLine, AtEvent, AtLimit, event_file}
 use Rattle.step_driver.specs.Driving.{Seen, IsText, Drives, WroteAll, answer_of}
 use Rattle.step_driver.specs.Traces.{RunFault, run_fault, trace}
 use Rattle.step_driver.specs.declared.driver.DriveEnd.{DriveEnd}
 use Rattle.step_driver.specs.declared.driver.DriveEnd.TheVariants as answers
-use Rattle.command_files.specs.Call.{Call}
-use Rattle.trace_command.specs.declared.run.TraceEnd.{TraceEnd}
-use Rattle.trace_command.specs.Trace.{Behaviour, TraceEnds, Driven, NotBegun, seen_of, end_of}
+use Rattle.commands.specs.Call.{Call}
+use Rattle.commands.specs.declared.traced.TraceEnd.{TraceEnd}
+use Rattle.commands.specs.Trace.{Behaviour, TraceEnds, Driven, NotBegun, seen_of, end_of}
 use Rattle.sos_interpreter.specs.Engine.{Program}
 use Rattle.sos_interpreter.specs.EngineLaws.{rules_one_start, rules_one_reaction}
 use Rattle.selftest_command.specs.declared.measure.EndFault.{EndFault}

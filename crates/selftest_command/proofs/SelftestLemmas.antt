@@ -4,12 +4,12 @@ use Rattle.std.proofs.Common.{sym, ap, ◌∙◌, subst}
 use Rattle.flow_base.specs.declared.bounds.Bounds.{Bounds}
 use Rattle.active_config.specs.Tree.{state_count}
 use Rattle.actions.specs.Names.{Names}
-use Rattle.state_tree.specs.Chart.{Chart}
+use Rattle.checked_chart.specs.Chart.{Chart}
 use Rattle.accepted_charts.specs.Accepted.{IsAccepted}
-use Rattle.step_text.specs.Trace.{result_word}
+use Rattle.trace_text.specs.Trace.{result_word}
 use Rattle.step_driver.specs.Traces.{RunFault, run_fault, trace}
-use Rattle.command_files.specs.Call.{Output}
-use Rattle.command_files.specs.Writing.{Wrote, WroteFront}
+use Rattle.commands.specs.Call.{Output}
+use Rattle.commands.specs.Writing.{Wrote, WroteFront}
 use Rattle.chart_gen.specs.Cases.{chart_text, events_text}
 use Rattle.selftest_command.specs.declared.measure.EndFault.{EndFault}
 use Rattle.selftest_command.specs.declared.measure.Measures.{Measures}

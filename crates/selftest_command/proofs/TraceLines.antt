@@ -27,11 +27,11 @@ use Rattle.actions.specs.declared.expr.Value.{Value}
 use Rattle.actions.specs.declared.expr.Value.TheVariants as values
 use Rattle.actions.specs.declared.names.EventDecl.{EventDecl}
 use Rattle.actions.specs.declared.names.Var.{Var}
-use Rattle.state_tree.specs.Valid.{HasNames}
-use Rattle.step_text.specs.Lines.{IsPlain}
-use Rattle.step_text.specs.Trace.{state_name, datum_name, event_name, event_word, path_of, active_states, value_text}
-use Rattle.step_text.specs.Trace.{value_texts, listed}
-use Rattle.step_text.specs.Trace.{result_word, line_of, trace_line}
+use Rattle.checked_chart.specs.Valid.{HasNames}
+use Rattle.event_file.specs.Lines.{IsPlain}
+use Rattle.trace_text.specs.Trace.{state_name, datum_name, event_name, event_word, path_of, active_states, value_text}
+use Rattle.trace_text.specs.Trace.{value_texts, listed}
+use Rattle.trace_text.specs.Trace.{result_word, line_of, trace_line}
 use Rattle.step_driver.specs.Traces.{trace, trace_from}
 use Rattle.selftest_command.specs.Newlines.{newlines}
 

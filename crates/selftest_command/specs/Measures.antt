@@ -3,13 +3,13 @@ use Rattle.std.specs.Prelude.{◌≡◌, ℕ, ◌-◌, Bool, true, false, List, 
 use Rattle.flow_base.specs.declared.bounds.Bounds.{Bounds}
 use Rattle.actions.specs.Names.{Names}
 use Rattle.actions.specs.Runs.{Moment}
-use Rattle.state_tree.specs.Chart.{Chart}
+use Rattle.checked_chart.specs.Chart.{Chart}
 use Rattle.sos_rules.specs.Reactions.{RulesRun}
-use Rattle.step_text.specs.EventFile.{event_file}
-use Rattle.step_text.specs.Trace.{result_word}
+use Rattle.event_file.specs.EventFile.{event_file}
+use Rattle.trace_text.specs.Trace.{result_word}
 use Rattle.step_driver.specs.Traces.{RunFault, run_fault, trace}
-use Rattle.trace_command.specs.declared.run.TraceEnd.{TraceEnd}
-use Rattle.trace_command.specs.declared.run.TraceEnd.TheVariants as runs
+use Rattle.commands.specs.declared.traced.TraceEnd.{TraceEnd}
+use Rattle.commands.specs.declared.traced.TraceEnd.TheVariants as runs
 use Rattle.selftest_command.specs.declared.measure.EndFault.{EndFault}
 use Rattle.selftest_command.specs.declared.measure.Measures.{Measures}
 use Rattle.selftest_command.specs.Newlines.{newlines}

@@ -4,15 +4,15 @@ use Rattle.flow_base.specs.declared.bounds.Bounds.{Bounds}
 use Rattle.active_config.specs.Tree.{state_count}
 use Rattle.actions.specs.Names.{Names}
 use Rattle.actions.specs.Runs.{EventWithInputs, Moment}
-use Rattle.state_tree.specs.Chart.{Chart}
+use Rattle.checked_chart.specs.Chart.{Chart}
 use Rattle.sos_rules.specs.Reactions.{RulesRun}
 use Rattle.accepted_charts.specs.Accepted.{IsAccepted}
-use Rattle.step_text.specs.EventFile.{event_file}
-use Rattle.step_text.specs.Trace.{result_word}
+use Rattle.event_file.specs.EventFile.{event_file}
+use Rattle.trace_text.specs.Trace.{result_word}
 use Rattle.step_driver.specs.Traces.{RunFault, run_fault, trace}
-use Rattle.command_files.specs.Call.{Output}
-use Rattle.command_files.specs.Writing.{Wrote, WroteFront}
-use Rattle.checked_commands.specs.Refusals.{RefusesAccepted}
+use Rattle.commands.specs.Call.{Output}
+use Rattle.commands.specs.Writing.{Wrote, WroteFront}
+use Rattle.commands.specs.Accepted.{RefusesAccepted}
 use Rattle.chart_gen.specs.Cases.{chart_text, events_text}
 use Rattle.selftest_command.specs.Lines.{line_text, result_of}
 use Rattle.selftest_command.specs.Measures.{shown_fault}

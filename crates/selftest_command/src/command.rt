@@ -1,17 +1,16 @@
 //! The command `selftest`.
 ghost use Rattle.std.specs.Prelude.{◌≡◌, IfOk, string_bytes};
-ghost use Rattle.command_files.specs.Call.{output_of};
+ghost use Rattle.commands.specs.Call.{output_of};
 ghost use Rattle.selftest_command.specs.Lines.{line_of_measures, result_of};
 ghost use Rattle.selftest_command.specs.Selftest.{SelftestEnds, end_of};
 
 use crate::measure::{EndFault, Measures, measured};
 use accepted_charts::accept_chart;
-use chart_files::Refusal;
 use chart_gen::make_case;
 use chart_tree::FormFault;
+use commands::{FaultWord, Refusal};
 use flow_base::{Bounds, Memory, Sink, write_all};
 use std::alloc::Global;
-use trace_command::FaultWord;
 
 /// How `selftest` ends.
 #[derive(Drop)]

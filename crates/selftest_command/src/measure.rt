@@ -1,19 +1,18 @@
 //! A run over the events of a text, of which the counts of its trace are kept and how it ended.
 ghost use Rattle.std.specs.Prelude.{◌≡◌, ◌≢◌, ◌≤◌, ◌↔◌, [], Some, IfOk, OnOk, IsTrue, true};
-ghost use Rattle.state_tree.specs.Kept.{chart_of};
-ghost use Rattle.command_files.specs.Call.{call_of};
-ghost use Rattle.trace_command.specs.Trace.{TraceEnds};
-ghost use Rattle.checked_commands.specs.Rules.{by_rules};
+ghost use Rattle.checked_chart.specs.Kept.{chart_of};
+ghost use Rattle.commands.specs.Call.{call_of};
+ghost use Rattle.commands.specs.Trace.{TraceEnds};
+ghost use Rattle.commands.specs.Rules.{by_rules};
 ghost use Rattle.selftest_command.specs.Measures as spec;
 ghost use Rattle.selftest_command.specs.Newlines.{newlines};
 
 use crate::trace_bytes::TraceBytes;
+use checked_chart::Chart;
+use commands::{FaultWord, TraceEnd, run_printed, trace};
 use flow_base::{Bounds, Inputs, MemFile, Memory, Sink, SureInputs};
-use run_command::run_printed;
 use sos_interpreter::Rules;
-use state_tree::Chart;
 use std::alloc::{AllocError, Global};
-use trace_command::{FaultWord, TraceEnd, trace};
 
 /// The fault that ended a run: the index of its event, and its word in the trace.
 #[derive(Drop)]

@@ -16,5 +16,11 @@ returns c =
     let upgrade =
     further _ _ _ (file_app (codes "upgrade")) run'
     (c.in_ok-parser-4.ensures (file_app (codes "upgrade")) c.with_file.ensures) in
-    IfOk-weaker c.with_command-4.result _ _ (λ parser is. further _ parser _ (number_app (codes "selftest")) upgrade is)
-    (c.with_command-4.ensures (number_app (codes "selftest")) c.with_number.ensures)
+    let bounds =
+    further _ _ _ (file_app (codes "bounds")) upgrade
+    (c.in_ok-parser-5.ensures (file_app (codes "bounds")) c.with_file-2.ensures) in
+    let shrink =
+    further _ _ _ (file_app (codes "shrink")) bounds
+    (c.in_ok-parser-6.ensures (file_app (codes "shrink")) c.with_file-3.ensures) in
+    IfOk-weaker c.with_command-6.result _ _ (λ parser is. further _ parser _ (number_app (codes "selftest")) shrink is)
+    (c.with_command-6.ensures (number_app (codes "selftest")) c.with_number.ensures)

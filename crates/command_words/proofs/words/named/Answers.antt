@@ -17,8 +17,9 @@ differs a b bad = go (bytes_eq a b) refl
 -- no command has this name
 no_command : (name : Text) (rows : List Row) → (name ≡ codes "check" → ⊥) → (name ≡ codes "fmt" → ⊥)
     → (name ≡ codes "rules" → ⊥) → (name ≡ codes "compile" → ⊥) → (name ≡ codes "exec" → ⊥) → (name ≡ codes "run" → ⊥)
-    → (name ≡ codes "upgrade" → ⊥) → (name ≡ codes "selftest" → ⊥) → found_named name rows ≡ None
-no_command name rows a b c d e f g h =
+    → (name ≡ codes "upgrade" → ⊥) → (name ≡ codes "bounds" → ⊥) → (name ≡ codes "shrink" → ⊥)
+    → (name ≡ codes "selftest" → ⊥) → found_named name rows ≡ None
+no_command name rows a b c d e f g h i j =
     rw (
       differs (codes "check") name a,
       differs (codes "fmt") name b,
@@ -27,7 +28,9 @@ no_command name rows a b c d e f g h =
       differs (codes "exec") name e,
       differs (codes "run") name f,
       differs (codes "upgrade") name g,
-      differs (codes "selftest") name h,
+      differs (codes "bounds") name h,
+      differs (codes "shrink") name i,
+      differs (codes "selftest") name j,
     ) refl
 
 -- the name is none of the program's
@@ -35,4 +38,4 @@ pub returns-in_default : goal.returns-in_default
 returns-in_default c =
     sym (no_command c.args.name.now (rows_of (found_of c.args.given.now)) c.in_default.not-check c.in_default.not-fmt
     c.in_default.not-rules c.in_default.not-compile c.in_default.not-exec c.in_default.not-run
-    c.in_default.not-upgrade c.in_default.not-selftest)
+    c.in_default.not-upgrade c.in_default.not-bounds c.in_default.not-shrink c.in_default.not-selftest)

@@ -1,7 +1,7 @@
 use Rattle.std.proofs.Common.{ap, ◌∙◌}
 use Rattle.active_config.specs.Tree.{Tree, state_count}
-use Rattle.command_files.specs.Call.{output_of}
-use Rattle.state_tree.specs.Kept.{chart_of}
+use Rattle.commands.specs.Call.{output_of}
+use Rattle.checked_chart.specs.Kept.{chart_of}
 use Rattle.selftest_command.proofs.SelftestLemmas.{is_measured, line_written, line_cut}
 use Rattle.selftest_command.proofs.command.selftest.Goals as goal
 

@@ -1,4 +1,4 @@
-use Rattle.state_tree.specs.Kept.{chart_of}
+use Rattle.checked_chart.specs.Kept.{chart_of}
 use Rattle.selftest_command.proofs.RunLemmas.{one_measure}
 use Rattle.selftest_command.proofs.measure.measured.Goals as goal
 

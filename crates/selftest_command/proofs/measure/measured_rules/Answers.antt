@@ -1,7 +1,7 @@
 use Rattle.std.proofs.Common.{[], false, refl, ap, List, ℕ, Some}
 use Rattle.flow_base.specs.contracts.sure_inputs.SureInputsInputs.TheImpl as files
-use Rattle.command_files.specs.Call.{call_of}
-use Rattle.state_tree.specs.Kept.{chart_of}
+use Rattle.commands.specs.Call.{call_of}
+use Rattle.checked_chart.specs.Kept.{chart_of}
 use Rattle.selftest_command.specs.contracts.trace_bytes.TraceBytesSink.TheImpl as bytes
 use Rattle.selftest_command.proofs.RunLemmas.{kept_of, some_newline, measured}
 use Rattle.selftest_command.proofs.measure.measured_rules.Goals as goal

@@ -1,11 +1,11 @@
 use Rattle.std.proofs.Common.{[], sym, subst}
 use Rattle.flow_base.specs.contracts.sure_inputs.SureInputsInputs.TheImpl as files
-use Rattle.command_files.specs.Call.{call_of}
-use Rattle.state_tree.specs.Kept.{chart_of}
+use Rattle.commands.specs.Call.{call_of}
+use Rattle.checked_chart.specs.Kept.{chart_of}
 use Rattle.sos_interpreter.specs.Engine.{EngineState}
-use Rattle.trace_command.specs.Trace.{HasShortNames, TraceEnds}
-use Rattle.trace_command.proofs.NameLemmas.{names_short}
-use Rattle.checked_commands.specs.Rules.{by_rules}
+use Rattle.commands.specs.Trace.{HasShortNames, TraceEnds}
+use Rattle.commands.proofs.NameLemmas.{names_short}
+use Rattle.commands.specs.Rules.{by_rules}
 use Rattle.selftest_command.specs.contracts.trace_bytes.TraceBytesSink.TheImpl as bytes
 use Rattle.selftest_command.proofs.measure.run_rules.Goals as goal
 

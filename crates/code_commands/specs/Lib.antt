@@ -1,3 +1,0 @@
-pub mod CodeText
-pub mod Exec
-pub mod Upgrade

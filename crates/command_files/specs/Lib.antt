@@ -1,4 +1,0 @@
-pub mod Call
-pub mod Reading
-pub mod Writing
-pub mod Texts

@@ -1,0 +1,11 @@
+pub mod ReadingLemmas
+pub mod TextLemmas
+pub mod ChartFileLemmas
+pub mod TraceLemmas
+pub mod NameLemmas
+pub mod CountLemmas
+pub mod RulesLemmas
+pub mod CodeFileLemmas
+pub mod CompiledText
+pub mod SameTraces
+pub mod WithinNeed

@@ -1,0 +1,17 @@
+pub mod Call
+pub mod Reading
+pub mod Writing
+pub mod Texts
+pub mod Refusals
+pub mod Trace
+pub mod FileRuns
+pub mod Accepted
+pub mod Check
+pub mod Bounds
+pub mod Rules
+pub mod CodeText
+pub mod Exec
+pub mod Upgrade
+pub mod Shrink
+pub mod Compile
+pub mod Run

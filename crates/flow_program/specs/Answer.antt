@@ -1,0 +1,86 @@
+-- The answer of the program: what it writes and how it ends, for all words, files and faults.
+use Rattle.std.specs.Prelude.{◌≡◌, ◌⊎◌, ℕ, List, Option, Some, None}
+use Rattle.std.specs.Io.KnownBytes.{append_known}
+use Rattle.flow_base.specs.Causes.{Stands}
+use Rattle.flow_base.specs.declared.bounds.Bounds.{Bounds}
+use Rattle.flow_base.specs.declared.status.Status.{Status}
+use Rattle.command_words.specs.Commands.{RunBounds, Command, Check, Fmt, Rules, Compile, Exec, Run, Upgrade, Bound, Shrink, Selftest}
+use Rattle.command_words.specs.Commands.{files_of}
+use Rattle.commands.specs.Call.{Output, Call, OthersStay}
+use Rattle.commands.specs.Writing.{WroteFront}
+use Rattle.commands.specs.Bounds.{BoundsEnds}
+use Rattle.commands.specs.Check.{CheckEnds}
+use Rattle.commands.specs.Rules.{RulesEnds}
+use Rattle.commands.specs.Exec.{ExecEnds}
+use Rattle.commands.specs.Shrink.{ShrinkEnds}
+use Rattle.commands.specs.Upgrade.{UpgradeEnds}
+use Rattle.commands.specs.Compile.{CompileEnds}
+use Rattle.commands.specs.Run.{RunEnds}
+use Rattle.selftest_command.specs.Selftest.{SelftestEnds}
+use Rattle.selftest_command.specs.declared.command.SelftestEnd.{SelftestEnd}
+use Rattle.flow_program.specs.declared.ending.Ending.{Ending}
+use Rattle.flow_program.specs.declared.ending.Ending.TheVariants as endings
+use Rattle.flow_program.specs.Ending.{of_text, of_rules, of_exec, of_run, of_upgrade, of_selftest, status_of, line_of}
+use Rattle.flow_program.specs.Fmt.{FmtEnds}
+
+-- the call ends at once: nothing is read, and nothing is written
+pub record EndsAtOnce (call : Call) (end ending : Ending) : Type 0 where
+  pub is_that : ending ≡ end
+  pub sources : call.sources_after ≡ call.sources_before
+  pub output : call.output_after ≡ call.output_before
+
+-- the command ends so, and the call accordingly
+pub record EndsAs {E : Type 0} (ending_of : E → Ending) (CommandEnds : E → Type 0) (ending : Ending) : Type 0 where
+  pub end : E
+  pub ends : CommandEnds end
+  pub ending_is : ending ≡ ending_of end
+
+-- a run ends so under the bounds of these numbers
+pub record Under {E : Type 0} (given : RunBounds) (EndsUnder : Bounds → E → Type 0) (end : E) : Type 0 where
+  pub bounds : Bounds
+  pub depth : bounds.depth ≡ given.depth
+  pub steps : bounds.steps ≡ given.steps
+  pub ends : EndsUnder bounds end
+
+-- a generated case was run, and no file was read
+pub record CaseEnds (call : Call) (number : ℕ) (end : SelftestEnd) : Type 0 where
+  pub case : SelftestEnds number call.output_before call.output_after end
+  pub sources : call.sources_after ≡ call.sources_before
+
+-- how a command ends, and when; words that ask for none are Usage
+abbrev pub Ends : Option Command → Call → Ending → Type 0
+Ends None call ending = EndsAtOnce call endings.Usage ending
+Ends (Some (Check first)) call ending = EndsAs of_text (CheckEnds call first) ending
+Ends (Some (Fmt first)) call ending = EndsAs of_text (FmtEnds call first) ending
+Ends (Some (Rules first second given)) call ending =
+    EndsAs of_rules (Under given (λ bounds end. RulesEnds bounds call first second end)) ending
+Ends (Some (Compile first)) call ending = EndsAs of_text (CompileEnds call first) ending
+Ends (Some (Exec first second given)) call ending =
+    EndsAs of_exec (Under given (λ bounds end. ExecEnds bounds call first second end)) ending
+Ends (Some (Run first second given)) call ending =
+    EndsAs of_run (Under given (λ bounds end. RunEnds bounds call first second end)) ending
+Ends (Some (Upgrade first)) call ending = EndsAs of_upgrade (UpgradeEnds call first) ending
+Ends (Some (Bound first)) call ending = EndsAs of_text (BoundsEnds call first) ending
+Ends (Some (Shrink first)) call ending = EndsAs of_upgrade (ShrinkEnds call first) ending
+Ends (Some (Selftest number)) call ending = EndsAs of_selftest (CaseEnds call number) ending
+
+-- how a call ends, and when: as the command does, or memory runs out before the words are read
+abbrev pub CallEnds : Option Command → Call → Ending → Type 0
+CallEnds command call ending = Ends command call ending ⊎ EndsAtOnce call endings.Memory ending
+
+-- the line stands on standard error, or a write of it failed, and a proper prefix of it does
+abbrev pub LineStands : Output → Output → List ℕ → Type 0
+LineStands before after line =
+    (after.holds ≡ append_known before.holds line) ⊎ WroteFront before after line
+
+-- the answer: the call ends in one way, which fixes its status and its line on standard error, all of which stands
+-- there where no write of it fails; files that the words don't name keep what they have left
+pub record Answer (command : Option Command) (call : Call) (errors_before errors_after : Output)
+    (status : Status) : Type 0 where
+  pub ending : Ending
+  pub ends : CallEnds command call ending
+  pub others : OthersStay (files_of command) call.sources_before call.sources_after
+  pub answered : status ≡ status_of ending
+  pub line : Stands errors_before.faults errors_after.faults
+      → errors_after.holds ≡ append_known errors_before.holds (line_of ending)
+  pub written : LineStands errors_before errors_after (line_of ending)

@@ -1,0 +1,196 @@
+//! How a call ends.
+ghost use Rattle.std.specs.Prelude.{◌≡◌};
+ghost use Rattle.flow_program.specs.Ending as spec;
+
+use code_text::CodeTextFault;
+use commands::{ExecEnd, FaultWord, FileEnd, Refusal, RulesEnd, RunEnd, TextEnd, TraceEnd};
+use event_file::LineFault;
+use flow_base::Status;
+use selftest_command::SelftestEnd;
+
+/// How a call of the program ends.
+#[derive(Drop)]
+pub enum Ending {
+    /// The whole answer was written.
+    Done,
+    /// The chart text is refused.
+    Chart(Refusal),
+    /// The code text is refused.
+    Code(CodeTextFault),
+    /// The event file is refused at that line, counted from 1.
+    Line(u64, LineFault),
+    /// The event file has more events than it may.
+    TooManyLines,
+    /// The event file has more bytes than it may.
+    FileTooLong,
+    /// The run has the fault of that word at that index.
+    Fault(u64, FaultWord),
+    /// The words name no command.
+    Usage,
+    /// A file that the words name couldn't be read.
+    Read,
+    /// Standard output couldn't be written.
+    Write,
+    /// Memory ran out.
+    Memory,
+}
+
+impl Ending {
+    /// The status of the ending.
+    pub fn status(&self) -> Status
+        ensures { result ≡ spec.status_of self.now }
+    {
+        match self {
+            Ending::Done => Status::Ok,
+            Ending::Chart(_)
+            | Ending::Code(_)
+            | Ending::Line(_, _)
+            | Ending::TooManyLines
+            | Ending::FileTooLong => Status::Refused,
+            Ending::Fault(_, _) => Status::RunFault,
+            Ending::Usage => Status::Usage,
+            Ending::Read => Status::Read,
+            Ending::Write => Status::Write,
+            Ending::Memory => Status::Memory,
+        }
+    }
+}
+
+impl From<FileEnd<Refusal>> for Ending {
+    ghost use Rattle.std.specs.Prelude.{◌≡◌};
+    ghost use Rattle.flow_program.specs.Ending.{of_chart_file};
+
+    ghost from_gives = { λ end ending. ending ≡ of_chart_file end };
+
+    fn from(end: FileEnd<Refusal>) -> Ending {
+        match end {
+            FileEnd::Refused(refusal) => Ending::Chart(refusal),
+            FileEnd::Read => Ending::Read,
+            FileEnd::Memory => Ending::Memory,
+        }
+    }
+}
+
+impl From<TextEnd<Refusal>> for Ending {
+    ghost use Rattle.std.specs.Prelude.{◌≡◌};
+    ghost use Rattle.flow_program.specs.Ending.{of_text};
+
+    ghost from_gives = { λ end ending. ending ≡ of_text end };
+
+    fn from(end: TextEnd<Refusal>) -> Ending {
+        match end {
+            TextEnd::Done => Ending::Done,
+            TextEnd::Unread(end) => Ending::from(end),
+            TextEnd::Write => Ending::Write,
+        }
+    }
+}
+
+impl From<TraceEnd> for Ending {
+    ghost use Rattle.std.specs.Prelude.{◌≡◌};
+    ghost use Rattle.flow_program.specs.Ending.{of_trace};
+
+    ghost from_gives = { λ end ending. ending ≡ of_trace end };
+
+    fn from(end: TraceEnd) -> Ending {
+        match end {
+            TraceEnd::Done => Ending::Done,
+            TraceEnd::Line(number, fault) => Ending::Line(number, fault),
+            TraceEnd::TooManyLines => Ending::TooManyLines,
+            TraceEnd::FileTooLong => Ending::FileTooLong,
+            TraceEnd::Fault(index, word) => Ending::Fault(index, word),
+            TraceEnd::Read => Ending::Read,
+            TraceEnd::Write => Ending::Write,
+            TraceEnd::Memory => Ending::Memory,
+        }
+    }
+}
+
+impl From<RulesEnd> for Ending {
+    ghost use Rattle.std.specs.Prelude.{◌≡◌};
+    ghost use Rattle.flow_program.specs.Ending.{of_rules};
+
+    ghost from_gives = { λ end ending. ending ≡ of_rules end };
+
+    fn from(end: RulesEnd) -> Ending {
+        match end {
+            RulesEnd::NoChart(end) => Ending::from(end),
+            RulesEnd::Ran(end) => Ending::from(end),
+        }
+    }
+}
+
+impl From<FileEnd<CodeTextFault>> for Ending {
+    ghost use Rattle.std.specs.Prelude.{◌≡◌};
+    ghost use Rattle.flow_program.specs.Ending.{of_code_file};
+
+    ghost from_gives = { λ end ending. ending ≡ of_code_file end };
+
+    fn from(end: FileEnd<CodeTextFault>) -> Ending {
+        match end {
+            FileEnd::Refused(fault) => Ending::Code(fault),
+            FileEnd::Read => Ending::Read,
+            FileEnd::Memory => Ending::Memory,
+        }
+    }
+}
+
+impl From<ExecEnd> for Ending {
+    ghost use Rattle.std.specs.Prelude.{◌≡◌};
+    ghost use Rattle.flow_program.specs.Ending.{of_exec};
+
+    ghost from_gives = { λ end ending. ending ≡ of_exec end };
+
+    fn from(end: ExecEnd) -> Ending {
+        match end {
+            ExecEnd::NoCode(end) => Ending::from(end),
+            ExecEnd::Ran(end) => Ending::from(end),
+        }
+    }
+}
+
+impl From<RunEnd> for Ending {
+    ghost use Rattle.std.specs.Prelude.{◌≡◌};
+    ghost use Rattle.flow_program.specs.Ending.{of_run};
+
+    ghost from_gives = { λ end ending. ending ≡ of_run end };
+
+    fn from(end: RunEnd) -> Ending {
+        match end {
+            RunEnd::NoChart(end) => Ending::from(end),
+            RunEnd::Ran(end) => Ending::from(end),
+        }
+    }
+}
+
+impl From<TextEnd<CodeTextFault>> for Ending {
+    ghost use Rattle.std.specs.Prelude.{◌≡◌};
+    ghost use Rattle.flow_program.specs.Ending.{of_upgrade};
+
+    ghost from_gives = { λ end ending. ending ≡ of_upgrade end };
+
+    fn from(end: TextEnd<CodeTextFault>) -> Ending {
+        match end {
+            TextEnd::Done => Ending::Done,
+            TextEnd::Unread(end) => Ending::from(end),
+            TextEnd::Write => Ending::Write,
+        }
+    }
+}
+
+impl From<SelftestEnd> for Ending {
+    ghost use Rattle.std.specs.Prelude.{◌≡◌};
+    ghost use Rattle.flow_program.specs.Ending.{of_selftest};
+
+    ghost from_gives = { λ end ending. ending ≡ of_selftest end };
+
+    fn from(end: SelftestEnd) -> Ending {
+        match end {
+            SelftestEnd::Done => Ending::Done,
+            SelftestEnd::Fault(index, word) => Ending::Fault(index, word),
+            SelftestEnd::NoChart(refusal) => Ending::Chart(refusal),
+            SelftestEnd::Write => Ending::Write,
+            SelftestEnd::Memory => Ending::Memory,
+        }
+    }
+}

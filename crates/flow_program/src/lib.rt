@@ -1,0 +1,16 @@
+//! The program: what its words ask for, what it writes, and how it ends.
+//!
+//! The public call is `chart_main`, and its one main clause is `Answer` of `specs/Answer.antt`.
+//! Read `specs/Words.antt` and `specs/Commands.antt` of `command_words` first, then
+//! `specs/Call.antt`, `specs/Reading.antt` and `specs/Texts.antt` of `commands`, then a command:
+//! `specs/Fmt.antt` here, `specs/Selftest.antt` of `selftest_command`, or one of `commands`; and
+//! last `specs/Ending.antt` and `specs/Answer.antt`.
+#![tactic(auto)]
+
+mod command;
+mod ending;
+mod fmt;
+mod report;
+
+pub use command::chart_main;
+pub use ending::Ending;

@@ -1,0 +1,129 @@
+//! The line on standard error.
+ghost use Rattle.std.specs.Prelude.{◌≡◌, ◌++◌, OnOk, OnErr, codes, decimal};
+ghost use Rattle.std.specs.Io.KnownBytes.{append_known};
+ghost use Rattle.flow_base.specs.Bytes.{AppendsProperFront};
+ghost use Rattle.flow_base.specs.Causes.{HasCause};
+ghost use Rattle.flow_program.specs.Ending.{place_text, kind_text, event_fault_text, line_of};
+
+use crate::ending::Ending;
+use chart_tree::FormKind;
+use event_file::LineFault;
+use flow_base::{Failed, Sink, write_all};
+use itoa::Buffer;
+use token_grammar::Span;
+
+/// The line for words that ask for no command.
+const USAGE: &str = "usage: flowc check CHART, fmt CHART, rules CHART EVENTS, compile CHART, \
+    exec CODE EVENTS, run CHART EVENTS, upgrade CODE, bounds CHART, shrink CODE, selftest N; \
+    --depth D, --steps S\n";
+
+/// Writes a number.
+fn write_number<E: Sink>(err: &mut E, number: u64) -> Result<(), Failed>
+    ensures ok { OnOk result (E.wrote err.new ≡ append_known (E.wrote err.old) (decimal number)) }
+    ensures failed { OnErr result
+        (AppendsProperFront (E.wrote err.old) (E.wrote err.new) (decimal number)) }
+    ensures cause { HasCause (E.faults err.old) (E.faults err.new) result }
+{
+    let mut buffer = Buffer::new();
+    write_all(err, buffer.format(number).as_bytes())
+}
+
+/// Writes a text, and ends the line.
+fn write_line<E: Sink>(err: &mut E, text: &str) -> Result<(), Failed>
+    ensures ok { OnOk result
+        (E.wrote err.new ≡ append_known (E.wrote err.old) (text.now ++ codes "\n")) }
+    ensures failed { OnErr result
+        (AppendsProperFront (E.wrote err.old) (E.wrote err.new) (text.now ++ codes "\n")) }
+    ensures cause { HasCause (E.faults err.old) (E.faults err.new) result }
+{
+    write_all(err, text.as_bytes())?;
+    write_all(err, b"\n")
+}
+
+/// Writes the place of a fault of a chart text.
+fn write_place<E: Sink>(err: &mut E, at: Span) -> Result<(), Failed>
+    ensures ok { OnOk result (E.wrote err.new ≡ append_known (E.wrote err.old) (place_text at)) }
+    ensures failed { OnErr result
+        (AppendsProperFront (E.wrote err.old) (E.wrote err.new) (place_text at)) }
+    ensures cause { HasCause (E.faults err.old) (E.faults err.new) result }
+{
+    write_all(err, b"chart ")?;
+    write_number(err, u64::from(at.line))?;
+    write_all(err, b":")?;
+    write_number(err, u64::from(at.column))
+}
+
+/// Writes number and name of a kind of fault of a chart text.
+fn write_kind<E: Sink>(err: &mut E, kind: FormKind) -> Result<(), Failed>
+    ensures ok { OnOk result (E.wrote err.new ≡ append_known (E.wrote err.old) (kind_text kind)) }
+    ensures failed { OnErr result
+        (AppendsProperFront (E.wrote err.old) (E.wrote err.new) (kind_text kind)) }
+    ensures cause { HasCause (E.faults err.old) (E.faults err.new) result }
+{
+    write_all(err, b": ")?;
+    write_number(err, u64::from(kind.number()))?;
+    write_all(err, b" ")?;
+    write_all(err, kind.name().as_bytes())
+}
+
+/// Writes what stands before the fault of an event line or of a run: a word, and the number of the
+/// line or the index of the event.
+fn write_head<E: Sink>(err: &mut E, word: &str, number: u64) -> Result<(), Failed>
+    ensures ok { OnOk result (E.wrote err.new ≡ append_known (E.wrote err.old)
+        (word.now ++ decimal number ++ codes ": ")) }
+    ensures failed { OnErr result (AppendsProperFront (E.wrote err.old) (E.wrote err.new)
+        (word.now ++ decimal number ++ codes ": ")) }
+    ensures cause { HasCause (E.faults err.old) (E.faults err.new) result }
+{
+    write_all(err, word.as_bytes())?;
+    write_number(err, number)?;
+    write_all(err, b": ")
+}
+
+/// Writes number and name of a fault of an event line.
+fn write_event_fault<E: Sink>(err: &mut E, fault: LineFault) -> Result<(), Failed>
+    ensures ok { OnOk result
+        (E.wrote err.new ≡ append_known (E.wrote err.old) (event_fault_text fault)) }
+    ensures failed { OnErr result
+        (AppendsProperFront (E.wrote err.old) (E.wrote err.new) (event_fault_text fault)) }
+    ensures cause { HasCause (E.faults err.old) (E.faults err.new) result }
+{
+    write_number(err, u64::from(fault.number()))?;
+    write_all(err, b" ")?;
+    write_all(err, fault.name().as_bytes())
+}
+
+/// Writes the line of an ending on standard error. Takes no memory. Where a write fails a proper
+/// prefix of the line stands there.
+pub fn report<E: Sink>(err: &mut E, ending: &Ending) -> Result<(), Failed>
+    ensures ok { OnOk result
+        (E.wrote err.new ≡ append_known (E.wrote err.old) (line_of ending.now)) }
+    ensures failed { OnErr result
+        (AppendsProperFront (E.wrote err.old) (E.wrote err.new) (line_of ending.now)) }
+    ensures cause { HasCause (E.faults err.old) (E.faults err.new) result }
+{
+    match ending {
+        Ending::Done => Ok(()),
+        Ending::Chart(refusal) => {
+            write_place(err, refusal.at)?;
+            write_kind(err, refusal.kind)?;
+            write_all(err, b"\n")
+        }
+        Ending::Code(fault) => write_line(err, fault.text().as_str()),
+        Ending::Line(number, fault) => {
+            write_head(err, "event ", *number)?;
+            write_event_fault(err, *fault)?;
+            write_all(err, b"\n")
+        }
+        Ending::TooManyLines => write_all(err, b"event: 5 TooManyLines\n"),
+        Ending::FileTooLong => write_all(err, b"event: 6 FileTooLong\n"),
+        Ending::Fault(index, word) => {
+            write_head(err, "run ", *index)?;
+            write_line(err, word.text())
+        }
+        Ending::Usage => write_all(err, USAGE.as_bytes()),
+        Ending::Read => write_all(err, b"read fault\n"),
+        Ending::Write => write_all(err, b"write fault\n"),
+        Ending::Memory => write_all(err, b"out of memory\n"),
+    }
+}

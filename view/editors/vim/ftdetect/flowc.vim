@@ -1,0 +1,2 @@
+au BufRead,BufNewFile *.chart,*.canonical setfiletype flowchart
+au BufRead,BufNewFile *.events setfiletype flowevents

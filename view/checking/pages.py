@@ -1,0 +1,42 @@
+"""The charts and traces of the pages, against the examples that they name."""
+import os
+import re
+
+from chart_rules import run_rules
+from common import CHECKOUT
+from common.program import read_file, run
+
+SEMANTICS, CHART_TEXT = (os.path.join(CHECKOUT, 'docs', name) for name in ('SEMANTICS.md', 'CHART_TEXT.md'))
+NAMED = re.compile(r'\(`(\w+)`\)')
+
+
+def wrong_cases():
+    """The cases of SEMANTICS whose chart or trace isn't that of the example that is named, and how many were looked at."""
+    lines, seen = [], 0
+    for part in re.split(r'\n(?=\*\*)', read_file(SEMANTICS)):
+        name, block = re.match(r'\*\*.*?\*\*\s+\(`(\w+)`\)', part, re.S), re.search(r'```\n(chart .*?)```', part, re.S)
+        if name and block:
+            seen += 1
+            stem = os.path.join(CHECKOUT, 'examples', 'semantics', name[1])
+            chart, _, trace = block[1].partition('\n\n')
+            if chart + '\n' != read_file(stem + '.chart') or trace != read_file(stem + '.trace'):
+                lines.append('docs/SEMANTICS.md: the chart or the trace of %s isn\'t that of the example' % name[1])
+    return lines or ([] if seen else ['docs/SEMANTICS.md: no case']), seen
+
+
+def wrong_recipes(program):
+    """The recipes whose trace isn't that of the rules or of the program, and the names of CHART_TEXT that no recipe has."""
+    folder = os.path.join(CHECKOUT, 'examples', 'recipes')
+    names = sorted(name[:-len('.chart')] for name in os.listdir(folder) if name.endswith('.chart'))
+    text = read_file(CHART_TEXT)
+    said = set(NAMED.findall(text))
+    lines = ['docs/CHART_TEXT.md: no recipe is named %s' % name for name in sorted(said - set(names))]
+    lines += ['examples/recipes: docs/CHART_TEXT.md doesn\'t name %s' % name for name in names if name not in said]
+    for name in names:
+        stem = os.path.join(folder, name)
+        trace = read_file(stem + '.trace')
+        by_rules = run_rules(read_file(stem + '.chart'), read_file(stem + '.events').encode('latin-1'))
+        by_program = run(program, ['rules', stem + '.chart', stem + '.events'])
+        if not trace or by_rules.out != trace or by_program.out.decode('latin-1') != trace:
+            lines.append('examples/recipes: %s has another trace' % name)
+    return lines or ([] if names else ['examples/recipes: no chart']), len(names)

@@ -1,0 +1,1 @@
+"""flowlint: warnings about an accepted chart."""

@@ -1,0 +1,1 @@
+"""flowwhy: what is wrong where flowc refuses, in words."""

@@ -73,7 +73,7 @@ EVENT_LINE = re.compile('event [1-9][0-9]*: (%s)\n|event: (5 TooManyLines|6 File
                         % '|'.join('%d %s' % each for each in ev.LINE_FAULTS.items()))
 RUN_LINE = re.compile('run (0|[1-9][0-9]*): (depth|steps|zero|overflow [A-Za-z_][A-Za-z0-9_]*)\n')
 USAGE = ('usage: flowc check CHART, fmt CHART, rules CHART EVENTS, compile CHART, exec CODE EVENTS, run CHART EVENTS, '
-         'upgrade CODE, selftest N; --depth D, --steps S\n')
+         'upgrade CODE, bounds CHART, shrink CODE, selftest N; --depth D, --steps S\n')
 LINES = {0: '', 2: USAGE, 4: 'read fault\n', 5: 'write fault\n', 6: 'out of memory\n'}
 
 

@@ -1,11 +1,11 @@
 #!/usr/bin/env python3
 r"""Answers a table of chart texts as the command `check` does, from the rules of the language alone.
 
-    python3 checks/chart_check.py < texts | diff - answers
+    python3 checks/chart_check.py < checks/check_table.txt | diff - checks/check_answers.txt
 
-A line is one text, written as for chart_texts.py. Its answer is one line: `ok S states J junctions T transitions P
-pairs`, in which the chart counts as a state, or the refusal `chart L:C: N Kind`, or `not a text`. With the word
-`--without-history` the older form of the language is meant, without `history` and with at most 512 data and 512 events.
+The form of a table is in tables.py. A row is one text, written as for chart_texts.py. Its answer is one line: `ok S states J
+junctions T transitions P pairs`, in which the chart counts as a state, or the refusal `chart L:C: N Kind`, or `not a text`. With
+the word `--without-history` the older form of the language is meant, without `history` and with at most 512 data and 512 events.
 
 The first fault is told. Faults 1 to 8 are those of chart_syntax.py and come before all others. The others are looked for
 in four passes: the names (9 to 11), the types (12 to 16), the structure (17 to 23 and 26), the pairs (24). A fault of an
@@ -79,7 +79,8 @@ from fractions import Fraction
 from math import floor
 
 import chart_syntax as syntax
-from chart_syntax import WITH_HISTORY, WITHOUT_HISTORY, Fault, NotAText, read_chart, table_lines, text_of
+import tables
+from chart_syntax import WITH_HISTORY, WITHOUT_HISTORY, Fault, NotAText, read_chart, text_of
 
 MOST_PAIRS = 32768
 MOST_SIZE = 100
@@ -380,7 +381,7 @@ def is_value_of(scale, number):
 
 
 def type_of(expression, faults):
-    """FLAG, a NumberType, or None where there is a fault inside. The faults are added to the list."""
+    """FLAG, a NumberType, or None where a fault or a name that isn't found is inside. The faults are added to the list."""
     if isinstance(expression, Literal):
         size = 0
         while expression.mantissa > 2 ** size:
@@ -389,6 +390,8 @@ def type_of(expression, faults):
     if isinstance(expression, (Truth, Active)):
         return FLAG
     if isinstance(expression, Read):
+        if expression.datum is None:
+            return None
         scale = expression.datum.scale
         return NumberType(scale.fraction, scale.width - (scale.sign == 's')) if scale else FLAG
     if isinstance(expression, Sign):
@@ -429,7 +432,7 @@ def type_between(operator, left, right):
 
 
 def type_faults(chart):
-    """The faults of types, each as its place and its number."""
+    """The faults of types, each as its place and its number. What is named by a name that isn't found has none."""
     faults = []
     for datum in chart.data:
         if datum.written_first is not None:
@@ -452,6 +455,8 @@ def type_faults(chart):
 def statement_faults(statement, faults):
     if isinstance(statement, Assign):
         datum, value = statement.datum, type_of(statement.value, faults)
+        if datum is None:
+            return
         if value is not None:
             if (value == FLAG) != (datum.scale is None):
                 faults.append((statement.at, 12))
@@ -459,7 +464,7 @@ def statement_faults(statement, faults):
                 faults.append((statement.at, 13))
         if datum.kind == 'input':
             faults.append((statement.at, 14))
-    elif statement.event.kind != ('local' if isinstance(statement, Send) else 'output'):
+    elif statement.event is not None and statement.event.kind != ('local' if isinstance(statement, Send) else 'output'):
         faults.append((statement.at, 15))
 
 
@@ -556,5 +561,5 @@ def answer(line, language=WITH_HISTORY):
 
 if __name__ == '__main__':
     meant = WITHOUT_HISTORY if '--without-history' in sys.argv[1:] else WITH_HISTORY
-    for each in table_lines(sys.stdin.buffer):
+    for each in tables.rows(sys.stdin.buffer):
         print(answer(each, meant))

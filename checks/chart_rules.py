@@ -2,14 +2,14 @@
 r"""Runs a chart over an event file by the rules of the language alone, as plainly as they can be said.
 
     python3 checks/chart_rules.py CHART EVENTS [--depth D] [--steps S]
-    python3 checks/chart_rules.py --table < table | diff - answers
+    python3 checks/chart_rules.py --table < checks/run_table.txt | diff - checks/run_answers.txt
 
 The first form writes what the command `rules` writes, with the same line on standard error and the same status. The depth
 is 1 to 32, usually 8, and the steps are 1 to 50,000, usually 10,000.
 
-The second form runs a table in one process. A line is one run, of three fields with a tab between them: `DEPTH STEPS`, or
-`-` for the usual bounds; the chart text; the event file. The answer is one line of three fields with a tab between them:
-the status, standard output, standard error. Texts are written as in the table of chart_texts.py, so that a tab in them
+The second form runs a table in one process, whose form is in tables.py. A row is one run, of three fields with a tab between
+them: `DEPTH STEPS`, or `-` for the usual bounds; the chart text; the event file. The answer is one line of three fields with
+a tab between them: the status, standard output, standard error. Texts are written as in the table of chart_texts.py, so that a tab in them
 stands as `\t`, and ends of lines in the answer stand as `\n`. The answer `not a run` is given where a line has no such
 form. With the word `--without-history` before the others either form means the older form of the language.
 
@@ -121,10 +121,11 @@ from collections import Counter, namedtuple
 from fractions import Fraction
 from math import floor
 
+import tables
 from chart_check import (Active, Assign, Emit, Literal, Read, Sign, State, Truth, check_chart, ends_of, home_of, is_value_of,
                          type_of)
 from chart_syntax import (COMPARISON, LEVELS, MOST_DIGITS, WITH_HISTORY, WITHOUT_HISTORY, Fault, NotAText, line_of,
-                          table_lines, text_of)
+                          text_of)
 from demands import demand
 from programs import Ended
 
@@ -135,7 +136,7 @@ LONGEST_FILE = 67108864
 MOST_EVENTS = 1000000
 LINE_FAULTS = {1: 'LineTooLong', 2: 'UnknownEvent', 3: 'NotInputEvent', 4: 'UnknownInput', 5: 'InputTwice', 6: 'BadValue'}
 USAGE = ('usage: flowc check CHART, fmt CHART, rules CHART EVENTS, compile CHART, exec CODE EVENTS, run CHART EVENTS, '
-         'upgrade CODE, selftest N; --depth D, --steps S')
+         'upgrade CODE, bounds CHART, shrink CODE, selftest N; --depth D, --steps S')
 
 # What the rules tell apart. A run counts how often it met each of these.
 CASES = """
@@ -436,20 +437,29 @@ class Rules:
                 self.met('search: the condition action is cut')
                 return STOP
             if isinstance(transition.destination, State):
+                self.ran(transition)
                 return Fire(transition.destination, [transition.action])
             self.pay('a junction')
             if not transition.destination.transitions:
                 self.met('search: an empty junction')
+                self.ran(transition)
                 return END
             outcome = self.search(life, transition.destination.transitions)
             if isinstance(outcome, Fire):
                 self.met('search: the list of a junction gives Fire and an action is put in front')
+                self.ran(transition)
                 return Fire(outcome.state, [transition.action] + outcome.actions)
             if outcome != NO:
                 self.met('search: the list of a junction gives ' + outcome)
+                if outcome == END:
+                    self.ran(transition)
                 return outcome
             self.met('search: the list of a junction gives No and the rest is searched')
         return NO
+
+    def ran(self, transition):
+        """Is told of each transition on a way to a state or to an empty junction, from the end of the way to its beginning.
+        The rules make nothing of it; a tool that shows a run does."""
 
     def is_enabled(self, transition):
         if transition.event is not None and transition.event is not self.event:
@@ -755,7 +765,12 @@ def run_rules(text, data, depth=USUAL_DEPTH, steps=USUAL_STEPS, language=WITH_HI
         chart = check_chart(text, language)
     except Fault as fault:
         return Ended('', fault.written(text) + '\n', 1)
-    rules = Rules(chart, depth, steps, met)
+    return run_events(Rules(chart, depth, steps, met), data)
+
+
+def run_events(rules, data):
+    """The answer of `rules` for a chart that is about to start, and the bytes of an event file."""
+    chart = rules.chart
     result = rules.start()
     out = [trace_line(rules, 0, 'start', result)]
     index = 0
@@ -855,7 +870,7 @@ def main(words):
         language = WITHOUT_HISTORY
         words = words[1:]
     if words == ['--table']:
-        for line in table_lines(sys.stdin.buffer):
+        for line in tables.rows(sys.stdin.buffer):
             print(table_answer(line, language))
         return 0
     answer = command(words, language)
@@ -867,9 +882,16 @@ def main(words):
 def with_deep_calls(work):
     """Does some work where calls may nest as deeply as a run may: a search calls itself at each junction."""
     given = []
+
+    def attempt():
+        try:
+            given.append(work())
+        except SystemExit as refused:       # which a thread would end in silence
+            given.append(refused.code)
+
     sys.setrecursionlimit(1000000)
     threading.stack_size(512 * 1024 * 1024)
-    thread = threading.Thread(target=lambda: given.append(work()))
+    thread = threading.Thread(target=attempt)
     thread.start()
     thread.join()
     return given[0] if given else 1

@@ -70,6 +70,9 @@ SYMBOLS = '-> == != <= >= && || { } [ ] ( ) ; : , @ = / + - * < > !'.split()
 # From loose to tight.
 LEVELS = [['||'], ['&&'], ['==', '!=', '<', '<=', '>', '>='], ['+', '-'], ['*', '/']]
 COMPARISON = 2
+# What stands in a state, and what of it stands in the chart itself, which isn't left.
+BLOCKS, BLOCKS_OF_CHART = ('entry', 'during', 'exit'), ('entry', 'during')
+LISTS, LISTS_OF_CHART = ('outer', 'inner', 'default'), ('inner', 'default')
 LONGEST_TEXT = 1048576
 DEEPEST = 16
 LONGEST_NAME = 63
@@ -275,7 +278,8 @@ def scale_of(name):
 # ---- reading
 
 class Reader:
-    """Reads a text token by token. Each method reads what its name says, from the token at hand on."""
+    """Reads a text token by token. Each method reads what its name says, from the token at hand on. Whether a token may stand
+    at a place is asked by `at` alone, and of a type by `sort`; who notes these questions knows what may stand there."""
 
     def __init__(self, text, language=WITH_HISTORY):
         self.text = text
@@ -368,17 +372,16 @@ class Reader:
 
     def item(self, state, depth):
         """Reads an item into a state that stands so deep."""
-        if depth == 0 and self.at('exit', 'outer') or self.token.kind in state.blocks:
-            raise self.expected()
-        if self.at('entry', 'during', 'exit'):
-            kind = self.take('entry', 'during', 'exit')
+        blocks, lists = (BLOCKS, LISTS) if depth else (BLOCKS_OF_CHART, LISTS_OF_CHART)
+        if self.at(*(kind for kind in blocks if kind not in state.blocks)):
+            kind = self.take(*blocks)
             state.blocks[kind] = self.block()
-        elif self.at('outer', 'inner', 'default'):
+        elif self.at(*lists):
             self.count('transitions')
             at = self.token.offset
-            kind = self.take('outer', 'inner', 'default')
+            kind = self.take(*lists)
             state.transitions[kind].append(self.transition(at))
-        elif self.at('history') and self.language.history and state.history is None:
+        elif self.language.history and state.history is None and self.at('history'):
             state.history = self.token.offset
             self.take('history')
             self.take(';')
@@ -675,9 +678,3 @@ def line_of(text):
     """A line that stands for a text: what isn't printable, and the backslash, is written as an escape."""
     known = {'\n': '\\n', '\t': '\\t', '\r': '\\r', '\\': '\\\\'}
     return ''.join(known.get(byte) or (byte if ' ' <= byte <= '~' else '\\x%02x' % ord(byte)) for byte in text)
-
-
-def table_lines(source):
-    """The lines of a table that is read as bytes, a character for each byte."""
-    for line in source:
-        yield line.rstrip(b'\n').decode('latin-1')

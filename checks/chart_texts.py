@@ -3,15 +3,16 @@ r"""Answers a table of chart texts from the rules of the language, which stand i
 
     python3 checks/chart_texts.py < checks/chart_table.txt | diff - checks/chart_answers.txt
 
-A line is one text, in which `\n`, `\t`, `\r`, `\\` and `\xHH` stand for bytes, and its answer is one line: the canonical
-text with each end of a line written as `\n`, or the refusal `chart L:C: N Kind`. `not a text` is answered where a backslash
-begins none of these.
+The form of a table is in tables.py. A row is one text, in which `\n`, `\t`, `\r`, `\\` and `\xHH` stand for bytes, and its
+answer is one line: the canonical text with each end of a line written as `\n`, or the refusal `chart L:C: N Kind`. `not a
+text` is answered where a backslash begins none of these.
 
 With the word `--without-history` the older form of the language is meant."""
 import sys
 
+import tables
 from chart_syntax import WITH_HISTORY, WITHOUT_HISTORY, Fault, NotAText
-from chart_syntax import canonical_text, read_chart, table_lines, text_of
+from chart_syntax import canonical_text, read_chart, text_of
 
 
 def answer(line, language=WITH_HISTORY):
@@ -27,5 +28,5 @@ def answer(line, language=WITH_HISTORY):
 
 if __name__ == '__main__':
     meant = WITHOUT_HISTORY if '--without-history' in sys.argv[1:] else WITH_HISTORY
-    for each in table_lines(sys.stdin.buffer):
+    for each in tables.rows(sys.stdin.buffer):
         print(answer(each, meant))

@@ -3,8 +3,9 @@
 
     python3 checks/exact_numbers.py < crates/exact_numbers/stdin | diff - crates/exact_numbers/stdout
 
-A number is written as its mantissa and its fraction, `M F`, and is M / 2^F. A scale is written as `s8.0` or `u8.4`: its
-sign, its width, and its fraction. A line is one call, and its answer is one line:
+The form of a table is in tables.py, and its head is answered as any line that is no call. A number is written as its mantissa
+and its fraction, `M F`, and is M / 2^F. A scale is written as `s8.0` or `u8.4`: its sign, its width, and its fraction. A row is
+one call, and its answer is one line:
 
 add, sub, mul    The sum, the difference or the product, exactly: its mantissa and its fraction, which is the greater of
                  the two, and for a product their sum.
@@ -37,6 +38,7 @@ import sys
 from fractions import Fraction
 from math import floor
 
+import tables
 from demands import demand
 
 MOST = 2 ** 100
@@ -275,5 +277,6 @@ def answer(line):
 
 
 if __name__ == '__main__':
-    for line in sys.stdin:
-        print(answer(line.rstrip('\n')))
+    print(answer('the head'))
+    for line in tables.rows(sys.stdin.buffer):
+        print(answer(line))

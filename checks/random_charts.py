@@ -25,6 +25,7 @@ from fractions import Fraction
 import chart_check as check
 import chart_rules as rules
 import chart_syntax as syntax
+import tables
 from chart_syntax import (WITH_HISTORY, WITHOUT_HISTORY, Active, Assign, Between, Datum, Emit, Event, Fault, First, Flag,
                           Guard, Junction, Name, Number, Read, Scale, Send, Sign, State, ToJunction, ToState, Transition,
                           line_of)
@@ -1223,6 +1224,16 @@ def coverage(count, seed, language):
     demand(not unknown, 'cases that the rules do not name: %s' % ', '.join(sorted(unknown)))
 
 
+def random_rows(what, count, seed, language):
+    """The rows of a table of texts or of runs."""
+    for place in range(count):
+        text, chart, data, depth, steps = made_case(seed, place, language)
+        if what == 'texts':
+            yield line_of(text)
+        elif chart or place % 20 == 0:
+            yield '%d %d\t%s\t%s' % (depth, steps, line_of(text), line_of(data))
+
+
 def main(words):
     """Does what the words ask for, and gives the status."""
     language = WITH_HISTORY
@@ -1236,12 +1247,8 @@ def main(words):
     if words[0] == 'coverage':
         coverage(count, seed, language)
         return 0
-    for place in range(count):
-        text, chart, data, depth, steps = made_case(seed, place, language)
-        if words[0] == 'texts':
-            print(line_of(text))
-        elif chart or place % 20 == 0:
-            print('%d %d\t%s\t%s' % (depth, steps, line_of(text), line_of(data)))
+    rows = list(random_rows(words[0], count, seed, language))
+    print('\n'.join([tables.head(len(rows), 'rows'), *rows]))
     return 0
 
 

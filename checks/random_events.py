@@ -221,6 +221,7 @@ def main():
     parser.add_argument('--first', type=int, default=0)
     parser.add_argument('--cases', type=int, default=1000)
     options = parser.parse_args()
+    print(tables.head(options.cases, 'blocks'))
     for number in range(options.first, options.first + options.cases):
         print(random_block(options.seed, number))
 

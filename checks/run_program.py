@@ -1,27 +1,26 @@
 #!/usr/bin/env python3
 r"""Answers tables by the built program, in the form in which chart_texts.py, chart_check.py and chart_rules.py answer them.
 
-    python3 checks/run_program.py PROGRAM fmt < texts | diff - answers
-    python3 checks/run_program.py PROGRAM check < texts | diff - answers
-    python3 checks/run_program.py PROGRAM rules < runs | diff - answers
-    python3 checks/run_program.py PROGRAM compiled < runs
+    python3 checks/run_program.py PROGRAM fmt < checks/chart_table.txt | diff - checks/chart_answers.txt
+    python3 checks/run_program.py PROGRAM check < checks/check_table.txt | diff - checks/check_answers.txt
+    python3 checks/run_program.py PROGRAM rules < checks/run_table.txt | diff - checks/run_answers.txt
+    python3 checks/run_program.py PROGRAM compiled < checks/run_table.txt
     python3 checks/run_program.py PROGRAM docs PAGE..
     python3 checks/run_program.py PROGRAM traces FOLDER..
 
 `fmt` runs `PROGRAM fmt` on each text and prints the canonical text in one line, or the line of standard error. `check` runs
-`PROGRAM check` on each text and prints its one line, from standard output or standard error. `rules`
-runs `PROGRAM rules` on each run of the table, whose first field has the bounds, depth and steps, or `-` for the usual
-ones, and prints status, standard output and standard error. `compiled` runs `PROGRAM rules`, `PROGRAM run`, and
-`PROGRAM exec` on the code that `PROGRAM compile` writes, on each run of the table, and prints those whose answers
-differ. `docs` takes the rows `| TEXT | LINE |` of a page, in which both stand between backquotes and LINE is a
-refusal of `check`, and prints each row that the program answers otherwise, and each page without such a row. `traces`
-takes the files NAME.chart, NAME.events and NAME.trace of a folder and prints the names of those of which `rules` or
-`run` writes another trace, and each folder without a chart. These three end with status 1 where anything was printed."""
+`PROGRAM check` on each text and prints its one line, from standard output or standard error. `rules` runs `PROGRAM rules` on
+each run of the table, whose first field has the bounds, depth and steps, or `-` for the usual ones, and prints status, standard
+output and standard error. `compiled` runs `PROGRAM rules`, `PROGRAM run`, and `PROGRAM exec` on the code that `PROGRAM compile`
+writes, on each run of the table, and prints those whose answers differ. `docs` tries the examples of a page, whose forms
+pages.py has, and prints how many there are, each that the program answers otherwise, and each page without an example. `traces`
+takes the files NAME.chart, NAME.events and NAME.trace of a folder and prints the names of those of which `rules` or `run`
+writes another trace, and each folder without a chart. These three end with status 1 where anything is wrong."""
 import os
-import re
 import sys
 import tempfile
 
+import pages
 import tables
 from programs import ended, status_text
 
@@ -97,23 +96,11 @@ def wrong_compiled(program, runs):
                 yield '%s\t%s\t%s: %s instead of %s' % (bounds, text, events, other, answer)
 
 
-def doc_rows(page):
-    with open(page, encoding='utf-8') as file:
-        for line in file:
-            found = re.fullmatch(r'\| `(chart .*)` \| `(chart [0-9]+:[0-9]+: .*|ok .*)` \|\n', line)
-            if found:
-                yield found[1].replace('\\|', '|'), found[2]
-
-
-def wrong_docs(program, pages):
-    for page in pages:
-        rows = list(doc_rows(page))
-        if not rows:
-            yield page + ': no row with an example'
-        for text, line in rows:
-            answer = check_answer(program, text.encode())
-            if answer != line:
-                yield '%s: %s: %s instead of %s' % (page, text, answer, line)
+def wrong_docs(program, names):
+    for name in names:
+        count, wrong = pages.wrong_examples(program, name)
+        print('%s: %d examples' % (name, count))
+        yield from wrong
 
 
 def contents(path):
@@ -133,12 +120,12 @@ def wrong_traces(program, folder):
 
 
 def table_fields():
-    """The fields of each line of the table on standard input."""
-    return (line.split('\t') for line in tables.lines_of(sys.stdin.buffer))
+    """The fields of each row of the table on standard input."""
+    return (row.split('\t') for row in tables.rows(sys.stdin.buffer))
 
 
 def print_answers(program, command):
-    """Writes the answer to each line of a table."""
+    """Writes the answer to each row of a table."""
     for fields in table_fields():
         if command == 'fmt':
             print(fmt_answer(program, tables.unescaped(fields[0])))

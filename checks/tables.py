@@ -1,6 +1,12 @@
-"""Tables of cases with hand-worked answers, in one text.
+"""Tables of cases, in one text each. Its first line is its head, which says how many cases the table has, one at least:
 
-A line of a table is empty, a comment that begins with `#`, or one of
+    # N blocks          The lines after the head make blocks, as is said below.
+    # N rows            Each line after the head is a case.
+
+A table without a head, without a case, or with more or fewer cases than its head says is refused with status 1: so no check is
+passed by a table that is empty or was cut.
+
+A line of a table of blocks is empty, a comment that begins with `#`, or one of
 
     block NAME        A case begins. Its name is one word that no earlier block has.
     WORD REST         A part of the case. The program that answers the table says which words there are.
@@ -31,10 +37,37 @@ def lines_of(source):
         yield line.rstrip(b'\n').decode('latin-1')
 
 
+def counted(lines, what, cases):
+    """The cases of a table that are made of the lines after its head, which must be as many as the head says."""
+    head = re.fullmatch('# ([1-9][0-9]*) ' + what, next(lines, ''))
+    if head is None:
+        raise SystemExit('the first line of a table is `# N %s`, where N is how many it has' % what)
+    read = 0
+    for read, case in enumerate(cases(lines), 1):
+        yield case
+    if read != int(head[1]):
+        raise SystemExit('the head of the table says %s %s, but it has %d' % (head[1], what, read))
+
+
+def rows(source):
+    """The rows of a table that is read as bytes."""
+    return counted(lines_of(source), 'rows', lambda lines: lines)
+
+
 def blocks(source):
     """The blocks of a table that is read as bytes."""
+    return counted(lines_of(source), 'blocks', blocks_of)
+
+
+def head(number, what):
+    """The head of a table with so many blocks or rows."""
+    return '# %d %s' % (number, what)
+
+
+def blocks_of(lines):
+    """The blocks that lines make."""
     block, names = None, set()
-    for line in lines_of(source):
+    for line in lines:
         if not line or line.startswith('#'):
             continue
         word, _, rest = line.partition(' ')

@@ -1,0 +1,207 @@
+#!/usr/bin/env python3
+r"""Counts the requests for memory of `exec` while its machine runs, and demands that there is none.
+
+    python3 checks/machine_memory.py --against PROGRAM
+
+A library is compiled by `cc` and loaded before the C library. It counts the requests for memory, and at each write on standard
+output it notes the count. A test in Rattle can't do this: the machine takes its memory of `Global` of std, in whose place a test
+can't put an allocator that counts, and `rt try --fail-alloc` counts the requests of a whole call.
+
+Events and inputs. Between the second piece of a trace and the last one the machine takes inputs, reacts and is shown, thousands of
+times; no request may be made there. Before that the event file is opened, which takes memory.
+
+The start. Two codes differ in the first value of one flag alone: by it the start does nothing, or takes thousands of steps
+through junctions, broadcasts, outputs and assignments. Up to the first piece of the trace, which begins with the line of the start,
+both make as many requests.
+
+`rules` over the same files is to make requests while it runs, so that the count is seen to count. The counts are
+written, and then a line for each demand that isn't met; the status is 1 where there is such a line."""
+import os
+import struct
+import subprocess
+import sys
+import tempfile
+from typing import NamedTuple
+
+import answers
+import generated_cases
+from programs import ended, parser, status_text
+
+LIBRARY = r'''
+#define _GNU_SOURCE
+#include <dlfcn.h>
+#include <errno.h>
+#include <fcntl.h>
+#include <stdlib.h>
+#include <sys/mman.h>
+#include <unistd.h>
+
+/* Counts the requests for memory of a process. In a shared page it notes how many writes there were on standard output, and how
+   many requests before the first, the second and the last one. */
+static long own[4], *notes = own, requests;
+
+extern void *__libc_malloc(size_t), *__libc_calloc(size_t, size_t), *__libc_realloc(void *, size_t);
+extern void *__libc_memalign(size_t, size_t);
+
+__attribute__((constructor)) static void begin(void) {
+    const char *name = getenv("REQUEST_NOTES");
+    int file = name ? open(name, O_RDWR) : -1;
+    if (file < 0) return;
+    void *page = mmap(0, sizeof own, PROT_READ | PROT_WRITE, MAP_SHARED, file, 0);
+    if (page != MAP_FAILED) notes = page;
+    close(file);
+}
+
+void *malloc(size_t size) { requests++; return __libc_malloc(size); }
+void *calloc(size_t count, size_t size) { requests++; return __libc_calloc(count, size); }
+void *realloc(void *old, size_t size) { requests++; return __libc_realloc(old, size); }
+void *memalign(size_t align, size_t size) { requests++; return __libc_memalign(align, size); }
+void *aligned_alloc(size_t align, size_t size) { requests++; return __libc_memalign(align, size); }
+int posix_memalign(void **into, size_t align, size_t size) {
+    requests++;
+    void *given = __libc_memalign(align, size);
+    if (!given) return ENOMEM;
+    *into = given;
+    return 0;
+}
+
+ssize_t write(int file, const void *from, size_t most) {
+    static ssize_t (*next)(int, const void *, size_t);
+    if (!next) next = dlsym(RTLD_NEXT, "write");
+    if (file == 1) {
+        notes[0]++;
+        if (notes[0] <= 2) notes[notes[0]] = requests;
+        notes[3] = requests;
+    }
+    return next(file, from, most);
+}
+'''
+NOTES = struct.Struct('4l')
+
+# By the flag `busy` the start goes round a cycle of junctions, and each round sends, emits and assigns.
+BUSY = '''chart Busy {
+  event input GO; event local L; event output OUT;
+  input level : int16; local busy : bool = %s; local n : int32; local m : sfix32_En8 = 0.5;
+  default -> @loop;
+  junction loop {
+    [busy && n < 2400] { n = n + 1; m = m * 1.5 - m / 2; send L; emit OUT; } -> @loop;
+    [busy] -> A;
+    -> A;
+  }
+  state A and {
+    state P { default -> X; state X { entry { emit OUT; } outer GO / { send L; emit OUT; } -> Y; }
+              state Y { outer GO { m = m - level; } -> X; } }
+    state Q { during { m = m + level; } inner L { emit OUT; } -> R; default -> R; state R { exit { n = n + 1; } } }
+  }
+}
+'''
+
+
+class Notes(NamedTuple):
+    """How many pieces of a trace were written, and how many requests were made before the first, the second and the last."""
+    pieces: int
+    first: int
+    second: int
+    last: int
+
+
+class Counter:
+    """Calls a program with the library."""
+
+    def __init__(self, program, folder):
+        self.program, self.folder = os.path.abspath(program), folder
+        source, self.library = self.path('count.c'), self.path('count.so')
+        self.put('count.c', LIBRARY.encode())
+        subprocess.run(['cc', '-O1', '-shared', '-fPIC', '-o', self.library, source, '-ldl'], check=True)
+
+    def path(self, name):
+        return os.path.join(self.folder, name)
+
+    def put(self, name, data):
+        with open(self.path(name), 'wb') as file:
+            file.write(data)
+
+    def call(self, *words):
+        """The answer of a command, and its notes."""
+        self.put('notes', bytes(NOTES.size))
+        options = {**os.environ, 'LD_PRELOAD': self.library, 'REQUEST_NOTES': self.path('notes')}
+        answer = ended([self.program, *words], cwd=self.folder, env=options)
+        with open(self.path('notes'), 'rb') as file:
+            return answer, Notes(*NOTES.unpack(file.read()))
+
+    def compile(self, name):
+        """Compiles the chart of that name, and keeps the code as `name.code`."""
+        answer = ended([self.program, 'compile', name], cwd=self.folder)
+        if answer.status != 0:
+            raise SystemExit('compile of %s: %s %s' % (name, status_text(answer), answer.error))
+        self.put(name + '.code', answer.out.encode('latin-1'))
+
+
+def samples():
+    """Charts and event files by name."""
+    go_round = b''.join(b'GO level=%d\ntick\n' % (n % 300) for n in range(4000))
+    made = {'busy': ((BUSY % 'false').encode(), go_round)}
+    for number in (0, 1):
+        made['case %d' % number] = generated_cases.texts_of(number)
+    for name in ('stopwatch', 'pump', 'motor', 'spacecraft'):
+        stem = os.path.join(answers.ROOT, 'examples', name, name)
+        with open(stem + '.chart', 'rb') as chart, open(stem + '.events', 'rb') as events:
+            made[name] = (chart.read(), events.read() * 400)
+    return made
+
+
+def events_take_nothing(counter, name):
+    """What is wrong with the requests between the pieces of a trace; a run with a fault ends early and counts as any other."""
+    counter.compile(name)
+    answer, notes = counter.call('exec', name + '.code', name + '.events')
+    print('%-12s exec   %s, %6d lines in %4d pieces, requests %d, %d, %d'
+          % (name, status_text(answer), answer.out.count('\n'), *notes))
+    if notes.pieces < 3:
+        return ['%s: %d pieces of a trace, which are too few' % (name, notes.pieces)]
+    return [] if notes.last == notes.second else ['%s: %d requests while the machine runs' % (name, notes.last - notes.second)]
+
+
+def a_start_takes_nothing(counter):
+    """What is wrong with the requests before the first line of two codes, of whose starts one does nothing."""
+    befores, lengths = [], []
+    for name, busy in (('idle', 'false'), ('work', 'true ')):
+        counter.put(name, (BUSY % busy).encode())
+        counter.compile(name)
+        answer, notes = counter.call('exec', '--depth', '32', '--steps', '50000', name + '.code', 'none.events')
+        print('%-12s exec   %s, requests before the start is written %d' % (name, status_text(answer), notes.first))
+        if answer.status != 0:
+            return ['%s: %s' % (name, status_text(answer))]
+        befores.append(notes.first)
+        lengths.append(len(answer.out))
+    wrong = [] if lengths[1] > 2 * lengths[0] else ['the start that works puts out no more than the other']
+    return wrong + ([] if befores[0] == befores[1] else ['a start: %d requests more' % (befores[1] - befores[0])])
+
+
+def rules_take_some(counter):
+    """What is wrong with the requests of `rules`, which are to be seen."""
+    answer, notes = counter.call('rules', 'busy', 'busy.events')
+    print('%-12s rules  %s, %6d lines in %4d pieces, requests %d, %d, %d'
+          % ('busy', status_text(answer), answer.out.count('\n'), *notes))
+    return [] if notes.last > notes.second > 0 else ['requests are not counted: does the program bring its own?']
+
+
+def main():
+    words = parser(__doc__)
+    words.add_argument('--against', metavar='PROGRAM', required=True)
+    program = words.parse_args().against
+    with tempfile.TemporaryDirectory() as folder:
+        counter = Counter(program, folder)
+        counter.put('none.events', b'')
+        wrong = []
+        for name, (chart, events) in samples().items():
+            counter.put(name, chart)
+            counter.put(name + '.events', events)
+            wrong += events_take_nothing(counter, name)
+        wrong += a_start_takes_nothing(counter) + rules_take_some(counter)
+    for line in wrong:
+        print(line)
+    return 1 if wrong else 0
+
+
+if __name__ == '__main__':
+    sys.exit(main())

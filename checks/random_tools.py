@@ -1,0 +1,133 @@
+#!/usr/bin/env python3
+"""Runs the tools of the folder view over random charts, for a check that .ci/run doesn't make.
+
+    python3 checks/random_tools.py --cases 1000 --seed 1 --against PROGRAM
+
+A case is a chart of random_charts.py with an event file. flowwhy explains whatever PROGRAM refuses of it, and its first message
+must be that of PROGRAM's line. Of an accepted chart flowlint gives its warnings, and then the chart runs over random event files
+by the rules: no transition may be enabled that flowlint calls never taken, no state be entered and no junction with transitions
+be visited that it calls never reached; a search that comes to a junction which it calls endless must end with a fault. flowtrace
+must give back each trace. It writes counts, and ends with status 1 where anything is wrong."""
+import os
+import random
+import sys
+import tempfile
+from collections import Counter
+
+sys.path.insert(0, os.path.join(os.path.dirname(os.path.abspath(__file__)), '..', 'view'))
+import chart_rules as rules                                                       # noqa: E402
+import programs                                                                   # noqa: E402
+from chart_syntax import WITH_HISTORY                                             # noqa: E402
+from checking.trace_rows import round_trip                                        # noqa: E402
+from lint.cycles import endless                                                   # noqa: E402
+from lint.dead import never_taken                                                 # noqa: E402
+from lint.reach import Reached                                                    # noqa: E402
+from lint.warnings import warnings                                                # noqa: E402
+from random_charts import event_file, made_case                                   # noqa: E402
+from why.answer import answer                                                     # noqa: E402
+
+
+class Noting(rules.Rules):
+    """The rules, which note the transitions that they try and those that are enabled."""
+
+    def __init__(self, *given):
+        super().__init__(*given)
+        self.tried, self.enabled = set(), set()
+
+    def is_enabled(self, transition):
+        self.tried.add(transition.at)
+        found = super().is_enabled(transition)
+        if found:
+            self.enabled.add(transition.at)
+        return found
+
+
+def run_of(chart, data, depth, steps):
+    """The rules after a run over an event file whose lines are good, and its trace."""
+    noted = Noting(chart, depth, steps)
+    result = noted.start()
+    lines = [rules.trace_line(noted, 0, 'start', result)]
+    for _, line, _ in rules.lines_of(data.encode('latin-1')):
+        tokens = rules.tokens_of(line)
+        if result != 'ok':
+            break
+        if tokens and not tokens[0].startswith('#'):
+            try:
+                event, inputs = rules.event_of(chart, tokens)
+            except rules.LineFault:
+                break
+            result = noted.react(event, inputs)
+            lines.append(rules.trace_line(noted, len(lines), event.name if event else 'tick', result))
+    return noted, ''.join(lines), result
+
+
+def wrong_runs(text, chart, seed, depth, steps, runs, counts):
+    """What is wrong with the warnings and the traces of a chart."""
+    for each in warnings(text, chart):
+        counts['warning ' + each.kind] += 1
+    dead, circling = never_taken(chart), {each.transitions[0].at for each in endless(chart)}
+    reached = Reached(chart, dead)
+    hidden = {each.transitions[0].at for each in chart.junctions if each not in reached.junctions and each.transitions}
+    choices = random.Random('%s runs' % seed)
+    for _ in range(runs):
+        noted, trace, result = run_of(chart, event_file(choices, chart), depth, steps)
+        counts['runs'] += 1
+        counts['run ends with %s' % result.split(' ')[0]] += 1
+        if noted.enabled & set(dead):
+            yield 'a transition is enabled that is never taken'
+        if any(each not in reached.states for each in noted.marked):
+            yield 'a state is entered that never is'
+        if noted.tried & hidden:
+            yield 'a junction is visited that never is'
+        if noted.tried & circling and result == 'ok':
+            yield 'a cycle ends that never does'
+        wrong = round_trip(chart, trace)
+        if wrong:
+            yield wrong
+
+
+def wrong_explanation(program, folder, text, data, depth, steps, counts):
+    """What is wrong with what flowwhy says."""
+    names = [os.path.join(folder, name) for name in ('chart', 'events')]
+    for name, content in zip(names, (text, data)):
+        with open(name, 'wb') as file:
+            file.write(content.encode('latin-1'))
+    with open(os.devnull, 'wb') as nowhere:
+        ran, lines = answer(program, names, ['--depth=%d' % depth, '--steps=%d' % steps], (depth, steps), nowhere)
+    counts['status %d' % ran.status] += 1
+    if ran.status not in (0, 1, 3):
+        return 'flowc ends with status %d' % ran.status
+    heads = [line for line in lines[1:] if ': error: ' in line and not line.startswith('  ')]
+    counts['messages'] += len(heads)
+    if ran.status and not heads:
+        return 'nothing is said of %s' % ran.line
+    if any('the checks find' in line for line in lines):
+        return 'the message is of another fault than %s' % ran.line
+    return None
+
+
+def main():
+    parser = programs.parser(__doc__)
+    parser.add_argument('--cases', type=int, default=1000)
+    parser.add_argument('--first', type=int, default=0)
+    parser.add_argument('--seed', default='1')
+    parser.add_argument('--runs', type=int, default=20)
+    parser.add_argument('--against', required=True, metavar='PROGRAM')
+    given = parser.parse_args()
+    counts, wrong = Counter(), 0
+    with tempfile.TemporaryDirectory() as folder:
+        for place in range(given.first, given.first + given.cases):
+            text, chart, data, depth, steps = made_case(given.seed, place, WITH_HISTORY)
+            found = [wrong_explanation(os.path.abspath(given.against), folder, text, data, depth, steps, counts)]
+            if chart:
+                counts['accepted'] += 1
+                found += wrong_runs(text, chart, '%s %d' % (given.seed, place), depth, steps, given.runs, counts)
+            for each in filter(None, dict.fromkeys(found)):
+                print('case %d: %s' % (place, each), flush=True)
+                wrong += 1
+    programs.print_counts('%d charts, %d of them wrong' % (given.cases, wrong), counts)
+    return 1 if wrong else 0
+
+
+if __name__ == '__main__':
+    sys.exit(rules.with_deep_calls(main))

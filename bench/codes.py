@@ -7,8 +7,8 @@
 The second form prints the rows of those tables. The codes of the first are loops, and a nest of sends, that use all or most
 steps of each event. A row has how many instructions of code an event takes, how many machine instructions one of these takes,
 where callgrind is installed, and the peak memory of `exec`. The codes of the second table are long texts, of 16 and of 64 MiB: a
-row has their bytes, and the seconds of processor time and the peak memory of `exec` over an event file without lines, and of
-`upgrade`. It makes its files in a temporary folder, and is no test: how fast a program is has no limit."""
+row has their bytes, and the seconds of processor time and the peak memory of `exec` over an event file without lines, of
+`upgrade` and of `shrink`. It makes its files in a temporary folder, and is no test: how fast a program is has no limit."""
 import os
 import sys
 import tempfile
@@ -123,7 +123,7 @@ def text_row(program, kind, size, folder):
     length = write(folder, 'code', lines_text(repeated(kind, size * MIB)))
     write(folder, 'events', '')
     columns = ['`%s`' % kind, '{:,}'.format(length)]
-    for words in (['exec', 'code', 'events'], ['upgrade', 'code']):
+    for words in (['exec', 'code', 'events'], ['upgrade', 'code'], ['shrink', 'code']):
         columns.append(used_text(measure([program, *words], folder)))
     return '| %s |' % ' | '.join(columns)
 

@@ -5,10 +5,10 @@
 
 All of them run the 20,000 events and must write the same trace, byte for byte, before anything is measured; a difference is an
 error. Instructions are counted by valgrind's tool callgrind over the first 5,000 events, less those of a run without events.
-The time is the least processor time of five runs over the event file ten times, less that without events. `flowc` reads and
-writes 8 KiB at once, the others read the whole file and write 60 KiB at once. What isn't installed is skipped, and a line says
-so. With --functions it prints too how the instructions of `exec` and of `rules` are distributed. It works in a temporary folder,
-and is no test of speed: no ratio is an error."""
+The time is the least processor time of five runs over the event file ten times, less that without events. `flowc` reads 4 KiB
+at once and writes up to 8 KiB at once, the others read the whole file and write 60 KiB at once. What isn't installed is skipped,
+and a line says so. With --functions it prints too how the instructions of `exec` and of `rules` are distributed. It works in a
+temporary folder, and is no test of speed: no ratio is an error."""
 import collections
 import os
 import re

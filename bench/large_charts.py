@@ -6,9 +6,9 @@
 
 The second form prints the rows of that table. A row has the states, junctions, transitions and pairs that `check` counts, the
 bytes of the code with its height and work, by checks/code_text.py, and the seconds of processor time and the peak memory of
-`compile`, of `exec` and `rules` over an event file of three lines, and of `upgrade`. It says where the traces of `exec` and
-`rules` differ, or the code and what `upgrade` makes of it. It makes its files in a temporary folder, and is no test: how fast a
-program is has no limit."""
+`compile`, of `exec` and `rules` over an event file of three lines, of `upgrade`, of `shrink` with the bytes that it writes, and of
+`bounds` with what it answers. It says where the traces of `exec` and `rules` differ, that of the smaller code among them, or the
+code and what `upgrade` makes of it. It makes its files in a temporary folder, and is no test: how fast a program is has no limit."""
 import filecmp
 import multiprocessing
 import os
@@ -112,6 +112,19 @@ def chain():
         to = '@j%d' % (place + 1) if place + 1 < JUNCTIONS else 'S0'
         yield 'junction j%d { { n = n + 1; } / { m = m * 3 + 1; } -> %s; }' % (place, to)
     yield from ('state S%d { outer GO -> @j0; }' % place for place in range(7))
+    yield '}'
+
+
+def events():
+    """4,096 junctions in a chain, through which each of 1,000 input events goes, and 999 states more."""
+    yield 'chart C or {'
+    yield from ('event input E%d;' % place for place in range(1000))
+    yield 'default -> S0;'
+    for place in range(JUNCTIONS):
+        to = '@j%d' % (place + 1) if place + 1 < JUNCTIONS else 'S0'
+        yield 'junction j%d { -> %s; }' % (place, to)
+    yield 'state S0 { outer -> @j0; }'
+    yield from ('state S%d { outer E%d -> S0; }' % (place, place) for place in range(1, 1000))
     yield '}'
 
 
@@ -223,7 +236,7 @@ def whole():
     yield '}'
 
 
-KINDS = {each.__name__: each for each in (leaves, regions, wide, nest, tree, pairs, chain, cycles, mesh, sends, storm,
+KINDS = {each.__name__: each for each in (leaves, regions, wide, nest, tree, pairs, chain, events, cycles, mesh, sends, storm,
                                           statements, operators, names, whole)}
 
 
@@ -254,7 +267,13 @@ def row(program, kind, folder):
             with multiprocessing.Pool(1) as pool:                   # so that this process stays small
                 columns += pool.apply(measures, (os.path.join(folder, output),))
         columns.append(used_text(used))
-    for one, other in (('trace', 'told'), ('code', 'upgraded')):
+    used = measure([program, 'shrink', 'code'], folder, 'smaller')
+    columns += ['{:,}'.format(os.path.getsize(os.path.join(folder, 'smaller'))), used_text(used)]
+    measure([program, 'exec', 'smaller', 'events'], folder, 'smaller_trace')
+    used = measure([program, 'bounds', 'chart'], folder, 'bounds')
+    with open(os.path.join(folder, 'bounds'), encoding='ascii') as file:
+        columns += [file.read().strip(), used_text(used)]
+    for one, other in (('trace', 'told'), ('trace', 'smaller_trace'), ('code', 'upgraded')):
         if not filecmp.cmp(os.path.join(folder, one), os.path.join(folder, other), shallow=False):
             columns.append('`%s` and `%s` differ' % (one, other))
     return '| %s |' % ' | '.join(columns)

@@ -60,7 +60,7 @@ def open_default(chart, at):
         return ('the empty junction %s would end a default search' % junction.name,
                 ('write: a transition without event and guard in it, `-> S;`',))
     return ('the last transition of a default list, or of a junction that it reaches, has an event or a guard',
-            ('write: one more behind it without event and guard, `-> S;`, which is taken where nothing else is',))
+            ('write: one more after it without event and guard, `-> S;`, which is taken where nothing else is',))
 
 
 def leaves(text, chart, at, number):

@@ -120,7 +120,7 @@ def for_python(expression):
 
 
 VIM_SCRIPT = r'''
-set nocompatible encoding=latin1 fileformats=unix
+set nocompatible encoding=latin1 fileformats=unix synmaxcol=0
 let &runtimepath = $EDITORS . "/vim," . &runtimepath
 syntax on
 for name in split($NAMES)
@@ -129,7 +129,7 @@ for name in split($NAMES)
   syntax sync fromstart
   let out = []
   for line in range(1, line("$"))
-    let groups = map(range(1, max([1, len(getline(line))])), {_, column -> synIDattr(synID(line, column, 1), "name")})
+    let groups = map(range(1, max([1, len(getline(line))])), {_, column -> synIDattr(synID(g:line, column, 1), "name")})
     call add(out, join(map(groups, {_, group -> group == "" ? "-" : group})))
   endfor
   call writefile(out, name . ".groups")

@@ -30,6 +30,8 @@ ADVICE = {
     'en': ENTERING,
     'ex': LEAVING,
     'send': 'write `send E;` or `send E to S;`',
+    'broadcast': 'write `send E;` or `send E to S;`',
+    'raise': 'write `send E;`, or `emit E;` of an output event',
     'in': 'write `in(S)` or `in(S/T)`',
     'abs': 'take two unsigned data: `p = x; m = -x; y = p + m;`, each of which saturates at 0; or a junction with `[x < 0]`',
     'max': 'with an unsigned datum d, which saturates at 0: `d = a - b; y = b + d;`; or a junction with `[a > b]`',

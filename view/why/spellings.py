@@ -91,6 +91,8 @@ IN_EXPRESSION = [
     (r'\bin\s*$', PATH, 'write `in({0})`'),
     (NAME + r'\s*$', r'\.\s*' + NAME, 'write `{0}_{1}`, a datum of the chart: data have one name, and stand in the chart alone'),
     (r'', r'tick\b', 'whether nothing but time passes can\'t be asked: write an input event of your own, as `event input STEP;`'),
+    (r'[\[(=!<>+\-*&|]\s*$', r'(' + '|'.join(sorted(RESERVED - {'true', 'false', 'in'})) + r')\b',
+     '`{0}` is a reserved word, and names no datum: write the name that is declared, or declare another, such as {0}_1'),
 ]
 IN_TRANSITION = [
     (r'\b(?:outer|inner|default)\s*$', r'tick\b',
@@ -107,7 +109,7 @@ IN_TRANSITION = [
     (r'->\s*$', r'\(|"|\'', 'an arrow leads to the name of a state, or to @ and the name of a junction'),
     (r'\]\s*$', NAME, 'the order is event, guard, actions, arrow: write the event before the bracket, or the action in braces'),
     (r'\}\s*$', r'\[', 'the order is event, guard, actions, arrow: write the guard before the action'),
-    (r'/\s*$', r'(?:send|emit|' + NAME + r'\s*[=(;])', 'an action stands in braces: write `/ {{ ..; }}`'),
+    (r'/\s*$', r'(?:send|emit|' + NAME + r'\s*(?:[=(;]|[-+*/]=|\+\+|--))', 'an action stands in braces: write `/ {{ ..; }}`'),
     (r'\bdefault\s+' + NAME + r'\s*$', r';', 'write `default -> {0};`'),
     (r'\b(?:outer|inner)\s+' + NAME + r'\s*$', r';',
      'an arrow and a destination are missing: write `{0} -> S;`, and where it shall '
@@ -141,7 +143,7 @@ IN_STATE = [
     (r'\b(input|output|local)\s+(bool|boolean|u?int\d*(?:_[tT])?|double|single|float|[su]fix\w+)\s*$', NAME,
      'the name comes first: write `{0} {2} : {1};`'),
     (r'\b(input|output|local)\s+' + NAME + r'\s*$', r'[;=]', 'a type is missing: write `{0} {1} : int16;`'),
-    (r'', r'(bool|boolean|u?int\d*(?:_[tT])?|double|single|float|[su]fix\w+)\s+' + NAME,
+    (r'', r'(?:data\s+|var\s+)?(bool|boolean|u?int\d*(?:_[tT])?|double|single|float|[su]fix\w+)\s+' + NAME,
      'a declaration begins with input, output '
      'or local: write `local {1} : {0};`'),
     (r'', r'(?:data|var|parameter|param|constant|const|define|persistent)\b\s*' + NAME,

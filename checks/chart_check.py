@@ -73,14 +73,12 @@ Structure
 Pairs
 24 TooManyPairs      There are over 32,768 pairs of a list of a state and a transition that stands in the list or in a
                      junction reached from it: at the chart's name."""
-import sys
 from collections import namedtuple
 from fractions import Fraction
 from math import floor
 
 import chart_syntax as syntax
-import tables
-from chart_syntax import WITH_HISTORY, WITHOUT_HISTORY, Fault, NotAText, read_chart, text_of
+from chart_syntax import WITH_HISTORY, Fault, answer_table, read_chart
 
 MOST_PAIRS = 32768
 MOST_SIZE = 100
@@ -548,18 +546,5 @@ def counts_text(chart):
         len(chart.states), len(chart.junctions), len(list(chart.transitions())), pair_count(chart))
 
 
-def answer(line, language=WITH_HISTORY):
-    try:
-        text = text_of(line)
-    except NotAText:
-        return 'not a text'
-    try:
-        return counts_text(check_chart(text, language))
-    except Fault as fault:
-        return fault.written(text)
-
-
 if __name__ == '__main__':
-    meant = WITHOUT_HISTORY if '--without-history' in sys.argv[1:] else WITH_HISTORY
-    for each in tables.rows(sys.stdin.buffer):
-        print(answer(each, meant))
+    answer_table(lambda text, language: counts_text(check_chart(text, language)))

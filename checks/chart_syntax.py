@@ -59,9 +59,12 @@ right one with an equally loose operator, and round any comparison in a comparis
 
 A table has one text a line, in which `\n`, `\t`, `\r`, `\\` and `\xHH` stand for bytes."""
 import re
+import sys
 from collections import namedtuple
 from fractions import Fraction
 from math import floor
+
+import tables
 
 RESERVED = set('chart or and state entry during exit outer inner default junction event input output local send to emit in '
                'true false tick saturate wrap error history'.split())
@@ -678,3 +681,17 @@ def line_of(text):
     """A line that stands for a text: what isn't printable, and the backslash, is written as an escape."""
     known = {'\n': '\\n', '\t': '\\t', '\r': '\\r', '\\': '\\\\'}
     return ''.join(known.get(byte) or (byte if ' ' <= byte <= '~' else '\\x%02x' % ord(byte)) for byte in text)
+
+
+def answer_table(answer):
+    """Writes a line for each row of a table on standard input, which has chart texts: the answer to a text in a form of the language,
+    the refusal where that ends with a fault, or `not a text`."""
+    language = WITHOUT_HISTORY if '--without-history' in sys.argv[1:] else WITH_HISTORY
+    for line in tables.rows(sys.stdin.buffer):
+        try:
+            text = text_of(line)
+            print(answer(text, language))
+        except NotAText:
+            print('not a text')
+        except Fault as fault:
+            print(fault.written(text))

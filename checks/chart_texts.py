@@ -8,25 +8,12 @@ answer is one line: the canonical text with each end of a line written as `\n`, 
 text` is answered where a backslash begins none of these.
 
 With the word `--without-history` the older form of the language is meant."""
-import sys
-
-import tables
-from chart_syntax import WITH_HISTORY, WITHOUT_HISTORY, Fault, NotAText
-from chart_syntax import canonical_text, read_chart, text_of
+from chart_syntax import answer_table, canonical_text, read_chart
 
 
-def answer(line, language=WITH_HISTORY):
-    try:
-        text = text_of(line)
-    except NotAText:
-        return 'not a text'
-    try:
-        return canonical_text(read_chart(text, language)).replace('\n', '\\n')
-    except Fault as fault:
-        return fault.written(text)
+def answer(text, language):
+    return canonical_text(read_chart(text, language)).replace('\n', '\\n')
 
 
 if __name__ == '__main__':
-    meant = WITHOUT_HISTORY if '--without-history' in sys.argv[1:] else WITH_HISTORY
-    for each in tables.rows(sys.stdin.buffer):
-        print(answer(each, meant))
+    answer_table(answer)

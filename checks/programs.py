@@ -1,5 +1,5 @@
 """What the scripts that run a built program share: their words, running it under a limit of time, comparing what it writes with
-what is expected, and printing counts."""
+what is expected, keeping the files of a case, and printing counts."""
 import argparse
 import os
 import signal
@@ -33,6 +33,15 @@ def print_counts(title, counts):
     print('\n%s' % title)
     for what in sorted(counts):
         print('%9d  %s' % (counts[what], what))
+
+
+def keep_files(folder, stem, contents):
+    """Writes what is worth keeping of a case to files STEM.KIND of a folder, which is made where it isn't there. The contents are
+    bytes, by their kind."""
+    os.makedirs(folder, exist_ok=True)
+    for kind, content in contents.items():
+        with open(os.path.join(folder, '%s.%s' % (stem, kind)), 'wb') as file:
+            file.write(content)
 
 
 # ---- calls

@@ -26,7 +26,7 @@ import chart_check as check
 import chart_rules as rules
 import chart_syntax as syntax
 import random_charts
-from programs import Ended, differences, ended, parser, print_counts
+from programs import Ended, differences, ended, keep_files, parser, print_counts
 
 LONGEST = 120               # seconds for one command
 OVERRUN = ('depth', 'steps')
@@ -71,10 +71,8 @@ class Comparison:
         if not lines:
             return
         self.wrong += 1
-        os.makedirs(self.keep, exist_ok=True)
-        for kind, content in contents.items():
-            with open(os.path.join(self.keep, 'bounds %s %d.%s' % (self.seed, number, kind)), 'wb') as file:
-                file.write(content.encode('latin-1'))
+        keep_files(self.keep, 'bounds %s %d' % (self.seed, number),
+                   {kind: content.encode('latin-1') for kind, content in contents.items()})
         print('\n'.join(lines), flush=True)
 
     def run(self, command, *names, options=()):

@@ -1128,22 +1128,24 @@ def made_case(seed, place, language):
     return text, chart, data, depth, steps
 
 
+class Paid(rules.Rules):
+    """The rules, which note how many steps the start and each event take."""
+
+    def __init__(self, *given):
+        super().__init__(*given)
+        self.paid = []
+
+    def result_of(self, work):
+        result = super().result_of(work)
+        self.paid.append(self.used)
+        return result
+
+
 def steps_used(chart, data, depth, steps):
-    """How many steps the start and each event take."""
-    run = rules.Rules(chart, depth, steps)
-    result = run.start()
-    used = [run.used]
-    for _, line, _ in rules.lines_of(data.encode('latin-1')):
-        tokens = rules.tokens_of(line)
-        if result != 'ok':
-            break
-        if tokens and not tokens[0].startswith('#'):
-            try:
-                result = run.react(*rules.event_of(chart, tokens))
-            except rules.LineFault:
-                break
-            used.append(run.used)
-    return [each for each in used if each] or [steps]
+    """How many steps the start and each event take that take any, or the steps of the bounds where none does."""
+    paid = Paid(chart, depth, steps)
+    rules.run_events(paid, data.encode('latin-1'))
+    return [each for each in paid.paid if each] or [steps]
 
 
 # ---- coverage

@@ -30,7 +30,7 @@ import chart_syntax as syntax
 import code_machine
 import code_text
 import random_charts
-from programs import Ended, differences, ended, parser, print_counts, status_text
+from programs import Ended, differences, ended, keep_files, parser, print_counts, status_text
 
 USUAL_FILES = 4
 USUAL_BOUNDS = (rules.USUAL_DEPTH, rules.USUAL_STEPS)
@@ -158,10 +158,7 @@ class Comparison:
         if not lines:
             return
         self.wrong += 1
-        os.makedirs(self.keep, exist_ok=True)
-        for kind, content in contents.items():
-            with open(os.path.join(self.keep, '%s %s.%s' % (self.seed, name, kind)), 'wb') as file:
-                file.write(content)
+        keep_files(self.keep, '%s %s' % (self.seed, name), contents)
         print('\n'.join(lines), flush=True)
 
     def chart(self, number, most):

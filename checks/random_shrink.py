@@ -28,7 +28,7 @@ import declarations as de
 import random_charts
 import random_codes
 import shrink
-from programs import ended, parser, print_counts
+from programs import ended, keep_files, parser, print_counts
 
 LONGEST = 120               # seconds for one command
 USUAL_BOUNDS = (cm.USUAL_DEPTH, cm.USUAL_STEPS)
@@ -78,10 +78,7 @@ class Comparison:
         if not lines:
             return
         self.wrong += 1
-        os.makedirs(self.keep, exist_ok=True)
-        for kind, content in contents.items():
-            with open(os.path.join(self.keep, 'shrink %s %s.%s' % (self.seed, name, kind)), 'wb') as file:
-                file.write(content)
+        keep_files(self.keep, 'shrink %s %s' % (self.seed, name), contents)
         print('\n'.join('%s: %s' % (name, line) for line in lines), flush=True)
 
     def command(self, command, text):

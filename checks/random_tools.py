@@ -42,25 +42,6 @@ class Noting(rules.Rules):
         return found
 
 
-def run_of(chart, data, depth, steps):
-    """The rules after a run over an event file whose lines are good, and its trace."""
-    noted = Noting(chart, depth, steps)
-    result = noted.start()
-    lines = [rules.trace_line(noted, 0, 'start', result)]
-    for _, line, _ in rules.lines_of(data.encode('latin-1')):
-        tokens = rules.tokens_of(line)
-        if result != 'ok':
-            break
-        if tokens and not tokens[0].startswith('#'):
-            try:
-                event, inputs = rules.event_of(chart, tokens)
-            except rules.LineFault:
-                break
-            result = noted.react(event, inputs)
-            lines.append(rules.trace_line(noted, len(lines), event.name if event else 'tick', result))
-    return noted, ''.join(lines), result
-
-
 def wrong_runs(text, chart, seed, depth, steps, runs, counts):
     """What is wrong with the warnings and the traces of a chart."""
     for each in warnings(text, chart):
@@ -70,9 +51,11 @@ def wrong_runs(text, chart, seed, depth, steps, runs, counts):
     hidden = {each.transitions[0].at for each in chart.junctions if each not in reached.junctions and each.transitions}
     choices = random.Random('%s runs' % seed)
     for _ in range(runs):
-        noted, trace, result = run_of(chart, event_file(choices, chart), depth, steps)
+        noted = Noting(chart, depth, steps)
+        ended = rules.run_events(noted, event_file(choices, chart).encode('latin-1'))
+        result = ended.out.split('\n')[-2].split(' ')[5]
         counts['runs'] += 1
-        counts['run ends with %s' % result.split(' ')[0]] += 1
+        counts['run ends with %s' % result] += 1
         if noted.enabled & set(dead):
             yield 'a transition is enabled that is never taken'
         if any(each not in reached.states for each in noted.marked):
@@ -81,7 +64,7 @@ def wrong_runs(text, chart, seed, depth, steps, runs, counts):
             yield 'a junction is visited that never is'
         if noted.tried & circling and result == 'ok':
             yield 'a cycle ends that never does'
-        wrong = round_trip(chart, trace)
+        wrong = round_trip(chart, ended.out)
         if wrong:
             yield wrong
 

@@ -3,12 +3,7 @@ from collections import defaultdict
 
 import common                                # noqa: F401, which finds the folder checks
 from chart_check import Junction, Send
-from lint.dead import constant
-
-
-def is_plain(transition):
-    """Whether it fits at every event and has no guard that may be false."""
-    return transition.event is None and (transition.guard is None or constant(transition.guard.expression) is True)
+from lint.dead import ANY, leading_to, surely_enabled
 
 
 def goals_of(junction):
@@ -19,7 +14,7 @@ def goals_of(junction):
         goals.append(transition.destination)
         if any(isinstance(each, Send) for each in transition.condition):
             goals.append(None)
-        if is_plain(transition):
+        if surely_enabled(transition, ANY):
             return goals
     return goals + [None]
 
@@ -34,13 +29,7 @@ def may_end(chart):
                 before[goal].append(junction)
         else:
             found.append(junction)
-    seen = set(found)
-    while found:
-        for junction in before[found.pop()]:
-            if junction not in seen:
-                seen.add(junction)
-                found.append(junction)
-    return seen
+    return leading_to(found, before)
 
 
 def endless(chart):

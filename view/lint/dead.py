@@ -33,6 +33,17 @@ def surely_enabled(transition, event):
     return fits and (transition.guard is None or constant(transition.guard.expression) is True)
 
 
+def leading_to(found, before):
+    """Some junctions, and all before them: those whose searches lead to one of these, by a table of what stands before each."""
+    seen, found = set(found), list(found)
+    while found:
+        for junction in before[found.pop()]:
+            if junction not in seen:
+                seen.add(junction)
+                found.append(junction)
+    return seen
+
+
 class Ends:
     """Which junctions no search comes back from, under each event that stands in the chart."""
 
@@ -58,13 +69,7 @@ class Ends:
                         before[transition.destination].append(junction)
                     else:
                         found.append(junction)
-        seen = set(found)
-        while found:
-            for junction in before[found.pop()]:
-                if junction not in seen:
-                    seen.add(junction)
-                    found.append(junction)
-        return seen
+        return leading_to(found, before)
 
     def ends(self, transition, event):
         """Whether the search surely ends where it comes to this transition under that event."""

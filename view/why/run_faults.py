@@ -53,29 +53,13 @@ class Placed(Rules):
         return self.noted(at, lambda: Rules.pay(self, what))
 
 
-def place_of_fault(chart, data, depth, steps):
-    """The rules as they stand at the fault of a run over an event file."""
-    placed = Placed(chart, depth, steps)
-    result = placed.start()
-    for _, line, _ in rules.lines_of(data.encode('latin-1')):
-        tokens = rules.tokens_of(line)
-        if result != 'ok':
-            break
-        if tokens and not tokens[0].startswith('#'):
-            try:
-                result = placed.react(*rules.event_of(chart, tokens))
-            except rules.LineFault:
-                break
-    return placed, result
-
-
 def run_message(chart, data, line, depth, steps):
     """The message of flowc's line about a fault of a run, or None where the reference runs otherwise."""
     found = LINE.fullmatch(line)
     if not found:
         return None
-    placed, result = place_of_fault(chart, data, depth, steps)
-    if result != found[2]:
+    placed = Placed(chart, depth, steps)
+    if rules.run_events(placed, data.encode('latin-1')).error != line + '\n':
         return None
     kind = found[2].split(' ')[0]
     where = 'at the start' if found[1] == '0' else 'in event %s' % found[1]

@@ -1,4 +1,4 @@
--- What is proved of numbers, expressions, transitions and charts, each by a crate of its own.
+-- What is proved of numbers, expressions, transitions and charts, each by lemmas of its own.
 use Rattle.std.specs.Prelude.{◌≡◌, ℕ, IsTrue, List, ◌∷◌, ◌++◌, Some, None, codes, if◌then◌else◌}
 use Rattle.std.specs.List.{AllByRecursion}
 use Rattle.token_grammar.specs.declared.token.Kind.{Kind}

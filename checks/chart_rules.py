@@ -718,8 +718,8 @@ def event_of(chart, tokens):
     return event, inputs
 
 
-def input_value(datum, text):
-    """The value that a text tells of an input; another text is fault 6."""
+def input_value(datum, text, most=MOST_DIGITS):
+    """The value that a text of at most so many digits tells of a datum; another text is fault 6."""
     if datum.scale is None:
         if text not in ('true', 'false'):
             raise LineFault(6)
@@ -728,7 +728,7 @@ def input_value(datum, text):
     if not found:
         raise LineFault(6)
     whole, behind = found[2], found[3] or ''
-    if len(whole + behind) > MOST_DIGITS:
+    if len(whole + behind) > most:
         raise LineFault(6)
     number = Fraction(int(whole + behind), 10 ** len(behind)) * (-1 if found[1] else 1)
     if not is_value_of(datum.scale, number):

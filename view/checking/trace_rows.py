@@ -32,13 +32,15 @@ def trace_answer(block):
 
 def round_trip(chart, trace):
     """What is wrong with the way from a trace to changes and back, or None."""
-    changes = ''.join(line + '\n' for line in changes_of(chart, read_trace(trace)))
-    back = ''.join(line.text() for line in trace_of(chart, changes))
-    if back != trace:
-        return 'the trace isn\'t given back'
-    unnumbered = ''.join(line.split(' ', 1)[1] + '\n' for line in changes.split('\n') if line)
-    if ''.join(line.text() for line in trace_of(chart, unnumbered)) != trace:
-        return 'the trace isn\'t given back without numbers'
+    try:
+        changes = ''.join(line + '\n' for line in changes_of(chart, read_trace(trace)))
+        if ''.join(line.text() for line in trace_of(chart, changes)) != trace:
+            return 'the trace isn\'t given back'
+        unnumbered = ''.join(line.split(' ', 1)[1] + '\n' for line in changes.split('\n') if line)
+        if ''.join(line.text() for line in trace_of(chart, unnumbered)) != trace:
+            return 'the trace isn\'t given back without numbers'
+    except BadLine as fault:
+        return 'the trace isn\'t read: line %d: %s' % (fault.number, fault.said)
     return None
 
 

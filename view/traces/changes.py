@@ -17,6 +17,7 @@ from traces.lines import BadLine, Line, paths_of, states_of
 
 CHANGES = re.compile(r'(?:([0-9]+)[ \t]+)?([A-Za-z]\w*)(?:[ \t]+\[([^\]]*)\])?((?:[ \t]+\w+=\S+)*)(?:[ \t]+emit[ \t]+(\S+))?'
                      r'(?:[ \t]+fault[ \t]+(depth|steps|zero|overflow \w+))?[ \t]*\r?')
+MOST_DIGITS = 20 + 32        # of a value: of 64 bits before its point, and 32 after it
 
 
 # ---- states
@@ -136,7 +137,7 @@ def new_values(chart, pairs, number):
         if name not in data:
             raise BadLine(number, 'no datum is named %s%s' % (name, meant(name, data)))
         try:
-            found[name] = value_text(input_value(data[name], text))
+            found[name] = value_text(input_value(data[name], text, MOST_DIGITS))
         except LineFault:
             raise BadLine(number, '%s is no value of %s' % (text, name)) from None
     return found

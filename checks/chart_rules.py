@@ -873,10 +873,7 @@ def main(words):
         for line in tables.rows(sys.stdin.buffer):
             print(table_answer(line, language))
         return 0
-    answer = command(words, language)
-    sys.stdout.write(answer.out)
-    sys.stderr.write(answer.error)
-    return answer.status
+    return command(words, language).written()
 
 
 def with_deep_calls(work):

@@ -261,10 +261,7 @@ def main(words):
     if len(words) != 1:
         sys.exit(__doc__)
     with open(words[0], 'rb') as file:
-        answer = upgrade(file.read())
-    sys.stdout.write(answer.out)
-    sys.stderr.write(answer.error)
-    return answer.status
+        return upgrade(file.read()).written()
 
 
 if __name__ == '__main__':

@@ -4,6 +4,7 @@ import argparse
 import os
 import signal
 import subprocess
+import sys
 import tempfile
 import threading
 from typing import NamedTuple, Optional
@@ -18,6 +19,12 @@ class Ended(NamedTuple):
     error: str
     status: Optional[int]
     timed_out: bool = False
+
+    def written(self):
+        """Writes what the call wrote, and gives its status."""
+        sys.stdout.write(self.out)
+        sys.stderr.write(self.error)
+        return self.status
 
 
 LATE = Ended('', '', None, True)

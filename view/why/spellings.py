@@ -17,7 +17,8 @@ UNTIL = r'\s*([^;}\n]*?)\s*(?:[;}\n]|$)'
 TWO_TRANSITIONS = 'write it twice, `outer {0} .. -> S;` and the same with the other event: a transition names one event at most'
 ON = 'write `inner {0} {{ {1}; }} -> @on_{0};` and `junction on_{0} {{ [false] -> @on_{0}; }}`'
 IF = ('there is no if in an action: write a junction with a transition for each way, '
-      '`junction test {{ [c] {{ a; }} -> S; {{ b; }} -> S; }}`')
+      '`junction test {{ [c] {{ a; }} -> S; {{ b; }} -> S; }}`; in place of a during action write `inner -> @test;` in the state, '
+      'with `-> @end;` in place of `-> S;`, and `junction end {{ }}`')
 LOOP = ('there is no loop in an action: write a junction that leads back to itself, '
         '`junction each {{ [i < n] {{ i = i + 1; }} -> @each; -> S; }}`')
 COMMENT = 'write // before a comment, which goes to the end of the line'
@@ -58,6 +59,7 @@ IN_ACTION = [
     (r'=\s*[^;{}]*[\w)]\s*\n\s*$', NAME + r'\s*=', '; stands after each statement: one is missing before {0}'),
 ]
 IN_EXPRESSION = [
+    (NAME + r'\s*$', r'&\s*1\b', 'for whole numbers the lowest bit is `{0} - {0} / 2 * 2`'),
     (r'', r'&', 'write `&&` for flags; ' + BITS),
     (r'', r'\|', 'write `||` for flags; ' + BITS),
     (r'', r'~=', 'write `!=`'),

@@ -220,3 +220,11 @@ const GROUPS: &[Group<'_>] = &[
 fn words_and_bounds(rt: HostRuntime) {
     check_groups(&rt, GROUPS);
 }
+
+/// The line of the first generated case.
+const CASE: &str = "selftest 0: 105 states, 20000 events, 1272694 trace bytes, ok\n";
+
+#[test]
+fn the_first_case(rt: HostRuntime) {
+    check(&rt, "selftest 0", LAMP, "", (Status::Ok, CASE, ""));
+}

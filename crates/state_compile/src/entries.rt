@@ -31,6 +31,7 @@ fn entry_action(numbering: &Numbering<'_>, state: u32) -> u32
     requires state { state < state_count (chart_in numbering.now).tree }
     ensures { result ≡ (numbers (chart_in numbering.now)).entry state }
 {
+    // Only the proof reads the number of states: it is small.
     let _ = numbering.states();
     1 + state * 3
 }

@@ -24,6 +24,7 @@ fn exit_action(numbering: &Numbering<'_>, state: u32) -> u32
     requires state { state < state_count (chart_in numbering.now).tree }
     ensures { result ≡ (numbers (chart_in numbering.now)).exit_action state }
 {
+    // Only the proof reads the number of states: it is small.
     let _ = numbering.states();
     3 + state * 3
 }

@@ -8,6 +8,7 @@ mod entries;
 mod exits;
 mod firings;
 mod groups;
+mod pairs;
 mod processes;
 mod regions;
 mod whole_chart;

@@ -28,6 +28,7 @@ fn during(numbering: &Numbering<'_>, state: u32) -> u32
     requires state { state < state_count (chart_in numbering.now).tree }
     ensures { result ≡ (numbers (chart_in numbering.now)).during state }
 {
+    // Only the proof reads the number of states: it is small.
     let _ = numbering.states();
     2 + state * 3
 }
@@ -48,6 +49,7 @@ fn out(numbering: &Numbering<'_>, home: u32) -> u32
     requires home { home < state_count (chart_in numbering.now).tree }
     ensures { result ≡ templates.went_result (Out home) }
 {
+    // Only the proof reads the number of states: it is small.
     let _ = numbering.states();
     3 + home
 }

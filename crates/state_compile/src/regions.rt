@@ -3,14 +3,32 @@ ghost use Rattle.std.specs.Prelude.{◌≡◌, ◌<◌, ◌++◌, map, OnOk};
 ghost use Rattle.active_config.specs.Tree.{state_count};
 ghost use Rattle.chart_layout.specs.Bodies.{body};
 ghost use Rattle.chart_layout.specs.Keys as keys;
+ghost use Rattle.chart_layout.specs.Orders.{ascending, descending};
 ghost use Rattle.continuation_compile.specs.Drafts.{procs_of};
 ghost use Rattle.continuation_compile.specs.Numberings.{chart_in, IsNumbering};
+ghost use Rattle.state_compile.specs.Keyed.{keys_of};
 
+use crate::groups::append_group;
 use crate::processes::append_process;
 use checked_chart::{BlockKind, ListKind};
 use continuation_compile::{Draft, Lasting, Numbering, append_block, append_list, append_parts};
 use flow_base::Memory;
 use std::alloc::Global;
+
+/// The procedures that are appended together for one state.
+#[derive(Clone, Copy, Debug, PartialEq, Eq)]
+pub(crate) enum StateKeys {
+    /// Those of its actions.
+    Actions,
+    /// Those of the parts of its transitions.
+    Parts,
+    /// Those that firings take in it.
+    Group,
+    /// Those of its outer and of its inner list.
+    Lists,
+    /// The one by which it is processed.
+    Process,
+}
 
 /// Appends the procedures of the actions of a state.
 fn append_actions_of(
@@ -30,22 +48,6 @@ fn append_actions_of(
     append_block(alloc, draft, numbering, Lasting::On, during)?;
     let exit = numbering.chart.block(state, BlockKind::Exit);
     append_block(alloc, draft, numbering, Lasting::Bare, exit)
-}
-
-/// Appends the procedures of the actions of all states.
-pub(crate) fn append_actions(
-    alloc: Global,
-    draft: &mut Draft,
-    numbering: &Numbering<'_>,
-) -> Result<(), Memory>
-    requires numbers { IsNumbering numbering.now }
-    ensures { OnOk result (procs_of draft.new ≡ procs_of draft.old
-        ++ map (body (chart_in numbering.now)) (keys.all_actions (chart_in numbering.now))) }
-{
-    for state in 0..numbering.states() {
-        append_actions_of(alloc, draft, numbering, state)?;
-    }
-    Ok(())
 }
 
 /// Appends the procedures of the parts of the transitions of a state.
@@ -70,39 +72,6 @@ fn append_parts_of_state(
     append_parts(alloc, draft, numbering, default)
 }
 
-/// Appends the procedures of the parts of the transitions of all states.
-pub(crate) fn append_state_parts(
-    alloc: Global,
-    draft: &mut Draft,
-    numbering: &Numbering<'_>,
-) -> Result<(), Memory>
-    requires numbers { IsNumbering numbering.now }
-    ensures { OnOk result (procs_of draft.new ≡ procs_of draft.old
-        ++ map (body (chart_in numbering.now)) (keys.all_state_parts (chart_in numbering.now))) }
-{
-    for state in 0..numbering.states() {
-        append_parts_of_state(alloc, draft, numbering, state)?;
-    }
-    Ok(())
-}
-
-/// Appends the procedures of the parts of the transitions of all junctions.
-pub(crate) fn append_junction_parts(
-    alloc: Global,
-    draft: &mut Draft,
-    numbering: &Numbering<'_>,
-) -> Result<(), Memory>
-    requires numbers { IsNumbering numbering.now }
-    ensures { OnOk result (procs_of draft.new ≡ procs_of draft.old
-        ++ map (body (chart_in numbering.now)) (keys.all_junction_parts (chart_in numbering.now))) }
-{
-    for junction in 0..numbering.chart.junctions() {
-        let list = numbering.chart.junction(junction);
-        append_parts(alloc, draft, numbering, list)?;
-    }
-    Ok(())
-}
-
 /// Appends the procedures of the outer and of the inner list of a state.
 #[tactic(auto, unfolding(chart_layout::specs::Keys::lists_keys))]
 fn append_lists_of(
@@ -120,34 +89,77 @@ fn append_lists_of(
     append_list(alloc, draft, numbering, state, ListKind::Inner)
 }
 
-/// Appends the procedures of the outer and inner lists of all states, the last state first.
-pub(crate) fn append_lists(
+/// Appends the procedures of this kind of a state.
+fn append_keys(
     alloc: Global,
     draft: &mut Draft,
     numbering: &Numbering<'_>,
+    kind: StateKeys,
+    state: u32,
+) -> Result<(), Memory>
+    requires numbers { IsNumbering numbering.now }
+    requires state { state < state_count (chart_in numbering.now).tree }
+    ensures { OnOk result (procs_of draft.new ≡ procs_of draft.old
+        ++ map (body (chart_in numbering.now)) (keys_of (chart_in numbering.now) kind state)) }
+{
+    match kind {
+        StateKeys::Actions => append_actions_of(alloc, draft, numbering, state),
+        StateKeys::Parts => append_parts_of_state(alloc, draft, numbering, state),
+        StateKeys::Group => append_group(alloc, draft, numbering, state),
+        StateKeys::Lists => append_lists_of(alloc, draft, numbering, state),
+        StateKeys::Process => append_process(alloc, draft, numbering, state),
+    }
+}
+
+/// Appends the procedures of this kind of all states, the first state first.
+pub(crate) fn append_ascending(
+    alloc: Global,
+    draft: &mut Draft,
+    numbering: &Numbering<'_>,
+    kind: StateKeys,
 ) -> Result<(), Memory>
     requires numbers { IsNumbering numbering.now }
     ensures { OnOk result (procs_of draft.new ≡ procs_of draft.old
-        ++ map (body (chart_in numbering.now)) (keys.all_lists (chart_in numbering.now))) }
+        ++ map (body (chart_in numbering.now)) (ascending (keys_of (chart_in numbering.now) kind)
+        (state_count (chart_in numbering.now).tree))) }
 {
-    for state in (0..numbering.states()).rev() {
-        append_lists_of(alloc, draft, numbering, state)?;
+    for state in 0..numbering.states() {
+        append_keys(alloc, draft, numbering, kind, state)?;
     }
     Ok(())
 }
 
-/// Appends the procedures by which all states are processed, the last state first.
-pub(crate) fn append_processes(
+/// Appends the procedures of this kind of all states, the last state first.
+pub(crate) fn append_descending(
+    alloc: Global,
+    draft: &mut Draft,
+    numbering: &Numbering<'_>,
+    kind: StateKeys,
+) -> Result<(), Memory>
+    requires numbers { IsNumbering numbering.now }
+    ensures { OnOk result (procs_of draft.new ≡ procs_of draft.old
+        ++ map (body (chart_in numbering.now)) (descending (keys_of (chart_in numbering.now) kind)
+        (state_count (chart_in numbering.now).tree))) }
+{
+    for state in (0..numbering.states()).rev() {
+        append_keys(alloc, draft, numbering, kind, state)?;
+    }
+    Ok(())
+}
+
+/// Appends the procedures of the parts of the transitions of all junctions.
+pub(crate) fn append_junction_parts(
     alloc: Global,
     draft: &mut Draft,
     numbering: &Numbering<'_>,
 ) -> Result<(), Memory>
     requires numbers { IsNumbering numbering.now }
     ensures { OnOk result (procs_of draft.new ≡ procs_of draft.old
-        ++ map (body (chart_in numbering.now)) (keys.all_processes (chart_in numbering.now))) }
+        ++ map (body (chart_in numbering.now)) (keys.all_junction_parts (chart_in numbering.now))) }
 {
-    for state in (0..numbering.states()).rev() {
-        append_process(alloc, draft, numbering, state)?;
+    for junction in 0..numbering.chart.junctions() {
+        let list = numbering.chart.junction(junction);
+        append_parts(alloc, draft, numbering, list)?;
     }
     Ok(())
 }

@@ -8,10 +8,7 @@ ghost use Rattle.chart_layout.specs.Bodies.{body};
 ghost use Rattle.continuation_compile.specs.Drafts.{procs_of};
 ghost use Rattle.continuation_compile.specs.Numberings.{chart_in, IsNumbering};
 
-use crate::groups::append_groups;
-use crate::regions::{
-    append_actions, append_junction_parts, append_lists, append_processes, append_state_parts,
-};
+use crate::regions::{StateKeys, append_ascending, append_descending, append_junction_parts};
 use code_language::Instr;
 use continuation_compile::{Draft, Numbering, append, put_return};
 use flow_base::{List, Memory};
@@ -39,8 +36,8 @@ fn append_actions_and_parts(
         ++ (keys.all_state_parts (chart_in numbering.now)
         ++ keys.all_junction_parts (chart_in numbering.now)))) }
 {
-    append_actions(alloc, draft, numbering)?;
-    append_state_parts(alloc, draft, numbering)?;
+    append_ascending(alloc, draft, numbering, StateKeys::Actions)?;
+    append_ascending(alloc, draft, numbering, StateKeys::Parts)?;
     append_junction_parts(alloc, draft, numbering)?;
     Ok(())
 }
@@ -59,9 +56,9 @@ fn append_reactions(
         ++ (keys.all_lists (chart_in numbering.now)
         ++ keys.all_processes (chart_in numbering.now)))) }
 {
-    append_groups(alloc, draft, numbering)?;
-    append_lists(alloc, draft, numbering)?;
-    append_processes(alloc, draft, numbering)?;
+    append_descending(alloc, draft, numbering, StateKeys::Group)?;
+    append_descending(alloc, draft, numbering, StateKeys::Lists)?;
+    append_descending(alloc, draft, numbering, StateKeys::Process)?;
     Ok(())
 }
 

@@ -11,7 +11,7 @@ returns c =
     let chart = chart_in c.args.numbering.now in
     let b = body chart in
     both b (all_actions chart) (all_state_parts chart ++ all_junction_parts chart) (procs_of c.args.draft.now)
-    (procs_of c.append_actions.new.draft) _ c.in_ok-append_actions.ensures
+    (procs_of c.append_ascending.new.draft) _ c.in_ok-append_ascending.ensures
     (both b (all_state_parts chart) (all_junction_parts chart)
-    (procs_of c.append_actions.new.draft) (procs_of c.append_state_parts.new.draft) _
-    c.in_ok-append_state_parts.ensures c.in_ok-append_junction_parts.ensures)
+    (procs_of c.append_ascending.new.draft) (procs_of c.append_ascending-2.new.draft) _
+    c.in_ok-append_ascending-2.ensures c.in_ok-append_junction_parts.ensures)

@@ -11,7 +11,7 @@ returns c =
     let chart = chart_in c.args.numbering.now in
     let b = body chart in
     both b (all_groups chart) (all_lists chart ++ all_processes chart) (procs_of c.args.draft.now)
-    (procs_of c.append_groups.new.draft) _ c.in_ok-append_groups.ensures
+    (procs_of c.append_descending.new.draft) _ c.in_ok-append_descending.ensures
     (both b (all_lists chart) (all_processes chart)
-    (procs_of c.append_groups.new.draft) (procs_of c.append_lists.new.draft) _
-    c.in_ok-append_lists.ensures c.in_ok-append_processes.ensures)
+    (procs_of c.append_descending.new.draft) (procs_of c.append_descending-2.new.draft) _
+    c.in_ok-append_descending-2.ensures c.in_ok-append_descending-3.ensures)

@@ -10,6 +10,7 @@ use Rattle.resolved_tree.specs.Resolved.{Junction, Resolved}
 use Rattle.resolved_tree.specs.Plain.{plain_block, plain_list, plain_node, chart_of}
 use Rattle.resolved_tree.specs.Promise.{KeepsPromise}
 use Rattle.chart_structure.specs.Charts.{net_of_chart}
+use Rattle.chart_structure.specs.Erased.{erased}
 use Rattle.chart_structure.specs.Net.{word_of}
 use Rattle.chart_structure.specs.Structure.{StructureFault, PairFault}
 use Rattle.chart_structure.specs.Valid as nets
@@ -31,11 +32,20 @@ module _ (r : Resolved) (res : KeepsPromise r) where
   unfolding net_of
   words_are v = v.words
 
+  -- a net without faults is valid
+  pub sound_net : ((f : Found) → StructureFault (net_of r) f → ⊥) → ((f : Found) → PairFault (net_of r) f → ⊥)
+      → nets.IsValid (net_of r)
+  sound_net = valid_where (net_of r) (is_net r res)
+
+  -- a valid net without its places is that of the chart
+  pub bare_net : nets.IsValid (net_of r) → erased (net_of r) ≡ net_of_chart (chart_of r)
+  bare_net v = net_same r res (words_are v)
+
   net_valid : ((f : Found) → StructureFault (net_of r) f → ⊥) → ((f : Found) → PairFault (net_of r) f → ⊥)
       → nets.IsValid (net_of_chart (chart_of r))
   net_valid sound few =
-      let v = valid_where (net_of r) (is_net r res) sound few in
-      subst nets.IsValid (net_same r res (words_are v)) (erased_valid (net_of r) v)
+      let v = sound_net sound few in
+      subst nets.IsValid (bare_net v) (erased_valid (net_of r) v)
 
   -- ---- the chart
 

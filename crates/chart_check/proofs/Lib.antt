@@ -1,7 +1,6 @@
 pub mod MapLemmas
 pub mod TreeLemmas
 pub mod ResolvedNetLemmas
-pub mod ChartNetLemmas
 pub mod ListLemmas
 pub mod LiteralLemmas
 pub mod SortLemmas
@@ -15,4 +14,5 @@ pub mod FaultlessLemmas
 pub mod ConverseLemmas
 pub mod FirstLemmas
 pub mod PartLemmas
+pub mod PairLemmas
 pub mod PassLemmas

@@ -1,11 +1,10 @@
 //! Checks a resolved chart: its types, its structure and the number of its pairs. What has no fault
-//! stands for a valid chart.
+//! stands for a valid chart, and its pairs are counted.
 //!
 //! Read `specs/Nets.antt`, the net of a resolved chart, and `specs/Check.antt`: which charts are
 //! accepted, and which fault of another one is the first.
 #![tactic(auto)]
 
-mod chart_net;
 mod expressions;
 mod fault_laws;
 mod inits;
@@ -15,7 +14,6 @@ mod resolved_net;
 mod trees;
 mod validity_laws;
 
-pub use chart_net::pair_count;
 pub use fault_laws::{a_chart_has_one_first_fault, a_chart_is_sound_or_has_a_first_fault};
-pub use pass::check;
+pub use pass::{Checked, check};
 pub use validity_laws::{faultless_charts_are_valid, valid_charts_have_no_faults};

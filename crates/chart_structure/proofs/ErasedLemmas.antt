@@ -138,7 +138,7 @@ module _ (n : Net) where
     sum = a.sum;
   }
 
-  below_back : (s count : ℕ) → PairsBelow (erased n) s count → PairsBelow n s count
+  pub below_back : (s count : ℕ) → PairsBelow (erased n) s count → PairsBelow n s count
   below_back zero count a = a
   below_back (suc s) count a = (a.0, a.1, state_back s a.0 a.2, below_back s a.1 a.3, a.4)
 

@@ -40,24 +40,30 @@ pub fn find_faults(alloc: Global, net: &Net) -> Result<Structure, AllocError>
     with_states(alloc, net, &mut marks)
 }
 
-/// The first fault of structure, or else that there are too many pairs, or else none.
+/// The first fault of structure, or else that there are too many pairs, or else none; and the
+/// number of pairs.
 ///
 /// Fails only where memory does.
-pub fn first_fault(alloc: Global, net: &Net) -> Result<Option<Found>, AllocError>
+pub fn first_fault(alloc: Global, net: &Net) -> Result<Structure, AllocError>
     requires { state_count net.now.tree < 2 ^ 30 }
-    ensures first { IfOk result (λ answer. IsAnswer net.now answer) }
-    ensures valid { IfOk result (λ answer. (answer ≡ None) ↔ IsValid net.now) }
+    ensures first { IfOk result (λ found. IsAnswer net.now found.fault) }
+    ensures valid { IfOk result (λ found. (found.fault ≡ None) ↔ IsValid net.now) }
+    ensures pairs { IfOk result (λ found. CountsPairs net.now found.pairs) }
 {
     // Only the proof reads the tree: it has a root.
     let _ = net.shape();
     let found = find_faults(alloc, net)?;
     if found.fault.is_none() && found.pairs > PAIR_LIMIT as u64 {
-        return Ok(Some(Found {
+        let fault = Found {
             kind: FormKind::TooManyPairs,
             at: net.name(0),
-        }));
+        };
+        return Ok(Structure {
+            fault: Some(fault),
+            pairs: found.pairs,
+        });
     }
-    Ok(found.fault)
+    Ok(found)
 }
 
 /// All states. No junction has a mark yet.

@@ -7,14 +7,13 @@ ghost use Rattle.checked_chart.specs.Kept.{chart_of};
 ghost use Rattle.commands.specs.Call.{sources_of, call_of, OthersStay};
 ghost use Rattle.commands.specs.Reading.{FileGives};
 ghost use Rattle.chart_tree.specs.declared.limits.TheConstants.{CHART_TEXT_LIMIT};
-ghost use Rattle.commands.specs.Check.{counts_line, IsCountsLine, HasCounts, CheckEnds};
+ghost use Rattle.commands.specs.Check.{counts_line, HasCounts, CheckEnds};
 ghost use Rattle.commands.specs.Accepted.{RefusesAccepted};
 
-use crate::accepted_file::read_accepted;
+use crate::accepted_file::read_checked;
 use crate::file::FileEnd;
 use crate::refusal::Refusal;
 use crate::text::{TextEnd, write_made};
-use chart_check::pair_count;
 use checked_chart::{Chart, ListKind};
 use flow_base::{Inputs, Memory, Sink};
 use std::alloc::Global;
@@ -44,19 +43,11 @@ fn read_counts<I: Inputs>(
     ensures { FileGives CHART_TEXT_LIMIT (λ text line. HasCounts text (string_bytes line))
         RefusesAccepted (sources_of I.Inputs inputs.old) (sources_of I.Inputs inputs.new) name.now result }
 {
-    let chart = read_accepted(alloc, inputs, name)?;
-    match counted(alloc, &chart) {
+    let checked = read_checked(alloc, inputs, name)?;
+    match counts_line(alloc, &checked.chart, checked.pairs) {
         Ok(line) => Ok(line),
         Err(Memory) => Err(FileEnd::Memory),
     }
-}
-
-/// The line of the counts of a chart.
-fn counted(alloc: Global, chart: &Chart) -> Result<String, Memory>
-    ensures { IfOk result (λ line. IsCountsLine (chart_of chart.now) (string_bytes line)) }
-{
-    let pairs = pair_count(alloc, chart)?;
-    counts_line(alloc, chart, pairs)
 }
 
 /// The line that `check` writes of a chart with so many pairs.

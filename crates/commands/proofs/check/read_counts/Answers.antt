@@ -6,23 +6,28 @@ use Rattle.commands.specs.Accepted.{RefusesAccepted}
 use Rattle.commands.proofs.check.read_counts.Goals as goal
 
 -- nothing comes of the file
-pub returns-in_err-chart : goal.returns-in_err-chart
-returns-in_err-chart g c =
+pub returns-in_err-checked : goal.returns-in_err-checked
+returns-in_err-checked g c =
     let p = err_from_is_err_and c.from_residual.result c.from_residual.ensures.1 in
-    rw (p.1, p.2) c.in_err-chart.ensures
+    rw (p.1, p.2) c.in_err-checked.ensures
 
 -- the chart is counted
 pub returns-in-Ok : goal.returns-in-Ok
 returns-in-Ok g c =
-    let given = c.in_ok-chart.ensures in
+    let given = c.in_ok-checked.ensures in
+    let checked = c.in_ok-checked.checked in
     record {
       text = given.text;
       read = given.read;
-      means = record { chart = chart_of c.in_ok-chart.chart; accepted = given.means; counts = c.in-Ok.ensures };
+      means = record {
+        chart = chart_of checked.chart;
+        accepted = given.means.accepted;
+        counts = record { pairs = checked.pairs; counted = given.means.pairs; line_is = c.in-Ok.ensures };
+      };
     }
 
 -- memory runs out
 pub returns : goal.returns
 returns g c =
-    let given = c.in_ok-chart.ensures in
-    ran_out_after CHART_TEXT_LIMIT RefusesAccepted _ _ c.args.name.now given.text given.read given.means.read.spells.short
+    let given = c.in_ok-checked.ensures in
+    ran_out_after CHART_TEXT_LIMIT RefusesAccepted _ _ c.args.name.now given.text given.read given.means.accepted.read.spells.short

@@ -4,7 +4,7 @@ use Rattle.resolved_tree.specs.Views.{resolved_of}
 use Rattle.chart_format.proofs.Formatted.{spelled_has}
 use Rattle.accepted_charts.proofs.PromiseLemmas.{is_small_text}
 use Rattle.accepted_charts.proofs.AcceptLemmas.{promised, of_names, refused}
-use Rattle.accepted_charts.proofs.accept_chart.Goals as goal
+use Rattle.accepted_charts.proofs.check_text.Goals as goal
 
 pub resolve-requires-clause-states : goal.resolve-requires-clause-states
 resolve-requires-clause-states c =

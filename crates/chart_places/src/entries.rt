@@ -6,7 +6,7 @@ ghost use Rattle.chart_places.specs.Tables as spec;
 
 use crate::junctions::OwnedJunction;
 use crate::states::PlacedState;
-use crate::table::{Entry, NameTable};
+use crate::table::{DeclaredNames, Entry};
 use chart_tree::{EventText, NameText, VarText};
 use flow_base::Memory;
 use std::alloc::Global;
@@ -28,14 +28,14 @@ fn push<'a>(
 
 /// The names of states, each in its parent.
 #[tactic(auto, using(crate::proofs::SurveyLemmas::named))]
-pub fn of_states<'a>(alloc: Global, states: &[PlacedState<'a>]) -> Result<NameTable<'a>, Memory>
+pub fn of_states<'a>(alloc: Global, states: &[PlacedState<'a>]) -> Result<DeclaredNames<'a>, Memory>
     ensures { IfOk result (λ t. t ≡ map spec.state_name (map placed_of states.now)) }
 {
     let mut names = Vec::new(alloc);
     for place in states {
         push(&mut names, place.parent, &place.state.name)?;
     }
-    let table = NameTable::make(alloc, names)?;
+    let table = DeclaredNames::make(alloc, names)?;
     Ok(table)
 }
 
@@ -43,37 +43,37 @@ pub fn of_states<'a>(alloc: Global, states: &[PlacedState<'a>]) -> Result<NameTa
 pub fn of_junctions<'a>(
     alloc: Global,
     junctions: &[OwnedJunction<'a>],
-) -> Result<NameTable<'a>, Memory>
+) -> Result<DeclaredNames<'a>, Memory>
     ensures { IfOk result (λ t. t ≡ map spec.junction_name (map owned_of junctions.now)) }
 {
     let mut names = Vec::new(alloc);
     for owned in junctions {
         push(&mut names, Some(owned.owner), &owned.junction.name)?;
     }
-    let table = NameTable::make(alloc, names)?;
+    let table = DeclaredNames::make(alloc, names)?;
     Ok(table)
 }
 
 /// The names of events.
-pub fn of_events(alloc: Global, events: &[EventText]) -> Result<NameTable<'_>, Memory>
+pub fn of_events(alloc: Global, events: &[EventText]) -> Result<DeclaredNames<'_>, Memory>
     ensures { IfOk result (λ t. t ≡ map spec.event_name events.now) }
 {
     let mut names = Vec::new(alloc);
     for event in events {
         push(&mut names, None, &event.name)?;
     }
-    let table = NameTable::make(alloc, names)?;
+    let table = DeclaredNames::make(alloc, names)?;
     Ok(table)
 }
 
 /// The names of data.
-pub fn of_vars(alloc: Global, vars: &[VarText]) -> Result<NameTable<'_>, Memory>
+pub fn of_vars(alloc: Global, vars: &[VarText]) -> Result<DeclaredNames<'_>, Memory>
     ensures { IfOk result (λ t. t ≡ map spec.var_name (map var_of vars.now)) }
 {
     let mut names = Vec::new(alloc);
     for var in vars {
         push(&mut names, None, &var.name)?;
     }
-    let table = NameTable::make(alloc, names)?;
+    let table = DeclaredNames::make(alloc, names)?;
     Ok(table)
 }

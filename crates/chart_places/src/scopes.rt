@@ -7,7 +7,7 @@ ghost use Rattle.chart_places.specs.Tables.{declared_in};
 use crate::entries;
 use crate::junctions::OwnedJunction;
 use crate::states::PlacedState;
-use crate::table::NameTable;
+use crate::table::DeclaredNames;
 use active_config::Shape;
 use chart_tree::{ChartText, NameText, PathText, Span};
 use flow_base::Memory;
@@ -32,10 +32,11 @@ pub fn is_earlier(a: Span, b: Span) -> bool
 
 /// The number of the first name with these bytes in a state, or in the lowest state above it that
 /// has one.
-fn nearest(shape: &Shape, names: &NameTable<'_>, state: u32, text: &str) -> Option<u32>
+fn nearest(shape: &Shape, names: &DeclaredNames<'_>, state: u32, text: &str) -> Option<u32>
     requires { state < state_count shape.now }
     ensures { result ≡ declared_in names.now text.now (state ∷ ancestors shape.now state) }
 {
+    // Only the proof reads the length: the parents of states are a tree.
     let _ = shape.len();
     let mut next = Some(state);
     while let Some(above) = next {
@@ -52,10 +53,10 @@ fn nearest(shape: &Shape, names: &NameTable<'_>, state: u32, text: &str) -> Opti
 #[derive(Drop)]
 pub struct Scopes<'a> {
     shape: Shape,
-    states: NameTable<'a>,
-    junctions: NameTable<'a>,
-    events: NameTable<'a>,
-    vars: NameTable<'a>,
+    states: DeclaredNames<'a>,
+    junctions: DeclaredNames<'a>,
+    events: DeclaredNames<'a>,
+    vars: DeclaredNames<'a>,
 }
 
 impl<'a> Model for Scopes<'a> {
@@ -72,7 +73,7 @@ impl<'a> Model for Scopes<'a> {
 impl<'a> Scopes<'a> {
     ghost use Rattle.std.specs.Prelude.{◌≡◌, ◌<◌, length, map, Some, IfSome, IfOk};
     ghost use Rattle.std.specs.Option.{option_map};
-    ghost use Rattle.active_config.specs.Tree.{state_count};
+    ghost use Rattle.active_config.specs.Tree.{state_count, parent_of};
     ghost use Rattle.chart_tree.specs.Views.{path_of, chart_of};
     ghost use Rattle.chart_places.specs.Placed.{placed_states, placed_tree, placed_junctions};
     ghost use Rattle.chart_places.specs.Survey.{placed_of, owned_of};
@@ -100,6 +101,22 @@ impl<'a> Scopes<'a> {
             events: entries::of_events(alloc, chart.events.items())?,
             vars: entries::of_vars(alloc, chart.vars.items())?,
         })
+    }
+
+    /// The state above a state, none above the root.
+    pub fn parent(&self, state: u32) -> Option<u32>
+        requires { state < state_count self.now.tree }
+        ensures parent { result ≡ parent_of self.now.tree state }
+        ensures before { IfSome result (λ parent. parent < state) }
+    {
+        self.shape.parent(state)
+    }
+
+    /// The tree of the states. The tables are dropped.
+    pub fn into_shape(self) -> Shape
+        ensures { result ≡ self.entry.tree }
+    {
+        self.shape
     }
 
     /// The child of a state that has the name.

@@ -37,14 +37,14 @@ fn number_names<'a>(
     Ok(numbers)
 }
 
-/// Names by number, of which each may be looked up by its bytes and its state.
+/// Declared names by number, of which each may be looked up by its bytes and its state.
 #[derive(Drop)]
-pub struct NameTable<'a> {
+pub struct DeclaredNames<'a> {
     names: Vec<Entry<'a>>,
     numbers: IndexMap<(Option<u32>, &'a str), u32>,
 }
 
-impl<'a> Model for NameTable<'a> {
+impl<'a> Model for DeclaredNames<'a> {
     ghost use Rattle.std.specs.Prelude.{◌≡◌, ◌<◌, ◌^◌, ℕ, List, Option, map, vec_len};
     ghost use Rattle.indexmap.specs.IndexMap.{get_by};
     ghost use Rattle.chart_places.specs.Tables as spec;
@@ -57,21 +57,21 @@ impl<'a> Model for NameTable<'a> {
         ≡ spec.declared_from 0 (map spec.declared_of t.names.items) owner text };
 }
 
-impl<'a> NameTable<'a> {
+impl<'a> DeclaredNames<'a> {
     ghost use Rattle.std.specs.Prelude.{◌≡◌, ◌<◌, ◌^◌, vec_len, length, map, IfOk};
     ghost use Rattle.chart_places.specs.Scopes.{place_of};
     ghost use Rattle.chart_places.specs.Tables as spec;
 
     /// The table of names, which have their indices for numbers. On an error the names are dropped.
     /// 2^32 names or more count as out of memory.
-    pub fn make(alloc: Global, names: Vec<Entry<'a>>) -> Result<NameTable<'a>, Memory>
+    pub fn make(alloc: Global, names: Vec<Entry<'a>>) -> Result<DeclaredNames<'a>, Memory>
         ensures { IfOk result (λ t. t ≡ map spec.declared_of names.entry.items) }
     {
         if names.len() > u32::MAX as usize {
             return Err(Memory);
         }
         match number_names(alloc, &names) {
-            Ok(numbers) => Ok(NameTable { names, numbers }),
+            Ok(numbers) => Ok(DeclaredNames { names, numbers }),
             Err(_) => Err(Memory),
         }
     }

@@ -14,7 +14,6 @@ ghost use Rattle.resolved_tree.specs.Faults.{first_with};
 ghost use Rattle.chart_scope.specs.Names as spec;
 
 use crate::references::note;
-use active_config::Shape;
 use chart_places::{Meaning, OwnedJunction, PlacedState, Scopes};
 use chart_tree::{EventText, FormKind, Found, NameText, VarText};
 
@@ -88,19 +87,12 @@ pub(crate) fn with_vars(scopes: &Scopes<'_>, vars: &[VarText], found: &mut Optio
 
 /// Keeps the fault of a state whose name an earlier child of its parent has.
 #[tactic(auto, using(crate::proofs::FoundLemmas::found_steps))]
-fn with_state(
-    scopes: &Scopes<'_>,
-    shape: &Shape,
-    state: u32,
-    name: &NameText,
-    found: &mut Option<Found>,
-)
-    requires tree { shape.now ≡ scopes.now.tree }
-    requires state { state < state_count shape.now }
+fn with_state(scopes: &Scopes<'_>, state: u32, name: &NameText, found: &mut Option<Found>)
+    requires { state < state_count scopes.now.tree }
     ensures { found.new ≡ first_with found.old
-        (spec.doubled_state scopes.now state (parent_of shape.now state) name.now) }
+        (spec.doubled_state scopes.now state (parent_of scopes.now.tree state) name.now) }
 {
-    match shape.parent(state) {
+    match scopes.parent(state) {
         None => {}
         Some(parent) => {
             let own = is_number(state, scopes.child_named(parent, name));
@@ -113,19 +105,17 @@ fn with_state(
 #[tactic(auto, using(crate::proofs::StateViews::seen))]
 pub(crate) fn with_states(
     scopes: &Scopes<'_>,
-    shape: &Shape,
     states: &[PlacedState<'_>],
     found: &mut Option<Found>,
 )
-    requires tree { shape.now ≡ scopes.now.tree }
     requires few { length states.now < 2 ^ 32 }
-    requires all { length states.now ≡ state_count shape.now }
+    requires all { length states.now ≡ state_count scopes.now.tree }
     ensures { found.new ≡ first_with found.old
         (spec.doubled_states scopes.now 0
         (map (λ (x : Placed). x.parts.name) (map placed_of states.now))) }
 {
     for (number, placed) in states.iter().enumerate() {
-        with_state(scopes, shape, number as u32, &placed.state.name, found);
+        with_state(scopes, number as u32, &placed.state.name, found);
     }
 }
 

@@ -3,7 +3,7 @@ ghost use Rattle.std.specs.Prelude.{◌≡◌, ◌<◌, ◌^◌, length, map, If
 ghost use Rattle.flow_base.specs.Lists.{items_of};
 ghost use Rattle.actions.specs.Names.{names_of};
 ghost use Rattle.chart_tree.specs.Views.{chart_of};
-ghost use Rattle.chart_places.specs.Placed.{Placed, placed_states, placed_junctions, placed_tree};
+ghost use Rattle.chart_places.specs.Placed.{Placed, placed_states, placed_junctions};
 ghost use Rattle.chart_places.specs.Scopes.{scopes_of};
 ghost use Rattle.chart_places.specs.Survey.{placed_of, owned_of};
 ghost use Rattle.resolved_tree.specs.Faults.{first_with, first_of};
@@ -14,7 +14,6 @@ ghost use Rattle.chart_scope.specs.Resolution.{AreVarsOf, IsResolved, event_decl
 use crate::doubled::{with_events, with_junctions, with_states, with_vars};
 use crate::{declarations, states};
 use actions::Names;
-use active_config::Shape;
 use chart_places::{OwnedJunction, PlacedState, Scopes, junctions_of, shape_of, survey};
 use chart_tree::{ChartText, FormFault, Found};
 use flow_base::Memory;
@@ -36,17 +35,16 @@ fn names(alloc: Global, chart: &ChartText, states: &[PlacedState<'_>]) -> Result
     })
 }
 
-/// The resolved chart of a chart text, given its states and junctions and the scopes of its names.
+/// The resolved chart of a chart text, given its states and junctions and the scopes of its names,
+/// whose tree it takes.
 fn resolve_in(
     alloc: Global,
-    scopes: &Scopes<'_>,
-    shape: Shape,
+    scopes: Scopes<'_>,
     chart: &ChartText,
     states: &[PlacedState<'_>],
     junctions: &[OwnedJunction<'_>],
 ) -> Result<Resolved, FormFault>
-    requires scopes { scopes.now ≡ scopes_of (chart_of chart.now) }
-    requires tree { shape ≡ placed_tree (placed_states (chart_of chart.now).root) }
+    requires scopes { scopes ≡ scopes_of (chart_of chart.now) }
     requires states { map placed_of states.now ≡ placed_states (chart_of chart.now).root }
     requires junctions { map owned_of junctions.now
         ≡ placed_junctions (placed_states (chart_of chart.now).root) }
@@ -58,16 +56,16 @@ fn resolve_in(
     ensures refused { IfErr result (Refuses (chart_of chart.now)) }
 {
     let mut found: Option<Found> = None;
-    with_events(scopes, chart.events.items(), &mut found);
-    with_vars(scopes, chart.vars.items(), &mut found);
-    with_states(scopes, &shape, states, &mut found);
-    with_junctions(scopes, junctions, &mut found);
-    let built_states = states::states(alloc, scopes, states, &mut found)?;
-    let built_junctions = states::junctions(alloc, scopes, junctions, &mut found)?;
+    with_events(&scopes, chart.events.items(), &mut found);
+    with_vars(&scopes, chart.vars.items(), &mut found);
+    with_states(&scopes, states, &mut found);
+    with_junctions(&scopes, junctions, &mut found);
+    let built_states = states::states(alloc, &scopes, states, &mut found)?;
+    let built_junctions = states::junctions(alloc, &scopes, junctions, &mut found)?;
     match found {
         Some(fault) => Err(FormFault::At(fault.kind, fault.at)),
         None => Ok(Resolved {
-            shape,
+            shape: scopes.into_shape(),
             names: names(alloc, chart, states)?,
             inits: declarations::inits(alloc, chart.vars.items())?,
             states: built_states,
@@ -110,13 +108,10 @@ fn resolve_placed(
     ensures resolved { IfOk result (λ r. IsResolved (chart_of chart.now) (resolved_of r)) }
     ensures refused { IfErr result (Refuses (chart_of chart.now)) }
 {
-    let Ok(shape) = shape_of(alloc, states) else {
-        return Err(FormFault::Memory);
-    };
     let Ok(scopes) = scopes_in(alloc, chart, states, junctions) else {
         return Err(FormFault::Memory);
     };
-    resolve_in(alloc, &scopes, shape, chart, states, junctions)
+    resolve_in(alloc, scopes, chart, states, junctions)
 }
 
 /// The resolved chart of a chart text, or the first fault of its names, by place, and at one place

@@ -5,7 +5,7 @@ use Rattle.std.proofs.lemmas.Option.{slice_get-map, slice_get_read}
 use Rattle.chart_places.specs.Scopes.{place_of}
 use Rattle.chart_places.specs.Tables.{Declared, declared_of, names_in}
 use Rattle.chart_places.proofs.ScopeLemmas.{place-seen}
-use Rattle.chart_places.proofs.table.NameTable.place.Goals as goal
+use Rattle.chart_places.proofs.table.DeclaredNames.place.Goals as goal
 
 pub returns : goal.returns
 returns c =

@@ -1,5 +1,4 @@
 pub mod MapLemmas
-pub mod TreeLemmas
 pub mod ResolvedNetLemmas
 pub mod ListLemmas
 pub mod LiteralLemmas

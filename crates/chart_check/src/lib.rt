@@ -11,7 +11,6 @@ mod inits;
 mod parts;
 mod pass;
 mod resolved_net;
-mod trees;
 mod validity_laws;
 
 pub use fault_laws::{a_chart_has_one_first_fault, a_chart_is_sound_or_has_a_first_fault};

@@ -7,7 +7,6 @@ ghost use Rattle.resolved_tree.specs.Promise.{KeepsPromise};
 ghost use Rattle.resolved_tree.specs.Views.{trans_of, list_of, state_of, junction_of, resolved_of};
 ghost use Rattle.chart_check.specs.Nets as spec;
 
-use crate::trees::copy_shape;
 use chart_structure::{Arrow, JunctionNode, Net, Node};
 use checked_chart::Dest;
 use flow_base::{List, Memory};
@@ -107,21 +106,21 @@ fn junction_nodes(
     Ok(nodes)
 }
 
-/// The net of a resolved chart, which has a tree of its own.
-fn build(alloc: Global, resolved: &Resolved) -> Result<Net, AllocError>
+/// The net of a resolved chart, over its tree.
+fn build(alloc: Global, resolved: &Resolved) -> Result<Net<'_>, AllocError>
     requires { KeepsPromise (resolved_of resolved.now) }
     ensures { IfOk result (λ n. n ≡ spec.net_of (resolved_of resolved.now)) }
 {
-    let shape = copy_shape(alloc, &resolved.shape)?;
     let nodes = nodes(alloc, resolved.states.items())?;
     let junctions = junction_nodes(alloc, resolved.junctions.items())?;
-    Ok(Net::make(shape, nodes, junctions))
+    Ok(Net::make(&resolved.shape, nodes, junctions))
 }
 
-/// The net of a resolved chart. It takes memory for the net, which has a tree of its own.
+/// The net of a resolved chart, over its tree. It takes memory for what the net has of states and
+/// junctions.
 ///
 /// Fails only where memory does.
-pub fn net_of(alloc: Global, resolved: &Resolved) -> Result<Net, Memory>
+pub fn net_of(alloc: Global, resolved: &Resolved) -> Result<Net<'_>, Memory>
     requires { KeepsPromise (resolved_of resolved.now) }
     ensures { IfOk result (λ n. n ≡ spec.net_of (resolved_of resolved.now)) }
 {

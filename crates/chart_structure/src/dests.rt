@@ -50,7 +50,7 @@ fn crossing(word: Comp) -> Option<FormKind>
 }
 
 /// What is wrong with a state to which a list leads.
-fn dest_fault(net: &Net, state: u32, kind: ListKind, dest: u32) -> Option<FormKind>
+fn dest_fault(net: &Net<'_>, state: u32, kind: ListKind, dest: u32) -> Option<FormKind>
     requires state { state < state_count net.now.tree }
     requires dest { dest < state_count net.now.tree }
     ensures { result ≡ tests.dest_fault net.now state kind dest }
@@ -77,7 +77,7 @@ fn dest_fault(net: &Net, state: u32, kind: ListKind, dest: u32) -> Option<FormKi
 
 /// The first fault, with that of one destination.
 fn with_dest(
-    net: &Net,
+    net: &Net<'_>,
     state: u32,
     kind: ListKind,
     arrow: Arrow,
@@ -95,7 +95,7 @@ fn with_dest(
 
 /// The first fault, with those of the destinations of a list that is met.
 pub fn with_dests(
-    net: &Net,
+    net: &Net<'_>,
     state: u32,
     kind: ListKind,
     list: &[Arrow],

@@ -31,7 +31,7 @@ fn is_open(arrow: Arrow) -> bool
 }
 
 /// The first fault, with that of the last transition of a list that is met from a default list.
-fn with_last(net: &Net, state: u32, list: &[Arrow], first: Option<Found>) -> Option<Found>
+fn with_last(net: &Net<'_>, state: u32, list: &[Arrow], first: Option<Found>) -> Option<Found>
     requires state { state < state_count net.now.tree }
     requires met { Meets net.now (spec.list_of net.now state Default) list.now }
     requires one { IsOne (StructureFault net.now) first }
@@ -57,7 +57,7 @@ fn with_last(net: &Net, state: u32, list: &[Arrow], first: Option<Found>) -> Opt
 
 /// The first fault, with those of a list that is met.
 pub fn with_list(
-    net: &Net,
+    net: &Net<'_>,
     state: u32,
     kind: ListKind,
     list: &[Arrow],
@@ -81,7 +81,7 @@ pub fn with_list(
 
 /// The first fault, with those of a junction that is reached.
 fn with_junction(
-    net: &Net,
+    net: &Net<'_>,
     state: u32,
     kind: ListKind,
     junction: u32,
@@ -117,7 +117,7 @@ fn with_junction(
 
 /// The first fault, with those of the junctions that are reached.
 pub fn with_junctions(
-    net: &Net,
+    net: &Net<'_>,
     state: u32,
     kind: ListKind,
     found: &[u32],

@@ -43,28 +43,28 @@ pub struct JunctionNode {
     pub list: Vec<Arrow>,
 }
 
-/// The tree of states, a node for each state in pre-order, and the junctions. Contracts see it as
-/// `specs/Net.antt` says. No look-up takes memory.
+/// The tree of states, which stays where it is, a node for each state in pre-order, and the
+/// junctions. Contracts see it as `specs/Net.antt` says. No look-up takes memory.
 #[derive(Drop)]
-pub struct Net {
-    shape: Shape,
+pub struct Net<'a> {
+    shape: &'a Shape,
     nodes: Vec<Node>,
     junctions: Vec<JunctionNode>,
 }
 
-impl Model for Net {
+impl<'a> Model for Net<'a> {
     ghost use Rattle.std.specs.Prelude.{map};
     ghost use Rattle.chart_structure.specs.Net as spec;
     ghost use Rattle.chart_structure.specs.Views.{net_of};
 
     ghost Value = { spec.Net };
 
-    ghost view = { λ n. net_of n.shape n.nodes.items n.junctions.items };
+    ghost view = { λ n. net_of n.shape.now n.nodes.items n.junctions.items };
 
-    ghost invariant = { λ n. spec.IsNet (net_of n.shape n.nodes.items n.junctions.items) };
+    ghost invariant = { λ n. spec.IsNet (net_of n.shape.now n.nodes.items n.junctions.items) };
 }
 
-impl Net {
+impl<'a> Net<'a> {
     ghost use Rattle.std.specs.Prelude.{◌≡◌, ◌<◌, length, map};
     ghost use Rattle.active_config.specs.Tree.{state_count, IsTree};
     ghost use Rattle.chart_structure.specs.declared.net.Arrow.{Arrow};
@@ -72,9 +72,9 @@ impl Net {
     ghost use Rattle.chart_structure.specs.Views.{net_of};
 
     /// The net of a tree, a node for each state and the junctions. It takes no memory.
-    pub fn make(shape: Shape, nodes: Vec<Node>, junctions: Vec<JunctionNode>) -> Net
-        requires { spec.IsNet (net_of shape nodes.items junctions.items) }
-        ensures { result ≡ net_of shape nodes.items junctions.items }
+    pub fn make(shape: &'a Shape, nodes: Vec<Node>, junctions: Vec<JunctionNode>) -> Net<'a>
+        requires { spec.IsNet (net_of shape.now nodes.items junctions.items) }
+        ensures { result ≡ net_of shape.now nodes.items junctions.items }
     {
         Net {
             shape,
@@ -89,7 +89,7 @@ impl Net {
         ensures valid { IsTree result.now }
         ensures net { spec.IsNet self.now }
     {
-        &self.shape
+        self.shape
     }
 
     /// The composition word of a state.

@@ -31,7 +31,7 @@ pub struct Structure {
 /// number for each junction, and its time grows with the pairs times the depth of the tree.
 ///
 /// Fails only where memory does.
-pub fn find_faults(alloc: Global, net: &Net) -> Result<Structure, AllocError>
+pub fn find_faults(alloc: Global, net: &Net<'_>) -> Result<Structure, AllocError>
     requires { state_count net.now.tree < 2 ^ 30 }
     ensures first { IfOk result (λ r. IsFirst (StructureFault net.now) r.fault) }
     ensures pairs { IfOk result (λ r. CountsPairs net.now r.pairs) }
@@ -44,7 +44,7 @@ pub fn find_faults(alloc: Global, net: &Net) -> Result<Structure, AllocError>
 /// number of pairs.
 ///
 /// Fails only where memory does.
-pub fn first_fault(alloc: Global, net: &Net) -> Result<Structure, AllocError>
+pub fn first_fault(alloc: Global, net: &Net<'_>) -> Result<Structure, AllocError>
     requires { state_count net.now.tree < 2 ^ 30 }
     ensures first { IfOk result (λ found. IsAnswer net.now found.fault) }
     ensures valid { IfOk result (λ found. (found.fault ≡ None) ↔ IsValid net.now) }
@@ -67,7 +67,7 @@ pub fn first_fault(alloc: Global, net: &Net) -> Result<Structure, AllocError>
 }
 
 /// All states. No junction has a mark yet.
-fn with_states(alloc: Global, net: &Net, marks: &mut [u32]) -> Result<Structure, AllocError>
+fn with_states(alloc: Global, net: &Net<'_>, marks: &mut [u32]) -> Result<Structure, AllocError>
     requires few { state_count net.now.tree < 2 ^ 30 }
     requires sized { length marks.old ≡ spec.junction_count net.now }
     requires fresh { (j : ℕ) → slice_index marks.old j ≡ 0 }
@@ -87,7 +87,7 @@ fn with_states(alloc: Global, net: &Net, marks: &mut [u32]) -> Result<Structure,
 /// One state more, with its three lists. Each list has a mark of its own.
 fn with_lists(
     alloc: Global,
-    net: &Net,
+    net: &Net<'_>,
     state: u32,
     marks: &mut [u32],
     before: Structure,
@@ -117,7 +117,7 @@ fn with_lists(
 /// One list more. No junction has the mark yet.
 fn with_kind(
     alloc: Global,
-    net: &Net,
+    net: &Net<'_>,
     state: u32,
     kind: ListKind,
     mark: u32,

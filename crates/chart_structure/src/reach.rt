@@ -23,7 +23,7 @@ pub struct Reach {
 /// list and in them. No junction has the mark yet. Fails only where memory does.
 pub fn reached_from(
     alloc: Global,
-    net: &Net,
+    net: &Net<'_>,
     list: &[Arrow],
     mark: u32,
     marks: &mut [u32],
@@ -48,7 +48,7 @@ pub fn reached_from(
 
 /// Marks the junctions that a list leads to. The answer is the number of transitions, with theirs.
 fn follow(
-    net: &Net,
+    net: &Net<'_>,
     list: &[Arrow],
     mark: u32,
     marks: &mut [u32],
@@ -77,7 +77,7 @@ fn follow(
 
 /// Marks a junction, where it isn't marked. The answer is the number of transitions, with its own.
 fn visit(
-    net: &Net,
+    net: &Net<'_>,
     junction: u32,
     mark: u32,
     marks: &mut [u32],

@@ -49,7 +49,7 @@ fn comp_fault(root: bool, word: Comp, childless: bool, listless: bool) -> Option
 }
 
 /// Whether a state has no children.
-fn is_childless(net: &Net, state: u32) -> bool
+fn is_childless(net: &Net<'_>, state: u32) -> bool
     requires state { state < state_count net.now.tree }
     ensures { IsTrue result ↔ (children_of net.now.tree state ≡ []) }
 {
@@ -64,7 +64,7 @@ fn is_root(state: u32) -> bool
 }
 
 /// The first fault, with that of the composition of a state.
-fn with_composition(net: &Net, state: u32, first: Option<Found>) -> Option<Found>
+fn with_composition(net: &Net<'_>, state: u32, first: Option<Found>) -> Option<Found>
     requires state { state < state_count net.now.tree }
     requires one { IsOne (StructureFault net.now) first }
     ensures one { IsOne (StructureFault net.now) result }
@@ -82,7 +82,7 @@ fn with_composition(net: &Net, state: u32, first: Option<Found>) -> Option<Found
 }
 
 /// The first fault, with that of a default list in an AND or a leaf.
-fn with_unwanted(net: &Net, state: u32, first: Option<Found>) -> Option<Found>
+fn with_unwanted(net: &Net<'_>, state: u32, first: Option<Found>) -> Option<Found>
     requires state { state < state_count net.now.tree }
     requires one { IsOne (StructureFault net.now) first }
     ensures one { IsOne (StructureFault net.now) result }
@@ -106,7 +106,7 @@ fn with_unwanted(net: &Net, state: u32, first: Option<Found>) -> Option<Found>
 }
 
 /// The first fault, with that of history in an AND or a leaf.
-fn with_history(net: &Net, state: u32, first: Option<Found>) -> Option<Found>
+fn with_history(net: &Net<'_>, state: u32, first: Option<Found>) -> Option<Found>
     requires state { state < state_count net.now.tree }
     requires one { IsOne (StructureFault net.now) first }
     ensures one { IsOne (StructureFault net.now) result }
@@ -129,7 +129,7 @@ fn with_history(net: &Net, state: u32, first: Option<Found>) -> Option<Found>
 }
 
 /// The first fault, with those of a state.
-pub fn with_state(net: &Net, state: u32, first: Option<Found>) -> Option<Found>
+pub fn with_state(net: &Net<'_>, state: u32, first: Option<Found>) -> Option<Found>
     requires state { state < state_count net.now.tree }
     requires one { IsOne (StructureFault net.now) first }
     ensures one { IsOne (StructureFault net.now) result }

@@ -1,4 +1,4 @@
-use Rattle.std.proofs.Common.{sym, ◌∙◌, subst}
+use Rattle.std.proofs.Common.{refl, sym, ◌∙◌, subst}
 use Rattle.chart_structure.specs.Net.{IsNet}
 use Rattle.resolved_tree.specs.Views.{resolved_of}
 use Rattle.chart_check.specs.Nets as spec
@@ -10,7 +10,7 @@ unfolding spec.net_of
 make-requires c =
     subst IsNet
     (sym (net_made (spec.net_of (resolved_of c.args.resolved.now)) _ _ _
-    c.in_ok-shape.ensures (cc c.in_ok-nodes.ensures) (cc c.in_ok-junctions.ensures)))
+    refl (cc c.in_ok-nodes.ensures) (cc c.in_ok-junctions.ensures)))
     (is_net (resolved_of c.args.resolved.now) c.requires)
 
 pub returns : goal.returns
@@ -18,4 +18,4 @@ unfolding spec.net_of
 returns c =
     c.make.ensures
     ∙ net_made (spec.net_of (resolved_of c.args.resolved.now)) _ _ _
-    c.in_ok-shape.ensures (cc c.in_ok-nodes.ensures) (cc c.in_ok-junctions.ensures)
+    refl (cc c.in_ok-nodes.ensures) (cc c.in_ok-junctions.ensures)

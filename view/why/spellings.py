@@ -85,6 +85,7 @@ IN_EXPRESSION = [
     (r'[<>]=?[^\[{(&|;]*$|[!=]=[^\[{(&|;]*$', r'([<>]=?|[!=]=)', 'comparisons don\'t follow one another: write '
      '`a {0} b && b {0} c`, or parentheses round the first'),
     (NAME + r'\s*$', r"'|\.'", 'there are no vectors'),
+    (r'\b(\d+)\s*$', r',\s*(\d+)', 'a number has a point: write `{0}.{1}`'),
     (r'\d\s*$', r'\.(?!\d)', 'digits stand on both sides of a point: leave the point out, or write .0'),
     (r'', r'\.(\d+)', 'digits stand on both sides of a point: write `0.{0}`'),
     (NAME + r'\s*$', r'\[', 'there are no arrays: declare a datum for each element'),

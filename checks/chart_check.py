@@ -78,7 +78,7 @@ from fractions import Fraction
 from math import floor
 
 import chart_syntax as syntax
-from chart_syntax import WITH_HISTORY, Fault, answer_table, read_chart
+from chart_syntax import WITH_HISTORY, Fault, answer_rows, read_chart
 
 MOST_PAIRS = 32768
 MOST_SIZE = 100
@@ -547,4 +547,4 @@ def counts_text(chart):
 
 
 if __name__ == '__main__':
-    answer_table(lambda text, language: counts_text(check_chart(text, language)))
+    answer_rows(lambda text, language: counts_text(check_chart(text, language)))

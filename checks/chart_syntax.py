@@ -683,9 +683,9 @@ def line_of(text):
     return ''.join(known.get(byte) or (byte if ' ' <= byte <= '~' else '\\x%02x' % ord(byte)) for byte in text)
 
 
-def answer_table(answer):
-    """Writes a line for each row of a table on standard input, which has chart texts: the answer to a text in a form of the language,
-    the refusal where that ends with a fault, or `not a text`."""
+def answer_rows(answer):
+    """Writes a line for each row of a table of chart texts on standard input: the answer to the text in the form of the language
+    that the words of the script mean, the refusal where it has a fault, or `not a text`."""
     language = WITHOUT_HISTORY if '--without-history' in sys.argv[1:] else WITH_HISTORY
     for line in tables.rows(sys.stdin.buffer):
         try:

@@ -8,7 +8,7 @@ answer is one line: the canonical text with each end of a line written as `\n`, 
 text` is answered where a backslash begins none of these.
 
 With the word `--without-history` the older form of the language is meant."""
-from chart_syntax import answer_table, canonical_text, read_chart
+from chart_syntax import answer_rows, canonical_text, read_chart
 
 
 def answer(text, language):
@@ -16,4 +16,4 @@ def answer(text, language):
 
 
 if __name__ == '__main__':
-    answer_table(answer)
+    answer_rows(answer)

@@ -4,8 +4,8 @@ ghost use Rattle.event_file.specs.Faults as spec;
 
 use thiserror::Error;
 
-/// Why a line of an event file is refused: `LineTooLong` before all others, and then the first
-/// fault by tokens from the left, at one token in this order.
+/// Why a line of an event file or of a schedule is refused: `LineTooLong` before all others, then
+/// `BadStep`, and then the first fault by tokens from the left, at one token in this order.
 #[derive(Clone, Copy, Debug, PartialEq, Eq, Error)]
 pub enum LineFault {
     /// The line has over `LINE_LIMIT` bytes before its newline.
@@ -26,10 +26,14 @@ pub enum LineFault {
     /// What comes after the first `=` isn't a value of the input's type.
     #[error("no value of the input's type")]
     BadValue,
+    /// The line of a schedule is no step. An event file never has this fault.
+    #[error("no step")]
+    BadStep,
 }
 
 impl LineFault {
-    /// The number that stands before the name in a refusal: 1 to 6, in the order of the variants.
+    /// The number that stands before the name in a refusal: 1 to 6 in the order of the variants, and
+    /// 8 for `BadStep`.
     pub fn number(self) -> u8
         ensures { result ≡ spec.line_fault_number self }
     {
@@ -40,6 +44,7 @@ impl LineFault {
             LineFault::UnknownInput => 4,
             LineFault::InputTwice => 5,
             LineFault::BadValue => 6,
+            LineFault::BadStep => 8,
         }
     }
 
@@ -54,6 +59,7 @@ impl LineFault {
             LineFault::UnknownInput => "UnknownInput",
             LineFault::InputTwice => "InputTwice",
             LineFault::BadValue => "BadValue",
+            LineFault::BadStep => "BadStep",
         }
     }
 }

@@ -1,4 +1,5 @@
-//! Event files: their lines, and the event and the values of inputs that a line gives.
+//! Event files: their lines, and the event and the values of inputs that a line gives. Other files
+//! of steps have the same lines, limits and tokens.
 //!
 //! Read `specs/Lines.antt`, `specs/EventLines.antt` and `specs/EventFile.antt` first.
 #![tactic(auto)]
@@ -19,3 +20,4 @@ pub use fault::LineFault;
 pub use input_vals::InputVals;
 pub use limits::{BUFFER_SIZE, EVENT_LIMIT, FILE_LIMIT, LINE_LIMIT};
 pub use line_reader::{LineEnd, LineReader};
+pub use tokens::{TokenCut, next_token};

@@ -5,15 +5,18 @@ ghost use Rattle.event_file.specs.EventLines.{is_blank, tokens_of};
 
 /// A text cut after its first token.
 #[derive(Clone, Copy, Debug)]
-pub(crate) struct TokenCut<'a> {
+pub struct TokenCut<'a> {
     /// The first token, which isn't empty.
     pub token: &'a [u8],
     /// What comes after it.
     pub rest: &'a [u8],
 }
 
-/// Cuts a text after its first token. None where it has no token.
-pub(crate) fn next_token(text: &[u8]) -> Option<TokenCut<'_>>
+/// Cuts a text after its first token. None where it has no token. Tokens are what stands between
+/// spaces and tabs. It takes no memory.
+///
+/// This project's choice.
+pub fn next_token(text: &[u8]) -> Option<TokenCut<'_>>
     ensures tokens { MatchOption result (tokens_of text.now ≡ [])
         (λ cut. tokens_of text.now ≡ cut.token.now ∷ tokens_of cut.rest.now) }
     ensures some { IfSome result (λ cut. 0 < length cut.token.now) }

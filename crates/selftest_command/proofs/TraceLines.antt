@@ -31,7 +31,7 @@ use Rattle.checked_chart.specs.Valid.{HasNames}
 use Rattle.event_file.specs.Lines.{IsPlain}
 use Rattle.trace_text.specs.Trace.{state_name, datum_name, event_name, event_word, path_of, active_states, value_text}
 use Rattle.trace_text.specs.Trace.{value_texts, listed}
-use Rattle.trace_text.specs.Trace.{result_word, line_of, trace_line}
+use Rattle.trace_text.specs.Trace.{result_word, line_front, line_of, trace_line}
 use Rattle.step_driver.specs.Traces.{trace, trace_from}
 use Rattle.selftest_command.specs.Newlines.{newlines}
 
@@ -227,7 +227,7 @@ newlines_none (b ∷ a) h =
 -- a line has one newline
 line_one : (t : Tree) (n : Names) (w : World) (index : ℕ) (e : Event) (f : Option Fault) → AreNames n
     → newlines (trace_line t n w index e f) ≡ 1
-unfolding line_of
+unfolding line_front line_of
 line_one t n w index e f h =
     let states = join_with_byte 44 (map (path_of t n) (active_states t w.marks)) in
     let vals = listed (value_texts n.vars w.vals) in

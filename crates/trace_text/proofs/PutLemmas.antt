@@ -16,8 +16,15 @@ pub puts_same : (b0 b1 : Option (List ℕ)) (f0 f1 : ℕ) (h0 h1 : Held) (text o
 puts_same b0 b1 f0 f1 h0 h1 text other p is = λ w f all h.
     subst (λ (z : List ℕ). Written w b1 f f1 (all ++ z) h1) (sym is) (p w f all h)
 
--- the parts of a trace line, put one after the other, make the line
-pub line_parts : (all index word states vals outputs result : List ℕ)
-    → ((((((((all ++ (index ++ codes " " ++ word)) ++ codes " [") ++ states) ++ codes "] ") ++ vals) ++ 32 ∷ []) ++ outputs) ++ 32 ∷ []) ++ (result ++ codes "\n")
-    ≡ all ++ (index ++ codes " " ++ word ++ codes " [" ++ states ++ codes "] " ++ vals ++ codes " " ++ outputs ++ codes " " ++ result ++ codes "\n")
-line_parts all index word states vals outputs result = simp append_assoc
+-- the parts of a trace line up to its result, put one after the other, make that front
+pub front_parts : (all index word states vals outputs : List ℕ)
+    → (((((((all ++ (index ++ codes " " ++ word)) ++ codes " [") ++ states) ++ codes "] ") ++ vals) ++ 32 ∷ []) ++ outputs) ++ 32 ∷ []
+    ≡ all ++ (index ++ codes " " ++ word ++ codes " [" ++ states ++ codes "] " ++ vals ++ codes " " ++ outputs ++ codes " ")
+front_parts all index word states vals outputs = simp append_assoc
+
+-- a front and a result, put one after the other, make the line
+pub puts_line : (b0 b1 b2 : Option (List ℕ)) (f0 f1 f2 : ℕ) (h0 h1 h2 : Held) (front word : List ℕ) → Puts b0 b1 f0 f1 h0 h1 front
+    → Puts b1 b2 f1 f2 h1 h2 (word ++ codes "\n") → Puts b0 b2 f0 f2 h0 h2 (front ++ word ++ codes "\n")
+puts_line b0 b1 b2 f0 f1 f2 h0 h1 h2 front word p q =
+    puts_both b0 b1 b2 f0 f1 f2 h0 h1 h2 front (word ++ codes "\n") (front ++ word ++ codes "\n") p q
+    (append_assoc front word (codes "\n"))

@@ -74,18 +74,30 @@ result_word n (Some run_faults.Steps) = codes "steps"
 result_word n (Some (run_faults.Overflow v)) = codes "overflow " ++ datum_name n v
 result_word n (Some run_faults.Zero) = codes "zero"
 
--- a line: index, event, active states, values, outputs and result
-unfoldable pub line_of : Tree → Names → Configuration → List Datum → List ℕ → ℕ → Event → Option Fault → List ℕ
-line_of t n marks vals outputs index event fault =
+-- the result where what an event put out found the route of that number full
+abbrev pub full_word : ℕ → List ℕ
+full_word route = codes "full " ++ decimal route
+
+-- a line up to its result: index, event, active states, values and outputs
+unfoldable pub line_front : Tree → Names → Configuration → List Datum → List ℕ → ℕ → Event → List ℕ
+line_front t n marks vals outputs index event =
     decimal index ++ codes " " ++ event_word n event
     ++ codes " [" ++ join_with_byte 44 (map (path_of t n) (active_states t marks))
     ++ codes "] " ++ listed (value_texts n.vars vals)
-    ++ codes " " ++ listed (map (event_name n) outputs)
-    ++ codes " " ++ result_word n fault ++ codes "\n"
+    ++ codes " " ++ listed (map (event_name n) outputs) ++ codes " "
+
+-- a line with any word for its result
+unfoldable pub line_of : Tree → Names → Configuration → List Datum → List ℕ → ℕ → Event → List ℕ → List ℕ
+line_of t n marks vals outputs index event word =
+    line_front t n marks vals outputs index event ++ word ++ codes "\n"
+
+-- The line of a world, with its index and event, and any word for its result.
+abbrev pub line_with : Tree → Names → World → ℕ → Event → List ℕ → List ℕ
+line_with t n w index event word = line_of t n w.marks w.vals w.outputs index event word
 
 -- The line of a world, with its index, event and fault or none.
 abbrev pub trace_line : Tree → Names → World → ℕ → Event → Option Fault → List ℕ
-trace_line t n w index event fault = line_of t n w.marks w.vals w.outputs index event fault
+trace_line t n w index event fault = line_with t n w index event (result_word n fault)
 
 -- what a view shows, as a world in which no step is used
 abbrev pub world_of : View → World

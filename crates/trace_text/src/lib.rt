@@ -9,4 +9,4 @@ mod trace_parts;
 mod trace_states;
 
 pub use pieces::{PIECE_SIZE, Pieces};
-pub use trace::{put_trace, write_trace};
+pub use trace::{put_full, put_trace, write_full, write_trace};

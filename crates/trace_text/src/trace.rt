@@ -10,7 +10,7 @@ ghost use Rattle.trace_text.specs.Pieces.{Puts};
 ghost use Rattle.trace_text.specs.Trace as spec;
 
 use crate::pieces::Pieces;
-use crate::trace_parts::{event_word, put_data, put_outputs, put_result};
+use crate::trace_parts::{event_word, put_data, put_full_route, put_outputs, put_result};
 use crate::trace_states::put_states;
 use actions::{Event, Names, View};
 use flow_base::{Failed, Fault, Sink};
@@ -41,6 +41,31 @@ pub fn write_trace<O: Sink>(
     pieces.finish(out)
 }
 
+/// Writes the line of a trace for the start or an event whose outputs found a route full: as
+/// `write_trace` does, with `full` and the number of the route for how it ended. It takes no memory.
+pub fn write_full<O: Sink>(
+    index: u64,
+    event: Event,
+    view: &View<'_>,
+    route: u32,
+    out: &mut O,
+) -> Result<(), Failed>
+    requires fits { Fits view.now.shape.now (names_of view.now.names.now) (spec.world_of view.now) }
+    requires few { length (names_of view.now.names.now).vars < 2 ^ 32 }
+    requires event { spec.IsEventOf (names_of view.now.names.now) event }
+    ensures ok { OnOk result (O.wrote out.new ≡ append_known (O.wrote out.old)
+        (spec.line_with view.now.shape.now (names_of view.now.names.now) (spec.world_of view.now) index event
+        (spec.full_word route))) }
+    ensures failed { OnErr result (AppendsProperFront (O.wrote out.old) (O.wrote out.new)
+        (spec.line_with view.now.shape.now (names_of view.now.names.now) (spec.world_of view.now) index event
+        (spec.full_word route))) }
+    ensures cause { HasCause (O.faults out.old) (O.faults out.new) result }
+{
+    let mut pieces = Pieces::new();
+    put_full(index, event, view, route, &mut pieces, out);
+    pieces.finish(out)
+}
+
 /// Puts the line of a trace for the start or an event: its index, its word, the active states, the
 /// values, what was put out, and how it ended.
 ///
@@ -62,6 +87,42 @@ pub fn put_trace<O: Sink>(
         pieces.old pieces.new
         (spec.trace_line view.now.shape.now (names_of view.now.names.now) (spec.world_of view.now) index event fault) }
 {
+    put_front(index, event, view, pieces, out);
+    put_result(view.names, fault, pieces, out);
+}
+
+/// Puts the line of a trace for the start or an event whose outputs found a route full: as
+/// `put_trace` does, with `full` and the number of the route for how it ended. It takes no memory.
+pub fn put_full<O: Sink>(
+    index: u64,
+    event: Event,
+    view: &View<'_>,
+    route: u32,
+    pieces: &mut Pieces,
+    out: &mut O,
+)
+    requires fits { Fits view.now.shape.now (names_of view.now.names.now) (spec.world_of view.now) }
+    requires few { length (names_of view.now.names.now).vars < 2 ^ 32 }
+    requires event { spec.IsEventOf (names_of view.now.names.now) event }
+    ensures { Puts (O.wrote out.old) (O.wrote out.new) (O.faults out.old) (O.faults out.new)
+        pieces.old pieces.new
+        (spec.line_with view.now.shape.now (names_of view.now.names.now) (spec.world_of view.now) index event
+        (spec.full_word route)) }
+{
+    put_front(index, event, view, pieces, out);
+    put_full_route(route, pieces, out);
+}
+
+/// Puts the line up to its result.
+fn put_front<O: Sink>(index: u64, event: Event, view: &View<'_>, pieces: &mut Pieces, out: &mut O)
+    requires fits { Fits view.now.shape.now (names_of view.now.names.now) (spec.world_of view.now) }
+    requires few { length (names_of view.now.names.now).vars < 2 ^ 32 }
+    requires event { spec.IsEventOf (names_of view.now.names.now) event }
+    ensures { Puts (O.wrote out.old) (O.wrote out.new) (O.faults out.old) (O.faults out.new)
+        pieces.old pieces.new
+        (spec.line_front view.now.shape.now (names_of view.now.names.now) view.now.marks.now view.now.vals.now
+        view.now.outputs.now index event) }
+{
     put_head(index, event_word(view.names, event), pieces, out);
     pieces.put(b" [", out);
     put_states(view.shape, view.names, view.marks, pieces, out);
@@ -70,7 +131,6 @@ pub fn put_trace<O: Sink>(
     pieces.put_byte(b' ', out);
     put_outputs(view.names, view.outputs, pieces, out);
     pieces.put_byte(b' ', out);
-    put_result(view.names, fault, pieces, out);
 }
 
 /// Puts the index and the word of an event.

@@ -208,3 +208,13 @@ pub(crate) fn put_result<O: Sink>(
         }
     }
 }
+
+/// Puts that a route was full, which ends the line.
+pub(crate) fn put_full_route<O: Sink>(route: u32, pieces: &mut Pieces, out: &mut O)
+    ensures { Puts (O.wrote out.old) (O.wrote out.new) (O.faults out.old) (O.faults out.new)
+        pieces.old pieces.new (spec.full_word route ++ codes "\n") }
+{
+    pieces.put(b"full ", out);
+    pieces.put_digits(u64::from(route), out);
+    pieces.put_byte(b'\n', out);
+}

@@ -89,7 +89,7 @@ impl Pieces {
 
     /// Puts a text after what is there.
     #[inline(always)]
-    pub(crate) fn put<O: Sink>(&mut self, text: &[u8], out: &mut O)
+    pub fn put<O: Sink>(&mut self, text: &[u8], out: &mut O)
         ensures { Puts (O.wrote out.old) (O.wrote out.new) (O.faults out.old) (O.faults out.new)
             self.old self.new text.now }
     {
@@ -114,7 +114,7 @@ impl Pieces {
 
     /// Puts a byte after what is there.
     #[inline(always)]
-    pub(crate) fn put_byte<O: Sink>(&mut self, byte: u8, out: &mut O)
+    pub fn put_byte<O: Sink>(&mut self, byte: u8, out: &mut O)
         ensures { Puts (O.wrote out.old) (O.wrote out.new) (O.faults out.old) (O.faults out.new)
             self.old self.new (byte ∷ []) }
     {
@@ -143,7 +143,7 @@ impl Pieces {
     /// Puts the digits of a whole number after what is there. They are counted first, so that
     /// they are written where they stay.
     #[inline(always)]
-    pub(crate) fn put_digits<O: Sink>(&mut self, number: u64, out: &mut O)
+    pub fn put_digits<O: Sink>(&mut self, number: u64, out: &mut O)
         ensures { Puts (O.wrote out.old) (O.wrote out.new) (O.faults out.old) (O.faults out.new)
             self.old self.new (decimal number) }
     {

@@ -1,11 +1,9 @@
 -- Two programs with the same runs are traced in the same ways.
 use Rattle.std.proofs.Common.{◌≡◌, ◌↔◌, ℕ, true, List, [], ◌∷◌, Option, Result, Ok, Err, refl, sym, subst, inl, inr}
 use Rattle.flow_base.specs.declared.bounds.Bounds.{Bounds}
-use Rattle.flow_base.specs.declared.fault.Fault.{Fault}
 use Rattle.active_config.specs.Tree.{Tree}
 use Rattle.actions.specs.Names.{Names}
 use Rattle.actions.specs.Runs.{EventWithInputs, Moment, StartRelation, ReactionRelation, Runs}
-use Rattle.actions.specs.World.{World}
 use Rattle.checked_chart.specs.Chart.{Chart}
 use Rattle.checked_chart.specs.Valid.{IsValid}
 use Rattle.sos_rules.specs.Reactions as rules
@@ -18,6 +16,8 @@ use Rattle.chart_layout.proofs.Whole.{code_runs}
 use Rattle.commands.specs.Call.{Call}
 use Rattle.step_driver.specs.Traces.{RunFault, Ran}
 use Rattle.step_driver.specs.Driving.{Seen, WroteAll, WroteGiven, WrotePart, WroteSome, TakesNoMore, Drives}
+use Rattle.step_driver.specs.Driving.{RanFirst, IsStartLine, engine_runs}
+use Rattle.step_driver.specs.StepRuns.{StepRuns}
 use Rattle.step_driver.specs.declared.driver.DriveEnd.{DriveEnd}
 use Rattle.step_driver.specs.declared.driver.DriveEnd.TheVariants as ends
 use Rattle.commands.specs.declared.traced.TraceEnd.{TraceEnd}
@@ -43,25 +43,46 @@ module _ (start start' : StartRelation) (react react' : ReactionRelation) (t : T
     ended = r.ended;
   }
 
+  -- a traced run over the first events
+  ran_first : (all : List EventWithInputs) (text : List ℕ) (fault : Option RunFault)
+      → RanFirst start react t n all text fault → RanFirst start' react' t n all text fault
+  ran_first all text fault r = record {
+    events = r.events;
+    rest = r.rest;
+    first_events = r.first_events;
+    ran = ran r.events text fault r.ran;
+  }
+
   -- a start is the run over no events
-  started : (w : World) (f : Option Fault) → start' w f → start w f
-  started w f s = (back [] (record { world = w; fault = f } ∷ []) (s, refl)).0
+  started : (text : List ℕ) → IsStartLine start' t n text → IsStartLine start t n text
+  started text l = record {
+    world = l.world;
+    fault = l.fault;
+    starts = (back [] (record { world = l.world; fault = l.fault } ∷ []) (l.starts, refl)).0;
+    line = l.line;
+  }
+
+  -- the runs of the first and of the second
+  abbrev one : StepRuns
+  one = engine_runs start react t n
+
+  abbrev other : StepRuns
+  other = engine_runs start' react' t n
 
   -- the whole trace
-  wrote_all : (seen : Seen) (result : Result (Unit {0}) DriveEnd) → WroteAll start react t n seen result
-      → WroteAll start' react' t n seen result
+  wrote_all : (seen : Seen) (result : Result (Unit {0}) DriveEnd) → WroteAll one seen result → WroteAll other seen result
   wrote_all seen result w = record {
     text = w.text;
     is_text = w.is_text;
     trace = w.trace;
-    fault = w.fault;
-    ran = ran _ w.trace w.fault w.ran;
+    end = w.end;
+    ran = ran _ w.trace w.end w.ran;
     wrote = w.wrote;
     answer = w.answer;
   }
 
   -- that of what was given
-  wrote_given : (seen : Seen) → WroteGiven start react t n seen → WroteGiven start' react' t n seen
+  wrote_given : (seen : Seen) → WroteGiven one seen → WroteGiven other seen
   wrote_given seen w = record {
     given = w.given;
     taken = w.taken;
@@ -76,35 +97,29 @@ module _ (start start' : StartRelation) (react react' : ReactionRelation) (t : T
   }
 
   -- a front of it
-  wrote_part : (seen : Seen) → WrotePart start react t n seen → WrotePart start' react' t n seen
+  wrote_part : (seen : Seen) → WrotePart one seen → WrotePart other seen
   wrote_part seen w = record {
     text = w.text;
     is_text = w.is_text;
-    events = w.events;
-    rest = w.rest;
-    first_events = w.first_events;
     trace = w.trace;
-    fault = w.fault;
-    ran = ran w.events w.trace w.fault w.ran;
+    end = w.end;
+    ran = ran_first _ w.trace w.end w.ran;
     front = w.front;
-    untouched = λ v f s told front. w.untouched v f (started v f s) told front;
+    untouched = λ begin l told front. w.untouched begin (started begin l) told front;
   }
 
   -- that of some events
-  wrote_some : (seen : Seen) → WroteSome start react t n seen → WroteSome start' react' t n seen
+  wrote_some : (seen : Seen) → WroteSome one seen → WroteSome other seen
   wrote_some seen w = record {
     text = w.text;
     is_text = w.is_text;
-    events = w.events;
-    rest = w.rest;
-    first_events = w.first_events;
     trace = w.trace;
-    ran = elim w.ran [ inl none ↦ inl none | inr some ↦ inr (ran w.events w.trace _ some) ];
+    ran = elim w.ran [ inl none ↦ inl none | inr some ↦ inr (ran_first _ w.trace _ some) ];
     wrote = w.wrote;
   }
 
   -- what was taken
-  takes_no_more : (seen : Seen) → TakesNoMore start react t n seen → TakesNoMore start' react' t n seen
+  takes_no_more : (seen : Seen) → TakesNoMore one seen → TakesNoMore other seen
   takes_no_more seen taken = elim taken [
     | inl same ↦ inl same
     | inr some ↦

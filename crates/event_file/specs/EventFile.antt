@@ -1,4 +1,4 @@
--- The events of a file, and where they stop.
+-- What the lines of a file say, and where they stop; and the events of an event file.
 use Rattle.std.specs.Prelude.{ℕ, ◌+◌, nat_lt, nat_le, Bool, List, [], ◌∷◌, length, Option, Some, None, Result, Ok, Err, if◌then◌else◌}
 use Rattle.actions.specs.Names.{Names}
 use Rattle.event_file.specs.declared.fault.LineFault.{LineFault}
@@ -17,42 +17,46 @@ pub data Stop : Type 0 where
   AtEvent : Stop
   AtLimit : Stop
 
--- the events before the first stop, and that stop
-pub record EventFile : Type 0 where
-  pub events : List EventWithInputs
+-- the events before the first stop, and that stop; in a file of another kind its lines say something else than events
+pub record FileOf (A : Type 0) : Type 0 where
+  pub events : List A
   pub stop : Stop
 
 -- no event, and that stop
-abbrev pub stopped : Stop → EventFile
+abbrev pub stopped : {A : Type 0} → Stop → FileOf A
 stopped stop = record { events = []; stop = stop }
 
 -- an event in front
-abbrev pub begun_by : EventWithInputs → EventFile → EventFile
+abbrev pub begun_by : {A : Type 0} → A → FileOf A → FileOf A
 begun_by event file = record { events = event ∷ file.events; stop = file.stop }
 
 -- The file from a line on, by what that line says: its number, the count of events before it, and what the later lines
 -- make of the count after it.
-abbrev pub with_line : ℕ → ℕ → Result (Option EventWithInputs) LineFault → (ℕ → EventFile) → EventFile
+abbrev pub with_line : {A : Type 0} → ℕ → ℕ → Result (Option A) LineFault → (ℕ → FileOf A) → FileOf A
 with_line number count (Err fault) later = stopped (AtLine number fault)
 with_line number count (Ok None) later = later count
 with_line number count (Ok (Some event)) later =
     if nat_le EVENT_LIMIT count then stopped AtEvent else begun_by event (later (count + 1))
 
 -- the file from a line on, unless the line passes a limit
-abbrev pub with_limit : Option Limit → ℕ → EventFile → EventFile
+abbrev pub with_limit : {A : Type 0} → Option Limit → ℕ → FileOf A → FileOf A
 with_limit (Some TooLong) number file = stopped (AtLine number faults.LineTooLong)
 with_limit (Some PastFile) number file = stopped AtLimit
 with_limit None number file = file
 
--- The events of lines: the first of them begins after `at` bytes of the file, has that number, and has `count` events before
--- it; long says whether the file has more bytes than it may.
-unfoldable pub events_of : Names → Bool → ℕ → ℕ → ℕ → List (List ℕ) → EventFile
-events_of n long at number count [] = stopped AtEnd
-events_of n long at number count (raw ∷ raws) =
+-- The events of lines, by what each line says: the first of them begins after `at` bytes of the file, has that number, and has
+-- `count` events before it; long says whether the file has more bytes than it may.
+unfoldable pub events_of : {A : Type 0} → (List ℕ → Result (Option A) LineFault) → Bool → ℕ → ℕ → ℕ → List (List ℕ) → FileOf A
+events_of say long at number count [] = stopped AtEnd
+events_of say long at number count (raw ∷ raws) =
     with_limit (line_limit long at (length raw)) number
-    (with_line number count (event_of_line n (without_return raw))
-    (λ next. events_of n long (at + (length raw + 1)) (number + 1) next raws))
+    (with_line number count (say (without_return raw))
+    (λ next. events_of say long (at + (length raw + 1)) (number + 1) next raws))
 
--- The events of a file.
-abbrev pub event_file : Names → List ℕ → EventFile
-event_file n bytes = events_of n (nat_lt FILE_LIMIT (length bytes)) 0 1 0 (lines_of bytes)
+-- What a file says, by what each of its lines says.
+abbrev pub file_of : {A : Type 0} → (List ℕ → Result (Option A) LineFault) → List ℕ → FileOf A
+file_of say bytes = events_of say (nat_lt FILE_LIMIT (length bytes)) 0 1 0 (lines_of bytes)
+
+-- The events of an event file.
+abbrev pub event_file : Names → List ℕ → FileOf EventWithInputs
+event_file n bytes = file_of (event_of_line n) bytes

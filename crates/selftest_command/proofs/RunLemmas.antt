@@ -11,7 +11,7 @@ use Rattle.checked_chart.specs.Chart.{Chart}
 use Rattle.checked_chart.specs.Valid.{HasNames}
 use Rattle.sos_rules.specs.Reactions.{Starts, Reacts, RulesRun}
 use Rattle.event_file.specs.EventFile.{Stop, AtEnd, AtLine, AtEvent, AtLimit, event_file}
-use Rattle.step_driver.specs.Driving.{Seen, IsText, Drives, WroteAll, answer_of}
+use Rattle.step_driver.specs.Driving.{Seen, IsText, Drives, WroteAll, answer_of, engine_runs}
 use Rattle.step_driver.specs.Traces.{RunFault, run_fault, trace}
 use Rattle.step_driver.specs.declared.driver.DriveEnd.{DriveEnd}
 use Rattle.step_driver.specs.declared.driver.DriveEnd.TheVariants as answers
@@ -31,7 +31,8 @@ use Rattle.selftest_command.proofs.TraceLines.{are_names, trace_lines}
 -- where the whole trace was written, the run is one over all events of the file
 all_written : (b : Behaviour) (seen : Seen) (answer : Result (Unit {0}) DriveEnd)
     → Drives b.starts b.reacts b.tree b.names seen answer
-    → is_whole (end_of b.names answer) ≡ true → WroteAll b.starts b.reacts b.tree b.names seen answer
+    → is_whole (end_of b.names answer) ≡ true
+    → WroteAll (engine_runs b.starts b.reacts b.tree b.names) seen answer
 all_written b seen (Ok done) drives whole = drives.0
 all_written b seen (Err (answers.Line number fault)) drives whole = drives.0
 all_written b seen (Err (answers.Fault index fault)) drives whole = drives.0
@@ -89,7 +90,7 @@ keeps c bounds never call second text kept end left before after (Driven d) whol
           w.ran.moments) (sym told);
       fault_is = ap fault_of_end d.end_is ∙ ap (λ (a : Result (Unit {0}) DriveEnd). fault_of_end (end_of c.names a))
           w.answer
-          ∙ fault_told c.names w.fault (event_file c.names w.text).stop ∙ ap (shown_fault c.names) (sym w.ran.ended);
+          ∙ fault_told c.names w.end (event_file c.names w.text).stop ∙ ap (shown_fault c.names) (sym w.ran.ended);
     }
   where
     told_text : (told : Option (List ℕ)) (other : List ℕ) → told ≡ Some text → IsText told other → text ≡ other

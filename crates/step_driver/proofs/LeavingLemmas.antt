@@ -9,7 +9,7 @@ use Rattle.actions.specs.declared.event.Event.TheVariants.{Start}
 use Rattle.event_file.specs.declared.fault.LineFault.{LineFault}
 use Rattle.event_file.specs.declared.fault.LineFault.TheVariants as line_faults
 use Rattle.event_file.specs.declared.limits.TheConstants.{EVENT_LIMIT}
-use Rattle.event_file.specs.EventFile.{EventFile, Stop, AtEnd, AtLine, AtEvent, AtLimit, event_file}
+use Rattle.event_file.specs.EventFile.{FileOf, Stop, AtEnd, AtLine, AtEvent, AtLimit, event_file}
 use Rattle.event_file.specs.EventLines.{event_of_line}
 use Rattle.event_file.specs.NextLine.{Nexts}
 use Rattle.event_file.specs.Reading.{Reading}
@@ -17,26 +17,31 @@ use Rattle.trace_text.specs.Trace.{trace_line}
 use Rattle.step_driver.specs.declared.driver.DriveEnd.{DriveEnd}
 use Rattle.step_driver.specs.declared.driver.DriveEnd.TheVariants as ends
 use Rattle.step_driver.specs.Causes.{is_read}
-use Rattle.step_driver.specs.Driving.{answer_of}
+use Rattle.step_driver.specs.Driving.{answer_of, engine_runs}
 use Rattle.step_driver.specs.Leaving.{RanTo, LeftByAll, LeftByFirst, Leaves}
-use Rattle.step_driver.specs.Parts.{Done, Tried, LineTaken, Follows}
+use Rattle.step_driver.specs.NextLines.{Follows}
+use Rattle.step_driver.specs.Parts.{Done, Tried, LineTaken, end_of_line}
+use Rattle.step_driver.specs.declared.lines.NoLine.{NoLine}
+use Rattle.step_driver.specs.declared.lines.NoLine.TheVariants as no_lines
 use Rattle.step_driver.specs.Traces.{RunFault, fault_or}
 use Rattle.step_driver.proofs.Driven.{Driven, first_text, line_says}
-use Rattle.step_driver.proofs.FileLemmas.{LineSays, events_at, told, Whole, reads_fills, whole_file, whole_end, whole_too_long, whole_past_file, whole_lines, whole_event, whole_too_many, whole_refused}
+use Rattle.step_driver.proofs.EngineRuns.{so_far}
+use Rattle.step_driver.proofs.FileLemmas.{LineSays, events_at, Whole, reads_fills, whole_file, whole_end, whole_too_long, whole_past_file, whole_lines, whole_event, whole_too_many, whole_refused}
+use Rattle.step_driver.proofs.FilePlaces.{told}
 use Rattle.step_driver.proofs.RunLemmas.{so_far_to, start_to, start_fault_to, event_to, event_fault_to}
 
 -- ---- all events of a file
 
 -- the run over all events had no fault
 all_left : {start : StartRelation} {react : ReactionRelation} {n : Names} {before : Option (List ℕ)} {events : List EventWithInputs} {w : World}
-    (stop : Stop) (result : Result (Unit {0}) DriveEnd) → Whole n before (record { events = events; stop = stop })
+    (stop : Stop) (result : Result (Unit {0}) DriveEnd) → Whole (event_of_line n) before (record { events = events; stop = stop })
     → RanTo start react events w None → result ≡ answer_of None stop → LeftByAll start react n before w result
 all_left {start = start} {react = react} {w = w} stop result file to is = record {
   text = file.text;
   is_text = file.is_text;
   fault = None;
-  ran = subst (λ (z : List EventWithInputs). RanTo start react z w None) (sym (ap (λ (f : EventFile). f.events) file.are_events)) to;
-  answer = is ∙ ap (answer_of None) (sym (ap (λ (f : EventFile). f.stop) file.are_events));
+  ran = subst (λ (z : List EventWithInputs). RanTo start react z w None) (sym (ap (λ (f : FileOf EventWithInputs). f.events) file.are_events)) to;
+  answer = is ∙ ap (answer_of None) (sym (ap (λ (f : FileOf EventWithInputs). f.stop) file.are_events));
 }
 
 -- all events are the first ones
@@ -54,18 +59,18 @@ first_of_all {n = n} l = record {
 
 -- the events so far are the first ones
 driven_left : {start : StartRelation} {react : ReactionRelation} {t : Tree} {n : Names} {before left : Option (List ℕ)} {r : Reading} {w : World} {index : ℕ} {text : List ℕ}
-    → Driven start react t n before left r w index text → LeftByFirst start react n before w
+    → Driven (engine_runs start react t n) (so_far start react t n w) before left r index text → LeftByFirst start react n before w
 driven_left {n = n} {before = before} {left = left} {r = r} d =
-    let file = whole_file n before r left _ d.reads in
-    let later : EventFile = events_at n r.at (r.number + 1) (length d.events) (r.pending ++ told left) in
+    let file = whole_file (event_of_line n) before r left _ d.reads in
+    let later : FileOf EventWithInputs = events_at (event_of_line n) r.at (r.number + 1) (length d.events) (r.pending ++ told left) in
     record {
       text = file.text;
       is_text = file.is_text;
       events = d.events;
       rest = later.events;
-      first_events = ap (λ (f : EventFile). f.events) file.are_events;
+      first_events = ap (λ (f : FileOf EventWithInputs). f.events) file.are_events;
       fault = None;
-      ran = so_far_to d.runs;
+      ran = so_far_to d.state;
     }
 
 -- ---- the start
@@ -103,60 +108,59 @@ start_leaves start react t n before never w P ends.Memory puts = tt
 
 -- no line is left
 pub end_leaves : (start : StartRelation) (react : ReactionRelation) (t : Tree) (n : Names) (before left left' : Option (List ℕ)) (never : Bool) (r r' : Reading) (w : World) (index : ℕ) (text : List ℕ)
-    → Driven start react t n before left r w index text → Nexts r r' left left' (Ok false)
+    → Driven (engine_runs start react t n) (so_far start react t n w) before left r index text → Nexts r r' left left' (Ok false)
     → Leaves start react n before left' never w (Ok tt)
 end_leaves start react t n before left left' never r r' w index text d next =
-    let reads = reads_fills n before d.events r next.mid left left' d.reads next.fills in
-    all_left AtEnd (Ok tt) (whole_end n before d.events next.mid left' reads next.answer.1.0 next.answer.1.1) (so_far_to d.runs) refl
+    let reads = reads_fills (event_of_line n) before d.events r next.mid left left' d.reads next.fills in
+    all_left AtEnd (Ok tt) (whole_end (event_of_line n) before d.events next.mid left' reads next.answer.1.0 next.answer.1.1) (so_far_to d.state) refl
 
 -- the next line can't be taken
-pub next_leaves : (start : StartRelation) (react : ReactionRelation) (t : Tree) (n : Names) (before left left' : Option (List ℕ)) (never : Bool) (r r' : Reading) (w : World) (index : ℕ) (text : List ℕ) (end : DriveEnd)
-    → Driven start react t n before left r w index text → Follows r r' left left' (Err end)
-    → Leaves start react n before left' never w (Err end)
-next_leaves start react t n before left left' never r r' w index text (ends.Line number fault) d (is, kind, next) =
-    let reads = reads_fills n before d.events r next.mid left left' d.reads next.fills in
-    let same : ends.Line number fault ≡ ends.Line r'.number line_faults.LineTooLong = rw (is, kind) refl in
-    all_left (AtLine r'.number line_faults.LineTooLong) (Err (ends.Line number fault))
-    (whole_too_long n before d.events next.mid r' left' reads next.answer.1) (so_far_to d.runs) (ap Err same)
-next_leaves start react t n before left left' never r r' w index text (ends.Fault i fault) d next = absurd next
-next_leaves start react t n before left left' never r r' w index text ends.Read d next =
-    let reads = reads_fills n before d.events r next.mid left left' d.reads next.fills in
-    let lines = whole_lines n before d.events next.mid left' reads next.answer.wanted in
+pub next_leaves : (start : StartRelation) (react : ReactionRelation) (t : Tree) (n : Names) (before left left' : Option (List ℕ))
+    (never : Bool) (r r' : Reading) (w : World) (index : ℕ) (text : List ℕ) (end : NoLine)
+    → Driven (engine_runs start react t n) (so_far start react t n w) before left r index text
+    → Follows r r' left left' (Err end) → Leaves start react n before left' never w (Err (end_of_line end))
+next_leaves start react t n before left left' never r r' w index text (no_lines.TooLong number) d (is, next) =
+    let reads = reads_fills (event_of_line n) before d.events r next.mid left left' d.reads next.fills in
+    all_left (AtLine r'.number line_faults.LineTooLong) (Err (ends.Line number line_faults.LineTooLong))
+    (whole_too_long (event_of_line n) before d.events next.mid r' left' reads next.answer.1) (so_far_to d.state)
+    (ap (λ m. Err (ends.Line m line_faults.LineTooLong)) is)
+next_leaves start react t n before left left' never r r' w index text no_lines.FileTooLong d next =
+    let reads = reads_fills (event_of_line n) before d.events r next.mid left left' d.reads next.fills in
+    all_left AtLimit (Err ends.FileTooLong)
+    (whole_past_file (event_of_line n) before d.events next.mid r' left' reads next.answer.1) (so_far_to d.state) refl
+next_leaves start react t n before left left' never r r' w index text no_lines.Read d next =
+    let reads = reads_fills (event_of_line n) before d.events r next.mid left left' d.reads next.fills in
+    let lines = whole_lines (event_of_line n) before d.events next.mid left' reads next.answer.wanted in
     record {
       given = lines.given;
       taken = lines.bytes;
       whole = lines.whole;
       has_whole = lines.has_whole;
-      ran = subst (λ (z : List EventWithInputs). RanTo start react z w None) (sym (ap (λ (f : EventFile). f.events) lines.are_events))
-          (so_far_to d.runs);
+      ran = subst (λ (z : List EventWithInputs). RanTo start react z w None)
+          (sym (ap (λ (f : FileOf EventWithInputs). f.events) lines.are_events)) (so_far_to d.state);
     }
-next_leaves start react t n before left left' never r r' w index text ends.Write d next = λ _. driven_left d
-next_leaves start react t n before left left' never r r' w index text ends.TooManyLines d next = absurd next
-next_leaves start react t n before left left' never r r' w index text ends.FileTooLong d next =
-    let reads = reads_fills n before d.events r next.mid left left' d.reads next.fills in
-    all_left AtLimit (Err ends.FileTooLong) (whole_past_file n before d.events next.mid r' left' reads next.answer.1) (so_far_to d.runs) refl
-next_leaves start react t n before left left' never r r' w index text ends.Memory d next = absurd next
+next_leaves start react t n before left left' never r r' w index text no_lines.Write d next = λ _. driven_left d
 
 -- ---- a line that was taken
 
 -- the line was taken, and the run ends
 pub line_leaves : (start : StartRelation) (react : ReactionRelation) (t : Tree) (n : Names) (before left left' : Option (List ℕ)) (never : Bool) (r r' : Reading)
     (w w' : World) (index : ℕ) (text : List ℕ) (P : List ℕ → Type 0) (end : DriveEnd)
-    → Driven start react t n before left r w index text → Nexts r r' left left' (Ok true)
+    → Driven (engine_runs start react t n) (so_far start react t n w) before left r index text → Nexts r r' left left' (Ok true)
     → LineTaken react t n r'.number index (event_of_line n r'.line) w w' P (Err end)
     → Leaves start react n before left' never w' (Err end)
 line_leaves start react t n before left left' never r r' w w' index text P end d next taken =
     by_said (event_of_line n r'.line) refl taken
   where
-    says : LineSays n before d.events r' left'
-    says = line_says start react t n before left left' r r' w index text d next
+    says : LineSays (event_of_line n) before d.events r' left'
+    says = line_says (engine_runs start react t n) (so_far start react t n w) before left left' r r' index text d next
 
     by_end : (e : DriveEnd) (event : EventWithInputs) → nat_le EVENT_LIMIT (length d.events) ≡ false → event_of_line n r'.line ≡ Ok (Some event)
         → Done (ReactsWithInputs react w event) (λ x f. trace_line t n x (index + 1) event.event f) (index + 1) w' P (Err e)
         → Leaves start react n before left' never w' (Err e)
     by_end (ends.Line number fault) event few is done = absurd done
     by_end (ends.Fault i fault) event few is (at, stepping, puts) =
-        let file = whole_event n before d.events r' left' event says is few in
+        let file = whole_event (event_of_line n) before d.events r' left' event says is few in
         let faulted : Option RunFault = Some (record { index = length d.events + 1; fault = fault }) in
         let i_is : length d.events + 1 ≡ i = ap (λ m. m + 1) d.counted ∙ sym at in
         record {
@@ -164,12 +168,12 @@ line_leaves start react t n before left left' never r r' w w' index text P end d
           is_text = file.is_text;
           fault = faulted;
           ran = subst (λ (z : List EventWithInputs). RanTo start react z w' faulted) (sym file.are_events)
-              (event_fault_to w' event fault file.later d.runs stepping);
+              (event_fault_to w' event fault file.later d.state stepping);
           answer = ap (λ m. Err (ends.Fault m fault)) (sym i_is);
         }
     by_end ends.Read event few is done = absurd done
     by_end ends.Write event few is (f, stepping, puts) =
-        let file = whole_event n before d.events r' left' event says is few in
+        let file = whole_event (event_of_line n) before d.events r' left' event says is few in
         λ _. record {
           text = file.text;
           is_text = file.is_text;
@@ -177,7 +181,7 @@ line_leaves start react t n before left left' never r r' w w' index text P end d
           rest = file.later;
           first_events = file.are_events ∙ sym (append_assoc d.events (event ∷ []) file.later);
           fault = fault_or (length d.events + 1) f None;
-          ran = event_to w' event f [] d.runs stepping refl;
+          ran = event_to w' event f [] d.state stepping refl;
         }
     by_end ends.TooManyLines event few is done = absurd done
     by_end ends.FileTooLong event few is done = absurd done
@@ -188,8 +192,8 @@ line_leaves start react t n before left left' never r r' w w' index text P end d
     by_count event true many is (bad, world, puts) =
         let big : nat_le EVENT_LIMIT (length d.events) ≡ true = ap (nat_le EVENT_LIMIT) d.counted ∙ many in
         let same : end ≡ ends.TooManyLines = let e = bad in cc in
-        let file = whole_too_many n before d.events r' left' event says is big in
-        rw (same, world) (all_left AtEvent (Err ends.TooManyLines) file (so_far_to d.runs) refl)
+        let file = whole_too_many (event_of_line n) before d.events r' left' event says is big in
+        rw (same, world) (all_left AtEvent (Err ends.TooManyLines) file (so_far_to d.state) refl)
     by_count event false few is (done, one_more) =
         by_end end event (ap (nat_le EVENT_LIMIT) d.counted ∙ few) is done
 
@@ -199,8 +203,8 @@ line_leaves start react t n before left left' never r r' w w' index text P end d
     by_said (Ok (Some event)) is h = by_count event (nat_le EVENT_LIMIT index) refl is h
     by_said (Err fault) is (bad, world, puts) =
         let same : end ≡ ends.Line r'.number fault = let e = bad in cc in
-        let file = whole_refused n before d.events r' left' fault says is in
-        rw (same, world) (all_left (AtLine r'.number fault) (Err (ends.Line r'.number fault)) file (so_far_to d.runs) refl)
+        let file = whole_refused (event_of_line n) before d.events r' left' fault says is in
+        rw (same, world) (all_left (AtLine r'.number fault) (Err (ends.Line r'.number fault)) file (so_far_to d.state) refl)
 
 -- ---- what is kept at the end
 

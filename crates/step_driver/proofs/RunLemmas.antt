@@ -16,10 +16,6 @@ pub record SoFar (start : StartRelation) (react : ReactionRelation) (t : Tree) (
       → Ran start react t n (events ++ later) (text ++ trace_from t n (length events + 1) later moments) (run_fault (length events + 1) moments)
   pub last : (later : List EventWithInputs) (moments : List Moment) (goes : GoesOn react (record { world = w; fault = None }) later moments)
       → last_world (extends later moments goes).moments ≡ last_world (record { world = w; fault = None } ∷ moments)
-  pub first : World
-  pub starts : start first None
-  pub more : List ℕ
-  pub begins : text ≡ trace_line t n first 0 Start None ++ more
 
 -- after the start
 pub started : (start : StartRelation) (react : ReactionRelation) (t : Tree) (n : Names) (w : World) → start w None
@@ -32,10 +28,6 @@ started start react t n w starts = record {
     ended = refl;
   };
   last = λ later moments goes. refl;
-  first = w;
-  starts = starts;
-  more = [];
-  begins = sym (append-nil (trace_line t n w 0 Start None));
 }
 
 nothing_after : (react : ReactionRelation) (w : World) (f : Fault) (events : List EventWithInputs) → GoesOn react (record { world = w; fault = Some f }) events []
@@ -80,10 +72,6 @@ one_more start react t n events w w' text event s taken =
           };
       last = λ later moments goes. s.last (event ∷ later) (record { world = w'; fault = None } ∷ moments)
           (record { world = w'; fault = None }, moments, refl, taken, goes);
-      first = s.first;
-      starts = s.starts;
-      more = s.more ++ line;
-      begins = ap (λ (z : List ℕ). z ++ line) s.begins ∙ append_assoc (trace_line t n s.first 0 Start None) s.more line;
     }
 
 -- the run so far

@@ -26,12 +26,20 @@ is_write (Err ends.TooManyLines) = false
 is_write (Err ends.FileTooLong) = false
 is_write (Err ends.Memory) = false
 
+-- the count of that name rose where there was a read fault, and else each count is as it was
+pub record ReadCause (is_fault : Bool) (name : List ℕ) (before after : List ℕ → ℕ) : Type 0 where
+  pub fault : is_fault ≡ true → Rose (before name) (after name)
+  pub others : is_fault ≡ false → AllStay before after
+
 -- a read fault comes only where the count of that name rose, and with every other answer each count is as it was
-pub record HasReadCause {T : Type 0} (name : List ℕ) (before after : List ℕ → ℕ) (result : Result T DriveEnd) : Type 0 where
-  pub fault : is_read result ≡ true → Rose (before name) (after name)
-  pub others : is_read result ≡ false → AllStay before after
+abbrev pub HasReadCause : {T : Type 0} → List ℕ → (List ℕ → ℕ) → (List ℕ → ℕ) → Result T DriveEnd → Type 0
+HasReadCause name before after result = ReadCause (is_read result) name before after
+
+-- the sink's count rose where there was a write fault, and else it is as it was
+pub record WriteCause (is_fault : Bool) (before after : ℕ) : Type 0 where
+  pub fault : is_fault ≡ true → Rose before after
+  pub others : is_fault ≡ false → after ≡ before
 
 -- a write fault comes only where the sink's count rose, and with every other answer the count is as it was
-pub record HasWriteCause {T : Type 0} (before after : ℕ) (result : Result T DriveEnd) : Type 0 where
-  pub fault : is_write result ≡ true → Rose before after
-  pub others : is_write result ≡ false → after ≡ before
+abbrev pub HasWriteCause : {T : Type 0} → ℕ → ℕ → Result T DriveEnd → Type 0
+HasWriteCause before after result = WriteCause (is_write result) before after

@@ -1,5 +1,5 @@
 -- What the parts of the driver answer.
-use Rattle.std.specs.Prelude.{◌≡◌, ◌≢◌, ℕ, nat_le, ◌+◌, ◌⊎◌, Bool, true, false, List, [], Option, Some, None, Result, Ok, Err}
+use Rattle.std.specs.Prelude.{◌≡◌, ◌≢◌, ℕ, nat_le, ◌+◌, Bool, true, false, List, [], Option, Some, None, Result, Ok, Err}
 use Rattle.flow_base.specs.declared.fault.Fault.{Fault}
 use Rattle.active_config.specs.Tree.{Tree}
 use Rattle.actions.specs.Engines.{fault_of}
@@ -8,17 +8,14 @@ use Rattle.actions.specs.Runs.{EventWithInputs, ReactionRelation, ReactsWithInpu
 use Rattle.actions.specs.World.{World}
 use Rattle.actions.specs.declared.engine.Halt.{Halt}
 use Rattle.actions.specs.declared.engine.Halt.TheVariants as halts
-use Rattle.event_file.specs.NextLine.{Nexts}
-use Rattle.trace_text.specs.Pieces.{Held, Passed, CutOff, nothing_held}
-use Rattle.event_file.specs.Reading.{Reading, is_ready}
 use Rattle.trace_text.specs.Trace.{trace_line}
 use Rattle.event_file.specs.declared.fault.LineFault.{LineFault}
 use Rattle.event_file.specs.declared.fault.LineFault.TheVariants as line_faults
 use Rattle.event_file.specs.declared.limits.TheConstants.{EVENT_LIMIT}
-use Rattle.event_file.specs.declared.line_reader.LineEnd.{LineEnd}
-use Rattle.event_file.specs.declared.line_reader.LineEnd.TheVariants as line_ends
 use Rattle.step_driver.specs.declared.driver.DriveEnd.{DriveEnd}
 use Rattle.step_driver.specs.declared.driver.DriveEnd.TheVariants as ends
+use Rattle.step_driver.specs.declared.lines.NoLine.{NoLine}
+use Rattle.step_driver.specs.declared.lines.NoLine.TheVariants as no_lines
 
 -- the line of the trace was put for how a call of an engine ended
 abbrev pub EndPut : ℕ → Result (Unit {0}) Halt → (Option Fault → List ℕ) → (List ℕ → Type 0) → Result (Unit {0}) DriveEnd → Type 0
@@ -65,32 +62,9 @@ LineTaken react t n number index (Ok None) w w' puts result = (result ≡ Ok ind
 LineTaken react t n number index (Ok (Some event)) w w' puts result = Tried (nat_le EVENT_LIMIT index) react t n index event w w' puts result
 LineTaken react t n number index (Err fault) w w' puts result = (result ≡ Err (ends.Line number fault)) × (w' ≡ w) × puts []
 
--- the next line of the file, or why there is none
-abbrev pub Follows : Reading → Reading → Option (List ℕ) → Option (List ℕ) → Result Bool DriveEnd → Type 0
-Follows old new before after (Ok found) = Nexts old new before after (Ok found)
-Follows old new before after (Err (ends.Line number fault)) =
-    (number ≡ new.number) × (fault ≡ line_faults.LineTooLong) × Nexts old new before after (Err line_ends.TooLong)
-Follows old new before after (Err (ends.Fault index fault)) = ⊥
-Follows old new before after (Err ends.Read) = Nexts old new before after (Err line_ends.Read)
-Follows old new before after (Err ends.Write) = (new ≡ old) × (after ≡ before)
-Follows old new before after (Err ends.TooManyLines) = ⊥
-Follows old new before after (Err ends.FileTooLong) = Nexts old new before after (Err line_ends.FileTooLong)
-Follows old new before after (Err ends.Memory) = ⊥
-
--- the answer for what the reader found at the line of that number
-abbrev pub found_or_end : ℕ → Result Bool LineEnd → Result Bool DriveEnd
-found_or_end number (Ok found) = Ok found
-found_or_end number (Err line_ends.Read) = Err ends.Read
-found_or_end number (Err line_ends.TooLong) = Err (ends.Line number line_faults.LineTooLong)
-found_or_end number (Err line_ends.FileTooLong) = Err ends.FileTooLong
-
--- what is kept was written, and it is told whether that failed
-abbrev pub Flushes : Bool → Option (List ℕ) → Option (List ℕ) → ℕ → ℕ → Held → Held → Type 0
-Flushes false wrote wrote' f f' held held' = Passed wrote wrote' f f' held.bytes [] × (held' ≡ nothing_held)
-Flushes true wrote wrote' f f' held held' = CutOff wrote wrote' f f' held.bytes × (held'.failed ≡ true)
-
--- The bytes at hand told what comes next, and nothing was read or written. Or what is kept was written before a read.
-abbrev pub Moves : Bool → Reading → Option (List ℕ) → Option (List ℕ) → Option (List ℕ) → Option (List ℕ) → ℕ → ℕ → Held → Held → Type 0
-Moves failed r before after wrote wrote' f f' held held' =
-    (is_ready r ≡ true) × (after ≡ before) × (wrote' ≡ wrote) × (f' ≡ f) × (held' ≡ held) × (failed ≡ false)
-    ⊎ Flushes failed wrote wrote' f f' held held'
+-- the answer where no line was taken
+abbrev pub end_of_line : NoLine → DriveEnd
+end_of_line (no_lines.TooLong number) = ends.Line number line_faults.LineTooLong
+end_of_line no_lines.FileTooLong = ends.FileTooLong
+end_of_line no_lines.Read = ends.Read
+end_of_line no_lines.Write = ends.Write

@@ -9,11 +9,11 @@ ghost use Rattle.step_driver.specs.Causes as causes;
 ghost use Rattle.step_driver.specs.Driving as spec;
 ghost use Rattle.step_driver.specs.Ending.{LinesEnd};
 ghost use Rattle.step_driver.specs.Leaving.{Leaves};
-ghost use Rattle.step_driver.specs.Parts.{Follows, Flushes, Moves, found_or_end};
 
 use crate::events::{run_line, run_start};
+use crate::lines::{NoLine, next_line};
 use actions::Engine;
-use event_file::{InputVals, LineEnd, LineFault, LineReader};
+use event_file::{InputVals, LineFault, LineReader};
 use flow_base::{Fault, Inputs, Sink};
 use thiserror::Error;
 use trace_text::Pieces;
@@ -43,6 +43,22 @@ pub enum DriveEnd {
     /// The engine wants memory.
     #[error("out of memory")]
     Memory,
+}
+
+impl From<NoLine> for DriveEnd {
+    ghost use Rattle.std.specs.Prelude.{◌≡◌};
+    ghost use Rattle.step_driver.specs.Parts.{end_of_line};
+
+    ghost from_gives = { λ no_line end. end ≡ end_of_line no_line };
+
+    fn from(no_line: NoLine) -> DriveEnd {
+        match no_line {
+            NoLine::TooLong(number) => DriveEnd::Line(number, LineFault::LineTooLong),
+            NoLine::FileTooLong => DriveEnd::FileTooLong,
+            NoLine::Read => DriveEnd::Read,
+            NoLine::Write => DriveEnd::Write,
+        }
+    }
 }
 
 /// Runs an engine over the events of a file: it starts the engine, and then takes line by line.
@@ -123,9 +139,12 @@ fn run_lines<G: Engine, I: Inputs, O: Sink>(
     requires unused { lines.old ≡ unused }
     requires vals { IsMadeFor (G.declared (G.program engine.old)) vals.old }
     requires empty { pieces.old ≡ nothing_held }
-    ensures ends { LinesEnd (causes.is_write result)
-        (G.Starts (G.program engine.old)) (G.Reacts (G.program engine.old))
-        (G.tree (G.program engine.old)) (G.declared (G.program engine.old))
+    ensures ends { LinesEnd
+        (spec.engine_runs (G.Starts (G.program engine.old)) (G.Reacts (G.program engine.old))
+        (G.tree (G.program engine.old)) (G.declared (G.program engine.old)))
+        (spec.Drives (G.Starts (G.program engine.old)) (G.Reacts (G.program engine.old))
+        (G.tree (G.program engine.old)) (G.declared (G.program engine.old)))
+        (causes.is_write result) DriveEnd.Write (causes.is_read result)
         (O.wrote out.old) (O.wrote out.new) (O.faults out.old) (O.faults out.new)
         (I.left inputs.old name.now) (I.left inputs.new name.now) pieces.new.bytes result }
     ensures leaves { Leaves (G.Starts (G.program engine.old)) (G.Reacts (G.program engine.old))
@@ -152,70 +171,4 @@ fn run_lines<G: Engine, I: Inputs, O: Sink>(
         )?;
     }
     Ok(())
-}
-
-/// Takes the next line of the file. What is kept of the trace is written before a read.
-#[inline(always)]
-fn next_line<I: Inputs, O: Sink>(
-    inputs: &mut I,
-    name: &str,
-    lines: &mut LineReader,
-    pieces: &mut Pieces,
-    out: &mut O,
-) -> Result<bool, DriveEnd>
-    requires lines { lines.old.failed ≡ false }
-    requires usable { pieces.old.failed ≡ false }
-    ensures next { Follows lines.old lines.new (I.left inputs.old name.now) (I.left inputs.new name.now) result }
-    ensures moves { Moves (causes.is_write result) lines.old
-        (I.left inputs.old name.now) (I.left inputs.new name.now)
-        (O.wrote out.old) (O.wrote out.new) (O.faults out.old) (O.faults out.new) pieces.old pieces.new }
-    ensures others { OthersKept name.now (I.left inputs.old) (I.left inputs.new) }
-    ensures counts { NoneFalls (I.faults inputs.old) (I.faults inputs.new) }
-    ensures reads { causes.HasReadCause name.now (I.faults inputs.old) (I.faults inputs.new) result }
-{
-    match lines.line_at_hand() {
-        Some(found) => end_of(found, lines.number()),
-        None => read_line(inputs, name, lines, pieces, out),
-    }
-}
-
-/// Writes what is kept, and then reads on to the end of the next line.
-#[cold]
-#[inline(never)]
-fn read_line<I: Inputs, O: Sink>(
-    inputs: &mut I,
-    name: &str,
-    lines: &mut LineReader,
-    pieces: &mut Pieces,
-    out: &mut O,
-) -> Result<bool, DriveEnd>
-    requires lines { lines.old.failed ≡ false }
-    requires usable { pieces.old.failed ≡ false }
-    ensures next { Follows lines.old lines.new (I.left inputs.old name.now) (I.left inputs.new name.now) result }
-    ensures flushes { Flushes (causes.is_write result)
-        (O.wrote out.old) (O.wrote out.new) (O.faults out.old) (O.faults out.new) pieces.old pieces.new }
-    ensures others { OthersKept name.now (I.left inputs.old) (I.left inputs.new) }
-    ensures counts { NoneFalls (I.faults inputs.old) (I.faults inputs.new) }
-    ensures reads { causes.HasReadCause name.now (I.faults inputs.old) (I.faults inputs.new) result }
-{
-    match pieces.finish(out) {
-        Ok(()) => {
-            let found = lines.next_line(inputs, name);
-            end_of(found, lines.number())
-        }
-        Err(_) => Err(DriveEnd::Write),
-    }
-}
-
-/// The answer for the line of that number.
-#[inline(always)]
-fn end_of(found: Result<bool, LineEnd>, number: u64) -> Result<bool, DriveEnd>
-    ensures { result ≡ found_or_end number found }
-{
-    match found {
-        Ok(found) => Ok(found),
-        Err(LineEnd::Read) => Err(DriveEnd::Read),
-        Err(LineEnd::TooLong) => Err(DriveEnd::Line(number, LineFault::LineTooLong)),
-        Err(LineEnd::FileTooLong) => Err(DriveEnd::FileTooLong),
-    }
 }

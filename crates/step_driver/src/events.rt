@@ -115,8 +115,8 @@ fn run_event<G: Engine, O: Sink>(
     put_end::<G, O>(engine, index, event, end, pieces, out)
 }
 
-/// Gives each input the value that the line names for it.
-fn set_inputs<G: Engine>(engine: &mut G, vals: &InputVals)
+/// Gives each input the value that the line names for it. It takes no memory.
+pub fn set_inputs<G: Engine>(engine: &mut G, vals: &InputVals)
     requires running { G.stage engine.old ≡ Running }
     requires few { length vals.now.values < 2 ^ 32 }
     requires vals { AreInputValues (G.declared (G.program engine.old)) 0 vals.now.values }

@@ -1,7 +1,9 @@
 use Rattle.std.proofs.Common.{◌≡◌, false, sym, ◌∙◌}
 use Rattle.trace_text.proofs.PieceLemmas.{kept_now}
 use Rattle.step_driver.specs.Causes.{is_write}
+use Rattle.step_driver.specs.Driving.{Drives, engine_runs}
 use Rattle.step_driver.proofs.Buffered.{finished, not_finished}
+use Rattle.step_driver.proofs.EngineRuns.{driver_laws}
 use Rattle.step_driver.proofs.LeavingLemmas.{cut_leaves}
 use Rattle.step_driver.proofs.driver.drive.Goals as goal
 
@@ -14,7 +16,12 @@ returns-in-Ok-clause-drives g c =
     let whole : is_write lines.result ≡ false = sym lines.ensures.failed ∙ usable in
     let s = lines.ensures.ends in
     let stopped = rw whole at s in
-    finished _ _ _ _ _ _ _ _ _ _ _ _ held.bytes lines.result stopped (c.in-Ok.ensures.written _ _ held.bytes (kept_now _ _ held usable))
+    let x = g.G.Engine in
+    let k = x.program c.args.engine.now in
+    finished (engine_runs (x.Starts k) (x.Reacts k) (x.tree k) (x.declared k))
+    (Drives (x.Starts k) (x.Reacts k) (x.tree k) (x.declared k))
+    (driver_laws (x.Starts k) (x.Reacts k) (x.tree k) (x.declared k) (g.met.G.Engine.one_start k)) _ _ _ _ _ _ _ _ held.bytes _
+    lines.result stopped (c.in-Ok.ensures.written _ _ held.bytes (kept_now _ _ held usable))
 
 pub returns-in-Ok-clause-writes : goal.returns-in-Ok-clause-writes
 returns-in-Ok-clause-writes g c =
@@ -36,7 +43,12 @@ returns-in-Err-clause-drives g c =
     let whole : is_write lines.result ≡ false = sym lines.ensures.failed ∙ usable in
     let s = lines.ensures.ends in
     let stopped = rw whole at s in
-    (not_finished _ _ _ _ _ _ _ _ _ _ _ _ held.bytes lines.result (g.met.G.Engine.one_start (g.G.Engine.program c.args.engine.now)) whole stopped
+    let x = g.G.Engine in
+    let p = x.program c.args.engine.now in
+    (not_finished (engine_runs (x.Starts p) (x.Reacts p) (x.tree p) (x.declared p))
+    (Drives (x.Starts p) (x.Reacts p) (x.tree p) (x.declared p))
+    (driver_laws (x.Starts p) (x.Reacts p) (x.tree p) (x.declared p) (g.met.G.Engine.one_start p)) _ _ _ _ _ _ _ _ held.bytes
+    lines.result whole stopped
     (c.in-Err.ensures.written _ _ held.bytes (kept_now _ _ held usable))).0
 
 pub returns-in-Err-clause-reads : goal.returns-in-Err-clause-reads
@@ -47,7 +59,12 @@ returns-in-Err-clause-reads g c =
     let whole : is_write lines.result ≡ false = sym lines.ensures.failed ∙ usable in
     let s = lines.ensures.ends in
     let stopped = rw whole at s in
-    let k = not_finished _ _ _ _ _ _ _ _ _ _ _ _ held.bytes lines.result (g.met.G.Engine.one_start (g.G.Engine.program c.args.engine.now)) whole stopped
+    let x = g.G.Engine in
+    let p = x.program c.args.engine.now in
+    let k = not_finished (engine_runs (x.Starts p) (x.Reacts p) (x.tree p) (x.declared p))
+    (Drives (x.Starts p) (x.Reacts p) (x.tree p) (x.declared p))
+    (driver_laws (x.Starts p) (x.Reacts p) (x.tree p) (x.declared p) (g.met.G.Engine.one_start p)) _ _ _ _ _ _ _ _ held.bytes
+    lines.result whole stopped
     (c.in-Err.ensures.written _ _ held.bytes (kept_now _ _ held usable)) in
     record { fault = λ is. absurd (cc); others = λ _. lines.ensures.reads.others k.1 }
 
@@ -59,7 +76,12 @@ returns-in-Err-clause-writes g c =
     let whole : is_write lines.result ≡ false = sym lines.ensures.failed ∙ usable in
     let s = lines.ensures.ends in
     let stopped = rw whole at s in
-    let k = not_finished _ _ _ _ _ _ _ _ _ _ _ _ held.bytes lines.result (g.met.G.Engine.one_start (g.G.Engine.program c.args.engine.now)) whole stopped
+    let x = g.G.Engine in
+    let p = x.program c.args.engine.now in
+    let k = not_finished (engine_runs (x.Starts p) (x.Reacts p) (x.tree p) (x.declared p))
+    (Drives (x.Starts p) (x.Reacts p) (x.tree p) (x.declared p))
+    (driver_laws (x.Starts p) (x.Reacts p) (x.tree p) (x.declared p) (g.met.G.Engine.one_start p)) _ _ _ _ _ _ _ _ held.bytes
+    lines.result whole stopped
     (c.in-Err.ensures.written _ _ held.bytes (kept_now _ _ held usable)) in
     record { fault = λ _. k.2; others = λ is. absurd (cc) }
 
@@ -71,6 +93,11 @@ returns-in-Err-clause-leaves g c =
     let whole : is_write lines.result ≡ false = sym lines.ensures.failed ∙ usable in
     let s = lines.ensures.ends in
     let stopped = rw whole at s in
-    let k = not_finished _ _ _ _ _ _ _ _ _ _ _ _ held.bytes lines.result (g.met.G.Engine.one_start (g.G.Engine.program c.args.engine.now)) whole stopped
+    let x = g.G.Engine in
+    let p = x.program c.args.engine.now in
+    let k = not_finished (engine_runs (x.Starts p) (x.Reacts p) (x.tree p) (x.declared p))
+    (Drives (x.Starts p) (x.Reacts p) (x.tree p) (x.declared p))
+    (driver_laws (x.Starts p) (x.Reacts p) (x.tree p) (x.declared p) (g.met.G.Engine.one_start p)) _ _ _ _ _ _ _ _ held.bytes
+    lines.result whole stopped
     (c.in-Err.ensures.written _ _ held.bytes (kept_now _ _ held usable)) in
     cut_leaves _ _ _ _ _ _ _ lines.result k.1 lines.ensures.memory lines.ensures.leaves

@@ -1,6 +1,6 @@
 use Rattle.trace_text.proofs.PieceLemmas.{kept_now}
 use Rattle.step_driver.proofs.Buffered.{flush_done}
-use Rattle.step_driver.proofs.driver.read_line.Goals as goal
+use Rattle.step_driver.proofs.lines.read_line.Goals as goal
 
 -- what is kept was written, whatever the next line is
 pub returns-in-Ok-clause-flushes : goal.returns-in-Ok-clause-flushes
@@ -9,7 +9,7 @@ returns-in-Ok-clause-flushes g c =
     let k = c.finish.ensures.kept in
     let written = rw c.in-Ok.is at e in
     let none = rw c.in-Ok.is at k in
-    rw c.end_of.ensures (flush_done _ _ _ _ _ _ _ _ c.requires.usable written none)
+    rw c.found_or_none.ensures (flush_done _ _ _ _ _ _ _ _ c.requires.usable written none)
 
 -- it can't be written
 pub returns-in-Err-clause-flushes : goal.returns-in-Err-clause-flushes

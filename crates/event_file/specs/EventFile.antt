@@ -1,5 +1,6 @@
 -- What the lines of a file say, and where they stop; and the events of an event file.
-use Rattle.std.specs.Prelude.{ℕ, ◌+◌, nat_lt, nat_le, Bool, List, [], ◌∷◌, length, Option, Some, None, Result, Ok, Err, if◌then◌else◌}
+use Rattle.std.specs.Prelude.{ℕ, ◌+◌, nat_lt, nat_le, Bool, List, [], ◌∷◌, length, Option, Some, None, Result, Ok, Err}
+use Rattle.std.specs.Prelude.{if◌then◌else◌}
 use Rattle.actions.specs.Names.{Names}
 use Rattle.event_file.specs.declared.fault.LineFault.{LineFault}
 use Rattle.event_file.specs.declared.fault.LineFault.TheVariants as faults
@@ -46,7 +47,8 @@ with_limit None number file = file
 
 -- The events of lines, by what each line says: the first of them begins after `at` bytes of the file, has that number, and has
 -- `count` events before it; long says whether the file has more bytes than it may.
-unfoldable pub events_of : {A : Type 0} → (List ℕ → Result (Option A) LineFault) → Bool → ℕ → ℕ → ℕ → List (List ℕ) → FileOf A
+unfoldable pub events_of : {A : Type 0} → (List ℕ → Result (Option A) LineFault) → Bool → ℕ → ℕ → ℕ → List (List ℕ)
+    → FileOf A
 events_of say long at number count [] = stopped AtEnd
 events_of say long at number count (raw ∷ raws) =
     with_limit (line_limit long at (length raw)) number

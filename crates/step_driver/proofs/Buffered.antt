@@ -1,6 +1,8 @@
 -- The trace of a run, some of which is kept until bytes are read: what was written, and what is still to be written.
-use Rattle.std.proofs.Common.{◌≡◌, ℕ, ◌+◌, ◌≤◌, ◌⊎◌, Bool, true, false, List, [], ◌++◌, length, take, Option, Some, None}
-use Rattle.std.proofs.Common.{Result, Ok, Err, refl, sym, ap, ◌∙◌, subst, arith, append_assoc, append-nil, length-append, inl, inr}
+use Rattle.std.proofs.Common.{◌≡◌, ℕ, ◌+◌, ◌≤◌, ◌⊎◌, Bool, true, false, List, [], ◌++◌, length, take, Option, Some}
+use Rattle.std.proofs.Common.{None}
+use Rattle.std.proofs.Common.{Result, Ok, Err, refl, sym, ap, ◌∙◌, subst, arith, append_assoc, append-nil}
+use Rattle.std.proofs.Common.{length-append, inl, inr}
 use Rattle.std.specs.Prelude.{is_some}
 use Rattle.std.specs.Io.KnownBytes.{append_known, IsAtEnd}
 use Rattle.std.proofs.lemmas.List.{length-take-le}
@@ -21,7 +23,8 @@ use Rattle.step_driver.specs.Driving.{Seen, TakesNoMore, WroteAll, WroteSome}
 use Rattle.step_driver.specs.Ending.{BeginIsOut, DoneBy, Stopped, LinesEnd, given_text}
 use Rattle.step_driver.specs.NextLines.{Follows, Flushes, Moves, failed_to_read, failed_to_write, found_or_none}
 use Rattle.step_driver.specs.StepRuns.{StepRuns}
-use Rattle.step_driver.proofs.Driven.{RunLaws, Driven, FirstRun, EndOf, NoLineDone, driven_first, takes_lines, nothing_more}
+use Rattle.step_driver.proofs.Driven.{RunLaws, Driven, FirstRun, EndOf, NoLineDone, driven_first, takes_lines}
+use Rattle.step_driver.proofs.Driven.{nothing_more}
 use Rattle.step_driver.proofs.Driven.{all_driven, lines_end}
 use Rattle.step_driver.proofs.FileLemmas.{reads_fills}
 use Rattle.step_driver.proofs.FilePlaces.{line_at_hand}
@@ -75,7 +78,8 @@ rose_after f f1 f2 same rose = subst (λ (m : ℕ). Rose m f2) same rose
 -- ---- the next line
 
 -- what is kept was written
-pub flush_done : (wrote wrote' : Option (List ℕ)) (f f' : ℕ) (held held' : Held) (number : ℕ) (found : Result Bool LineEnd)
+pub flush_done : (wrote wrote' : Option (List ℕ)) (f f' : ℕ) (held held' : Held) (number : ℕ)
+    (found : Result Bool LineEnd)
     → held.failed ≡ false
     → ((w : Option (List ℕ)) (g : ℕ) (all : List ℕ) → Written w wrote g f all held → Ends w wrote' g f' all (Ok tt))
     → held' ≡ nothing_held → Flushes (failed_to_write (found_or_none number found)) wrote wrote' f f' held held'
@@ -111,9 +115,10 @@ not_read r r' left left' no_lines.Write ready next = refl
 module _ (s : StepRuns) where
   -- ---- what was written
 
-  -- No write failed and the sink was given that text. No more was taken of the file than lines whose trace it has, and a buffer,
-  -- and nothing before it had what the trace begins with.
-  pub record Sent (wrote now : Option (List ℕ)) (f f' : ℕ) (before left : Option (List ℕ)) (sent : List ℕ) : Type 0 where
+  -- No write failed and the sink was given that text. No more was taken of the file than lines whose trace it has, and
+  -- a buffer, and nothing before it had what the trace begins with.
+  pub record Sent (wrote now : Option (List ℕ)) (f f' : ℕ) (before left : Option (List ℕ))
+      (sent : List ℕ) : Type 0 where
     pub written : now ≡ append_known wrote sent
     pub count : f' ≡ f
     pub no_more : TakesNoMore s (given_text wrote sent before left)
@@ -136,7 +141,8 @@ module _ (s : StepRuns) where
     more = k.more ++ more;
     ran = k.ran;
     wrote = is ∙ sym (append_known-append wrote sent more) ∙ ap (λ (z : Option (List ℕ)). append_known z more) k.wrote
-        ∙ append_known-append wrote (k.trace ++ k.more) more ∙ ap (append_known wrote) (append_assoc k.trace k.more more);
+        ∙ append_known-append wrote (k.trace ++ k.more) more
+            ∙ ap (append_known wrote) (append_assoc k.trace k.more more);
   })
 
   begun_later : (before left : Option (List ℕ)) (sent more : List ℕ) → BeginIsOut s before left sent
@@ -235,7 +241,8 @@ module _ (s : StepRuns) where
       (before left left' : Option (List ℕ)) (held held' : Held) (r : Reading) (index : ℕ) (failed : Bool)
       → Buffered State wrote now f f1 before left held r index → Moves failed r left left' now now' f1 f2 held held'
       → held'.failed ≡ failed
-  next_failed State wrote now now' f f1 f2 before left left' held held' r index failed b (inl (_, _, _, _, same, none)) =
+  next_failed State wrote now now' f f1 f2 before left left' held held' r index failed b
+      (inl (_, _, _, _, same, none)) =
       ap (λ (h : Held). h.failed) same ∙ b.usable ∙ sym none
   next_failed State wrote now now' f f1 f2 before left left' held held' r index false b (inr (_, none)) =
       ap (λ (h : Held). h.failed) none
@@ -256,13 +263,14 @@ module _ (s : StepRuns) where
         out = sent_more wrote now now' f f1 f2 before left' b.sent (held.bytes ++ put) held'.bytes b.out p;
         usable = usable;
         driven = subst (λ (z : List ℕ). Driven s State' before left' r' next_index z)
-            (append_assoc b.sent held.bytes put ∙ parts_of b.sent (held.bytes ++ put) p.sent held'.bytes p.parts) driven;
+            (append_assoc b.sent held.bytes put
+                ∙ parts_of b.sent (held.bytes ++ put) p.sent held'.bytes p.parts) driven;
       }
 
 -- ---- what a driver says by its answers
 
--- What holds of a driver of steps: what it answers where no line can be taken and at the end of the file, what it does then, and
--- that what it wrote after any other answer is the trace of the first steps, or nothing.
+-- What holds of a driver of steps: what it answers where no line can be taken and at the end of the file, what it does
+-- then, and that what it wrote after any other answer is the trace of the first steps, or nothing.
 pub record DriverLaws (s : StepRuns) (D : DoneBy s) : Type 0 where
   pub runs : RunLaws s
   pub error_of : NoLine → s.Error
@@ -272,11 +280,14 @@ pub record DriverLaws (s : StepRuns) (D : DoneBy s) : Type 0 where
   pub is_write : Result (Unit {0}) s.Error → Bool
   pub reads : (end : NoLine) → is_read (Err (error_of end)) ≡ failed_to_read (Err end)
   pub writes : (end : NoLine) → is_write (Err (error_of end)) ≡ failed_to_write (Err end)
-  pub last : (before left : Option (List ℕ)) (text : List ℕ) (result : Result (Unit {0}) s.Error) → is_read result ≡ false
-      → is_write result ≡ false → D (given_text (Some []) text before left) result → (text ≡ []) ⊎ FirstRun s before text
+  pub last : (before left : Option (List ℕ)) (text : List ℕ) (result : Result (Unit {0}) s.Error)
+      → is_read result ≡ false
+      → is_write result ≡ false → D (given_text (Some []) text before left) result
+          → (text ≡ []) ⊎ FirstRun s before text
 
 -- the whole trace is that of the first steps
-pub run_of_all : (s : StepRuns) (before left : Option (List ℕ)) (text : List ℕ) (result : Result (Unit {0}) s.Error) → RunLaws s
+pub run_of_all : (s : StepRuns) (before left : Option (List ℕ)) (text : List ℕ) (result : Result (Unit {0}) s.Error)
+    → RunLaws s
     → WroteAll s (given_text (Some []) text before left) result → FirstRun s before text
 run_of_all s before left text result laws a =
     let same : text ≡ a.trace = let e = a.wrote in cc in
@@ -335,7 +346,8 @@ module _ (s : StepRuns) (D : DoneBy s) (laws : DriverLaws s D) where
           subst (λ (z : List ℕ). AppendsProperFront wrote now' z) same short in
           let begins : sent ++ piece ≡ b.first ++ (b.more ++ piece) =
           ap (λ (z : List ℕ). z ++ piece) b.begins ∙ append_assoc b.first b.more piece in
-          absurd (not_first wrote now' b.first (b.more ++ piece) (out_is ∙ ap (append_known wrote) begins) told short_is)
+          absurd (not_first wrote now' b.first (b.more ++ piece)
+              (out_is ∙ ap (append_known wrote) begins) told short_is)
 
   -- how the lines end, by the laws
   abbrev pub End : Bool → Bool → Option (List ℕ) → Option (List ℕ) → ℕ → ℕ → Option (List ℕ) → Option (List ℕ) → List ℕ
@@ -344,7 +356,8 @@ module _ (s : StepRuns) (D : DoneBy s) (laws : DriverLaws s D) where
       LinesEnd s D failed (laws.error_of no_lines.Write) read wrote now f f' before left held result
 
   -- a last text was put, and the lines end
-  ends_at : (wrote now now' : Option (List ℕ)) (f f1 f2 : ℕ) (before left : Option (List ℕ)) (sent text : List ℕ) (new : Held)
+  ends_at : (wrote now now' : Option (List ℕ)) (f f1 f2 : ℕ) (before left : Option (List ℕ)) (sent text : List ℕ)
+      (new : Held)
       (b read : Bool) (result : Result (Unit {0}) s.Error) → Sent s wrote now f f1 before left sent
       → Written now now' f1 f2 text new → new.failed ≡ b → EndOf s D b before left (sent ++ text) result → read ≡ false
       → End b read wrote now' f f2 before left new.bytes result
@@ -384,7 +397,8 @@ module _ (s : StepRuns) (D : DoneBy s) (laws : DriverLaws s D) where
       → (b : Between s State wrote now f f1 before left left' held r r' index) → held'.failed ≡ failed → read ≡ false
       → Puts now now' f1 f2 held held' put → EndOf s D failed before left' ((b.sent ++ held.bytes) ++ put) result
       → End failed read wrote now' f f2 before left' held'.bytes result
-  line_stops State wrote now now' f f1 f2 before left left' held held' r r' index failed read put result b is no_read puts e =
+  line_stops State wrote now now' f f1 f2 before left left' held held' r r' index failed read put result b
+      is no_read puts e =
       ends_at wrote now now' f f1 f2 before left' b.sent (held.bytes ++ put) held' failed read result b.out
       (put_after now now' f1 f2 held held' put b.usable puts) is
       (subst (λ (z : List ℕ). EndOf s D failed before left' z result) (append_assoc b.sent held.bytes put) e) no_read
@@ -402,7 +416,8 @@ module _ (s : StepRuns) (D : DoneBy s) (laws : DriverLaws s D) where
         sent = sent ++ p.sent;
         written = k'.written;
         count = k'.count;
-        drives = λ w. subst (λ (z : List ℕ). D (given_text w z before left') result) (parts_of sent held p.sent [] p.parts)
+        drives = λ w. subst (λ (z : List ℕ). D (given_text w z before left') result)
+            (parts_of sent held p.sent [] p.parts)
             (drives w);
         kept = inl refl;
         read_all = λ _. refl;
@@ -480,11 +495,14 @@ module _ (s : StepRuns) (D : DoneBy s) (laws : DriverLaws s D) where
       → Moves (failed_to_write (Err end)) r left left' now now' f1 f2 held held'
       → End (failed_to_write (Err end)) (failed_to_read (Err end)) wrote now' f f2 before left' held'.bytes
       (Err (laws.error_of end))
-  no_line_stops State wrote now now' f f1 f2 before left left' held held' r r' index (no_lines.TooLong number) b next moves =
-      lines_stop State wrote now now' f f1 f2 before left left' held held' r r' index (no_lines.TooLong number) b next refl
+  no_line_stops State wrote now now' f f1 f2 before left left' held held' r r' index
+      (no_lines.TooLong number) b next moves =
+      lines_stop State wrote now now' f f1 f2 before left left' held held' r r' index
+          (no_lines.TooLong number) b next refl
       moves
   no_line_stops State wrote now now' f f1 f2 before left left' held held' r r' index no_lines.FileTooLong b next moves =
-      lines_stop State wrote now now' f f1 f2 before left left' held held' r r' index no_lines.FileTooLong b next refl moves
+      lines_stop State wrote now now' f f1 f2 before left left' held held' r r' index no_lines.FileTooLong b next refl
+          moves
   no_line_stops State wrote now now' f f1 f2 before left left' held held' r r' index no_lines.Read b next moves =
       lines_stop State wrote now now' f f1 f2 before left left' held held' r r' index no_lines.Read b next refl moves
   no_line_stops State wrote now now' f f1 f2 before left left' held held' r r' index no_lines.Write b next moves =
@@ -495,10 +513,12 @@ module _ (s : StepRuns) (D : DoneBy s) (laws : DriverLaws s D) where
       (before left left' : Option (List ℕ)) (held held' : Held) (r r' : Reading) (index : ℕ) (end : NoLine)
       → Buffered s State wrote now f f1 before left held r index → Follows r r' left left' (Err end)
       → Moves (failed_to_write (Err end)) r left left' now now' f1 f2 held held'
-      → End (laws.is_write (Err (laws.error_of end))) (laws.is_read (Err (laws.error_of end))) wrote now' f f2 before left'
+      → End (laws.is_write (Err (laws.error_of end)))
+          (laws.is_read (Err (laws.error_of end))) wrote now' f f2 before left'
       held'.bytes (Err (laws.error_of end))
   next_stops State wrote now now' f f1 f2 before left left' held held' r r' index end b next moves =
-      subst (λ (failed : Bool). End failed (laws.is_read (Err (laws.error_of end))) wrote now' f f2 before left' held'.bytes
+      subst (λ (failed : Bool). End failed
+          (laws.is_read (Err (laws.error_of end))) wrote now' f f2 before left' held'.bytes
       (Err (laws.error_of end))) (sym (laws.writes end))
       (subst (λ (read : Bool). End (failed_to_write (Err end)) read wrote now' f f2 before left' held'.bytes
       (Err (laws.error_of end))) (sym (laws.reads end))
@@ -507,13 +527,15 @@ module _ (s : StepRuns) (D : DoneBy s) (laws : DriverLaws s D) where
   -- ---- what is kept at the end
 
   -- it was written
-  pub finished : (wrote now now' : Option (List ℕ)) (f f1 f2 : ℕ) (before left : Option (List ℕ)) (held : List ℕ) (read : Bool)
+  pub finished : (wrote now now' : Option (List ℕ)) (f f1 f2 : ℕ) (before left : Option (List ℕ)) (held : List ℕ)
+      (read : Bool)
       (result : Result (Unit {0}) s.Error) → Stopped s D read wrote now f f1 before left held result
       → Passed now now' f1 f2 held []
       → D (record { wrote_before = wrote; wrote_after = now'; left_before = before; left_after = left }) result
   finished wrote now now' f f1 f2 before left held read result k p =
       let is : now' ≡ append_known wrote (k.sent ++ held) =
-      p.written ∙ ap (λ (z : Option (List ℕ)). append_known z p.sent) k.written ∙ append_known-append wrote k.sent p.sent
+      p.written ∙ ap (λ (z : Option (List ℕ)). append_known z p.sent) k.written
+          ∙ append_known-append wrote k.sent p.sent
       ∙ ap (λ (z : List ℕ). append_known wrote (k.sent ++ z)) (sym (p.parts ∙ append-nil p.sent)) in
       subst (λ (z : Option (List ℕ)). D (record {
         wrote_before = wrote;

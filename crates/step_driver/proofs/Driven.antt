@@ -1,7 +1,9 @@
--- A run over the steps of a file, as its lines are taken one after the other, and how it ends. What its trace is, is told of any
--- sink that is given all of it.
-use Rattle.std.proofs.Common.{◌≡◌, ℕ, ◌+◌, ◌<◌, ◌≤◌, ◌⊎◌, Bool, true, false, nat_le, List, [], ◌∷◌, ◌++◌, length, Option, Some, None}
-use Rattle.std.proofs.Common.{Result, Ok, Err, refl, sym, ap, ◌∙◌, subst, arith, append_assoc, append-nil, length-append, inl, inr}
+-- A run over the steps of a file, as its lines are taken one after the other, and how it ends. What its trace is, is
+-- told of any sink that is given all of it.
+use Rattle.std.proofs.Common.{◌≡◌, ℕ, ◌+◌, ◌<◌, ◌≤◌, ◌⊎◌, Bool, true, false, nat_le, List, [], ◌∷◌, ◌++◌, length}
+use Rattle.std.proofs.Common.{Option, Some, None}
+use Rattle.std.proofs.Common.{Result, Ok, Err, refl, sym, ap, ◌∙◌, subst, arith, append_assoc, append-nil}
+use Rattle.std.proofs.Common.{length-append, inl, inr}
 use Rattle.std.specs.Io.KnownBytes.{append_known, IsAtEnd}
 use Rattle.std.proofs.lemmas.Bool.Decides.{nat_tests}
 use Rattle.flow_base.proofs.Pieces.{prepend_known-append}
@@ -18,7 +20,8 @@ use Rattle.step_driver.specs.Driving.{Seen, IsText, WroteAll, WroteGiven, WroteP
 use Rattle.step_driver.specs.Ending.{Begins, DoneBy, given_text}
 use Rattle.step_driver.specs.NextLines.{Follows, failed_to_write}
 use Rattle.step_driver.specs.StepRuns.{StepRuns}
-use Rattle.step_driver.proofs.FileLemmas.{Reads, LineSays, events_at, Whole, reads_fills, reads_line, whole_file, whole_end}
+use Rattle.step_driver.proofs.FileLemmas.{Reads, LineSays, events_at, Whole, reads_fills, reads_line, whole_file}
+use Rattle.step_driver.proofs.FileLemmas.{whole_end}
 use Rattle.step_driver.proofs.FileLemmas.{whole_too_long, whole_past_file, whole_lines, taken_events, line_skipped}
 use Rattle.step_driver.proofs.FileLemmas.{line_with_event, whole_event, whole_too_many, whole_refused}
 use Rattle.step_driver.proofs.FilePlaces.{told, taken_closed, line_at_hand}
@@ -39,7 +42,8 @@ pub record RunLaws (s : StepRuns) : Type 0 where
   pub one_begin : (a b : List ℕ) → s.IsBegin a → s.IsBegin b → a ≡ b
 
 module _ (s : StepRuns) where
-  -- the lines taken so far gave these steps, over which there is a run that didn't end before them; its trace is that text
+  -- the lines taken so far gave these steps, over which there is a run that didn't end before them; its trace is that
+  -- text
   pub record Driven (State : List s.Step → List ℕ → Type 0) (before left : Option (List ℕ)) (r : Reading) (index : ℕ)
       (text : List ℕ) : Type 0 where
     pub events : List s.Step
@@ -87,7 +91,8 @@ module _ (s : StepRuns) where
       (result : Result (Unit {0}) s.Error) → Whole s.say before (record { events = events; stop = stop })
       → s.Ran events text None → result ≡ s.answer_of None stop → WroteAll s (given_text wrote text before left) result
   whole_trace wrote before left events stop text result file ran is =
-      let are_events : (file_of s.say file.text).events ≡ events = ap (λ (f : FileOf s.Step). f.events) file.are_events in
+      let are_events : (file_of s.say file.text).events ≡ events = ap
+          (λ (f : FileOf s.Step). f.events) file.are_events in
       let at : (file_of s.say file.text).stop ≡ stop = ap (λ (f : FileOf s.Step). f.stop) file.are_events in
       record {
         text = file.text;
@@ -187,7 +192,8 @@ module _ (s : StepRuns) where
   -- ---- a line that was taken
 
   -- what the line says comes next
-  pub line_says : (State : List s.Step → List ℕ → Type 0) (before left left' : Option (List ℕ)) (r r' : Reading) (index : ℕ)
+  pub line_says : (State : List s.Step → List ℕ → Type 0) (before left left' : Option (List ℕ)) (r r' : Reading)
+      (index : ℕ)
       (text : List ℕ) → (d : Driven State before left r index text) → Nexts r r' left left' (Ok true)
       → LineSays s.say before d.events r' left'
   line_says State before left left' r r' index text d next =
@@ -222,7 +228,8 @@ module _ (s : StepRuns) where
     }
 
     -- the line says a step, after which the run goes on
-    pub line_stepped : (State' : List s.Step → List ℕ → Type 0) (step : s.Step) (line : List ℕ) → s.say r'.line ≡ Ok (Some step)
+    pub line_stepped : (State' : List s.Step → List ℕ → Type 0) (step : s.Step) (line : List ℕ)
+        → s.say r'.line ≡ Ok (Some step)
         → nat_le EVENT_LIMIT index ≡ false → s.Ran (d.events ++ step ∷ []) (text ++ line) None
         → State' (d.events ++ step ∷ []) (text ++ line) → Driven State' before left' r' (index + 1) (text ++ line)
     line_stepped State' step line is few ran state = record {
@@ -242,7 +249,8 @@ module _ (s : StepRuns) where
     }
 
     -- the steps stop at the line, and nothing is put
-    stopped_at : (stop : Stop) → Whole s.say before (record { events = d.events; stop = stop }) → (wrote : Option (List ℕ))
+    stopped_at : (stop : Stop) → Whole s.say before (record { events = d.events; stop = stop })
+        → (wrote : Option (List ℕ))
         → Wrote s (given_text wrote (text ++ []) before left') (s.answer_of None stop)
     stopped_at stop file wrote = (
       whole_trace wrote before left' d.events stop (text ++ []) (s.answer_of None stop) file
@@ -305,7 +313,8 @@ module _ (s : StepRuns) where
     -- memory runs out at the step, and nothing is put
     pub line_wants : (step : s.Step) → RunLaws s → s.say r'.line ≡ Ok (Some step) → nat_le EVENT_LIMIT index ≡ false
         → (wrote : Option (List ℕ))
-        → WroteSome s (given_text wrote (text ++ []) before left') × TakesNoMore s (given_text wrote (text ++ []) before left')
+        → WroteSome s (given_text wrote (text ++ []) before left') × TakesNoMore s
+            (given_text wrote (text ++ []) before left')
     line_wants step laws is few wrote =
         let file = whole_event s.say before d.events r' left' step
         (line_says State before left left' r r' index text d next) is (few_so_far false few) in (

@@ -1,5 +1,6 @@
 -- A run of an engine over an event file, as its lines are taken one after the other, and how it ends.
-use Rattle.std.proofs.Common.{◌≡◌, ◌≢◌, ℕ, ◌+◌, ◌⊎◌, Bool, true, false, nat_le, List, [], ◌∷◌, ◌++◌, length, Option, Some, None}
+use Rattle.std.proofs.Common.{◌≡◌, ◌≢◌, ℕ, ◌+◌, ◌⊎◌, Bool, true, false, nat_le, List, [], ◌∷◌, ◌++◌, length, Option}
+use Rattle.std.proofs.Common.{Some, None}
 use Rattle.std.proofs.Common.{Result, Ok, Err, refl, sym, ap, ◌∙◌, subst, arith, append-nil, inl, inr}
 use Rattle.flow_base.specs.Causes.{Rose, AllStay}
 use Rattle.flow_base.specs.declared.fault.Fault.{Fault}
@@ -26,8 +27,10 @@ use Rattle.step_driver.specs.Parts.{Done, Tried, LineTaken, end_of_line}
 use Rattle.step_driver.specs.StepRuns.{StepRuns}
 use Rattle.step_driver.specs.Traces.{Ran, RunFault}
 use Rattle.step_driver.proofs.Buffered.{DriverLaws, run_of_all, run_of_some}
-use Rattle.step_driver.proofs.Driven.{RunLaws, Driven, FirstRun, EndOf, NoLineDone, line_passed, line_stepped, line_refused}
-use Rattle.step_driver.proofs.Driven.{line_too_many, line_ended, line_cut, line_wants, begun_first, begun_ended, begun_wants}
+use Rattle.step_driver.proofs.Driven.{RunLaws, Driven, FirstRun, EndOf, NoLineDone, line_passed, line_stepped}
+use Rattle.step_driver.proofs.Driven.{line_refused}
+use Rattle.step_driver.proofs.Driven.{line_too_many, line_ended, line_cut, line_wants, begun_first, begun_ended}
+use Rattle.step_driver.proofs.Driven.{begun_wants}
 use Rattle.step_driver.proofs.FileLemmas.{reads_nothing}
 use Rattle.step_driver.proofs.RunLemmas.{SoFar, started, start_faulted, one_more, ran_so_far, event_faulted}
 
@@ -51,7 +54,8 @@ writes_same no_lines.Write = refl
 
 -- no count rose before
 pub read_cause : (name : List ℕ) (before between after : List ℕ → ℕ) (end : NoLine) → AllStay before between
-    → ReadCause (failed_to_read (Err end)) name between after → HasReadCause {T = Unit {0}} name before after (Err (end_of_line end))
+    → ReadCause (failed_to_read (Err end)) name between after
+        → HasReadCause {T = Unit {0}} name before after (Err (end_of_line end))
 read_cause name before between after end stay c = record {
   fault = λ is. subst (λ (m : ℕ). Rose m (after name)) (stay name) (c.fault (sym (reads_same end) ∙ is));
   others = λ is other. c.others (sym (reads_same end) ∙ is) other ∙ stay other;
@@ -91,7 +95,8 @@ module _ (start : StartRelation) (react : ReactionRelation) (t : Tree) (n : Name
     one_begin = one_line one;
   }
 
-  pub no_line_done : (seen : Seen) (end : NoLine) → NoLineDone s seen end → Drives start react t n seen (Err (end_of_line end))
+  pub no_line_done : (seen : Seen) (end : NoLine) → NoLineDone s seen end
+      → Drives start react t n seen (Err (end_of_line end))
   no_line_done seen (no_lines.TooLong number) done = done
   no_line_done seen no_lines.FileTooLong done = done
   no_line_done seen no_lines.Read done = done
@@ -170,7 +175,8 @@ module _ (start : StartRelation) (react : ReactionRelation) (t : Tree) (n : Name
             (λ events. record { events = []; rest = events; first_events = refl; ran = ran.1 }),
       )
     where
-      start_ran : (f : Option Fault) → start w f → (fault : Option RunFault) × Ran start react t n [] (start_line w f) fault
+      start_ran : (f : Option Fault) → start w f
+          → (fault : Option RunFault) × Ran start react t n [] (start_line w f) fault
       start_ran None starts = (None, ran_so_far start react t n [] w _ (started start react t n w starts))
       start_ran (Some f) starts =
           (Some (record { index = 0; fault = f }), start_faulted start react t n w f [] starts)
@@ -181,7 +187,8 @@ module _ (start : StartRelation) (react : ReactionRelation) (t : Tree) (n : Name
   -- ---- a line that was taken
 
   module _ (before left left' : Option (List ℕ)) (r r' : Reading) (w w' : World) (index : ℕ) (text : List ℕ)
-      (P : List ℕ → Type 0) (d : Driven s (so_far w) before left r index text) (next : Nexts r r' left left' (Ok true)) where
+      (P : List ℕ → Type 0) (d : Driven s (so_far w) before left r index text)
+          (next : Nexts r r' left left' (Ok true)) where
     -- the line of an event, by the count of the events before it
     counted_line : (e : EventWithInputs) (f : Option Fault)
         → trace_line t n w' (length d.events + 1) e.event f ≡ trace_line t n w' (index + 1) e.event f
@@ -194,7 +201,8 @@ module _ (start : StartRelation) (react : ReactionRelation) (t : Tree) (n : Name
         subst (λ (z : List ℕ). so_far w' (d.events ++ e ∷ []) (text ++ z)) (counted_line e None)
         (one_more start react t n d.events w w' text e d.state taken)
 
-    went_wrong : (e : EventWithInputs) (f : Fault) (rest : List EventWithInputs) → ReactsWithInputs react w e w' (Some f)
+    went_wrong : (e : EventWithInputs) (f : Fault) (rest : List EventWithInputs)
+        → ReactsWithInputs react w e w' (Some f)
         → Ran start react t n (d.events ++ e ∷ rest) (text ++ trace_line t n w' (index + 1) e.event (Some f))
         (Some (record { index = length d.events + 1; fault = f }))
     went_wrong e f rest taken =
@@ -203,11 +211,13 @@ module _ (start : StartRelation) (react : ReactionRelation) (t : Tree) (n : Name
         (event_faulted start react t n d.events w w' text e f rest d.state taken)
 
     -- the run goes on
-    pub line_driven : (next_index : ℕ) → LineTaken react t n r'.number index (event_of_line n r'.line) w w' P (Ok next_index)
+    pub line_driven : (next_index : ℕ)
+        → LineTaken react t n r'.number index (event_of_line n r'.line) w w' P (Ok next_index)
         → (put : List ℕ) × P put × Driven s (so_far w') before left' r' next_index (text ++ put)
     line_driven next_index taken = by_said (event_of_line n r'.line) refl taken
       where
-        by_count : (e : EventWithInputs) (b : Bool) → nat_le EVENT_LIMIT index ≡ b → event_of_line n r'.line ≡ Ok (Some e)
+        by_count : (e : EventWithInputs) (b : Bool) → nat_le EVENT_LIMIT index ≡ b
+            → event_of_line n r'.line ≡ Ok (Some e)
             → Tried b react t n index e w w' P (Ok next_index)
             → (put : List ℕ) × P put × Driven s (so_far w') before left' r' next_index (text ++ put)
         by_count e true many is (bad, _, _) = absurd (cc)
@@ -218,7 +228,8 @@ module _ (start : StartRelation) (react : ReactionRelation) (t : Tree) (n : Name
               line,
               done.1,
               subst (λ (m : ℕ). Driven s (so_far w') before left' r' m (text ++ line)) (sym one)
-                  (line_stepped s (so_far w) before left left' r r' index text d next (so_far w') e line is few ran state),
+                  (line_stepped s (so_far w) before left left' r r' index text d next
+                      (so_far w') e line is few ran state),
             )
 
         by_said : (said : Result (Option EventWithInputs) LineFault) → event_of_line n r'.line ≡ said
@@ -230,7 +241,8 @@ module _ (start : StartRelation) (react : ReactionRelation) (t : Tree) (n : Name
             let passed = line_passed s (so_far w) before left left' r r' index text d next (so_far w') is state in (
               [],
               puts,
-              rw index_is (subst (λ (z : List ℕ). Driven s (so_far w') before left' r' index z) (sym (append-nil text)) passed),
+              rw index_is (subst (λ (z : List ℕ). Driven s (so_far w') before left' r' index z)
+                  (sym (append-nil text)) passed),
             )
         by_said (Ok (Some e)) is h = by_count e (nat_le EVENT_LIMIT index) refl is h
         by_said (Err fault) is (bad, _, _) = absurd (cc)
@@ -263,7 +275,8 @@ module _ (start : StartRelation) (react : ReactionRelation) (t : Tree) (n : Name
             let ran = event_ran f stepping in (
               line,
               puts,
-              line_cut s (so_far w) before left left' r r' index text d next e line ran.0 (engine_laws one) is few ran.1,
+              line_cut s (so_far w) before left left' r r' index text d next e line ran.0
+                  (engine_laws one) is few ran.1,
             )
           where
             event_ran : (f : Option Fault) → ReactsWithInputs react w e w' f → (fault : Option RunFault)
@@ -276,7 +289,8 @@ module _ (start : StartRelation) (react : ReactionRelation) (t : Tree) (n : Name
         by_end ends.Memory e few is puts =
             ([], puts, line_wants s (so_far w) before left left' r r' index text d next e (engine_laws one) is few)
 
-        by_count : (e : EventWithInputs) (b : Bool) → nat_le EVENT_LIMIT index ≡ b → event_of_line n r'.line ≡ Ok (Some e)
+        by_count : (e : EventWithInputs) (b : Bool) → nat_le EVENT_LIMIT index ≡ b
+            → event_of_line n r'.line ≡ Ok (Some e)
             → Tried b react t n index e w w' P (Err end)
             → (put : List ℕ) × P put
             × EndOf s (Drives start react t n) (is_write {T = Unit {0}} (Err end)) before left' (text ++ put) (Err end)

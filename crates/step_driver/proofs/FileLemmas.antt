@@ -1,5 +1,7 @@
 -- What a file says, as its lines are taken one after the other.
-use Rattle.std.proofs.Common.{◌≡◌, ℕ, ◌+◌, ◌<◌, ◌≤◌, Bool, true, false, nat_lt, nat_le, List, [], ◌∷◌, ◌++◌, length, take, drop, Option, Some, None, Result, Ok, Err, refl, sym, ap, ◌∙◌, subst, arith, append_assoc, append-nil, length-append, inl, inr}
+use Rattle.std.proofs.Common.{◌≡◌, ℕ, ◌+◌, ◌<◌, ◌≤◌, Bool, true, false, nat_lt, nat_le, List, [], ◌∷◌, ◌++◌, length}
+use Rattle.std.proofs.Common.{take, drop, Option, Some, None, Result, Ok, Err, refl, sym, ap, ◌∙◌, subst, arith}
+use Rattle.std.proofs.Common.{append_assoc, append-nil, length-append, inl, inr}
 use Rattle.event_file.specs.declared.limits.TheConstants.{LINE_LIMIT, FILE_LIMIT, EVENT_LIMIT}
 use Rattle.std.specs.Io.KnownBytes.{prepend_known}
 use Rattle.std.proofs.lemmas.Bool.Decides.{nat_tests}
@@ -7,14 +9,17 @@ use Rattle.std.proofs.lemmas.List.{length-take-le}
 use Rattle.flow_base.proofs.Pieces.{prepend_known-append}
 use Rattle.event_file.specs.declared.fault.LineFault.{LineFault}
 use Rattle.event_file.specs.declared.fault.LineFault.TheVariants as faults
-use Rattle.event_file.specs.EventFile.{FileOf, Stop, AtEnd, AtLine, AtEvent, AtLimit, stopped, begun_by, with_line, with_limit, events_of, file_of}
+use Rattle.event_file.specs.EventFile.{FileOf, Stop, AtEnd, AtLine, AtEvent, AtLimit, stopped, begun_by, with_line}
+use Rattle.event_file.specs.EventFile.{with_limit, events_of, file_of}
 use Rattle.event_file.specs.Limits.{Limit, TooLong, PastFile, line_limit}
 use Rattle.event_file.specs.Lines.{lines_of, line_length, without_return, IsPlain, spelled}
 use Rattle.event_file.specs.NextLine.{TakesLine, IsTooLong, IsPastFile, Fills}
 use Rattle.event_file.specs.Reading.{Reading, unused, is_ready}
-use Rattle.event_file.proofs.LineLemmas.{line_length-le, lines_of-closed, lines_of-open, lines_of-first, line_length-append, plain_all}
+use Rattle.event_file.proofs.LineLemmas.{line_length-le, lines_of-closed, lines_of-open, lines_of-first}
+use Rattle.event_file.proofs.LineLemmas.{line_length-append, plain_all}
 use Rattle.step_driver.specs.Driving.{IsText, HasWhole}
-use Rattle.step_driver.proofs.FilePlaces.{Place, MayCome, prepend_none, kept_end, all_taken, closed_after, not_all, line_at_hand, told, told_end, told_text, not_ready}
+use Rattle.step_driver.proofs.FilePlaces.{Place, MayCome, prepend_none, kept_end, all_taken, closed_after, not_all}
+use Rattle.step_driver.proofs.FilePlaces.{line_at_hand, told, told_end, told_text, not_ready}
 
 -- ---- the limits of a line
 
@@ -24,7 +29,8 @@ no_limit long at n short within = grind (arith, nat_tests)
 no_limit_short : (at n : ℕ) → n ≤ LINE_LIMIT → line_limit false at n ≡ None
 no_limit_short at n short = grind (arith, nat_tests)
 
-long_limit : (long : Bool) (at n : ℕ) → LINE_LIMIT < n → at + LINE_LIMIT < FILE_LIMIT → line_limit long at n ≡ Some TooLong
+long_limit : (long : Bool) (at n : ℕ) → LINE_LIMIT < n → at + LINE_LIMIT < FILE_LIMIT
+    → line_limit long at n ≡ Some TooLong
 long_limit long at n over early = grind (arith, nat_tests)
 
 past_limit : (at n len : ℕ) → FILE_LIMIT ≤ at + n → FILE_LIMIT < at + len → FILE_LIMIT ≤ at + LINE_LIMIT
@@ -101,19 +107,22 @@ module _ {A : Type 0} (say : List ℕ → Result (Option A) LineFault) where
       let is' : line_limit long at (length raw) ≡ Some limit = ap (line_limit long at) len ∙ is in
       ap (events_of say long at number count) (lines_of-first text some)
       ∙ ap (λ (l : Option Limit). with_limit l number (with_line number count (say (without_return raw))
-      (λ next. events_of say long (at + (length raw + 1)) (number + 1) next (lines_of (drop (line_length text + 1) text))))) is'
+      (λ next. events_of say long (at + (length raw + 1)) (number + 1) next
+          (lines_of (drop (line_length text + 1) text))))) is'
       ∙ either limit
     where
       either : (l : Limit) → with_limit (Some l) number
           (with_line number count (say (without_return (take (line_length text) text)))
-          (λ next. events_of say (nat_lt FILE_LIMIT (at + length text)) (at + (length (take (line_length text) text) + 1))
+          (λ next. events_of say (nat_lt FILE_LIMIT (at + length text))
+              (at + (length (take (line_length text) text) + 1))
           (number + 1) next (lines_of (drop (line_length text + 1) text))))
           ≡ with_limit (Some l) number (stopped AtEnd)
       either TooLong = refl
       either PastFile = refl
 
   pub at_too_long : (at number count : ℕ) (pending rest : List ℕ) → LINE_LIMIT < line_length pending
-      → at + LINE_LIMIT < FILE_LIMIT → events_at at number count (pending ++ rest) ≡ stopped (AtLine number faults.LineTooLong)
+      → at + LINE_LIMIT < FILE_LIMIT → events_at at number count (pending ++ rest) ≡ stopped
+          (AtLine number faults.LineTooLong)
   at_too_long at number count pending rest over early =
       let text : List ℕ = pending ++ rest in
       let more : line_length pending ≤ line_length text = line_length-append pending rest in
@@ -138,7 +147,8 @@ module _ {A : Type 0} (say : List ℕ → Result (Option A) LineFault) where
   -- ---- where a reader is in a file
 
   -- a reader is there, and the events of the file are what is said of the bytes to come
-  pub record Comes (before : Option (List ℕ)) (r : Reading) (left : Option (List ℕ)) (rest : List ℕ → FileOf A) : Type 0 where
+  pub record Comes (before : Option (List ℕ)) (r : Reading) (left : Option (List ℕ))
+      (rest : List ℕ → FileOf A) : Type 0 where
     pub place : Place before r left
     pub file : (to_come : List ℕ) → MayCome r to_come → file_of say (place.taken ++ to_come) ≡ rest to_come
 
@@ -159,7 +169,8 @@ module _ {A : Type 0} (say : List ℕ → Result (Option A) LineFault) where
       ended = λ no. absurd (cc);
       failed = refl;
     };
-    file = λ to_come _. ap (λ m. events_of say (nat_lt FILE_LIMIT m) 0 1 0 (lines_of to_come)) (zero_in_front (length to_come));
+    file = λ to_come _. ap (λ m. events_of say (nat_lt FILE_LIMIT m) 0 1 0 (lines_of to_come))
+        (zero_in_front (length to_come));
   })
     where
       zero_in_front : (m : ℕ) → m ≡ 0 + m
@@ -202,7 +213,8 @@ module _ {A : Type 0} (say : List ℕ → Result (Option A) LineFault) where
               ∙ ap (prepend_known r.place.taken) (sym (prepend_known-append left piece new.pending))
               ∙ prepend_known-append (prepend_known new.pending left) r.place.taken piece;
           sized = length-append r.place.taken piece ∙ ap (λ m. m + length piece) r.place.sized ∙ sym l.at;
-          closed = closed_after r.place.taken l.raw new l.closed (λ open'. (l.ended ∙ (l.last open').1, (l.last open').0));
+          closed = closed_after r.place.taken l.raw new l.closed
+              (λ open'. (l.ended ∙ (l.last open').1, (l.last open').0));
           within = omega (arith, l.at, l.within);
           ended = λ ended. r.place.ended (sym l.ended ∙ ended);
           failed = l.failed;
@@ -237,7 +249,8 @@ module _ {A : Type 0} (say : List ℕ → Result (Option A) LineFault) where
         ap (λ (z : List ℕ). z ++ told left) all.1 ∙ told_end left (c.place.ended all.0));
   }
 
-  after_none : (events : List A) (stop : Stop) → after_events events (stopped stop) ≡ record { events = events; stop = stop }
+  after_none : (events : List A) (stop : Stop)
+      → after_events events (stopped stop) ≡ record { events = events; stop = stop }
   after_none events stop = ap (λ (z : List A). record { events = z; stop = stop }) (append-nil events)
 
   -- no line is left
@@ -341,7 +354,8 @@ module _ {A : Type 0} (say : List ℕ → Result (Option A) LineFault) where
         (λ next. events_at r.at (r.number + 1) next to_come))) is;
   }
 
-  kept_event : (number count : ℕ) (event : A) (later : ℕ → FileOf A) (b : Bool) → nat_le EVENT_LIMIT count ≡ b → b ≡ false
+  kept_event : (number count : ℕ) (event : A) (later : ℕ → FileOf A) (b : Bool) → nat_le EVENT_LIMIT count ≡ b
+      → b ≡ false
       → with_line number count (Ok (Some event)) later ≡ begun_by event (later (count + 1))
   kept_event number count event later true e f = absurd (cc)
   kept_event number count event later false e f = rw e refl
@@ -360,7 +374,8 @@ module _ {A : Type 0} (say : List ℕ → Result (Option A) LineFault) where
         (λ next. events_at r.at (r.number + 1) next to_come))) is
         ∙ ap (after_events events) (kept_event r.number (length events) event
         (λ next. events_at r.at (r.number + 1) next to_come) _ refl few)
-        ∙ ap (λ (z : List A). record { events = z; stop = later.stop }) (sym (append_assoc events (event ∷ []) later.events))
+        ∙ ap (λ (z : List A). record { events = z; stop = later.stop })
+            (sym (append_assoc events (event ∷ []) later.events))
         ∙ ap (λ m. after_events (events ++ event ∷ []) (events_at r.at (r.number + 1) m to_come)) (sym count);
   }
 
@@ -395,12 +410,14 @@ module _ {A : Type 0} (say : List ℕ → Result (Option A) LineFault) where
         is_text = w.is_text;
         are_events = w.are_events
             ∙ ap (λ (said : Result (Option A) LineFault). after_events events
-            (with_line r.number (length events) said (λ next. events_at r.at (r.number + 1) next (r.pending ++ told left)))) is
+            (with_line r.number (length events) said
+                (λ next. events_at r.at (r.number + 1) next (r.pending ++ told left)))) is
             ∙ rw many (after_none events AtEvent);
       }
 
   -- a fault
-  pub whole_refused : (before : Option (List ℕ)) (events : List A) (r : Reading) (left : Option (List ℕ)) (fault : LineFault)
+  pub whole_refused : (before : Option (List ℕ)) (events : List A) (r : Reading) (left : Option (List ℕ))
+      (fault : LineFault)
       → LineSays before events r left → say r.line ≡ Err fault
       → Whole before (record { events = events; stop = AtLine r.number fault })
   whole_refused before events r left fault c is =
@@ -410,6 +427,7 @@ module _ {A : Type 0} (say : List ℕ → Result (Option A) LineFault) where
         is_text = w.is_text;
         are_events = w.are_events
             ∙ ap (λ (said : Result (Option A) LineFault). after_events events
-            (with_line r.number (length events) said (λ next. events_at r.at (r.number + 1) next (r.pending ++ told left)))) is
+            (with_line r.number (length events) said
+                (λ next. events_at r.at (r.number + 1) next (r.pending ++ told left)))) is
             ∙ after_none events (AtLine r.number fault);
       }

@@ -1,5 +1,6 @@
 -- Where a reader of lines is in a file.
-use Rattle.std.proofs.Common.{◌≡◌, ℕ, ◌+◌, ◌<◌, ◌≤◌, ◌⊎◌, Bool, true, false, ◌||◌, List, [], ◌∷◌, ◌++◌, length, Option, Some, None, refl, sym, ap, ◌∙◌, subst, arith, append_assoc, length-append, inl, inr}
+use Rattle.std.proofs.Common.{◌≡◌, ℕ, ◌+◌, ◌<◌, ◌≤◌, ◌⊎◌, Bool, true, false, ◌||◌, List, [], ◌∷◌, ◌++◌, length, Option}
+use Rattle.std.proofs.Common.{Some, None, refl, sym, ap, ◌∙◌, subst, arith, append_assoc, length-append, inl, inr}
 use Rattle.event_file.specs.declared.limits.TheConstants.{LINE_LIMIT, FILE_LIMIT}
 use Rattle.std.specs.Io.KnownBytes.{prepend_known, IsAtEnd}
 use Rattle.std.proofs.lemmas.Bool.Decides.{nat_tests}
@@ -33,11 +34,13 @@ prepend_none (Some bytes) = refl
 
 pub kept_end : (before : Option (List ℕ)) (old mid : Reading) (left left' : Option (List ℕ)) (b : Bool) → old.ended ≡ b
     → Place before old left → Fills old mid left left' → mid.ended ≡ true → IsAtEnd left'
-kept_end before old mid left left' true e p f ended = subst IsAtEnd (sym (kept_at_end old mid left left' f e).1) (p.ended e)
+kept_end before old mid left left' true e p f ended = subst IsAtEnd (sym (kept_at_end old mid left left' f e).1)
+    (p.ended e)
 kept_end before old mid left left' false e p f ended = f.ended ended e
 
 -- where all was taken before a read, it is after it
-pub all_taken : (old mid : Reading) (left left' : Option (List ℕ)) → Fills old mid left left' → AllTaken old → AllTaken mid
+pub all_taken : (old mid : Reading) (left left' : Option (List ℕ)) → Fills old mid left left' → AllTaken old
+    → AllTaken mid
 all_taken old mid left left' f all =
     let same = (kept_at_end old mid left left' f all.0).0 in
     (ap (λ (r : Reading). r.ended) same ∙ all.0, ap (λ (r : Reading). r.pending) same ∙ all.1)
@@ -50,7 +53,8 @@ is_closed-snoc (b ∷ (d ∷ bytes)) = is_closed-snoc (d ∷ bytes)
 -- the bytes of the lines are closed after a line that isn't the last
 pub closed_after : (taken raw : List ℕ) (new : Reading) (closed : Bool) → (closed ≡ false → AllTaken new)
     → (is_closed (taken ++ spelled raw closed) ≡ true) ⊎ AllTaken new
-closed_after taken raw new true last = inl (ap is_closed (sym (append_assoc taken raw (10 ∷ []))) ∙ is_closed-snoc (taken ++ raw))
+closed_after taken raw new true last = inl
+    (ap is_closed (sym (append_assoc taken raw (10 ∷ []))) ∙ is_closed-snoc (taken ++ raw))
 closed_after taken raw new false last = inr (last refl)
 
 -- all is taken only where nothing is at hand
@@ -71,13 +75,15 @@ pub told_end : (left : Option (List ℕ)) → IsAtEnd left → told left ≡ []
 told_end None e = refl
 told_end (Some bytes) e = e
 
-pub told_text : (before left : Option (List ℕ)) (taken pending : List ℕ) → before ≡ prepend_known taken (prepend_known pending left)
+pub told_text : (before left : Option (List ℕ)) (taken pending : List ℕ)
+    → before ≡ prepend_known taken (prepend_known pending left)
     → IsText before (taken ++ (pending ++ told left))
 told_text before None taken pending is = rw is tt
 told_text before (Some bytes) taken pending is = rw is refl
 
 -- they are closed where bytes are at hand
-pub taken_closed : (before : Option (List ℕ)) (mid : Reading) (left : Option (List ℕ)) → (p : Place before mid left) → 0 < length mid.pending
+pub taken_closed : (before : Option (List ℕ)) (mid : Reading) (left : Option (List ℕ)) → (p : Place before mid left)
+    → 0 < length mid.pending
     → is_closed p.taken ≡ true
 taken_closed before mid left p some = elim p.closed [ inl closed ↦ closed | inr all ↦ absurd (not_all mid some all) ]
 

@@ -1,6 +1,6 @@
 -- Where the engine is after the driver's answer.
-use Rattle.std.proofs.Common.{◌≡◌, ◌≢◌, ℕ, ◌+◌, Bool, true, false, IsTrue, nat_le, List, [], ◌∷◌, ◌++◌, length, Option, Some, None, Result, Ok, Err, refl, sym, ap, ◌∙◌, subst, append_assoc, append-nil}
-use Rattle.flow_base.specs.declared.fault.Fault.{Fault}
+use Rattle.std.proofs.Common.{◌≡◌, ◌≢◌, ℕ, ◌+◌, Bool, true, false, IsTrue, nat_le, List, [], ◌∷◌, ◌++◌, length, Option}
+use Rattle.std.proofs.Common.{Some, None, Result, Ok, Err, refl, sym, ap, ◌∙◌, subst, append_assoc, append-nil}
 use Rattle.active_config.specs.Tree.{Tree}
 use Rattle.actions.specs.Names.{Names}
 use Rattle.actions.specs.Runs.{EventWithInputs, StartRelation, ReactionRelation, ReactsWithInputs}
@@ -26,26 +26,32 @@ use Rattle.step_driver.specs.declared.lines.NoLine.TheVariants as no_lines
 use Rattle.step_driver.specs.Traces.{RunFault, fault_or}
 use Rattle.step_driver.proofs.Driven.{Driven, first_text, line_says}
 use Rattle.step_driver.proofs.EngineRuns.{so_far}
-use Rattle.step_driver.proofs.FileLemmas.{LineSays, events_at, Whole, reads_fills, whole_file, whole_end, whole_too_long, whole_past_file, whole_lines, whole_event, whole_too_many, whole_refused}
+use Rattle.step_driver.proofs.FileLemmas.{LineSays, events_at, Whole, reads_fills, whole_file, whole_end}
+use Rattle.step_driver.proofs.FileLemmas.{whole_too_long, whole_past_file, whole_lines, whole_event, whole_too_many}
+use Rattle.step_driver.proofs.FileLemmas.{whole_refused}
 use Rattle.step_driver.proofs.FilePlaces.{told}
 use Rattle.step_driver.proofs.RunLemmas.{so_far_to, start_to, start_fault_to, event_to, event_fault_to}
 
 -- ---- all events of a file
 
 -- the run over all events had no fault
-all_left : {start : StartRelation} {react : ReactionRelation} {n : Names} {before : Option (List ℕ)} {events : List EventWithInputs} {w : World}
-    (stop : Stop) (result : Result (Unit {0}) DriveEnd) → Whole (event_of_line n) before (record { events = events; stop = stop })
+all_left : {start : StartRelation} {react : ReactionRelation} {n : Names} {before : Option (List ℕ)}
+    {events : List EventWithInputs} {w : World}
+    (stop : Stop) (result : Result (Unit {0}) DriveEnd)
+        → Whole (event_of_line n) before (record { events = events; stop = stop })
     → RanTo start react events w None → result ≡ answer_of None stop → LeftByAll start react n before w result
 all_left {start = start} {react = react} {w = w} stop result file to is = record {
   text = file.text;
   is_text = file.is_text;
   fault = None;
-  ran = subst (λ (z : List EventWithInputs). RanTo start react z w None) (sym (ap (λ (f : FileOf EventWithInputs). f.events) file.are_events)) to;
+  ran = subst (λ (z : List EventWithInputs). RanTo start react z w None)
+      (sym (ap (λ (f : FileOf EventWithInputs). f.events) file.are_events)) to;
   answer = is ∙ ap (answer_of None) (sym (ap (λ (f : FileOf EventWithInputs). f.stop) file.are_events));
 }
 
 -- all events are the first ones
-first_of_all : {start : StartRelation} {react : ReactionRelation} {n : Names} {before : Option (List ℕ)} {w : World} {result : Result (Unit {0}) DriveEnd}
+first_of_all : {start : StartRelation} {react : ReactionRelation} {n : Names} {before : Option (List ℕ)} {w : World}
+    {result : Result (Unit {0}) DriveEnd}
     → LeftByAll start react n before w result → LeftByFirst start react n before w
 first_of_all {n = n} l = record {
   text = l.text;
@@ -58,11 +64,14 @@ first_of_all {n = n} l = record {
 }
 
 -- the events so far are the first ones
-driven_left : {start : StartRelation} {react : ReactionRelation} {t : Tree} {n : Names} {before left : Option (List ℕ)} {r : Reading} {w : World} {index : ℕ} {text : List ℕ}
-    → Driven (engine_runs start react t n) (so_far start react t n w) before left r index text → LeftByFirst start react n before w
+driven_left : {start : StartRelation} {react : ReactionRelation} {t : Tree} {n : Names} {before left : Option (List ℕ)}
+    {r : Reading} {w : World} {index : ℕ} {text : List ℕ}
+    → Driven (engine_runs start react t n) (so_far start react t n w) before left r index text
+        → LeftByFirst start react n before w
 driven_left {n = n} {before = before} {left = left} {r = r} d =
     let file = whole_file (event_of_line n) before r left _ d.reads in
-    let later : FileOf EventWithInputs = events_at (event_of_line n) r.at (r.number + 1) (length d.events) (r.pending ++ told left) in
+    let later : FileOf EventWithInputs = events_at (event_of_line n) r.at (r.number + 1) (length d.events)
+        (r.pending ++ told left) in
     record {
       text = file.text;
       is_text = file.is_text;
@@ -76,8 +85,10 @@ driven_left {n = n} {before = before} {left = left} {r = r} d =
 -- ---- the start
 
 -- the start ends the run
-pub start_leaves : (start : StartRelation) (react : ReactionRelation) (t : Tree) (n : Names) (before : Option (List ℕ)) (never : Bool) (w : World) (P : List ℕ → Type 0) (end : DriveEnd)
-    → Done start (λ x f. trace_line t n x 0 Start f) 0 w P (Err end) → Leaves start react n before before never w (Err end)
+pub start_leaves : (start : StartRelation) (react : ReactionRelation) (t : Tree) (n : Names) (before : Option (List ℕ))
+    (never : Bool) (w : World) (P : List ℕ → Type 0) (end : DriveEnd)
+    → Done start (λ x f. trace_line t n x 0 Start f) 0 w P (Err end)
+        → Leaves start react n before before never w (Err end)
 start_leaves start react t n before never w P (ends.Line number fault) done = absurd done
 start_leaves start react t n before never w P (ends.Fault index fault) (at, starts, puts) =
     let text = first_text before in
@@ -107,15 +118,19 @@ start_leaves start react t n before never w P ends.Memory puts = tt
 -- ---- no line is taken
 
 -- no line is left
-pub end_leaves : (start : StartRelation) (react : ReactionRelation) (t : Tree) (n : Names) (before left left' : Option (List ℕ)) (never : Bool) (r r' : Reading) (w : World) (index : ℕ) (text : List ℕ)
-    → Driven (engine_runs start react t n) (so_far start react t n w) before left r index text → Nexts r r' left left' (Ok false)
+pub end_leaves : (start : StartRelation) (react : ReactionRelation) (t : Tree) (n : Names)
+    (before left left' : Option (List ℕ)) (never : Bool) (r r' : Reading) (w : World) (index : ℕ) (text : List ℕ)
+    → Driven (engine_runs start react t n) (so_far start react t n w) before left r index text
+        → Nexts r r' left left' (Ok false)
     → Leaves start react n before left' never w (Ok tt)
 end_leaves start react t n before left left' never r r' w index text d next =
     let reads = reads_fills (event_of_line n) before d.events r next.mid left left' d.reads next.fills in
-    all_left AtEnd (Ok tt) (whole_end (event_of_line n) before d.events next.mid left' reads next.answer.1.0 next.answer.1.1) (so_far_to d.state) refl
+    all_left AtEnd (Ok tt) (whole_end
+        (event_of_line n) before d.events next.mid left' reads next.answer.1.0 next.answer.1.1) (so_far_to d.state) refl
 
 -- the next line can't be taken
-pub next_leaves : (start : StartRelation) (react : ReactionRelation) (t : Tree) (n : Names) (before left left' : Option (List ℕ))
+pub next_leaves : (start : StartRelation) (react : ReactionRelation) (t : Tree) (n : Names)
+    (before left left' : Option (List ℕ))
     (never : Bool) (r r' : Reading) (w : World) (index : ℕ) (text : List ℕ) (end : NoLine)
     → Driven (engine_runs start react t n) (so_far start react t n w) before left r index text
     → Follows r r' left left' (Err end) → Leaves start react n before left' never w (Err (end_of_line end))
@@ -144,9 +159,11 @@ next_leaves start react t n before left left' never r r' w index text no_lines.W
 -- ---- a line that was taken
 
 -- the line was taken, and the run ends
-pub line_leaves : (start : StartRelation) (react : ReactionRelation) (t : Tree) (n : Names) (before left left' : Option (List ℕ)) (never : Bool) (r r' : Reading)
+pub line_leaves : (start : StartRelation) (react : ReactionRelation) (t : Tree) (n : Names)
+    (before left left' : Option (List ℕ)) (never : Bool) (r r' : Reading)
     (w w' : World) (index : ℕ) (text : List ℕ) (P : List ℕ → Type 0) (end : DriveEnd)
-    → Driven (engine_runs start react t n) (so_far start react t n w) before left r index text → Nexts r r' left left' (Ok true)
+    → Driven (engine_runs start react t n) (so_far start react t n w) before left r index text
+        → Nexts r r' left left' (Ok true)
     → LineTaken react t n r'.number index (event_of_line n r'.line) w w' P (Err end)
     → Leaves start react n before left' never w' (Err end)
 line_leaves start react t n before left left' never r r' w w' index text P end d next taken =
@@ -155,8 +172,10 @@ line_leaves start react t n before left left' never r r' w w' index text P end d
     says : LineSays (event_of_line n) before d.events r' left'
     says = line_says (engine_runs start react t n) (so_far start react t n w) before left left' r r' index text d next
 
-    by_end : (e : DriveEnd) (event : EventWithInputs) → nat_le EVENT_LIMIT (length d.events) ≡ false → event_of_line n r'.line ≡ Ok (Some event)
-        → Done (ReactsWithInputs react w event) (λ x f. trace_line t n x (index + 1) event.event f) (index + 1) w' P (Err e)
+    by_end : (e : DriveEnd) (event : EventWithInputs) → nat_le EVENT_LIMIT (length d.events) ≡ false
+        → event_of_line n r'.line ≡ Ok (Some event)
+        → Done (ReactsWithInputs react w event) (λ x f. trace_line t n x (index + 1) event.event f) (index + 1) w' P
+            (Err e)
         → Leaves start react n before left' never w' (Err e)
     by_end (ends.Line number fault) event few is done = absurd done
     by_end (ends.Fault i fault) event few is (at, stepping, puts) =
@@ -187,7 +206,8 @@ line_leaves start react t n before left left' never r r' w w' index text P end d
     by_end ends.FileTooLong event few is done = absurd done
     by_end ends.Memory event few is puts = tt
 
-    by_count : (event : EventWithInputs) (b : Bool) → nat_le EVENT_LIMIT index ≡ b → event_of_line n r'.line ≡ Ok (Some event)
+    by_count : (event : EventWithInputs) (b : Bool) → nat_le EVENT_LIMIT index ≡ b
+        → event_of_line n r'.line ≡ Ok (Some event)
         → Tried b react t n index event w w' P (Err end) → Leaves start react n before left' never w' (Err end)
     by_count event true many is (bad, world, puts) =
         let big : nat_le EVENT_LIMIT (length d.events) ≡ true = ap (nat_le EVENT_LIMIT) d.counted ∙ many in
@@ -198,19 +218,23 @@ line_leaves start react t n before left left' never r r' w w' index text P end d
         by_end end event (ap (nat_le EVENT_LIMIT) d.counted ∙ few) is done
 
     by_said : (said : Result (Option EventWithInputs) LineFault) → event_of_line n r'.line ≡ said
-        → LineTaken react t n r'.number index said w w' P (Err end) → Leaves start react n before left' never w' (Err end)
+        → LineTaken react t n r'.number index said w w' P (Err end)
+            → Leaves start react n before left' never w' (Err end)
     by_said (Ok None) is (bad, _, _) = absurd (cc)
     by_said (Ok (Some event)) is h = by_count event (nat_le EVENT_LIMIT index) refl is h
     by_said (Err fault) is (bad, world, puts) =
         let same : end ≡ ends.Line r'.number fault = let e = bad in cc in
         let file = whole_refused (event_of_line n) before d.events r' left' fault says is in
-        rw (same, world) (all_left (AtLine r'.number fault) (Err (ends.Line r'.number fault)) file (so_far_to d.state) refl)
+        rw (same, world) (all_left (AtLine r'.number fault) (Err (ends.Line r'.number fault)) file
+            (so_far_to d.state) refl)
 
 -- ---- what is kept at the end
 
 -- it can't be written, after an answer that wasn't a read fault
-pub cut_leaves : (start : StartRelation) (react : ReactionRelation) (n : Names) (before left : Option (List ℕ)) (never : Bool) (w : World) (result : Result (Unit {0}) DriveEnd)
-    → is_read result ≡ false → (IsTrue never → result ≢ Err ends.Memory) → Leaves start react n before left never w result
+pub cut_leaves : (start : StartRelation) (react : ReactionRelation) (n : Names) (before left : Option (List ℕ))
+    (never : Bool) (w : World) (result : Result (Unit {0}) DriveEnd)
+    → is_read result ≡ false → (IsTrue never → result ≢ Err ends.Memory)
+        → Leaves start react n before left never w result
     → Leaves start react n before left never w (Err ends.Write)
 cut_leaves start react n before left never w (Ok done) no_read no_want l = λ _. first_of_all l
 cut_leaves start react n before left never w (Err (ends.Line number fault)) no_read no_want l = λ _. first_of_all l

@@ -1,5 +1,6 @@
 -- A run, as its events are taken one after the other.
-use Rattle.std.proofs.Common.{◌≡◌, ℕ, ◌+◌, List, [], ◌∷◌, ◌++◌, length, Option, Some, None, refl, sym, ap, ◌∙◌, subst, append_assoc, append-nil, length-append}
+use Rattle.std.proofs.Common.{◌≡◌, ℕ, ◌+◌, List, [], ◌∷◌, ◌++◌, length, Option, Some, None, refl, sym, ap, ◌∙◌, subst}
+use Rattle.std.proofs.Common.{append_assoc, append-nil, length-append}
 use Rattle.actions.specs.Runs.{EventWithInputs, StartRelation, ReactionRelation, Moment, ReactsWithInputs, GoesOn, Runs}
 use Rattle.flow_base.specs.declared.fault.Fault.{Fault}
 use Rattle.active_config.specs.Tree.{Tree}
@@ -10,11 +11,16 @@ use Rattle.trace_text.specs.Trace.{trace_line}
 use Rattle.step_driver.specs.Leaving.{RanTo, last_world}
 use Rattle.step_driver.specs.Traces.{Ran, fault_or, trace, trace_from, run_fault}
 
--- the run over these events left this world with no fault, and had this text: what comes of further events goes on from there
-pub record SoFar (start : StartRelation) (react : ReactionRelation) (t : Tree) (n : Names) (events : List EventWithInputs) (w : World) (text : List ℕ) : Type 0 where
-  pub extends : (later : List EventWithInputs) (moments : List Moment) → GoesOn react (record { world = w; fault = None }) later moments
-      → Ran start react t n (events ++ later) (text ++ trace_from t n (length events + 1) later moments) (run_fault (length events + 1) moments)
-  pub last : (later : List EventWithInputs) (moments : List Moment) (goes : GoesOn react (record { world = w; fault = None }) later moments)
+-- the run over these events left this world with no fault, and had this text: what comes of further events goes on from
+-- there
+pub record SoFar (start : StartRelation) (react : ReactionRelation) (t : Tree) (n : Names)
+    (events : List EventWithInputs) (w : World) (text : List ℕ) : Type 0 where
+  pub extends : (later : List EventWithInputs) (moments : List Moment)
+      → GoesOn react (record { world = w; fault = None }) later moments
+      → Ran start react t n (events ++ later) (text ++ trace_from t n (length events + 1) later moments)
+          (run_fault (length events + 1) moments)
+  pub last : (later : List EventWithInputs) (moments : List Moment)
+      (goes : GoesOn react (record { world = w; fault = None }) later moments)
       → last_world (extends later moments goes).moments ≡ last_world (record { world = w; fault = None } ∷ moments)
 
 -- after the start
@@ -30,7 +36,8 @@ started start react t n w starts = record {
   last = λ later moments goes. refl;
 }
 
-nothing_after : (react : ReactionRelation) (w : World) (f : Fault) (events : List EventWithInputs) → GoesOn react (record { world = w; fault = Some f }) events []
+nothing_after : (react : ReactionRelation) (w : World) (f : Fault) (events : List EventWithInputs)
+    → GoesOn react (record { world = w; fault = Some f }) events []
 nothing_after react w f [] = refl
 nothing_after react w f (event ∷ events) = refl
 
@@ -39,17 +46,20 @@ no_lines t n index [] = refl
 no_lines t n index (event ∷ events) = refl
 
 -- a start with a fault ends the run over any events
-pub start_faulted : (start : StartRelation) (react : ReactionRelation) (t : Tree) (n : Names) (w : World) (f : Fault) (events : List EventWithInputs) → start w (Some f)
+pub start_faulted : (start : StartRelation) (react : ReactionRelation) (t : Tree) (n : Names) (w : World) (f : Fault)
+    (events : List EventWithInputs) → start w (Some f)
     → Ran start react t n events (trace_line t n w 0 Start (Some f)) (Some (record { index = 0; fault = f }))
 start_faulted start react t n w f events starts = record {
   moments = record { world = w; fault = Some f } ∷ [];
   runs = (starts, nothing_after react w f events);
-  traced = sym (ap (λ (z : List ℕ). trace_line t n w 0 Start (Some f) ++ z) (no_lines t n 1 events) ∙ append-nil (trace_line t n w 0 Start (Some f)));
+  traced = sym (ap (λ (z : List ℕ). trace_line t n w 0 Start (Some f) ++ z) (no_lines t n 1 events)
+      ∙ append-nil (trace_line t n w 0 Start (Some f)));
   ended = refl;
 }
 
 -- after one event more
-pub one_more : (start : StartRelation) (react : ReactionRelation) (t : Tree) (n : Names) (events : List EventWithInputs) (w w' : World) (text : List ℕ) (event : EventWithInputs)
+pub one_more : (start : StartRelation) (react : ReactionRelation) (t : Tree) (n : Names) (events : List EventWithInputs)
+    (w w' : World) (text : List ℕ) (event : EventWithInputs)
     → SoFar start react t n events w text → ReactsWithInputs react w event w' None
     → SoFar start react t n (events ++ event ∷ []) w' (text ++ trace_line t n w' (length events + 1) event.event None)
 one_more start react t n events w w' text event s taken =
@@ -60,10 +70,14 @@ one_more start react t n events w w' text event s taken =
           let ran = s.extends (event ∷ later) (record { world = w'; fault = None } ∷ moments)
           (record { world = w'; fault = None }, moments, refl, taken, goes) in
           let k = length events + 1 + 1 in
-          let text_is : text ++ (line ++ trace_from t n k later moments) ≡ (text ++ line) ++ trace_from t n (length (events ++ event ∷ []) + 1) later moments =
-          sym (append_assoc text line (trace_from t n k later moments)) ∙ ap (λ m. (text ++ line) ++ trace_from t n (m + 1) later moments) (sym count) in
-          let steps_are : events ++ (event ∷ later) ≡ (events ++ event ∷ []) ++ later = sym (append_assoc events (event ∷ []) later) in
-          let fault_is : run_fault k moments ≡ run_fault (length (events ++ event ∷ []) + 1) moments = ap (λ m. run_fault (m + 1) moments) (sym count) in
+          let text_is : text ++ (line ++ trace_from t n k later moments) ≡ (text ++ line) ++ trace_from t n
+              (length (events ++ event ∷ []) + 1) later moments =
+          sym (append_assoc text line (trace_from t n k later moments))
+              ∙ ap (λ m. (text ++ line) ++ trace_from t n (m + 1) later moments) (sym count) in
+          let steps_are : events ++ (event ∷ later) ≡ (events ++ event ∷ []) ++ later = sym
+              (append_assoc events (event ∷ []) later) in
+          let fault_is : run_fault k moments ≡ run_fault (length (events ++ event ∷ []) + 1) moments = ap
+              (λ m. run_fault (m + 1) moments) (sym count) in
           record {
             moments = ran.moments;
             runs = subst (λ (z : List EventWithInputs). Runs start react z ran.moments) steps_are ran.runs;
@@ -75,19 +89,22 @@ one_more start react t n events w w' text event s taken =
     }
 
 -- the run so far
-pub ran_so_far : (start : StartRelation) (react : ReactionRelation) (t : Tree) (n : Names) (events : List EventWithInputs) (w : World) (text : List ℕ)
+pub ran_so_far : (start : StartRelation) (react : ReactionRelation) (t : Tree) (n : Names)
+    (events : List EventWithInputs) (w : World) (text : List ℕ)
     → SoFar start react t n events w text → Ran start react t n events text None
 ran_so_far start react t n events w text s =
     let ran = s.extends [] [] refl in
     record {
       moments = ran.moments;
       runs = subst (λ (z : List EventWithInputs). Runs start react z ran.moments) (append-nil events) ran.runs;
-      traced = sym (append-nil text) ∙ ran.traced ∙ ap (λ (z : List EventWithInputs). trace t n z ran.moments) (append-nil events);
+      traced = sym (append-nil text) ∙ ran.traced
+          ∙ ap (λ (z : List EventWithInputs). trace t n z ran.moments) (append-nil events);
       ended = ran.ended;
     }
 
 -- one event more, with a fault, ends the run over any events after it
-pub event_faulted : (start : StartRelation) (react : ReactionRelation) (t : Tree) (n : Names) (events : List EventWithInputs) (w w' : World) (text : List ℕ) (event : EventWithInputs) (f : Fault)
+pub event_faulted : (start : StartRelation) (react : ReactionRelation) (t : Tree) (n : Names)
+    (events : List EventWithInputs) (w w' : World) (text : List ℕ) (event : EventWithInputs) (f : Fault)
     (rest : List EventWithInputs) → SoFar start react t n events w text → ReactsWithInputs react w event w' (Some f)
     → Ran start react t n (events ++ event ∷ rest) (text ++ trace_line t n w' (length events + 1) event.event (Some f))
     (Some (record { index = length events + 1; fault = f }))
@@ -98,14 +115,17 @@ event_faulted start react t n events w w' text event f rest s taken =
     record {
       moments = ran.moments;
       runs = ran.runs;
-      traced = ap (λ (z : List ℕ). text ++ z) (sym (append-nil line) ∙ ap (λ (z : List ℕ). line ++ z) (sym (no_lines t n (length events + 1 + 1) rest))) ∙ ran.traced;
+      traced = ap (λ (z : List ℕ). text ++ z)
+          (sym (append-nil line) ∙ ap (λ (z : List ℕ). line ++ z) (sym (no_lines t n (length events + 1 + 1) rest)))
+          ∙ ran.traced;
       ended = ran.ended;
     }
 
 -- ---- where a run leads
 
 -- the run so far led to its world
-pub so_far_to : {start : StartRelation} {react : ReactionRelation} {t : Tree} {n : Names} {events : List EventWithInputs} {w : World} {text : List ℕ}
+pub so_far_to : {start : StartRelation} {react : ReactionRelation} {t : Tree} {n : Names}
+    {events : List EventWithInputs} {w : World} {text : List ℕ}
     → SoFar start react t n events w text → RanTo start react events w None
 so_far_to {start = start} {react = react} {events = events} s =
     let ran = s.extends [] [] refl in
@@ -117,20 +137,25 @@ so_far_to {start = start} {react = react} {events = events} s =
     }
 
 -- the start led to its world
-pub start_to : (start : StartRelation) (react : ReactionRelation) (w : World) (f : Option Fault) (events : List EventWithInputs) → start w f
+pub start_to : (start : StartRelation) (react : ReactionRelation) (w : World) (f : Option Fault)
+    (events : List EventWithInputs) → start w f
     → GoesOn react (record { world = w; fault = f }) events [] → RanTo start react events w (fault_or 0 f None)
 start_to start react w f events starts ends =
     record { moments = record { world = w; fault = f } ∷ []; runs = (starts, ends); last = refl; ended = refl }
 
 -- a start with a fault led to its world, whatever the events
-pub start_fault_to : (start : StartRelation) (react : ReactionRelation) (w : World) (f : Fault) (events : List EventWithInputs) → start w (Some f)
+pub start_fault_to : (start : StartRelation) (react : ReactionRelation) (w : World) (f : Fault)
+    (events : List EventWithInputs) → start w (Some f)
     → RanTo start react events w (Some (record { index = 0; fault = f }))
-start_fault_to start react w f events starts = start_to start react w (Some f) events starts (nothing_after react w f events)
+start_fault_to start react w f events starts = start_to start react w (Some f) events starts
+    (nothing_after react w f events)
 
 -- one event more led to its world
-pub event_to : {start : StartRelation} {react : ReactionRelation} {t : Tree} {n : Names} {events : List EventWithInputs} {w : World} {text : List ℕ}
+pub event_to : {start : StartRelation} {react : ReactionRelation} {t : Tree} {n : Names} {events : List EventWithInputs}
+    {w : World} {text : List ℕ}
     (w' : World) (event : EventWithInputs) (f : Option Fault) (rest : List EventWithInputs)
-    → SoFar start react t n events w text → ReactsWithInputs react w event w' f → GoesOn react (record { world = w'; fault = f }) rest []
+    → SoFar start react t n events w text → ReactsWithInputs react w event w' f
+        → GoesOn react (record { world = w'; fault = f }) rest []
     → RanTo start react (events ++ event ∷ rest) w' (fault_or (length events + 1) f None)
 event_to w' event f rest s taken ends =
     let next : Moment = record { world = w'; fault = f } in
@@ -143,7 +168,8 @@ event_to w' event f rest s taken ends =
     }
 
 -- one event more with a fault led to its world, whatever the events after it
-pub event_fault_to : {start : StartRelation} {react : ReactionRelation} {t : Tree} {n : Names} {events : List EventWithInputs} {w : World} {text : List ℕ}
+pub event_fault_to : {start : StartRelation} {react : ReactionRelation} {t : Tree} {n : Names}
+    {events : List EventWithInputs} {w : World} {text : List ℕ}
     (w' : World) (event : EventWithInputs) (f : Fault) (rest : List EventWithInputs)
     → SoFar start react t n events w text → ReactsWithInputs react w event w' (Some f)
     → RanTo start react (events ++ event ∷ rest) w' (Some (record { index = length events + 1; fault = f }))

@@ -1,5 +1,6 @@
 -- What a driver writes, by its answer.
-use Rattle.std.specs.Prelude.{◌≡◌, nat_eq, ◌⊎◌, Bool, true, ℕ, ◌+◌, ◌≤◌, List, [], ◌∷◌, ◌++◌, length, Option, Some, None, is_some, Result, Ok, Err}
+use Rattle.std.specs.Prelude.{◌≡◌, nat_eq, ◌⊎◌, Bool, true, ℕ, ◌+◌, ◌≤◌, List, [], ◌∷◌, ◌++◌, length, Option, Some}
+use Rattle.std.specs.Prelude.{None, is_some, Result, Ok, Err}
 use Rattle.std.specs.Io.KnownBytes.{append_known, prepend_known, IsAtEnd}
 use Rattle.flow_base.specs.Bytes.{AppendsProperFront}
 use Rattle.flow_base.specs.declared.fault.Fault.{Fault}
@@ -55,8 +56,8 @@ pub record WroteAll (s : StepRuns) (seen : Seen) (result : Result (Unit {0}) s.E
   pub wrote : seen.wrote_after ≡ append_known seen.wrote_before trace
   pub answer : result ≡ s.answer_of end (file_of s.say text).stop
 
--- A read failed, where all bytes that were given ask for more: the steps of their whole lines don't stop before the end, and
--- what comes after them passes no limit. The trace of the run over those steps was written.
+-- A read failed, where all bytes that were given ask for more: the steps of their whole lines don't stop before the
+-- end, and what comes after them passes no limit. The trace of the run over those steps was written.
 pub record WroteGiven (s : StepRuns) (seen : Seen) : Type 0 where
   pub given : List ℕ
   pub taken : seen.left_before ≡ prepend_known given seen.left_after
@@ -69,8 +70,8 @@ pub record WroteGiven (s : StepRuns) (seen : Seen) : Type 0 where
   pub ran : s.Ran (file_of s.say whole).events trace None
   pub wrote : seen.wrote_after ≡ append_known seen.wrote_before trace
 
--- A write failed: a front of the trace of the run over the first steps of the file was written, which isn't all of it. Where
--- not even what the trace begins with was written whole, no byte of the file was taken.
+-- A write failed: a front of the trace of the run over the first steps of the file was written, which isn't all of it.
+-- Where not even what the trace begins with was written whole, no byte of the file was taken.
 pub record WrotePart (s : StepRuns) (seen : Seen) : Type 0 where
   pub text : List ℕ
   pub is_text : IsText seen.left_before text
@@ -89,8 +90,9 @@ pub record WroteSome (s : StepRuns) (seen : Seen) : Type 0 where
   pub ran : (trace ≡ []) ⊎ s.RanFirst (file_of s.say text).events trace None
   pub wrote : seen.wrote_after ≡ append_known seen.wrote_before trace
 
--- What was taken of the file: whole lines, whose steps don't stop before the end, and at most a buffer of bytes after them, of
--- which at most one is past the file's limit. The run over those steps didn't end before them, and its trace was written.
+-- What was taken of the file: whole lines, whose steps don't stop before the end, and at most a buffer of bytes after
+-- them, of which at most one is past the file's limit. The run over those steps didn't end before them, and its trace
+-- was written.
 pub record TakesLines (s : StepRuns) (seen : Seen) : Type 0 where
   pub lines : List ℕ
   pub ahead : List ℕ
@@ -115,7 +117,8 @@ Wrote s seen result = WroteAll s seen result × TakesNoMore s seen
 -- ---- of the events of an engine
 
 -- the run over the first of the events has that trace, and that fault or none
-pub record RanFirst (start : StartRelation) (react : ReactionRelation) (t : Tree) (n : Names) (all : List EventWithInputs)
+pub record RanFirst (start : StartRelation) (react : ReactionRelation) (t : Tree) (n : Names)
+    (all : List EventWithInputs)
     (trace : List ℕ) (fault : Option RunFault) : Type 0 where
   pub events : List EventWithInputs
   pub rest : List EventWithInputs

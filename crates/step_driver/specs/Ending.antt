@@ -25,8 +25,8 @@ given_text wrote text before left =
 abbrev pub DoneBy : StepRuns → Type 1
 DoneBy s = Seen → Result (Unit {0}) s.Error → Type 0
 
--- No write failed, and once what is kept is written, all is done that the answer says. Where something is kept, no more was
--- taken of the file than lines whose trace was written, and a buffer; and the answer isn't a read fault.
+-- No write failed, and once what is kept is written, all is done that the answer says. Where something is kept, no more
+-- was taken of the file than lines whose trace was written, and a buffer; and the answer isn't a read fault.
 pub record Stopped (s : StepRuns) (D : DoneBy s) (read : Bool) (wrote now : Option (List ℕ)) (f f' : ℕ)
     (before left : Option (List ℕ)) (held : List ℕ) (result : Result (Unit {0}) s.Error) : Type 0 where
   pub sent : List ℕ
@@ -42,4 +42,5 @@ abbrev pub LinesEnd : (s : StepRuns) → DoneBy s → Bool → s.Error → Bool 
 LinesEnd s D false write read wrote now f f' before left held result =
     Stopped s D read wrote now f f' before left held result
 LinesEnd s D true write read wrote now f f' before left held result =
-    D (record { wrote_before = wrote; wrote_after = now; left_before = before; left_after = left }) (Err write) × Rose f f'
+    D (record { wrote_before = wrote; wrote_after = now; left_before = before; left_after = left })
+        (Err write) × Rose f f'

@@ -17,14 +17,16 @@ last_world (m ∷ []) = Some m.world
 last_world (m ∷ (next ∷ moments)) = last_world (next ∷ moments)
 
 -- a run over the events led to that world, and ended with that fault or with none
-pub record RanTo (start : StartRelation) (react : ReactionRelation) (events : List EventWithInputs) (w : World) (fault : Option RunFault) : Type 0 where
+pub record RanTo (start : StartRelation) (react : ReactionRelation) (events : List EventWithInputs) (w : World)
+    (fault : Option RunFault) : Type 0 where
   pub moments : List Moment
   pub runs : Runs start react events moments
   pub last : last_world moments ≡ Some w
   pub ended : run_fault 0 moments ≡ fault
 
 -- the run over all events of the file led to the world, and the answer says how run and events ended
-pub record LeftByAll (start : StartRelation) (react : ReactionRelation) (n : Names) (before : Option (List ℕ)) (w : World) (result : Result (Unit {0}) DriveEnd) : Type 0 where
+pub record LeftByAll (start : StartRelation) (react : ReactionRelation) (n : Names) (before : Option (List ℕ))
+    (w : World) (result : Result (Unit {0}) DriveEnd) : Type 0 where
   pub text : List ℕ
   pub is_text : IsText before text
   pub fault : Option RunFault
@@ -32,7 +34,8 @@ pub record LeftByAll (start : StartRelation) (react : ReactionRelation) (n : Nam
   pub answer : result ≡ answer_of fault (event_file n text).stop
 
 -- the run over the events in the whole lines that were given led to the world
-pub record LeftByGiven (start : StartRelation) (react : ReactionRelation) (n : Names) (before left : Option (List ℕ)) (w : World) : Type 0 where
+pub record LeftByGiven (start : StartRelation) (react : ReactionRelation) (n : Names) (before left : Option (List ℕ))
+    (w : World) : Type 0 where
   pub given : List ℕ
   pub taken : before ≡ prepend_known given left
   pub whole : List ℕ
@@ -40,7 +43,8 @@ pub record LeftByGiven (start : StartRelation) (react : ReactionRelation) (n : N
   pub ran : RanTo start react (event_file n whole).events w None
 
 -- the run over the first events of the file led to the world
-pub record LeftByFirst (start : StartRelation) (react : ReactionRelation) (n : Names) (before : Option (List ℕ)) (w : World) : Type 0 where
+pub record LeftByFirst (start : StartRelation) (react : ReactionRelation) (n : Names) (before : Option (List ℕ))
+    (w : World) : Type 0 where
   pub text : List ℕ
   pub is_text : IsText before text
   pub events : List EventWithInputs
@@ -49,9 +53,10 @@ pub record LeftByFirst (start : StartRelation) (react : ReactionRelation) (n : N
   pub fault : Option RunFault
   pub ran : RanTo start react events w fault
 
--- Where the engine is, by the driver's answer. Nothing is said after the engine itself wanted memory, and after a failed write
--- that may have come after that.
-abbrev pub Leaves : StartRelation → ReactionRelation → Names → Option (List ℕ) → Option (List ℕ) → Bool → World → Result (Unit {0}) DriveEnd → Type 0
+-- Where the engine is, by the driver's answer. Nothing is said after the engine itself wanted memory, and after a
+-- failed write that may have come after that.
+abbrev pub Leaves : StartRelation → ReactionRelation → Names → Option (List ℕ) → Option (List ℕ) → Bool → World
+    → Result (Unit {0}) DriveEnd → Type 0
 Leaves start react n before left never w (Ok done) = LeftByAll start react n before w (Ok done)
 Leaves start react n before left never w (Err (ends.Line number fault)) =
     LeftByAll start react n before w (Err (ends.Line number fault))

@@ -46,7 +46,8 @@ Flushes false wrote wrote' f f' held held' = Passed wrote wrote' f f' held.bytes
 Flushes true wrote wrote' f f' held held' = CutOff wrote wrote' f f' held.bytes × (held'.failed ≡ true)
 
 -- The bytes at hand told what comes next, and nothing was read or written. Or what is kept was written before a read.
-abbrev pub Moves : Bool → Reading → Option (List ℕ) → Option (List ℕ) → Option (List ℕ) → Option (List ℕ) → ℕ → ℕ → Held → Held → Type 0
+abbrev pub Moves : Bool → Reading → Option (List ℕ) → Option (List ℕ) → Option (List ℕ) → Option (List ℕ) → ℕ → ℕ → Held
+    → Held → Type 0
 Moves failed r before after wrote wrote' f f' held held' =
     (is_ready r ≡ true) × (after ≡ before) × (wrote' ≡ wrote) × (f' ≡ f) × (held' ≡ held) × (failed ≡ false)
     ⊎ Flushes failed wrote wrote' f f' held held'

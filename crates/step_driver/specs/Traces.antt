@@ -40,7 +40,8 @@ run_fault index [] = None
 run_fault index (m ∷ moments) = fault_or index m.fault (run_fault (index + 1) moments)
 
 -- there is a run over the events with that trace, and with that fault or none
-pub record Ran (start : StartRelation) (react : ReactionRelation) (t : Tree) (n : Names) (events : List EventWithInputs) (text : List ℕ) (fault : Option RunFault) : Type 0 where
+pub record Ran (start : StartRelation) (react : ReactionRelation) (t : Tree) (n : Names) (events : List EventWithInputs)
+    (text : List ℕ) (fault : Option RunFault) : Type 0 where
   pub moments : List Moment
   pub runs : Runs start react events moments
   pub traced : text ≡ trace t n events moments

@@ -4,14 +4,17 @@ use Rattle.std.specs.Prelude.{Option, codes}
 use Rattle.trace_text.specs.Pieces.{Held, Written, Puts}
 
 -- one text is put after another
-pub puts_both : (b0 b1 b2 : Option (List ℕ)) (f0 f1 f2 : ℕ) (h0 h1 h2 : Held) (first second text : List ℕ) → Puts b0 b1 f0 f1 h0 h1 first
+pub puts_both : (b0 b1 b2 : Option (List ℕ)) (f0 f1 f2 : ℕ) (h0 h1 h2 : Held) (first second text : List ℕ)
+    → Puts b0 b1 f0 f1 h0 h1 first
     → Puts b1 b2 f1 f2 h1 h2 second → text ≡ first ++ second → Puts b0 b2 f0 f2 h0 h2 text
 puts_both b0 b1 b2 f0 f1 f2 h0 h1 h2 first second text p q is = λ w f all h.
-    subst (λ (z : List ℕ). Written w b2 f f2 z h2) (append_assoc all first second ∙ ap (λ (z : List ℕ). all ++ z) (sym is))
+    subst (λ (z : List ℕ). Written w b2 f f2 z h2)
+        (append_assoc all first second ∙ ap (λ (z : List ℕ). all ++ z) (sym is))
     (q w f (all ++ first) (p w f all h))
 
 -- the same text under another name
-pub puts_same : (b0 b1 : Option (List ℕ)) (f0 f1 : ℕ) (h0 h1 : Held) (text other : List ℕ) → Puts b0 b1 f0 f1 h0 h1 text → other ≡ text
+pub puts_same : (b0 b1 : Option (List ℕ)) (f0 f1 : ℕ) (h0 h1 : Held) (text other : List ℕ) → Puts b0 b1 f0 f1 h0 h1 text
+    → other ≡ text
     → Puts b0 b1 f0 f1 h0 h1 other
 puts_same b0 b1 f0 f1 h0 h1 text other p is = λ w f all h.
     subst (λ (z : List ℕ). Written w b1 f f1 (all ++ z) h1) (sym is) (p w f all h)
@@ -23,7 +26,8 @@ pub front_parts : (all index word states vals outputs : List ℕ)
 front_parts all index word states vals outputs = simp append_assoc
 
 -- a front and a result, put one after the other, make the line
-pub puts_line : (b0 b1 b2 : Option (List ℕ)) (f0 f1 f2 : ℕ) (h0 h1 h2 : Held) (front word : List ℕ) → Puts b0 b1 f0 f1 h0 h1 front
+pub puts_line : (b0 b1 b2 : Option (List ℕ)) (f0 f1 f2 : ℕ) (h0 h1 h2 : Held) (front word : List ℕ)
+    → Puts b0 b1 f0 f1 h0 h1 front
     → Puts b1 b2 f1 f2 h1 h2 (word ++ codes "\n") → Puts b0 b2 f0 f2 h0 h2 (front ++ word ++ codes "\n")
 puts_line b0 b1 b2 f0 f1 f2 h0 h1 h2 front word p q =
     puts_both b0 b1 b2 f0 f1 f2 h0 h1 h2 front (word ++ codes "\n") (front ++ word ++ codes "\n") p q

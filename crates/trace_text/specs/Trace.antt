@@ -1,5 +1,6 @@
 -- The lines of a trace.
-use Rattle.std.specs.Prelude.{ℕ, ◌-◌, ◌<◌, List, [], ◌∷◌, ◌++◌, length, map, drop, reverse, codes, decimal, Option, Some, None, if◌then◌else◌, slice_index_or}
+use Rattle.std.specs.Prelude.{ℕ, ◌-◌, ◌<◌, List, [], ◌∷◌, ◌++◌, length, map, drop, reverse, codes, decimal, Option}
+use Rattle.std.specs.Prelude.{Some, None, if◌then◌else◌, slice_index_or}
 use Rattle.std.specs.List.{filter, join_with_byte, range_with_len, slice_get}
 use Rattle.std.specs.Option.{option_map_or}
 use Rattle.flow_base.specs.declared.fault.Fault.{Fault}
@@ -42,7 +43,8 @@ IsEventOf n events.Start = Unit {0}
 IsEventOf n events.Tick = Unit {0}
 IsEventOf n (events.Named e) = e < length n.events
 
--- the path of a state: the names of the states above it but the root, the highest first, and then its own, with `/` between
+-- the path of a state: the names of the states above it but the root, the highest first, and then its own, with `/`
+-- between
 unfoldable pub path_of : Tree → Names → ℕ → List ℕ
 path_of t n s = join_with_byte 47 (map (state_name n) (drop 1 (reverse (s ∷ ancestors t s))))
 

@@ -15,7 +15,8 @@ returns-in_err-run_start-clause-ends g c =
     let k = x.program c.args.engine.now in
     let p = err_from_is_err_and c.from_residual.result c.from_residual.ensures.1 in
     let e = c.in_err-run_start.ensures in
-    rw (p.1, p.2) (start_over (x.Starts k) (x.Reacts k) (x.tree k) (x.declared k) _ _ _ _ _ _ _ _ _ (g.met.G.Engine.one_start k)
+    rw (p.1, p.2) (start_over (x.Starts k) (x.Reacts k) (x.tree k) (x.declared k) _ _ _ _ _ _ _ _ _
+        (g.met.G.Engine.one_start k)
     c.requires.empty e.failed e.reads e.done)
 
 pub lines-init : goal.lines-init
@@ -57,7 +58,8 @@ returns-in_err-next_line-clause-failed g c =
     let x = g.G.Engine in
     let k = x.program c.args.engine.now in
     let p = err_from_is_err_and c.from_residual-in_err-next_line.result c.from_residual-in_err-next_line.ensures.1 in
-    rw (p.1, p.2) (next_failed (engine_runs (x.Starts k) (x.Reacts k) (x.tree k) (x.declared k)) _ _ _ _ _ _ _ _ _ _ _ _ _ _ _
+    rw (p.1, p.2) (next_failed (engine_runs (x.Starts k) (x.Reacts k) (x.tree k)
+        (x.declared k)) _ _ _ _ _ _ _ _ _ _ _ _ _ _ _
     c.lines.invariant.driven c.in_err-next_line.ensures.moves ∙ sym (writes_same _))
 
 -- the run ends at a line
@@ -69,7 +71,8 @@ returns-in_err-index-clause-ends g c =
     let inv = c.lines.invariant in
     let n = c.in_ok-next_line.ensures.next in
     let next = rw c.if-branch.true at n in
-    let b = between (engine_runs (x.Starts k) (x.Reacts k) (x.tree k) (x.declared k)) _ _ _ _ _ _ _ _ _ _ _ _ _ _ _ inv.driven
+    let b = between (engine_runs (x.Starts k) (x.Reacts k) (x.tree k)
+        (x.declared k)) _ _ _ _ _ _ _ _ _ _ _ _ _ _ _ inv.driven
     next c.in_ok-next_line.ensures.moves in
     let e = c.in_err-index.ensures in
     let t = e.taken in
@@ -85,7 +88,8 @@ lines-preserved g c =
     let inv = c.lines.invariant in
     let n = c.in_ok-next_line.ensures.next in
     let next = rw c.if-branch.true at n in
-    let b = between (engine_runs (x.Starts k) (x.Reacts k) (x.tree k) (x.declared k)) _ _ _ _ _ _ _ _ _ _ _ _ _ _ _ inv.driven
+    let b = between (engine_runs (x.Starts k) (x.Reacts k) (x.tree k)
+        (x.declared k)) _ _ _ _ _ _ _ _ _ _ _ _ _ _ _ inv.driven
     next c.in_ok-next_line.ensures.moves in
     let t = c.in_ok-index.ensures.taken in
     let taken = rw (inv.program, c.line.ensures, c.number.ensures) at t in
@@ -109,7 +113,8 @@ returns-clause-ends g c =
     let next = rw c.if-branch.false at n in
     end_stops (engine_runs (x.Starts k) (x.Reacts k) (x.tree k) (x.declared k))
     (Drives (x.Starts k) (x.Reacts k) (x.tree k) (x.declared k))
-    (driver_laws (x.Starts k) (x.Reacts k) (x.tree k) (x.declared k) (g.met.G.Engine.one_start k)) _ _ _ _ _ _ _ _ _ _ _ _ _ _ _
+    (driver_laws (x.Starts k) (x.Reacts k) (x.tree k) (x.declared k)
+        (g.met.G.Engine.one_start k)) _ _ _ _ _ _ _ _ _ _ _ _ _ _ _
     c.lines.invariant.driven next c.in_ok-next_line.ensures.moves
 
 -- ---- where the engine is
@@ -119,7 +124,8 @@ returns-in_err-run_start-clause-leaves g c =
     let p = err_from_is_err_and c.from_residual.result c.from_residual.ensures.1 in
     let program = g.G.Engine.program c.args.engine.now in
     rw (p.1, p.2) (start_leaves (g.G.Engine.Starts program) (g.G.Engine.Reacts program) (g.G.Engine.tree program)
-    (g.G.Engine.declared program) _ g.G.Engine.never_wants_memory _ (Puts _ _ _ _ _ _) _ c.in_err-run_start.ensures.done)
+    (g.G.Engine.declared program) _ g.G.Engine.never_wants_memory _
+        (Puts _ _ _ _ _ _) _ c.in_err-run_start.ensures.done)
 
 pub returns-in_err-next_line-clause-leaves : goal.returns-in_err-next_line-clause-leaves
 returns-in_err-next_line-clause-leaves g c =
@@ -139,7 +145,8 @@ returns-in_err-index-clause-leaves g c =
     let next = rw c.if-branch.true at n in
     let t = c.in_err-index.ensures.taken in
     let taken = rw (inv.program, c.line.ensures, c.number.ensures) at t in
-    rw (p.1, p.2) (line_leaves (x.Starts k) (x.Reacts k) (x.tree k) (x.declared k) _ _ _ _ _ _ _ _ _ _ _ _ inv.driven.driven next
+    rw (p.1, p.2) (line_leaves (x.Starts k) (x.Reacts k) (x.tree k)
+        (x.declared k) _ _ _ _ _ _ _ _ _ _ _ _ inv.driven.driven next
     taken)
 
 pub returns-clause-leaves : goal.returns-clause-leaves

@@ -12,5 +12,6 @@ invariant-loop-v g l =
       running : e.stage l.engine ≡ Running;
       program : e.program l.engine ≡ e.program l.fn.engine;
       values : AreInputValues (e.declared (e.program l.fn.engine)) l.v (drop l.v l.vals.values);
-      set : (w : World) → AreSet l.v (drop l.v l.vals.values) (e.world l.engine) w → AreSet 0 l.vals.values (e.world l.fn.engine) w;
+      set : (w : World) → AreSet l.v (drop l.v l.vals.values) (e.world l.engine) w
+          → AreSet 0 l.vals.values (e.world l.fn.engine) w;
     }

@@ -6,5 +6,6 @@ use Rattle.trace_text.proofs.trace.put_trace.Goals as goal
 -- the front and the result make the line
 pub returns : goal.returns
 unfolding line_of
-returns g c = puts_line _ _ _ _ _ _ _ _ _ _ (result_word (names_of c.args.view.now.names.now) c.args.fault) c.put_front.ensures
+returns g c = puts_line _ _ _ _ _ _ _ _ _ _
+    (result_word (names_of c.args.view.now.names.now) c.args.fault) c.put_front.ensures
     c.put_result.ensures

@@ -1,7 +1,6 @@
 -- The trace of a run, some of which is kept until bytes are read: what was written, and what is still to be written.
 use Rattle.std.proofs.Common.{◌≡◌, ℕ, ◌+◌, ◌≤◌, ◌⊎◌, Bool, true, false, List, [], ◌++◌, length, take, Option, Some}
-use Rattle.std.proofs.Common.{None}
-use Rattle.std.proofs.Common.{Result, Ok, Err, refl, sym, ap, ◌∙◌, subst, arith, append_assoc, append-nil}
+use Rattle.std.proofs.Common.{None, Result, Ok, Err, refl, sym, ap, ◌∙◌, subst, arith, append_assoc, append-nil}
 use Rattle.std.proofs.Common.{length-append, inl, inr}
 use Rattle.std.specs.Prelude.{is_some}
 use Rattle.std.specs.Io.KnownBytes.{append_known, IsAtEnd}
@@ -24,8 +23,7 @@ use Rattle.step_driver.specs.Ending.{BeginIsOut, DoneBy, Stopped, LinesEnd, give
 use Rattle.step_driver.specs.NextLines.{Follows, Flushes, Moves, failed_to_read, failed_to_write, found_or_none}
 use Rattle.step_driver.specs.StepRuns.{StepRuns}
 use Rattle.step_driver.proofs.Driven.{RunLaws, Driven, FirstRun, EndOf, NoLineDone, driven_first, takes_lines}
-use Rattle.step_driver.proofs.Driven.{nothing_more}
-use Rattle.step_driver.proofs.Driven.{all_driven, lines_end}
+use Rattle.step_driver.proofs.Driven.{nothing_more, all_driven, lines_end}
 use Rattle.step_driver.proofs.FileLemmas.{reads_fills}
 use Rattle.step_driver.proofs.FilePlaces.{line_at_hand}
 

@@ -1,9 +1,8 @@
 -- A run over the steps of a file, as its lines are taken one after the other, and how it ends. What its trace is, is
 -- told of any sink that is given all of it.
 use Rattle.std.proofs.Common.{◌≡◌, ℕ, ◌+◌, ◌<◌, ◌≤◌, ◌⊎◌, Bool, true, false, nat_le, List, [], ◌∷◌, ◌++◌, length}
-use Rattle.std.proofs.Common.{Option, Some, None}
-use Rattle.std.proofs.Common.{Result, Ok, Err, refl, sym, ap, ◌∙◌, subst, arith, append_assoc, append-nil}
-use Rattle.std.proofs.Common.{length-append, inl, inr}
+use Rattle.std.proofs.Common.{Option, Some, None, Result, Ok, Err, refl, sym, ap, ◌∙◌, subst, arith, append_assoc}
+use Rattle.std.proofs.Common.{append-nil, length-append, inl, inr}
 use Rattle.std.specs.Io.KnownBytes.{append_known, IsAtEnd}
 use Rattle.std.proofs.lemmas.Bool.Decides.{nat_tests}
 use Rattle.flow_base.proofs.Pieces.{prepend_known-append}
@@ -21,9 +20,8 @@ use Rattle.step_driver.specs.Ending.{Begins, DoneBy, given_text}
 use Rattle.step_driver.specs.NextLines.{Follows, failed_to_write}
 use Rattle.step_driver.specs.StepRuns.{StepRuns}
 use Rattle.step_driver.proofs.FileLemmas.{Reads, LineSays, events_at, Whole, reads_fills, reads_line, whole_file}
-use Rattle.step_driver.proofs.FileLemmas.{whole_end}
-use Rattle.step_driver.proofs.FileLemmas.{whole_too_long, whole_past_file, whole_lines, taken_events, line_skipped}
-use Rattle.step_driver.proofs.FileLemmas.{line_with_event, whole_event, whole_too_many, whole_refused}
+use Rattle.step_driver.proofs.FileLemmas.{whole_end, whole_too_long, whole_past_file, whole_lines, taken_events}
+use Rattle.step_driver.proofs.FileLemmas.{line_skipped, line_with_event, whole_event, whole_too_many, whole_refused}
 use Rattle.step_driver.proofs.FilePlaces.{told, taken_closed, line_at_hand}
 
 -- nothing was written after the trace

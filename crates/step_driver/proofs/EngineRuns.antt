@@ -1,7 +1,6 @@
 -- A run of an engine over an event file, as its lines are taken one after the other, and how it ends.
 use Rattle.std.proofs.Common.{◌≡◌, ◌≢◌, ℕ, ◌+◌, ◌⊎◌, Bool, true, false, nat_le, List, [], ◌∷◌, ◌++◌, length, Option}
-use Rattle.std.proofs.Common.{Some, None}
-use Rattle.std.proofs.Common.{Result, Ok, Err, refl, sym, ap, ◌∙◌, subst, arith, append-nil, inl, inr}
+use Rattle.std.proofs.Common.{Some, None, Result, Ok, Err, refl, sym, ap, ◌∙◌, subst, arith, append-nil, inl, inr}
 use Rattle.flow_base.specs.Causes.{Rose, AllStay}
 use Rattle.flow_base.specs.declared.fault.Fault.{Fault}
 use Rattle.active_config.specs.Tree.{Tree}
@@ -28,9 +27,8 @@ use Rattle.step_driver.specs.StepRuns.{StepRuns}
 use Rattle.step_driver.specs.Traces.{Ran, RunFault}
 use Rattle.step_driver.proofs.Buffered.{DriverLaws, run_of_all, run_of_some}
 use Rattle.step_driver.proofs.Driven.{RunLaws, Driven, FirstRun, EndOf, NoLineDone, line_passed, line_stepped}
-use Rattle.step_driver.proofs.Driven.{line_refused}
-use Rattle.step_driver.proofs.Driven.{line_too_many, line_ended, line_cut, line_wants, begun_first, begun_ended}
-use Rattle.step_driver.proofs.Driven.{begun_wants}
+use Rattle.step_driver.proofs.Driven.{line_refused, line_too_many, line_ended, line_cut, line_wants, begun_first}
+use Rattle.step_driver.proofs.Driven.{begun_ended, begun_wants}
 use Rattle.step_driver.proofs.FileLemmas.{reads_nothing}
 use Rattle.step_driver.proofs.RunLemmas.{SoFar, started, start_faulted, one_more, ran_so_far, event_faulted}
 

@@ -1,0 +1,11 @@
+pub mod LawLemmas
+pub mod SendLemmas
+pub mod NetRunLemmas
+pub mod RingLemmas
+pub mod HoldLemmas
+pub mod PartLemmas
+pub mod MoveLemmas
+pub mod SourceLemmas
+pub mod TakeLemmas
+pub mod NetLemmas
+pub mod ScheduleLemmas

@@ -1,0 +1,13 @@
+pub mod Nets
+pub mod Sending
+pub mod NetRuns
+pub mod NetLaws
+pub mod Rings
+pub mod Holding
+pub mod NetTraces
+pub mod Schedules
+pub mod Routes
+pub mod Changes
+pub mod Seats
+pub mod NetParts
+pub mod Moving

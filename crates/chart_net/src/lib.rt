@@ -1,0 +1,21 @@
+//! Nets of charts: several charts that send each other events through bounded queues.
+//!
+//! Read `specs/Nets.antt`, `specs/Sending.antt`, `specs/NetRuns.antt` and `specs/NetLaws.antt`
+//! first.
+#![tactic(auto)]
+
+mod driver;
+mod laws;
+mod moves;
+mod net;
+mod ring;
+mod route;
+mod schedule;
+mod seat;
+mod sending;
+
+pub use driver::NetEnd;
+pub use laws::net_law;
+pub use net::{CHART_LIMIT, Net, ROUTE_LIMIT};
+pub use ring::CAP_LIMIT;
+pub use route::Route;

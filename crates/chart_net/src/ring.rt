@@ -1,0 +1,82 @@
+//! The items that wait on a route.
+ghost use Rattle.std.specs.Prelude.{◌≡◌, ◌<◌, ◌≤◌, ◌↔◌, ◌++◌, ◌∷◌, [], length, IfOk, IsTrue};
+ghost use Rattle.chart_net.specs.Rings as spec;
+
+use actions::Value;
+use flow_base::Memory;
+use std::alloc::Global;
+use std::marker::Model;
+
+/// The most items that a route holds.
+pub const CAP_LIMIT: usize = 1024;
+
+/// The items that wait on a route, in as many places as the route holds items.
+#[derive(Debug, Drop)]
+pub(crate) struct Ring {
+    places: Vec<Option<Value>>,
+    first: usize,
+    count: usize,
+}
+
+impl Model for Ring {
+    ghost use Rattle.std.specs.Prelude.{◌<◌, ◌≤◌, length};
+    ghost use Rattle.chart_net.specs.Rings.{Queue, window};
+    ghost use Rattle.chart_net.specs.declared.ring.TheConstants.{CAP_LIMIT};
+
+    ghost Value = { Queue };
+
+    ghost view = { λ q. record { items = window q.first q.count q.places.items; cap = length q.places.items } };
+
+    ghost invariant = { λ q. (q.first < length q.places.items)
+        × (q.count ≤ length q.places.items) × (length q.places.items ≤ CAP_LIMIT) };
+}
+
+impl Ring {
+    /// No items, with room for that many.
+    pub fn make(alloc: Global, cap: usize) -> Result<Ring, Memory>
+        requires some { 0 < cap }
+        requires few { cap ≤ CAP_LIMIT }
+        ensures { IfOk result (λ ring. ring ≡ record { items = []; cap = cap }) }
+    {
+        match vec![in alloc; None; cap] {
+            Ok(places) => Ok(Ring {
+                places,
+                first: 0,
+                count: 0,
+            }),
+            Err(_) => Err(Memory),
+        }
+    }
+
+    /// Whether there is room for no more.
+    pub fn is_full(&self) -> bool
+        ensures full { IsTrue result ↔ (length self.now.items ≡ self.now.cap) }
+        ensures within { length self.now.items ≤ self.now.cap }
+    {
+        self.count == self.places.len()
+    }
+
+    /// Puts an item after those that wait.
+    pub fn push(&mut self, item: Option<Value>)
+        requires { length self.old.items < self.old.cap }
+        ensures { self.new ≡ record { items = self.old.items ++ item ∷ []; cap = self.old.cap } }
+    {
+        let place = (self.first + self.count) % self.places.len();
+        self.places[place] = item;
+        self.count += 1;
+    }
+
+    /// Takes the oldest item. None where none waits.
+    pub fn take(&mut self) -> Option<Option<Value>>
+        ensures oldest { result ≡ spec.oldest self.old.items }
+        ensures rest { self.new ≡ record { items = spec.later self.old.items; cap = self.old.cap } }
+    {
+        if self.count == 0 {
+            return None;
+        }
+        let item = self.places[self.first];
+        self.first = (self.first + 1) % self.places.len();
+        self.count -= 1;
+        Some(item)
+    }
+}

@@ -1,0 +1,15 @@
+use Rattle.std.proofs.Common.{◌≡◌, ◌+◌, ◌≤◌, length}
+use Rattle.net_text.specs.Lines.{cut_of}
+use Rattle.net_text.specs.Reading.{outcome_from, outcome_of}
+use Rattle.net_text.specs.Views.{partial_of}
+use Rattle.net_text.proofs.reader.read_lines.Given as goal
+
+-- from here on the outcome is that of the whole text, and no line's number is too great
+abbrev pub invariant-loop-parts : goal.invariant-loop-parts
+invariant-loop-parts l = record {
+  outcome : outcome_from (partial_of l.partial) l.number (cut_of l.rest).lines (cut_of l.rest).rest ≡ outcome_of l.text;
+  few : l.number + length l.rest ≤ 65537;
+}
+
+abbrev pub decreases-loop-parts : goal.decreases-loop-parts
+decreases-loop-parts l = length l.rest

@@ -1,0 +1,106 @@
+//! A net from its text.
+ghost use Rattle.std.specs.Prelude.{◌≡◌, ◌≢◌, ◌<◌, ◌≤◌, [], length, IfSome, IfOk, IfErr, Ok, Err};
+ghost use Rattle.std.specs.Prelude.{MatchOption};
+ghost use Rattle.net_text.specs.Lines.{cut_of, line_then};
+ghost use Rattle.net_text.specs.NetTexts.{net_text_of, IsNetText};
+ghost use Rattle.net_text.specs.Reading as spec;
+ghost use Rattle.net_text.specs.Views.{partial_of, Answers};
+
+use crate::expected::{Expected, is_whole};
+use crate::fault::NetFault;
+use crate::limits::{CHART_LIMIT, NET_TEXT_LIMIT};
+use crate::net::NetText;
+use crate::partial::Partial;
+use crate::repeats::first_repeat;
+use code_fields::{Parts, cut_at};
+use std::alloc::Global;
+
+/// The line of the first chart.
+const FIRST_CHART: u32 = 3;
+
+/// The net that a text says, or the first fault of the text.
+///
+/// Source: This project's choice.
+pub fn read_net(alloc: Global, text: &[u8]) -> Result<NetText, NetFault>
+    // What is read is what the text says.
+    ensures read { IfOk result (λ net. spec.net_of_text text.now ≡ Ok (net_text_of net)) }
+    ensures within { IfOk result (λ net. IsNetText (net_text_of net)) }
+    // Each fault but `Memory` is the first of the text.
+    ensures refused { IfErr result (λ fault. fault ≢ NetFault.Memory
+        → spec.net_of_text text.now ≡ Err fault) }
+{
+    read_named(alloc, text)
+}
+
+/// What reading the text gives.
+fn read_named(alloc: Global, text: &[u8]) -> Result<NetText, NetFault>
+    ensures { Answers result (spec.net_of_text text.now) }
+{
+    if text.len() > NET_TEXT_LIMIT {
+        return Err(NetFault::TextTooLong);
+    }
+    let net = match read_lines(alloc, text) {
+        Ok(net) => net,
+        Err(fault) => return Err(fault),
+    };
+    match first_repeat(net.charts.items()) {
+        None => Ok(net),
+        Some(chart) => Err(NetFault::NameTwice(chart as u32 + FIRST_CHART)),
+    }
+}
+
+/// What reading the lines of a text gives.
+fn read_lines(alloc: Global, text: &[u8]) -> Result<NetText, NetFault>
+    requires { length text.now ≤ NET_TEXT_LIMIT }
+    ensures answers { Answers result (spec.outcome_of text.now) }
+    ensures few { IfOk result (λ net. length (net_text_of net).charts ≤ CHART_LIMIT) }
+{
+    let mut partial = Partial::new(alloc);
+    let mut rest = text;
+    let mut number = 1;
+    while let Some(parts) = next_line(rest) {
+        let expected = partial.expected();
+        match partial.read(alloc, number, parts.front) {
+            Ok(true) => {}
+            Ok(false) => return Err(refusal(expected, number)),
+            Err(_) => return Err(NetFault::Memory),
+        }
+        rest = parts.rest;
+        number += 1;
+    }
+    read_to_end(partial, number, rest)
+}
+
+/// The first line of a text, and what stands after it.
+fn next_line(text: &[u8]) -> Option<Parts<'_>>
+    ensures line { MatchOption result (cut_of text.now ≡ record { lines = []; rest = text.now })
+        (λ parts. cut_of text.now ≡ line_then parts.front.now (cut_of parts.rest.now)) }
+    ensures shorter { IfSome result (λ parts. length parts.rest.now < length text.now) }
+{
+    cut_at(text, b'\n')
+}
+
+/// Why the line of that number can't stand.
+fn refusal(expected: Expected, number: u32) -> NetFault
+    ensures { result ≡ spec.refusal expected number }
+{
+    if is_whole(expected) {
+        NetFault::Trailing(number)
+    } else {
+        NetFault::BadLine(number)
+    }
+}
+
+/// The net, where the line `end` was read and nothing stands after it. The line that isn't whole
+/// has that number.
+fn read_to_end(partial: Partial, number: u32, rest: &[u8]) -> Result<NetText, NetFault>
+    ensures { Answers result (spec.at_end (partial_of partial) number rest.now) }
+{
+    if !is_whole(partial.expected()) {
+        return Err(NetFault::Truncated);
+    }
+    if !rest.is_empty() {
+        return Err(NetFault::Trailing(number));
+    }
+    Ok(partial.into_net())
+}

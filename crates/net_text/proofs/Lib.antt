@@ -1,3 +1,5 @@
 pub mod CutLemmas
 pub mod FileLemmas
 pub mod LimitLemmas
+pub mod RepeatLemmas
+pub mod JoinLemmas

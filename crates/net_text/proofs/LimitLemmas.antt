@@ -1,5 +1,5 @@
 -- What is read of a net text keeps to the limits.
-use Rattle.std.proofs.Common.{◌≡◌, ◌≢◌, ℕ, zero, suc, ◌+◌, ◌<◌, ◌≤◌, Bool, true, false, ◌&&◌, nat_eq, nat_lt, nat_le, List, [], ◌∷◌, ◌++◌, length, All, Option, Some, None, Result, Ok, Err, refl, sym, ap, ◌∙◌, subst, arith}
+use Rattle.std.proofs.Common.{◌≡◌, ◌≢◌, ℕ, zero, suc, ◌+◌, ◌<◌, ◌≤◌, Bool, true, false, ◌&&◌, nat_eq, nat_lt, nat_le, List, [], ◌∷◌, ◌++◌, length, All, Option, Some, None, Result, Ok, Err, IfOk, refl, sym, ap, ◌∙◌, subst, arith}
 use Rattle.std.specs.Prelude.{not, codes, option_map, option_and_then, if◌then◌else◌}
 use Rattle.std.specs.Str.{bytes_eq}
 use Rattle.std.proofs.lemmas.Bool.Decides.{nat_tests}
@@ -16,7 +16,9 @@ use Rattle.net_text.specs.declared.fault.NetFault.TheVariants as faults
 use Rattle.net_text.specs.declared.net.NetChart.{NetChart}
 use Rattle.net_text.specs.declared.net.RouteText.{RouteText}
 use Rattle.net_text.specs.Fields.{number_within, chart_number, count_behind, EventFront, event_with, event_front, DataNames, data_names, route_with_cap, route_with_taken, route_with_sent, route_of, chart_of}
-use Rattle.net_text.specs.NetTexts.{NetText, names_of, first_repeat, IsRouteWithin, IsNetText}
+use Rattle.net_text.specs.NetTexts.{NetText, names_of, first_repeat, IsRouteWithin, IsNetText, net_text_of}
+use Rattle.net_text.specs.Views.{Answers}
+use Rattle.net_text.specs.declared.net.NetText as declared
 use Rattle.net_text.specs.Lines.{cut_of}
 use Rattle.net_text.specs.Reading.{Partial, nothing_read, chart_next, route_next, with_chart_count, with_route_count, with_chart, with_route, with_words, next_at, next, or_refuse, refusal, is_whole, at_end, all_read, outcome_from, outcome_of, unless_repeated, with_own_names, net_of_text}
 
@@ -67,17 +69,17 @@ event_front-is charts text front h =
 route_with_cap-is : (charts line : ℕ) (sent taken : EventFront) (cap : ℕ) (text : List ℕ) (route : RouteText) → sent.chart < charts
     → taken.chart < charts → 1 ≤ cap → cap ≤ 1024 → route_with_cap line sent taken cap text ≡ Some route → IsRouteWithin charts route
 route_with_cap-is charts line sent taken cap text route s t some few h =
-    let made : DataNames → RouteText = λ data. record {
+    let made : DataNames → RouteText = λ pair. record {
       line = line;
       from = sent.chart;
       emit = sent.event;
       to = taken.chart;
       event = taken.event;
       cap = cap;
-      source = data.source;
-      target = data.target;
+      source = pair.source;
+      target = pair.target;
     } in
-    option_map_some made (data_names text) route h (λ data is same.
+    option_map_some made (data_names text) route h (λ pair is same.
     subst (IsRouteWithin charts) same (record { from = s; to = t; some = some; few = few }))
 
 route_with_taken-is : (charts line : ℕ) (sent taken : EventFront) (route : RouteText) → sent.chart < charts → taken.chart < charts
@@ -98,20 +100,20 @@ route_of-is charts line text route h =
 -- ---- lines
 
 -- there are 1 to 16 charts
-record HasCharts (p : Partial) : Type 0 where
-  some : 1 ≤ length p.charts
-  few : length p.charts ≤ 16
+record HasCharts (charts : List NetChart) : Type 0 where
+  some : 1 ≤ length charts
+  few : length charts ≤ 16
 
 -- what was read before a line keeps to the limits, and so it will with what is still to come
-KeepsTo : Expected → Partial → Type 0
+abbrev KeepsTo : Expected → Partial → Type 0
 KeepsTo expects.Version p = (p.charts ≡ []) × (p.routes ≡ [])
 KeepsTo expects.ChartCount p = (p.charts ≡ []) × (p.routes ≡ [])
 KeepsTo (expects.Chart more) p = (length p.charts + more < 16) × (p.routes ≡ [])
-KeepsTo expects.RouteCount p = HasCharts p × (p.routes ≡ [])
+KeepsTo expects.RouteCount p = HasCharts p.charts × (p.routes ≡ [])
 KeepsTo (expects.Route more) p =
-    HasCharts p × (length p.routes + more < 64) × All (IsRouteWithin (length p.charts)) p.routes
-KeepsTo expects.End p = HasCharts p × (length p.routes ≤ 64) × All (IsRouteWithin (length p.charts)) p.routes
-KeepsTo expects.Nothing p = HasCharts p × (length p.routes ≤ 64) × All (IsRouteWithin (length p.charts)) p.routes
+    HasCharts p.charts × (length p.routes + more < 64) × All (IsRouteWithin (length p.charts)) p.routes
+KeepsTo expects.End p = HasCharts p.charts × (length p.routes ≤ 64) × All (IsRouteWithin (length p.charts)) p.routes
+KeepsTo expects.Nothing p = HasCharts p.charts × (length p.routes ≤ 64) × All (IsRouteWithin (length p.charts)) p.routes
 
 -- a line of given words
 words_keep : (expected : Expected) (p q : Partial) (b : Bool) → KeepsTo expected (record p { expected = expected })
@@ -126,7 +128,7 @@ charts_keep p zero k some few = absurd (omega arith)
 charts_keep p (suc n) k some few = (rw (k.0) (omega arith), k.1)
 
 -- with so many routes to come
-routes_keep : (p : Partial) (n : ℕ) → HasCharts p → p.routes ≡ [] → n ≤ 64 → KeepsTo (route_next n) (with_route_count p n)
+routes_keep : (p : Partial) (n : ℕ) → HasCharts p.charts → p.routes ≡ [] → n ≤ 64 → KeepsTo (route_next n) (with_route_count p n)
 routes_keep p zero k none few = (k, rw none (omega arith), rw none (All-nil (IsRouteWithin (length p.charts))))
 routes_keep p (suc n) k none few = (k, rw none (omega arith), rw none (All-nil (IsRouteWithin (length p.charts))))
 
@@ -138,7 +140,7 @@ chart_keeps p zero chart few none =
 chart_keeps p (suc more) chart few none = (omega (arith, length-append p.charts (chart ∷ [])), none)
 
 -- one route more
-route_keeps : (p : Partial) (more : ℕ) (route : RouteText) → HasCharts p → length p.routes + more < 64
+route_keeps : (p : Partial) (more : ℕ) (route : RouteText) → HasCharts p.charts → length p.routes + more < 64
     → All (IsRouteWithin (length p.charts)) p.routes → IsRouteWithin (length p.charts) route
     → KeepsTo (route_next more) (with_route p more route)
 route_keeps p zero route k few all within =
@@ -165,7 +167,7 @@ next_at-keeps expects.RouteCount p number line q k h =
 next_at-keeps (expects.Route more) p number line q k h =
     option_map_some (with_route p more) (route_of (length p.charts) number line) q h (λ route is same.
     subst (λ (r : Partial). KeepsTo r.expected r) same
-    (route_keeps p more route k.0 k.1.0 k.1.1 (route_of-is (length p.charts) number line route is)))
+    (route_keeps p more route k.0 k.1 k.2 (route_of-is (length p.charts) number line route is)))
 next_at-keeps expects.End p number line q k h = words_keep expects.Nothing p q (bytes_eq line (codes "end")) k h
 next_at-keeps expects.Nothing p number line q k h = absurd cc
 
@@ -191,7 +193,7 @@ whole_within (expects.Chart more) p w k = absurd cc
 whole_within expects.RouteCount p w k = absurd cc
 whole_within (expects.Route more) p w k = absurd cc
 whole_within expects.End p w k = absurd cc
-whole_within expects.Nothing p w k = record { some = k.0.some; few = k.0.few; few_routes = k.1.0; routes = k.1.1 }
+whole_within expects.Nothing p w k = record { some = k.0.some; few = k.0.few; few_routes = k.1; routes = k.2 }
 
 ended : (whole empty : Bool) (p : Partial) (number : ℕ) (net : NetText) → is_whole p.expected ≡ whole → KeepsTo p.expected p
     → (if not whole then Err faults.Truncated else if empty then Ok (all_read p) else Err (faults.Trailing number)) ≡ Ok net
@@ -200,18 +202,18 @@ ended false empty p number net w k h = absurd cc
 ended true false p number net w k h = absurd cc
 ended true true p number net w k h = let same : all_read p ≡ net = cc in subst IsWithin same (whole_within p.expected p w k)
 
+-- the net of one line more
+line_within : (o : Option Partial) (fault : NetFault) (go : Partial → Result NetText NetFault) (net : NetText)
+    → ((q : Partial) → o ≡ Some q → go q ≡ Ok net → IsWithin net) → or_refuse o fault go ≡ Ok net → IsWithin net
+line_within None fault go net k h = absurd cc
+line_within (Some q) fault go net k h = k q refl h
+
 -- the net of lines
 outcome_from-within : (p : Partial) (number : ℕ) (lines : List (List ℕ)) (rest : List ℕ) (net : NetText) → KeepsTo p.expected p
     → outcome_from p number lines rest ≡ Ok net → IsWithin net
-line_within : (o : Option Partial) (fault : NetFault) (number : ℕ) (lines : List (List ℕ)) (rest : List ℕ) (net : NetText)
-    → ((q : Partial) → o ≡ Some q → KeepsTo q.expected q)
-    → ((q : Partial) → KeepsTo q.expected q → outcome_from q (number + 1) lines rest ≡ Ok net → IsWithin net)
-    → or_refuse o fault (λ q. outcome_from q (number + 1) lines rest) ≡ Ok net → IsWithin net
-line_within None fault number lines rest net k go h = absurd cc
-line_within (Some q) fault number lines rest net k go h = go q (k q refl) h
 outcome_from-within p number [] rest net k h = ended (is_whole p.expected) (nat_eq (length rest) 0) p number net refl k h
 outcome_from-within p number (line ∷ lines) rest net k h =
-    line_within (next p number line) (refusal p.expected number) number lines rest net (λ q e. next-keeps p number line q k e) (λ q kept g. outcome_from-within q (number + 1) lines rest net kept g) h
+    line_within (next p number line) (refusal p.expected number) (λ q. outcome_from q (number + 1) lines rest) net (λ q e g. outcome_from-within q (number + 1) lines rest net (next-keeps p number line q k e) g) h
 
 -- the net of the lines of a text
 pub outcome_of-within : (text : List ℕ) (net : NetText) → outcome_of text ≡ Ok net → IsWithin net
@@ -238,3 +240,9 @@ by_length false text net h = named_is (outcome_of text) net (λ made e. outcome_
 
 pub net_of_text-within : (text : List ℕ) (net : NetText) → net_of_text text ≡ Ok net → IsNetText net
 net_of_text-within text net h = by_length (nat_lt 65536 (length text)) text net h
+
+-- the answer of the reader
+pub answer_within : (text : List ℕ) (r : Result declared.NetText NetFault) → Answers r (net_of_text text)
+    → IfOk r (λ net. IsNetText (net_text_of net))
+answer_within text (Ok net) h = net_of_text-within text (net_text_of net) h
+answer_within text (Err fault) h = tt

@@ -78,15 +78,15 @@ data_names text =
 abbrev pub route_with_cap : ℕ → EventFront → EventFront → ℕ → List ℕ → Option RouteText
 route_with_cap line sent taken cap text =
     option_map
-    (λ data. record {
+    (λ pair. record {
       line = line;
       from = sent.chart;
       emit = sent.event;
       to = taken.chart;
       event = taken.event;
       cap = cap;
-      source = data.source;
-      target = data.target;
+      source = pair.source;
+      target = pair.target;
     })
     (data_names text)
 

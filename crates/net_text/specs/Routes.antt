@@ -148,7 +148,7 @@ DataJoined from to (Some s) (Some t) = AreJoined from to s t
 pub record Joins (from to : Names) (route : Route) : Type 0 where
   pub emit : IsOutputEvent from route.emit
   pub event : IsInputEvent to route.event
-  pub data : DataJoined from to route.source route.target
+  pub pair : DataJoined from to route.source route.target
 
 -- ---- routes
 
@@ -159,16 +159,22 @@ pub record AreFew (n : Names) : Type 0 where
 
 -- the route with that event for what it sends and that one for what it gives
 abbrev pub route_with : RouteText → ℕ → ℕ → DataNumbers → Route
-route_with text emit event data =
+route_with text emit event pair =
     record {
       from = text.from;
       emit = emit;
       to = text.to;
       event = event;
       cap = text.cap;
-      source = data.source;
-      target = data.target;
+      source = pair.source;
+      target = pair.target;
     }
+
+-- the charts and the number of items are those of the text
+pub record HasSameNumbers (text : RouteText) (route : Route) : Type 0 where
+  pub from : route.from ≡ text.from
+  pub to : route.to ≡ text.to
+  pub cap : route.cap ≡ text.cap
 
 -- the route that a text names between two charts, where EVENT, SRC and DST are such as the charts have
 unfoldable pub route_of : RouteText → Names → Names → Option Route

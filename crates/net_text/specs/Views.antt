@@ -28,7 +28,7 @@ front_of front = record { chart = front.chart; event = front.event.now; rest = f
 
 -- the bytes of both names
 abbrev pub data_names : DataNames → fields.DataNames
-data_names data = record { source = option_copied data.source; target = option_copied data.target }
+data_names pair = record { source = option_copied pair.source; target = option_copied pair.target }
 
 -- a route with the bytes of its names
 abbrev pub route_of : RouteParts → RouteText
@@ -46,7 +46,7 @@ route_of route =
 
 -- the numbers of both data
 abbrev pub data_numbers : DataNumbers → routes.DataNumbers
-data_numbers data = record { source = data.source; target = data.target }
+data_numbers pair = record { source = pair.source; target = pair.target }
 
 -- a name, if there is one
 abbrev pub IsNameOrNone : Option (List ℕ) → Type 0

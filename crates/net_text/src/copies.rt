@@ -52,7 +52,7 @@ pub fn route_of(
 /// A route with copies of its names.
 fn route_text(alloc: Global, parts: RouteParts<'_>) -> Result<RouteText, AllocError>
     requires { views.HasNames parts }
-    ensures { IfOk result (λ route. route ≡ views.route_of parts) }
+    ensures { IfOk result (λ route. route ≡ views.route_of parts.entry) }
 {
     Ok(RouteText {
         line: parts.line,
@@ -69,7 +69,7 @@ fn route_text(alloc: Global, parts: RouteParts<'_>) -> Result<RouteText, AllocEr
 /// A copy of a name, if there is one.
 fn name_or_none(alloc: Global, name: Option<&[u8]>) -> Result<Option<Text>, AllocError>
     requires { views.IsNameOrNone (option_copied name) }
-    ensures { IfOk result (λ text. text ≡ option_copied name) }
+    ensures { IfOk result (λ text. text ≡ option_copied name.entry) }
 {
     match name {
         Some(name) => Ok(Some(name_text(alloc, name)?)),

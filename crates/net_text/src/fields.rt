@@ -1,5 +1,6 @@
 //! Numbers within limits, and names of files.
 ghost use Rattle.std.specs.Prelude.{◌≡◌, IfSome, IsTrue};
+ghost use Rattle.std.specs.List.{list_all};
 ghost use Rattle.std.specs.Option.{option_copied};
 ghost use Rattle.net_text.specs.Fields as spec;
 
@@ -50,9 +51,14 @@ pub fn file_of(text: &[u8]) -> Option<&[u8]>
 fn is_file_name(text: &[u8]) -> bool
     ensures { result ≡ spec.is_file_name text.now }
 {
-    !text.is_empty()
-        && text.len() <= FILE_NAME_LIMIT
-        && text.iter().all(|byte| is_file_byte(*byte))
+    !text.is_empty() && text.len() <= FILE_NAME_LIMIT && are_file_bytes(text)
+}
+
+/// Whether each byte is one of 33 to 126.
+fn are_file_bytes(text: &[u8]) -> bool
+    ensures { result ≡ list_all spec.is_file_byte text.now }
+{
+    text.iter().all(|byte| is_file_byte(*byte))
 }
 
 /// Whether the byte is one of 33 to 126.

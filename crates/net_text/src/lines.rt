@@ -92,12 +92,12 @@ fn route_with_taken<'a>(
     requires sent { IsTrue (is_name sent.event.now) }
     requires taken { IsTrue (is_name taken.event.now) }
     ensures parts { option_map views.route_of result
-        ≡ spec.route_with_taken line (views.front_of sent) (views.front_of taken) }
+        ≡ spec.route_with_taken line (views.front_of sent.entry) (views.front_of taken.entry) }
     ensures named { IfSome result views.HasNames }
 {
     let parts = cut_at(taken.rest, b' ')?;
     let cap = number_within(parts.front, 1, CAP_LIMIT)?;
-    let data = data_names(parts.rest)?;
+    let pair = data_names(parts.rest)?;
     Some(RouteParts {
         line,
         from: sent.chart,
@@ -105,8 +105,8 @@ fn route_with_taken<'a>(
         to: taken.chart,
         event: taken.event,
         cap,
-        source: data.source,
-        target: data.target,
+        source: pair.source,
+        target: pair.target,
     })
 }
 
@@ -129,9 +129,9 @@ fn event_front(text: &[u8], charts: usize) -> Option<EventFront<'_>>
 /// The data of a route.
 #[tactic(auto, unfolding(crate::specs::Fields::data_names))]
 fn data_names(text: &[u8]) -> Option<DataNames<'_>>
-    ensures data { option_map views.data_names result ≡ spec.data_names text.now }
-    ensures named { IfSome result (λ data. views.IsNameOrNone (option_copied data.source)
-        × views.IsNameOrNone (option_copied data.target)) }
+    ensures names { option_map views.data_names result ≡ spec.data_names text.now }
+    ensures named { IfSome result (λ pair. views.IsNameOrNone (option_copied pair.source)
+        × views.IsNameOrNone (option_copied pair.target)) }
 {
     if text == b"- -".as_slice() {
         return Some(DataNames {

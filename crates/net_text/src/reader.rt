@@ -8,7 +8,7 @@ ghost use Rattle.net_text.specs.Views.{partial_of, Answers};
 
 use crate::expected::{Expected, is_whole};
 use crate::fault::NetFault;
-use crate::limits::{CHART_LIMIT, NET_TEXT_LIMIT};
+use crate::limits::NET_TEXT_LIMIT;
 use crate::net::NetText;
 use crate::partial::Partial;
 use crate::repeats::first_repeat;
@@ -45,15 +45,14 @@ fn read_named(alloc: Global, text: &[u8]) -> Result<NetText, NetFault>
     };
     match first_repeat(net.charts.items()) {
         None => Ok(net),
-        Some(chart) => Err(NetFault::NameTwice(chart as u32 + FIRST_CHART)),
+        Some(chart) => Err(NetFault::NameTwice(chart + FIRST_CHART)),
     }
 }
 
 /// What reading the lines of a text gives.
 fn read_lines(alloc: Global, text: &[u8]) -> Result<NetText, NetFault>
     requires { length text.now ≤ NET_TEXT_LIMIT }
-    ensures answers { Answers result (spec.outcome_of text.now) }
-    ensures few { IfOk result (λ net. length (net_text_of net).charts ≤ CHART_LIMIT) }
+    ensures { Answers result (spec.outcome_of text.now) }
 {
     let mut partial = Partial::new(alloc);
     let mut rest = text;

@@ -43,24 +43,34 @@ pub struct DataNumbers {
 /// None exactly where the one chart has no output event or no output datum, or the other no input
 /// event or no input, of the name that the text has, or where the sorts of the data differ. It
 /// takes no memory.
-#[tactic(auto, unfolding(crate::specs::Routes::route_of))]
 pub fn route_of(text: &RouteText, from: &Names, to: &Names) -> Option<Route>
     requires from_few { spec.AreFew (names_of from.now) }
     requires to_few { spec.AreFew (names_of to.now) }
     ensures route { result ≡ spec.route_of text.now (names_of from.now) (names_of to.now) }
     ensures joins { IfSome result (spec.Joins (names_of from.now) (names_of to.now)) }
+    ensures same { IfSome result (spec.HasSameNumbers text.now) }
+{
+    route_between(text, from, to)
+}
+
+/// The route that a text names between two charts.
+#[tactic(auto, unfolding(crate::specs::Routes::route_of))]
+fn route_between(text: &RouteText, from: &Names, to: &Names) -> Option<Route>
+    requires from_few { spec.AreFew (names_of from.now) }
+    requires to_few { spec.AreFew (names_of to.now) }
+    ensures { result ≡ spec.route_of text.now (names_of from.now) (names_of to.now) }
 {
     let emit = output_event(text.emit.text(), from)?;
     let event = input_event(text.event.text(), to)?;
-    let data = data_numbers(from, to, &text.source, &text.target)?;
+    let pair = data_numbers(from, to, &text.source, &text.target)?;
     Some(Route {
         from: text.from,
         emit,
         to: text.to,
         event,
         cap: text.cap,
-        source: data.source,
-        target: data.target,
+        source: pair.source,
+        target: pair.target,
     })
 }
 

@@ -12,7 +12,8 @@ CutFrom (Some parts) text cut = cut ≡ line_then parts.front (cut_of parts.rest
 -- a text with one more byte in front is cut as its parts say
 cut_begun : (b : ℕ) (text : List ℕ) (newline : Bool) (parts : Option Parts) (cut : Cut) → cut_of text ≡ cut
     → CutFrom parts text cut
-    → CutFrom (if newline then Some (record { front = []; rest = text }) else option_map (parts_with b) parts) (b ∷ text) (if newline then line_then [] cut else begun_with b cut.lines cut.rest)
+    → CutFrom (if newline then Some (record { front = []; rest = text }) else option_map (parts_with b) parts)
+    (b ∷ text) (if newline then line_then [] cut else begun_with b cut.lines cut.rest)
 cut_begun b text true parts cut e h = rw e refl
 cut_begun b text false None cut e h = rw h refl
 cut_begun b text false (Some parts) cut e h = rw h refl

@@ -7,9 +7,11 @@ use Rattle.std.proofs.lemmas.Bool.Decides.{nat_tests}
 use Rattle.std.proofs.lemmas.Str.Ascii.{IsAscii-nil, IsAscii-cons}
 use Rattle.net_text.specs.Fields.{is_file_byte, is_file_name}
 
+-- a byte of the name of a file
 file_byte-ascii : (b : ℕ) → is_file_byte b ≡ true → b < 128
 file_byte-ascii b h = grind (arith, nat_tests)
 
+-- such bytes
 file_bytes-ascii : (text : List ℕ) → list_all is_file_byte text ≡ true → IsAscii text
 file_bytes-ascii [] h = IsAscii-nil
 file_bytes-ascii (b ∷ text) h =

@@ -41,7 +41,8 @@ line_words (Some line) = codes " " ++ decimal line
 -- the line, number and name of a fault
 abbrev pub fault_words : NetFault → List ℕ
 fault_words fault =
-    codes "net" ++ line_words (fault_line fault) ++ codes ": " ++ decimal (fault_number fault) ++ codes " " ++ fault_name fault
+    codes "net" ++ line_words (fault_line fault)
+    ++ codes ": " ++ decimal (fault_number fault) ++ codes " " ++ fault_name fault
 
 -- the text of a fault
 abbrev pub fault_text : NetFault → List ℕ

@@ -1,6 +1,6 @@
 -- What the lines of a net text say. Fields are separated by one space.
-use Rattle.std.specs.Prelude.{ℕ, nat_lt, nat_le, Bool, ◌&&◌, List, length, Option, Some, None, option_map, option_and_then}
-use Rattle.std.specs.Prelude.{if◌then◌else◌, codes}
+use Rattle.std.specs.Prelude.{ℕ, nat_lt, nat_le, Bool, ◌&&◌, List, length, Option, Some, None, option_map}
+use Rattle.std.specs.Prelude.{option_and_then, if◌then◌else◌, codes}
 use Rattle.std.specs.List.{list_all}
 use Rattle.std.specs.Str.{bytes_eq}
 use Rattle.code_fields.specs.Fields.{kept, number_of, behind, name_of, word_then}
@@ -54,7 +54,8 @@ pub record EventFront : Type 0 where
 
 -- from the name of the event on
 abbrev pub event_with : ℕ → List ℕ → Option EventFront
-event_with chart text = word_then name_of (λ event rest. Some (record { chart = chart; event = event; rest = rest })) text
+event_with chart text =
+    word_then name_of (λ event rest. Some (record { chart = chart; event = event; rest = rest })) text
 
 -- what stands at the front of a text that names an event of one of so many charts
 abbrev pub event_front : ℕ → List ℕ → Option EventFront
@@ -72,7 +73,8 @@ data_with source text = option_map (λ target. record { source = Some source; ta
 -- neither datum, or the names of both
 unfoldable pub data_names : List ℕ → Option DataNames
 data_names text =
-    if bytes_eq text (codes "- -") then Some (record { source = None; target = None }) else word_then name_of data_with text
+    if bytes_eq text (codes "- -") then Some (record { source = None; target = None })
+    else word_then name_of data_with text
 
 -- a route, from its data on
 abbrev pub route_with_cap : ℕ → EventFront → EventFront → ℕ → List ℕ → Option RouteText
@@ -101,4 +103,5 @@ route_with_sent charts line sent = option_and_then (route_with_taken line sent) 
 -- the route of the line of that number, in a net of so many charts: `r FROM EVENT TO EVENT CAP SRC DST`
 unfoldable pub route_of : ℕ → ℕ → List ℕ → Option RouteText
 route_of charts line text =
-    option_and_then (λ rest. option_and_then (route_with_sent charts line) (event_front charts rest)) (behind (codes "r ") text)
+    option_and_then (λ rest. option_and_then (route_with_sent charts line) (event_front charts rest))
+    (behind (codes "r ") text)

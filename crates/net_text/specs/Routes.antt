@@ -1,5 +1,6 @@
 -- A route with numbers for its names.
-use Rattle.std.specs.Prelude.{◌≡◌, ℕ, ◌<◌, ◌^◌, length, nat_eq, Bool, true, false, not, ◌&&◌, List, Option, Some, None, option_map, option_and_then, slice_get, if◌then◌else◌}
+use Rattle.std.specs.Prelude.{◌≡◌, ℕ, ◌<◌, ◌^◌, length, nat_eq, Bool, true, false, not, ◌&&◌, List, Option, Some}
+use Rattle.std.specs.Prelude.{None, option_map, option_and_then, slice_get, if◌then◌else◌}
 use Rattle.std.specs.List.{position}
 use Rattle.std.specs.Str.{bytes_eq}
 use Rattle.fixed_point.specs.declared.scale.Scale.{Scale}

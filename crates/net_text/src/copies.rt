@@ -1,5 +1,5 @@
 //! Charts and routes with texts of their own.
-ghost use Rattle.std.specs.Prelude.{◌≡◌, option_map, IfOk, IsTrue};
+ghost use Rattle.std.specs.Prelude.{◌≡◌, IfOk, IsTrue};
 ghost use Rattle.std.specs.Option.{option_copied};
 ghost use Rattle.net_text.specs.Fields as spec;
 ghost use Rattle.net_text.specs.Views as views;

@@ -82,7 +82,8 @@ impl Partial {
     /// The count of charts.
     fn read_chart_count(&mut self, line: &[u8]) -> bool
         ensures { GoesOn (option_map (spec.with_chart_count (partial_of self.old))
-            (fields.count_behind (codes "charts ") 1 CHART_LIMIT line.now)) result (partial_of self.new) }
+            (fields.count_behind (codes "charts ") 1 CHART_LIMIT line.now))
+            result (partial_of self.new) }
     {
         let Some(count) = count_behind(b"charts ", line, 1, CHART_LIMIT) else {
             return false;
@@ -94,8 +95,8 @@ impl Partial {
     /// A chart.
     fn read_chart(&mut self, alloc: Global, line: &[u8], more: u32) -> Result<bool, AllocError>
         ensures { IfOk result (λ stands.
-            GoesOn (option_map (spec.with_chart (partial_of self.old) more) (fields.chart_of line.now))
-            stands (partial_of self.new)) }
+            GoesOn (option_map (spec.with_chart (partial_of self.old) more)
+            (fields.chart_of line.now)) stands (partial_of self.new)) }
     {
         let Some(chart) = chart_of(alloc, line)? else {
             return Ok(false);
@@ -108,7 +109,8 @@ impl Partial {
     /// The count of routes.
     fn read_route_count(&mut self, line: &[u8]) -> bool
         ensures { GoesOn (option_map (spec.with_route_count (partial_of self.old))
-            (fields.count_behind (codes "routes ") 0 ROUTE_LIMIT line.now)) result (partial_of self.new) }
+            (fields.count_behind (codes "routes ") 0 ROUTE_LIMIT line.now))
+            result (partial_of self.new) }
     {
         let Some(count) = count_behind(b"routes ", line, 0, ROUTE_LIMIT) else {
             return false;

@@ -212,7 +212,5 @@ fn same_sort(source: Sort, target: Sort) -> bool
 fn same_scale(source: Scale, target: Scale) -> bool
     ensures { result ≡ spec.same_scale source target }
 {
-    source.signed == target.signed
-        && source.width == target.width
-        && source.frac == target.frac
+    source.signed == target.signed && source.width == target.width && source.frac == target.frac
 }

@@ -9,7 +9,8 @@ use Rattle.net_text.proofs.reader.next_line.Goals as goal
 
 -- the first line is what stands before the first newline
 first_line : (text : List ℕ) (o : Option Parts) → option_map parts_of o ≡ parts_at 10 text
-    → MatchOption o (cut_of text ≡ record { lines = []; rest = text }) (λ parts. cut_of text ≡ line_then parts.front.now (cut_of parts.rest.now))
+    → MatchOption o (cut_of text ≡ record { lines = []; rest = text })
+    (λ parts. cut_of text ≡ line_then parts.front.now (cut_of parts.rest.now))
 first_line text None e = cut_of-rest text e
 first_line text (Some parts) e = cut_of-line text (parts_of parts) e
 

@@ -7,7 +7,8 @@ use Rattle.net_text.proofs.reader.read_lines.Given as goal
 -- from here on the outcome is that of the whole text, and no line's number is too great
 abbrev pub invariant-loop-parts : goal.invariant-loop-parts
 invariant-loop-parts l = record {
-  outcome : outcome_from (partial_of l.partial) l.number (cut_of l.rest).lines (cut_of l.rest).rest ≡ outcome_of l.text;
+  outcome : outcome_from (partial_of l.partial) l.number (cut_of l.rest).lines (cut_of l.rest).rest
+      ≡ outcome_of l.text;
   few : l.number + length l.rest ≤ 65537;
 }
 

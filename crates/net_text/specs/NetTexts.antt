@@ -22,7 +22,7 @@ net_text_of net = record { charts = items_of net.charts; routes = items_of net.r
 abbrev pub names_of : List NetChart → List (List ℕ)
 names_of charts = map (λ (chart : NetChart). chart.name) charts
 
--- the place of the first name that stands earlier, the first of the names having those before it
+-- the place of the first name that an earlier one has too, where those of the first list stand before the others
 abbrev pub first_repeat : List (List ℕ) → List (List ℕ) → Option ℕ
 first_repeat before [] = None
 first_repeat before (name ∷ names) =

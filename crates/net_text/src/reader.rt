@@ -20,7 +20,7 @@ const FIRST_CHART: u32 = 3;
 
 /// The net that a text says, or the first fault of the text.
 ///
-/// Source: This project's choice.
+/// This project's choice.
 pub fn read_net(alloc: Global, text: &[u8]) -> Result<NetText, NetFault>
     // What is read is what the text says.
     ensures read { IfOk result (λ net. spec.net_of_text text.now ≡ Ok (net_text_of net)) }

@@ -27,7 +27,7 @@ use Rattle.chart_net.specs.Sending.{sends}
 use Rattle.chart_net.specs.declared.driver.NetEnd.{NetEnd}
 use Rattle.chart_net.specs.declared.driver.NetEnd.TheVariants as ends
 use Rattle.chart_net.specs.declared.net.Net.{Net as Parts}
-use Rattle.chart_net.specs.declared.route.Route.{Route}
+use Rattle.net_text.specs.declared.route.Route.{Route}
 use Rattle.chart_net.specs.declared.seat.Seat.{Seat}
 use Rattle.event_file.specs.LineValues.{IsMadeFor}
 use Rattle.event_file.specs.declared.fault.LineFault.{LineFault}

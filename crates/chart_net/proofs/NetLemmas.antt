@@ -12,10 +12,11 @@ use Rattle.chart_net.specs.Holding.{HaveRoom}
 use Rattle.chart_net.specs.Nets.{Net, ChartOf, net_of}
 use Rattle.chart_net.specs.NetParts.{AreAt, CanTakeAll, IsNet, IsSound, all_fresh, charts_of, net_shown, routes_of}
 use Rattle.chart_net.specs.Rings.{Queue}
-use Rattle.chart_net.specs.Routes.{CanTake, IsRoute, Joins}
+use Rattle.chart_net.specs.Routes.{CanTake, IsRoute}
+use Rattle.net_text.specs.Routes.{Joins}
 use Rattle.chart_net.specs.Seats.{IsSeat, chart_of}
 use Rattle.chart_net.specs.declared.net.Net.{Net as Parts}
-use Rattle.chart_net.specs.declared.route.Route.{Route}
+use Rattle.net_text.specs.declared.route.Route.{Route}
 use Rattle.chart_net.specs.declared.seat.Seat.{Seat}
 use Rattle.chart_net.proofs.PartLemmas.{sound_with}
 

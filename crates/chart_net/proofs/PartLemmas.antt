@@ -17,11 +17,12 @@ use Rattle.chart_net.specs.Nets.{Net, ChartOf, NetWorld, net_of, replaced, start
 use Rattle.chart_net.specs.NetParts.{CanTakeAll, IsSound, charts_of, net_shown, routes_of}
 use Rattle.chart_net.specs.NetRuns.{ChartGives}
 use Rattle.chart_net.specs.Rings.{Queue}
-use Rattle.chart_net.specs.Routes.{IsRoute, Joins}
+use Rattle.chart_net.specs.Routes.{IsRoute}
+use Rattle.net_text.specs.Routes.{Joins}
 use Rattle.chart_net.specs.Seats.{IsSeat, SeatGives, chart_of, names_at}
 use Rattle.chart_net.specs.declared.net.Net.{Net as Parts}
-use Rattle.chart_net.specs.declared.ring.TheConstants.{CAP_LIMIT}
-use Rattle.chart_net.specs.declared.route.Route.{Route}
+use Rattle.net_text.specs.declared.limits.TheConstants.{CAP_LIMIT}
+use Rattle.net_text.specs.declared.route.Route.{Route}
 use Rattle.chart_net.specs.declared.seat.Seat.{Seat}
 use Rattle.chart_net.proofs.HoldLemmas.{read_same, read_other}
 

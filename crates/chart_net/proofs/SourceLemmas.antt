@@ -18,11 +18,12 @@ use Rattle.chart_net.specs.Holding.{HaveSources, Sent, Wait}
 use Rattle.chart_net.specs.Nets.{Item, RouteState}
 use Rattle.chart_net.specs.NetParts.{IsSound, CanTakeAll, net_shown}
 use Rattle.chart_net.specs.Rings.{Queue, later, oldest}
-use Rattle.chart_net.specs.Routes.{CanTake, DataJoined}
+use Rattle.chart_net.specs.Routes.{CanTake}
+use Rattle.net_text.specs.Routes.{DataJoined}
 use Rattle.chart_net.specs.Seats.{names_at}
 use Rattle.chart_net.specs.Sending.{carries, item_of, items_for, items_for_all, items_given, send_events, sends}
 use Rattle.chart_net.specs.declared.net.Net.{Net as Parts}
-use Rattle.chart_net.specs.declared.route.Route.{Route}
+use Rattle.net_text.specs.declared.route.Route.{Route}
 use Rattle.chart_net.specs.declared.seat.Seat.{Seat}
 use Rattle.chart_net.proofs.PartLemmas.{declared_is}
 use Rattle.chart_net.proofs.SendLemmas.{sends_adds}

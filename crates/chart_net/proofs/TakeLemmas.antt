@@ -16,7 +16,7 @@ use Rattle.chart_net.specs.Rings.{Queue, later, oldest}
 use Rattle.chart_net.specs.Routes.{CanTake, IsRoute}
 use Rattle.chart_net.specs.Seats.{chart_of}
 use Rattle.chart_net.specs.declared.net.Net.{Net as Parts}
-use Rattle.chart_net.specs.declared.route.Route.{Route}
+use Rattle.net_text.specs.declared.route.Route.{Route}
 use Rattle.chart_net.proofs.PartLemmas.{at_changed}
 use Rattle.chart_net.proofs.SourceLemmas.{all_later}
 

@@ -11,8 +11,8 @@ use Rattle.chart_net.specs.Rings.{Queue}
 use Rattle.chart_net.specs.Routes.{CanTake, IsRoute}
 use Rattle.chart_net.specs.Seats.{IsSeat, chart_of}
 use Rattle.chart_net.specs.declared.net.Net.{Net as Parts}
-use Rattle.chart_net.specs.declared.net.TheConstants.{CHART_LIMIT, ROUTE_LIMIT}
-use Rattle.chart_net.specs.declared.route.Route.{Route}
+use Rattle.net_text.specs.declared.limits.TheConstants.{CHART_LIMIT, ROUTE_LIMIT}
+use Rattle.net_text.specs.declared.route.Route.{Route}
 use Rattle.chart_net.specs.declared.seat.Seat.{Seat}
 
 -- its charts, in order

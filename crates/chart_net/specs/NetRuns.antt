@@ -9,7 +9,7 @@ use Rattle.actions.specs.declared.event.Event.TheVariants.{Named}
 use Rattle.actions.specs.declared.expr.Value.{Value}
 use Rattle.chart_net.specs.Nets.{Net, Item, ChartState, RouteState, NetWorld, net_before, replaced}
 use Rattle.chart_net.specs.Sending.{Sending, sends}
-use Rattle.chart_net.specs.declared.route.Route.{Route}
+use Rattle.net_text.specs.declared.route.Route.{Route}
 use Rattle.event_file.specs.InputValues.{no_inputs}
 
 -- a step: a chart is started or is given an event, or the chart at the end of a route takes an item of it

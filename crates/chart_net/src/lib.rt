@@ -9,13 +9,10 @@ mod laws;
 mod moves;
 mod net;
 mod ring;
-mod route;
 mod schedule;
 mod seat;
 mod sending;
 
 pub use driver::NetEnd;
 pub use laws::net_law;
-pub use net::{CHART_LIMIT, Net, ROUTE_LIMIT};
-pub use ring::CAP_LIMIT;
-pub use route::Route;
+pub use net::Net;

@@ -18,12 +18,12 @@ ghost use Rattle.chart_net.specs.Sending.{sends};
 
 use crate::driver::NetEnd;
 use crate::net::Net;
-use crate::route::Route;
 use crate::seat::Seat;
 use crate::sending::{send_events, take_item};
 use actions::{Engine, Event, Halt, Value};
 use event_file::EVENT_LIMIT;
 use flow_base::{Fault, Sink};
+use net_text::Route;
 use trace_text::{Pieces, put_full, put_trace};
 
 impl<G: Engine> Net<G> {

@@ -5,20 +5,15 @@ ghost use Rattle.std.specs.Str.{bytes_eq};
 ghost use Rattle.actions.specs.Engines.{Fresh};
 ghost use Rattle.chart_net.specs.NetParts.{IsNet, charts_of, net_shown, routes_of};
 ghost use Rattle.chart_net.specs.Routes.{IsRoute};
+ghost use Rattle.net_text.specs.declared.limits.TheConstants.{CHART_LIMIT, ROUTE_LIMIT};
 
 use crate::ring::Ring;
-use crate::route::Route;
 use crate::seat::Seat;
 use actions::Engine;
 use event_file::InputVals;
 use flow_base::{Memory, Text};
+use net_text::Route;
 use std::alloc::Global;
-
-/// The most charts of a net.
-pub const CHART_LIMIT: usize = 16;
-
-/// The most routes of a net.
-pub const ROUTE_LIMIT: usize = 64;
 
 /// Charts that engines of one type run, and routes between them, each with what waits on it.
 #[derive(Drop)]

@@ -1,14 +1,12 @@
 //! The items that wait on a route.
 ghost use Rattle.std.specs.Prelude.{◌≡◌, ◌<◌, ◌≤◌, ◌↔◌, ◌++◌, ◌∷◌, [], length, IfOk, IsTrue};
 ghost use Rattle.chart_net.specs.Rings as spec;
+ghost use Rattle.net_text.specs.declared.limits.TheConstants.{CAP_LIMIT};
 
 use actions::Value;
 use flow_base::Memory;
 use std::alloc::Global;
 use std::marker::Model;
-
-/// The most items that a route holds.
-pub const CAP_LIMIT: usize = 1024;
 
 /// The items that wait on a route, in as many places as the route holds items.
 #[derive(Debug, Drop)]
@@ -21,7 +19,7 @@ pub(crate) struct Ring {
 impl Model for Ring {
     ghost use Rattle.std.specs.Prelude.{◌<◌, ◌≤◌, length};
     ghost use Rattle.chart_net.specs.Rings.{Queue, window};
-    ghost use Rattle.chart_net.specs.declared.ring.TheConstants.{CAP_LIMIT};
+    ghost use Rattle.net_text.specs.declared.limits.TheConstants.{CAP_LIMIT};
 
     ghost Value = { Queue };
 

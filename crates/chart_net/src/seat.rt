@@ -1,7 +1,7 @@
 //! A chart of a net, with what its steps need.
 ghost use Rattle.std.specs.Prelude.{◌≡◌, ◌≢◌, ◌<◌, ◌^◌, length, None, Some, Err, IsTrue};
 ghost use Rattle.actions.specs.Engines.{Fresh, IsInputEvent, Running};
-ghost use Rattle.actions.specs.Runs.{AreInputValues, AreSet, CanBeGiven};
+ghost use Rattle.actions.specs.Runs.{AreSet, CanBeGiven};
 ghost use Rattle.actions.specs.declared.event.Event.TheVariants.{Named};
 ghost use Rattle.event_file.specs.EventLines.{SaysWhatCanBeGiven, answer_of, event_of_line, inputs_of};
 ghost use Rattle.event_file.specs.LineValues.{IsMadeFor};
@@ -12,6 +12,7 @@ ghost use Rattle.chart_net.specs.Seats.{IsSeat, SeatMoves, names_at};
 use actions::{Engine, Event, Halt, Value};
 use event_file::{EVENT_LIMIT, InputVals, LineFault, event_line};
 use flow_base::Text;
+use step_driver::set_inputs;
 
 /// A chart of a net.
 #[derive(Drop)]
@@ -84,22 +85,6 @@ impl<G: Engine> Seat<G> {
         set_item(&mut self.engine, target, item);
         self.index += 1;
         self.engine.react(Event::Named(event))
-    }
-}
-
-/// Gives each input the value that is kept for it.
-fn set_inputs<G: Engine>(engine: &mut G, vals: &InputVals)
-    requires running { G.stage engine.old ≡ Running }
-    requires few { length vals.now.values < 2 ^ 32 }
-    requires vals { AreInputValues (G.declared (G.program engine.old)) 0 vals.now.values }
-    ensures set { AreSet 0 vals.now.values (G.world engine.old) (G.world engine.new) }
-    ensures program { G.program engine.new ≡ G.program engine.old }
-    ensures stage { G.stage engine.new ≡ G.stage engine.old }
-{
-    for v in 0..vals.len() as u32 {
-        if let Some(value) = vals.get(v) {
-            engine.set_input(v, value);
-        }
     }
 }
 

@@ -7,8 +7,8 @@ ghost use Rattle.chart_net.specs.Rings.{later, oldest};
 ghost use Rattle.chart_net.specs.Sending as spec;
 
 use crate::ring::Ring;
-use crate::route::Route;
 use actions::{Vals, Value};
+use net_text::Route;
 
 /// Sends the events that a chart put out, one after the other, each on every route from the chart
 /// that carries it, in order of the routes. It answers the number of the route that was full when

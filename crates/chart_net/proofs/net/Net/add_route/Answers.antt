@@ -1,6 +1,6 @@
 use Rattle.std.proofs.Common.{List, [], ◌∷◌, ◌++◌, refl, ap, ◌∙◌}
 use Rattle.chart_net.specs.declared.net.Net.{Net}
-use Rattle.chart_net.specs.declared.route.Route.{Route}
+use Rattle.net_text.specs.declared.route.Route.{Route}
 use Rattle.chart_net.proofs.NetLemmas.{net_kept, route_added}
 use Rattle.chart_net.proofs.net.Net.add_route.Goals as goal
 

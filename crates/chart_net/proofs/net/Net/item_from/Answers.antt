@@ -7,7 +7,7 @@ use Rattle.chart_net.specs.NetParts.{net_shown}
 use Rattle.chart_net.specs.Rings.{Queue}
 use Rattle.chart_net.specs.Routes.{CanTake}
 use Rattle.chart_net.specs.declared.net.Net.{Net}
-use Rattle.chart_net.specs.declared.route.Route.{Route}
+use Rattle.net_text.specs.declared.route.Route.{Route}
 use Rattle.chart_net.proofs.PartLemmas.{sound_with}
 use Rattle.chart_net.proofs.SourceLemmas.{oldest_has}
 use Rattle.chart_net.proofs.TakeLemmas.{all_after_taking}

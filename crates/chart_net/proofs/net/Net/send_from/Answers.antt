@@ -11,7 +11,7 @@ use Rattle.chart_net.specs.Rings.{Queue}
 use Rattle.chart_net.specs.Routes.{CanTake}
 use Rattle.chart_net.specs.Sending.{sends}
 use Rattle.chart_net.specs.declared.net.Net.{Net}
-use Rattle.chart_net.specs.declared.route.Route.{Route}
+use Rattle.net_text.specs.declared.route.Route.{Route}
 use Rattle.chart_net.specs.declared.seat.Seat.{Seat}
 use Rattle.chart_net.proofs.PartLemmas.{sound_with}
 use Rattle.chart_net.proofs.SourceLemmas.{all_after_sending, none_of, sent_from, sent_taken, sources_there}

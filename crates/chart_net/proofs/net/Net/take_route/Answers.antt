@@ -14,7 +14,7 @@ use Rattle.chart_net.specs.NetTraces.{ByEmpty}
 use Rattle.chart_net.specs.Nets.{Net, NetWorld}
 use Rattle.chart_net.specs.Routes.{CanTake, IsRoute}
 use Rattle.chart_net.specs.Seats.{names_at}
-use Rattle.chart_net.specs.declared.route.Route.{Route}
+use Rattle.net_text.specs.declared.route.Route.{Route}
 use Rattle.chart_net.proofs.MoveLemmas.{charts_moved, ends_before, event_is, move_done, names_there, on_ok, seat_there, sound_moved, stages_moved, unless_memory}
 use Rattle.chart_net.proofs.PartLemmas.{along, declared_is, gives_event}
 use Rattle.chart_net.proofs.TakeLemmas.{takes_item, takes_nothing, to_within}

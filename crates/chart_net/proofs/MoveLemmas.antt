@@ -5,7 +5,7 @@ use Rattle.std.proofs.lemmas.Bool.Decides.{nat_tests}
 use Rattle.std.proofs.lemmas.Option.{slice_get_within}
 use Rattle.flow_base.specs.declared.fault.Fault.{Fault}
 use Rattle.active_config.specs.Tree.{Tree}
-use Rattle.actions.specs.Engines.{CanReactTo, Stage, Fresh, Running, Over, fault_of, stage_after}
+use Rattle.actions.specs.Engines.{CanReactTo, Stage, Fresh, Running, stage_after}
 use Rattle.actions.specs.Names.{Names}
 use Rattle.actions.specs.Runs.{EventWithInputs, Moment}
 use Rattle.actions.specs.World.{World}
@@ -16,7 +16,7 @@ use Rattle.actions.specs.declared.event.Event.{Event}
 use Rattle.actions.specs.declared.event.Event.TheVariants as events
 use Rattle.chart_net.specs.Changes.{At}
 use Rattle.chart_net.specs.Holding.{Sent, Wait}
-use Rattle.chart_net.specs.Nets.{Net, ChartState, NetWorld, RouteState, replaced}
+use Rattle.chart_net.specs.Nets.{ChartState, NetWorld, RouteState}
 use Rattle.chart_net.specs.NetParts.{AreAt, ChartStands, IsSound, StandsFor, charts_of, net_shown, routes_of, started_below}
 use Rattle.chart_net.specs.NetRuns.{NetStep, NetMoment, Moved, ChartGives, Moves, Does, after_move, took_also}
 use Rattle.chart_net.specs.NetTraces.{Why, ByFault, ByFull, ByEmpty, chart_line, event_at, moment_word, why_moved}

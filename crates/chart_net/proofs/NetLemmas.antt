@@ -1,5 +1,5 @@
 -- A net with one chart or one route more.
-use Rattle.std.proofs.Common.{◌≡◌, ℕ, zero, suc, ◌+◌, ◌<◌, ◌≤◌, List, [], ◌∷◌, ◌++◌, length, map, Option, Some, None, refl, sym, ap, ◌∙◌, subst, arith, length-append}
+use Rattle.std.proofs.Common.{◌≡◌, ℕ, zero, suc, ◌+◌, ◌<◌, ◌≤◌, List, [], ◌∷◌, ◌++◌, length, map, Option, Some, refl, sym, ap, ◌∙◌, subst, arith, length-append}
 use Rattle.std.specs.Prelude.{slice_get}
 use Rattle.std.specs.List.{AllByRecursion}
 use Rattle.std.specs.Option.{option_map_or}
@@ -8,9 +8,8 @@ use Rattle.actions.specs.Engines.{Fresh}
 use Rattle.actions.specs.Names.{Names}
 use Rattle.actions.specs.declared.engine.Engine.{Ghosts as Engine}
 use Rattle.chart_net.specs.Changes.{At}
-use Rattle.chart_net.specs.Holding.{HaveRoom}
-use Rattle.chart_net.specs.Nets.{Net, ChartOf, net_of}
-use Rattle.chart_net.specs.NetParts.{AreAt, CanTakeAll, IsNet, IsSound, all_fresh, charts_of, net_shown, routes_of}
+use Rattle.chart_net.specs.Nets.{ChartOf, net_of}
+use Rattle.chart_net.specs.NetParts.{CanTakeAll, IsNet, charts_of, net_shown, routes_of}
 use Rattle.chart_net.specs.Rings.{Queue}
 use Rattle.chart_net.specs.Routes.{CanTake, IsRoute}
 use Rattle.net_text.specs.Routes.{Joins}

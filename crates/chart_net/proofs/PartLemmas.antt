@@ -1,19 +1,19 @@
 -- The parts of a net, where one of its charts moves.
-use Rattle.std.proofs.Common.{◌≡◌, ◌≢◌, ℕ, zero, suc, ◌+◌, ◌<◌, ◌≤◌, nat_eq, Bool, true, false, List, [], ◌∷◌, ◌++◌, length, map, set, Option, Some, None, refl, sym, ap, ◌∙◌, subst, arith}
+use Rattle.std.proofs.Common.{◌≡◌, ◌≢◌, ℕ, zero, suc, ◌<◌, ◌≤◌, nat_eq, Bool, true, false, List, [], ◌∷◌, length, map, set, Option, Some, None, refl, sym, ap, ◌∙◌, subst, arith}
 use Rattle.std.specs.Prelude.{slice_get, slice_index_or}
 use Rattle.std.specs.Option.{option_map_or}
 use Rattle.std.proofs.lemmas.Bool.{eqb-true, eq-eqb}
 use Rattle.std.proofs.lemmas.List.{length-map}
 use Rattle.std.proofs.lemmas.Option.{get_or_from_slice_get, slice_get_within}
 use Rattle.flow_base.specs.declared.fault.Fault.{Fault}
-use Rattle.active_config.specs.Tree.{Tree, tree_of}
+use Rattle.active_config.specs.Tree.{tree_of}
 use Rattle.actions.specs.Names.{Names}
 use Rattle.actions.specs.Runs.{EventWithInputs, Moment, ReactsWithInputs}
 use Rattle.actions.specs.World.{World}
 use Rattle.actions.specs.declared.engine.Engine.{Ghosts as Engine}
 use Rattle.chart_net.specs.Changes.{At}
 use Rattle.chart_net.specs.Holding.{HaveRoom}
-use Rattle.chart_net.specs.Nets.{Net, ChartOf, NetWorld, net_of, replaced, start_of, reaction_of}
+use Rattle.chart_net.specs.Nets.{Net, ChartOf, net_of, replaced, start_of, reaction_of}
 use Rattle.chart_net.specs.NetParts.{CanTakeAll, IsSound, charts_of, net_shown, routes_of}
 use Rattle.chart_net.specs.NetRuns.{ChartGives}
 use Rattle.chart_net.specs.Rings.{Queue}

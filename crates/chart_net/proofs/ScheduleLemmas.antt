@@ -1,26 +1,23 @@
 -- What is read of a line of a schedule.
-use Rattle.std.proofs.Common.{◌≡◌, ℕ, ◌+◌, ◌^◌, ◌<◌, ◌≤◌, nat_eq, nat_lt, not, cond, Bool, true, false, List, [], ◌∷◌, length, map, set, codes, decimal, Option, Some, None, Result, Ok, Err, if◌then◌else◌, refl, sym, ap, ◌∙◌, subst, arith, bytes_eq, position}
+use Rattle.std.proofs.Common.{◌≡◌, ℕ, ◌+◌, ◌^◌, ◌<◌, ◌≤◌, nat_eq, nat_lt, not, cond, Bool, true, false, List, [], ◌∷◌, length, map, set, codes, Option, Some, None, Result, Ok, Err, refl, sym, ap, ◌∙◌, subst, bytes_eq, position}
 use Rattle.std.specs.Prelude.{slice_get, slice_index}
-use Rattle.std.specs.List.{position_or_len, prefix_len, range_with_len}
+use Rattle.std.specs.List.{position_or_len, prefix_len}
 use Rattle.std.proofs.lemmas.List.{length-map}
 use Rattle.actions.specs.Names.{Names}
 use Rattle.actions.specs.Runs.{CanBeGiven, EventWithInputs}
 use Rattle.actions.specs.declared.engine.Engine.{Ghosts as Engine}
 use Rattle.actions.specs.declared.event.Event.{Event}
-use Rattle.event_file.specs.EventLines.{answer_of, event_of_line, event_of_tokens, inputs_of, tokens_of, SaysWhatCanBeGiven}
+use Rattle.event_file.specs.EventLines.{answer_of, event_of_line, inputs_of, tokens_of, SaysWhatCanBeGiven}
 use Rattle.event_file.specs.LineValues.{IsMadeFor}
 use Rattle.event_file.specs.declared.fault.LineFault.{LineFault}
 use Rattle.event_file.specs.declared.fault.LineFault.TheVariants as faults
 use Rattle.chart_net.specs.Changes.{At}
-use Rattle.chart_net.specs.Nets.{Net, ChartOf, NetWorld}
-use Rattle.chart_net.specs.NetParts.{AreAt, ChartStands, IsKept, IsSound, StandsFor, charts_of, net_shown, routes_of}
-use Rattle.chart_net.specs.NetRuns.{NetStep, Gives, Takes}
-use Rattle.chart_net.specs.Moving.{IsStep, ReadsGiven, ReadsStep}
-use Rattle.chart_net.specs.Schedules.{giving, giving_step, giving_to, step_of_line, step_of_tokens, taking, taking_step}
+use Rattle.chart_net.specs.Nets.{Net}
+use Rattle.chart_net.specs.NetParts.{ChartStands, IsKept, charts_of, net_shown}
+use Rattle.chart_net.specs.Moving.{ReadsGiven}
+use Rattle.chart_net.specs.Schedules.{giving, giving_step, giving_to, step_of_line, step_of_tokens, taking_step}
 use Rattle.chart_net.specs.Seats.{IsSeat, chart_of, names_at}
 use Rattle.chart_net.specs.declared.net.Net.{Net as Parts}
-use Rattle.chart_net.specs.declared.schedule.Step.{Step}
-use Rattle.chart_net.specs.declared.schedule.Step.TheVariants as steps
 use Rattle.chart_net.specs.declared.seat.Seat.{Seat}
 use Rattle.chart_net.proofs.HoldLemmas.{read_same}
 use Rattle.chart_net.proofs.PartLemmas.{at_changed, declared_is, mapped_same, sound_with}

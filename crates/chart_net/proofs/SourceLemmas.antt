@@ -16,7 +16,7 @@ use Rattle.actions.specs.declared.engine.Engine.{Ghosts as Engine}
 use Rattle.actions.specs.declared.names.Sort.{Sort}
 use Rattle.chart_net.specs.Holding.{HaveSources, Sent, Wait}
 use Rattle.chart_net.specs.Nets.{Item, RouteState}
-use Rattle.chart_net.specs.NetParts.{IsSound, CanTakeAll, net_shown}
+use Rattle.chart_net.specs.NetParts.{IsSound, net_shown}
 use Rattle.chart_net.specs.Rings.{Queue, later, oldest}
 use Rattle.chart_net.specs.Routes.{CanTake}
 use Rattle.net_text.specs.Routes.{DataJoined}

@@ -1,9 +1,9 @@
 -- An item of a route is taken, and given to the chart at its end.
-use Rattle.std.proofs.Common.{◌≡◌, ◌≢◌, ℕ, zero, suc, ◌+◌, ◌<◌, List, [], ◌∷◌, ◌++◌, length, set, replicate, Option, Some, None, refl, sym, ap, ◌∙◌, subst, arith}
+use Rattle.std.proofs.Common.{◌≡◌, ◌≢◌, ℕ, zero, suc, ◌+◌, ◌<◌, length, set, replicate, Option, Some, None, refl, sym, subst, arith}
 use Rattle.std.specs.Prelude.{slice_get}
 use Rattle.std.proofs.lemmas.List.{length-map}
 use Rattle.std.proofs.lemmas.Option.{slice_get_within}
-use Rattle.actions.specs.Engines.{IsInputSet, IsInputValue}
+use Rattle.actions.specs.Engines.{IsInputSet}
 use Rattle.actions.specs.Names.{Names}
 use Rattle.actions.specs.Runs.{AreSet}
 use Rattle.actions.specs.World.{World}
@@ -11,8 +11,8 @@ use Rattle.actions.specs.declared.engine.Engine.{Ghosts as Engine}
 use Rattle.actions.specs.declared.expr.Value.{Value}
 use Rattle.chart_net.specs.Nets.{Net, ChartOf, Item, NetWorld}
 use Rattle.chart_net.specs.NetParts.{CanTakeAll, IsSound, charts_of, net_shown}
-use Rattle.chart_net.specs.NetRuns.{Does, Moves, NetMoment, NetStep, Takes, TakesFrom, TakesItem, WasEmpty, event_of_item, inputs_of_item, next_item, with_got}
-use Rattle.chart_net.specs.Rings.{Queue, later, oldest}
+use Rattle.chart_net.specs.NetRuns.{Does, Moves, NetMoment, Takes, TakesFrom, TakesItem, WasEmpty, event_of_item, inputs_of_item, next_item, with_got}
+use Rattle.chart_net.specs.Rings.{Queue, later}
 use Rattle.chart_net.specs.Routes.{CanTake, IsRoute}
 use Rattle.chart_net.specs.Seats.{chart_of}
 use Rattle.chart_net.specs.declared.net.Net.{Net as Parts}

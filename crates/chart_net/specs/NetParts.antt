@@ -13,7 +13,6 @@ use Rattle.chart_net.specs.Seats.{IsSeat, chart_of}
 use Rattle.chart_net.specs.declared.net.Net.{Net as Parts}
 use Rattle.net_text.specs.declared.limits.TheConstants.{CHART_LIMIT, ROUTE_LIMIT}
 use Rattle.net_text.specs.declared.route.Route.{Route}
-use Rattle.chart_net.specs.declared.seat.Seat.{Seat}
 
 -- its charts, in order
 abbrev pub charts_of : {G : Type 0} → (members : Engine G) → Parts G → List (ChartOf members.Program)

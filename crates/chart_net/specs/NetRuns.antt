@@ -7,8 +7,8 @@ use Rattle.actions.specs.Runs.{EventWithInputs, Moment, ReactsWithInputs}
 use Rattle.actions.specs.World.{World}
 use Rattle.actions.specs.declared.event.Event.TheVariants.{Named}
 use Rattle.actions.specs.declared.expr.Value.{Value}
-use Rattle.chart_net.specs.Nets.{Net, Item, ChartState, RouteState, NetWorld, net_before, replaced}
-use Rattle.chart_net.specs.Sending.{Sending, sends}
+use Rattle.chart_net.specs.Nets.{Net, Item, RouteState, NetWorld, net_before, replaced}
+use Rattle.chart_net.specs.Sending.{sends}
 use Rattle.net_text.specs.declared.route.Route.{Route}
 use Rattle.event_file.specs.InputValues.{no_inputs}
 

@@ -1,4 +1,4 @@
-use Rattle.std.proofs.Common.{◌≡◌, ℕ, ◌+◌, List, Option, Some, length, set, refl, ◌∙◌, subst, arith}
+use Rattle.std.proofs.Common.{◌≡◌, ℕ, ◌+◌, List, Option, Some, set, refl, subst, arith}
 use Rattle.actions.specs.Engines.{IsFaultOf, Running, Stage, fault_of}
 use Rattle.actions.specs.Names.{Names}
 use Rattle.actions.specs.Runs.{EventWithInputs}

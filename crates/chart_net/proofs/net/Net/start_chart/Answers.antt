@@ -1,4 +1,4 @@
-use Rattle.std.proofs.Common.{◌≡◌, ℕ, ◌+◌, List, None, length, set, refl, ◌∙◌, subst, arith}
+use Rattle.std.proofs.Common.{◌≡◌, ℕ, ◌+◌, List, None, set, refl, ◌∙◌, subst, arith}
 use Rattle.actions.specs.Engines.{Fresh, IsFaultOf, Stage, fault_of}
 use Rattle.actions.specs.Names.{Names}
 use Rattle.actions.specs.declared.event.Event.TheVariants.{Start}

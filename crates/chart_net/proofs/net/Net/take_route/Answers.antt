@@ -1,4 +1,4 @@
-use Rattle.std.proofs.Common.{◌≡◌, ℕ, ◌+◌, ◌<◌, List, Option, Some, None, length, get_or, set, refl, sym, ap, ◌∙◌, subst, arith, rules}
+use Rattle.std.proofs.Common.{◌≡◌, ℕ, ◌+◌, List, Option, Some, get_or, set, refl, sym, ap, ◌∙◌, subst, arith, rules}
 use Rattle.std.specs.Prelude.{slice_get}
 use Rattle.std.proofs.lemmas.Option.{slice_get_read, slice_get_within}
 use Rattle.actions.specs.Engines.{IsFaultOf, IsInputEvent, Running, Stage, fault_of}
@@ -11,8 +11,8 @@ use Rattle.chart_net.specs.Moving.{StepEnds}
 use Rattle.chart_net.specs.NetParts.{AreAt, ChartStands, StandsFor, all_running, charts_of, net_shown}
 use Rattle.chart_net.specs.NetRuns.{Moves, Takes, WasEmpty, event_of_item, inputs_of_item, with_got}
 use Rattle.chart_net.specs.NetTraces.{ByEmpty}
-use Rattle.chart_net.specs.Nets.{Net, NetWorld}
-use Rattle.chart_net.specs.Routes.{CanTake, IsRoute}
+use Rattle.chart_net.specs.Nets.{NetWorld}
+use Rattle.chart_net.specs.Routes.{CanTake}
 use Rattle.chart_net.specs.Seats.{names_at}
 use Rattle.net_text.specs.declared.route.Route.{Route}
 use Rattle.chart_net.proofs.MoveLemmas.{charts_moved, ends_before, event_is, move_done, names_there, on_ok, seat_there, sound_moved, stages_moved, unless_memory}

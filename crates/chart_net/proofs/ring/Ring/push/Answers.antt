@@ -1,4 +1,4 @@
-use Rattle.std.proofs.Common.{◌≡◌, ℕ, ◌+◌, ◌%◌, ◌<◌, ◌≤◌, List, [], ◌∷◌, ◌++◌, length, Option, ap, ◌∙◌, arith, length-set}
+use Rattle.std.proofs.Common.{◌≡◌, ◌+◌, ◌%◌, ◌<◌, List, [], ◌∷◌, ◌++◌, length, Option, ap, ◌∙◌, arith, length-set}
 use Rattle.actions.specs.declared.expr.Value.{Value}
 use Rattle.chart_net.specs.Rings.{Queue, window}
 use Rattle.chart_net.proofs.RingLemmas.{length-window, window_after_push, same_queue}

@@ -1,5 +1,6 @@
 -- The parts of a net, where one of its charts moves.
-use Rattle.std.proofs.Common.{◌≡◌, ◌≢◌, ℕ, zero, suc, ◌<◌, ◌≤◌, nat_eq, Bool, true, false, List, [], ◌∷◌, length, map, set, Option, Some, None, refl, sym, ap, ◌∙◌, subst, arith}
+use Rattle.std.proofs.Common.{◌≡◌, ◌≢◌, ℕ, zero, suc, ◌<◌, ◌≤◌, nat_eq, Bool, true, false, List, [], ◌∷◌, length, map}
+use Rattle.std.proofs.Common.{set, Option, Some, None, refl, sym, ap, ◌∙◌, subst, arith}
 use Rattle.std.specs.Prelude.{slice_get, slice_index_or}
 use Rattle.std.specs.Option.{option_map_or}
 use Rattle.std.proofs.lemmas.Bool.{eqb-true, eq-eqb}
@@ -70,25 +71,30 @@ replaced_other things n k thing other = rw other refl
 
 -- ---- a chart of a net
 
-module _ {G : Type 0} (members : Engine G) (net : Parts G) (c : ℕ) (seat : Seat G) (there : slice_get net.seats.items c ≡ Some seat) where
+module _ {G : Type 0} (members : Engine G) (net : Parts G) (c : ℕ) (seat : Seat G)
+    (there : slice_get net.seats.items c ≡ Some seat) where
   pub chart_there : slice_get (charts_of members net) c ≡ Some (chart_of members seat)
   chart_there = get_mapped (chart_of members) net.seats.items c seat there
 
   pub declared_is : (net_shown members net).declared c ≡ names_at members seat
   declared_is =
       let none : Names = record { states = []; vars = []; events = [] } in
-      ap (λ (o : Option (ChartOf members.Program)). option_map_or (λ (chart : ChartOf members.Program). members.declared chart.program) o none) chart_there
+      ap (λ (o : Option (ChartOf members.Program)). option_map_or
+      (λ (chart : ChartOf members.Program). members.declared chart.program) o none) chart_there
 
   pub tree_is : (net_shown members net).trees c ≡ members.tree (members.program seat.engine)
-  tree_is = ap (λ (o : Option (ChartOf members.Program)). option_map_or (λ (chart : ChartOf members.Program). members.tree chart.program) o (tree_of [] []))
+  tree_is = ap (λ (o : Option (ChartOf members.Program)). option_map_or
+      (λ (chart : ChartOf members.Program). members.tree chart.program) o (tree_of [] []))
       chart_there
 
   pub name_is : slice_index_or (net_shown members net).names c [] ≡ seat.name
   name_is = get_or_from_slice_get (net_shown members net).names c seat.name []
-      (get_mapped (λ (chart : ChartOf members.Program). chart.name) (charts_of members net) c (chart_of members seat) chart_there)
+      (get_mapped (λ (chart : ChartOf members.Program). chart.name) (charts_of members net) c (chart_of members seat)
+      chart_there)
 
   -- what its start gives is what the net gives
-  pub gives_start : (before : Option World) (w : World) (fault : Option Fault) → before ≡ None → SeatGives members seat None w fault
+  pub gives_start : (before : Option World) (w : World) (fault : Option Fault) → before ≡ None → SeatGives members seat
+      None w fault
       → ChartGives (net_shown members net) c before None (record { world = w; fault = fault })
   gives_start before w fault is h =
       let m : Moment = record { world = w; fault = fault } in
@@ -96,13 +102,15 @@ module _ {G : Type 0} (members : Engine G) (net : Parts G) (c : ℕ) (seat : Sea
       (subst (λ (o : Option (ChartOf members.Program)). start_of members o w fault) (sym chart_there) h)
 
   -- what an event gives it is what the net gives
-  pub gives_event : (before : Option World) (given : EventWithInputs) (w : World) (fault : Option Fault) → before ≡ Some (members.world seat.engine)
+  pub gives_event : (before : Option World) (given : EventWithInputs) (w : World) (fault : Option Fault)
+      → before ≡ Some (members.world seat.engine)
       → SeatGives members seat (Some given) w fault
       → ChartGives (net_shown members net) c before (Some given) (record { world = w; fault = fault })
   gives_event before given w fault is h =
       let m : Moment = record { world = w; fault = fault } in
       subst (λ (b : Option World). ChartGives (net_shown members net) c b (Some given) m) (sym is)
-      (subst (λ (o : Option (ChartOf members.Program)). ReactsWithInputs (reaction_of members o) (members.world seat.engine) given w fault)
+      (subst (λ (o : Option (ChartOf members.Program)). ReactsWithInputs (reaction_of members o)
+      (members.world seat.engine) given w fault)
       (sym chart_there) h)
 
 -- a route that joins two charts of a net is one that the net may have
@@ -113,9 +121,10 @@ pub is_route : {G : Type 0} (members : Engine G) (net : Parts G) (route : Route)
 is_route members net route from to from_there to_there joins some few =
     let charts = charts_of members net in
     let none : Names = record { states = []; vars = []; events = [] } in
-    let count : length (net_shown members net).names ≡ length charts = length-map charts (λ (chart : ChartOf members.Program). chart.name) in
+    let count : length (net_shown members net).names ≡ length charts =
+    length-map charts (λ (chart : ChartOf members.Program). chart.name) in
     let declared : (o : Option (ChartOf members.Program)) → Names =
-        λ o. option_map_or (λ (chart : ChartOf members.Program). members.declared chart.program) o none in
+    λ o. option_map_or (λ (chart : ChartOf members.Program). members.declared chart.program) o none in
     record {
       from = omega (arith, count, slice_get_within charts route.from from from_there);
       to = omega (arith, count, slice_get_within charts route.to to to_there);
@@ -128,7 +137,8 @@ is_route members net route from to from_there to_there joins some few =
 -- ---- nets of the same charts and routes
 
 -- what holds of a net holds of one with the same charts and routes
-pub along : {G : Type 0} (members : Engine G) (old new : Parts G) (P : Net → Type 0) → charts_of members new ≡ charts_of members old
+pub along : {G : Type 0} (members : Engine G) (old new : Parts G) (P : Net → Type 0)
+    → charts_of members new ≡ charts_of members old
     → routes_of new ≡ routes_of old → P (net_shown members old) → P (net_shown members new)
 along members old new P charts routes h =
     subst (λ (ch : List (ChartOf members.Program)). P (net_of members ch (routes_of new))) (sym charts)
@@ -150,9 +160,11 @@ same_count members old new charts =
 
 -- The parts still fit where charts and routes are the same, each chart has what its steps need, and so do the rings.
 pub sound_with : {G : Type 0} (members : Engine G) (old new : Parts G) → charts_of members new ≡ charts_of members old
-    → routes_of new ≡ routes_of old → ((c : ℕ) → At new.seats.items c (IsSeat members)) → HaveRoom new.routes.items new.rings.items
-    → ((r : ℕ) (route : Route) (ring : Queue) → slice_get old.routes.items r ≡ Some route → slice_get new.rings.items r ≡ Some ring
-        → CanTakeAll (net_shown members old) route ring)
+    → routes_of new ≡ routes_of old → ((c : ℕ) → At new.seats.items c (IsSeat members)) → HaveRoom new.routes.items
+    new.rings.items
+    → ((r : ℕ) (route : Route) (ring : Queue) → slice_get old.routes.items r ≡ Some route → slice_get new.rings.items r
+    ≡ Some ring
+    → CanTakeAll (net_shown members old) route ring)
     → IsSound members old → IsSound members new
 sound_with members old new charts routes seats room items sound = record {
   charts_few = subst (λ n. n ≤ 16) (sym (same_count members old new charts)) sound.charts_few;

@@ -1,5 +1,6 @@
 -- What one step of a net does in the code.
-use Rattle.std.specs.Prelude.{◌≡◌, ℕ, ◌+◌, ◌<◌, nat_le, Bool, true, false, List, [], ◌++◌, length, codes, decimal, Option, Some, None, Result, Ok, Err, slice_get}
+use Rattle.std.specs.Prelude.{◌≡◌, ℕ, ◌+◌, ◌<◌, nat_le, Bool, true, false, List, [], ◌++◌, length, codes, decimal}
+use Rattle.std.specs.Prelude.{Option, Some, None, Result, Ok, Err, slice_get}
 use Rattle.flow_base.specs.declared.fault.Fault.{Fault}
 use Rattle.actions.specs.Runs.{CanBeGiven, EventWithInputs}
 use Rattle.actions.specs.World.{World}
@@ -13,7 +14,8 @@ use Rattle.event_file.specs.declared.limits.TheConstants.{EVENT_LIMIT}
 use Rattle.chart_net.specs.Holding.{Sent}
 use Rattle.chart_net.specs.Nets.{Net, NetWorld, RouteState}
 use Rattle.chart_net.specs.NetRuns.{NetStep, Gives, Takes, NetMoment, Does}
-use Rattle.chart_net.specs.NetTraces.{Why, ByFault, ByFull, ByEmpty, chart_line, moment_word, outcome_line, why_ended, why_moved}
+use Rattle.chart_net.specs.NetTraces.{Why, ByFault, ByFull, ByEmpty, chart_line, moment_word, outcome_line, why_ended}
+use Rattle.chart_net.specs.NetTraces.{why_moved}
 use Rattle.chart_net.specs.Rings.{Queue}
 use Rattle.chart_net.specs.Seats.{names_at}
 use Rattle.chart_net.specs.Sending.{sends}
@@ -80,7 +82,8 @@ answer_after true p why = Err ends.Write
 answer_after false p why = answer_by p why
 
 -- The step did what it does, to a net that stands for the world before it, and its line was put.
-pub record StepDone (net : Net) (now : NetWorld) (step : NetStep) (p : ℕ) (stands : NetWorld → Type 0) (puts : List ℕ → Type 0) (failed : Bool) (result : Result (Unit {0}) NetEnd) : Type 0 where
+pub record StepDone (net : Net) (now : NetWorld) (step : NetStep) (p : ℕ) (stands : NetWorld → Type 0)
+    (puts : List ℕ → Type 0) (failed : Bool) (result : Result (Unit {0}) NetEnd) : Type 0 where
   pub next : NetMoment
   pub does : Does net now step next
   pub stands_now : stands next.after
@@ -93,29 +96,35 @@ UnlessMemory true wanted done = wanted
 UnlessMemory false wanted done = done
 
 -- Where memory ran out nothing was put, and else the step was done.
-abbrev pub StepEnds : Net → NetWorld → NetStep → ℕ → (NetWorld → Type 0) → (List ℕ → Type 0) → Bool → Result (Unit {0}) NetEnd → Type 0
+abbrev pub StepEnds : Net → NetWorld → NetStep → ℕ → (NetWorld → Type 0) → (List ℕ → Type 0) → Bool
+    → Result (Unit {0}) NetEnd → Type 0
 StepEnds net now step p stands puts failed result =
     UnlessMemory (is_memory result) (puts []) (StepDone net now step p stands puts failed result)
 
 -- What a chart put out at a move that left that world and fault was sent, and the line of the move was put.
-pub record MoveEnds (net : Net) (p c index : ℕ) (event : Event) (w : World) (fault : Option Fault) (states : ℕ → RouteState) (rings : List Queue) (puts : List ℕ → Type 0) (failed : Bool) (result : Result (Unit {0}) NetEnd) : Type 0 where
+pub record MoveEnds (net : Net) (p c index : ℕ) (event : Event) (w : World) (fault : Option Fault)
+    (states : ℕ → RouteState) (rings : List Queue) (puts : List ℕ → Type 0) (failed : Bool)
+    (result : Result (Unit {0}) NetEnd) : Type 0 where
   pub full : Option ℕ
   pub sent : Sent (sends net.routes c w fault states) rings full
   pub put : puts (chart_line net p c index event (record { world = w; fault = fault }) full)
   pub answer : result ≡ answer_after failed p (why_moved c fault full)
 
 -- A move whose engine answered so ended so: where it wants memory, nothing was put.
-abbrev pub MoveEndsBy : Net → ℕ → ℕ → ℕ → Event → World → Result (Unit {0}) Halt → (ℕ → RouteState) → List Queue → (List ℕ → Type 0) → Bool → Result (Unit {0}) NetEnd → Type 0
+abbrev pub MoveEndsBy : Net → ℕ → ℕ → ℕ → Event → World → Result (Unit {0}) Halt → (ℕ → RouteState) → List Queue
+    → (List ℕ → Type 0) → Bool → Result (Unit {0}) NetEnd → Type 0
 MoveEndsBy net p c index event w (Ok done) states rings puts failed result =
     MoveEnds net p c index event w None states rings puts failed result
 MoveEndsBy net p c index event w (Err (halts.Fault fault)) states rings puts failed result =
     MoveEnds net p c index event w (Some fault) states rings puts failed result
-MoveEndsBy net p c index event w (Err halts.Memory) states rings puts failed result = (result ≡ Err ends.Memory) × puts []
+MoveEndsBy net p c index event w (Err halts.Memory) states rings puts failed result =
+    (result ≡ Err ends.Memory) × puts []
 
 -- the line of a chart's own trace for a move
 abbrev pub own_line : {G : Type 0} → (members : Engine G) → Seat G → Event → Option Fault → Option ℕ → List ℕ
 own_line members seat event fault full =
-    line_with (members.tree (members.program seat.engine)) (names_at members seat) (members.world seat.engine) seat.index event
+    line_with (members.tree (members.program seat.engine)) (names_at members seat) (members.world seat.engine)
+    seat.index event
     (moment_word (names_at members seat) fault full)
 
 -- the line that a chart of a net puts for a move
@@ -134,13 +143,15 @@ IsStep {G} members net (steps.Give c event) step =
 IsStep members net (steps.Take r) step = (step ≡ Takes r) × (r < length net.routes.items)
 
 -- What a line says was read.
-abbrev pub ReadsStep : {G : Type 0} → (members : Engine G) → Parts G → Result (Option NetStep) LineFault → Result (Option Step) LineFault → Type 0
+abbrev pub ReadsStep : {G : Type 0} → (members : Engine G) → Parts G → Result (Option NetStep) LineFault
+    → Result (Option Step) LineFault → Type 0
 ReadsStep members net said (Ok None) = said ≡ Ok None
 ReadsStep members net said (Ok (Some read)) = (step : NetStep) × (said ≡ Ok (Some step)) × IsStep members net read step
 ReadsStep members net said (Err fault) = said ≡ Err fault
 
 -- What an event line says was read: the values that it gives are with the chart of that number.
-abbrev pub ReadsGiven : {G : Type 0} → (members : Engine G) → Parts G → ℕ → Result (Option EventWithInputs) LineFault → Result (Option Event) LineFault → Type 0
+abbrev pub ReadsGiven : {G : Type 0} → (members : Engine G) → Parts G → ℕ → Result (Option EventWithInputs) LineFault
+    → Result (Option Event) LineFault → Type 0
 ReadsGiven members net c said (Ok None) = said ≡ Ok None
 ReadsGiven {G} members net c said (Ok (Some event)) =
     (seat : Seat G) × (slice_get net.seats.items c ≡ Some seat)
@@ -159,13 +170,15 @@ IsNext p (Ok next) = next ≡ p
 IsNext p (Err end) = Unit {0}
 
 -- a step is done unless it is one too many
-abbrev pub StepTried : Bool → Net → NetWorld → NetStep → ℕ → (NetWorld → Type 0) → (List ℕ → Type 0) → Bool → Result ℕ NetEnd → Type 0
+abbrev pub StepTried : Bool → Net → NetWorld → NetStep → ℕ → (NetWorld → Type 0) → (List ℕ → Type 0) → Bool
+    → Result ℕ NetEnd → Type 0
 StepTried true net now step p stands puts failed result = (result ≡ Err ends.TooManyLines) × puts []
 StepTried false net now step p stands puts failed result =
     StepEnds net now step (p + 1) stands puts failed (without_number result) × IsNext (p + 1) result
 
 -- A line was read, and what it says was done, where p is the number of the last step.
-abbrev pub LineDone : Net → NetWorld → ℕ → ℕ → Result (Option NetStep) LineFault → (NetWorld → Type 0) → (List ℕ → Type 0) → Bool → Result ℕ NetEnd → Type 0
+abbrev pub LineDone : Net → NetWorld → ℕ → ℕ → Result (Option NetStep) LineFault → (NetWorld → Type 0)
+    → (List ℕ → Type 0) → Bool → Result ℕ NetEnd → Type 0
 LineDone net now number p (Ok None) stands puts failed result = (result ≡ Ok p) × stands now × puts []
 LineDone net now number p (Ok (Some step)) stands puts failed result =
     StepTried (nat_le EVENT_LIMIT p) net now step p stands puts failed result

@@ -30,7 +30,8 @@ net_shown members net = net_of members (charts_of members net) (routes_of net)
 abbrev pub CanTakeAll : Net → Route → Queue → Type 0
 CanTakeAll net route ring = AllByRecursion (CanTake (net.declared route.to) route.target) ring.items
 
--- The parts of a net fit each other: there are not too many, each chart has what its steps need, each route is one that the
+-- The parts of a net fit each other: there are not too many, each chart has what its steps need, each route is one
+-- that the
 -- net may have, and has a ring whose items its chart can take.
 pub record IsSound {G : Type 0} (members : Engine G) (net : Parts G) : Type 0 where
   pub charts_few : length net.seats.items ≤ CHART_LIMIT
@@ -43,7 +44,8 @@ pub record IsSound {G : Type 0} (members : Engine G) (net : Parts G) : Type 0 wh
 
 -- each chart is at the stage that its number has, and took at most p events
 abbrev pub AreAt : {G : Type 0} → (members : Engine G) → Parts G → (ℕ → Stage) → ℕ → Type 0
-AreAt members net stages p = (c : ℕ) → At net.seats.items c (λ seat. (members.stage seat.engine ≡ stages c) × (seat.index ≤ p))
+AreAt members net stages p =
+    (c : ℕ) → At net.seats.items c (λ seat. (members.stage seat.engine ≡ stages c) × (seat.index ≤ p))
 
 -- the charts below a number are between two events, and the others before their start
 abbrev pub started_below : ℕ → ℕ → Stage
@@ -65,7 +67,8 @@ pub record IsNet {G : Type 0} (members : Engine G) (net : Parts G) : Type 0 wher
 
 -- ---- the worlds of a net
 
--- a chart at that stage, with that world, which took so many events, stands for that state; at the end of its run it stands
+-- a chart at that stage, with that world, which took so many events, stands for that state; at the end of its run it
+-- stands
 -- for any
 abbrev pub ChartStands : Stage → World → ℕ → ChartState → Type 0
 ChartStands Fresh w index state = (state.world ≡ None) × (length state.took ≡ index)
@@ -75,10 +78,12 @@ ChartStands Over w index state = Unit {0}
 -- The net stands for that world of the net: each chart for its state, and the rings for what waits on the routes.
 pub record StandsFor {G : Type 0} (members : Engine G) (net : Parts G) (now : NetWorld) : Type 0 where
   pub charts : (c : ℕ)
-      → At net.seats.items c (λ seat. ChartStands (members.stage seat.engine) (members.world seat.engine) seat.index (now.charts c))
+      → At net.seats.items c (λ seat. ChartStands (members.stage seat.engine) (members.world seat.engine) seat.index
+      (now.charts c))
   pub waiting : Wait net.rings.items now.routes
 
--- All that is said of a net is kept: its charts and routes, that its parts fit each other, its stages, and what it stands for.
+-- All that is said of a net is kept: its charts and routes, that its parts fit each other, its stages, and what it
+-- stands for.
 pub record IsKept {G : Type 0} (members : Engine G) (old new : Parts G) : Type 0 where
   pub charts : charts_of members new ≡ charts_of members old
   pub routes : routes_of new ≡ routes_of old

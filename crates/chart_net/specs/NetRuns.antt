@@ -1,5 +1,6 @@
 -- Runs of a net over the steps of a schedule, up to the first step that ends the run.
-use Rattle.std.specs.Prelude.{◌≡◌, ℕ, Bool, true, false, List, [], ◌∷◌, ◌++◌, length, map, Option, Some, None, slice_get, slice_set}
+use Rattle.std.specs.Prelude.{◌≡◌, ℕ, Bool, true, false, List, [], ◌∷◌, ◌++◌, length, map, Option, Some, None}
+use Rattle.std.specs.Prelude.{slice_get, slice_set}
 use Rattle.std.specs.List.{range_with_len}
 use Rattle.flow_base.specs.declared.fault.Fault.{Fault}
 use Rattle.actions.specs.Names.{Names}
@@ -18,7 +19,8 @@ pub data NetStep : Type 0 where
   Gives : ℕ → EventWithInputs → NetStep
   Takes : ℕ → NetStep
 
--- What a step did: a chart was started, or was given an event, which left that moment, and then the route of a number was
+-- What a step did: a chart was started, or was given an event, which left that moment, and then the route of a number
+-- was
 -- full, or none. Or there was nothing to take from a route.
 pub data Outcome : Type 0 where
   Moved : ℕ → Option EventWithInputs → Moment → Option ℕ → Outcome
@@ -52,7 +54,8 @@ after_move net before c given m = record {
 }
 
 -- a chart moved at a step, and that came of it
-pub record Moves (net : Net) (before : NetWorld) (step : NetStep) (c : ℕ) (given : Option EventWithInputs) (next : NetMoment) : Type 0 where
+pub record Moves (net : Net) (before : NetWorld) (step : NetStep) (c : ℕ) (given : Option EventWithInputs)
+    (next : NetMoment) : Type 0 where
   pub moment : Moment
   pub gives : ChartGives net c (before.charts c).world given moment
   pub is : next ≡ record {
@@ -79,7 +82,8 @@ next_item state = slice_get state.sent (length state.got)
 abbrev pub with_got : NetWorld → ℕ → Item → NetWorld
 with_got before r item = record {
   charts = before.charts;
-  routes = replaced before.routes r (record { sent = (before.routes r).sent; got = (before.routes r).got ++ item ∷ [] });
+  routes = replaced before.routes r
+      (record { sent = (before.routes r).sent; got = (before.routes r).got ++ item ∷ [] });
 }
 
 -- the chart at the end of a route takes that item, if there is one

@@ -1,5 +1,6 @@
 -- The trace of a net's run, and how the run ended.
-use Rattle.std.specs.Prelude.{◌≡◌, ℕ, ◌+◌, List, [], ◌∷◌, ◌++◌, length, codes, decimal, Option, Some, None, slice_index_or}
+use Rattle.std.specs.Prelude.{◌≡◌, ℕ, ◌+◌, List, [], ◌∷◌, ◌++◌, length, codes, decimal, Option, Some, None}
+use Rattle.std.specs.Prelude.{slice_index_or}
 use Rattle.flow_base.specs.declared.fault.Fault.{Fault}
 use Rattle.actions.specs.Names.{Names}
 use Rattle.actions.specs.Runs.{EventWithInputs, Moment}
@@ -20,7 +21,8 @@ abbrev pub event_at : Option EventWithInputs → Event
 event_at None = events.Start
 event_at (Some given) = given.event
 
--- The line of a moment of a chart: the number of the step, the chart's name, and the line of its own trace, whose index counts
+-- The line of a moment of a chart: the number of the step, the chart's name, and the line of its own trace, whose
+-- index counts
 -- the events that it took.
 abbrev pub chart_line : Net → ℕ → ℕ → ℕ → Event → Moment → Option ℕ → List ℕ
 chart_line net p c index event m full =
@@ -33,7 +35,8 @@ empty_line p r = decimal p ++ codes " empty " ++ decimal r ++ codes "\n"
 
 -- the line of an outcome, where the net is so after it
 abbrev pub outcome_line : Net → ℕ → NetWorld → Outcome → List ℕ
-outcome_line net p after (Moved c given m full) = chart_line net p c (length (after.charts c).took) (event_at given) m full
+outcome_line net p after (Moved c given m full) = chart_line net p c (length (after.charts c).took) (event_at given) m
+    full
 outcome_line net p after (WasEmpty r) = empty_line p r
 
 -- the number of a step after that of the last one: the starts all have 0
@@ -84,7 +87,8 @@ end_or p (Some why) later = Some (record { number = p; why = why })
 -- how the run ended, where the last step before these moments has that number
 abbrev pub end_from : ℕ → List NetMoment → Option RunEnd
 end_from p [] = None
-end_from p (m ∷ moments) = end_or (number_after p m.step) (why_ended m.outcome) (end_from (number_after p m.step) moments)
+end_from p (m ∷ moments) = end_or (number_after p m.step) (why_ended m.outcome)
+    (end_from (number_after p m.step) moments)
 
 -- there is a run over the steps of a schedule with that trace, which ended so
 pub record NetRan (net : Net) (schedule : List NetStep) (text : List ℕ) (end : Option RunEnd) : Type 0 where

@@ -1,5 +1,6 @@
 -- What a line of a schedule says.
-use Rattle.std.specs.Prelude.{ℕ, nat_eq, List, [], ◌∷◌, length, map, codes, decimal, Option, Some, None, Result, Ok, Err, if◌then◌else◌, slice_index}
+use Rattle.std.specs.Prelude.{ℕ, nat_eq, List, [], ◌∷◌, length, map, codes, decimal, Option, Some, None, Result, Ok}
+use Rattle.std.specs.Prelude.{Err, if◌then◌else◌, slice_index}
 use Rattle.std.specs.List.{position, range_with_len}
 use Rattle.std.specs.Str.{bytes_eq}
 use Rattle.actions.specs.Runs.{EventWithInputs}

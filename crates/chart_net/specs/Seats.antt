@@ -26,7 +26,8 @@ pub record IsSeat {G : Type 0} (members : Engine G) (seat : Seat G) : Type 0 whe
   pub vals : IsMadeFor (names_at members seat) seat.vals
 
 -- which worlds its start, or an event that it is given, may give
-abbrev pub SeatGives : {G : Type 0} → (members : Engine G) → Seat G → Option EventWithInputs → World → Option Fault → Type 0
+abbrev pub SeatGives : {G : Type 0} → (members : Engine G) → Seat G → Option EventWithInputs → World → Option Fault
+    → Type 0
 SeatGives members seat None w fault = members.Starts (members.program seat.engine) w fault
 SeatGives members seat (Some given) w fault =
     ReactsWithInputs (members.Reacts (members.program seat.engine)) (members.world seat.engine) given w fault
@@ -37,7 +38,8 @@ index_after index None = index
 index_after index (Some given) = index + 1
 
 -- the chart was started, or was given an event, and its engine answered so
-pub record SeatMoves {G : Type 0} (members : Engine G) (before after : Seat G) (given : Option EventWithInputs) (end : Result (Unit {0}) Halt) : Type 0 where
+pub record SeatMoves {G : Type 0} (members : Engine G) (before after : Seat G) (given : Option EventWithInputs)
+    (end : Result (Unit {0}) Halt) : Type 0 where
   pub name : after.name ≡ before.name
   pub program : members.program after.engine ≡ members.program before.engine
   pub vals : after.vals ≡ before.vals

@@ -8,7 +8,8 @@ ghost use Rattle.trace_text.specs.Trace.{IsEventOf};
 ghost use Rattle.chart_net.specs.Changes.{At, ChangesAt};
 ghost use Rattle.chart_net.specs.Holding.{Sent, Took, Wait};
 ghost use Rattle.chart_net.specs.Moving as spec;
-ghost use Rattle.chart_net.specs.NetParts.{AreAt, IsSound, StandsFor, all_running, charts_of, net_shown, routes_of, started_below};
+ghost use Rattle.chart_net.specs.NetParts.{AreAt, IsSound, StandsFor, all_running, charts_of};
+ghost use Rattle.chart_net.specs.NetParts.{net_shown, routes_of, started_below};
 ghost use Rattle.chart_net.specs.NetRuns.{Gives, Starts, Takes, inputs_of_item};
 ghost use Rattle.chart_net.specs.NetTraces.{ByEmpty, empty_line, why_moved};
 ghost use Rattle.chart_net.specs.Nets.{NetWorld, RouteState};
@@ -40,7 +41,8 @@ impl<G: Engine> Net<G> {
         requires usable { pieces.old.failed ≡ false }
         ensures done { (now : NetWorld) → StandsFor G.Engine self.old now
             → spec.StepEnds (net_shown G.Engine self.old) now (Starts c) 0 (StandsFor G.Engine self.new)
-            (Puts (O.wrote out.old) (O.wrote out.new) (O.faults out.old) (O.faults out.new) pieces.old pieces.new)
+            (Puts (O.wrote out.old) (O.wrote out.new) (O.faults out.old) (O.faults out.new) pieces.old
+            pieces.new)
             pieces.new.failed result }
         ensures failed { pieces.new.failed ≡ spec.is_write result }
         ensures charts { charts_of G.Engine self.new ≡ charts_of G.Engine self.old }
@@ -73,8 +75,10 @@ impl<G: Engine> Net<G> {
         requires usable { pieces.old.failed ≡ false }
         ensures done { At self.old.seats.items c (λ seat. (now : NetWorld) → StandsFor G.Engine self.old now
             → spec.StepEnds (net_shown G.Engine self.old) now
-            (Gives c (record { event = event; inputs = seat.vals.values })) (p + 1) (StandsFor G.Engine self.new)
-            (Puts (O.wrote out.old) (O.wrote out.new) (O.faults out.old) (O.faults out.new) pieces.old pieces.new)
+            (Gives c (record { event = event; inputs = seat.vals.values })) (p + 1)
+            (StandsFor G.Engine self.new)
+            (Puts (O.wrote out.old) (O.wrote out.new) (O.faults out.old) (O.faults out.new) pieces.old
+            pieces.new)
             pieces.new.failed result) }
         ensures failed { pieces.new.failed ≡ spec.is_write result }
         ensures charts { charts_of G.Engine self.new ≡ charts_of G.Engine self.old }
@@ -104,7 +108,8 @@ impl<G: Engine> Net<G> {
         requires usable { pieces.old.failed ≡ false }
         ensures done { (now : NetWorld) → StandsFor G.Engine self.old now
             → spec.StepEnds (net_shown G.Engine self.old) now (Takes r) (p + 1) (StandsFor G.Engine self.new)
-            (Puts (O.wrote out.old) (O.wrote out.new) (O.faults out.old) (O.faults out.new) pieces.old pieces.new)
+            (Puts (O.wrote out.old) (O.wrote out.new) (O.faults out.old) (O.faults out.new) pieces.old
+            pieces.new)
             pieces.new.failed result }
         ensures failed { pieces.new.failed ≡ spec.is_write result }
         ensures charts { charts_of G.Engine self.new ≡ charts_of G.Engine self.old }
@@ -162,7 +167,8 @@ impl<G: Engine> Net<G> {
             CanBeGiven (names_at G.Engine seat) (record { event = event; inputs = seat.vals.values })) }
         requires index { At self.old.seats.items c (λ seat. seat.index < EVENT_LIMIT) }
         ensures moves { ChangesAt self.old.seats.items self.new.seats.items c (λ before after.
-            SeatMoves G.Engine before after (Some (record { event = event; inputs = before.vals.values })) result) }
+            SeatMoves G.Engine before after
+            (Some (record { event = event; inputs = before.vals.values })) result) }
         ensures routes { self.new.routes ≡ self.old.routes }
         ensures rings { self.new.rings ≡ self.old.rings }
         ensures memory { IsTrue G.never_wants_memory → result ≢ Err Halt.Memory }
@@ -175,8 +181,10 @@ impl<G: Engine> Net<G> {
     fn take_at(&mut self, route: Route, item: Option<Value>) -> Result<(), Halt>
         requires there { route.to < length self.old.seats.items }
         requires running { At self.old.seats.items route.to (λ seat. G.stage seat.engine ≡ Running) }
-        requires event { At self.old.seats.items route.to (λ seat. IsInputEvent (names_at G.Engine seat) route.event) }
-        requires item { At self.old.seats.items route.to (λ seat. CanTake (names_at G.Engine seat) route.target item) }
+        requires event { At self.old.seats.items route.to
+            (λ seat. IsInputEvent (names_at G.Engine seat) route.event) }
+        requires item { At self.old.seats.items route.to
+            (λ seat. CanTake (names_at G.Engine seat) route.target item) }
         requires index { At self.old.seats.items route.to (λ seat. seat.index < EVENT_LIMIT) }
         ensures moves { ChangesAt self.old.seats.items self.new.seats.items route.to (λ before after.
             SeatMoves G.Engine before after (Some (record {
@@ -206,9 +214,12 @@ impl<G: Engine> Net<G> {
         requires event { At self.old.seats.items c (λ seat. IsEventOf (names_at G.Engine seat) event) }
         requires fault { At self.old.seats.items c (λ seat. IsFaultOf (names_at G.Engine seat) (fault_of end)) }
         requires usable { pieces.old.failed ≡ false }
-        ensures ends { At self.old.seats.items c (λ seat. (states : ℕ → RouteState) → Wait self.old.rings.items states
-            → spec.MoveEndsBy (net_shown G.Engine self.old) p c seat.index event (G.world seat.engine) end states self.new.rings.items
-            (Puts (O.wrote out.old) (O.wrote out.new) (O.faults out.old) (O.faults out.new) pieces.old pieces.new)
+        ensures ends { At self.old.seats.items c
+            (λ seat. (states : ℕ → RouteState) → Wait self.old.rings.items states
+            → spec.MoveEndsBy (net_shown G.Engine self.old) p c seat.index event (G.world seat.engine)
+            end states self.new.rings.items
+            (Puts (O.wrote out.old) (O.wrote out.new) (O.faults out.old) (O.faults out.new) pieces.old
+            pieces.new)
             pieces.new.failed result) }
         ensures failed { pieces.new.failed ≡ spec.is_write result }
         ensures seats { self.new.seats ≡ self.old.seats }
@@ -220,9 +231,7 @@ impl<G: Engine> Net<G> {
     {
         match end {
             Ok(()) => self.end_with::<O>(p, c, event, None, pieces, out),
-            Err(Halt::Fault(fault)) => {
-                self.end_with::<O>(p, c, event, Some(fault), pieces, out)
-            }
+            Err(Halt::Fault(fault)) => { self.end_with::<O>(p, c, event, Some(fault), pieces, out) }
             Err(Halt::Memory) => Err(NetEnd::Memory),
         }
     }
@@ -242,9 +251,12 @@ impl<G: Engine> Net<G> {
         requires there { c < length self.old.seats.items }
         requires event { At self.old.seats.items c (λ seat. IsEventOf (names_at G.Engine seat) event) }
         requires fault { At self.old.seats.items c (λ seat. IsFaultOf (names_at G.Engine seat) fault) }
-        ensures ends { At self.old.seats.items c (λ seat. (states : ℕ → RouteState) → Wait self.old.rings.items states
-            → spec.MoveEnds (net_shown G.Engine self.old) p c seat.index event (G.world seat.engine) fault states self.new.rings.items
-            (Puts (O.wrote out.old) (O.wrote out.new) (O.faults out.old) (O.faults out.new) pieces.old pieces.new)
+        ensures ends { At self.old.seats.items c
+            (λ seat. (states : ℕ → RouteState) → Wait self.old.rings.items states
+            → spec.MoveEnds (net_shown G.Engine self.old) p c seat.index event (G.world seat.engine)
+            fault states self.new.rings.items
+            (Puts (O.wrote out.old) (O.wrote out.new) (O.faults out.old) (O.faults out.new) pieces.old
+            pieces.new)
             pieces.new.failed result) }
         ensures failed { pieces.new.failed ≡ spec.is_write result }
         ensures seats { self.new.seats ≡ self.old.seats }
@@ -263,8 +275,10 @@ impl<G: Engine> Net<G> {
     fn send_from(&mut self, c: u32, fault: Option<Fault>) -> Option<u32>
         requires sound { IsSound G.Engine self.old }
         requires there { c < length self.old.seats.items }
-        ensures sent { At self.old.seats.items c (λ seat. (states : ℕ → RouteState) → Wait self.old.rings.items states
-            → Sent (sends self.old.routes.items c (G.world seat.engine) fault states) self.new.rings.items result) }
+        ensures sent { At self.old.seats.items c
+            (λ seat. (states : ℕ → RouteState) → Wait self.old.rings.items states
+            → Sent (sends self.old.routes.items c (G.world seat.engine) fault states)
+            self.new.rings.items result) }
         ensures seats { self.new.seats ≡ self.old.seats }
         ensures routes { self.new.routes ≡ self.old.routes }
         ensures sound { IsSound G.Engine self.new }
@@ -315,7 +329,8 @@ fn put_line<G: Engine, O: Sink>(
     requires seat { IsSeat G.Engine seat.now }
     requires event { IsEventOf (names_at G.Engine seat.now) event }
     requires fault { IsFaultOf (names_at G.Engine seat.now) fault }
-    ensures { Puts (O.wrote out.old) (O.wrote out.new) (O.faults out.old) (O.faults out.new) pieces.old pieces.new
+    ensures { Puts (O.wrote out.old) (O.wrote out.new) (O.faults out.old) (O.faults out.new) pieces.old
+        pieces.new
         (spec.seat_line G.Engine p seat.now event fault full) }
 {
     pieces.put_digits(p, out);
@@ -337,7 +352,8 @@ fn put_result<G: Engine, O: Sink>(
     requires seat { IsSeat G.Engine seat.now }
     requires event { IsEventOf (names_at G.Engine seat.now) event }
     requires fault { IsFaultOf (names_at G.Engine seat.now) fault }
-    ensures { Puts (O.wrote out.old) (O.wrote out.new) (O.faults out.old) (O.faults out.new) pieces.old pieces.new
+    ensures { Puts (O.wrote out.old) (O.wrote out.new) (O.faults out.old) (O.faults out.new) pieces.old
+        pieces.new
         (spec.own_line G.Engine seat.now event fault full) }
 {
     match fault {
@@ -373,7 +389,8 @@ fn answer_of(
 
 /// Puts the line of a step that found nothing to take from a route, and answers so.
 fn put_empty<O: Sink>(p: u64, r: u32, pieces: &mut Pieces, out: &mut O) -> Result<(), NetEnd>
-    ensures put { Puts (O.wrote out.old) (O.wrote out.new) (O.faults out.old) (O.faults out.new) pieces.old pieces.new
+    ensures put { Puts (O.wrote out.old) (O.wrote out.new) (O.faults out.old) (O.faults out.new)
+        pieces.old pieces.new
         (empty_line p r) }
     ensures answer { result ≡ spec.answer_after pieces.new.failed p (Some (ByEmpty r)) }
 {

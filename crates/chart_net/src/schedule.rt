@@ -1,11 +1,13 @@
 //! The lines of a schedule.
-ghost use Rattle.std.specs.Prelude.{◌≡◌, ◌≢◌, ℕ, ◌+◌, ◌≤◌, ◌<◌, map, decimal, length, false, IfOk, IfSome, IsTrue, OnOk};
+ghost use Rattle.std.specs.Prelude.{◌≡◌, ◌≢◌, ℕ, ◌+◌, ◌≤◌, ◌<◌, map, decimal, length, false, IfOk};
+ghost use Rattle.std.specs.Prelude.{IfSome, IsTrue, OnOk};
 ghost use Rattle.std.specs.List.{position, range_with_len};
 ghost use Rattle.std.specs.Str.{bytes_eq};
 ghost use Rattle.event_file.specs.EventLines.{event_of_line, tokens_of};
 ghost use Rattle.trace_text.specs.Pieces.{Puts};
 ghost use Rattle.chart_net.specs.Moving as spec;
-ghost use Rattle.chart_net.specs.NetParts.{AreAt, IsKept, IsSound, StandsFor, all_running, charts_of, net_shown, routes_of};
+ghost use Rattle.chart_net.specs.NetParts.{AreAt, IsKept, IsSound, StandsFor, all_running};
+ghost use Rattle.chart_net.specs.NetParts.{charts_of, net_shown, routes_of};
 ghost use Rattle.chart_net.specs.NetRuns.{NetStep};
 ghost use Rattle.chart_net.specs.Nets.{NetWorld};
 ghost use Rattle.chart_net.specs.declared.seat.Seat.{Seat as SeatShown};
@@ -47,7 +49,8 @@ impl<G: Engine> Net<G> {
         ensures done { (now : NetWorld) → StandsFor G.Engine self.old now
             → spec.LineDone (net_shown G.Engine self.old) now number p
             (step_of_line (net_shown G.Engine self.old) line.now) (StandsFor G.Engine self.new)
-            (Puts (O.wrote out.old) (O.wrote out.new) (O.faults out.old) (O.faults out.new) pieces.old pieces.new)
+            (Puts (O.wrote out.old) (O.wrote out.new) (O.faults out.old) (O.faults out.new) pieces.old
+            pieces.new)
             pieces.new.failed result }
         ensures failed { pieces.new.failed ≡ spec.is_write result }
         ensures charts { charts_of G.Engine self.new ≡ charts_of G.Engine self.old }
@@ -87,7 +90,8 @@ impl<G: Engine> Net<G> {
         ensures done { (said : NetStep) → spec.IsStep G.Engine self.old step said
             → (now : NetWorld) → StandsFor G.Engine self.old now
             → spec.StepEnds (net_shown G.Engine self.old) now said (p + 1) (StandsFor G.Engine self.new)
-            (Puts (O.wrote out.old) (O.wrote out.new) (O.faults out.old) (O.faults out.new) pieces.old pieces.new)
+            (Puts (O.wrote out.old) (O.wrote out.new) (O.faults out.old) (O.faults out.new) pieces.old
+            pieces.new)
             pieces.new.failed result }
         ensures failed { pieces.new.failed ≡ spec.is_write result }
         ensures charts { charts_of G.Engine self.new ≡ charts_of G.Engine self.old }
@@ -107,7 +111,8 @@ impl<G: Engine> Net<G> {
     /// inputs are kept with the chart, and nothing else of the net changes.
     fn read_step(&mut self, line: &[u8]) -> Result<Option<Step>, LineFault>
         requires { IsSound G.Engine self.old }
-        ensures read { spec.ReadsStep G.Engine self.new (step_of_line (net_shown G.Engine self.old) line.now) result }
+        ensures read { spec.ReadsStep G.Engine self.new
+            (step_of_line (net_shown G.Engine self.old) line.now) result }
         ensures kept { IsKept G.Engine self.old self.new }
     {
         let Some(first) = next_token(line) else {

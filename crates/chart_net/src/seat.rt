@@ -3,7 +3,8 @@ ghost use Rattle.std.specs.Prelude.{◌≡◌, ◌≢◌, ◌<◌, ◌^◌, leng
 ghost use Rattle.actions.specs.Engines.{Fresh, IsInputEvent, Running};
 ghost use Rattle.actions.specs.Runs.{AreSet, CanBeGiven};
 ghost use Rattle.actions.specs.declared.event.Event.TheVariants.{Named};
-ghost use Rattle.event_file.specs.EventLines.{SaysWhatCanBeGiven, answer_of, event_of_line, inputs_of};
+ghost use Rattle.event_file.specs.EventLines.{SaysWhatCanBeGiven, answer_of, event_of_line};
+ghost use Rattle.event_file.specs.EventLines.{inputs_of};
 ghost use Rattle.event_file.specs.LineValues.{IsMadeFor};
 ghost use Rattle.chart_net.specs.NetRuns.{inputs_of_item};
 ghost use Rattle.chart_net.specs.Routes.{CanTake};
@@ -56,7 +57,8 @@ impl<G: Engine> Seat<G> {
     pub(crate) fn give(&mut self, event: Event) -> Result<(), Halt>
         requires running { G.stage self.old.engine ≡ Running }
         requires few { length self.old.vals.values < 2 ^ 32 }
-        requires given { CanBeGiven (names_at G.Engine self.old) (record { event = event; inputs = self.old.vals.values }) }
+        requires given { CanBeGiven (names_at G.Engine self.old)
+            (record { event = event; inputs = self.old.vals.values }) }
         requires index { self.old.index < EVENT_LIMIT }
         ensures moves { SeatMoves G.Engine self.old self.new
             (Some (record { event = event; inputs = self.old.vals.values })) result }
@@ -79,7 +81,11 @@ impl<G: Engine> Seat<G> {
         requires item { CanTake (names_at G.Engine self.old) target item }
         requires index { self.old.index < EVENT_LIMIT }
         ensures moves { SeatMoves G.Engine self.old self.new
-            (Some (record { event = Named event; inputs = inputs_of_item (names_at G.Engine self.old) target item })) result }
+            (Some (record {
+              event = Named event;
+              inputs =
+                  inputs_of_item (names_at G.Engine self.old) target item;
+            })) result }
         ensures memory { IsTrue G.never_wants_memory → result ≢ Err Halt.Memory }
     {
         set_item(&mut self.engine, target, item);

@@ -1,7 +1,8 @@
 //! How the events that a chart put out are sent on the routes of a net.
 ghost use Rattle.std.specs.Prelude.{◌≡◌, ◌<◌, ◌^◌, ℕ, length, IfSome};
 ghost use Rattle.chart_net.specs.Changes.{ChangesAt};
-ghost use Rattle.chart_net.specs.Holding.{HaveRoom, HaveSources, Sent, Took, Wait, finds_full, given};
+ghost use Rattle.chart_net.specs.Holding.{HaveRoom, HaveSources, Sent, Took, Wait, finds_full};
+ghost use Rattle.chart_net.specs.Holding.{given};
 ghost use Rattle.chart_net.specs.Nets.{RouteState};
 ghost use Rattle.chart_net.specs.Rings.{later, oldest};
 ghost use Rattle.chart_net.specs.Sending as spec;

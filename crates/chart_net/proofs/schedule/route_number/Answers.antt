@@ -5,4 +5,5 @@ use Rattle.chart_net.proofs.schedule.route_number.Goals as goal
 
 pub returns-clause-number : goal.returns-clause-number
 returns-clause-number c =
-    c.first_spelled.ensures.number ∙ sym (position_mapped decimal (bytes_eq c.args.word.now) (range_with_len 0 c.args.count))
+    c.first_spelled.ensures.number ∙ sym
+    (position_mapped decimal (bytes_eq c.args.word.now) (range_with_len 0 c.args.count))

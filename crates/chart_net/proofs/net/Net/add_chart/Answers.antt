@@ -10,14 +10,27 @@ use Rattle.chart_net.proofs.net.Net.add_chart.Goals as goal
 pub returns-in_default-push-clause-net : goal.returns-in_default-push-clause-net
 returns-in_default-push-clause-net g c =
     let new : Net g.row.G.Denot =
-        record { seats = c.push.new.self; routes = c.args.self.now.routes; rings = c.args.self.now.rings; alloc = c.args.self.now.alloc } in
+    record {
+      seats = c.push.new.self;
+      routes = c.args.self.now.routes;
+      rings = c.args.self.now.rings;
+      alloc =
+          c.args.self.now.alloc;
+    } in
     net_kept g.G.Engine c.args.self.now new c.in_default-push.ensures.items refl refl c.requires.net
 
 pub returns-clause-net : goal.returns-clause-net
 returns-clause-net g c =
     let new : Net g.row.G.Denot =
-        record { seats = c.push.new.self; routes = c.args.self.now.routes; rings = c.args.self.now.rings; alloc = c.args.self.now.alloc } in
-    let seat : Seat g.row.G.Denot = record { name = c.args.name; engine = c.args.engine; vals = c.in-Ok.vals; index = 0 } in
+    record {
+      seats = c.push.new.self;
+      routes = c.args.self.now.routes;
+      rings = c.args.self.now.rings;
+      alloc =
+          c.args.self.now.alloc;
+    } in
+    let seat : Seat g.row.G.Denot =
+    record { name = c.args.name; engine = c.args.engine; vals = c.in-Ok.vals; index = 0 } in
     chart_added g.G.Engine c.args.self.now new seat c.in-Ok-push.ensures.items refl refl
     (record {
       few_events = c.requires.few_events;

@@ -8,20 +8,39 @@ use Rattle.chart_net.proofs.net.Net.add_route.Goals as goal
 pub returns-in_default-reserve-clause-net : goal.returns-in_default-reserve-clause-net
 returns-in_default-reserve-clause-net g c =
     let new : Net g.row.G.Denot =
-        record { seats = c.args.self.now.seats; routes = c.reserve.new.self; rings = c.args.self.now.rings; alloc = c.args.self.now.alloc } in
+    record {
+      seats = c.args.self.now.seats;
+      routes = c.reserve.new.self;
+      rings = c.args.self.now.rings;
+      alloc =
+          c.args.self.now.alloc;
+    } in
     net_kept g.G.Engine c.args.self.now new refl c.reserve.ensures.items refl c.requires.net
 
 -- and so do the rings
 pub returns-in_default-push-clause-net : goal.returns-in_default-push-clause-net
 returns-in_default-push-clause-net g c =
     let new : Net g.row.G.Denot =
-        record { seats = c.args.self.now.seats; routes = c.reserve.new.self; rings = c.push.new.self; alloc = c.args.self.now.alloc } in
+    record {
+      seats = c.args.self.now.seats;
+      routes = c.reserve.new.self;
+      rings = c.push.new.self;
+      alloc =
+          c.args.self.now.alloc;
+    } in
     net_kept g.G.Engine c.args.self.now new refl c.reserve.ensures.items c.in_default-push.ensures.items c.requires.net
 
 pub returns-clause-net : goal.returns-clause-net
 returns-clause-net g c =
     let new : Net g.row.G.Denot =
-        record { seats = c.args.self.now.seats; routes = c.push_reserved.new.self; rings = c.push.new.self; alloc = c.args.self.now.alloc } in
+    record {
+      seats = c.args.self.now.seats;
+      routes = c.push_reserved.new.self;
+      rings = c.push.new.self;
+      alloc =
+          c.args.self.now.alloc;
+    } in
     route_added g.G.Engine c.args.self.now new c.args.route c.in-Ok.ring refl
-    (c.push_reserved.ensures.items ∙ ap (λ (l : List Route). l ++ c.args.route ∷ []) c.reserve.ensures.items) c.in-Ok-push.ensures.items
+    (c.push_reserved.ensures.items ∙ ap (λ (l : List Route). l ++ c.args.route ∷ []) c.reserve.ensures.items)
+    c.in-Ok-push.ensures.items
     c.in-Ok.ensures c.requires.route c.requires.few c.requires.net

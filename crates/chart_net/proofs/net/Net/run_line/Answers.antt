@@ -27,9 +27,11 @@ returns-in-Ok-clause-done g c = λ now stands.
     let kept = c.read_step.ensures.kept in
     let read = rw c.in-Ok-Some.field-0-is at c.in-Ok-Some.ensures.read in
     let few : nat_le EVENT_LIMIT c.args.p ≡ false = let h = c.if-p-ge-EVENT_LIMIT.false in grind (arith, nat_tests) in
-    let puts = λ (text : List ℕ). Puts (g.O.Sink.wrote c.args.out.now) (g.O.Sink.wrote c.do_step.new.out) (g.O.Sink.faults c.args.out.now)
-        (g.O.Sink.faults c.do_step.new.out) c.args.pieces.now c.do_step.new.pieces text in
-    line_done members old mid (StandsFor members c.do_step.new.self) now c.args.number c.args.p (step_of_line (net_shown members old) c.args.line.now)
+    let puts = λ (text : List ℕ). Puts (g.O.Sink.wrote c.args.out.now) (g.O.Sink.wrote c.do_step.new.out)
+    (g.O.Sink.faults c.args.out.now)
+    (g.O.Sink.faults c.do_step.new.out) c.args.pieces.now c.do_step.new.pieces text in
+    line_done members old mid (StandsFor members c.do_step.new.self) now c.args.number c.args.p
+    (step_of_line (net_shown members old) c.args.line.now)
     read.0 puts c.do_step.new.pieces.failed c.do_step.result (Ok (c.args.p + 1)) read.1 few kept.charts kept.routes
     (c.do_step.ensures.done read.0 read.2 now (kept.stands now stands)) (sym c.in-Ok.is) refl
 
@@ -42,8 +44,11 @@ returns-in-Err-do_step-clause-done g c = λ now stands.
     let kept = c.read_step.ensures.kept in
     let read = rw c.in-Ok-Some.field-0-is at c.in-Ok-Some.ensures.read in
     let few : nat_le EVENT_LIMIT c.args.p ≡ false = let h = c.if-p-ge-EVENT_LIMIT.false in grind (arith, nat_tests) in
-    let puts = λ (text : List ℕ). Puts (g.O.Sink.wrote c.args.out.now) (g.O.Sink.wrote c.do_step.new.out) (g.O.Sink.faults c.args.out.now)
-        (g.O.Sink.faults c.do_step.new.out) c.args.pieces.now c.do_step.new.pieces text in
-    line_done members old mid (StandsFor members c.do_step.new.self) now c.args.number c.args.p (step_of_line (net_shown members old) c.args.line.now)
-    read.0 puts c.do_step.new.pieces.failed c.do_step.result (Err c.in-Err-do_step.end) read.1 few kept.charts kept.routes
+    let puts = λ (text : List ℕ). Puts (g.O.Sink.wrote c.args.out.now) (g.O.Sink.wrote c.do_step.new.out)
+    (g.O.Sink.faults c.args.out.now)
+    (g.O.Sink.faults c.do_step.new.out) c.args.pieces.now c.do_step.new.pieces text in
+    line_done members old mid (StandsFor members c.do_step.new.self) now c.args.number c.args.p
+    (step_of_line (net_shown members old) c.args.line.now)
+    read.0 puts c.do_step.new.pieces.failed c.do_step.result (Err c.in-Err-do_step.end) read.1 few kept.charts
+    kept.routes
     (c.do_step.ensures.done read.0 read.2 now (kept.stands now stands)) (sym c.in-Err-do_step.is) tt

@@ -25,8 +25,9 @@ send_events-requires-clause-sources g c = λ r route at from.
     let seat : Seat g.row.G.Denot = c.index.result.now in
     let read : seat ≡ get_or net.seats.items c.args.c seat = search rules in
     let there : slice_get net.seats.items c.args.c ≡ Some seat = slice_get_read _ _ _ _ refl c.requires.there read in
-    let sources = sources_there members net c.args.c seat (members.tree (members.program seat.engine)) (members.world seat.engine)
-        c.requires.sound there c.view-view.ensures.fits in
+    let sources = sources_there members net c.args.c seat (members.tree (members.program seat.engine))
+    (members.world seat.engine)
+    c.requires.sound there c.view-view.ensures.fits in
     subst (λ (vals : List Datum). IfSome route.source (λ v. v < length vals)) (sym c.view-view.ensures.shown.vals)
     (sources r route (sym (ap (λ (l : List Route). slice_get l r) c.deref.ensures.value) ∙ at) from)
 
@@ -39,12 +40,18 @@ returns-clause-sent g c = λ s s_there states wait.
     let there : slice_get net.seats.items c.args.c ≡ Some seat = slice_get_read _ _ _ _ refl c.requires.there read in
     let same : seat ≡ s = cc in
     let is : (with_items net.rings c.send_events.new.rings).items ≡ c.send_events.new.rings =
-        with_items_is net.rings c.send_events.new.rings (search (rules, places)) in
-    subst (λ (l : List Queue). Sent (sends net.routes.items c.args.c (members.world s.engine) c.args.fault states) l c.send_events.result) (sym is)
-    (subst (λ (x : Seat g.row.G.Denot). Sent (sends net.routes.items c.args.c (members.world x.engine) c.args.fault states) c.send_events.new.rings c.send_events.result) same
-    (sent_from net.routes.items c.deref.result.now net.rings.items c.deref_mut.result.now c.args.c (members.world seat.engine) c.view-view.result.vals.now
-    c.view-view.result.outputs.now c.args.fault c.send_events.result c.send_events.new.rings c.deref.ensures.value c.deref_mut.ensures.value
-    c.view-view.ensures.shown.vals c.view-view.ensures.shown.outputs (none_of c.args.fault (sym c.is_some.ensures ∙ c.if-is_some.false))
+    with_items_is net.rings c.send_events.new.rings (search (rules, places)) in
+    subst (λ (l : List Queue). Sent (sends net.routes.items c.args.c (members.world s.engine) c.args.fault states) l
+    c.send_events.result) (sym is)
+    (subst (λ (x : Seat g.row.G.Denot). Sent
+    (sends net.routes.items c.args.c (members.world x.engine) c.args.fault states) c.send_events.new.rings
+    c.send_events.result) same
+    (sent_from net.routes.items c.deref.result.now net.rings.items c.deref_mut.result.now c.args.c
+    (members.world seat.engine) c.view-view.result.vals.now
+    c.view-view.result.outputs.now c.args.fault c.send_events.result c.send_events.new.rings c.deref.ensures.value
+    c.deref_mut.ensures.value
+    c.view-view.ensures.shown.vals c.view-view.ensures.shown.outputs
+    (none_of c.args.fault (sym c.is_some.ensures ∙ c.if-is_some.false))
     c.send_events.ensures.sent states wait))
 
 pub returns-clause-sound : goal.returns-clause-sound
@@ -52,23 +59,36 @@ returns-clause-sound g c =
     let members = g.G.Engine in
     let net = c.args.self.now in
     let new : Net g.row.G.Denot =
-        record { seats = net.seats; routes = net.routes; rings = with_items net.rings c.send_events.new.rings; alloc = net.alloc } in
+    record {
+      seats = net.seats;
+      routes = net.routes;
+      rings = with_items net.rings c.send_events.new.rings;
+      alloc =
+          net.alloc;
+    } in
     let seat : Seat g.row.G.Denot = c.index.result.now in
     let read : seat ≡ get_or net.seats.items c.args.c seat = search rules in
     let there : slice_get net.seats.items c.args.c ≡ Some seat = slice_get_read _ _ _ _ refl c.requires.there read in
     let w = members.world seat.engine in
     let is : (with_items net.rings c.send_events.new.rings).items ≡ c.send_events.new.rings =
-        with_items_is net.rings c.send_events.new.rings (search (rules, places)) in
+    with_items_is net.rings c.send_events.new.rings (search (rules, places)) in
     sound_with members net new refl refl c.requires.sound.seats
     (subst (λ (q : List Queue). HaveRoom net.routes.items q) (sym is)
-        (subst (λ (l : List Route). HaveRoom l c.send_events.new.rings) c.deref.ensures.value c.send_events.ensures.room))
-    (λ r route ring here ring_here. all_after_sending (λ (route : Route) (item : Item). CanTake ((net_shown members net).declared route.to) route.target item) net.routes.items
+    (subst (λ (l : List Route). HaveRoom l c.send_events.new.rings) c.deref.ensures.value
+    c.send_events.ensures.room))
+    (λ r route ring here ring_here. all_after_sending
+    (λ (route : Route) (item : Item). CanTake ((net_shown members net).declared route.to) route.target item)
+    net.routes.items
     net.rings.items c.send_events.new.rings c.args.c w c.args.fault c.send_events.result
-    (sent_from net.routes.items c.deref.result.now net.rings.items c.deref_mut.result.now c.args.c w c.view-view.result.vals.now
-    c.view-view.result.outputs.now c.args.fault c.send_events.result c.send_events.new.rings c.deref.ensures.value c.deref_mut.ensures.value
-    c.view-view.ensures.shown.vals c.view-view.ensures.shown.outputs (none_of c.args.fault (sym c.is_some.ensures ∙ c.if-is_some.false))
+    (sent_from net.routes.items c.deref.result.now net.rings.items c.deref_mut.result.now c.args.c w
+    c.view-view.result.vals.now
+    c.view-view.result.outputs.now c.args.fault c.send_events.result c.send_events.new.rings c.deref.ensures.value
+    c.deref_mut.ensures.value
+    c.view-view.ensures.shown.vals c.view-view.ensures.shown.outputs
+    (none_of c.args.fault (sym c.is_some.ensures ∙ c.if-is_some.false))
     c.send_events.ensures.sent)
     c.requires.sound.items
-    (sent_taken members net c.args.c seat (members.tree (members.program seat.engine)) w c.requires.sound there c.view-view.ensures.fits)
+    (sent_taken members net c.args.c seat (members.tree (members.program seat.engine)) w c.requires.sound there
+    c.view-view.ensures.fits)
     r route ring here (sym (ap (λ (l : List Queue). slice_get l r) is) ∙ ring_here))
     c.requires.sound

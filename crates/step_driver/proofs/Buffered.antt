@@ -140,7 +140,7 @@ module _ (s : StepRuns) where
     ran = k.ran;
     wrote = is ∙ sym (append_known-append wrote sent more) ∙ ap (λ (z : Option (List ℕ)). append_known z more) k.wrote
         ∙ append_known-append wrote (k.trace ++ k.more) more
-            ∙ ap (append_known wrote) (append_assoc k.trace k.more more);
+        ∙ ap (append_known wrote) (append_assoc k.trace k.more more);
   })
 
   begun_later : (before left : Option (List ℕ)) (sent more : List ℕ) → BeginIsOut s before left sent
@@ -262,7 +262,7 @@ module _ (s : StepRuns) where
         usable = usable;
         driven = subst (λ (z : List ℕ). Driven s State' before left' r' next_index z)
             (append_assoc b.sent held.bytes put
-                ∙ parts_of b.sent (held.bytes ++ put) p.sent held'.bytes p.parts) driven;
+            ∙ parts_of b.sent (held.bytes ++ put) p.sent held'.bytes p.parts) driven;
       }
 
 -- ---- what a driver says by its answers
@@ -281,7 +281,7 @@ pub record DriverLaws (s : StepRuns) (D : DoneBy s) : Type 0 where
   pub last : (before left : Option (List ℕ)) (text : List ℕ) (result : Result (Unit {0}) s.Error)
       → is_read result ≡ false
       → is_write result ≡ false → D (given_text (Some []) text before left) result
-          → (text ≡ []) ⊎ FirstRun s before text
+      → (text ≡ []) ⊎ FirstRun s before text
 
 -- the whole trace is that of the first steps
 pub run_of_all : (s : StepRuns) (before left : Option (List ℕ)) (text : List ℕ) (result : Result (Unit {0}) s.Error)
@@ -345,7 +345,7 @@ module _ (s : StepRuns) (D : DoneBy s) (laws : DriverLaws s D) where
           let begins : sent ++ piece ≡ b.first ++ (b.more ++ piece) =
           ap (λ (z : List ℕ). z ++ piece) b.begins ∙ append_assoc b.first b.more piece in
           absurd (not_first wrote now' b.first (b.more ++ piece)
-              (out_is ∙ ap (append_known wrote) begins) told short_is)
+          (out_is ∙ ap (append_known wrote) begins) told short_is)
 
   -- how the lines end, by the laws
   abbrev pub End : Bool → Bool → Option (List ℕ) → Option (List ℕ) → ℕ → ℕ → Option (List ℕ) → Option (List ℕ) → List ℕ
@@ -496,11 +496,11 @@ module _ (s : StepRuns) (D : DoneBy s) (laws : DriverLaws s D) where
   no_line_stops State wrote now now' f f1 f2 before left left' held held' r r' index
       (no_lines.TooLong number) b next moves =
       lines_stop State wrote now now' f f1 f2 before left left' held held' r r' index
-          (no_lines.TooLong number) b next refl
+      (no_lines.TooLong number) b next refl
       moves
   no_line_stops State wrote now now' f f1 f2 before left left' held held' r r' index no_lines.FileTooLong b next moves =
       lines_stop State wrote now now' f f1 f2 before left left' held held' r r' index no_lines.FileTooLong b next refl
-          moves
+      moves
   no_line_stops State wrote now now' f f1 f2 before left left' held held' r r' index no_lines.Read b next moves =
       lines_stop State wrote now now' f f1 f2 before left left' held held' r r' index no_lines.Read b next refl moves
   no_line_stops State wrote now now' f f1 f2 before left left' held held' r r' index no_lines.Write b next moves =
@@ -512,11 +512,11 @@ module _ (s : StepRuns) (D : DoneBy s) (laws : DriverLaws s D) where
       → Buffered s State wrote now f f1 before left held r index → Follows r r' left left' (Err end)
       → Moves (failed_to_write (Err end)) r left left' now now' f1 f2 held held'
       → End (laws.is_write (Err (laws.error_of end)))
-          (laws.is_read (Err (laws.error_of end))) wrote now' f f2 before left'
+      (laws.is_read (Err (laws.error_of end))) wrote now' f f2 before left'
       held'.bytes (Err (laws.error_of end))
   next_stops State wrote now now' f f1 f2 before left left' held held' r r' index end b next moves =
       subst (λ (failed : Bool). End failed
-          (laws.is_read (Err (laws.error_of end))) wrote now' f f2 before left' held'.bytes
+      (laws.is_read (Err (laws.error_of end))) wrote now' f f2 before left' held'.bytes
       (Err (laws.error_of end))) (sym (laws.writes end))
       (subst (λ (read : Bool). End (failed_to_write (Err end)) read wrote now' f f2 before left' held'.bytes
       (Err (laws.error_of end))) (sym (laws.reads end))
@@ -533,7 +533,7 @@ module _ (s : StepRuns) (D : DoneBy s) (laws : DriverLaws s D) where
   finished wrote now now' f f1 f2 before left held read result k p =
       let is : now' ≡ append_known wrote (k.sent ++ held) =
       p.written ∙ ap (λ (z : Option (List ℕ)). append_known z p.sent) k.written
-          ∙ append_known-append wrote k.sent p.sent
+      ∙ append_known-append wrote k.sent p.sent
       ∙ ap (λ (z : List ℕ). append_known wrote (k.sent ++ z)) (sym (p.parts ∙ append-nil p.sent)) in
       subst (λ (z : Option (List ℕ)). D (record {
         wrote_before = wrote;

@@ -90,7 +90,7 @@ module _ (s : StepRuns) where
       → s.Ran events text None → result ≡ s.answer_of None stop → WroteAll s (given_text wrote text before left) result
   whole_trace wrote before left events stop text result file ran is =
       let are_events : (file_of s.say file.text).events ≡ events = ap
-          (λ (f : FileOf s.Step). f.events) file.are_events in
+      (λ (f : FileOf s.Step). f.events) file.are_events in
       let at : (file_of s.say file.text).stop ≡ stop = ap (λ (f : FileOf s.Step). f.stop) file.are_events in
       record {
         text = file.text;
@@ -312,7 +312,7 @@ module _ (s : StepRuns) where
     pub line_wants : (step : s.Step) → RunLaws s → s.say r'.line ≡ Ok (Some step) → nat_le EVENT_LIMIT index ≡ false
         → (wrote : Option (List ℕ))
         → WroteSome s (given_text wrote (text ++ []) before left') × TakesNoMore s
-            (given_text wrote (text ++ []) before left')
+        (given_text wrote (text ++ []) before left')
     line_wants step laws is few wrote =
         let file = whole_event s.say before d.events r' left' step
         (line_says State before left left' r r' index text d next) is (few_so_far false few) in (

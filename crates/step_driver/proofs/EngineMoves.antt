@@ -33,7 +33,7 @@ module _ (start : StartRelation) (react : ReactionRelation) (t : Tree) (n : Name
       → Result (Unit {0}) DriveEnd → Type 0
   End wrote now f f' before left held result =
       LinesEnd s (Drives start react t n) (is_write result) ends.Write
-          (is_read result) wrote now f f' before left held result
+      (is_read result) wrote now f f' before left held result
 
   -- the start ends the run
   pub start_over : (wrote now : Option (List ℕ)) (f f' : ℕ) (before : Option (List ℕ)) (old new : Held) (w : World)
@@ -54,7 +54,7 @@ module _ (start : StartRelation) (react : ReactionRelation) (t : Tree) (n : Name
       → Buffered s (so_far start react t n w) wrote now f f' before before new r 0
   start_put wrote now f f' before old new r w fresh empty usable (starts, puts) =
       buffered_start s (so_far start react t n w) wrote now f f' before old new r 0
-          (trace_line t n w 0 Start None) empty usable
+      (trace_line t n w 0 Start None) empty usable
       puts (engine_started start react t n before r w fresh starts)
 
   -- the next line can't be taken
@@ -62,12 +62,12 @@ module _ (start : StartRelation) (react : ReactionRelation) (t : Tree) (n : Name
       (held held' : Held)
       (r r' : Reading) (w : World) (index : ℕ) (end : NoLine) → OneStart start
       → Buffered s (so_far start react t n w) wrote now f f1 before left held r index
-          → Follows r r' left left' (Err end)
+      → Follows r r' left left' (Err end)
       → Moves (failed_to_write (Err end)) r left left' now now' f1 f2 held held'
       → End wrote now' f f2 before left' held'.bytes (Err (end_of_line end))
   next_over wrote now now' f f1 f2 before left left' held held' r r' w index end one b next moves =
       next_stops s (Drives start react t n) (driver_laws start react t n one)
-          (so_far start react t n w) wrote now now' f f1 f2
+      (so_far start react t n w) wrote now now' f f1 f2
       before left left' held held' r r' index end b next moves
 
   -- the line was taken, and the run goes on
@@ -76,13 +76,13 @@ module _ (start : StartRelation) (react : ReactionRelation) (t : Tree) (n : Name
       (r r' : Reading) (w w' : World) (index next_index : ℕ)
       → Between s (so_far start react t n w) wrote now f f1 before left left' held r r' index → held'.failed ≡ false
       → LineTaken react t n r'.number index (event_of_line n r'.line) w w' (Puts now now' f1 f2 held held')
-          (Ok next_index)
+      (Ok next_index)
       → Buffered s (so_far start react t n w') wrote now' f f2 before left' held' r' next_index
   line_put wrote now now' f f1 f2 before left left' held held' r r' w w' index next_index b usable taken =
       let (put, puts, driven) = line_driven start react t n before left left' r r' w w' index (b.sent ++ held.bytes)
       (Puts now now' f1 f2 held held') b.driven b.next next_index taken in
       line_buffered s (so_far start react t n w)
-          (so_far start react t n w') wrote now now' f f1 f2 before left left' held held'
+      (so_far start react t n w') wrote now now' f f1 f2 before left left' held held'
       r r' index next_index put b usable puts driven
 
   -- the line was taken, and the run ends
@@ -97,6 +97,6 @@ module _ (start : StartRelation) (react : ReactionRelation) (t : Tree) (n : Name
       let (put, puts, e) = line_fails start react t n before left left' r r' w w' index (b.sent ++ held.bytes)
       (Puts now now' f1 f2 held held') b.driven b.next end one taken in
       line_stops s (Drives start react t n) (driver_laws start react t n one)
-          (so_far start react t n w) wrote now now' f f1 f2
+      (so_far start react t n w) wrote now now' f f1 f2
       before left left' held held' r r' index (is_write {T = Unit {0}} (Err end)) (is_read {T = Unit {0}} (Err end)) put
       (Err end) b failed no_read puts e

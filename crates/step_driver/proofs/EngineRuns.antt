@@ -53,7 +53,7 @@ writes_same no_lines.Write = refl
 -- no count rose before
 pub read_cause : (name : List ℕ) (before between after : List ℕ → ℕ) (end : NoLine) → AllStay before between
     → ReadCause (failed_to_read (Err end)) name between after
-        → HasReadCause {T = Unit {0}} name before after (Err (end_of_line end))
+    → HasReadCause {T = Unit {0}} name before after (Err (end_of_line end))
 read_cause name before between after end stay c = record {
   fault = λ is. subst (λ (m : ℕ). Rose m (after name)) (stay name) (c.fault (sym (reads_same end) ∙ is));
   others = λ is other. c.others (sym (reads_same end) ∙ is) other ∙ stay other;
@@ -186,7 +186,7 @@ module _ (start : StartRelation) (react : ReactionRelation) (t : Tree) (n : Name
 
   module _ (before left left' : Option (List ℕ)) (r r' : Reading) (w w' : World) (index : ℕ) (text : List ℕ)
       (P : List ℕ → Type 0) (d : Driven s (so_far w) before left r index text)
-          (next : Nexts r r' left left' (Ok true)) where
+      (next : Nexts r r' left left' (Ok true)) where
     -- the line of an event, by the count of the events before it
     counted_line : (e : EventWithInputs) (f : Option Fault)
         → trace_line t n w' (length d.events + 1) e.event f ≡ trace_line t n w' (index + 1) e.event f
@@ -227,7 +227,7 @@ module _ (start : StartRelation) (react : ReactionRelation) (t : Tree) (n : Name
               done.1,
               subst (λ (m : ℕ). Driven s (so_far w') before left' r' m (text ++ line)) (sym one)
                   (line_stepped s (so_far w) before left left' r r' index text d next
-                      (so_far w') e line is few ran state),
+                  (so_far w') e line is few ran state),
             )
 
         by_said : (said : Result (Option EventWithInputs) LineFault) → event_of_line n r'.line ≡ said

@@ -108,13 +108,13 @@ module _ {A : Type 0} (say : List ℕ → Result (Option A) LineFault) where
       ap (events_of say long at number count) (lines_of-first text some)
       ∙ ap (λ (l : Option Limit). with_limit l number (with_line number count (say (without_return raw))
       (λ next. events_of say long (at + (length raw + 1)) (number + 1) next
-          (lines_of (drop (line_length text + 1) text))))) is'
+      (lines_of (drop (line_length text + 1) text))))) is'
       ∙ either limit
     where
       either : (l : Limit) → with_limit (Some l) number
           (with_line number count (say (without_return (take (line_length text) text)))
           (λ next. events_of say (nat_lt FILE_LIMIT (at + length text))
-              (at + (length (take (line_length text) text) + 1))
+          (at + (length (take (line_length text) text) + 1))
           (number + 1) next (lines_of (drop (line_length text + 1) text))))
           ≡ with_limit (Some l) number (stopped AtEnd)
       either TooLong = refl
@@ -122,7 +122,7 @@ module _ {A : Type 0} (say : List ℕ → Result (Option A) LineFault) where
 
   pub at_too_long : (at number count : ℕ) (pending rest : List ℕ) → LINE_LIMIT < line_length pending
       → at + LINE_LIMIT < FILE_LIMIT → events_at at number count (pending ++ rest) ≡ stopped
-          (AtLine number faults.LineTooLong)
+      (AtLine number faults.LineTooLong)
   at_too_long at number count pending rest over early =
       let text : List ℕ = pending ++ rest in
       let more : line_length pending ≤ line_length text = line_length-append pending rest in
@@ -375,7 +375,7 @@ module _ {A : Type 0} (say : List ℕ → Result (Option A) LineFault) where
         ∙ ap (after_events events) (kept_event r.number (length events) event
         (λ next. events_at r.at (r.number + 1) next to_come) _ refl few)
         ∙ ap (λ (z : List A). record { events = z; stop = later.stop })
-            (sym (append_assoc events (event ∷ []) later.events))
+        (sym (append_assoc events (event ∷ []) later.events))
         ∙ ap (λ m. after_events (events ++ event ∷ []) (events_at r.at (r.number + 1) m to_come)) (sym count);
   }
 
@@ -411,7 +411,7 @@ module _ {A : Type 0} (say : List ℕ → Result (Option A) LineFault) where
         are_events = w.are_events
             ∙ ap (λ (said : Result (Option A) LineFault). after_events events
             (with_line r.number (length events) said
-                (λ next. events_at r.at (r.number + 1) next (r.pending ++ told left)))) is
+            (λ next. events_at r.at (r.number + 1) next (r.pending ++ told left)))) is
             ∙ rw many (after_none events AtEvent);
       }
 
@@ -428,6 +428,6 @@ module _ {A : Type 0} (say : List ℕ → Result (Option A) LineFault) where
         are_events = w.are_events
             ∙ ap (λ (said : Result (Option A) LineFault). after_events events
             (with_line r.number (length events) said
-                (λ next. events_at r.at (r.number + 1) next (r.pending ++ told left)))) is
+            (λ next. events_at r.at (r.number + 1) next (r.pending ++ told left)))) is
             ∙ after_none events (AtLine r.number fault);
       }

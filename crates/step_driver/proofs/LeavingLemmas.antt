@@ -38,7 +38,7 @@ use Rattle.step_driver.proofs.RunLemmas.{so_far_to, start_to, start_fault_to, ev
 all_left : {start : StartRelation} {react : ReactionRelation} {n : Names} {before : Option (List ℕ)}
     {events : List EventWithInputs} {w : World}
     (stop : Stop) (result : Result (Unit {0}) DriveEnd)
-        → Whole (event_of_line n) before (record { events = events; stop = stop })
+    → Whole (event_of_line n) before (record { events = events; stop = stop })
     → RanTo start react events w None → result ≡ answer_of None stop → LeftByAll start react n before w result
 all_left {start = start} {react = react} {w = w} stop result file to is = record {
   text = file.text;
@@ -67,11 +67,11 @@ first_of_all {n = n} l = record {
 driven_left : {start : StartRelation} {react : ReactionRelation} {t : Tree} {n : Names} {before left : Option (List ℕ)}
     {r : Reading} {w : World} {index : ℕ} {text : List ℕ}
     → Driven (engine_runs start react t n) (so_far start react t n w) before left r index text
-        → LeftByFirst start react n before w
+    → LeftByFirst start react n before w
 driven_left {n = n} {before = before} {left = left} {r = r} d =
     let file = whole_file (event_of_line n) before r left _ d.reads in
     let later : FileOf EventWithInputs = events_at (event_of_line n) r.at (r.number + 1) (length d.events)
-        (r.pending ++ told left) in
+    (r.pending ++ told left) in
     record {
       text = file.text;
       is_text = file.is_text;
@@ -88,7 +88,7 @@ driven_left {n = n} {before = before} {left = left} {r = r} d =
 pub start_leaves : (start : StartRelation) (react : ReactionRelation) (t : Tree) (n : Names) (before : Option (List ℕ))
     (never : Bool) (w : World) (P : List ℕ → Type 0) (end : DriveEnd)
     → Done start (λ x f. trace_line t n x 0 Start f) 0 w P (Err end)
-        → Leaves start react n before before never w (Err end)
+    → Leaves start react n before before never w (Err end)
 start_leaves start react t n before never w P (ends.Line number fault) done = absurd done
 start_leaves start react t n before never w P (ends.Fault index fault) (at, starts, puts) =
     let text = first_text before in
@@ -121,12 +121,12 @@ start_leaves start react t n before never w P ends.Memory puts = tt
 pub end_leaves : (start : StartRelation) (react : ReactionRelation) (t : Tree) (n : Names)
     (before left left' : Option (List ℕ)) (never : Bool) (r r' : Reading) (w : World) (index : ℕ) (text : List ℕ)
     → Driven (engine_runs start react t n) (so_far start react t n w) before left r index text
-        → Nexts r r' left left' (Ok false)
+    → Nexts r r' left left' (Ok false)
     → Leaves start react n before left' never w (Ok tt)
 end_leaves start react t n before left left' never r r' w index text d next =
     let reads = reads_fills (event_of_line n) before d.events r next.mid left left' d.reads next.fills in
     all_left AtEnd (Ok tt) (whole_end
-        (event_of_line n) before d.events next.mid left' reads next.answer.1.0 next.answer.1.1) (so_far_to d.state) refl
+    (event_of_line n) before d.events next.mid left' reads next.answer.1.0 next.answer.1.1) (so_far_to d.state) refl
 
 -- the next line can't be taken
 pub next_leaves : (start : StartRelation) (react : ReactionRelation) (t : Tree) (n : Names)
@@ -163,7 +163,7 @@ pub line_leaves : (start : StartRelation) (react : ReactionRelation) (t : Tree) 
     (before left left' : Option (List ℕ)) (never : Bool) (r r' : Reading)
     (w w' : World) (index : ℕ) (text : List ℕ) (P : List ℕ → Type 0) (end : DriveEnd)
     → Driven (engine_runs start react t n) (so_far start react t n w) before left r index text
-        → Nexts r r' left left' (Ok true)
+    → Nexts r r' left left' (Ok true)
     → LineTaken react t n r'.number index (event_of_line n r'.line) w w' P (Err end)
     → Leaves start react n before left' never w' (Err end)
 line_leaves start react t n before left left' never r r' w w' index text P end d next taken =
@@ -175,7 +175,7 @@ line_leaves start react t n before left left' never r r' w w' index text P end d
     by_end : (e : DriveEnd) (event : EventWithInputs) → nat_le EVENT_LIMIT (length d.events) ≡ false
         → event_of_line n r'.line ≡ Ok (Some event)
         → Done (ReactsWithInputs react w event) (λ x f. trace_line t n x (index + 1) event.event f) (index + 1) w' P
-            (Err e)
+        (Err e)
         → Leaves start react n before left' never w' (Err e)
     by_end (ends.Line number fault) event few is done = absurd done
     by_end (ends.Fault i fault) event few is (at, stepping, puts) =
@@ -219,14 +219,14 @@ line_leaves start react t n before left left' never r r' w w' index text P end d
 
     by_said : (said : Result (Option EventWithInputs) LineFault) → event_of_line n r'.line ≡ said
         → LineTaken react t n r'.number index said w w' P (Err end)
-            → Leaves start react n before left' never w' (Err end)
+        → Leaves start react n before left' never w' (Err end)
     by_said (Ok None) is (bad, _, _) = absurd (cc)
     by_said (Ok (Some event)) is h = by_count event (nat_le EVENT_LIMIT index) refl is h
     by_said (Err fault) is (bad, world, puts) =
         let same : end ≡ ends.Line r'.number fault = let e = bad in cc in
         let file = whole_refused (event_of_line n) before d.events r' left' fault says is in
         rw (same, world) (all_left (AtLine r'.number fault) (Err (ends.Line r'.number fault)) file
-            (so_far_to d.state) refl)
+        (so_far_to d.state) refl)
 
 -- ---- what is kept at the end
 
@@ -234,7 +234,7 @@ line_leaves start react t n before left left' never r r' w w' index text P end d
 pub cut_leaves : (start : StartRelation) (react : ReactionRelation) (n : Names) (before left : Option (List ℕ))
     (never : Bool) (w : World) (result : Result (Unit {0}) DriveEnd)
     → is_read result ≡ false → (IsTrue never → result ≢ Err ends.Memory)
-        → Leaves start react n before left never w result
+    → Leaves start react n before left never w result
     → Leaves start react n before left never w (Err ends.Write)
 cut_leaves start react n before left never w (Ok done) no_read no_want l = λ _. first_of_all l
 cut_leaves start react n before left never w (Err (ends.Line number fault)) no_read no_want l = λ _. first_of_all l

@@ -18,7 +18,7 @@ pub record SoFar (start : StartRelation) (react : ReactionRelation) (t : Tree) (
   pub extends : (later : List EventWithInputs) (moments : List Moment)
       → GoesOn react (record { world = w; fault = None }) later moments
       → Ran start react t n (events ++ later) (text ++ trace_from t n (length events + 1) later moments)
-          (run_fault (length events + 1) moments)
+      (run_fault (length events + 1) moments)
   pub last : (later : List EventWithInputs) (moments : List Moment)
       (goes : GoesOn react (record { world = w; fault = None }) later moments)
       → last_world (extends later moments goes).moments ≡ last_world (record { world = w; fault = None } ∷ moments)
@@ -71,13 +71,13 @@ one_more start react t n events w w' text event s taken =
           (record { world = w'; fault = None }, moments, refl, taken, goes) in
           let k = length events + 1 + 1 in
           let text_is : text ++ (line ++ trace_from t n k later moments) ≡ (text ++ line) ++ trace_from t n
-              (length (events ++ event ∷ []) + 1) later moments =
+          (length (events ++ event ∷ []) + 1) later moments =
           sym (append_assoc text line (trace_from t n k later moments))
-              ∙ ap (λ m. (text ++ line) ++ trace_from t n (m + 1) later moments) (sym count) in
+          ∙ ap (λ m. (text ++ line) ++ trace_from t n (m + 1) later moments) (sym count) in
           let steps_are : events ++ (event ∷ later) ≡ (events ++ event ∷ []) ++ later = sym
-              (append_assoc events (event ∷ []) later) in
+          (append_assoc events (event ∷ []) later) in
           let fault_is : run_fault k moments ≡ run_fault (length (events ++ event ∷ []) + 1) moments = ap
-              (λ m. run_fault (m + 1) moments) (sym count) in
+          (λ m. run_fault (m + 1) moments) (sym count) in
           record {
             moments = ran.moments;
             runs = subst (λ (z : List EventWithInputs). Runs start react z ran.moments) steps_are ran.runs;
@@ -155,7 +155,7 @@ pub event_to : {start : StartRelation} {react : ReactionRelation} {t : Tree} {n 
     {w : World} {text : List ℕ}
     (w' : World) (event : EventWithInputs) (f : Option Fault) (rest : List EventWithInputs)
     → SoFar start react t n events w text → ReactsWithInputs react w event w' f
-        → GoesOn react (record { world = w'; fault = f }) rest []
+    → GoesOn react (record { world = w'; fault = f }) rest []
     → RanTo start react (events ++ event ∷ rest) w' (fault_or (length events + 1) f None)
 event_to w' event f rest s taken ends =
     let next : Moment = record { world = w'; fault = f } in

@@ -43,4 +43,4 @@ LinesEnd s D false write read wrote now f f' before left held result =
     Stopped s D read wrote now f f' before left held result
 LinesEnd s D true write read wrote now f f' before left held result =
     D (record { wrote_before = wrote; wrote_after = now; left_before = before; left_after = left })
-        (Err write) × Rose f f'
+    (Err write) × Rose f f'

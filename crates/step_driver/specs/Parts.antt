@@ -60,7 +60,7 @@ abbrev pub Tried : Bool → ReactionRelation → Tree → Names → ℕ → Even
 Tried true react t n index event w w' puts result = (result ≡ Err ends.TooManyLines) × (w' ≡ w) × puts []
 Tried false react t n index event w w' puts result =
     Done (ReactsWithInputs react w event) (λ x f. trace_line t n x (index + 1) event.event f) (index + 1) w' puts
-        (without_index result)
+    (without_index result)
     × IsNextIndex (index + 1) result
 
 -- a line was read, and what it says was done; a line that isn't an event, or that is refused, leaves the world

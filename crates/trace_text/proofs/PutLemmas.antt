@@ -9,7 +9,7 @@ pub puts_both : (b0 b1 b2 : Option (List ℕ)) (f0 f1 f2 : ℕ) (h0 h1 h2 : Held
     → Puts b1 b2 f1 f2 h1 h2 second → text ≡ first ++ second → Puts b0 b2 f0 f2 h0 h2 text
 puts_both b0 b1 b2 f0 f1 f2 h0 h1 h2 first second text p q is = λ w f all h.
     subst (λ (z : List ℕ). Written w b2 f f2 z h2)
-        (append_assoc all first second ∙ ap (λ (z : List ℕ). all ++ z) (sym is))
+    (append_assoc all first second ∙ ap (λ (z : List ℕ). all ++ z) (sym is))
     (q w f (all ++ first) (p w f all h))
 
 -- the same text under another name

@@ -21,7 +21,7 @@ returns-in-Ok-clause-drives g c =
     finished (engine_runs (x.Starts k) (x.Reacts k) (x.tree k) (x.declared k))
     (Drives (x.Starts k) (x.Reacts k) (x.tree k) (x.declared k))
     (driver_laws (x.Starts k) (x.Reacts k) (x.tree k) (x.declared k)
-        (g.met.G.Engine.one_start k)) _ _ _ _ _ _ _ _ held.bytes _
+    (g.met.G.Engine.one_start k)) _ _ _ _ _ _ _ _ held.bytes _
     lines.result stopped (c.in-Ok.ensures.written _ _ held.bytes (kept_now _ _ held usable))
 
 pub returns-in-Ok-clause-writes : goal.returns-in-Ok-clause-writes
@@ -33,7 +33,7 @@ returns-in-Ok-clause-writes g c =
     let s = lines.ensures.ends in
     let stopped = rw whole at s in
     let passed = c.in-Ok.ensures.written (g.O.Sink.wrote lines.new.out) (g.O.Sink.faults lines.new.out) held.bytes
-        (kept_now _ _ held usable) in
+    (kept_now _ _ held usable) in
     record { fault = λ is. absurd (cc); others = λ _. passed.count ∙ stopped.count }
 
 -- what is kept at the end can't be written
@@ -50,7 +50,7 @@ returns-in-Err-clause-drives g c =
     (not_finished (engine_runs (x.Starts p) (x.Reacts p) (x.tree p) (x.declared p))
     (Drives (x.Starts p) (x.Reacts p) (x.tree p) (x.declared p))
     (driver_laws (x.Starts p) (x.Reacts p) (x.tree p) (x.declared p)
-        (g.met.G.Engine.one_start p)) _ _ _ _ _ _ _ _ held.bytes
+    (g.met.G.Engine.one_start p)) _ _ _ _ _ _ _ _ held.bytes
     lines.result whole stopped
     (c.in-Err.ensures.written _ _ held.bytes (kept_now _ _ held usable))).0
 
@@ -67,7 +67,7 @@ returns-in-Err-clause-reads g c =
     let k = not_finished (engine_runs (x.Starts p) (x.Reacts p) (x.tree p) (x.declared p))
     (Drives (x.Starts p) (x.Reacts p) (x.tree p) (x.declared p))
     (driver_laws (x.Starts p) (x.Reacts p) (x.tree p) (x.declared p)
-        (g.met.G.Engine.one_start p)) _ _ _ _ _ _ _ _ held.bytes
+    (g.met.G.Engine.one_start p)) _ _ _ _ _ _ _ _ held.bytes
     lines.result whole stopped
     (c.in-Err.ensures.written _ _ held.bytes (kept_now _ _ held usable)) in
     record { fault = λ is. absurd (cc); others = λ _. lines.ensures.reads.others k.1 }
@@ -85,7 +85,7 @@ returns-in-Err-clause-writes g c =
     let k = not_finished (engine_runs (x.Starts p) (x.Reacts p) (x.tree p) (x.declared p))
     (Drives (x.Starts p) (x.Reacts p) (x.tree p) (x.declared p))
     (driver_laws (x.Starts p) (x.Reacts p) (x.tree p) (x.declared p)
-        (g.met.G.Engine.one_start p)) _ _ _ _ _ _ _ _ held.bytes
+    (g.met.G.Engine.one_start p)) _ _ _ _ _ _ _ _ held.bytes
     lines.result whole stopped
     (c.in-Err.ensures.written _ _ held.bytes (kept_now _ _ held usable)) in
     record { fault = λ _. k.2; others = λ is. absurd (cc) }
@@ -103,7 +103,7 @@ returns-in-Err-clause-leaves g c =
     let k = not_finished (engine_runs (x.Starts p) (x.Reacts p) (x.tree p) (x.declared p))
     (Drives (x.Starts p) (x.Reacts p) (x.tree p) (x.declared p))
     (driver_laws (x.Starts p) (x.Reacts p) (x.tree p) (x.declared p)
-        (g.met.G.Engine.one_start p)) _ _ _ _ _ _ _ _ held.bytes
+    (g.met.G.Engine.one_start p)) _ _ _ _ _ _ _ _ held.bytes
     lines.result whole stopped
     (c.in-Err.ensures.written _ _ held.bytes (kept_now _ _ held usable)) in
     cut_leaves _ _ _ _ _ _ _ lines.result k.1 lines.ensures.memory lines.ensures.leaves

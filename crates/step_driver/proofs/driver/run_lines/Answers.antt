@@ -16,7 +16,7 @@ returns-in_err-run_start-clause-ends g c =
     let p = err_from_is_err_and c.from_residual.result c.from_residual.ensures.1 in
     let e = c.in_err-run_start.ensures in
     rw (p.1, p.2) (start_over (x.Starts k) (x.Reacts k) (x.tree k) (x.declared k) _ _ _ _ _ _ _ _ _
-        (g.met.G.Engine.one_start k)
+    (g.met.G.Engine.one_start k)
     c.requires.empty e.failed e.reads e.done)
 
 pub lines-init : goal.lines-init
@@ -59,7 +59,7 @@ returns-in_err-next_line-clause-failed g c =
     let k = x.program c.args.engine.now in
     let p = err_from_is_err_and c.from_residual-in_err-next_line.result c.from_residual-in_err-next_line.ensures.1 in
     rw (p.1, p.2) (next_failed (engine_runs (x.Starts k) (x.Reacts k) (x.tree k)
-        (x.declared k)) _ _ _ _ _ _ _ _ _ _ _ _ _ _ _
+    (x.declared k)) _ _ _ _ _ _ _ _ _ _ _ _ _ _ _
     c.lines.invariant.driven c.in_err-next_line.ensures.moves ∙ sym (writes_same _))
 
 -- the run ends at a line
@@ -72,7 +72,7 @@ returns-in_err-index-clause-ends g c =
     let n = c.in_ok-next_line.ensures.next in
     let next = rw c.if-branch.true at n in
     let b = between (engine_runs (x.Starts k) (x.Reacts k) (x.tree k)
-        (x.declared k)) _ _ _ _ _ _ _ _ _ _ _ _ _ _ _ inv.driven
+    (x.declared k)) _ _ _ _ _ _ _ _ _ _ _ _ _ _ _ inv.driven
     next c.in_ok-next_line.ensures.moves in
     let e = c.in_err-index.ensures in
     let t = e.taken in
@@ -89,7 +89,7 @@ lines-preserved g c =
     let n = c.in_ok-next_line.ensures.next in
     let next = rw c.if-branch.true at n in
     let b = between (engine_runs (x.Starts k) (x.Reacts k) (x.tree k)
-        (x.declared k)) _ _ _ _ _ _ _ _ _ _ _ _ _ _ _ inv.driven
+    (x.declared k)) _ _ _ _ _ _ _ _ _ _ _ _ _ _ _ inv.driven
     next c.in_ok-next_line.ensures.moves in
     let t = c.in_ok-index.ensures.taken in
     let taken = rw (inv.program, c.line.ensures, c.number.ensures) at t in
@@ -114,7 +114,7 @@ returns-clause-ends g c =
     end_stops (engine_runs (x.Starts k) (x.Reacts k) (x.tree k) (x.declared k))
     (Drives (x.Starts k) (x.Reacts k) (x.tree k) (x.declared k))
     (driver_laws (x.Starts k) (x.Reacts k) (x.tree k) (x.declared k)
-        (g.met.G.Engine.one_start k)) _ _ _ _ _ _ _ _ _ _ _ _ _ _ _
+    (g.met.G.Engine.one_start k)) _ _ _ _ _ _ _ _ _ _ _ _ _ _ _
     c.lines.invariant.driven next c.in_ok-next_line.ensures.moves
 
 -- ---- where the engine is
@@ -125,7 +125,7 @@ returns-in_err-run_start-clause-leaves g c =
     let program = g.G.Engine.program c.args.engine.now in
     rw (p.1, p.2) (start_leaves (g.G.Engine.Starts program) (g.G.Engine.Reacts program) (g.G.Engine.tree program)
     (g.G.Engine.declared program) _ g.G.Engine.never_wants_memory _
-        (Puts _ _ _ _ _ _) _ c.in_err-run_start.ensures.done)
+    (Puts _ _ _ _ _ _) _ c.in_err-run_start.ensures.done)
 
 pub returns-in_err-next_line-clause-leaves : goal.returns-in_err-next_line-clause-leaves
 returns-in_err-next_line-clause-leaves g c =
@@ -146,7 +146,7 @@ returns-in_err-index-clause-leaves g c =
     let t = c.in_err-index.ensures.taken in
     let taken = rw (inv.program, c.line.ensures, c.number.ensures) at t in
     rw (p.1, p.2) (line_leaves (x.Starts k) (x.Reacts k) (x.tree k)
-        (x.declared k) _ _ _ _ _ _ _ _ _ _ _ _ inv.driven.driven next
+    (x.declared k) _ _ _ _ _ _ _ _ _ _ _ _ inv.driven.driven next
     taken)
 
 pub returns-clause-leaves : goal.returns-clause-leaves

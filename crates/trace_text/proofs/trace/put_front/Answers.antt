@@ -26,5 +26,5 @@ returns g c = λ w f all h.
     subst (λ (z : List ℕ). Written w (g.O.Sink.wrote c.put_byte-2.new.out) f (g.O.Sink.faults c.put_byte-2.new.out) z
     c.put_byte-2.new.self)
     (front_parts all (decimal c.args.index) (event_word n c.args.event)
-        (join_with_byte 44 (map (path_of tree n) (active_states tree view.marks.now)))
+    (join_with_byte 44 (map (path_of tree n) (active_states tree view.marks.now)))
     (listed (value_texts n.vars view.vals.now)) (listed (map (event_name n) view.outputs.now))) h8

@@ -9,3 +9,7 @@ pub mod SourceLemmas
 pub mod TakeLemmas
 pub mod NetLemmas
 pub mod ScheduleLemmas
+pub mod NetDriven
+pub mod OneRun
+pub mod NetMoves
+pub mod DriverLemmas

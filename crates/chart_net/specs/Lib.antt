@@ -11,3 +11,4 @@ pub mod Changes
 pub mod Seats
 pub mod NetParts
 pub mod Moving
+pub mod NetDriving

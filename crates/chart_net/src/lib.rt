@@ -13,6 +13,6 @@ mod schedule;
 mod seat;
 mod sending;
 
-pub use driver::NetEnd;
+pub use driver::{NetEnd, net_drive};
 pub use laws::net_law;
 pub use net::Net;

@@ -118,8 +118,7 @@ Wrote s seen result = WroteAll s seen result × TakesNoMore s seen
 
 -- the run over the first of the events has that trace, and that fault or none
 pub record RanFirst (start : StartRelation) (react : ReactionRelation) (t : Tree) (n : Names)
-    (all : List EventWithInputs)
-    (trace : List ℕ) (fault : Option RunFault) : Type 0 where
+    (all : List EventWithInputs) (trace : List ℕ) (fault : Option RunFault) : Type 0 where
   pub events : List EventWithInputs
   pub rest : List EventWithInputs
   pub first_events : all ≡ events ++ rest

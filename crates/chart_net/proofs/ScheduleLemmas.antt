@@ -81,10 +81,6 @@ module _ (net : Net) (line : List ℕ) where
 -- ---- an event for a chart
 
 module _ (net : Net) (tokens : List (List ℕ)) (name rest : List ℕ) (is : tokens ≡ name ∷ tokens_of rest) where
-  -- no chart has the name
-  pub gives_no_chart : position (bytes_eq name) net.names ≡ None → giving_step net tokens ≡ Err faults.BadStep
-  gives_no_chart none = ap (giving_step net) is ∙ ap (λ (o : Option ℕ). giving_to net o (tokens_of rest)) none
-
   -- a chart has it
   pub gives_to_chart : (c : ℕ) (said : Result (Option EventWithInputs) LineFault) → position (bytes_eq name) net.names
       ≡ Some c

@@ -16,6 +16,8 @@ use net_text::Route;
 use std::alloc::Global;
 
 /// Charts that engines of one type run, and routes between them, each with what waits on it.
+///
+/// This project's choice.
 #[derive(Drop)]
 pub struct Net<G> {
     pub(crate) seats: Vec<Seat<G>>,

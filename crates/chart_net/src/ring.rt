@@ -31,7 +31,7 @@ impl Model for Ring {
 
 impl Ring {
     /// No items, with room for that many.
-    pub fn make(alloc: Global, cap: usize) -> Result<Ring, Memory>
+    pub(crate) fn make(alloc: Global, cap: usize) -> Result<Ring, Memory>
         requires some { 0 < cap }
         requires few { cap ≤ CAP_LIMIT }
         ensures { IfOk result (λ ring. ring ≡ record { items = []; cap = cap }) }
@@ -47,7 +47,7 @@ impl Ring {
     }
 
     /// Whether there is room for no more.
-    pub fn is_full(&self) -> bool
+    pub(crate) fn is_full(&self) -> bool
         ensures full { IsTrue result ↔ (length self.now.items ≡ self.now.cap) }
         ensures within { length self.now.items ≤ self.now.cap }
     {
@@ -55,7 +55,7 @@ impl Ring {
     }
 
     /// Puts an item after those that wait.
-    pub fn push(&mut self, item: Option<Value>)
+    pub(crate) fn push(&mut self, item: Option<Value>)
         requires { length self.old.items < self.old.cap }
         ensures { self.new ≡ record { items = self.old.items ++ item ∷ []; cap = self.old.cap } }
     {
@@ -65,7 +65,7 @@ impl Ring {
     }
 
     /// Takes the oldest item. None where none waits.
-    pub fn take(&mut self) -> Option<Option<Value>>
+    pub(crate) fn take(&mut self) -> Option<Option<Value>>
         ensures oldest { result ≡ spec.oldest self.old.items }
         ensures rest { self.new ≡ record { items = spec.later self.old.items; cap = self.old.cap } }
     {

@@ -135,8 +135,9 @@ LONGEST_LINE = 4096
 LONGEST_FILE = 67108864
 MOST_EVENTS = 1000000
 LINE_FAULTS = {1: 'LineTooLong', 2: 'UnknownEvent', 3: 'NotInputEvent', 4: 'UnknownInput', 5: 'InputTwice', 6: 'BadValue'}
+TOO_MANY_LINES, FILE_TOO_LONG = 'event: 5 TooManyLines\n', 'event: 6 FileTooLong\n'
 USAGE = ('usage: flowc check CHART, fmt CHART, rules CHART EVENTS, compile CHART, exec CODE EVENTS, run CHART EVENTS, '
-         'upgrade CODE, bounds CHART, shrink CODE, selftest N; --depth D, --steps S')
+         'upgrade CODE, bounds CHART, shrink CODE, net NET SCHEDULE, selftest N; --depth D, --steps S')
 
 # What the rules tell apart. A run counts how often it met each of these.
 CASES = """
@@ -260,6 +261,10 @@ class LineFault(Exception):
     def __init__(self, number):
         super().__init__(number)
         self.number = number
+
+
+class FileTooLong(Exception):
+    """An event file has a byte past the greatest length."""
 
 
 # The outcomes of a search. Fire has a destination state and the transition actions in the order of the way.
@@ -691,6 +696,19 @@ def is_past_file(data, line, start):
     return end > LONGEST_FILE
 
 
+def tokens_at(data, line, start):
+    """The tokens of a line that begins at a place of an event file; a line or a file that is too long is refused."""
+    if len(line) > LONGEST_LINE and start + LONGEST_LINE < LONGEST_FILE:
+        raise LineFault(1)
+    if is_past_file(data, line, start):
+        raise FileTooLong
+    return tokens_of(line)
+
+
+def is_skipped(tokens):
+    return not tokens or tokens[0].startswith('#')
+
+
 def tokens_of(line):
     if line.endswith(b'\r'):
         line = line[:-1]
@@ -778,20 +796,18 @@ def run_events(rules, data):
         return Ended(''.join(out), 'run 0: %s\n' % result, 3)
     for number, line, start in lines_of(data):
         try:
-            if len(line) > LONGEST_LINE and start + LONGEST_LINE < LONGEST_FILE:
-                raise LineFault(1)
-            if is_past_file(data, line, start):
-                return Ended(''.join(out), 'event: 6 FileTooLong\n', 1)
-            tokens = tokens_of(line)
-            if not tokens or tokens[0].startswith('#'):
+            tokens = tokens_at(data, line, start)
+            if is_skipped(tokens):
                 rules.met('event: a comment' if tokens else 'event: a line without token')
                 continue
             event, inputs = event_of(chart, tokens)
+        except FileTooLong:
+            return Ended(''.join(out), FILE_TOO_LONG, 1)
         except LineFault as fault:
             rules.met('event: %d %s' % (fault.number, LINE_FAULTS[fault.number]))
             return Ended(''.join(out), 'event %d: %d %s\n' % (number, fault.number, LINE_FAULTS[fault.number]), 1)
         if index == MOST_EVENTS:
-            return Ended(''.join(out), 'event: 5 TooManyLines\n', 1)
+            return Ended(''.join(out), TOO_MANY_LINES, 1)
         index += 1
         rules.met('event: a named event' if event else 'event: tick')
         result = rules.react(event, inputs)
@@ -803,9 +819,9 @@ def run_events(rules, data):
 
 # ---- the words of the command, and the table
 
-def words_of(words):
+def words_of(words, most_steps=MOST_STEPS, usual_steps=USUAL_STEPS):
     """The files and the bounds of the words, or None where they aren't right."""
-    files, bounds, most = [], {}, {'--depth': MOST_DEPTH, '--steps': MOST_STEPS}
+    files, bounds, most = [], {}, {'--depth': MOST_DEPTH, '--steps': most_steps}
     words = list(words)
     while words:
         word = words.pop(0)
@@ -825,7 +841,7 @@ def words_of(words):
             files.append(word)
     if len(files) != 2:
         return None
-    return files, bounds.get('--depth', USUAL_DEPTH), bounds.get('--steps', USUAL_STEPS)
+    return files, bounds.get('--depth', USUAL_DEPTH), bounds.get('--steps', usual_steps)
 
 
 def command(words, language):

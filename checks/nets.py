@@ -338,21 +338,21 @@ class Files:
         return self.read(name)
 
 
-def made_net(name, files, depth, steps):
-    """The net that a file tells, about to start."""
+def made_net(name, files, depth, steps, chart_of=check_chart):
+    """The net that a file tells, about to start. `chart_of` gives the chart of a text, or raises its fault."""
     charts, routes = read_net(files.whole(name).decode('latin-1'))
     made = {}                                                # by the name of its file
     for each in charts:
         if each.file not in made:
-            made[each.file] = checked(each.name, files.whole(each.file).decode('latin-1'))
+            made[each.file] = accepted(each.name, files.whole(each.file).decode('latin-1'), chart_of)
     members = [Member(each.name, made[each.file], depth, steps) for each in charts]
     return Net(members, routes_of(routes, [member.rules.chart for member in members]))
 
 
-def checked(name, text):
+def accepted(name, text, chart_of):
     """The chart of a text, which the net calls by that name."""
     try:
-        return check_chart(text)
+        return chart_of(text)
     except Fault as fault:
         kind, refusal = fault.written(text).split(' ', 1)
         raise Refused('%s %s %s\n' % (kind, name, refusal))
@@ -379,7 +379,7 @@ def run_net(net, files, schedule):
     return Ended(''.join(out), '', 0)
 
 
-def answer(words, read):
+def answer(words, read, chart_of=check_chart):
     """The answer of the command to the words after `net`, where `read` gives the bytes of a file."""
     known = rules.words_of(words, MOST_STEPS, MOST_STEPS)
     if known is None:
@@ -387,7 +387,7 @@ def answer(words, read):
     (name, schedule), depth, steps = known
     files = Files(read)
     try:
-        net = made_net(name, files, depth, steps)
+        net = made_net(name, files, depth, steps, chart_of)
     except Refused as refused:
         return Ended('', str(refused), 1)
     except OSError:

@@ -38,9 +38,9 @@ def measure(words, folder, output=os.devnull):
     return Used(wall, used.ru_utime + used.ru_stime, used.ru_maxrss / 1024, status)
 
 
-def measure_right(words, folder):
+def measure_right(words, folder, output=os.devnull):
     """What a run uses. One that doesn't end with status 0 ends the script."""
-    used = measure(words, folder)
+    used = measure(words, folder, output)
     if used.status != 0:
         sys.exit('%s ended with status %d' % (' '.join(words), used.status))
     return used

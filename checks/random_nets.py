@@ -5,12 +5,13 @@ r"""Random nets of charts over random schedules.
 
 A case is a net text with its chart files, a schedule, and the words of the command. The charts are taken of 400, which follow from
 the seed and a number each: most are made here, so that their events and data fit those of others, and one in four is of
-random_charts.py. One in forty is refused, and another one may have a fault at its start. The net text, the routes, the steps of the schedule, the files and the words have a fault in some
-of the cases. Most steps are chosen while the net runs, so that most items are taken, and some queues are full or empty.
+random_charts.py. One in forty is refused, and another one may have a fault at its start. The net text, the routes, the steps of
+the schedule, the files and the words have a fault in some of the cases. Most steps are chosen while the net runs, so that most
+items are taken, and some queues are full or empty.
 
-What nets.py says of the net up to the fault of its run must keep the law of nets, in one case in five: each chart has the trace that
-it has alone, by chart_rules.py, over the events that it was given; on each route, what was got is a front of what was sent; and
-what was sent are the values of the outputs that the chart emitted, once for each.
+In one case in five the run by which the steps were chosen must keep the law of nets: each chart has the trace that it has alone, by
+chart_rules.py, over the events that it was given; on each route what was got is a front of what was sent; and what was sent is a
+front of the values of the output that the chart emitted, one for each time.
 
 With `--against PROGRAM` the program does `net` with these words on these files, and its answer must be that of nets.py; and where
 the law is tried, `PROGRAM rules` must write the trace that each chart has alone.
@@ -64,7 +65,8 @@ def node_block(choices, emits, inputs, outputs, likely):
     """A block that emits and assigns, in any order."""
     made = ['emit %s;' % choices.choice(emits) for _ in range(choices.choice([0, 1, 1, 1, 2])) if choices.random() < likely]
     if outputs:
-        made += [node_assignment(choices, inputs, outputs) for _ in range(choices.choice([0, 1, 1, 2])) if choices.random() < likely]
+        made += [node_assignment(choices, inputs, outputs) for _ in range(choices.choice([0, 1, 1, 2]))
+                 if choices.random() < likely]
     choices.shuffle(made)
     return '{ %s }' % ' '.join(made)
 

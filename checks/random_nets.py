@@ -17,8 +17,8 @@ With `--against PROGRAM` the program does `net` with these words on these files,
 the law is tried, `PROGRAM rules` must write the trace that each chart has alone.
 
 A case follows from the seed and its own number alone, so `--first M` begins with case M. The program ends with status 1 where
-anything is wrong. It writes lines for each such case, keeps its files in FOLDER, which is `differences` where nothing is said, and
-writes how many of the cases had what."""
+anything is wrong. It writes lines for each such case, keeps its files and its words in FOLDER, which is `differences` where nothing
+is said, and writes how many of the cases had what."""
 import os
 import random
 import re
@@ -415,7 +415,7 @@ class Comparison:
             self.count(made.net)
             if number % ONE_IN == 0:
                 lines += list(law_lines(made.net)) + self.alone_lines(number, made)
-        self.differ(number, lines, made.files)
+        self.differ(number, lines, {**made.files, 'words': ' '.join(made.words).encode()})
 
     def count(self, net):
         """Counts what a net did in the run by which its schedule was chosen."""

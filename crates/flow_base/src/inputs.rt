@@ -11,6 +11,9 @@ use thiserror::Error;
 #[error("read or write fault")]
 pub struct Failed;
 
+/// The greatest number of bytes that one read asks for.
+pub(crate) const READ_SIZE: usize = 4_096;
+
 /// Files that are read by name. Each name has a count of its failed reads, which never falls; its
 /// greatest value is 2^64 - 1, and a count at this value is taken as one that rose.
 pub trait Inputs {

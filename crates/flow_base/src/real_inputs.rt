@@ -9,14 +9,11 @@ ghost use Rattle.flow_base.specs.Bytes.{ReadTakes};
 ghost use Rattle.flow_base.specs.Causes.{HasCause, OthersKept, NoneFalls, AllStay};
 ghost use Rattle.flow_base.specs.RealFiles as spec;
 
-use crate::inputs::{Failed, Inputs};
+use crate::inputs::{Failed, Inputs, READ_SIZE};
 use std::alloc::Global;
 use std::fs;
 use std::io::{self, Read};
 use std::rt::Files;
-
-/// The most bytes that one read gives.
-const PIECE_SIZE: usize = 4_096;
 
 /// Files of the system. A file is opened at the first read of its name and read once: later reads
 /// go on in it, and after its end each gives 0. One that can't be opened fails at each read.
@@ -56,7 +53,7 @@ fn source_of<F: Drop>(opened: io::Result<F>) -> Source<F>
     }
 }
 
-/// Reads the next bytes of a file to the front of the buffer, 4,096 at most.
+/// Reads the next bytes of a file to the front of the buffer, `READ_SIZE` at most.
 ///
 /// A read of the system that fails may have written into its buffer, so it gets one of its own.
 fn read_piece<F: Read>(file: &mut F, buf: &mut [u8]) -> Result<usize, Failed>
@@ -66,8 +63,8 @@ fn read_piece<F: Read>(file: &mut F, buf: &mut [u8]) -> Result<usize, Failed>
     // A file whose bytes are known gives its next ones, and none for a fault.
     ensures bytes { ReadConsumes (F.remaining file.old) (F.remaining file.new) result buf.new }
 {
-    let mut piece = [0u8; PIECE_SIZE];
-    let most = buf.len().min(PIECE_SIZE);
+    let mut piece = [0u8; READ_SIZE];
+    let most = buf.len().min(READ_SIZE);
     let Ok(count) = file.read(&mut piece[..most]) else {
         return Err(Failed);
     };

@@ -5,7 +5,7 @@ ghost use Rattle.std.specs.Io.KnownBytes.{prepend_known, IsAtEnd};
 ghost use Rattle.flow_base.specs.Bytes.{TakesAtMost};
 ghost use Rattle.flow_base.specs.Causes.{Rose, OthersKept, NoneFalls, AllStay};
 
-use crate::inputs::{Failed, Inputs};
+use crate::inputs::{Failed, Inputs, READ_SIZE};
 use std::alloc::{AllocError, Global};
 use thiserror::Error;
 
@@ -45,9 +45,6 @@ impl From<AllocError> for ReadEnd {
     }
 }
 
-/// The greatest number of bytes that one read is asked for.
-const PIECE_SIZE: usize = 4_096;
-
 /// Reads the rest of a file whole, where it has at most `limit` bytes. A longer file is refused
 /// once one byte past the limit was read. What was read before an error is lost.
 pub fn read_whole<I: Inputs>(
@@ -77,9 +74,9 @@ pub fn read_whole<I: Inputs>(
         → AllStay (I.faults inputs.old) (I.faults inputs.new)) }
 {
     let mut text = Vec::new(alloc);
-    let mut buffer = [0u8; PIECE_SIZE];
+    let mut buffer = [0u8; READ_SIZE];
     'pieces: while text.len() <= limit {
-        let most = (limit - text.len()).min(PIECE_SIZE - 1) + 1;
+        let most = (limit - text.len()).min(READ_SIZE - 1) + 1;
         let count = inputs.read(name, &mut buffer[..most])?;
         if count == 0 {
             return Ok(text);

@@ -6,8 +6,8 @@ ghost use Rattle.code_machine.specs.Engine.{halted};
 ghost use Rattle.code_machine.specs.Frames.{event_of, IsSmall};
 
 use crate::loaded::LoadedCode;
-use crate::making::{load, new_state};
-use crate::running::process;
+use crate::loading::making::{load, new_state};
+use crate::runs::running::process;
 use crate::state::MachineState;
 use actions::{Engine, Event, Halt, Value, View, store};
 use code_language::Code;

@@ -11,23 +11,22 @@
 //! out. Where a run takes many steps that change little, they are done at once: a call of a
 //! procedure that does nothing but return pushes no frame, and tests of states that aren't active
 //! and stand one after the other are passed over by one look-up.
+//!
+//! - `loaded` has the code as the machine keeps it, which no run changes; `state` has all that a run
+//!   changes but the top frame; `frames` says how the frames lie on the stack.
+//! - `loading` makes these, and alone takes memory.
+//! - `instructions` has what each instruction does, by kind, and knows of no other instruction but
+//!   `notes`, whose `Play` asks whether a state is bare.
+//! - `runs` has the step and the loop over the operations.
+//! - `engine` has the machine.
 #![tactic(auto)]
 
-mod calls;
-mod conditions;
-mod data;
 mod engine;
 mod frames;
-mod jumps;
+mod instructions;
 mod loaded;
-mod making;
-mod marking;
-mod notes;
-mod obeying;
-mod operations;
-mod passing;
-mod running;
-mod sends;
+mod loading;
+mod runs;
 mod state;
 
 pub use engine::Machine;

@@ -45,12 +45,12 @@ pub(crate) enum Move {
 /// Pays one step, or finds that none is left.
 #[tactic(auto, unfolding(actions::specs::Changes::paid_in))]
 #[inline(always)]
-pub(crate) fn pay(bounds: Bounds, m: &mut MachineState) -> bool
-    ensures paid { Paid (paid_in bounds (world_of m.old)) result m.old m.new }
-    ensures used { result ≡ true → (m.new.used ≡ m.old.used + 1) × (m.new.used ≤ bounds.steps) }
+pub(crate) fn pay(bounds: Bounds, machine: &mut MachineState) -> bool
+    ensures paid { Paid (paid_in bounds (world_of machine.old)) result machine.old machine.new }
+    ensures used { result ≡ true → (machine.new.used ≡ machine.old.used + 1) × (machine.new.used ≤ bounds.steps) }
 {
-    if m.used < bounds.steps {
-        m.used += 1;
+    if machine.used < bounds.steps {
+        machine.used += 1;
         true
     } else {
         false

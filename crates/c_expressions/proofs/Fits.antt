@@ -1,0 +1,113 @@
+-- Numbers of a size have room in the types that are chosen for them.
+use Rattle.std.proofs.Common.{◌≡◌, ℕ, ◌+◌, ◌-◌, ◌^◌, ◌<◌, ◌≤◌, nat_lt, nat_le, ℤ, unsigned_abs, Bool, true, false, cond, refl, ap, ◌∙◌, arith}
+use Rattle.std.proofs.lemmas.Nat.{pow-add, pow_pos}
+use Rattle.std.proofs.lemmas.Int.{ints}
+use Rattle.std.proofs.lemmas.Bool.{ltb-false}
+use Rattle.std.proofs.lemmas.Bool.Decides.{nat_tests}
+use Rattle.fixed_point.proofs.Powers.{power-le}
+use Rattle.c_subset.specs.Trees.{Width, W8, W16, W32, W64, W128, CType, Signed}
+use Rattle.c_subset.specs.Meaning.{bits, fits_signed, Wrong, gives, as_signed, promoted, common_of, common, one_if, is_true}
+use Rattle.c_expressions.specs.Translation.{width_for}
+
+-- a number of a size fits a signed type of two bits more
+fits : (n size : ℕ) (z : ℤ) → size + 1 < n → unsigned_abs z ≤ 2 ^ size → fits_signed n z ≡ true
+fits n size z room small =
+    let wider = power-le (size + 1) (n - 1) (omega arith) in
+    let twice = pow-add 2 size 1 in
+    let some = pow_pos size in
+    let room' : 2 ^ size < 2 ^ (n - 1) = omega (arith, wider, twice, some) in
+    grind (arith, ints)
+
+-- so it is brought to that type as it is
+pub signed-stays : (w : Width) (size : ℕ) (z : ℤ) → size + 1 < bits w → unsigned_abs z ≤ 2 ^ size
+    → as_signed w z ≡ gives (Signed w) z
+signed-stays w size z room small =
+    ap (λ (b : Bool). cond b (gives (Signed w) z) Wrong) (fits (bits w) size z room small)
+
+-- the type that is chosen for a size has room for it
+pub width_for-room : (size : ℕ) → size ≤ 100 → size + 1 < bits (width_for size)
+width_for-room size most = at (nat_le size 30) (nat_le size 62) refl refl
+  where
+    at : (few some : Bool) → nat_le size 30 ≡ few → nat_le size 62 ≡ some
+        → size + 1 < bits (cond few W32 (cond some W64 W128))
+    at true some e f = let h : size ≤ 30 = grind (arith, nat_tests) in omega arith
+    at false true e f = let h : size ≤ 62 = grind (arith, nat_tests) in omega arith
+    at false false e f = omega arith
+
+-- a signed type that is promoted
+pub record IsPromoted (int w : Width) : Type 0 where
+  pub to : Width
+  pub is : promoted int (Signed w) ≡ Signed to
+  pub wider : bits w ≤ bits to
+
+-- is a signed type at least as wide
+pub promoted-signed : (int w : Width) → IsPromoted int w
+promoted-signed int w = at (nat_lt (bits w) (bits int)) refl
+  where
+    at : (b : Bool) → nat_lt (bits w) (bits int) ≡ b → IsPromoted int w
+    at true e = record {
+      to = int;
+      is = ap (λ (b : Bool). cond b (Signed int) (Signed w)) e;
+      wider = grind (arith, nat_tests);
+    }
+    at false e = record {
+      to = w;
+      is = ap (λ (b : Bool). cond b (Signed int) (Signed w)) e;
+      wider = omega arith;
+    }
+
+-- the common type of values of two signed types
+pub record IsCommon (t : CType) (a b : Width) : Type 0 where
+  pub to : Width
+  pub is : t ≡ Signed to
+  pub left : bits a ≤ bits to
+  pub right : bits b ≤ bits to
+
+-- of two signed types it is the wider
+common-wider : (a b : Width) → IsCommon (common_of (Signed a) (Signed b)) a b
+common-wider a b = at (nat_lt (bits a) (bits b)) refl
+  where
+    at : (c : Bool) → nat_lt (bits a) (bits b) ≡ c → IsCommon (common_of (Signed a) (Signed b)) a b
+    at true e = record {
+      to = b;
+      is = ap (λ (c : Bool). cond c (Signed b) (Signed a)) e;
+      left = grind (arith, nat_tests);
+      right = omega arith;
+    }
+    at false e = record {
+      to = a;
+      is = ap (λ (c : Bool). cond c (Signed b) (Signed a)) e;
+      left = omega arith;
+      right = ltb-false (bits a) (bits b) e;
+    }
+
+-- so it is at least as wide after promotion
+pub common-signed : (int a b : Width) → IsCommon (common int (Signed a) (Signed b)) a b
+common-signed int a b =
+    let p = promoted-signed int a in
+    let q = promoted-signed int b in
+    let c = common-wider p.to q.to in
+    record {
+      to = c.to;
+      is = ap (λ (t : CType). common_of t (promoted int (Signed b))) p.is ∙ ap (λ (t : CType). common_of (Signed p.to) t) q.is ∙ c.is;
+      left = omega (arith, p.wider, c.left);
+      right = omega (arith, q.wider, c.right);
+    }
+
+-- 0 and 1 fit every signed type
+pub one-stays : (w : Width) (b : Bool) → as_signed w (one_if b) ≡ gives (Signed w) (one_if b)
+one-stays W8 true = refl
+one-stays W8 false = refl
+one-stays W16 true = refl
+one-stays W16 false = refl
+one-stays W32 true = refl
+one-stays W32 false = refl
+one-stays W64 true = refl
+one-stays W64 false = refl
+one-stays W128 true = refl
+one-stays W128 false = refl
+
+-- a truth value is true where it was
+pub truth-stays : (b : Bool) → is_true (one_if b) ≡ b
+truth-stays true = refl
+truth-stays false = refl

@@ -1,0 +1,14 @@
+pub mod Fits
+pub mod Operators
+pub mod Numbers
+pub mod Applied
+pub mod Running
+pub mod Quotients
+pub mod Deciding
+pub mod Correct
+pub mod Storing
+pub mod Fields
+pub mod Wraps
+pub mod SignedWraps
+pub mod Kept
+pub mod Assigned

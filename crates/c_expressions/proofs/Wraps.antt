@@ -1,0 +1,76 @@
+-- Numbers modulo a power of two.
+use Rattle.std.proofs.Common.{◌≡◌, ℕ, suc, ◌+◌, ◌-◌, ◌*◌, ◌/◌, ◌%◌, ◌^◌, ◌<◌, ◌≤◌, ℤ, pos, negsuc, ◌+ℤ◌, ◌-ℤ◌, neg_ℤ, unsigned_abs, Bool, false, cond, refl, sym, ap, ◌∙◌, arith, mod-lt}
+use Rattle.std.proofs.lemmas.Int.{ints, int_rem_euclid_is}
+use Rattle.std.proofs.lemmas.Nat.{pow_pos, pow-add, mul-le, mod-pow-add, mod-mul-add}
+use Rattle.std.specs.Int.{int_rem_euclid}
+use Rattle.fixed_point.specs.Scales.{wrapped}
+use Rattle.fixed_point.specs.declared.scale.Scale.{Scale}
+use Rattle.c_subset.specs.Trees.{Width, W8, W16, W32, W64, W128, CType, Unsigned, CExpr}
+use Rattle.c_subset.specs.Meaning.{bits, CValue, Meaning, with_meaning, gives, converted, masked, low_bits, promoted, Store, Locals, meaning}
+use Rattle.c_expressions.specs.Storing.{low_bits_c}
+use Rattle.c_expressions.specs.Claims.{Has}
+
+-- a multiple of n that lifts z to a natural number
+pub lifted : (z : ℤ) (n : ℕ) → 0 < n → (m : ℕ) × (z +ℤ pos (unsigned_abs z * n) ≡ pos m)
+lifted (pos a) n some = (a + a * n, refl)
+lifted (negsuc a) n some =
+    let h = mul-le (suc a) 1 (suc a) n (omega arith) some in (suc a * n - suc a, omega (arith, ints))
+
+-- the low bits of low bits
+low-low : (m k j : ℕ) → k ≤ j → m % 2 ^ j % 2 ^ k ≡ m % 2 ^ k
+low-low m k j within =
+    let parts : j ≡ (j - k) + k = omega arith in
+    let some = pow_pos k in
+    let below : m % 2 ^ k < 2 ^ k = mod-lt m some in
+    ap (λ (x : ℕ). m % 2 ^ x % 2 ^ k) parts ∙ ap (λ (x : ℕ). x % 2 ^ k) (mod-pow-add m (j - k) k)
+    ∙ mod-mul-add (m / 2 ^ k % 2 ^ (j - k)) (2 ^ k) (m % 2 ^ k) below
+
+-- a remainder of a remainder
+pub rem-rem : (z : ℤ) (k j : ℕ) → k ≤ j
+    → int_rem_euclid (int_rem_euclid z (pos (2 ^ j))) (pos (2 ^ k)) ≡ int_rem_euclid z (pos (2 ^ k))
+rem-rem z k j within =
+    let up = lifted z (2 ^ j) (pow_pos j) in
+    let split : 2 ^ j ≡ 2 ^ (j - k) * 2 ^ k =
+    let parts : j ≡ (j - k) + k = omega arith in ap (λ (x : ℕ). 2 ^ x) parts ∙ pow-add 2 (j - k) k in
+    let count : unsigned_abs z * 2 ^ j ≡ (unsigned_abs z * 2 ^ (j - k)) * 2 ^ k =
+    ap (λ (x : ℕ). unsigned_abs z * x) split ∙ omega arith in
+    let first = int_rem_euclid_is z (pos (2 ^ j)) (2 ^ j) (unsigned_abs z) up.0 (pow_pos j) refl up.1 in
+    let second = int_rem_euclid_is z (pos (2 ^ k)) (2 ^ k) (unsigned_abs z * 2 ^ (j - k)) up.0 (pow_pos k) refl
+    (ap (λ (x : ℕ). z +ℤ pos x) (sym count) ∙ up.1) in
+    ap (λ (y : ℤ). int_rem_euclid y (pos (2 ^ k))) first ∙ ap pos (low-low up.0 k j within) ∙ sym second
+
+-- ---- (uint64_t)x & MASK
+
+-- uint64_t isn't promoted, where int has at most 64 bits
+pub stays_unsigned : (int : Width) → bits int ≤ 64 → promoted int (Unsigned W64) ≡ Unsigned W64
+stays_unsigned W8 most = refl
+stays_unsigned W16 most = refl
+stays_unsigned W32 most = refl
+stays_unsigned W64 most = refl
+stays_unsigned W128 most = absurd (omega arith)
+
+pub low_bits-is : (int : Width) (s : Store) (l : Locals) (scale : Scale) (x : CExpr) (z : ℤ) → bits int ≤ 64
+    → Has int s l x z → meaning int s l (low_bits_c scale x) ≡ gives (Unsigned W64) (int_rem_euclid z (pos (2 ^ scale.width)))
+unfolding meaning
+low_bits-is int s l scale x z most has =
+    let u = int_rem_euclid z (pos (2 ^ 64)) in
+    let k = scale.width in
+    let v : CValue = record { type = Unsigned W64; value = u } in
+    ap (λ (m : Meaning). with_meaning (with_meaning m (λ x. converted (Unsigned W64) x.value)) (masked int k)) has.1
+    ∙ ap (λ (t : CType). with_meaning (converted t u) (λ a. low_bits k t a.value)) (stays_unsigned int most)
+    ∙ ap (gives (Unsigned W64)) (rem-rem u k 64 scale.bits_within ∙ rem-rem z k 64 scale.bits_within)
+
+-- of an unsigned scale that is what wrapping keeps
+pub wrapped-unsigned : (scale : Scale) (z : ℤ) → scale.signed ≡ false
+    → wrapped scale z ≡ int_rem_euclid z (pos (2 ^ scale.width))
+wrapped-unsigned scale z is =
+    ap (λ (b : Bool). cond b (neg_ℤ (pos (2 ^ (scale.width - 1)))) (pos 0)
+    +ℤ int_rem_euclid (z -ℤ cond b (neg_ℤ (pos (2 ^ (scale.width - 1)))) (pos 0)) (pos (2 ^ scale.width))) is
+    ∙ plus_nothing (int_rem_euclid (z -ℤ pos 0) (pos (2 ^ scale.width)))
+    ∙ ap (λ (y : ℤ). int_rem_euclid y (pos (2 ^ scale.width))) (less_nothing z)
+  where
+    plus_nothing : (y : ℤ) → pos 0 +ℤ y ≡ y
+    plus_nothing y = omega (arith, ints)
+
+    less_nothing : (y : ℤ) → y -ℤ pos 0 ≡ y
+    less_nothing y = omega (arith, ints)

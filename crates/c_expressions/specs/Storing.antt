@@ -1,0 +1,117 @@
+-- Which C brings a number to the scale of a datum and stores it.
+use Rattle.std.specs.Prelude.{◌≡◌, Some, Result, Ok, is_err, ℕ, ◌+◌, ◌-◌, ◌^◌, nat_le, max, ℤ, pos, Bool, not, ◌||◌, if◌then◌else◌}
+use Rattle.fixed_point.specs.declared.num.Num.{Num}
+use Rattle.fixed_point.specs.declared.scale.Scale.{Scale}
+use Rattle.fixed_point.specs.Numbers.{floored}
+use Rattle.fixed_point.specs.declared.fitting.Mode.{Mode}
+use Rattle.fixed_point.specs.declared.fitting.Mode.TheVariants.{Saturate, Wrap, Error}
+use Rattle.fixed_point.specs.declared.fitting.Overflow.{Overflow}
+use Rattle.c_subset.specs.Meaning.{Store, Locals, Goes, ending, one_if}
+use Rattle.c_expressions.specs.Claims.{Has}
+use Rattle.fixed_point.specs.Scales.{least, greatest}
+use Rattle.actions.specs.Sorts.{size_at, magnitude_bits}
+use Rattle.c_subset.specs.Trees.{Width, Signed, Unsigned, Truth, W64, Less, IsBelow, IsAtMost, IsAbove}
+use Rattle.c_subset.specs.Trees.{CExpr, Const, Local, Cast, Minus, Calc, Compare, Either, Choose, DivFloor, Low}
+use Rattle.c_subset.specs.Trees.{CCode, Then, Set}
+use Rattle.c_expressions.specs.Translation.{Flat, width_for, brought}
+
+-- ---- at the datum's fraction
+
+-- the width in which a number of that fraction and size is brought to fraction t
+abbrev pub floored_width : ℕ → ℕ → ℕ → Width
+floored_width frac size t = width_for (max (size_at t frac size) (frac - t))
+
+-- the number at fraction t, by floor
+abbrev pub floored_c : ℕ → ℕ → ℕ → CExpr → CExpr
+floored_c frac size t e = let w = floored_width frac size t in
+    if nat_le frac t then brought w (t - frac) e else DivFloor w (Cast (Signed w) e) (Const (Signed w) (pos (2 ^ (frac - t))))
+
+-- ---- ends of the range; an end that no number of the size passes isn't tested, and need not fit the type
+
+-- numbers of the size can pass the upper end, and the lower one of a signed scale
+abbrev pub can_pass : Scale → ℕ → Bool
+can_pass scale size = nat_le (magnitude_bits scale) size
+
+abbrev pub can_pass_low : Scale → ℕ → Bool
+can_pass_low scale size = not scale.signed || can_pass scale size
+
+abbrev pub low_c : Scale → Width → CExpr
+low_c scale w = Const (Signed w) (least scale)
+
+abbrev pub high_c : Scale → Width → CExpr
+high_c scale w = Const (Signed w) (greatest scale)
+
+abbrev pub below_c : Scale → Width → CExpr → CExpr
+below_c scale w x = Compare IsBelow x (low_c scale w)
+
+abbrev pub above_c : Scale → Width → CExpr → CExpr
+above_c scale w x = Compare IsAbove x (high_c scale w)
+
+-- the nearest number in range of a number x of that size, which lies in type w
+abbrev pub saturated_c : Scale → ℕ → Width → CExpr → CExpr
+saturated_c scale size w x =
+    let upper = if can_pass scale size then Choose (above_c scale w x) (high_c scale w) x else x in
+    if can_pass_low scale size then Choose (below_c scale w x) (low_c scale w) upper else upper
+
+-- the number is out of range: the test before an overflow
+abbrev pub out_c : Scale → ℕ → Width → CExpr → CExpr
+out_c scale size w x =
+    if can_pass_low scale size
+    then (if can_pass scale size then Either (below_c scale w x) (above_c scale w x) else below_c scale w x)
+    else (if can_pass scale size then above_c scale w x else Const Truth (pos 0))
+
+-- ---- modulo 2 ^ width
+
+-- (uint64_t)x & MASK
+abbrev pub low_bits_c : Scale → CExpr → CExpr
+low_bits_c scale x = Low scale.width (Cast (Unsigned W64) x)
+
+-- the number of a signed scale whose low bits are u, an unsigned number below 2 ^ width: u itself, or for the upper half
+-- -(MASK - u) - 1, which no step takes out of int64_t
+abbrev pub signed_c : Scale → CExpr → CExpr
+signed_c scale u =
+    Choose (Compare IsAtMost u (Const (Unsigned W64) (pos (2 ^ (scale.width - 1) - 1)))) (Cast (Signed W64) u)
+    (Calc Less (Minus (Cast (Signed W64) (Calc Less (Const (Unsigned W64) (pos (2 ^ scale.width - 1))) u))) (Const (Signed W64) (pos 1)))
+
+-- ---- an assignment of a number
+
+-- code, then a test that is true exactly where the number overflows, and then what the field takes
+pub record Stores : Type 0 where
+  pub code : CCode
+  pub overflow : CExpr
+  pub kept : CExpr
+
+-- the number that the expression gives, at the datum's fraction, as the next local
+abbrev pub brought_code : ℕ → ℕ → Scale → Flat → CCode
+brought_code frac size scale x =
+    Then x.code (Set x.next (Signed (floored_width frac size scale.frac)) (floored_c frac size scale.frac x.expr))
+
+-- The C that stores a number of that fraction and size, by the mode of the datum
+abbrev pub stored_c : ℕ → ℕ → Scale → Mode → Flat → Stores
+stored_c frac size scale Saturate x = record {
+  code = brought_code frac size scale x;
+  overflow = Const Truth (pos 0);
+  kept = saturated_c scale (size_at scale.frac frac size) (floored_width frac size scale.frac) (Local x.next);
+}
+stored_c frac size scale Error x = record {
+  code = brought_code frac size scale x;
+  overflow = out_c scale (size_at scale.frac frac size) (floored_width frac size scale.frac) (Local x.next);
+  kept = Local x.next;
+}
+stored_c frac size scale Wrap x = record {
+  code = Then (brought_code frac size scale x) (Set (x.next + 1) (Unsigned W64) (low_bits_c scale (Local x.next)));
+  overflow = Const Truth (pos 0);
+  kept = if scale.signed then signed_c scale (Local (x.next + 1)) else Local (x.next + 1);
+}
+
+-- ---- claims
+
+-- the code goes on, the test is true where nothing can be kept, and else the field takes what is kept, as it is
+abbrev pub StoresAs : Width → Store → Locals → Scale → Stores → Result ℤ Overflow → Type 0
+StoresAs int s l scale c r = (after : Locals) × (ending int s l c.code ≡ Goes after)
+    × Has int s after c.overflow (one_if (is_err r)) × ((m : ℤ) → r ≡ Ok m → Has int s after c.kept m)
+
+-- the local has the number at the datum's fraction
+abbrev pub IsBrought : Locals → ℕ → Num → ℕ → Scale → Type 0
+IsBrought l k n size scale =
+    l k ≡ Some (record { type = Signed (floored_width n.frac size scale.frac); value = floored n scale.frac })

@@ -1,0 +1,152 @@
+-- How the C program stands to a run of code.
+use Rattle.std.specs.Prelude.{◌≡◌, ◌≢◌, ◌≤◌, ◌++◌, ℕ, zero, suc, List, [], ◌∷◌, length, drop, Option, Some, None, Result, Ok, Err, Bool}
+use Rattle.flow_base.specs.declared.fault.Fault.{Fault}
+use Rattle.flow_base.specs.declared.bounds.Bounds.{Bounds}
+use Rattle.std.specs.Prelude.{◌==◌, ◌&&◌, map, slice_index_or}
+use Rattle.std.specs.List.{find, range_with_len}
+use Rattle.active_config.specs.Tree.{Tree, state_count, is_child}
+use Rattle.active_config.specs.Marks.{Configuration, IsConsistent}
+use Rattle.actions.specs.declared.event.Event.{Event}
+use Rattle.actions.specs.Exprs.{Expr}
+use Rattle.actions.specs.World.{World}
+use Rattle.actions.specs.Changes.{truth_of, assigned_in}
+use Rattle.actions.specs.Work.{Now}
+use Rattle.code_language.specs.Code.{Procedures, instructions}
+use Rattle.code_language.specs.Instrs.{Instr}
+use Rattle.code_language.specs.Machine.{Program, Frame, Machine, machine, returned, later, step, Stops}
+use Rattle.code_language.specs.Reactions.{Leads, first_frame}
+use Rattle.actions.specs.Runs.{Moment}
+use Rattle.code_simulation.specs.Reach.{Reaches, Falls, with_note, pending}
+use Rattle.c_procedures.specs.States.{States, Shows, c_on}
+use Rattle.c_procedures.specs.Statements.{Memory, Locals, Block, Out, Fell, Left, Failed, Starved, Wrong}
+use Rattle.c_procedures.specs.Meaning.{Sums, CProgram, Calls, begins}
+
+-- the memory stands for a world
+pub record Stands (t : Tree) (n : ℕ → ℕ) (m : Memory) (w : World) : Type 0 where
+  pub states : Shows t n m.states w.marks
+  pub consistent : IsConsistent t w.marks
+  pub vals : m.vals ≡ w.vals
+  pub outputs : m.outputs ≡ w.outputs
+  pub used : m.used ≡ w.used
+
+-- after a store
+abbrev pub Stored : Tree → (ℕ → ℕ) → Memory → Result Memory Fault → Result World Fault → Type 0
+Stored t n m (Ok v) (Ok w) = Stands t n v w × (v.notes ≡ m.notes)
+Stored t n m (Err x) (Err y) = x ≡ y
+Stored t n m (Ok v) (Err y) = ⊥
+Stored t n m (Err x) (Ok w) = ⊥
+
+-- the arithmetic of C agrees with that of code
+pub record Agree (t : Tree) (n : ℕ → ℕ) (sums : Sums) : Type 0 where
+  pub truth : (x : Expr) (m : Memory) (w : World) → Stands t n m w → sums.truth x m ≡ truth_of x w
+  pub store : (v : ℕ) (x : Expr) (m : Memory) (w : World) → Stands t n m w → Stored t n m (sums.store v x m) (assigned_in v x w)
+
+-- The function stands where the top frame is: these instructions follow; memory stands for the world, its notes are
+-- those of the frames; home and last result are the frame's and the machine's; `base` says how many notes lie up to the
+-- frame's base, and the later of `cursor` and `base` how many lie below those that `Play` may still find. The frame has this note and this saved event.
+pub record IsAt (t : Tree) (n : ℕ → ℕ) (k : Procedures) (note : Option ℕ) (saved : Option Event) (xs : List Instr) (m : Memory)
+    (l : Locals) (w : World) (r : ℕ) (f : Frame) (fs : List Frame) : Type 0 where
+  pub code : drop f.place (instructions k f.proc) ≡ xs
+  pub stands : Stands t n m w
+  pub notes : m.notes ≡ pending 0 (f ∷ fs)
+  pub note_is : f.note ≡ note
+  pub saved_is : f.saved ≡ saved
+  pub home : l.home ≡ f.home
+  pub result : l.result ≡ r
+  pub within : f.base ≤ length fs
+  pub base : l.base ≤ length m.notes
+  pub above_base : drop l.base m.notes ≡ pending (suc f.base) (f ∷ fs)
+  pub cursor : l.cursor ≤ length m.notes
+  pub above_cursor : drop (later l.cursor l.base) m.notes ≡ pending (later f.cursor (suc f.base)) (f ∷ fs)
+
+-- code comes to a place where no instruction stands, which well-formed code never does
+pub record Stuck (C : Program) (start : Machine) : Type 0 where
+  pub last : Machine
+  pub reached : Reaches C start last
+  pub frames : last.frames ≢ []
+  pub stops : step C last ≡ Stops last.world None
+
+module _ (C : Program) (n : ℕ → ℕ) (now : Now) (note : Option ℕ) (saved : Option Event) (fs : List Frame) where
+  -- statements that fell through: code comes from the start to where these instructions follow
+  pub record Passed (start : Machine) (ys : List Instr) (m : Memory) (l : Locals) : Type 0 where
+    pub world : World
+    pub result : ℕ
+    pub frame : Frame
+    pub at : IsAt C.tree n C.procedures note saved ys m l world result frame fs
+    pub reached : Reaches C start (machine world now result (frame ∷ fs))
+
+  -- a function that returned: the frame returns with the same result, and the notes are what they were
+  pub record Returned (start : Machine) (m : Memory) (r : ℕ) : Type 0 where
+    pub world : World
+    pub stands : Stands C.tree n m world
+    pub notes : m.notes ≡ pending 0 fs ++ with_note note []
+    pub reached : Reaches C start (returned world now r saved fs)
+
+  -- a function that failed: code ends with the same fault
+  pub record Lost (start : Machine) (m : Memory) (x : Fault) : Type 0 where
+    pub world : World
+    pub stands : Stands C.tree n m world
+    pub falls : Falls C start world x
+
+  -- code does what statements did, from a start
+  abbrev pub Does : Machine → List Instr → Out → Type 0
+  Does start ys (Fell m l) = Passed start ys m l
+  Does start ys (Left m r) = Returned start m r
+  Does start ys (Failed m x) = Lost start m x
+  Does start ys Starved = Unit {0}
+  Does start ys Wrong = Stuck C start
+
+  -- code does what a function did
+  abbrev pub DoesCall : Machine → Out → Type 0
+  DoesCall start (Fell m l) = ⊥
+  DoesCall start (Left m r) = Returned start m r
+  DoesCall start (Failed m x) = Lost start m x
+  DoesCall start Starved = Unit {0}
+  DoesCall start Wrong = Stuck C start
+
+-- calls do what a frame of the procedure does
+abbrev pub CallsDo : Program → (ℕ → ℕ) → Calls → Type 0
+CallsDo C n call = (p base home r : ℕ) (now : Now) (note : Option ℕ) (saved : Option Event) (m : Memory) (w : World)
+    (f : Frame) (fs : List Frame) → f.proc ≡ p → f.place ≡ 0
+    → IsAt C.tree n C.procedures note saved (instructions C.procedures p) m (begins base home r) w r f fs
+    → DoesCall C n now note saved fs (machine w now r (f ∷ fs)) (call p now base home r m)
+
+-- how a call from outside ends, and how code ends: the memory stands for the world of the moment, which has the same
+-- fault or none
+pub record EndsAs (t : Tree) (n : ℕ → ℕ) (m : Memory) (x : Option Fault) (moment : Moment) : Type 0 where
+  pub stands : Stands t n m moment.world
+  pub fault : moment.fault ≡ x
+
+-- a call from outside that ended, and where code leads
+pub record IsMoment (C : Program) (n : ℕ → ℕ) (start : Machine) (m : Memory) (x : Option Fault) : Type 0 where
+  pub moment : Moment
+  pub leads : Leads C start moment
+  pub ends : EndsAs C.tree n m x moment
+
+-- code ends as a call from outside; of one that is starved nothing is said
+abbrev pub EndsWith : Program → (ℕ → ℕ) → Machine → Out → Type 0
+EndsWith C n start (Fell m l) = ⊥
+EndsWith C n start (Left m r) = IsMoment C n start m None
+EndsWith C n start (Failed m x) = IsMoment C n start m (Some x)
+EndsWith C n start Starved = Unit {0}
+EndsWith C n start Wrong = Stuck C start
+
+-- the marks that fields tell
+unfoldable pub told : Tree → (ℕ → ℕ) → States → Configuration
+told t n st = record {
+  flags = map (λ s. c_on t n s st) (range_with_len 0 (state_count t));
+  last = map (λ p. find (λ x. is_child t p x && (n x == slice_index_or st.kept p 0)) (range_with_len 0 (state_count t))) (range_with_len 0 (state_count t));
+}
+
+-- the world that memory tells
+abbrev pub world_of : Tree → (ℕ → ℕ) → Memory → World
+world_of t n m = record { marks = told t n m.states; vals = m.vals; outputs = m.outputs; used = m.used }
+
+-- memory with the data of a world, where there is one
+abbrev pub with_vals : Memory → Result World Fault → Result Memory Fault
+with_vals m (Ok w) = Ok (record m { vals = w.vals })
+with_vals m (Err x) = Err x
+
+-- the arithmetic of code, on the world that memory tells: it agrees with itself
+abbrev pub own_sums : Tree → (ℕ → ℕ) → Sums
+own_sums t n = record { truth = λ x m. truth_of x (world_of t n m); store = λ v x m. with_vals m (assigned_in v x (world_of t n m)) }

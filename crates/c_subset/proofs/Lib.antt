@@ -1,2 +1,3 @@
-pub mod Samples
+pub mod TypeLemmas
 pub mod FloorBody
+pub mod FloorCalls

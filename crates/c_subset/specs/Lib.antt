@@ -1,3 +1,4 @@
 pub mod Trees
 pub mod Meaning
+pub mod Running
 pub mod Helpers

@@ -1,3 +1,4 @@
 pub mod TypeLemmas
 pub mod FloorBody
 pub mod FloorCalls
+pub mod Unset

@@ -1,5 +1,5 @@
 -- The whole C of an assignment of a number.
-use Rattle.std.proofs.Common.{◌≡◌, ℕ, ◌+◌, ◌%◌, ◌^◌, ◌<◌, ◌≤◌, ℤ, pos, unsigned_abs, Bool, true, false, cond, Some, None, Ok, is_err, nat_lt, List, refl, sym, ap, ◌∙◌, subst, arith, mod-lt, mod-eq_of_lt}
+use Rattle.std.proofs.Common.{◌≡◌, ℕ, ◌+◌, ◌%◌, ◌^◌, ◌<◌, ◌≤◌, ℤ, pos, unsigned_abs, Bool, true, false, cond, Some, None, Result, Ok, Err, is_err, nat_lt, List, refl, sym, ap, ◌∙◌, subst, arith, mod-lt, mod-eq_of_lt}
 use Rattle.std.proofs.lemmas.Int.{int_rem_euclid_is}
 use Rattle.std.proofs.lemmas.Nat.{pow_pos}
 use Rattle.std.specs.Int.{int_rem_euclid}
@@ -23,18 +23,21 @@ use Rattle.actions.specs.Sorts.{size_at, sort_of, assignment_fault, IsNarrow}
 use Rattle.actions.specs.Values.{Valued, HasSort, value_of, scope_at}
 use Rattle.actions.proofs.NarrowLemmas.{sort_of-narrow}
 use Rattle.c_expressions.specs.Translation.{flat}
-use Rattle.c_expressions.specs.Claims.{ShowsData}
+use Rattle.c_expressions.specs.Claims.{ShowsData, ShowsActive}
 use Rattle.c_expressions.proofs.Correct.{ends_as_value, value_has_sort}
-use Rattle.c_subset.specs.Trees.{Width, W64, Signed, Unsigned, Truth, Const, Local}
-use Rattle.c_subset.specs.Meaning.{bits, CValue, gives, converted, one_if, read, Store, Locals, meaning, Goes, with_local, ending}
+use Rattle.flow_base.specs.declared.fault.Fault.TheVariants.{Overflow as Overflows}
+use Rattle.fixed_point.specs.declared.fitting.Overflow.{Overflow}
+use Rattle.c_subset.specs.Trees.{Width, W64, CType, Signed, Unsigned, CExpr, Local}
+use Rattle.c_subset.specs.Meaning.{bits, gives, converted, one_if, read_as, Store, Locals, meaning}
+use Rattle.c_subset.specs.Running.{with_local}
+use Rattle.c_expressions.specs.Code.{Goes, Faults, ending}
 use Rattle.c_expressions.specs.Translation.{Flat}
-use Rattle.c_expressions.specs.Storing.{floored_width, floored_c, low_bits_c, signed_c, brought_code, stored_c, StoresAs, IsBrought}
+use Rattle.c_expressions.specs.Storing.{floored_width, out_c, low_bits_c, signed_c, brought_code, brought_local, stored_c, StoresAs, IsBrought}
 use Rattle.c_expressions.specs.Claims.{Has, EndsAs}
-use Rattle.c_expressions.proofs.Fits.{signed-stays}
-use Rattle.c_expressions.proofs.Running.{agree-itself, set-there, then-goes}
-use Rattle.c_expressions.proofs.Quotients.{set-goes, local-has}
-use Rattle.c_expressions.proofs.Storing.{floored-has, floored-small, flag-const}
-use Rattle.c_expressions.proofs.Fields.{room-there, saturates, overflows}
+use Rattle.c_expressions.proofs.Running.{agree-itself, set-there, then-goes, then-ends}
+use Rattle.c_expressions.proofs.Quotients.{set-goes, local-has, fault_if-ends}
+use Rattle.c_expressions.proofs.Storing.{floored-goes}
+use Rattle.c_expressions.proofs.Fields.{saturates, overflows}
 use Rattle.c_expressions.proofs.Wraps.{lifted, low_bits-is, wrapped-unsigned}
 use Rattle.c_expressions.proofs.Kept.{kept-wrapped, wraps-signed}
 
@@ -49,9 +52,9 @@ low-stays z k few =
     ap (gives (Unsigned W64)) (ap (λ (y : ℤ). int_rem_euclid y (pos (2 ^ 64))) is ∙ ap pos (mod-eq_of_lt below) ∙ sym is)
 
 -- a local has its own type
-local-means : (int : Width) (s : Store) (l : Locals) (k : ℕ) (x : CValue) → l k ≡ Some x → meaning int s l (Local k) ≡ gives x.type x.value
+local-means : (int : Width) (s : Store) (l : Locals) (t : CType) (k : ℕ) (z : ℤ) → l t k ≡ Some z → meaning int s l (Local t k) ≡ gives t z
 unfolding meaning
-local-means int s l k x there = ap read there
+local-means int s l t k z there = ap (read_as t) there
 
 -- nothing overflows where the nearest end or the wrapped number is kept
 no_overflow : (n : Num) (scale : Scale) (mode : Mode) (m : ℤ) → by_mode mode scale (floored n scale.frac) ≡ Ok m
@@ -82,61 +85,82 @@ brings : (int : Width) (s : Store) (l : Locals) (n : ℕ) (size : ℕ) (scale : 
     → unsigned_abs v.mantissa ≤ 2 ^ size → size_at scale.frac v.frac size ≤ 100
     → EndsAs int s n x l (Ok (values.Number v)) → Brought int s l n size scale x v
 brings int s l n size scale x v few small most ends =
-    let w = floored_width v.frac size scale.frac in
+    let t = Signed (floored_width v.frac size scale.frac) in
     let z = floored v scale.frac in
-    let number : CValue = record { type = Signed w; value = z } in
     record {
-      after = with_local ends.0 x.next number;
-      goes = then-goes int s l ends.0 (with_local ends.0 x.next number) x.code _ ends.1
-          (set-goes int s ends.0 x.next (Signed w) (floored_c v.frac size scale.frac x.expr) z z
-          (floored-has int s ends.0 v size scale.frac x.expr few small most (ends.3 ends.0 (agree-itself x.next ends.0)))
-          (signed-stays w (size_at scale.frac v.frac size) z (room-there v size scale few most) (floored-small v size scale.frac small)));
-      there = set-there ends.0 x.next number;
+      after = with_local ends.0 t x.next z;
+      goes = then-goes int s l ends.0 (with_local ends.0 t x.next z) x.code _ ends.1
+          (floored-goes int s ends.0 v x.next size scale.frac x.expr few small most (ends.3 ends.0 (agree-itself x.next ends.0)));
+      there = set-there ends.0 t x.next z;
     }
 
-pub stores : (int : Width) (s : Store) (l : Locals) (n : ℕ) (size : ℕ) (scale : Scale) (mode : Mode) (x : Flat) (v : Num)
-    → bits int ≤ 64 → v.frac ≤ 64 → unsigned_abs v.mantissa ≤ 2 ^ size → size_at scale.frac v.frac size ≤ 100
-    → EndsAs int s n x l (Ok (values.Number v))
-    → StoresAs int s l scale (stored_c v.frac size scale mode x) (fitted v scale mode)
-stores int s l n size scale Saturate x v most_int few small most ends =
-    let b = brings int s l n size scale x v few small most ends in (
-      b.after,
-      b.goes,
-      subst (λ (c : Bool). Has int s b.after (Const Truth (pos 0)) (one_if c)) (sym (no_overflow v scale Saturate _ refl)) (flag-const int s b.after false),
-      λ m is. saturates int s b.after x.next v size scale m few small most b.there is,
-    )
-stores int s l n size scale Error x v most_int few small most ends =
-    let b = brings int s l n size scale x v few small most ends in (
-      b.after,
-      b.goes,
-      overflows int s b.after x.next v size scale few small most b.there,
-      λ m is. subst (λ (z : ℤ). Has int s b.after (Local x.next) z) (kept-own v scale m is)
-          (local-has int s b.after x.next (record { type = Signed (floored_width v.frac size scale.frac); value = floored v scale.frac }) b.there),
-    )
-stores int s l n size scale Wrap x v most_int few small most ends =
-    let b = brings int s l n size scale x v few small most ends in
-    let z = floored v scale.frac in
-    let u = int_rem_euclid z (pos (2 ^ scale.width)) in
-    let k = x.next + 1 in
-    let low : CValue = record { type = Unsigned W64; value = u } in
-    let after = with_local b.after k low in
-    let has : Has int s b.after (Local x.next) z =
-    local-has int s b.after x.next (record { type = Signed (floored_width v.frac size scale.frac); value = z }) b.there in
-    let sets = set-goes int s b.after k (Unsigned W64) (low_bits_c scale (Local x.next)) u u
-    (Unsigned W64, low_bits-is int s b.after scale (Local x.next) z most_int has) (low-stays z scale.width scale.bits_within) in
-    let means = local-means int s after k low (set-there b.after k low) in (
-      after,
-      then-goes int s l b.after after _ _ b.goes sets,
-      subst (λ (c : Bool). Has int s after (Const Truth (pos 0)) (one_if c)) (sym (no_overflow v scale Wrap _ refl)) (flag-const int s after false),
-      λ m is. at after means m is scale.signed refl,
-    )
-  where
-    at : (after : Locals) → meaning int s after (Local (x.next + 1)) ≡ gives (Unsigned W64) (int_rem_euclid (floored v scale.frac) (pos (2 ^ scale.width)))
-        → (m : ℤ) → fitted v scale Wrap ≡ Ok m → (b : Bool) → scale.signed ≡ b
-        → Has int s after (cond b (signed_c scale (Local (x.next + 1))) (Local (x.next + 1))) m
-    at after means m is true sign = wraps-signed int s after v scale (Local (x.next + 1)) m most_int sign means is
-    at after means m is false sign = subst (λ (y : ℤ). Has int s after (Local (x.next + 1)) y)
-        (sym (wrapped-unsigned scale (floored v scale.frac) sign) ∙ kept-wrapped v scale m is) (Unsigned W64, means)
+-- where nothing overflows there is no fault
+no_fault : (n : Num) (scale : Scale) (mode : Mode) (m : ℤ) (e : Overflow) → by_mode mode scale (floored n scale.frac) ≡ Ok m
+    → fitted n scale mode ≡ Err e → ⊥
+no_fault n scale mode m e is err = absurd (cc (no_overflow n scale mode m is, ap is_err err))
+
+module _ (int : Width) (s : Store) (l : Locals) (n d size : ℕ) (scale : Scale) (x : Flat) (v : Num) (most_int : bits int ≤ 64)
+    (few : v.frac ≤ 64) (small : unsigned_abs v.mantissa ≤ 2 ^ size) (most : size_at scale.frac v.frac size ≤ 100)
+    (ends : EndsAs int s n x l (Ok (values.Number v))) where
+  abbrev w : Width
+  w = floored_width v.frac size scale.frac
+
+  b : Brought int s l n size scale x v
+  b = brings int s l n size scale x v few small most ends
+
+  stores-saturated : (r : Result ℤ Overflow) → fitted v scale Saturate ≡ r
+      → StoresAs int s l d (stored_c d v.frac size scale Saturate x) r
+  stores-saturated (Ok m) is = (b.after, b.goes, saturates int s b.after x.next v size scale m few small most b.there is)
+  stores-saturated (Err e) is = absurd (no_fault v scale Saturate _ e refl is)
+
+  -- the test before a store
+  tests : ending int s l (stored_c d v.frac size scale Error x).code
+      ≡ cond (is_err (fitted v scale Error)) (Faults (Overflows d)) (Goes b.after)
+  tests = then-ends int s l b.after (brought_code v.frac size scale x) _ _ b.goes
+      (fault_if-ends int s b.after (Overflows d) (out_c scale (size_at scale.frac v.frac size) w (brought_local v.frac size scale x))
+      (is_err (fitted v scale Error)) (overflows int s b.after x.next v size scale few small most b.there))
+
+  stores-tested : (r : Result ℤ Overflow) → fitted v scale Error ≡ r
+      → StoresAs int s l d (stored_c d v.frac size scale Error x) r
+  stores-tested (Ok m) is = (
+    b.after,
+    tests ∙ ap (λ (r : Result ℤ Overflow). cond (is_err r) (Faults (Overflows d)) (Goes b.after)) is,
+    subst (λ (z : ℤ). Has int s b.after (Local (Signed w) x.next) z) (kept-own v scale m is)
+        (local-has int s b.after (Signed w) x.next (floored v scale.frac) b.there),
+  )
+  stores-tested (Err e) is = tests ∙ ap (λ (r : Result ℤ Overflow). cond (is_err r) (Faults (Overflows d)) (Goes b.after)) is
+
+  stores-wrapped : (r : Result ℤ Overflow) → fitted v scale Wrap ≡ r
+      → StoresAs int s l d (stored_c d v.frac size scale Wrap x) r
+  stores-wrapped (Err e) is = absurd (no_fault v scale Wrap _ e refl is)
+  stores-wrapped (Ok m) is =
+      let z = floored v scale.frac in
+      let u = int_rem_euclid z (pos (2 ^ scale.width)) in
+      let k = x.next + 1 in
+      let after = with_local b.after (Unsigned W64) k u in
+      let has : Has int s b.after (Local (Signed w) x.next) z = local-has int s b.after (Signed w) x.next z b.there in
+      let sets = set-goes int s b.after k (Unsigned W64) (low_bits_c scale (Local (Signed w) x.next)) u u
+      (Unsigned W64, low_bits-is int s b.after scale (Local (Signed w) x.next) z most_int has) (low-stays z scale.width scale.bits_within) in
+      let means = local-means int s after (Unsigned W64) k u (set-there b.after (Unsigned W64) k u) in (
+        after,
+        then-goes int s l b.after after _ _ b.goes sets,
+        at after means scale.signed refl,
+      )
+    where
+      low : CExpr
+      low = Local (Unsigned W64) (x.next + 1)
+
+      at : (after : Locals) → meaning int s after low ≡ gives (Unsigned W64) (int_rem_euclid (floored v scale.frac) (pos (2 ^ scale.width)))
+          → (c : Bool) → scale.signed ≡ c → Has int s after (cond c (signed_c scale low) low) m
+      at after means true sign = wraps-signed int s after v scale low m most_int sign means is
+      at after means false sign = subst (λ (y : ℤ). Has int s after low y)
+          (sym (wrapped-unsigned scale (floored v scale.frac) sign) ∙ kept-wrapped v scale m is) (Unsigned W64, means)
+
+  -- the C of each mode
+  stores : (mode : Mode) → StoresAs int s l d (stored_c d v.frac size scale mode x) (fitted v scale mode)
+  stores Saturate = stores-saturated (fitted v scale Saturate) refl
+  stores Wrap = stores-wrapped (fitted v scale Wrap) refl
+  stores Error = stores-tested (fitted v scale Error) refl
 
 -- an assignment that has no fault is narrow
 narrow-there : (size : ℕ) → cond (nat_lt 100 size) (Some faults.Wide) None ≡ None → size ≤ 100
@@ -147,18 +171,20 @@ narrow-there size e = at (nat_lt 100 size) refl e
     at false is e = grind (arith, nat_tests)
 
 -- the C of an assignment of an expression
-pub assigns : (int : Width) (s : Store) (vals : List Datum) (marks : Configuration) (e : Expr) (n : ℕ) (l : Locals)
-    (frac size : ℕ) (scale : Scale) (mode : Mode) (v : Num) → HaveTheirSorts vals → ShowsData vals marks s → bits int ≤ 64
+pub assigns : (int : Width) (tests : ℕ → CExpr) (s : Store) (vals : List Datum) (marks : Configuration) (e : Expr)
+    (n d : ℕ) (l : Locals) (frac size : ℕ) (scale : Scale) (mode : Mode) (v : Num) → HaveTheirSorts vals
+    → ShowsData vals s → ShowsActive int tests marks s → bits int ≤ 64
     → sort_of (scope_at vals marks) e ≡ Ok (kinds.Number frac size)
     → assignment_fault (sorts.Number scale) (kinds.Number frac size) ≡ None
     → value_of vals marks e ≡ Ok (values.Number v)
-    → StoresAs int s l scale (stored_c frac size scale mode (flat (scope_at vals marks) n e)) (fitted v scale mode)
-assigns int s vals marks e n l frac size scale mode v fit show most_int sort none value =
+    → StoresAs int s l d (stored_c d frac size scale mode (flat (scope_at vals marks) tests n e)) (fitted v scale mode)
+assigns int tests s vals marks e n d l frac size scale mode v fit show active most_int sort none value =
     let c = scope_at vals marks in
+    let x = flat c tests n e in
     let narrow = IfOk-at_ok IsNarrow sort (sort_of-narrow c e) in
-    let has = IfOk-at_ok (HasSort (kinds.Number frac size)) value (value_has_sort int s vals marks e n l (kinds.Number frac size) fit show sort) in
-    let ends = subst (λ (w : Valued). EndsAs int s n (flat c n e) l w) value (ends_as_value int s vals marks e n l (kinds.Number frac size) fit show sort) in
+    let has = IfOk-at_ok (HasSort (kinds.Number frac size)) value (value_has_sort int tests s vals marks e n l (kinds.Number frac size) fit show active sort) in
+    let ends = subst (λ (w : Valued). EndsAs int s n x l w) value (ends_as_value int tests s vals marks e n l (kinds.Number frac size) fit show active sort) in
     let most : size_at scale.frac frac size ≤ 100 = narrow-there (size_at scale.frac frac size) none in
     let few : v.frac ≤ 64 = omega (arith, has.0, narrow.0) in
-    subst (λ (f : ℕ). StoresAs int s l scale (stored_c f size scale mode (flat c n e)) (fitted v scale mode)) has.0
-    (stores int s l n size scale mode (flat c n e) v most_int few has.1 (omega (arith, has.0, most)) ends)
+    subst (λ (f : ℕ). StoresAs int s l d (stored_c d f size scale mode x) (fitted v scale mode)) has.0
+    (stores int s l n d size scale x v most_int few has.1 (omega (arith, has.0, most)) ends mode)

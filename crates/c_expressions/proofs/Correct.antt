@@ -23,11 +23,14 @@ use Rattle.actions.proofs.OperatorLemmas.{number_within-is}
 use Rattle.actions.proofs.OperandLemmas.{applied-has_sort, has_flag}
 use Rattle.actions.proofs.NarrowLemmas.{sort_of-narrow}
 use Rattle.actions.proofs.SortLemmas.{literal-has_sort, value-has_sort, datum-there}
-use Rattle.c_subset.specs.Trees.{Width, Signed, Truth, CExpr, Const, Field, IsActive, Bang, Nothing}
-use Rattle.c_subset.specs.Meaning.{CValue, gives, read, one_if, Store, Locals, meaning, Faults, ending}
+use Rattle.flow_base.specs.declared.fault.Fault.{Fault}
+use Rattle.c_subset.specs.Trees.{Width, Signed, Truth, CExpr, Const, Field, Bang}
+use Rattle.c_subset.specs.Meaning.{Object, gives, read, one_if, Store, Locals, meaning}
+use Rattle.c_expressions.specs.Code.{Nothing, Faults, ending}
 use Rattle.c_expressions.specs.Translation.{Flat, flat, operator_flat, operator_c, eager_flat, lazy_flat, quotient_flat, negation_c, sort_in, width_for, is_nothing}
-use Rattle.c_expressions.specs.Claims.{ShowsData, field_of, Has, shown, EndsAs}
-use Rattle.c_expressions.proofs.Fits.{truth-stays, width_for-room}
+use Rattle.c_expressions.specs.Claims.{ShowsData, ShowsActive, field_type, field_of, Has, shown, EndsAs}
+use Rattle.c_subset.proofs.TypeLemmas.{truth-stays}
+use Rattle.c_expressions.proofs.Fits.{width_for-room}
 use Rattle.c_expressions.proofs.Operators.{has_roomy, const-roomy, bang-has}
 use Rattle.c_expressions.proofs.Numbers.{negation-has}
 use Rattle.c_expressions.proofs.Applied.{number_sort, flag_sort, flag-number, number-flag, computes, IsEager}
@@ -99,30 +102,23 @@ shown-mantissa sorts.Flag m is = at (int_lt (pos 0) m) refl
     at false e = grind (arith, ints)
 shown-mantissa (sorts.Number scale) m is = refl
 
-datum-field : (vals : List Datum) (v : ℕ) → v < length vals → slice_get (map field_of vals) v ≡ Some (field_of (datum vals v))
-unfolding datum
-datum-field [] v lt = absurd (omega arith)
-datum-field (d ∷ vals) zero lt = refl
-datum-field (d ∷ vals) (suc v) lt = datum-field vals v (omega arith)
-
 datum-sorted : (vals : List Datum) (v : ℕ) → v < length vals → HaveTheirSorts vals → HasItsSort (datum vals v)
 unfolding datum
 datum-sorted [] v lt all = absurd (omega arith)
 datum-sorted (d ∷ vals) zero lt all = all.0
 datum-sorted (d ∷ vals) (suc v) lt all = datum-sorted vals v (omega arith) all.1
 
-field-has : (int : Width) (s : Store) (l : Locals) (vals : List Datum) (v : ℕ) → s.fields ≡ map field_of vals
+field-has : (int : Width) (s : Store) (l : Locals) (vals : List Datum) (v : ℕ) → ShowsData vals s
     → v < length vals → HasItsSort (datum vals v)
     → Has int s l (Field v) (shown (value_at (datum vals v).sort (datum vals v).mantissa))
 unfolding meaning
-field-has int s l vals v are lt fits =
+field-has int s l vals v show lt fits =
     let d = datum vals v in
     subst (λ (z : ℤ). Has int s l (Field v) z) (sym (shown-mantissa d.sort d.mantissa fits))
-    ((field_of d).type, ap (λ (fs : List CValue). read (slice_get fs v)) are ∙ ap read (datum-field vals v lt))
+    (field_type d.sort, ap read (show v lt))
 
-active-has : (int : Width) (s : Store) (l : Locals) (q : ℕ) (b : Bool) → s.active q ≡ b → Has int s l (IsActive q) (one_if b)
-unfolding meaning
-active-has int s l q b is = (Signed int, ap (λ (c : Bool). gives (Signed int) (one_if c)) is)
+state-there : (states q : ℕ) (sort : ExprSort) → state_sort states q ≡ Ok sort → q < states
+state-there states q sort e = grind (arith, nat_tests)
 
 state-flag : (states q : ℕ) (sort : ExprSort) → state_sort states q ≡ Ok sort → sort ≡ kinds.Flag
 state-flag states q sort e = grind (arith, nat_tests)
@@ -244,13 +240,10 @@ quotient-operator : (int : Width) (s : Store) (l : Locals) (n : ℕ) (left right
     (va vb : Valued) → binary_sort ops.Div left right ≡ Ok sort → AreBoth int s l n left right a b va vb
     → EndsAs int s n (quotient_flat left right a b) l (with_value va (λ x. with_value vb (applied ops.Div x)))
 quotient-operator int s l n left right sort a b (Err f) vb given both =
-    (both.left_ends.0, then-faults int s l a.code _ both.left_ends.1)
+    then-faults int s l a.code _ f both.left_ends
 quotient-operator int s l n left right sort a b (Ok x) (Err f) given both =
-    let second = both.right_ends both.left_ends.0 in (
-      second.0,
-      then-ends int s l both.left_ends.0 a.code _ Faults both.left_ends.1
-          (then-faults int s both.left_ends.0 b.code _ second.1),
-    )
+    then-ends int s l both.left_ends.0 a.code _ (Faults f) both.left_ends.1
+    (then-faults int s both.left_ends.0 b.code _ f (both.right_ends both.left_ends.0))
 quotient-operator int s l n left right sort a b (Ok (values.Flag p)) (Ok (values.Flag q)) given both =
     absurd (cc (flag_sort left p both.left_sorted, flag_sort right q both.right_sorted, given))
 quotient-operator int s l n left right sort a b (Ok (values.Flag p)) (Ok (values.Number q)) given both =
@@ -274,8 +267,8 @@ and-operator : (int : Width) (s : Store) (l : Locals) (n : ℕ) (left right sort
 and-operator int s l n left right sort a b (Err f) vb given both = at (is_nothing b.code)
   where
     at : (c : Bool) → EndsAs int s n (if c then eager_flat ops.And left right a b else lazy_flat (λ e. e) a b) l (Err f)
-    at true = (both.left_ends.0, then-faults int s l a.code _ both.left_ends.1)
-    at false = (both.left_ends.0, then-faults int s l a.code _ both.left_ends.1)
+    at true = then-faults int s l a.code _ f both.left_ends
+    at false = then-faults int s l a.code _ f both.left_ends
 and-operator int s l n left right sort a b (Ok (values.Number x)) vb given both =
     absurd (subst (λ (t : ExprSort). HasSort t (values.Number x)) (of_flags-are left right sort given).left_is both.left_sorted)
 and-operator int s l n left right sort a b (Ok (values.Flag p)) vb given both =
@@ -297,8 +290,8 @@ or-operator : (int : Width) (s : Store) (l : Locals) (n : ℕ) (left right sort 
 or-operator int s l n left right sort a b (Err f) vb given both = at (is_nothing b.code)
   where
     at : (c : Bool) → EndsAs int s n (if c then eager_flat ops.Or left right a b else lazy_flat Bang a b) l (Err f)
-    at true = (both.left_ends.0, then-faults int s l a.code _ both.left_ends.1)
-    at false = (both.left_ends.0, then-faults int s l a.code _ both.left_ends.1)
+    at true = then-faults int s l a.code _ f both.left_ends
+    at false = then-faults int s l a.code _ f both.left_ends
 or-operator int s l n left right sort a b (Ok (values.Number x)) vb given both =
     absurd (subst (λ (t : ExprSort). HasSort t (values.Number x)) (of_flags-are left right sort given).left_is both.left_sorted)
 or-operator int s l n left right sort a b (Ok (values.Flag p)) vb given both =
@@ -340,46 +333,46 @@ operator-up other left right a b = omega arith
 -- ---- every expression
 
 -- what holds of an expression, with locals from n on
-record IsCorrect (int : Width) (s : Store) (vals : List Datum) (marks : Configuration) (e : Expr) (n : ℕ) (l : Locals)
+record IsCorrect (int : Width) (tests : ℕ → CExpr) (s : Store) (vals : List Datum) (marks : Configuration) (e : Expr) (n : ℕ) (l : Locals)
     (sort : ExprSort) : Type 0 where
-  ends : EndsAs int s n (flat (scope_at vals marks) n e) l (value_of vals marks e)
+  ends : EndsAs int s n (flat (scope_at vals marks) tests n e) l (value_of vals marks e)
   sorted : IfOk (value_of vals marks e) (HasSort sort)
-  up : n ≤ (flat (scope_at vals marks) n e).next
+  up : n ≤ (flat (scope_at vals marks) tests n e).next
 
-correct : (int : Width) (s : Store) (vals : List Datum) (marks : Configuration) → HaveTheirSorts vals
-    → ShowsData vals marks s → (e : Expr) (n : ℕ) (l : Locals) (sort : ExprSort) → sort_of (scope_at vals marks) e ≡ Ok sort
-    → IsCorrect int s vals marks e n l sort
+correct : (int : Width) (tests : ℕ → CExpr) (s : Store) (vals : List Datum) (marks : Configuration) → HaveTheirSorts vals
+    → ShowsData vals s → ShowsActive int tests marks s → (e : Expr) (n : ℕ) (l : Locals) (sort : ExprSort) → sort_of (scope_at vals marks) e ≡ Ok sort
+    → IsCorrect int tests s vals marks e n l sort
 unfolding sort_of value_of flat
-correct int s vals marks fit show (Lit x) n l sort is = record {
+correct int tests s vals marks fit show active (Lit x) n l sort is = record {
   ends = leaf-ends int s l n _ (values.Number x) (λ later. literal-has int s later x sort is);
   sorted = literal-has_sort x sort is;
   up = omega arith;
 }
-correct int s vals marks fit show (Flag b) n l sort is = record {
+correct int tests s vals marks fit show active (Flag b) n l sort is = record {
   ends = leaf-ends int s l n _ (values.Flag b) (λ later. flag-has int s later b);
   sorted = has_flag sort b (cc);
   up = omega arith;
 }
-correct int s vals marks fit show (Read v) n l sort is =
+correct int tests s vals marks fit show active (Read v) n l sort is =
     let there = datum-there vals v sort is in
     let fits = datum-sorted vals v there.0 fit in
     let d = datum vals v in
     record {
-      ends = leaf-ends int s l n _ (value_at d.sort d.mantissa) (λ later. field-has int s later vals v show.fields there.0 fits);
+      ends = leaf-ends int s l n _ (value_at d.sort d.mantissa) (λ later. field-has int s later vals v show there.0 fits);
       sorted = value-has_sort d.sort (value_at d.sort d.mantissa) sort (d.mantissa, fits, refl) there.1;
       up = omega arith;
     }
-correct int s vals marks fit show (Active q) n l sort is = record {
-  ends = leaf-ends int s l n _ (values.Flag (is_on q marks)) (λ later. active-has int s later q (is_on q marks) (show.active q));
+correct int tests s vals marks fit show active (Active q) n l sort is = record {
+  ends = leaf-ends int s l n _ (values.Flag (is_on q marks)) (λ later. active q later (state-there (mark_count marks) q sort is));
   sorted = has_flag sort (is_on q marks) (state-flag (mark_count marks) q sort is);
   up = omega arith;
 }
-correct int s vals marks fit show (Neg a) n l sort is =
+correct int tests s vals marks fit show active (Neg a) n l sort is =
     let c = scope_at vals marks in
     let part = with_sort_there (sort_of c a) negative_sort sort is in
-    let inner = correct int s vals marks fit show a n l part.0 part.1 in
+    let inner = correct int tests s vals marks fit show active a n l part.0 part.1 in
     let narrow = IfOk-at_ok IsNarrow part.1 (sort_of-narrow c a) in
-    let f = flat c n a in
+    let f = flat c tests n a in
     record {
       ends = subst (λ (t : Sorted). EndsAs int s n (record f { expr = negation_c (sort_in t) f.expr }) l (value_of vals marks (Neg a))) (sym part.1)
           (same-code int s l n f (negation_c part.0 f.expr) (value_of vals marks a) (λ x. values.Number (negation_of (number_of x))) inner.ends
@@ -389,11 +382,11 @@ correct int s vals marks fit show (Neg a) n l sort is =
           (λ x h. negative-sorted part.0 sort x part.2 h);
       up = inner.up;
     }
-correct int s vals marks fit show (Not a) n l sort is =
+correct int tests s vals marks fit show active (Not a) n l sort is =
     let c = scope_at vals marks in
     let part = with_sort_there (sort_of c a) not_sort sort is in
-    let inner = correct int s vals marks fit show a n l part.0 part.1 in
-    let f = flat c n a in
+    let inner = correct int tests s vals marks fit show active a n l part.0 part.1 in
+    let f = flat c tests n a in
     record {
       ends = same-code int s l n f (Bang f.expr) (value_of vals marks a) (λ x. values.Flag (not (flag_of x))) inner.ends
           (λ x x_is later has. not-has int s later part.0 sort x f.expr part.2
@@ -402,14 +395,14 @@ correct int s vals marks fit show (Not a) n l sort is =
           (λ x h. has_flag sort _ (not-flag part.0 sort part.2));
       up = inner.up;
     }
-correct int s vals marks fit show (Bin op a b) n l sort is =
+correct int tests s vals marks fit show active (Bin op a b) n l sort is =
     let c = scope_at vals marks in
     let sides = operator_sorts c op a b sort is in
-    let left = correct int s vals marks fit show a n l sides.left sides.left_is in
-    let f = flat c n a in
-    let right : (m : Locals) → IsCorrect int s vals marks b f.next m sides.right =
-    λ m. correct int s vals marks fit show b f.next m sides.right sides.right_is in
-    let g = flat c f.next b in
+    let left = correct int tests s vals marks fit show active a n l sides.left sides.left_is in
+    let f = flat c tests n a in
+    let right : (m : Locals) → IsCorrect int tests s vals marks b f.next m sides.right =
+    λ m. correct int tests s vals marks fit show active b f.next m sides.right sides.right_is in
+    let g = flat c tests f.next b in
     let narrow = IfOk-at_ok IsNarrow sides.left_is (sort_of-narrow c a) in
     let narrow' = IfOk-at_ok IsNarrow sides.right_is (sort_of-narrow c b) in
     let both : AreBoth int s l n sides.left sides.right f g (value_of vals marks a) (value_of vals marks b) = record {
@@ -432,13 +425,14 @@ correct int s vals marks fit show (Bin op a b) n l sort is =
     }
 
 -- the C ends as the value does
-pub ends_as_value : (int : Width) (s : Store) (vals : List Datum) (marks : Configuration) (e : Expr) (n : ℕ) (l : Locals)
-    (sort : ExprSort) → HaveTheirSorts vals → ShowsData vals marks s → sort_of (scope_at vals marks) e ≡ Ok sort
-    → EndsAs int s n (flat (scope_at vals marks) n e) l (value_of vals marks e)
-ends_as_value int s vals marks e n l sort fit show is = (correct int s vals marks fit show e n l sort is).ends
+pub ends_as_value : (int : Width) (tests : ℕ → CExpr) (s : Store) (vals : List Datum) (marks : Configuration) (e : Expr)
+    (n : ℕ) (l : Locals) (sort : ExprSort) → HaveTheirSorts vals → ShowsData vals s → ShowsActive int tests marks s
+    → sort_of (scope_at vals marks) e ≡ Ok sort
+    → EndsAs int s n (flat (scope_at vals marks) tests n e) l (value_of vals marks e)
+ends_as_value int tests s vals marks e n l sort fit show active is = (correct int tests s vals marks fit show active e n l sort is).ends
 
 -- and the value has the sort
-pub value_has_sort : (int : Width) (s : Store) (vals : List Datum) (marks : Configuration) (e : Expr) (n : ℕ) (l : Locals)
-    (sort : ExprSort) → HaveTheirSorts vals → ShowsData vals marks s → sort_of (scope_at vals marks) e ≡ Ok sort
-    → IfOk (value_of vals marks e) (HasSort sort)
-value_has_sort int s vals marks e n l sort fit show is = (correct int s vals marks fit show e n l sort is).sorted
+pub value_has_sort : (int : Width) (tests : ℕ → CExpr) (s : Store) (vals : List Datum) (marks : Configuration) (e : Expr)
+    (n : ℕ) (l : Locals) (sort : ExprSort) → HaveTheirSorts vals → ShowsData vals s → ShowsActive int tests marks s
+    → sort_of (scope_at vals marks) e ≡ Ok sort → IfOk (value_of vals marks e) (HasSort sort)
+value_has_sort int tests s vals marks e n l sort fit show active is = (correct int tests s vals marks fit show active e n l sort is).sorted

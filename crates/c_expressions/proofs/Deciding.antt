@@ -3,11 +3,13 @@ use Rattle.std.proofs.Common.{◌≡◌, ℕ, ◌≤◌, Bool, true, false, cond
 use Rattle.actions.specs.declared.expr.Value.TheVariants as values
 use Rattle.actions.specs.declared.sort.ExprSort.TheVariants as kinds
 use Rattle.actions.specs.Values.{Valued, HasSort}
-use Rattle.c_subset.specs.Trees.{Width, Signed, Truth, CExpr, Bang, Both, Either, CCode, Nothing, Local, Then, Set, FaultIfZero, If}
-use Rattle.c_subset.specs.Meaning.{CValue, Meaning, with_meaning, gives, is_true, one_if, truth, Store, Locals, meaning, Ending, Goes, Faults, with_result, with_local, ending}
+use Rattle.c_subset.specs.Trees.{Width, Signed, Truth, CExpr, Bang, Both, Either, Local}
+use Rattle.c_subset.specs.Meaning.{Meaning, with_meaning, gives, is_true, one_if, truth, Store, Locals, meaning}
+use Rattle.c_subset.specs.Running.{with_local}
+use Rattle.c_expressions.specs.Code.{CCode, Nothing, Then, Set, Divide, FaultIf, If, Ending, Goes, Faults, with_result, ending}
 use Rattle.c_expressions.specs.Translation.{Flat, is_nothing, lazy_flat}
 use Rattle.c_expressions.specs.Claims.{Has, EndsAs}
-use Rattle.c_expressions.proofs.Fits.{truth-stays}
+use Rattle.c_subset.proofs.TypeLemmas.{truth-stays}
 use Rattle.c_expressions.proofs.Operators.{bang-has}
 use Rattle.c_expressions.proofs.Running.{agree-through, agree-less, agree-itself, agree-set, set-there, then-goes, then-ends, then-faults}
 use Rattle.c_expressions.proofs.Quotients.{set-goes, local-has}
@@ -67,8 +69,9 @@ nothing-goes : (int : Width) (s : Store) (l : Locals) (c : CCode) → is_nothing
 unfolding ending
 nothing-goes int s l Nothing is = refl
 nothing-goes int s l (Then a b) is = cc
-nothing-goes int s l (Set k t e) is = cc
-nothing-goes int s l (FaultIfZero e) is = cc
+nothing-goes int s l (Set t k e) is = cc
+nothing-goes int s l (Divide w k a b) is = cc
+nothing-goes int s l (FaultIf x e) is = cc
 nothing-goes int s l (If e c) is = cc
 
 -- the left side is what decides, and the right side has no code
@@ -89,7 +92,7 @@ pub plain-goes_on : (int : Width) (s : Store) (l : Locals) (n : ℕ) (a b : Flat
     → EndsAs int s n a l (Ok (values.Flag (not decided))) → ((m : Locals) → EndsAs int s a.next b m vb)
     → EndsAs int s n (record { code = Then a.code b.code; expr = e; next = b.next }) l vb
 plain-goes_on int s l n a b e decided (Err f) na nb d has ha hb =
-    ((hb ha.0).0, then-ends int s l ha.0 a.code b.code Faults ha.1 (hb ha.0).1)
+    then-ends int s l ha.0 a.code b.code (Faults f) ha.1 (hb ha.0)
 plain-goes_on int s l n a b e decided (Ok (values.Number x)) na nb d has ha hb = absurd has
 plain-goes_on int s l n a b e decided (Ok (values.Flag q)) na nb d has ha hb =
     let second = hb ha.0 in (
@@ -104,7 +107,7 @@ plain-goes_on int s l n a b e decided (Ok (values.Flag q)) na nb d has ha hb =
 
 -- a flag is brought to bool as it is
 truth-set : (int : Width) (s : Store) (l : Locals) (k : ℕ) (e : CExpr) (p : Bool) → Has int s l e (one_if p)
-    → ending int s l (Set k Truth e) ≡ Goes (with_local l k (record { type = Truth; value = one_if p }))
+    → ending int s l (Set Truth k e) ≡ Goes (with_local l Truth k (one_if p))
 truth-set int s l k e p has =
     set-goes int s l k Truth e (one_if p) (one_if p) has (ap (λ (b : Bool). gives Truth (one_if b)) (truth-stays p))
 
@@ -118,62 +121,56 @@ if-ends int s l e c p has =
 -- the code of the left side, and the local
 start : (int : Width) (s : Store) (l m : Locals) (k : ℕ) (a : Flat) (p : Bool) (c : CCode) (end : Ending)
     → ending int s l a.code ≡ Goes m → Has int s m a.expr (one_if p)
-    → ending int s (with_local m k (record { type = Truth; value = one_if p })) c ≡ end
-    → ending int s l (Then a.code (Then (Set k Truth a.expr) c)) ≡ end
+    → ending int s (with_local m Truth k (one_if p)) c ≡ end
+    → ending int s l (Then a.code (Then (Set Truth k a.expr) c)) ≡ end
 start int s l m k a p c end first has rest =
     then-ends int s l m a.code _ end first
-    (then-ends int s m (with_local m k (record { type = Truth; value = one_if p })) _ c end (truth-set int s m k a.expr p has) rest)
+    (then-ends int s m (with_local m Truth k (one_if p)) _ c end (truth-set int s m k a.expr p has) rest)
 
 lazy-decided : (int : Width) (s : Store) (l : Locals) (n : ℕ) (a b : Flat) (goes_on : CExpr → CExpr) (p : Bool)
     → n ≤ a.next → a.next ≤ b.next
-    → ((m : Locals) → Has int s m (Local b.next) (one_if p) → Has int s m (goes_on (Local b.next)) (one_if false))
+    → ((m : Locals) → Has int s m (Local Truth b.next) (one_if p) → Has int s m (goes_on (Local Truth b.next)) (one_if false))
     → EndsAs int s n a l (Ok (values.Flag p))
     → EndsAs int s n (lazy_flat goes_on a b) l (Ok (values.Flag p))
 lazy-decided int s l n a b goes_on p na nb tests ha =
     let k = b.next in
-    let x : CValue = record { type = Truth; value = one_if p } in
-    let after = with_local ha.0 k x in
-    let local = local-has int s after k x (set-there ha.0 k x) in (
+    let after = with_local ha.0 Truth k (one_if p) in
+    let local = local-has int s after Truth k (one_if p) (set-there ha.0 Truth k (one_if p)) in (
       after,
       start int s l ha.0 k a p _ (Goes after) ha.1 (ha.3 ha.0 (agree-itself a.next ha.0))
-          (if-ends int s after (goes_on (Local k)) (Then b.code (Set k Truth b.expr)) false (tests after local)),
-      agree-through n a.next l ha.0 after na ha.2 (agree-set a.next k ha.0 x nb),
-      λ later agree. local-has int s later k x (agree k (omega arith) ∙ set-there ha.0 k x),
+          (if-ends int s after (goes_on (Local Truth k)) (Then b.code (Set Truth k b.expr)) false (tests after local)),
+      agree-through n a.next l ha.0 after na ha.2 (agree-set a.next k ha.0 Truth (one_if p) nb),
+      λ later agree. local-has int s later Truth k (one_if p) (agree Truth k (omega arith) ∙ set-there ha.0 Truth k (one_if p)),
     )
 
 lazy-goes_on : (int : Width) (s : Store) (l : Locals) (n : ℕ) (a b : Flat) (goes_on : CExpr → CExpr) (p : Bool) (vb : Valued)
     → n ≤ a.next → a.next ≤ b.next
-    → ((m : Locals) → Has int s m (Local b.next) (one_if p) → Has int s m (goes_on (Local b.next)) (one_if true))
+    → ((m : Locals) → Has int s m (Local Truth b.next) (one_if p) → Has int s m (goes_on (Local Truth b.next)) (one_if true))
     → IfOk vb (HasSort kinds.Flag) → EndsAs int s n a l (Ok (values.Flag p)) → ((m : Locals) → EndsAs int s a.next b m vb)
     → EndsAs int s n (lazy_flat goes_on a b) l vb
 lazy-goes_on int s l n a b goes_on p (Ok (values.Number y)) na nb tests has ha hb = absurd has
 lazy-goes_on int s l n a b goes_on p (Err f) na nb tests has ha hb =
     let k = b.next in
-    let x : CValue = record { type = Truth; value = one_if p } in
-    let after = with_local ha.0 k x in
-    let local = local-has int s after k x (set-there ha.0 k x) in (
-      (hb after).0,
-      start int s l ha.0 k a p _ Faults ha.1 (ha.3 ha.0 (agree-itself a.next ha.0))
-          (if-ends int s after (goes_on (Local k)) (Then b.code (Set k Truth b.expr)) true (tests after local)
-          ∙ then-faults int s after b.code _ (hb after).1),
-    )
+    let after = with_local ha.0 Truth k (one_if p) in
+    let local = local-has int s after Truth k (one_if p) (set-there ha.0 Truth k (one_if p)) in
+    start int s l ha.0 k a p _ (Faults f) ha.1 (ha.3 ha.0 (agree-itself a.next ha.0))
+    (if-ends int s after (goes_on (Local Truth k)) (Then b.code (Set Truth k b.expr)) true (tests after local)
+    ∙ then-faults int s after b.code _ f (hb after))
 lazy-goes_on int s l n a b goes_on p (Ok (values.Flag q)) na nb tests has ha hb =
     let k = b.next in
-    let x : CValue = record { type = Truth; value = one_if p } in
-    let y : CValue = record { type = Truth; value = one_if q } in
-    let before = with_local ha.0 k x in
-    let local = local-has int s before k x (set-there ha.0 k x) in
+    let before = with_local ha.0 Truth k (one_if p) in
+    let local = local-has int s before Truth k (one_if p) (set-there ha.0 Truth k (one_if p)) in
     let second = hb before in
-    let after = with_local second.0 k y in (
+    let after = with_local second.0 Truth k (one_if q) in (
       after,
       start int s l ha.0 k a p _ (Goes after) ha.1 (ha.3 ha.0 (agree-itself a.next ha.0))
-          (if-ends int s before (goes_on (Local k)) (Then b.code (Set k Truth b.expr)) true (tests before local)
+          (if-ends int s before (goes_on (Local Truth k)) (Then b.code (Set Truth k b.expr)) true (tests before local)
           ∙ then-goes int s before second.0 after b.code _ second.1
           (truth-set int s second.0 k b.expr q (second.3 second.0 (agree-itself b.next second.0)))),
       agree-through n a.next l ha.0 after na ha.2
-          (agree-through a.next a.next ha.0 before after (omega arith) (agree-set a.next k ha.0 x nb)
-          (agree-through a.next a.next before second.0 after (omega arith) second.2 (agree-set a.next k second.0 y nb))),
-      λ later agree. local-has int s later k y (agree k (omega arith) ∙ set-there second.0 k y),
+          (agree-through a.next a.next ha.0 before after (omega arith) (agree-set a.next k ha.0 Truth (one_if p) nb)
+          (agree-through a.next a.next before second.0 after (omega arith) second.2 (agree-set a.next k second.0 Truth (one_if q) nb))),
+      λ later agree. local-has int s later Truth k (one_if q) (agree Truth k (omega arith) ∙ set-there second.0 Truth k (one_if q)),
     )
 
 -- ---- operators on flags
@@ -202,6 +199,6 @@ or-ends int s l n a b false vb true na nb is has ha hb =
 or-ends int s l n a b true vb true na nb is has ha hb =
     plain-decided int s l n a b _ true na nb is (either-decides int s a.expr b.expr) ha
 or-ends int s l n a b false vb false na nb is has ha hb =
-    lazy-goes_on int s l n a b Bang false vb na nb (λ m h. bang-has int s m (Local b.next) false h) has ha hb
+    lazy-goes_on int s l n a b Bang false vb na nb (λ m h. bang-has int s m (Local Truth b.next) false h) has ha hb
 or-ends int s l n a b true vb false na nb is has ha hb =
-    lazy-decided int s l n a b Bang true na nb (λ m h. bang-has int s m (Local b.next) true h) ha
+    lazy-decided int s l n a b Bang true na nb (λ m h. bang-has int s m (Local Truth b.next) true h) ha

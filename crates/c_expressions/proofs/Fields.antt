@@ -13,38 +13,36 @@ use Rattle.fixed_point.specs.declared.fitting.Mode.TheVariants.{Saturate, Error}
 use Rattle.actions.specs.declared.names.Sort.TheVariants as sorts
 use Rattle.actions.specs.Sorts.{size_at}
 use Rattle.c_subset.specs.Trees.{Width, W8, W16, W32, W64, Signed, Unsigned, Local}
-use Rattle.c_subset.specs.Meaning.{bits, Wrong, gives, converted, fits_signed, one_if, Store, Locals, meaning, read}
+use Rattle.c_subset.specs.Meaning.{bits, Wrong, gives, converted, fits_signed, one_if, Store, Locals}
 use Rattle.c_expressions.specs.Storing.{floored_width, saturated_c, out_c, IsBrought}
 use Rattle.c_expressions.specs.Claims.{Has, least_width, field_type}
 use Rattle.c_expressions.proofs.Fits.{width_for-room}
-use Rattle.c_expressions.proofs.Operators.{Roomy}
+use Rattle.c_expressions.proofs.Operators.{Roomy, local-roomy}
 use Rattle.c_expressions.proofs.Storing.{floored-small, saturated-has, out-has}
 
-brought-is : (int : Width) (s : Store) (l : Locals) (k : ℕ) (n : Num) (size : ℕ) (scale : Scale) → n.frac ≤ 64
-    → size_at scale.frac n.frac size ≤ 100 → IsBrought l k n size scale
-    → Roomy int s l (size_at scale.frac n.frac size) (Local k) (floored n scale.frac)
-unfolding meaning
-brought-is int s l k n size scale few most there = record {
-  in_type = floored_width n.frac size scale.frac;
-  room = let h = width_for-room (max (size_at scale.frac n.frac size) (n.frac - scale.frac)) (omega arith) in omega (arith, h);
-  is = ap read there;
-}
-
+-- the type of the local has room
 pub room-there : (n : Num) (size : ℕ) (scale : Scale) → n.frac ≤ 64 → size_at scale.frac n.frac size ≤ 100
     → size_at scale.frac n.frac size + 1 < bits (floored_width n.frac size scale.frac)
 room-there n size scale few most =
     let h = width_for-room (max (size_at scale.frac n.frac size) (n.frac - scale.frac)) (omega arith) in omega (arith, h)
 
+brought-is : (int : Width) (s : Store) (l : Locals) (k : ℕ) (n : Num) (size : ℕ) (scale : Scale) → n.frac ≤ 64
+    → size_at scale.frac n.frac size ≤ 100 → IsBrought l k n size scale
+    → Roomy int s l (size_at scale.frac n.frac size) (Local (Signed (floored_width n.frac size scale.frac)) k) (floored n scale.frac)
+brought-is int s l k n size scale few most there =
+    local-roomy int s l (floored_width n.frac size scale.frac) k (size_at scale.frac n.frac size) (floored n scale.frac)
+    (room-there n size scale few most) there
+
 -- what is kept where numbers out of range are brought to the nearest end
 pub saturates : (int : Width) (s : Store) (l : Locals) (k : ℕ) (n : Num) (size : ℕ) (scale : Scale) (m : ℤ) → n.frac ≤ 64
     → unsigned_abs n.mantissa ≤ 2 ^ size → size_at scale.frac n.frac size ≤ 100 → IsBrought l k n size scale
     → fitted n scale Saturate ≡ Ok m
-    → Has int s l (saturated_c scale (size_at scale.frac n.frac size) (floored_width n.frac size scale.frac) (Local k)) m
+    → Has int s l (saturated_c scale (size_at scale.frac n.frac size) (floored_width n.frac size scale.frac) (Local (Signed (floored_width n.frac size scale.frac)) k)) m
 unfolding fitted
 saturates int s l k n size scale m few small most there is =
-    subst (λ (z : ℤ). Has int s l (saturated_c scale (size_at scale.frac n.frac size) (floored_width n.frac size scale.frac) (Local k)) z)
+    subst (λ (z : ℤ). Has int s l (saturated_c scale (size_at scale.frac n.frac size) (floored_width n.frac size scale.frac) (Local (Signed (floored_width n.frac size scale.frac)) k)) z)
     (same (is_in_range scale (floored n scale.frac)) is)
-    (saturated-has int s l scale (size_at scale.frac n.frac size) (floored_width n.frac size scale.frac) (Local k) (floored n scale.frac)
+    (saturated-has int s l scale (size_at scale.frac n.frac size) (floored_width n.frac size scale.frac) (Local (Signed (floored_width n.frac size scale.frac)) k) (floored n scale.frac)
     (room-there n size scale few most) (brought-is int s l k n size scale few most there) (floored-small n size scale.frac small))
   where
     same : (b : Bool) → cond b (Ok (floored n scale.frac)) (by_mode Saturate scale (floored n scale.frac)) ≡ Ok m
@@ -55,13 +53,13 @@ saturates int s l k n size scale m few small most there is =
 -- the test of an overflow is true exactly where there is one
 pub overflows : (int : Width) (s : Store) (l : Locals) (k : ℕ) (n : Num) (size : ℕ) (scale : Scale) → n.frac ≤ 64
     → unsigned_abs n.mantissa ≤ 2 ^ size → size_at scale.frac n.frac size ≤ 100 → IsBrought l k n size scale
-    → Has int s l (out_c scale (size_at scale.frac n.frac size) (floored_width n.frac size scale.frac) (Local k))
+    → Has int s l (out_c scale (size_at scale.frac n.frac size) (floored_width n.frac size scale.frac) (Local (Signed (floored_width n.frac size scale.frac)) k))
     (one_if (is_err (fitted n scale Error)))
 unfolding fitted
 overflows int s l k n size scale few small most there =
-    subst (λ (b : Bool). Has int s l (out_c scale (size_at scale.frac n.frac size) (floored_width n.frac size scale.frac) (Local k)) (one_if b))
+    subst (λ (b : Bool). Has int s l (out_c scale (size_at scale.frac n.frac size) (floored_width n.frac size scale.frac) (Local (Signed (floored_width n.frac size scale.frac)) k)) (one_if b))
     (same (is_in_range scale (floored n scale.frac)))
-    (out-has int s l scale (size_at scale.frac n.frac size) (floored_width n.frac size scale.frac) (Local k) (floored n scale.frac)
+    (out-has int s l scale (size_at scale.frac n.frac size) (floored_width n.frac size scale.frac) (Local (Signed (floored_width n.frac size scale.frac)) k) (floored n scale.frac)
     (room-there n size scale few most) (brought-is int s l k n size scale few most there) (floored-small n size scale.frac small))
   where
     same : (b : Bool) → not b ≡ is_err (cond b (Ok (floored n scale.frac)) (by_mode Error scale (floored n scale.frac)))

@@ -1,12 +1,11 @@
 -- Numbers of a size have room in the types that are chosen for them.
-use Rattle.std.proofs.Common.{◌≡◌, ℕ, ◌+◌, ◌-◌, ◌^◌, ◌<◌, ◌≤◌, nat_lt, nat_le, ℤ, unsigned_abs, Bool, true, false, cond, refl, ap, ◌∙◌, arith}
+use Rattle.std.proofs.Common.{◌≡◌, ℕ, ◌+◌, ◌-◌, ◌^◌, ◌<◌, ◌≤◌, nat_le, ℤ, unsigned_abs, Bool, true, false, cond, refl, ap, arith}
 use Rattle.std.proofs.lemmas.Nat.{pow-add, pow_pos}
 use Rattle.std.proofs.lemmas.Int.{ints}
-use Rattle.std.proofs.lemmas.Bool.{ltb-false}
 use Rattle.std.proofs.lemmas.Bool.Decides.{nat_tests}
 use Rattle.fixed_point.proofs.Powers.{power-le}
-use Rattle.c_subset.specs.Trees.{Width, W8, W16, W32, W64, W128, CType, Signed}
-use Rattle.c_subset.specs.Meaning.{bits, fits_signed, Wrong, gives, as_signed, promoted, common_of, common, one_if, is_true}
+use Rattle.c_subset.specs.Trees.{Width, W8, W16, W32, W64, W128, Signed}
+use Rattle.c_subset.specs.Meaning.{bits, fits_signed, Wrong, gives, as_signed, one_if}
 use Rattle.c_expressions.specs.Translation.{width_for}
 
 -- a number of a size fits a signed type of two bits more
@@ -34,66 +33,6 @@ width_for-room size most = at (nat_le size 30) (nat_le size 62) refl refl
     at false true e f = let h : size ≤ 62 = grind (arith, nat_tests) in omega arith
     at false false e f = omega arith
 
--- a signed type that is promoted
-pub record IsPromoted (int w : Width) : Type 0 where
-  pub to : Width
-  pub is : promoted int (Signed w) ≡ Signed to
-  pub wider : bits w ≤ bits to
-
--- is a signed type at least as wide
-pub promoted-signed : (int w : Width) → IsPromoted int w
-promoted-signed int w = at (nat_lt (bits w) (bits int)) refl
-  where
-    at : (b : Bool) → nat_lt (bits w) (bits int) ≡ b → IsPromoted int w
-    at true e = record {
-      to = int;
-      is = ap (λ (b : Bool). cond b (Signed int) (Signed w)) e;
-      wider = grind (arith, nat_tests);
-    }
-    at false e = record {
-      to = w;
-      is = ap (λ (b : Bool). cond b (Signed int) (Signed w)) e;
-      wider = omega arith;
-    }
-
--- the common type of values of two signed types
-pub record IsCommon (t : CType) (a b : Width) : Type 0 where
-  pub to : Width
-  pub is : t ≡ Signed to
-  pub left : bits a ≤ bits to
-  pub right : bits b ≤ bits to
-
--- of two signed types it is the wider
-common-wider : (a b : Width) → IsCommon (common_of (Signed a) (Signed b)) a b
-common-wider a b = at (nat_lt (bits a) (bits b)) refl
-  where
-    at : (c : Bool) → nat_lt (bits a) (bits b) ≡ c → IsCommon (common_of (Signed a) (Signed b)) a b
-    at true e = record {
-      to = b;
-      is = ap (λ (c : Bool). cond c (Signed b) (Signed a)) e;
-      left = grind (arith, nat_tests);
-      right = omega arith;
-    }
-    at false e = record {
-      to = a;
-      is = ap (λ (c : Bool). cond c (Signed b) (Signed a)) e;
-      left = omega arith;
-      right = ltb-false (bits a) (bits b) e;
-    }
-
--- so it is at least as wide after promotion
-pub common-signed : (int a b : Width) → IsCommon (common int (Signed a) (Signed b)) a b
-common-signed int a b =
-    let p = promoted-signed int a in
-    let q = promoted-signed int b in
-    let c = common-wider p.to q.to in
-    record {
-      to = c.to;
-      is = ap (λ (t : CType). common_of t (promoted int (Signed b))) p.is ∙ ap (λ (t : CType). common_of (Signed p.to) t) q.is ∙ c.is;
-      left = omega (arith, p.wider, c.left);
-      right = omega (arith, q.wider, c.right);
-    }
-
 -- 0 and 1 fit every signed type
 pub one-stays : (w : Width) (b : Bool) → as_signed w (one_if b) ≡ gives (Signed w) (one_if b)
 one-stays W8 true = refl
@@ -106,8 +45,3 @@ one-stays W64 true = refl
 one-stays W64 false = refl
 one-stays W128 true = refl
 one-stays W128 false = refl
-
--- a truth value is true where it was
-pub truth-stays : (b : Bool) → is_true (one_if b) ≡ b
-truth-stays true = refl
-truth-stays false = refl

@@ -2,17 +2,18 @@
 use Rattle.std.proofs.Common.{◌≡◌, ℕ, ◌+◌, ◌-◌, ◌^◌, ◌<◌, ◌≤◌, max, ℤ, ◌+ℤ◌, ◌-ℤ◌, ◌*ℤ◌, neg_ℤ, unsigned_abs, int_cmp, is_eq, is_lt, is_le, is_gt, is_ge, true, Ok, arith}
 use Rattle.std.proofs.lemmas.Int.{ints}
 use Rattle.fixed_point.specs.declared.num.Num.{Num}
-use Rattle.fixed_point.specs.Numbers.{scaled, common_frac, floor_div, dividend_of}
+use Rattle.fixed_point.specs.Numbers.{scaled, common_frac, dividend_of}
 use Rattle.actions.specs.declared.sort.ExprSort.{ExprSort}
+use Rattle.actions.specs.declared.sort.ExprSort.TheVariants as kinds
 use Rattle.actions.specs.Sorts.{size_at, sum_sort, product_sort, quotient_sort, comparison_sort}
 use Rattle.actions.proofs.MagnitudeLemmas.{size-weaker, shifted-within, scaled-within, dividend-within, product-within, sum-within, difference-within}
 use Rattle.actions.proofs.OperatorLemmas.{AreSized, number_within-is, comparison_sort-is}
-use Rattle.c_subset.specs.Trees.{Width, Signed, Arithmetic, Times, Comparison, IsEqual, IsBelow, IsAtMost, IsAbove, IsAtLeast, CExpr, Cast, Minus, DivFloor}
-use Rattle.c_subset.specs.Meaning.{bits, exact, passes, one_if, is_true, Store, Locals}
-use Rattle.c_expressions.specs.Translation.{brought, width_for, sum_width, sum_c, product_c, comparison_width, comparison_c, quotient_width}
+use Rattle.c_subset.specs.Trees.{Width, Signed, Arithmetic, Times, Comparison, IsEqual, IsBelow, IsAtMost, IsAbove, IsAtLeast, CExpr, Cast, Minus}
+use Rattle.c_subset.specs.Meaning.{bits, exact, passes, one_if, Store, Locals}
+use Rattle.c_expressions.specs.Translation.{brought, width_for, sum_width, sum_c, product_c, comparison_width, comparison_c, quotient_width, dividend_c}
 use Rattle.c_expressions.specs.Claims.{Has}
 use Rattle.c_expressions.proofs.Fits.{width_for-room}
-use Rattle.c_expressions.proofs.Operators.{Roomy, has_roomy, cast-roomy, calc-roomy, compare-has, minus-has, division-has, brought-roomy}
+use Rattle.c_expressions.proofs.Operators.{Roomy, has_roomy, cast-roomy, calc-roomy, compare-has, minus-has, brought-roomy}
 
 -- ---- comparisons of whole numbers
 
@@ -111,25 +112,18 @@ product-has int s l a b ma mb ea eb sort sized e ha hb =
     (cast-roomy int s l (width_for size) size eb b.mantissa room right hb) left right
     (product-within a.mantissa b.mantissa ma mb sized.left sized.right))
 
--- the quotient, where the divisor isn't 0 and has at most 100 bits
-pub quotient-has : (int : Width) (s : Store) (l : Locals) (a b : Num) (ma mb : ℕ) (ea eb : CExpr)
-    (sort : ExprSort) → AreSized a b ma mb → quotient_sort a.frac ma b.frac mb ≡ Ok sort → mb ≤ 100
-    → Has int s l ea a.mantissa → Has int s l eb b.mantissa → is_true b.mantissa ≡ true
-    → Has int s l (DivFloor (quotient_width a.frac ma b.frac mb)
-    (brought (quotient_width a.frac ma b.frac mb) ((common_frac a b - a.frac) + b.frac) ea)
-    (Cast (Signed (quotient_width a.frac ma b.frac mb)) eb)) (floor_div (dividend_of a b) b.mantissa)
-quotient-has int s l a b ma mb ea eb sort sized e most_right ha hb some =
+-- the dividend of a quotient
+pub dividend-has : (int : Width) (s : Store) (l : Locals) (a b : Num) (ma mb : ℕ) (ea : CExpr) (sort : ExprSort)
+    → AreSized a b ma mb → quotient_sort a.frac ma b.frac mb ≡ Ok sort → mb ≤ 100 → Has int s l ea a.mantissa
+    → Has int s l (dividend_c (kinds.Number a.frac ma) (kinds.Number b.frac mb) ea) (dividend_of a b)
+dividend-has int s l a b ma mb ea sort sized e most_right ha =
     let own = size_at (common_frac a b) a.frac ma + b.frac in
     let size = max own mb in
     let most = (number_within-is (common_frac a b) own sort e).1 in
     let w = quotient_width a.frac ma b.frac mb in
     let room = width_for-room size (omega arith) in
     let d = (common_frac a b - a.frac) + b.frac in
-    let right = size-weaker _ mb size sized.right (omega arith) in
-    division-has int s l w size _ _ (dividend_of a b) b.mantissa room
-    (has_roomy int s l size _ _ (brought-roomy int s l w ma size d ea a.mantissa room (omega arith) sized.left ha))
-    (has_roomy int s l size _ _ (cast-roomy int s l w size eb b.mantissa room right hb))
-    (size-weaker _ own size (dividend-within a b ma sized.left) (omega arith)) right some
+    has_roomy int s l size _ _ (brought-roomy int s l w ma size d ea a.mantissa room (omega arith) sized.left ha)
 
 pub negation-has : (int : Width) (s : Store) (l : Locals) (size : ℕ) (e : CExpr) (z : ℤ) → size ≤ 100
     → unsigned_abs z ≤ 2 ^ size → Has int s l e z → Has int s l (Minus (Cast (Signed (width_for size)) e)) (neg_ℤ z)

@@ -1,13 +1,16 @@
 -- C's operators on operands that have room.
-use Rattle.std.proofs.Common.{◌≡◌, ℕ, suc, ◌+◌, ◌*◌, ◌^◌, ◌<◌, ◌≤◌, nat_eq, ℤ, pos, negsuc, ◌*ℤ◌, neg_ℤ, unsigned_abs, Bool, true, false, cond, not, refl, sym, ap, ◌∙◌, subst, arith}
+use Rattle.std.proofs.Common.{◌≡◌, ℕ, suc, ◌+◌, ◌*◌, ◌^◌, ◌<◌, ◌≤◌, nat_eq, ℤ, pos, negsuc, ◌*ℤ◌, neg_ℤ, unsigned_abs, Bool, true, false, cond, not, Some, refl, sym, ap, ◌∙◌, subst, arith}
 use Rattle.fixed_point.proofs.Powers.{power-le}
 use Rattle.fixed_point.specs.Numbers.{floor_div}
 use Rattle.actions.proofs.MagnitudeLemmas.{size-weaker, shifted-within, unsigned_abs-neg, floor_div-within}
-use Rattle.c_subset.specs.Trees.{Width, CType, Signed, Arithmetic, Times, Comparison, CExpr, Const, Cast, Minus, Bang, Calc, Compare, DivFloor}
-use Rattle.c_subset.specs.Meaning.{bits, CValue, Meaning, Wrong, with_meaning, gives, converted, as_signed, exact, calculated, compared, passes, negated, divided, truth, one_if, is_true, Store, Locals, meaning}
+use Rattle.c_subset.specs.Trees.{Width, CType, Signed, Arithmetic, Times, Comparison, CExpr, Const, Local, Cast, Minus, Bang, Calc, Compare}
+use Rattle.c_subset.specs.Meaning.{bits, CValue, Meaning, Wrong, with_meaning, gives, converted, as_signed, exact, calculated, compared, passes, negated, truth, one_if, is_true, read_as, Store, Locals, meaning}
 use Rattle.c_expressions.specs.Translation.{brought}
 use Rattle.c_expressions.specs.Claims.{Has}
-use Rattle.c_expressions.proofs.Fits.{signed-stays, promoted-signed, common-signed, truth-stays}
+use Rattle.c_subset.proofs.TypeLemmas.{promoted-signed, common-signed, truth-stays}
+use Rattle.c_subset.specs.Running.{with_local}
+use Rattle.c_expressions.specs.Code.{Divide, Ending, Goes, floored_by, with_result, ending}
+use Rattle.c_expressions.proofs.Fits.{signed-stays}
 
 -- a value of a signed type
 abbrev signed : Width → ℤ → CValue
@@ -51,14 +54,13 @@ negated-is int a size x room small =
           ∙ signed-stays p.to size (neg_ℤ x) wide (omega (arith, unsigned_abs-neg x)),
     )
 
-divided-is : (w : Width) (size : ℕ) (x y : CValue) → size + 1 < bits w → unsigned_abs x.value ≤ 2 ^ size
-    → unsigned_abs y.value ≤ 2 ^ size → is_true y.value ≡ true
-    → divided w x y ≡ gives (Signed w) (floor_div x.value y.value)
+divided-is : (w : Width) (size : ℕ) (x y : ℤ) → size + 1 < bits w → unsigned_abs x ≤ 2 ^ size
+    → unsigned_abs y ≤ 2 ^ size → is_true y ≡ true → floored_by w x y ≡ gives (Signed w) (floor_div x y)
 divided-is w size x y room left right some =
-    ap (λ (m : Meaning). with_meaning m (λ a. with_meaning (as_signed w y.value) (λ b. cond (is_true b.value) (as_signed w (floor_div a.value b.value)) Wrong))) (signed-stays w size x.value room left)
-    ∙ ap (λ (m : Meaning). with_meaning m (λ b. cond (is_true b.value) (as_signed w (floor_div x.value b.value)) Wrong)) (signed-stays w size y.value room right)
-    ∙ ap (λ (b : Bool). cond b (as_signed w (floor_div x.value y.value)) Wrong) some
-    ∙ signed-stays w size (floor_div x.value y.value) room (omega (arith, floor_div-within x.value y.value))
+    ap (λ (m : Meaning). with_meaning m (λ a. with_meaning (as_signed w y) (λ b. cond (is_true b.value) (as_signed w (floor_div a.value b.value)) Wrong))) (signed-stays w size x room left)
+    ∙ ap (λ (m : Meaning). with_meaning m (λ b. cond (is_true b.value) (as_signed w (floor_div x b.value)) Wrong)) (signed-stays w size y room right)
+    ∙ ap (λ (b : Bool). cond b (as_signed w (floor_div x y)) Wrong) some
+    ∙ signed-stays w size (floor_div x y) room (omega (arith, floor_div-within x y))
 
 -- ---- expressions
 
@@ -126,16 +128,24 @@ bang-has int s l a b has = (
       ∙ ap (λ (c : Bool). truth int (not c)) (truth-stays b),
 )
 
-pub division-has : (int : Width) (s : Store) (l : Locals) (w : Width) (size : ℕ) (a b : CExpr) (x y : ℤ)
-    → size + 1 < bits w → Has int s l a x → Has int s l b y → unsigned_abs x ≤ 2 ^ size → unsigned_abs y ≤ 2 ^ size
-    → is_true y ≡ true → Has int s l (DivFloor w a b) (floor_div x y)
+-- a local of a signed type with room
+pub local-roomy : (int : Width) (s : Store) (l : Locals) (w : Width) (k size : ℕ) (z : ℤ) → size + 1 < bits w
+    → l (Signed w) k ≡ Some z → Roomy int s l size (Local (Signed w) k) z
 unfolding meaning
-division-has int s l w size a b x y room ha hb left right some = (
-  Signed w,
-  ap (λ (m : Meaning). with_meaning m (λ x. with_meaning (meaning int s l b) (divided w x))) ha.1
-      ∙ ap (λ (m : Meaning). with_meaning m (divided w (record { type = ha.0; value = x }))) hb.1
-      ∙ divided-is w size (record { type = ha.0; value = x }) (record { type = hb.0; value = y }) room left right some,
-)
+local-roomy int s l w k size z room there = record { in_type = w; room = room; is = ap (read_as (Signed w)) there }
+
+-- a quotient of numbers of that size
+pub divide-goes : (int : Width) (s : Store) (l : Locals) (w : Width) (k size : ℕ) (a b : CExpr) (x y : ℤ)
+    → size + 1 < bits w → Has int s l a x → Has int s l b y → unsigned_abs x ≤ 2 ^ size → unsigned_abs y ≤ 2 ^ size
+    → is_true y ≡ true → ending int s l (Divide w k a b) ≡ Goes (with_local l (Signed w) k (floor_div x y))
+unfolding ending
+divide-goes int s l w k size a b x y room ha hb left right some =
+    ap (λ (m : Meaning). with_result m (λ x. with_result (meaning int s l b) (λ y. with_result (floored_by w x.value y.value) set))) ha.1
+    ∙ ap (λ (m : Meaning). with_result m (λ y. with_result (floored_by w x y.value) set)) hb.1
+    ∙ ap (λ (m : Meaning). with_result m set) (divided-is w size x y room left right some)
+  where
+    set : CValue → Ending
+    set z = Goes (with_local l (Signed w) k z.value)
 
 -- ---- more bits after the point
 

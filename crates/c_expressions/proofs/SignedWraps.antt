@@ -11,7 +11,7 @@ use Rattle.c_subset.specs.Trees.{Width, W8, W16, W32, W64, W128, CType, Signed, 
 use Rattle.c_subset.specs.Meaning.{bits, Meaning, Wrong, with_meaning, gives, converted, fits_signed, exact, calculated, compared, negated, passes, truth, one_if, promoted, common, common_of, Store, Locals, meaning}
 use Rattle.c_expressions.specs.Storing.{signed_c}
 use Rattle.c_expressions.specs.Claims.{Has}
-use Rattle.c_expressions.proofs.Wraps.{lifted, stays_unsigned}
+use Rattle.c_expressions.proofs.Wraps.{lifted, common_unsigned}
 use Rattle.c_expressions.proofs.Storing.{choose-has}
 
 -- ---- operators on two values of one type that isn't promoted
@@ -45,9 +45,6 @@ stays_signed W16 most = refl
 stays_signed W32 most = refl
 stays_signed W64 most = refl
 stays_signed W128 most = absurd (omega arith)
-
-common_unsigned : (int : Width) → bits int ≤ 64 → common int (Unsigned W64) (Unsigned W64) ≡ Unsigned W64
-common_unsigned int most = ap (λ (t : CType). common_of t t) (stays_unsigned int most)
 
 common_signed : (int : Width) → bits int ≤ 64 → common int (Signed W64) (Signed W64) ≡ Signed W64
 common_signed int most = ap (λ (t : CType). common_of t t) (stays_signed int most)

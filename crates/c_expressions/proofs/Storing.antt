@@ -11,51 +11,23 @@ use Rattle.fixed_point.specs.declared.num.Num.{Num}
 use Rattle.fixed_point.specs.declared.scale.Scale.{Scale}
 use Rattle.actions.specs.Sorts.{size_at, magnitude_bits}
 use Rattle.actions.proofs.MagnitudeLemmas.{size-weaker, scaled-within, floor_div-within}
-use Rattle.c_subset.specs.Trees.{Width, Signed, Truth, IsBelow, IsAbove, CExpr, Const, Cast, Either, Choose, DivFloor}
+use Rattle.c_subset.specs.Trees.{Width, Signed, Truth, IsBelow, IsAbove, CExpr, Const, Cast, Either, Choose}
 use Rattle.c_subset.specs.Meaning.{bits, Meaning, with_meaning, gives, is_true, one_if, Store, Locals, meaning}
 use Rattle.c_expressions.specs.Translation.{brought}
-use Rattle.c_expressions.specs.Storing.{floored_width, floored_c, can_pass, can_pass_low, low_c, high_c, below_c, above_c, saturated_c, out_c}
+use Rattle.c_expressions.specs.Storing.{floored_width, floored_code, can_pass, can_pass_low, low_c, high_c, below_c, above_c, saturated_c, out_c}
+use Rattle.c_subset.specs.Running.{with_local}
+use Rattle.c_expressions.specs.Code.{CCode, Set, Divide, Goes, ending}
 use Rattle.c_expressions.specs.Claims.{Has}
-use Rattle.c_expressions.proofs.Fits.{width_for-room, truth-stays}
-use Rattle.c_expressions.proofs.Operators.{Roomy, has_roomy, cast-roomy, const-roomy, compare-has, division-has, brought-roomy}
+use Rattle.c_subset.proofs.TypeLemmas.{truth-stays}
+use Rattle.c_expressions.proofs.Fits.{signed-stays, width_for-room}
+use Rattle.c_expressions.proofs.Operators.{Roomy, has_roomy, const-roomy, compare-has, divide-goes, brought-roomy}
+use Rattle.c_expressions.proofs.Quotients.{set-goes}
 use Rattle.c_expressions.proofs.Deciding.{either-decides}
 
 -- ---- at the datum's fraction
 
 pow-true : (d : ℕ) → is_true (pos (2 ^ d)) ≡ true
 pow-true d = let some = pow_pos d in let other : nat_eq (2 ^ d) 0 ≡ false = grind (arith, nat_tests) in ap not other
-
--- the number at the datum's fraction, whose size is at most 100 there
-pub floored-has : (int : Width) (s : Store) (l : Locals) (n : Num) (size t : ℕ) (e : CExpr) → n.frac ≤ 64
-    → unsigned_abs n.mantissa ≤ 2 ^ size → size_at t n.frac size ≤ 100 → Has int s l e n.mantissa
-    → Has int s l (floored_c n.frac size t e) (floored n t)
-floored-has int s l n size t e few small most has = at (nat_le n.frac t) refl
-  where
-    big : ℕ
-    big = max (size_at t n.frac size) (n.frac - t)
-
-    w : Width
-    w = floored_width n.frac size t
-
-    room : big + 1 < bits w
-    room = width_for-room big (omega (arith, few, most))
-
-    raised : n.frac ≤ t → Has int s l (brought w (t - n.frac) e) (floored n t)
-    raised above = subst (λ (z : ℤ). Has int s l (brought w (t - n.frac) e) z) (sym (floored-raised n t above))
-        (has_roomy int s l big _ _ (brought-roomy int s l w size big (t - n.frac) e n.mantissa room (omega arith) small has))
-
-    dropped : t ≤ n.frac → Has int s l (DivFloor w (Cast (Signed w) e) (Const (Signed w) (pos (2 ^ (n.frac - t))))) (floored n t)
-    dropped below = subst (λ (z : ℤ). Has int s l (DivFloor w (Cast (Signed w) e) (Const (Signed w) (pos (2 ^ (n.frac - t))))) z)
-        (sym (floored-dropped n t below))
-        (division-has int s l w big _ _ n.mantissa (pos (2 ^ (n.frac - t))) room
-        (has_roomy int s l big _ _ (cast-roomy int s l w big e n.mantissa room (size-weaker _ size big small (omega arith)) has))
-        (has_roomy int s l big _ _ (const-roomy int s l w big (pos (2 ^ (n.frac - t))) room (power-le (n.frac - t) big (omega arith))))
-        (size-weaker _ size big small (omega arith)) (power-le (n.frac - t) big (omega arith)) (pow-true (n.frac - t)))
-
-    at : (b : Bool) → nat_le n.frac t ≡ b → Has int s l
-        (cond b (brought w (t - n.frac) e) (DivFloor w (Cast (Signed w) e) (Const (Signed w) (pos (2 ^ (n.frac - t)))))) (floored n t)
-    at true is = raised (grind (arith, nat_tests))
-    at false is = dropped (grind (arith, nat_tests))
 
 -- and there it has that size
 pub floored-small : (n : Num) (size t : ℕ) → unsigned_abs n.mantissa ≤ 2 ^ size
@@ -71,6 +43,43 @@ floored-small n size t small = at (nat_le n.frac t) refl
         let below : t ≤ n.frac = grind (arith, nat_tests) in
         let same = ap unsigned_abs (floored-dropped n t below) in
         omega (arith, same, floor_div-within n.mantissa (pos (2 ^ (n.frac - t))), size-weaker _ size (size_at t n.frac size) small (omega arith))
+
+-- the code that brings the number to the datum's fraction, where its size is at most 100
+pub floored-goes : (int : Width) (s : Store) (l : Locals) (n : Num) (k size t : ℕ) (e : CExpr) → n.frac ≤ 64
+    → unsigned_abs n.mantissa ≤ 2 ^ size → size_at t n.frac size ≤ 100 → Has int s l e n.mantissa
+    → ending int s l (floored_code k n.frac size t e)
+    ≡ Goes (with_local l (Signed (floored_width n.frac size t)) k (floored n t))
+floored-goes int s l n k size t e few small most has = at (nat_le n.frac t) refl
+  where
+    big : ℕ
+    big = max (size_at t n.frac size) (n.frac - t)
+
+    w : Width
+    w = floored_width n.frac size t
+
+    room : big + 1 < bits w
+    room = width_for-room big (omega (arith, few, most))
+
+    raised : n.frac ≤ t → Has int s l (brought w (t - n.frac) e) (floored n t)
+    raised above = subst (λ (z : ℤ). Has int s l (brought w (t - n.frac) e) z) (sym (floored-raised n t above))
+        (has_roomy int s l big _ _ (brought-roomy int s l w size big (t - n.frac) e n.mantissa room (omega arith) small has))
+
+    within : unsigned_abs (floored n t) ≤ 2 ^ big
+    within = size-weaker _ (size_at t n.frac size) big (floored-small n size t small) (omega arith)
+
+    dropped : t ≤ n.frac → ending int s l (Divide w k e (Const (Signed w) (pos (2 ^ (n.frac - t)))))
+        ≡ Goes (with_local l (Signed w) k (floored n t))
+    dropped below = divide-goes int s l w k big e (Const (Signed w) (pos (2 ^ (n.frac - t)))) n.mantissa (pos (2 ^ (n.frac - t)))
+        room has (has_roomy int s l big _ _ (const-roomy int s l w big (pos (2 ^ (n.frac - t))) room (power-le (n.frac - t) big (omega arith))))
+        (size-weaker _ size big small (omega arith)) (power-le (n.frac - t) big (omega arith)) (pow-true (n.frac - t))
+        ∙ ap (λ (z : ℤ). Goes (with_local l (Signed w) k z)) (sym (floored-dropped n t below))
+
+    at : (b : Bool) → nat_le n.frac t ≡ b → ending int s l
+        (cond b (Set (Signed w) k (brought w (t - n.frac) e)) (Divide w k e (Const (Signed w) (pos (2 ^ (n.frac - t))))))
+        ≡ Goes (with_local l (Signed w) k (floored n t))
+    at true is = set-goes int s l k (Signed w) (brought w (t - n.frac) e) (floored n t) (floored n t)
+        (raised (grind (arith, nat_tests))) (signed-stays w big (floored n t) room within)
+    at false is = dropped (grind (arith, nat_tests))
 
 -- ---- the conditional
 

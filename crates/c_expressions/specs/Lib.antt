@@ -1,3 +1,4 @@
+pub mod Code
 pub mod Translation
 pub mod Claims
 pub mod Storing

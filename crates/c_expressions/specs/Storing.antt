@@ -1,18 +1,19 @@
 -- Which C brings a number to the scale of a datum and stores it.
-use Rattle.std.specs.Prelude.{◌≡◌, Some, Result, Ok, is_err, ℕ, ◌+◌, ◌-◌, ◌^◌, nat_le, max, ℤ, pos, Bool, not, ◌||◌, if◌then◌else◌}
+use Rattle.std.specs.Prelude.{◌≡◌, Some, Result, Ok, Err, ℕ, ◌+◌, ◌-◌, ◌^◌, nat_le, max, ℤ, pos, Bool, not, ◌||◌, if◌then◌else◌}
 use Rattle.fixed_point.specs.declared.num.Num.{Num}
 use Rattle.fixed_point.specs.declared.scale.Scale.{Scale}
 use Rattle.fixed_point.specs.Numbers.{floored}
 use Rattle.fixed_point.specs.declared.fitting.Mode.{Mode}
 use Rattle.fixed_point.specs.declared.fitting.Mode.TheVariants.{Saturate, Wrap, Error}
 use Rattle.fixed_point.specs.declared.fitting.Overflow.{Overflow}
-use Rattle.c_subset.specs.Meaning.{Store, Locals, Goes, ending, one_if}
+use Rattle.flow_base.specs.declared.fault.Fault.TheVariants.{Overflow as Overflows}
+use Rattle.c_subset.specs.Meaning.{Store, Locals}
+use Rattle.c_expressions.specs.Code.{CCode, Then, Set, Divide, FaultIf, ending, Goes, Faults}
 use Rattle.c_expressions.specs.Claims.{Has}
 use Rattle.fixed_point.specs.Scales.{least, greatest}
 use Rattle.actions.specs.Sorts.{size_at, magnitude_bits}
 use Rattle.c_subset.specs.Trees.{Width, Signed, Unsigned, Truth, W64, Less, IsBelow, IsAtMost, IsAbove}
-use Rattle.c_subset.specs.Trees.{CExpr, Const, Local, Cast, Minus, Calc, Compare, Either, Choose, DivFloor, Low}
-use Rattle.c_subset.specs.Trees.{CCode, Then, Set}
+use Rattle.c_subset.specs.Trees.{CExpr, Const, Local, Cast, Minus, Calc, Compare, Either, Choose, Bits, BitAnd}
 use Rattle.c_expressions.specs.Translation.{Flat, width_for, brought}
 
 -- ---- at the datum's fraction
@@ -21,10 +22,10 @@ use Rattle.c_expressions.specs.Translation.{Flat, width_for, brought}
 abbrev pub floored_width : ℕ → ℕ → ℕ → Width
 floored_width frac size t = width_for (max (size_at t frac size) (frac - t))
 
--- the number at fraction t, by floor
-abbrev pub floored_c : ℕ → ℕ → ℕ → CExpr → CExpr
-floored_c frac size t e = let w = floored_width frac size t in
-    if nat_le frac t then brought w (t - frac) e else DivFloor w (Cast (Signed w) e) (Const (Signed w) (pos (2 ^ (frac - t))))
+-- the number at fraction t, by floor, as local k
+abbrev pub floored_code : ℕ → ℕ → ℕ → ℕ → CExpr → CCode
+floored_code k frac size t e = let w = floored_width frac size t in
+    if nat_le frac t then Set (Signed w) k (brought w (t - frac) e) else Divide w k e (Const (Signed w) (pos (2 ^ (frac - t))))
 
 -- ---- ends of the range; an end that no number of the size passes isn't tested, and need not fit the type
 
@@ -64,7 +65,7 @@ out_c scale size w x =
 
 -- (uint64_t)x & MASK
 abbrev pub low_bits_c : Scale → CExpr → CExpr
-low_bits_c scale x = Low scale.width (Cast (Unsigned W64) x)
+low_bits_c scale x = Bits BitAnd (Cast (Unsigned W64) x) (Const (Unsigned W64) (pos (2 ^ scale.width - 1)))
 
 -- the number of a signed scale whose low bits are u, an unsigned number below 2 ^ width: u itself, or for the upper half
 -- -(MASK - u) - 1, which no step takes out of int64_t
@@ -75,43 +76,44 @@ signed_c scale u =
 
 -- ---- an assignment of a number
 
--- code, then a test that is true exactly where the number overflows, and then what the field takes
+-- code, with the fault of an overflow, and then what the field takes
 pub record Stores : Type 0 where
   pub code : CCode
-  pub overflow : CExpr
   pub kept : CExpr
+
+-- the local that has the number at the datum's fraction
+abbrev pub brought_local : ℕ → ℕ → Scale → Flat → CExpr
+brought_local frac size scale x = Local (Signed (floored_width frac size scale.frac)) x.next
 
 -- the number that the expression gives, at the datum's fraction, as the next local
 abbrev pub brought_code : ℕ → ℕ → Scale → Flat → CCode
 brought_code frac size scale x =
-    Then x.code (Set x.next (Signed (floored_width frac size scale.frac)) (floored_c frac size scale.frac x.expr))
+    Then x.code (floored_code x.next frac size scale.frac x.expr)
 
--- The C that stores a number of that fraction and size, by the mode of the datum
-abbrev pub stored_c : ℕ → ℕ → Scale → Mode → Flat → Stores
-stored_c frac size scale Saturate x = record {
+-- The C that stores a number of that fraction and size in datum v, by the mode of the datum
+abbrev pub stored_c : ℕ → ℕ → ℕ → Scale → Mode → Flat → Stores
+stored_c v frac size scale Saturate x = record {
   code = brought_code frac size scale x;
-  overflow = Const Truth (pos 0);
-  kept = saturated_c scale (size_at scale.frac frac size) (floored_width frac size scale.frac) (Local x.next);
+  kept = saturated_c scale (size_at scale.frac frac size) (floored_width frac size scale.frac) (brought_local frac size scale x);
 }
-stored_c frac size scale Error x = record {
-  code = brought_code frac size scale x;
-  overflow = out_c scale (size_at scale.frac frac size) (floored_width frac size scale.frac) (Local x.next);
-  kept = Local x.next;
+stored_c v frac size scale Error x = record {
+  code = Then (brought_code frac size scale x) (FaultIf (Overflows v)
+      (out_c scale (size_at scale.frac frac size) (floored_width frac size scale.frac) (brought_local frac size scale x)));
+  kept = brought_local frac size scale x;
 }
-stored_c frac size scale Wrap x = record {
-  code = Then (brought_code frac size scale x) (Set (x.next + 1) (Unsigned W64) (low_bits_c scale (Local x.next)));
-  overflow = Const Truth (pos 0);
-  kept = if scale.signed then signed_c scale (Local (x.next + 1)) else Local (x.next + 1);
+stored_c v frac size scale Wrap x = record {
+  code = Then (brought_code frac size scale x)
+      (Set (Unsigned W64) (x.next + 1) (low_bits_c scale (brought_local frac size scale x)));
+  kept = if scale.signed then signed_c scale (Local (Unsigned W64) (x.next + 1)) else Local (Unsigned W64) (x.next + 1);
 }
 
 -- ---- claims
 
--- the code goes on, the test is true where nothing can be kept, and else the field takes what is kept, as it is
-abbrev pub StoresAs : Width → Store → Locals → Scale → Stores → Result ℤ Overflow → Type 0
-StoresAs int s l scale c r = (after : Locals) × (ending int s l c.code ≡ Goes after)
-    × Has int s after c.overflow (one_if (is_err r)) × ((m : ℤ) → r ≡ Ok m → Has int s after c.kept m)
+-- the code goes on, and then the field takes what is kept, as it is; or it faults, where the datum overflows
+abbrev pub StoresAs : Width → Store → Locals → ℕ → Stores → Result ℤ Overflow → Type 0
+StoresAs int s l v c (Ok m) = (after : Locals) × (ending int s l c.code ≡ Goes after) × Has int s after c.kept m
+StoresAs int s l v c (Err e) = ending int s l c.code ≡ Faults (Overflows v)
 
 -- the local has the number at the datum's fraction
 abbrev pub IsBrought : Locals → ℕ → Num → ℕ → Scale → Type 0
-IsBrought l k n size scale =
-    l k ≡ Some (record { type = Signed (floored_width n.frac size scale.frac); value = floored n scale.frac })
+IsBrought l k n size scale = l (Signed (floored_width n.frac size scale.frac)) k ≡ Some (floored n scale.frac)

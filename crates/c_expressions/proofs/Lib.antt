@@ -12,3 +12,5 @@ pub mod Wraps
 pub mod SignedWraps
 pub mod Kept
 pub mod Assigned
+pub mod Writing
+pub mod Assigning

@@ -2,3 +2,4 @@ pub mod Code
 pub mod Translation
 pub mod Claims
 pub mod Storing
+pub mod Assigning

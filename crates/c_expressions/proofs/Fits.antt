@@ -9,8 +9,8 @@ use Rattle.c_subset.specs.Meaning.{bits, fits_signed, Wrong, gives, as_signed, o
 use Rattle.c_expressions.specs.Translation.{width_for}
 
 -- a number of a size fits a signed type of two bits more
-fits : (n size : ℕ) (z : ℤ) → size + 1 < n → unsigned_abs z ≤ 2 ^ size → fits_signed n z ≡ true
-fits n size z room small =
+pub size-fits : (n size : ℕ) (z : ℤ) → size + 1 < n → unsigned_abs z ≤ 2 ^ size → fits_signed n z ≡ true
+size-fits n size z room small =
     let wider = power-le (size + 1) (n - 1) (omega arith) in
     let twice = pow-add 2 size 1 in
     let some = pow_pos size in
@@ -21,7 +21,7 @@ fits n size z room small =
 pub signed-stays : (w : Width) (size : ℕ) (z : ℤ) → size + 1 < bits w → unsigned_abs z ≤ 2 ^ size
     → as_signed w z ≡ gives (Signed w) z
 signed-stays w size z room small =
-    ap (λ (b : Bool). cond b (gives (Signed w) z) Wrong) (fits (bits w) size z room small)
+    ap (λ (b : Bool). cond b (gives (Signed w) z) Wrong) (size-fits (bits w) size z room small)
 
 -- the type that is chosen for a size has room for it
 pub width_for-room : (size : ℕ) → size ≤ 100 → size + 1 < bits (width_for size)

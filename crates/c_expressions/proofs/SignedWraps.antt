@@ -148,7 +148,8 @@ signed-has : (int : Width) (s : Store) (l : Locals) (scale : Scale) (e : CExpr) 
     → r < 2 ^ (scale.width - 1) * 2 → meaning int s l e ≡ gives (Unsigned W64) (pos r)
     → Has int s l (signed_c scale e) (from_low (2 ^ (scale.width - 1)) r)
 signed-has int s l scale e r most below is =
-    choose-has int s l _ _ _ (int_le (pos r) (pos (h - 1))) (pos r) (neg_ℤ (pos (h * 2 - 1 - r)) -ℤ pos 1)
+    choose-has int s l W64 _ _ _ (int_le (pos r) (pos (h - 1))) (pos r) (neg_ℤ (pos (h * 2 - 1 - r)) -ℤ pos 1)
+    (in_type (int_le (pos r) (pos (h - 1))) refl)
     (compare-means int s l (Unsigned W64) IsAtMost e _ (pos r) (pos (h - 1)) is
     (const-means int s l (Unsigned W64) (pos (h - 1)) (unsigned-at (h - 1) (omega (arith, h_fits))))
     (compare-at int (Unsigned W64) IsAtMost (pos r) (pos (h - 1)) (common_unsigned int most)
@@ -171,6 +172,16 @@ signed-has int s l scale e r most below is =
     all = let some = scale.some_bits in
         let w : scale.width ≡ suc (scale.width - 1) = omega arith in
         ap (λ (x : ℕ). 2 ^ x) w ∙ pow-suc 2 (scale.width - 1)
+
+    in_type : (b : Bool) → int_le (pos r) (pos (h - 1)) ≡ b
+        → fits_signed 64 (cond b (pos r) (neg_ℤ (pos (h * 2 - 1 - r)) -ℤ pos 1)) ≡ true
+    in_type true low =
+        let small : r < h = grind (arith, nat_tests, ints, h_some) in
+        grind (arith, ints, h_fits)
+    in_type false high =
+        let big : h ≤ r = grind (arith, nat_tests, ints) in
+        let small : h * 2 - 1 - r < 2 ^ 63 = omega (arith, h_fits, big, h_some) in
+        grind (arith, ints)
 
     lower : int_le (pos r) (pos (h - 1)) ≡ true → Has int s l (Cast (Signed W64) e) (pos r)
     lower low =

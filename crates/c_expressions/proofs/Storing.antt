@@ -11,15 +11,15 @@ use Rattle.fixed_point.specs.declared.num.Num.{Num}
 use Rattle.fixed_point.specs.declared.scale.Scale.{Scale}
 use Rattle.actions.specs.Sorts.{size_at, magnitude_bits}
 use Rattle.actions.proofs.MagnitudeLemmas.{size-weaker, scaled-within, floor_div-within}
-use Rattle.c_subset.specs.Trees.{Width, Signed, Truth, IsBelow, IsAbove, CExpr, Const, Cast, Either, Choose}
-use Rattle.c_subset.specs.Meaning.{bits, Meaning, with_meaning, gives, is_true, one_if, Store, Locals, meaning}
+use Rattle.c_subset.specs.Trees.{Width, CType, Signed, Truth, IsBelow, IsAbove, CExpr, Const, Cast, Either, Choose}
+use Rattle.c_subset.specs.Meaning.{bits, fits_signed, Meaning, with_meaning, gives, as_signed, converted, promoted, is_true, one_if, Store, Locals, meaning}
 use Rattle.c_expressions.specs.Translation.{brought}
 use Rattle.c_expressions.specs.Storing.{floored_width, floored_code, can_pass, can_pass_low, low_c, high_c, below_c, above_c, saturated_c, out_c}
 use Rattle.c_subset.specs.Running.{with_local}
 use Rattle.c_expressions.specs.Code.{CCode, Set, Divide, Goes, ending}
 use Rattle.c_expressions.specs.Claims.{Has}
-use Rattle.c_subset.proofs.TypeLemmas.{truth-stays}
-use Rattle.c_expressions.proofs.Fits.{signed-stays, width_for-room}
+use Rattle.c_subset.proofs.TypeLemmas.{fitting-stays, promoted-signed, truth-stays}
+use Rattle.c_expressions.proofs.Fits.{size-fits, signed-stays, width_for-room}
 use Rattle.c_expressions.proofs.Operators.{Roomy, has_roomy, const-roomy, compare-has, divide-goes, brought-roomy}
 use Rattle.c_expressions.proofs.Quotients.{set-goes}
 use Rattle.c_expressions.proofs.Deciding.{either-decides}
@@ -83,18 +83,37 @@ floored-goes int s l n k size t e few small most has = at (nat_le n.frac t) refl
 
 -- ---- the conditional
 
-pub choose-has : (int : Width) (s : Store) (l : Locals) (c a b : CExpr) (t : Bool) (x y : ℤ) → Has int s l c (one_if t)
-    → (t ≡ true → Has int s l a x) → (t ≡ false → Has int s l b y) → Has int s l (Choose c a b) (cond t x y)
+-- the value that is chosen, where it is one of the type
+pub choose-has : (int : Width) (s : Store) (l : Locals) (w : Width) (c a b : CExpr) (t : Bool) (x y : ℤ)
+    → fits_signed (bits w) (cond t x y) ≡ true → Has int s l c (one_if t)
+    → (t ≡ true → Has int s l a x) → (t ≡ false → Has int s l b y) → Has int s l (Choose (Signed w) c a b) (cond t x y)
 unfolding meaning
-choose-has int s l c a b t x y hc ha hb = at t refl
+choose-has int s l w c a b t x y fits hc ha hb = at t refl
   where
-    test : meaning int s l (Choose c a b) ≡ cond t (meaning int s l a) (meaning int s l b)
-    test = ap (λ (m : Meaning). with_meaning m (λ x. cond (is_true x.value) (meaning int s l a) (meaning int s l b))) hc.1
-        ∙ ap (λ (t : Bool). cond t (meaning int s l a) (meaning int s l b)) (truth-stays t)
+    brought : Meaning → Meaning
+    brought m = with_meaning m (λ y. with_meaning (as_signed w y.value) (λ z. converted (promoted int (Signed w)) z.value))
 
-    at : (u : Bool) → t ≡ u → Has int s l (Choose c a b) (cond u x y)
-    at true is = let h = ha is in (h.0, test ∙ ap (λ (t : Bool). cond t (meaning int s l a) (meaning int s l b)) is ∙ h.1)
-    at false is = let h = hb is in (h.0, test ∙ ap (λ (t : Bool). cond t (meaning int s l a) (meaning int s l b)) is ∙ h.1)
+    test : meaning int s l (Choose (Signed w) c a b) ≡ brought (cond t (meaning int s l a) (meaning int s l b))
+    test = ap (λ (m : Meaning). with_meaning m (λ x. brought (cond (is_true x.value) (meaning int s l a) (meaning int s l b)))) hc.1
+        ∙ ap (λ (t : Bool). brought (cond t (meaning int s l a) (meaning int s l b))) (truth-stays t)
+
+    stays : (u : CType) (z : ℤ) → fits_signed (bits w) z ≡ true → (v : CType) × (brought (gives u z) ≡ gives v z)
+    stays u z fits =
+        let p = promoted-signed int w in (
+          Signed p.to,
+          ap (λ (m : Meaning). with_meaning m (λ z. converted (promoted int (Signed w)) z.value)) (fitting-stays (bits w) w z (omega arith) fits)
+              ∙ ap (λ (t : CType). converted t z) p.is ∙ fitting-stays (bits w) p.to z p.wider fits,
+        )
+
+    at : (u : Bool) → t ≡ u → Has int s l (Choose (Signed w) c a b) (cond u x y)
+    at true is =
+        let h = ha is in
+        let r = stays h.0 x (ap (λ (t : Bool). fits_signed (bits w) (cond t x y)) (sym is) ∙ fits) in
+        (r.0, test ∙ ap (λ (t : Bool). brought (cond t (meaning int s l a) (meaning int s l b))) is ∙ ap brought h.1 ∙ r.1)
+    at false is =
+        let h = hb is in
+        let r = stays h.0 y (ap (λ (t : Bool). fits_signed (bits w) (cond t x y)) (sym is) ∙ fits) in
+        (r.0, test ∙ ap (λ (t : Bool). brought (cond t (meaning int s l a) (meaning int s l b))) is ∙ ap brought h.1 ∙ r.1)
 
 -- ---- ends of the range
 
@@ -164,14 +183,33 @@ below-has int s l scale size w x z room has small is =
 abbrev upper : Scale → ℤ → ℤ
 upper scale z = cond (int_lt (greatest scale) z) (greatest scale) z
 
+-- the upper end is at least 0
+greatest-low : (scale : Scale) → int_le (pos 0) (greatest scale) ≡ true
+greatest-low scale = at scale.signed
+  where
+    at : (b : Bool) → int_le (pos 0) (cond b (pos (2 ^ (scale.width - 1) - 1)) (pos (2 ^ scale.width - 1))) ≡ true
+    at true = grind (arith, ints)
+    at false = grind (arith, ints)
+
+upper-small : (scale : Scale) (size : ℕ) (z : ℤ) → unsigned_abs z ≤ 2 ^ size → unsigned_abs (upper scale z) ≤ 2 ^ size
+upper-small scale size z small = at (int_lt (greatest scale) z) refl
+  where
+    at : (b : Bool) → int_lt (greatest scale) z ≡ b → unsigned_abs (cond b (greatest scale) z) ≤ 2 ^ size
+    at true is = below (greatest scale) (greatest-low scale) is
+      where
+        below : (g : ℤ) → int_le (pos 0) g ≡ true → int_lt g z ≡ true → unsigned_abs g ≤ 2 ^ size
+        below g low is = grind (arith, ints)
+    at false is = small
+
 upper-has : (int : Width) (s : Store) (l : Locals) (scale : Scale) (size : ℕ) (w : Width) (x : CExpr) (z : ℤ)
     → size + 1 < bits w → Roomy int s l size x z → unsigned_abs z ≤ 2 ^ size
-    → Has int s l (cond (can_pass scale size) (Choose (above_c scale w x) (high_c scale w) x) x) (upper scale z)
+    → Has int s l (cond (can_pass scale size) (Choose (Signed w) (above_c scale w x) (high_c scale w) x) x) (upper scale z)
 upper-has int s l scale size w x z room has small = at (can_pass scale size) refl
   where
     at : (b : Bool) → can_pass scale size ≡ b
-        → Has int s l (cond b (Choose (above_c scale w x) (high_c scale w) x) x) (upper scale z)
-    at true is = choose-has int s l (above_c scale w x) (high_c scale w) x (int_lt (greatest scale) z) (greatest scale) z
+        → Has int s l (cond b (Choose (Signed w) (above_c scale w x) (high_c scale w) x) x) (upper scale z)
+    at true is = choose-has int s l w (above_c scale w x) (high_c scale w) x (int_lt (greatest scale) z) (greatest scale) z
+        (size-fits (bits w) size (upper scale z) room (upper-small scale size z small))
         (above-has int s l scale size w x z room has small is)
         (λ _. has_roomy int s l size _ _ (high-roomy int s l scale size w room is)) (λ _. has_roomy int s l size _ _ has)
     at false is = subst (λ (b : Bool). Has int s l x (cond b (greatest scale) z)) (sym (not_above scale size z small is))
@@ -190,15 +228,20 @@ saturated-has int s l scale size w x z room has small =
     (at (can_pass_low scale size) refl)
   where
     rest : CExpr
-    rest = cond (can_pass scale size) (Choose (above_c scale w x) (high_c scale w) x) x
+    rest = cond (can_pass scale size) (Choose (Signed w) (above_c scale w x) (high_c scale w) x) x
 
     rest_has : Has int s l rest (upper scale z)
     rest_has = upper-has int s l scale size w x z room has small
 
+    lower : (b : Bool) → can_pass_low scale size ≡ true → unsigned_abs (cond b (least scale) (upper scale z)) ≤ 2 ^ size
+    lower true is = low-small scale size is
+    lower false is = upper-small scale size z small
+
     at : (b : Bool) → can_pass_low scale size ≡ b
-        → Has int s l (cond b (Choose (below_c scale w x) (low_c scale w) rest) rest)
+        → Has int s l (cond b (Choose (Signed w) (below_c scale w x) (low_c scale w) rest) rest)
         (cond (int_lt z (least scale)) (least scale) (upper scale z))
-    at true is = choose-has int s l (below_c scale w x) (low_c scale w) rest (int_lt z (least scale)) (least scale) (upper scale z)
+    at true is = choose-has int s l w (below_c scale w x) (low_c scale w) rest (int_lt z (least scale)) (least scale) (upper scale z)
+        (size-fits (bits w) size _ room (lower (int_lt z (least scale)) is))
         (below-has int s l scale size w x z room has small is)
         (λ _. has_roomy int s l size _ _ (const-roomy int s l w size (least scale) room (low-small scale size is))) (λ _. rest_has)
     at false is = subst (λ (b : Bool). Has int s l rest (cond b (least scale) (upper scale z))) (sym (not_below scale size z small is)) rest_has

@@ -51,8 +51,8 @@ above_c scale w x = Compare IsAbove x (high_c scale w)
 -- the nearest number in range of a number x of that size, which lies in type w
 abbrev pub saturated_c : Scale → ℕ → Width → CExpr → CExpr
 saturated_c scale size w x =
-    let upper = if can_pass scale size then Choose (above_c scale w x) (high_c scale w) x else x in
-    if can_pass_low scale size then Choose (below_c scale w x) (low_c scale w) upper else upper
+    let upper = if can_pass scale size then Choose (Signed w) (above_c scale w x) (high_c scale w) x else x in
+    if can_pass_low scale size then Choose (Signed w) (below_c scale w x) (low_c scale w) upper else upper
 
 -- the number is out of range: the test before an overflow
 abbrev pub out_c : Scale → ℕ → Width → CExpr → CExpr
@@ -71,7 +71,7 @@ low_bits_c scale x = Bits BitAnd (Cast (Unsigned W64) x) (Const (Unsigned W64) (
 -- -(MASK - u) - 1, which no step takes out of int64_t
 abbrev pub signed_c : Scale → CExpr → CExpr
 signed_c scale u =
-    Choose (Compare IsAtMost u (Const (Unsigned W64) (pos (2 ^ (scale.width - 1) - 1)))) (Cast (Signed W64) u)
+    Choose (Signed W64) (Compare IsAtMost u (Const (Unsigned W64) (pos (2 ^ (scale.width - 1) - 1)))) (Cast (Signed W64) u)
     (Calc Less (Minus (Cast (Signed W64) (Calc Less (Const (Unsigned W64) (pos (2 ^ scale.width - 1))) u))) (Const (Signed W64) (pos 1)))
 
 -- ---- an assignment of a number

@@ -5,10 +5,10 @@ use Rattle.std.proofs.lemmas.Nat.{pow_pos}
 use Rattle.std.proofs.lemmas.Bool.Decides.{nat_tests}
 use Rattle.fixed_point.specs.Numbers.{floor_div}
 use Rattle.c_subset.specs.Trees.{Width, CType, Signed, Less, Quotient, Remainder, Comparison, IsUnequal, IsBelow, CExpr, Const, Local, Calc, Divide, Compare, Both, Choose, Function, File}
-use Rattle.c_subset.specs.Meaning.{bits, fits_signed, CValue, Meaning, Gives, Wrong, with_meaning, gives, as_signed, converted, one_if, is_true, exact, calculated, divided, divided_in, passes, truth, compared, read_as, Store, Locals, meaning}
+use Rattle.c_subset.specs.Meaning.{bits, fits_signed, CValue, Meaning, Gives, Wrong, with_meaning, gives, as_signed, converted, one_if, is_true, exact, calculated, divided, divided_in, passes, truth, compared, promoted, read_as, Store, Locals, meaning}
 use Rattle.c_subset.specs.Running.{Outcome, Returns, GoesWrong, with_value, and_with, same_type, no_locals, with_local, Calls, outcome, with_arguments, returned, run, call}
 use Rattle.c_subset.specs.Helpers.{is_low, floor_function}
-use Rattle.c_subset.proofs.TypeLemmas.{fits-wider, fitting-stays, common-signed, one-fits, truth-stays, same_type-itself}
+use Rattle.c_subset.proofs.TypeLemmas.{fitting-stays, promoted-signed, common-signed, one-fits, truth-stays, same_type-itself}
 use Rattle.c_subset.proofs.FloorBody.{differ, is_short, body, body-is}
 
 -- ---- numbers
@@ -183,12 +183,25 @@ both-means int s l a b p q ha hb =
     at true = refl
     at false = refl
 
-choose-means : (int : Width) (s : Store) (l : Locals) (c a b : CExpr) (p : Bool) → meaning int s l c ≡ truth int p
-    → meaning int s l (Choose c a b) ≡ cond p (meaning int s l a) (meaning int s l b)
+-- the value that is chosen, where it is one of the type
+choose-holds : (int w : Width) (s : Store) (l : Locals) (c a b : CExpr) (p : Bool) (v : Width) (z : ℤ)
+    → fits_signed (bits w) z ≡ true → meaning int s l c ≡ truth int p
+    → cond p (meaning int s l a) (meaning int s l b) ≡ gives (Signed v) z
+    → Holds int s l (bits w) (Choose (Signed w) c a b) z
 unfolding meaning
-choose-means int s l c a b p hc =
-    ap (λ (m : Meaning). with_meaning m (λ x. cond (is_true x.value) (meaning int s l a) (meaning int s l b))) hc
-    ∙ ap (λ (c : Bool). cond c (meaning int s l a) (meaning int s l b)) (truth-stays p)
+choose-holds int w s l c a b p v z fits hc chosen =
+    let up = promoted-signed int w in
+    let brought : Meaning → Meaning = λ m. with_meaning m (λ y. with_meaning (as_signed w y.value) (λ z. converted (promoted int (Signed w)) z.value)) in
+    record {
+      in_type = up.to;
+      wide = up.wider;
+      is = ap (λ (m : Meaning). with_meaning m (λ x. brought (cond (is_true x.value) (meaning int s l a) (meaning int s l b)))) hc
+          ∙ ap (λ (c : Bool). brought (cond c (meaning int s l a) (meaning int s l b))) (truth-stays p)
+          ∙ ap brought chosen
+          ∙ ap (λ (m : Meaning). with_meaning m (λ z. converted (promoted int (Signed w)) z.value)) (fitting-stays (bits w) w z (omega arith) fits)
+          ∙ ap (λ (t : CType). converted t z) up.is
+          ∙ fitting-stays (bits w) up.to z up.wider fits;
+    }
 
 module _ (int w : Width) (s : Store) (l : Locals) (x y : ℤ) (fx : fits_signed (bits w) x ≡ true)
     (fy : fits_signed (bits w) y ≡ true) (some : is_true y ≡ true) (fz : fits_signed (bits w) (floor_div x y) ≡ true)
@@ -235,34 +248,22 @@ module _ (int w : Width) (s : Store) (l : Locals) (x y : ℤ) (fx : fits_signed 
 
   -- the body gives the floor
   body-means : Holds int s l (bits w)
-      (Choose (is_low a b nothing) (Calc Less (Divide Quotient a b) (Const (Signed w) (pos 1))) (Divide Quotient a b)) (floor_div x y)
+      (Choose (Signed w) (is_low a b nothing) (Calc Less (Divide Quotient a b) (Const (Signed w) (pos 1))) (Divide Quotient a b)) (floor_div x y)
   body-means = at (is_short x y) refl
     where
-      whole : CExpr
-      whole = Choose (is_low a b nothing) (Calc Less (Divide Quotient a b) (Const (Signed w) (pos 1))) (Divide Quotient a b)
-
-      chosen : (c : Bool) → is_short x y ≡ c
-          → meaning int s l whole ≡ cond c (meaning int s l (Calc Less (Divide Quotient a b) (Const (Signed w) (pos 1)))) (meaning int s l (Divide Quotient a b))
-      chosen c is = choose-means int s l _ _ _ c (test ∙ ap (truth int) is)
-
       value : (c : Bool) → is_short x y ≡ c → cond c (int_div x y -ℤ pos 1) (int_div x y) ≡ floor_div x y
       value c is = sym (ap (λ (b : Bool). cond b (int_div x y -ℤ pos 1) (int_div x y)) is) ∙ body-is x y some
 
-      at : (c : Bool) → is_short x y ≡ c → Holds int s l (bits w) whole (floor_div x y)
+      at : (c : Bool) → is_short x y ≡ c → Holds int s l (bits w)
+          (Choose (Signed w) (is_low a b nothing) (Calc Less (Divide Quotient a b) (Const (Signed w) (pos 1))) (Divide Quotient a b)) (floor_div x y)
       at true is =
           let less = calc-holds int s l (bits w) (Divide Quotient a b) (Const (Signed w) (pos 1)) (int_div x y) (pos 1) fq
               (one-fits w true) (ap (fits_signed (bits w)) (value true is) ∙ fz) quotient
               (const-holds int s l w (pos 1) (one-fits w true)) in
-          record {
-            in_type = less.in_type;
-            wide = less.wide;
-            is = chosen true is ∙ less.is ∙ ap (gives (Signed less.in_type)) (value true is);
-          }
-      at false is = record {
-        in_type = quotient.in_type;
-        wide = quotient.wide;
-        is = chosen false is ∙ quotient.is ∙ ap (gives (Signed quotient.in_type)) (value false is);
-      }
+          choose-holds int w s l _ _ _ true less.in_type (floor_div x y) fz (test ∙ ap (truth int) is)
+          (less.is ∙ ap (gives (Signed less.in_type)) (value true is))
+      at false is = choose-holds int w s l _ _ _ false quotient.in_type (floor_div x y) fz (test ∙ ap (truth int) is)
+          (quotient.is ∙ ap (gives (Signed quotient.in_type)) (value false is))
 
 -- ---- the call
 
@@ -293,6 +294,6 @@ floor-call file int w k f s x y is fx fy some fz =
     l : Locals
     l = with_local (with_local no_locals (Signed w) 0 x.value) (Signed w) 1 y.value
 
-    means : Holds int s l (bits w) (Choose (is_low (Local (Signed w) 0) (Local (Signed w) 1) (Const (Signed w) (pos 0))) (Calc Less (Divide Quotient (Local (Signed w) 0) (Local (Signed w) 1)) (Const (Signed w) (pos 1))) (Divide Quotient (Local (Signed w) 0) (Local (Signed w) 1))) (floor_div x.value y.value)
+    means : Holds int s l (bits w) (Choose (Signed w) (is_low (Local (Signed w) 0) (Local (Signed w) 1) (Const (Signed w) (pos 0))) (Calc Less (Divide Quotient (Local (Signed w) 0) (Local (Signed w) 1)) (Const (Signed w) (pos 1))) (Divide Quotient (Local (Signed w) 0) (Local (Signed w) 1))) (floor_div x.value y.value)
     means = body-means int w s l x.value y.value fx fy some fz (set-there no_locals (Signed w) 0 x.value)
         (set-there (with_local no_locals (Signed w) 0 x.value) (Signed w) 1 y.value)

@@ -28,7 +28,7 @@ use Rattle.c_expressions.proofs.Correct.{ends_as_value, value_has_sort}
 use Rattle.flow_base.specs.declared.fault.Fault.TheVariants.{Overflow as Overflows}
 use Rattle.fixed_point.specs.declared.fitting.Overflow.{Overflow}
 use Rattle.c_subset.specs.Trees.{Width, W64, CType, Signed, Unsigned, CExpr, Local}
-use Rattle.c_subset.specs.Meaning.{bits, gives, converted, one_if, read_as, Store, Locals, meaning}
+use Rattle.c_subset.specs.Meaning.{bits, gives, converted, read_as, Store, Locals, meaning}
 use Rattle.c_subset.specs.Running.{with_local}
 use Rattle.c_expressions.specs.Code.{Goes, Faults, ending}
 use Rattle.c_expressions.specs.Translation.{Flat}

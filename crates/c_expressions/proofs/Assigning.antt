@@ -1,31 +1,28 @@
 -- The statements of an assignment store what the datum keeps, and the struct shows the new data.
-use Rattle.std.proofs.Common.{◌≡◌, ℕ, zero, suc, ◌<◌, ◌≤◌, ℤ, pos, int_le, Bool, true, false, cond, ◌&&◌, IsTrue, List, [], ◌∷◌, length, slice_get, slice_set, Some, None, Option, Result, Ok, Err, IfOk, refl, sym, ap, ◌∙◌, subst, arith}
-use Rattle.std.proofs.lemmas.Result.{IfOk-at_ok}
+use Rattle.std.proofs.Common.{◌≡◌, ℕ, zero, suc, ◌<◌, ℤ, Bool, List, [], ◌∷◌, length, slice_get, slice_set, Some, None, Option, Result, Ok, Err, IfOk, refl, sym, ap, ◌∙◌, subst, arith}
 use Rattle.flow_base.specs.declared.fault.Fault.{Fault}
 use Rattle.flow_base.specs.declared.fault.Fault.TheVariants.{Overflow as Overflows}
 use Rattle.fixed_point.specs.declared.scale.Scale.{Scale}
-use Rattle.fixed_point.specs.declared.num.Num.{Num}
 use Rattle.fixed_point.specs.declared.fitting.Mode.{Mode}
 use Rattle.fixed_point.specs.declared.fitting.Mode.TheVariants.{Saturate, Wrap, Error}
 use Rattle.fixed_point.specs.declared.fitting.Overflow.{Overflow}
-use Rattle.fixed_point.specs.Scales.{fitted, is_in_range}
+use Rattle.fixed_point.specs.Scales.{fitted}
 use Rattle.active_config.specs.Marks.{Configuration}
-use Rattle.actions.specs.declared.expr.Value.{Value}
 use Rattle.actions.specs.declared.expr.Value.TheVariants as values
 use Rattle.actions.specs.declared.names.Sort.{Sort}
 use Rattle.actions.specs.declared.names.Sort.TheVariants as sorts
 use Rattle.actions.specs.declared.sort.ExprSort.{ExprSort}
 use Rattle.actions.specs.declared.sort.ExprSort.TheVariants as kinds
-use Rattle.actions.specs.Data.{Datum, datum, is_mantissa_of, with_mantissa, keep, kept, kept_number, assigned}
+use Rattle.actions.specs.Data.{Datum, datum, with_mantissa, keep, kept_number, assigned}
 use Rattle.actions.specs.Exprs.{Expr}
 use Rattle.actions.specs.Sorts.{sort_of, assignment_fault}
 use Rattle.actions.specs.Values.{Valued, HasSort, value_of, scope_at}
 use Rattle.actions.proofs.RangeLemmas.{fitted_is_in}
-use Rattle.c_subset.specs.Trees.{Width, CType, Truth, CExpr, Block, Store as PutField}
-use Rattle.c_subset.specs.Meaning.{CValue, Meaning, Object, with_meaning, gives, converted, one_if, Store, Locals, meaning}
-use Rattle.c_subset.specs.Running.{Calls, Outcome, with_value, object_of, brought_to, with_field, outcome}
+use Rattle.c_subset.specs.Trees.{Width, Truth, CExpr, Block, Store as PutField}
+use Rattle.c_subset.specs.Meaning.{CValue, Meaning, Object, with_meaning, gives, converted, one_if, Store, Locals}
+use Rattle.c_subset.specs.Running.{Calls, with_value, brought_to, with_field, outcome}
 use Rattle.c_subset.proofs.TypeLemmas.{truth-stays}
-use Rattle.c_expressions.specs.Code.{Goes, Faults, ending, Divides, Returning}
+use Rattle.c_expressions.specs.Code.{Faults, ending, Divides, Returning}
 use Rattle.c_expressions.specs.Translation.{Flat, flat}
 use Rattle.c_expressions.specs.Storing.{Stores, stored_c, StoresAs}
 use Rattle.c_expressions.specs.Claims.{ShowsData, field_type, field_of, Has, EndsAs}

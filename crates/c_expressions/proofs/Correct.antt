@@ -1,5 +1,5 @@
 -- The C of an expression that has a sort ends as its value does.
-use Rattle.std.proofs.Common.{◌≡◌, ℕ, zero, suc, ◌^◌, ◌<◌, ◌≤◌, ℤ, pos, int_lt, neg_ℤ, unsigned_abs, Bool, true, false, cond, not, IsTrue, List, [], ◌∷◌, length, map, slice_get, Some, Ok, Err, IfOk, if◌then◌else◌, refl, sym, ap, ◌∙◌, subst, arith}
+use Rattle.std.proofs.Common.{◌≡◌, ℕ, zero, suc, ◌^◌, ◌<◌, ◌≤◌, ℤ, pos, int_lt, neg_ℤ, unsigned_abs, Bool, true, false, cond, not, IsTrue, List, [], ◌∷◌, length, Ok, Err, IfOk, if◌then◌else◌, refl, sym, ap, ◌∙◌, subst, arith}
 use Rattle.std.proofs.lemmas.Int.{ints}
 use Rattle.std.proofs.lemmas.Bool.Decides.{nat_tests}
 use Rattle.std.proofs.lemmas.Result.{IfOk-at_ok}
@@ -23,12 +23,11 @@ use Rattle.actions.proofs.OperatorLemmas.{number_within-is}
 use Rattle.actions.proofs.OperandLemmas.{applied-has_sort, has_flag}
 use Rattle.actions.proofs.NarrowLemmas.{sort_of-narrow}
 use Rattle.actions.proofs.SortLemmas.{literal-has_sort, value-has_sort, datum-there}
-use Rattle.flow_base.specs.declared.fault.Fault.{Fault}
 use Rattle.c_subset.specs.Trees.{Width, Signed, Truth, CExpr, Const, Field, Bang}
-use Rattle.c_subset.specs.Meaning.{Object, gives, read, one_if, Store, Locals, meaning}
+use Rattle.c_subset.specs.Meaning.{gives, read, one_if, Store, Locals, meaning}
 use Rattle.c_expressions.specs.Code.{Nothing, Faults, ending}
 use Rattle.c_expressions.specs.Translation.{Flat, flat, operator_flat, operator_c, eager_flat, lazy_flat, quotient_flat, negation_c, sort_in, width_for, is_nothing}
-use Rattle.c_expressions.specs.Claims.{ShowsData, ShowsActive, field_type, field_of, Has, shown, EndsAs}
+use Rattle.c_expressions.specs.Claims.{ShowsData, ShowsActive, field_type, Has, shown, EndsAs}
 use Rattle.c_subset.proofs.TypeLemmas.{truth-stays}
 use Rattle.c_expressions.proofs.Fits.{width_for-room}
 use Rattle.c_expressions.proofs.Operators.{has_roomy, const-roomy, bang-has}

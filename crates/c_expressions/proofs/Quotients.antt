@@ -1,5 +1,5 @@
 -- A quotient: the divisor as a local, the fault where it is 0, and the quotient as a local.
-use Rattle.std.proofs.Common.{◌≡◌, ℕ, ◌+◌, ◌<◌, ◌≤◌, max, nat_eq, ℤ, pos, ◌^◌, unsigned_abs, Bool, true, false, cond, not, Some, Ok, Err, refl, sym, ap, ◌∙◌, arith}
+use Rattle.std.proofs.Common.{◌≡◌, ℕ, ◌+◌, ◌<◌, ◌≤◌, max, nat_eq, ℤ, pos, ◌^◌, unsigned_abs, Bool, true, false, cond, not, Some, Ok, Err, refl, ap, ◌∙◌, arith}
 use Rattle.std.proofs.lemmas.Int.{ints}
 use Rattle.std.proofs.lemmas.Bool.Decides.{nat_tests}
 use Rattle.flow_base.specs.declared.fault.Fault.{Fault}

@@ -11,12 +11,12 @@ use Rattle.fixed_point.specs.declared.num.Num.{Num}
 use Rattle.fixed_point.specs.declared.scale.Scale.{Scale}
 use Rattle.actions.specs.Sorts.{size_at, magnitude_bits}
 use Rattle.actions.proofs.MagnitudeLemmas.{size-weaker, scaled-within, floor_div-within}
-use Rattle.c_subset.specs.Trees.{Width, CType, Signed, Truth, IsBelow, IsAbove, CExpr, Const, Cast, Either, Choose}
+use Rattle.c_subset.specs.Trees.{Width, CType, Signed, Truth, IsBelow, IsAbove, CExpr, Const, Either, Choose}
 use Rattle.c_subset.specs.Meaning.{bits, fits_signed, Meaning, with_meaning, gives, as_signed, converted, promoted, is_true, one_if, Store, Locals, meaning}
 use Rattle.c_expressions.specs.Translation.{brought}
 use Rattle.c_expressions.specs.Storing.{floored_width, floored_code, can_pass, can_pass_low, low_c, high_c, below_c, above_c, saturated_c, out_c}
 use Rattle.c_subset.specs.Running.{with_local}
-use Rattle.c_expressions.specs.Code.{CCode, Set, Divide, Goes, ending}
+use Rattle.c_expressions.specs.Code.{Set, Divide, Goes, ending}
 use Rattle.c_expressions.specs.Claims.{Has}
 use Rattle.c_subset.proofs.TypeLemmas.{fitting-stays, promoted-signed, truth-stays}
 use Rattle.c_expressions.proofs.Fits.{size-fits, signed-stays, width_for-room}

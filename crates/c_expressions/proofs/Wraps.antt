@@ -6,7 +6,7 @@ use Rattle.std.proofs.lemmas.Nat.{pow_pos, pow-add, mul-le, mod-pow-add, mod-mul
 use Rattle.std.specs.Int.{int_rem_euclid}
 use Rattle.fixed_point.specs.Scales.{wrapped}
 use Rattle.fixed_point.specs.declared.scale.Scale.{Scale}
-use Rattle.c_subset.specs.Trees.{Width, W8, W16, W32, W64, W128, CType, Unsigned, BitAnd, CExpr, Const}
+use Rattle.c_subset.specs.Trees.{Width, W8, W16, W32, W64, W128, CType, Unsigned, BitAnd, CExpr}
 use Rattle.c_subset.specs.Meaning.{bits, CValue, Meaning, with_meaning, gives, converted, combined, combined_in, common, common_of, promoted, Store, Locals, meaning}
 use Rattle.c_expressions.specs.Storing.{low_bits_c}
 use Rattle.c_expressions.specs.Claims.{Has}

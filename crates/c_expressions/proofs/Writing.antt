@@ -2,7 +2,7 @@
 use Rattle.std.proofs.Common.{◌≡◌, ℕ, suc, ℤ, Bool, true, false, cond, [], ◌∷◌, Some, slice_get, refl, sym, ap, ◌∙◌, subst, arith}
 use Rattle.flow_base.specs.declared.fault.Fault.{Fault}
 use Rattle.fixed_point.specs.Numbers.{floor_div}
-use Rattle.c_subset.specs.Trees.{Width, CType, Signed, CExpr, Block, End, File}
+use Rattle.c_subset.specs.Trees.{Width, Signed, Block, End, File}
 use Rattle.c_subset.specs.Meaning.{bits, fits_signed, CValue, Meaning, Gives, Wrong, with_meaning, gives, as_signed, converted, is_true, Store, Locals, meaning}
 use Rattle.c_subset.specs.Running.{Outcome, Falls, Returns, with_value, and_on, with_local, Calls, with_values, called, outcome, call}
 use Rattle.c_subset.specs.Helpers.{floor_function}

@@ -13,7 +13,7 @@ use Rattle.actions.specs.Sorts.{sort_of, assignment_fault}
 use Rattle.actions.specs.Values.{Valued, scope_at}
 use Rattle.c_subset.specs.Trees.{Width, CExpr, Block, Store as PutField}
 use Rattle.c_subset.specs.Meaning.{bits, CValue, Store, Locals}
-use Rattle.c_subset.specs.Running.{Calls, Outcome, Returns, with_field, outcome}
+use Rattle.c_subset.specs.Running.{Calls, Outcome, Returns, with_field}
 use Rattle.c_expressions.specs.Code.{written, Divides, Returning}
 use Rattle.c_expressions.specs.Translation.{Flat}
 use Rattle.c_expressions.specs.Storing.{Stores, stored_c}

@@ -1,5 +1,5 @@
 -- The code that an expression needs before it: what it does, and the statements that are written for it.
-use Rattle.std.specs.Prelude.{◌≡◌, ℕ, ◌∷◌, [], ℤ, List, if◌then◌else◌}
+use Rattle.std.specs.Prelude.{◌≡◌, ℕ, ◌∷◌, [], ℤ, if◌then◌else◌}
 use Rattle.flow_base.specs.declared.fault.Fault.{Fault}
 use Rattle.fixed_point.specs.Numbers.{floor_div}
 use Rattle.c_subset.specs.Trees.{Width, CType, Signed, CExpr, Block, End}

@@ -1,10 +1,10 @@
 -- Memory tells the world, and so some arithmetic agrees with that of code.
-use Rattle.std.proofs.Common.{◌≡◌, ◌≢◌, ℕ, zero, suc, ◌≤◌, ◌<◌, ◌&&◌, List, length, map, Option, Some, None, Bool, true, false, Result, Ok, Err, refl, sym, ap, ◌∙◌, subst, arith, get_or}
+use Rattle.std.proofs.Common.{◌≡◌, ℕ, ◌&&◌, List, Option, Some, None, Bool, true, false, Result, Ok, Err, refl, sym, ap, ◌∙◌, subst, arith}
 use Rattle.std.proofs.lemmas.List.FromFn.{fill_by_all}
 use Rattle.std.specs.Prelude.{◌==◌, slice_index_or}
 use Rattle.std.specs.List.{find, range_with_len}
 use Rattle.flow_base.specs.declared.fault.Fault.{Fault}
-use Rattle.active_config.specs.Tree.{Tree, state_count, parent_of, is_child}
+use Rattle.active_config.specs.Tree.{Tree, state_count, is_child}
 use Rattle.active_config.specs.Marks.{Configuration, is_on, mark_count, last_of, IsConsistent}
 use Rattle.active_config.proofs.ParentLemmas.{child_within}
 use Rattle.active_config.proofs.ChildLemmas.{parent_of_child, child_of_parent}

@@ -1,10 +1,10 @@
 -- What the fields show after a change.
-use Rattle.std.proofs.Common.{◌≡◌, ◌≢◌, ℕ, zero, suc, ◌+◌, ◌≤◌, ◌<◌, List, [], ◌∷◌, length, map, Option, Some, None, Bool}
-use Rattle.std.proofs.Common.{true, false, cond, not, ◌&&◌, ◌||◌, refl, sym, ap, ◌∙◌, subst, ⊎_elim, arith, get_or, inl, inr}
+use Rattle.std.proofs.Common.{◌≡◌, ◌≢◌, ℕ, ◌≤◌, ◌<◌, length, Option, Some, None, Bool}
+use Rattle.std.proofs.Common.{true, false, cond, not, ◌&&◌, refl, sym, ap, ◌∙◌, subst, ⊎_elim, arith, get_or, inl, inr}
 use Rattle.std.proofs.Common.{get_or-set_other, get_or-set_same, length-set}
 use Rattle.std.proofs.lemmas.Bool.{cases_lt}
 use Rattle.std.proofs.Math.ListN.{get_or-eq_default}
-use Rattle.std.specs.Prelude.{◌⊎◌, ◌==◌, slice_index_or, slice_set, if◌then◌else◌}
+use Rattle.std.specs.Prelude.{◌⊎◌, ◌==◌, slice_set, if◌then◌else◌}
 use Rattle.active_config.specs.declared.comp.Comp.{Comp}
 use Rattle.active_config.specs.declared.comp.Comp.TheVariants.{Leaf, Or, And}
 use Rattle.active_config.specs.Tree.{Tree, state_count, parent_of, comp_of}
@@ -15,7 +15,7 @@ use Rattle.active_config.proofs.MarksLemmas.{bare_is_on, bare_child_off, is_on-w
 use Rattle.active_config.proofs.MarksLemmas.{is_on-with_last, last_of-with_last_same, last_of-with_last_other}
 use Rattle.c_procedures.specs.States.{States, Numbers, is_or, or_parent, number, c_on, c_bare, choose_child, set_flag, c_set, c_unset}
 use Rattle.c_procedures.specs.States.{c_takes, c_mark, c_clear, c_keep, keep_by, IsChild, Shows}
-use Rattle.c_procedures.proofs.Showing.{on_is, bare_is, or_parent_is, or_parent_at, no_or_parent, same_self, differ}
+use Rattle.c_procedures.proofs.Showing.{on_is, bare_is, or_parent_is, or_parent_at, same_self, differ}
 
 -- an OR is a state
 pub or_within : (t : Tree) (p : ℕ) → length t.comps ≡ state_count t → is_or (comp_of t p) ≡ true → p < state_count t

@@ -1,8 +1,8 @@
 -- The tests that are written are the tests of the fields.
-use Rattle.std.proofs.Common.{◌≡◌, ℕ, List, [], ◌∷◌, Option, Some, None, Bool, true, false, cond, not, ◌&&◌, ◌||◌, Ok, refl, sym, ap, ◌∙◌, subst}
-use Rattle.std.specs.Prelude.{◌==◌, slice_index_or, if◌then◌else◌}
+use Rattle.std.proofs.Common.{◌≡◌, ℕ, List, [], ◌∷◌, Option, Some, None, Bool, true, false, not, ◌&&◌, ◌||◌, Ok, refl, ap, ◌∙◌}
+use Rattle.std.specs.Prelude.{slice_index_or, if◌then◌else◌}
 use Rattle.std.specs.List.{list_any}
-use Rattle.active_config.specs.Tree.{Tree, parent_of, comp_of, children_of}
+use Rattle.active_config.specs.Tree.{parent_of, comp_of, children_of}
 use Rattle.actions.specs.Work.{Now}
 use Rattle.c_procedures.specs.States.{is_or, or_parent, c_on, on_by, c_bare, childless_by, c_last, last_by, c_takes, c_set, c_unset, c_mark, c_clear}
 use Rattle.c_procedures.specs.Statements.{Memory, Locals, Out, Fell, End}

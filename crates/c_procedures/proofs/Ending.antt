@@ -1,21 +1,20 @@
 -- A call from outside ends as the run of code does.
-use Rattle.std.proofs.Common.{◌≡◌, ℕ, zero, suc, ◌++◌, List, [], ◌∷◌, length, drop, Option, Some, None, refl, sym, ap, ◌∙◌, subst, arith}
+use Rattle.std.proofs.Common.{◌≡◌, ℕ, zero, suc, ◌++◌, [], ◌∷◌, length, drop, Some, None, refl, sym, ap, ◌∙◌, arith}
 use Rattle.flow_base.specs.declared.bounds.Bounds.{Bounds}
-use Rattle.flow_base.specs.declared.fault.Fault.{Fault}
 use Rattle.active_config.specs.Tree.{Tree, state_count}
 use Rattle.actions.specs.World.{World}
 use Rattle.actions.specs.Work.{Now}
 use Rattle.code_language.specs.Code.{Procedures, instructions}
-use Rattle.code_language.specs.Machine.{Program, Frame, Machine, machine, fresh, later}
-use Rattle.code_language.specs.Reactions.{Leads, first_frame}
-use Rattle.code_simulation.specs.Reach.{Reaches, with_note, pending}
+use Rattle.code_language.specs.Machine.{Program, Machine, fresh}
+use Rattle.code_language.specs.Reactions.{first_frame}
+use Rattle.code_simulation.specs.Reach.{pending}
 use Rattle.code_simulation.proofs.Endings.{reached_leads, falls_leads}
 use Rattle.code_simulation.proofs.Notes.{pending_at, pending_past}
 use Rattle.c_procedures.specs.States.{Numbers}
 use Rattle.c_procedures.specs.Statements.{Memory, Block, Out, Fell, Left, Failed, Starved, Wrong}
-use Rattle.c_procedures.specs.Meaning.{Sums, CProgram, call_fn, begins}
+use Rattle.c_procedures.specs.Meaning.{Sums, call_fn, begins}
 use Rattle.c_procedures.specs.Written.{AreWritten}
-use Rattle.c_procedures.specs.Runs.{Stands, Agree, IsAt, Returned, DoesCall, EndsWith}
+use Rattle.c_procedures.specs.Runs.{Stands, Agree, IsAt, DoesCall, EndsWith}
 use Rattle.c_procedures.proofs.Following.{later_zero}
 use Rattle.c_procedures.proofs.Simulates.{calls_do}
 

@@ -1,20 +1,20 @@
 -- How code follows statements, one after another.
 use Rattle.std.proofs.Common.{◌≡◌, ◌≤◌, ◌<◌, ℕ, zero, suc, ◌+◌, ◌++◌, List, [], ◌∷◌, length, drop, Option, Some, None, Bool, true, false, cond, refl, sym, ap, ◌∙◌, subst, arith}
 use Rattle.std.specs.Prelude.{slice_get, nat_lt, if◌then◌else◌}
-use Rattle.std.proofs.lemmas.Bool.{lt-ltb, le-ltb, ltb-true, ltb-false}
+use Rattle.std.proofs.lemmas.Bool.{le-ltb, ltb-true, ltb-false}
 use Rattle.actions.specs.declared.event.Event.{Event}
 use Rattle.actions.specs.Work.{Now}
 use Rattle.code_language.specs.Code.{Procedures, instructions, fetch}
 use Rattle.code_language.specs.Instrs.{Instr}
-use Rattle.code_language.specs.Machine.{Program, Frame, Machine, machine, next, past, later}
-use Rattle.code_simulation.specs.Reach.{Reaches, Falls, with_note, pending}
-use Rattle.code_simulation.proofs.Joins.{here, on_to, falls_on}
+use Rattle.code_language.specs.Machine.{Program, Frame, Machine, machine, later}
+use Rattle.code_simulation.specs.Reach.{Reaches, with_note, pending}
+use Rattle.code_simulation.proofs.Joins.{on_to, falls_on}
 use Rattle.code_simulation.proofs.Notes.{pending_at}
 use Rattle.actions.specs.World.{World}
 use Rattle.active_config.specs.Tree.{Tree}
 use Rattle.c_procedures.specs.Statements.{Memory, Locals, Out, Fell, Left, Failed, Starved, Wrong}
-use Rattle.c_procedures.specs.Meaning.{and_on, and_with, closed}
-use Rattle.c_procedures.specs.Runs.{Stands, IsAt, Passed, Returned, Lost, Does, DoesCall}
+use Rattle.c_procedures.specs.Meaning.{and_on}
+use Rattle.c_procedures.specs.Runs.{Stands, IsAt, Does}
 
 -- ---- places
 

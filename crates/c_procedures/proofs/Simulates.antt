@@ -1,21 +1,21 @@
 -- The functions of the C program do what the procedures of the code do.
-use Rattle.std.proofs.Common.{◌≡◌, ◌≤◌, ◌<◌, ℕ, zero, suc, ◌+◌, ◌++◌, List, [], ◌∷◌, length, drop, Option, Some, None, Bool, true, false, cond, not, ◌&&◌, ◌||◌}
+use Rattle.std.proofs.Common.{◌≡◌, ◌≤◌, ◌<◌, ℕ, zero, suc, ◌+◌, ◌++◌, List, [], ◌∷◌, length, drop, Option, Some, None, Bool, true, false, not, ◌&&◌}
 use Rattle.std.proofs.Common.{Result, Ok, Err, refl, sym, ap, ◌∙◌, subst, arith, append-nil, length-append}
 use Rattle.std.proofs.lemmas.List.{drop_all, drop-append-le}
-use Rattle.std.specs.Prelude.{if◌then◌else◌, ◌==◌, nat_le, nat_lt, slice_get, slice_set}
+use Rattle.std.specs.Prelude.{if◌then◌else◌, ◌==◌, nat_le, nat_lt, slice_get}
 use Rattle.std.proofs.lemmas.Bool.{lt-ltb, le-ltb}
 use Rattle.flow_base.specs.declared.bounds.Bounds.{Bounds}
 use Rattle.flow_base.specs.declared.fault.Fault.{Fault}
 use Rattle.flow_base.specs.declared.fault.Fault.TheVariants as faults
 use Rattle.active_config.specs.Tree.{Tree, state_count, parent_of, comp_of}
-use Rattle.active_config.specs.Marks.{Configuration, is_on, is_bare, is_last, can_mark, with_mark, with_last, IsConsistent}
+use Rattle.active_config.specs.Marks.{is_on, is_bare, can_mark, with_mark}
 use Rattle.active_config.specs.declared.comp.Comp.{Comp}
 use Rattle.active_config.specs.declared.comp.Comp.TheVariants.{Leaf, Or, And}
 use Rattle.active_config.proofs.MarksLemmas.{marked, cleared, remembered}
 use Rattle.actions.specs.declared.event.Event.{Event}
 use Rattle.actions.specs.World.{World, put_out}
-use Rattle.actions.specs.Changes.{truth_of, paid_in, assigned_in, mark_in, clear_in, keep_in, set_mark}
-use Rattle.actions.specs.Work.{Now, is_event, deeper}
+use Rattle.actions.specs.Changes.{paid_in, assigned_in, mark_in, clear_in, keep_in, set_mark}
+use Rattle.actions.specs.Work.{Now, deeper}
 use Rattle.code_language.specs.Code.{Procedures, instructions, fetch}
 use Rattle.code_language.specs.Instrs.{Cond, Instr}
 use Rattle.code_language.specs.Instrs as i
@@ -23,17 +23,17 @@ use Rattle.code_language.specs.Machine as mach
 use Rattle.actions.specs.Exprs.{Expr}
 use Rattle.code_language.specs.Machine.{Program, Frame, Machine, machine, later, fresh, next, past, returned, holds}
 use Rattle.code_simulation.specs.Reach.{Reaches, Falls, with_note, pending}
-use Rattle.code_simulation.proofs.Joins.{here, on_to, falls_on}
+use Rattle.code_simulation.proofs.Joins.{here}
 use Rattle.code_simulation.proofs.Notes.{pending_at, pending_past, IsHead, noted_head}
 use Rattle.code_simulation.proofs.Steps.{go_mark, go_clear, go_keep, go_skip, go_call, go_home, go_begin, go_ret, go_pass, go_pass_zero}
 use Rattle.code_simulation.proofs.Steps.{go_unless_true, go_unless_false, fall_unless, one_step, one_fall, go_play_none, go_play_lame}
-use Rattle.c_procedures.specs.States.{States, Numbers, Shows, is_or, or_parent, c_mark, c_clear, c_keep, keep_by, choose_child, set_flag}
+use Rattle.c_procedures.specs.States.{Numbers, Shows, is_or, c_mark, c_clear, c_keep, keep_by}
 use Rattle.c_procedures.specs.Statements.{Memory, Locals, Block, Out, Fell, Left, Failed, Starved, Wrong}
 use Rattle.c_procedures.specs.Statements as c
 use Rattle.c_procedures.specs.Meaning.{Sums, pay, turn, CProgram, Calls, check, truth_c, exec, branch, and_on, and_with, and_stored, unless_met, turns, from_base, front, closed, with_states, begins, call_fn}
-use Rattle.c_procedures.specs.Written.{test_of, on_check, noted_call, takes_check, set_block, straight, keep_block, IsOrChild, IsStraight, Written, Stops, Steps, Returns, Skips, Forks}
+use Rattle.c_procedures.specs.Written.{test_of, on_check, noted_call, straight, keep_block, IsOrChild, IsStraight, Written, Stops, Steps, Returns, Skips, Forks}
 use Rattle.c_procedures.specs.Written.{AreWritten}
-use Rattle.c_procedures.specs.Runs.{Stands, Stored, Agree, IsAt, Passed, Returned, Lost, Does, DoesCall, CallsDo}
+use Rattle.c_procedures.specs.Runs.{Stands, Stored, Agree, IsAt, Does, DoesCall, CallsDo}
 use Rattle.c_procedures.proofs.Showing.{on_is, bare_is, last_is, differ}
 use Rattle.c_procedures.proofs.Changing.{mark_shows, clear_shows, keep_shows}
 use Rattle.c_procedures.proofs.Checks.{on_test, bare_test, last_test, mark_runs, clear_runs}

@@ -1,11 +1,11 @@
 -- The memory before a start, and numbers of states that serve.
-use Rattle.std.proofs.Common.{◌≡◌, ◌≢◌, ℕ, zero, suc, ◌<◌, ◌≤◌, List, [], ◌∷◌, length, Option, Some, None, Bool, true, false, refl, sym, ap, ◌∙◌, ⊎_elim, arith, get_or, inl, inr}
+use Rattle.std.proofs.Common.{◌≡◌, ℕ, zero, suc, ◌<◌, ◌≤◌, [], ◌∷◌, length, Some, Bool, true, false, refl, sym, ap, ◌∙◌, ⊎_elim, arith, get_or, inl, inr}
 use Rattle.std.proofs.lemmas.Bool.{cases_lt}
 use Rattle.std.proofs.lemmas.List.{length-replicate, get_or-replicate}
 use Rattle.std.proofs.Math.ListN.{get_or-eq_default}
 use Rattle.std.specs.Prelude.{◌==◌, replicate}
-use Rattle.active_config.specs.Tree.{Tree, state_count, parent_of, comp_of}
-use Rattle.active_config.specs.Marks.{is_on, last_of, no_marks}
+use Rattle.active_config.specs.Tree.{Tree, state_count, parent_of}
+use Rattle.active_config.specs.Marks.{no_marks}
 use Rattle.active_config.proofs.MarksLemmas.{none_on, none_last}
 use Rattle.std.proofs.Common.{cond, length-append, ◌+◌, subst}
 use Rattle.std.specs.Prelude.{◌⊎◌, if◌then◌else◌}
@@ -13,7 +13,7 @@ use Rattle.std.specs.List.{filter, range_with_len}
 use Rattle.active_config.specs.Tree.{is_child, children_below}
 use Rattle.active_config.proofs.RangeLemmas.{filter-range_more}
 use Rattle.active_config.proofs.ChildLemmas.{child_of_parent}
-use Rattle.c_procedures.specs.States.{States, Numbers, Shows, number, no_fields, rank_by, place_number}
+use Rattle.c_procedures.specs.States.{Numbers, Shows, number, no_fields, rank_by, place_number}
 use Rattle.c_procedures.proofs.Showing.{differ}
 
 -- 1 + the number of the state

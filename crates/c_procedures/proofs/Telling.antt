@@ -1,21 +1,21 @@
 -- Fields and marks are the same thing: one store shows given marks, and it tells them.
-use Rattle.std.proofs.Common.{◌≡◌, ◌≢◌, ℕ, zero, suc, ◌+◌, ◌≤◌, ◌<◌, List, [], ◌∷◌, length, map, Option, Some, None, Bool}
-use Rattle.std.proofs.Common.{true, false, cond, not, ◌&&◌, ◌||◌, refl, sym, ap, ◌∙◌, subst, ⊎_elim, arith, get_or, inl, inr}
+use Rattle.std.proofs.Common.{◌≡◌, ◌≢◌, ℕ, ◌≤◌, ◌<◌, length, map, Option, Some, None, Bool}
+use Rattle.std.proofs.Common.{true, false, ◌&&◌, refl, sym, ap, ◌∙◌, subst, arith, get_or, inl, inr}
 use Rattle.std.proofs.lemmas.Bool.{cases_lt}
 use Rattle.std.proofs.Math.ListN.{get_or-eq_default}
-use Rattle.std.proofs.lemmas.List.{ext_get_or, length-replicate, get_or-replicate}
+use Rattle.std.proofs.lemmas.List.{ext_get_or}
 use Rattle.std.proofs.lemmas.List.FromFn.{length-map-range_with_len, get_or-map-range_with_len}
-use Rattle.std.specs.Prelude.{◌⊎◌, ◌==◌, slice_index_or, replicate, if◌then◌else◌}
+use Rattle.std.specs.Prelude.{◌⊎◌, ◌==◌, slice_index_or, if◌then◌else◌}
 use Rattle.std.specs.List.{find, range_with_len}
 use Rattle.active_config.specs.declared.comp.Comp.{Comp}
 use Rattle.active_config.specs.declared.comp.Comp.TheVariants.{Leaf, Or, And}
 use Rattle.active_config.specs.Tree.{Tree, state_count, parent_of, comp_of, is_child, children_of, children_below}
-use Rattle.active_config.specs.Marks.{Configuration, mark_count, is_on, active_child, no_marks, last_of, IsConsistent}
+use Rattle.active_config.specs.Marks.{Configuration, mark_count, is_on, active_child, last_of, IsConsistent}
 use Rattle.active_config.proofs.ParentLemmas.{child_within}
 use Rattle.active_config.proofs.ChildLemmas.{parent_of_child, child_of_parent}
 use Rattle.active_config.proofs.SiblingLemmas.{is_first, is_none}
 use Rattle.active_config.proofs.RangeLemmas.{find-filter}
-use Rattle.active_config.proofs.MarksLemmas.{on_past, none_on, none_last}
+use Rattle.active_config.proofs.MarksLemmas.{on_past}
 use Rattle.active_config.proofs.TableLemmas.{same_or_other}
 use Rattle.c_procedures.specs.States.{States, Numbers, is_or, or_parent, number, IsChild, Shows, choice, flag_by, shown}
 use Rattle.c_procedures.proofs.Showing.{on_is, or_parent_is, same_self, same_is, differ}

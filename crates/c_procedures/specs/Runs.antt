@@ -1,7 +1,6 @@
 -- How the C program stands to a run of code.
-use Rattle.std.specs.Prelude.{◌≡◌, ◌≢◌, ◌≤◌, ◌++◌, ℕ, zero, suc, List, [], ◌∷◌, length, drop, Option, Some, None, Result, Ok, Err, Bool}
+use Rattle.std.specs.Prelude.{◌≡◌, ◌≢◌, ◌≤◌, ◌++◌, ℕ, suc, List, [], ◌∷◌, length, drop, Option, Some, None, Result, Ok, Err}
 use Rattle.flow_base.specs.declared.fault.Fault.{Fault}
-use Rattle.flow_base.specs.declared.bounds.Bounds.{Bounds}
 use Rattle.std.specs.Prelude.{◌==◌, ◌&&◌, map, slice_index_or}
 use Rattle.std.specs.List.{find, range_with_len}
 use Rattle.active_config.specs.Tree.{Tree, state_count, is_child}
@@ -14,12 +13,12 @@ use Rattle.actions.specs.Work.{Now}
 use Rattle.code_language.specs.Code.{Procedures, instructions}
 use Rattle.code_language.specs.Instrs.{Instr}
 use Rattle.code_language.specs.Machine.{Program, Frame, Machine, machine, returned, later, step, Stops}
-use Rattle.code_language.specs.Reactions.{Leads, first_frame}
+use Rattle.code_language.specs.Reactions.{Leads}
 use Rattle.actions.specs.Runs.{Moment}
 use Rattle.code_simulation.specs.Reach.{Reaches, Falls, with_note, pending}
 use Rattle.c_procedures.specs.States.{States, Shows, c_on}
-use Rattle.c_procedures.specs.Statements.{Memory, Locals, Block, Out, Fell, Left, Failed, Starved, Wrong}
-use Rattle.c_procedures.specs.Meaning.{Sums, CProgram, Calls, begins}
+use Rattle.c_procedures.specs.Statements.{Memory, Locals, Out, Fell, Left, Failed, Starved, Wrong}
+use Rattle.c_procedures.specs.Meaning.{Sums, Calls, begins}
 
 -- the memory stands for a world
 pub record Stands (t : Tree) (n : ℕ → ℕ) (m : Memory) (w : World) : Type 0 where

@@ -1,5 +1,5 @@
 -- The statements that are written for instructions.
-use Rattle.std.specs.Prelude.{◌≡◌, ◌<◌, ◌&&◌, ◌||◌, ℕ, List, [], ◌∷◌, drop, Option, Some, None, Bool, true, false}
+use Rattle.std.specs.Prelude.{◌≡◌, ◌<◌, ℕ, List, [], ◌∷◌, drop, Option, Some, None, Bool, true, false}
 use Rattle.active_config.specs.Tree.{Tree, state_count, parent_of, comp_of, children_of}
 use Rattle.code_language.specs.Code.{Procedures, instructions}
 use Rattle.code_language.specs.Instrs.{Cond, Instr}

@@ -1,7 +1,7 @@
 -- A struct that was given no value has none to read.
 use Rattle.std.proofs.Common.{◌≡◌, ℕ, zero, suc, ℤ, pos, negsuc, List, [], ◌∷◌, map, replicate, None, slice_get, refl}
 use Rattle.c_subset.specs.Trees.{Width, CType, CExpr, Field, Element, Row, File}
-use Rattle.c_subset.specs.Meaning.{CValue, Meaning, Gives, Wrong, with_meaning, Object, read, entry, element, Locals, meaning}
+use Rattle.c_subset.specs.Meaning.{Meaning, Gives, Wrong, with_meaning, read, entry, element, Locals, meaning}
 use Rattle.c_subset.specs.Running.{no_values}
 
 no-field : (types : List CType) (f : ℕ)

@@ -6,7 +6,7 @@ use Rattle.std.specs.Prelude.{slice_get, slice_set, slice_index_or, if◌then◌
 use Rattle.c_subset.specs.Trees.{Width, CType, Signed, Unsigned, Truth, CExpr, Case, Function, Row, File}
 use Rattle.c_subset.specs.Trees.{Block, End, Set, Store as PutField, StoreAt, Call, Select, If, While, Return}
 use Rattle.c_subset.specs.Meaning.{bits, CValue, Meaning, Gives, Wrong, with_meaning, converted, promoted, is_true}
-use Rattle.c_subset.specs.Meaning.{Object, Store, Locals, entry, element, meaning}
+use Rattle.c_subset.specs.Meaning.{Object, Store, Locals, element, meaning}
 
 -- how statements end, and a function (which doesn't fall through): behind the last one; by `return` with a value; without
 -- fuel; or without a meaning

@@ -1,4 +1,4 @@
-use Rattle.std.proofs.Common.{◌≡◌, suc, List, [], length, drop, refl, subst, arith}
+use Rattle.std.proofs.Common.{suc, length, subst, arith}
 use Rattle.std.proofs.lemmas.List.{drop_all}
 use Rattle.c_procedures.specs.Written.{Written}
 use Rattle.c_procedures.proofs.Writing.{write_is}

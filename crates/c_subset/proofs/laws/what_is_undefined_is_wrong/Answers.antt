@@ -1,5 +1,5 @@
 -- Each case by computation.
-use Rattle.std.proofs.Common.{◌≡◌, suc, Some, [], refl, ap}
+use Rattle.std.proofs.Common.{[], refl, ap}
 use Rattle.c_subset.specs.Meaning.{meaning}
 use Rattle.c_subset.specs.Running.{outcome, with_arguments, call, run}
 use Rattle.c_subset.proofs.laws.what_is_undefined_is_wrong.Goals as goal

@@ -1,5 +1,5 @@
 -- A call from outside ends as the run of code does.
-use Rattle.std.proofs.Common.{◌≡◌, ℕ, zero, suc, ◌++◌, [], ◌∷◌, length, drop, Some, None, refl, sym, ap, ◌∙◌, arith}
+use Rattle.std.proofs.Common.{◌≡◌, ℕ, zero, suc, ◌++◌, [], ◌∷◌, length, drop, Some, None, refl, sym, ap, ◌∙◌, arith, pred}
 use Rattle.flow_base.specs.declared.bounds.Bounds.{Bounds}
 use Rattle.active_config.specs.Tree.{Tree, state_count}
 use Rattle.actions.specs.World.{World}
@@ -49,27 +49,27 @@ module _ (t : Tree) (n : ℕ → ℕ) (k : Procedures) (b : Bounds) where
   abbrev pub code : Program
   code = record { tree = t; bounds = b; procedures = k }
 
-  ends_with : (now : Now) (start : Machine) (o : Out) → DoesCall code n now None None [] start o → EndsWith code n start o
-  ends_with now start (Fell m l) h = h
-  ends_with now start (Left m r) h = record {
+  ends_with : (least : ℕ) (now : Now) (start : Machine) (o : Out) → DoesCall code n least now None None [] start o → EndsWith code n least start o
+  ends_with least now start (Fell m l) h = h
+  ends_with least now start (Left m r) h = record {
     moment = record { world = h.world; fault = None };
     leads = reached_leads h.reached refl;
     ends = record { stands = h.stands; fault = refl };
   }
-  ends_with now start (Failed m x) h = record {
+  ends_with least now start (Failed m x) h = record {
     moment = record { world = h.world; fault = Some x };
     leads = falls_leads h.falls;
     ends = record { stands = h.stands; fault = refl };
   }
-  ends_with now start Starved h = tt
-  ends_with now start Wrong h = h
+  ends_with least now start Starved h = h
+  ends_with least now start Wrong h = h
 
   -- a call from outside
   pub called_outside : (num : Numbers t n) (same : length t.comps ≡ state_count t) (sums : Sums) (agree : Agree t n sums)
       (bodies : ℕ → Block) (written : AreWritten t n k bodies) (fuel p : ℕ) (now : Now) (m : Memory) (w : World) → Stands t n m w → m.notes ≡ []
-      → EndsWith code n (first_frame p w now)
+      → EndsWith code n (pred fuel) (first_frame p w now)
       (call_fn (record { sums = sums; tree = t; numbers = n; bounds = b; bodies = bodies }) fuel p now 0 0 0 m)
   called_outside num same sums agree bodies written fuel p now m w h e =
-      ends_with now (first_frame p w now) _
+      ends_with (pred fuel) now (first_frame p w now) _
       (calls_do t n num same k b sums agree bodies written fuel p 0 0 0 now None None m w (fresh p None 0 0 None) [] refl refl
       (first_at t n k p m w h e))

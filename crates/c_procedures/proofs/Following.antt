@@ -6,15 +6,16 @@ use Rattle.actions.specs.declared.event.Event.{Event}
 use Rattle.actions.specs.Work.{Now}
 use Rattle.code_language.specs.Code.{Procedures, instructions, fetch}
 use Rattle.code_language.specs.Instrs.{Instr}
-use Rattle.code_language.specs.Machine.{Program, Frame, Machine, machine, later}
-use Rattle.code_simulation.specs.Reach.{Reaches, with_note, pending}
+use Rattle.code_language.specs.Machine.{Program, Frame, Machine, machine, later, next, past, Goes, step}
+use Rattle.code_simulation.specs.Reach.{Reaches, with_note, pending, ReachesIn, Falls}
 use Rattle.code_simulation.proofs.Joins.{on_to, falls_on}
 use Rattle.code_simulation.proofs.Notes.{pending_at}
 use Rattle.actions.specs.World.{World}
 use Rattle.active_config.specs.Tree.{Tree}
 use Rattle.c_procedures.specs.Statements.{Memory, Locals, Out, Fell, Left, Failed, Starved, Wrong}
 use Rattle.c_procedures.specs.Meaning.{and_on}
-use Rattle.c_procedures.specs.Runs.{Stands, IsAt, Does}
+use Rattle.c_procedures.specs.Runs.{Stands, IsAt, Does, GoesFor, Passed, Returned, Lost, DoesCall}
+use Rattle.code_simulation.proofs.Steps.{one_step}
 
 -- ---- places
 
@@ -121,26 +122,58 @@ past_none (x ∷ xs) (suc j) e = omega (arith, past_none xs j e)
 
 -- ---- after some steps
 
-module _ (C : Program) (n : ℕ → ℕ) (now : Now) (note : Option ℕ) (saved : Option Event) (fs : List Frame) where
+-- one stretch after another is no shorter than the second
+longer : (C : Program) (i j : ℕ) (m m' m'' : Machine) → ReachesIn C i m m' → ReachesIn C j m' m''
+    → (x : ℕ) × ReachesIn C x m m'' × (j ≤ x)
+longer C zero j m m' m'' a b = (j, subst (λ x. ReachesIn C j x m'') (sym a) b, omega arith)
+longer C (suc i) j m m' m'' a b =
+    let x = longer C i j a.0 m' m'' a.2 b in (suc x.0, (a.0, a.1, x.1), omega (arith, x.2))
+
+-- code that goes on goes on from before
+goes_on : (C : Program) (least : ℕ) (s s' : Machine) → Reaches C s s' → GoesFor C least s' → GoesFor C least s
+goes_on C least s s' way h =
+    let x = longer C way.steps h.steps s s' h.last way.by h.by in
+    record { steps = x.0; last = h.last; by = x.1; enough = omega (arith, x.2, h.enough) }
+
+module _ (C : Program) (n : ℕ → ℕ) (least : ℕ) (now : Now) (note : Option ℕ) (saved : Option Event) (fs : List Frame) where
   -- code comes to the start before
-  pub does_on : (s s' : Machine) (ys : List Instr) (o : Out) → Reaches C s s' → Does C n now note saved fs s' ys o
-      → Does C n now note saved fs s ys o
+  pub does_on : (s s' : Machine) (ys : List Instr) (o : Out) → Reaches C s s' → Does C n least now note saved fs s' ys o
+      → Does C n least now note saved fs s ys o
   does_on s s' ys (Fell m l) way h = record { world = h.world; result = h.result; frame = h.frame; at = h.at; reached = on_to way h.reached }
   does_on s s' ys (Left m r) way h = record { world = h.world; stands = h.stands; notes = h.notes; reached = on_to way h.reached }
   does_on s s' ys (Failed m x) way h = record { world = h.world; stands = h.stands; falls = falls_on way h.falls }
-  does_on s s' ys Starved way h = tt
+  does_on s s' ys Starved way h = goes_on C least s s' way h
   does_on s s' ys Wrong way h = record { last = h.last; reached = on_to way h.reached; frames = h.frames; stops = h.stops }
 
+  -- by one step, which counts
+  pub does_step : (before : ℕ) (s s' : Machine) (ys : List Instr) (o : Out) → before ≤ suc least → step C s ≡ Goes s'
+      → Does C n least now note saved fs s' ys o → Does C n before now note saved fs s ys o
+  does_step before s s' ys (Fell m l) le e h = does_on s s' ys (Fell m l) (one_step e) h
+  does_step before s s' ys (Left m r) le e h = does_on s s' ys (Left m r) (one_step e) h
+  does_step before s s' ys (Failed m x) le e h = does_on s s' ys (Failed m x) (one_step e) h
+  does_step before s s' ys Starved le e h =
+      record { steps = suc h.steps; last = h.last; by = (s', e, h.by); enough = omega (arith, le, h.enough) }
+  does_step before s s' ys Wrong le e h = does_on s s' ys Wrong (one_step e) h
+
+  -- fewer steps are asked for
+  pub does_less : (fewer : ℕ) (s : Machine) (ys : List Instr) (o : Out) → fewer ≤ least
+      → Does C n least now note saved fs s ys o → Does C n fewer now note saved fs s ys o
+  does_less fewer s ys (Fell m l) le h = h
+  does_less fewer s ys (Left m r) le h = h
+  does_less fewer s ys (Failed m x) le h = h
+  does_less fewer s ys Starved le h = record { steps = h.steps; last = h.last; by = h.by; enough = omega (arith, le, h.enough) }
+  does_less fewer s ys Wrong le h = h
+
   -- first some statements and then others
-  pub does_then : (s : Machine) (mid ys : List Instr) (o : Out) (go : Memory → Locals → Out) → Does C n now note saved fs s mid o
+  pub does_then : (s : Machine) (mid ys : List Instr) (o : Out) (go : Memory → Locals → Out) → Does C n least now note saved fs s mid o
       → ((m : Memory) (l : Locals) (w : World) (r : ℕ) (f : Frame) → IsAt C.tree n C.procedures note saved mid m l w r f fs
-      → Does C n now note saved fs (machine w now r (f ∷ fs)) ys (go m l))
-      → Does C n now note saved fs s ys (and_on o go)
+      → Does C n least now note saved fs (machine w now r (f ∷ fs)) ys (go m l))
+      → Does C n least now note saved fs s ys (and_on o go)
   does_then s mid ys (Fell m l) go h rest =
       does_on s (machine h.world now h.result (h.frame ∷ fs)) ys (go m l) h.reached (rest m l h.world h.result h.frame h.at)
   does_then s mid ys (Left m r) go h rest = h
   does_then s mid ys (Failed m x) go h rest = h
-  does_then s mid ys Starved go h rest = tt
+  does_then s mid ys Starved go h rest = h
   does_then s mid ys Wrong go h rest = h
 
 -- ---- the function further on

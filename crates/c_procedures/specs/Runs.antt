@@ -15,7 +15,7 @@ use Rattle.code_language.specs.Instrs.{Instr}
 use Rattle.code_language.specs.Machine.{Program, Frame, Machine, machine, returned, later, step, Stops}
 use Rattle.code_language.specs.Reactions.{Leads}
 use Rattle.actions.specs.Runs.{Moment}
-use Rattle.code_simulation.specs.Reach.{Reaches, Falls, with_note, pending}
+use Rattle.code_simulation.specs.Reach.{ReachesIn, Reaches, Falls, with_note, pending}
 use Rattle.c_procedures.specs.States.{States, Shows, c_on}
 use Rattle.c_procedures.specs.Statements.{Memory, Locals, Out, Fell, Left, Failed, Starved, Wrong}
 use Rattle.c_procedures.specs.Meaning.{Sums, Calls, begins}
@@ -65,6 +65,13 @@ pub record Stuck (C : Program) (start : Machine) : Type 0 where
   pub frames : last.frames ≢ []
   pub stops : step C last ≡ Stops last.world None
 
+-- code goes on for at least so many steps
+pub record GoesFor (C : Program) (least : ℕ) (start : Machine) : Type 0 where
+  pub steps : ℕ
+  pub last : Machine
+  pub by : ReachesIn C steps start last
+  pub enough : least ≤ steps
+
 module _ (C : Program) (n : ℕ → ℕ) (now : Now) (note : Option ℕ) (saved : Option Event) (fs : List Frame) where
   -- statements that fell through: code comes from the start to where these instructions follow
   pub record Passed (start : Machine) (ys : List Instr) (m : Memory) (l : Locals) : Type 0 where
@@ -87,28 +94,29 @@ module _ (C : Program) (n : ℕ → ℕ) (now : Now) (note : Option ℕ) (saved 
     pub stands : Stands C.tree n m world
     pub falls : Falls C start world x
 
-  -- code does what statements did, from a start
+module _ (C : Program) (n : ℕ → ℕ) (least : ℕ) (now : Now) (note : Option ℕ) (saved : Option Event) (fs : List Frame) where
+  -- code does what statements did, from a start; where they were starved it goes on for so many steps
   abbrev pub Does : Machine → List Instr → Out → Type 0
-  Does start ys (Fell m l) = Passed start ys m l
-  Does start ys (Left m r) = Returned start m r
-  Does start ys (Failed m x) = Lost start m x
-  Does start ys Starved = Unit {0}
+  Does start ys (Fell m l) = Passed C n now note saved fs start ys m l
+  Does start ys (Left m r) = Returned C n now note saved fs start m r
+  Does start ys (Failed m x) = Lost C n now note saved fs start m x
+  Does start ys Starved = GoesFor C least start
   Does start ys Wrong = Stuck C start
 
   -- code does what a function did
   abbrev pub DoesCall : Machine → Out → Type 0
   DoesCall start (Fell m l) = ⊥
-  DoesCall start (Left m r) = Returned start m r
-  DoesCall start (Failed m x) = Lost start m x
-  DoesCall start Starved = Unit {0}
+  DoesCall start (Left m r) = Returned C n now note saved fs start m r
+  DoesCall start (Failed m x) = Lost C n now note saved fs start m x
+  DoesCall start Starved = GoesFor C least start
   DoesCall start Wrong = Stuck C start
 
 -- calls do what a frame of the procedure does
-abbrev pub CallsDo : Program → (ℕ → ℕ) → Calls → Type 0
-CallsDo C n call = (p base home r : ℕ) (now : Now) (note : Option ℕ) (saved : Option Event) (m : Memory) (w : World)
+abbrev pub CallsDo : Program → (ℕ → ℕ) → ℕ → Calls → Type 0
+CallsDo C n least call = (p base home r : ℕ) (now : Now) (note : Option ℕ) (saved : Option Event) (m : Memory) (w : World)
     (f : Frame) (fs : List Frame) → f.proc ≡ p → f.place ≡ 0
     → IsAt C.tree n C.procedures note saved (instructions C.procedures p) m (begins base home r) w r f fs
-    → DoesCall C n now note saved fs (machine w now r (f ∷ fs)) (call p now base home r m)
+    → DoesCall C n least now note saved fs (machine w now r (f ∷ fs)) (call p now base home r m)
 
 -- how a call from outside ends, and how code ends: the memory stands for the world of the moment, which has the same
 -- fault or none
@@ -122,13 +130,13 @@ pub record IsMoment (C : Program) (n : ℕ → ℕ) (start : Machine) (m : Memor
   pub leads : Leads C start moment
   pub ends : EndsAs C.tree n m x moment
 
--- code ends as a call from outside; of one that is starved nothing is said
-abbrev pub EndsWith : Program → (ℕ → ℕ) → Machine → Out → Type 0
-EndsWith C n start (Fell m l) = ⊥
-EndsWith C n start (Left m r) = IsMoment C n start m None
-EndsWith C n start (Failed m x) = IsMoment C n start m (Some x)
-EndsWith C n start Starved = Unit {0}
-EndsWith C n start Wrong = Stuck C start
+-- code ends as a call from outside; where the call is starved it goes on for so many steps
+abbrev pub EndsWith : Program → (ℕ → ℕ) → ℕ → Machine → Out → Type 0
+EndsWith C n least start (Fell m l) = ⊥
+EndsWith C n least start (Left m r) = IsMoment C n start m None
+EndsWith C n least start (Failed m x) = IsMoment C n start m (Some x)
+EndsWith C n least start Starved = GoesFor C least start
+EndsWith C n least start Wrong = Stuck C start
 
 -- the marks that fields tell
 unfoldable pub told : Tree → (ℕ → ℕ) → States → Configuration

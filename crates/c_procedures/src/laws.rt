@@ -1,5 +1,5 @@
 //! What holds of the fields of the C program.
-ghost use Rattle.std.specs.Prelude.{◌≡◌, ◌≢◌, ◌<◌, ℕ, suc, List, [], length, true, false, Some, if◌then◌else◌};
+ghost use Rattle.std.specs.Prelude.{◌≡◌, ◌≢◌, ◌<◌, ℕ, suc, pred, List, [], length, true, false, Some, if◌then◌else◌};
 ghost use Rattle.active_config.specs.Tree.{Tree, state_count, parent_of, comp_of};
 ghost use Rattle.active_config.specs.Marks.{Configuration, is_on, is_bare, is_last, can_mark, with_mark, with_last, no_marks, IsConsistent};
 ghost use Rattle.flow_base.specs.declared.bounds.Bounds.{Bounds};
@@ -58,7 +58,7 @@ pub fn one_store_shows_consistent_marks()
 pub fn functions_do_what_procedures_do()
     ensures { (t : Tree) (n : ℕ → ℕ) (k : Procedures) (b : Bounds) (sums : Sums) (bodies : ℕ → Block) → Numbers t n
         → length t.comps ≡ state_count t → Agree t n sums → AreWritten t n k bodies → (fuel : ℕ)
-        → CallsDo (record { tree = t; bounds = b; procedures = k }) n
+        → CallsDo (record { tree = t; bounds = b; procedures = k }) n (pred fuel)
         (call_fn (record { sums = sums; tree = t; numbers = n; bounds = b; bodies = bodies }) fuel) }
 {}
 
@@ -74,7 +74,7 @@ pub fn calls_from_outside_end_as_code()
     ensures { (t : Tree) (n : ℕ → ℕ) (k : Procedures) (b : Bounds) (sums : Sums) (bodies : ℕ → Block) (fuel p : ℕ)
         (now : Now) (m : Memory) (w : World) → Numbers t n
         → length t.comps ≡ state_count t → Agree t n sums → AreWritten t n k bodies → Stands t n m w → m.notes ≡ []
-        → EndsWith (record { tree = t; bounds = b; procedures = k }) n (first_frame p w now)
+        → EndsWith (record { tree = t; bounds = b; procedures = k }) n (pred fuel) (first_frame p w now)
         (call_fn (record { sums = sums; tree = t; numbers = n; bounds = b; bodies = bodies }) fuel p now 0 0 0 m) }
 {}
 

@@ -1,4 +1,4 @@
-use Rattle.std.proofs.Common.{subst}
+use Rattle.std.proofs.Common.{pred, subst}
 use Rattle.c_procedures.specs.Statements.{Out}
 use Rattle.c_procedures.specs.Runs.{EndsWith}
 use Rattle.code_language.specs.Reactions.{first_frame, program_of}
@@ -12,5 +12,5 @@ returns-clause-stuck c = never_stuck
 pub returns-clause-wrong : goal.returns-clause-wrong
 returns-clause-wrong c = λ k n b sums bodies fuel p now m w is moment num same agree written stands notes wrong.
     never_stuck k b (first_frame p w now) is moment
-    (subst (λ (o : Out). EndsWith (program_of k b) n (first_frame p w now) o) wrong
+    (subst (λ (o : Out). EndsWith (program_of k b) n (pred fuel) (first_frame p w now) o) wrong
     (called_outside k.tree n k.procedures b num same sums agree bodies written fuel p now m w stands notes))

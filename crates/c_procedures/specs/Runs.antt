@@ -138,6 +138,14 @@ EndsWith C n least start (Failed m x) = IsMoment C n start m (Some x)
 EndsWith C n least start Starved = GoesFor C least start
 EndsWith C n least start Wrong = Stuck C start
 
+-- a call from outside ends, as code does
+abbrev pub EndsAsCode : Program → (ℕ → ℕ) → Machine → Out → Type 0
+EndsAsCode C n start (Fell m l) = ⊥
+EndsAsCode C n start (Left m r) = IsMoment C n start m None
+EndsAsCode C n start (Failed m x) = IsMoment C n start m (Some x)
+EndsAsCode C n start Starved = ⊥
+EndsAsCode C n start Wrong = ⊥
+
 -- the marks that fields tell
 unfoldable pub told : Tree → (ℕ → ℕ) → States → Configuration
 told t n st = record {

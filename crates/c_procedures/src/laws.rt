@@ -1,21 +1,22 @@
 //! What holds of the fields of the C program.
-ghost use Rattle.std.specs.Prelude.{◌≡◌, ◌≢◌, ◌<◌, ℕ, suc, pred, List, [], length, true, false, Some, if◌then◌else◌};
+ghost use Rattle.std.specs.Prelude.{◌≡◌, ◌<◌, ℕ, suc, pred, List, [], length, true, false, Some, if◌then◌else◌};
 ghost use Rattle.active_config.specs.Tree.{Tree, state_count, parent_of, comp_of};
 ghost use Rattle.active_config.specs.Marks.{Configuration, is_on, is_bare, is_last, can_mark, with_mark, with_last, no_marks, IsConsistent};
 ghost use Rattle.flow_base.specs.declared.bounds.Bounds.{Bounds};
 ghost use Rattle.code_language.specs.Code.{Procedures, Code};
-ghost use Rattle.code_language.specs.Machine.{Machine};
+ghost use Rattle.code_language.specs.Machine.{Machine, run};
 ghost use Rattle.code_language.specs.WellFormed.{IsCode};
+ghost use Rattle.code_costs.specs.Ahead.{IsOver};
 ghost use Rattle.code_costs.specs.Moments.{IsMoment};
 ghost use Rattle.code_language.specs.Reactions.{first_frame, program_of};
 ghost use Rattle.actions.specs.World.{World};
 ghost use Rattle.actions.specs.Work.{Now};
-ghost use Rattle.c_procedures.specs.Statements.{Block, Memory, Wrong};
+ghost use Rattle.c_procedures.specs.Statements.{Block, Memory};
 ghost use Rattle.c_procedures.specs.Meaning.{Sums, call_fn};
 ghost use Rattle.code_language.specs.Instrs.{Instr};
 ghost use Rattle.c_procedures.specs.Written.{AreWritten, Written};
 ghost use Rattle.c_procedures.specs.Writer.{body};
-ghost use Rattle.c_procedures.specs.Runs.{Agree, CallsDo, EndsWith, Stuck, Stands, own_sums, world_of};
+ghost use Rattle.c_procedures.specs.Runs.{Agree, CallsDo, EndsWith, EndsAsCode, Stuck, Stands, own_sums, world_of};
 ghost use Rattle.c_procedures.specs.States.{States, Numbers, Shows, is_or, shown, no_fields, place_number, c_on, c_bare, c_last, c_mark, c_clear, c_keep};
 
 /// The tests of the fields are those of the marks that they show.
@@ -92,13 +93,20 @@ pub fn memory_tells_its_world()
     ensures agrees { (t : Tree) (n : ℕ → ℕ) → Numbers t n → Agree t n (own_sums t n) }
 {}
 
-/// Well-formed code never comes to a place without an instruction: each moment of its run has one. So a
-/// call from outside, in memory that stands for the world of such a moment, never ends Wrong.
-pub fn calls_never_end_wrong()
-    ensures stuck { (k : Code) (b : Bounds) (m : Machine) → IsCode k → IsMoment k b m → Stuck (program_of k b) m → ⊥ }
-    ensures wrong { (k : Code) (n : ℕ → ℕ) (b : Bounds) (sums : Sums) (bodies : ℕ → Block) (fuel p : ℕ) (now : Now)
-        (m : Memory) (w : World) → IsCode k → IsMoment k b (first_frame p w now) → Numbers k.tree n
+/// Well-formed code never comes to a place without an instruction: each moment of its run has one.
+pub fn code_is_never_stuck()
+    ensures { (k : Code) (b : Bounds) (m : Machine) → IsCode k → IsMoment k b m → Stuck (program_of k b) m → ⊥ }
+{}
+
+/// A call from outside of well-formed code, with more fuel than the run of the code takes steps, ends as
+/// that run does, in memory that stands for the world of its last moment, with its fault or none: it is
+/// neither starved nor wrong. A start and a reaction take no more steps than `most_instructions`.
+pub fn calls_of_well_formed_code_end_as_it()
+    ensures { (k : Code) (n : ℕ → ℕ) (b : Bounds) (sums : Sums) (bodies : ℕ → Block) (fuel p : ℕ) (now : Now)
+        (m : Memory) (w : World) → IsCode k → IsMoment k b (first_frame p w now)
+        → IsOver (run (program_of k b) fuel (first_frame p w now)) → Numbers k.tree n
         → length k.tree.comps ≡ state_count k.tree → Agree k.tree n sums → AreWritten k.tree n k.procedures bodies
         → Stands k.tree n m w → m.notes ≡ []
-        → call_fn (record { sums = sums; tree = k.tree; numbers = n; bounds = b; bodies = bodies }) fuel p now 0 0 0 m ≢ Wrong }
+        → EndsAsCode (program_of k b) n (first_frame p w now)
+        (call_fn (record { sums = sums; tree = k.tree; numbers = n; bounds = b; bodies = bodies }) (suc fuel) p now 0 0 0 m) }
 {}

@@ -48,7 +48,7 @@ module _ (t : Tree) (n : ℕ → ℕ) (num : Numbers t n) where
     told_is =
         let a = fill_by_all (λ s. c_on t n s st) m.flags (state_count t) false k.sized (λ s lt. sym (on_is t n st m h s)) in
         let b = fill_by_all (λ p. find (λ x. is_child t p x && (n x == slice_index_or st.kept p 0)) (range_with_len 0 (state_count t)))
-            m.last (state_count t) None k.entries (λ p lt. sym (last_at p (last_of p m) refl)) in
+        m.last (state_count t) None k.entries (λ p lt. sym (last_at p (last_of p m) refl)) in
         ap (λ l. record { flags = l; last = (told t n st).last }) (sym a) ∙ ap (λ l. record { flags = m.flags; last = l }) (sym b)
 
   -- memory tells the world that it stands for

@@ -1,8 +1,8 @@
 -- A call of well-formed code ends, where it has more fuel than the run of the code takes steps.
-use Rattle.std.proofs.Common.{◌≡◌, ℕ, zero, suc, pred, ◌<◌, ◌≤◌, Some, None, length, [], refl, ap, ◌∙◌, subst, arith}
+use Rattle.std.proofs.Common.{◌≡◌, ℕ, zero, suc, ◌≤◌, refl, ap, ◌∙◌, subst, arith}
 use Rattle.flow_base.specs.declared.bounds.Bounds.{Bounds}
 use Rattle.code_language.specs.Code.{Code}
-use Rattle.code_language.specs.Machine.{Program, Machine, Next, Ending, Going, and_then, run}
+use Rattle.code_language.specs.Machine.{Program, Machine, Next, Going, and_then, run}
 use Rattle.code_language.specs.Reactions.{program_of}
 use Rattle.code_language.specs.WellFormed.{IsCode}
 use Rattle.code_costs.specs.Ahead.{IsOver}

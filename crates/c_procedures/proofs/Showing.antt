@@ -82,8 +82,8 @@ module _ (t : Tree) (n : ℕ → ℕ) (st : States) (m : Configuration) (h : Sho
           → (slice_index_or st.chosen s 0 == 0) ≡ not (list_any (λ x. is_on x m) (children_of t s))
       at (inl z) =
           let none = same_any (λ x. is_on x m) (λ x. false) (is_child t s) (range_with_len 0 (state_count t))
-              (λ x c. sym (h.ons s x (parent_of_child t s x c) o) ∙ differ _ _ (λ e. num.some x (sym e ∙ z)))
-              ∙ any_nothing (filter (is_child t s) (range_with_len 0 (state_count t))) in
+          (λ x c. sym (h.ons s x (parent_of_child t s x c) o) ∙ differ _ _ (λ e. num.some x (sym e ∙ z)))
+          ∙ any_nothing (filter (is_child t s) (range_with_len 0 (state_count t))) in
           ap (λ i. i == 0) z ∙ ap not (sym none)
       at (inr k) =
           let on : is_on k.child m ≡ true = sym (h.ons s k.child k.up o) ∙ ap (λ i. i == n k.child) k.is ∙ same_self (n k.child) in

@@ -25,7 +25,7 @@ use Rattle.code_language.specs.Machine.{Program, Frame, Machine, machine, later,
 use Rattle.code_simulation.specs.Reach.{Reaches, Falls, with_note, pending}
 use Rattle.code_simulation.proofs.Joins.{here}
 use Rattle.code_simulation.proofs.Notes.{pending_at, pending_past, IsHead, noted_head}
-use Rattle.code_simulation.proofs.Steps.{go_mark, go_clear, go_keep, go_skip, go_call, go_home, go_begin, go_ret, go_pass, go_pass_zero}
+use Rattle.code_simulation.proofs.Steps.{go_mark, go_clear, go_keep, go_skip, go_home, go_begin, go_ret, go_pass, go_pass_zero}
 use Rattle.code_simulation.proofs.Steps.{go_unless_true, go_unless_false, fall_unless, one_step, one_fall, go_play_none, go_play_lame}
 use Rattle.c_procedures.specs.States.{Numbers, Shows, is_or, c_mark, c_clear, c_keep, keep_by}
 use Rattle.c_procedures.specs.Statements.{Memory, Locals, Block, Out, Fell, Left, Failed, Starved, Wrong}
@@ -159,7 +159,7 @@ module _ (t : Tree) (n : ℕ → ℕ) (num : Numbers t n) (same : length t.comps
     unfolding straight exec
     step_home s rest ys a go m l w r f h =
         let at = moved t n k note saved (i.Home s ∷ rest) rest m l w r f fs h (f.place + 1) m w
-            (onward (instructions k f.proc) f.place (i.Home s) rest h.code) h.stands refl in
+        (onward (instructions k f.proc) f.place (i.Home s) rest h.code) h.stands refl in
         does_on code n fuel now note saved fs _ _ ys (after a m (record l { home = s }))
         (go_home (fetched k f.proc f.place (i.Home s ∷ rest) h.code))
         (go m (record l { home = s }) w r (next (record f { home = s })) (record {
@@ -181,7 +181,7 @@ module _ (t : Tree) (n : ℕ → ℕ) (num : Numbers t n) (same : length t.comps
     unfolding straight exec
     step_begin rest ys a go m l w r f h =
         let at = moved t n k note saved (i.Begin ∷ rest) rest m l w r f fs h (f.place + 1) m w
-            (onward (instructions k f.proc) f.place i.Begin rest h.code) h.stands refl in
+        (onward (instructions k f.proc) f.place i.Begin rest h.code) h.stands refl in
         let g = next (record f { base = length fs }) in
         does_on code n fuel now note saved fs _ _ ys (after a m (record l { base = length m.notes }))
         (go_begin (fetched k f.proc f.place (i.Begin ∷ rest) h.code))
@@ -359,7 +359,7 @@ module _ (t : Tree) (n : ℕ → ℕ) (num : Numbers t n) (same : length t.comps
         → IsAt t n k note saved rest v (record l { result = y }) u y (next f) fs
     resulted x rest m v l w u r y f h st e =
         let at = moved t n k note saved (x ∷ rest) rest m l w r f fs h (f.place + 1) v u
-            (onward (instructions k f.proc) f.place x rest h.code) st e in
+        (onward (instructions k f.proc) f.place x rest h.code) st e in
         record {
           code = at.code;
           stands = at.stands;
@@ -601,7 +601,7 @@ module _ (t : Tree) (n : ℕ → ℕ) (num : Numbers t n) (same : length t.comps
         (ends_at rest m l w r f h (go_play_none (fetched k f.proc f.place (i.Play ∷ rest) h.code) found))
     turn_by j few rest m l w r f h le more (Some q) found head false e =
         let lt = within_some m.notes l.cursor q.1 (pending (suc q.0) (f ∷ fs))
-            (ap (λ x. drop x m.notes) (sym (later_at l.cursor l.base le)) ∙ h.above_cursor ∙ head.2) in
+        (ap (λ x. drop x m.notes) (sym (later_at l.cursor l.base le)) ∙ h.above_cursor ∙ head.2) in
         subst (λ x. Does code n (suc j) now note saved fs (machine w now r (f ∷ fs)) rest
         (if x && false then pay b m (λ v. turn call (slice_get v.notes l.cursor) now v (record l { cursor = suc l.cursor }) (turns prog call j now))
         else Fell m l)) (sym (lt-ltb l.cursor (length m.notes) lt))

@@ -1,12 +1,12 @@
 -- Well-formed code never comes to a place without an instruction.
-use Rattle.std.proofs.Common.{◌≡◌, ◌≢◌, ℕ, zero, suc, Bool, true, false, List, [], ◌∷◌, length, Option, Some, None, Result, Ok, Err, if◌then◌else◌, refl, sym, ap, ◌∙◌, subst}
+use Rattle.std.proofs.Common.{◌≡◌, ℕ, zero, suc, Bool, true, false, List, [], ◌∷◌, length, Option, Some, None, Result, Ok, Err, if◌then◌else◌, refl, sym, ap, ◌∙◌, subst}
 use Rattle.flow_base.specs.declared.bounds.Bounds.{Bounds}
 use Rattle.flow_base.specs.declared.fault.Fault.{Fault}
-use Rattle.active_config.specs.Marks.{is_on, is_bare}
+use Rattle.active_config.specs.Marks.{is_bare}
 use Rattle.actions.specs.Changes.{paid_in, assigned_in}
 use Rattle.actions.specs.World.{World}
 use Rattle.actions.specs.Work.{Now}
-use Rattle.code_language.specs.Code.{Code, fetch}
+use Rattle.code_language.specs.Code.{Code}
 use Rattle.code_language.specs.Instrs.{Instr}
 use Rattle.code_language.specs.Instrs as i
 use Rattle.code_language.specs.Machine.{Program, Frame, Machine, Next, Goes, Stops, if_ok, if_deep, test_next, pass_on, holds, noted, later, machine, fresh, next, play_next, act, step}
@@ -98,6 +98,6 @@ never_stuck k b m is h stuck = at stuck.last.frames refl
         let x = top_instr k b is stuck.last f fs last e in
         let w = stuck.last.world in
         let acts : step C stuck.last ≡ act C (Some x.instr) w stuck.last.now stuck.last.result f fs =
-            ap (λ (fs : List Frame). step C (record { world = w; now = stuck.last.now; result = stuck.last.result; frames = fs })) e
-            ∙ ap (λ (o : Option Instr). act C o w stuck.last.now stuck.last.result f fs) x.there in
+        ap (λ (fs : List Frame). step C (record { world = w; now = stuck.last.now; result = stuck.last.result; frames = fs })) e
+        ∙ ap (λ (o : Option Instr). act C o w stuck.last.now stuck.last.result f fs) x.there in
         subst (λ (x : Next). GoesOrFaults x) (sym acts ∙ stuck.stops) (act_goes C x.instr w stuck.last.now stuck.last.result f fs)

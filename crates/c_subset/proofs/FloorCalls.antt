@@ -258,8 +258,8 @@ module _ (int w : Width) (s : Store) (l : Locals) (x y : ℤ) (fx : fits_signed 
           (Choose (Signed w) (is_low a b nothing) (Calc Less (Divide Quotient a b) (Const (Signed w) (pos 1))) (Divide Quotient a b)) (floor_div x y)
       at true is =
           let less = calc-holds int s l (bits w) (Divide Quotient a b) (Const (Signed w) (pos 1)) (int_div x y) (pos 1) fq
-              (one-fits w true) (ap (fits_signed (bits w)) (value true is) ∙ fz) quotient
-              (const-holds int s l w (pos 1) (one-fits w true)) in
+          (one-fits w true) (ap (fits_signed (bits w)) (value true is) ∙ fz) quotient
+          (const-holds int s l w (pos 1) (one-fits w true)) in
           choose-holds int w s l _ _ _ true less.in_type (floor_div x y) fz (test ∙ ap (truth int) is)
           (less.is ∙ ap (gives (Signed less.in_type)) (value true is))
       at false is = choose-holds int w s l _ _ _ false quotient.in_type (floor_div x y) fz (test ∙ ap (truth int) is)

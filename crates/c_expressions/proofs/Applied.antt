@@ -61,9 +61,11 @@ flags-compared : (int : Width) (op : Comparison) (a b : Bool)
     → compared int op (record { type = Truth; value = one_if a }) (record { type = Truth; value = one_if b })
     ≡ truth int (passes op (one_if a) (one_if b))
 flags-compared int op a b =
-    let in_type : CType → Meaning = λ t. with_meaning (converted t (one_if a)) (λ x. with_meaning (converted t (one_if b)) (λ y. truth int (passes op x.value y.value))) in
+    let in_type : CType → Meaning = λ t. with_meaning (converted t (one_if a))
+    (λ x. with_meaning (converted t (one_if b)) (λ y. truth int (passes op x.value y.value))) in
     ap in_type (common-int int)
-    ∙ ap (λ (m : Meaning). with_meaning m (λ x. with_meaning (as_signed int (one_if b)) (λ y. truth int (passes op x.value y.value)))) (one-stays int a)
+    ∙ ap (λ (m : Meaning). with_meaning m
+    (λ x. with_meaning (as_signed int (one_if b)) (λ y. truth int (passes op x.value y.value)))) (one-stays int a)
     ∙ ap (λ (m : Meaning). with_meaning m (λ y. truth int (passes op (one_if a) y.value))) (one-stays int b)
 
 pub flags-has : (int : Width) (s : Store) (l : Locals) (op : Comparison) (ea eb : CExpr) (a b : Bool)
@@ -72,8 +74,10 @@ pub flags-has : (int : Width) (s : Store) (l : Locals) (op : Comparison) (ea eb 
 unfolding meaning
 flags-has int s l op ea eb a b ha hb = (
   Signed int,
-  ap (λ (m : Meaning). with_meaning m (λ x. with_meaning (meaning int s l (Cast Truth eb)) (compared int op x))) (truth_cast int s l ea a ha)
-      ∙ ap (λ (m : Meaning). with_meaning m (compared int op (record { type = Truth; value = one_if a }))) (truth_cast int s l eb b hb)
+  ap (λ (m : Meaning). with_meaning m (λ x. with_meaning (meaning int s l (Cast Truth eb)) (compared int op x)))
+      (truth_cast int s l ea a ha)
+      ∙ ap (λ (m : Meaning). with_meaning m (compared int op (record { type = Truth; value = one_if a })))
+      (truth_cast int s l eb b hb)
       ∙ flags-compared int op a b,
 )
 
@@ -189,12 +193,14 @@ flags-compute int s ops.Ne a b sort eager e = record {
 flags-compute int s other a b sort eager e = cc
 
 -- no operator takes a flag and a number, nor a number and a flag
-pub flag-number : (op : Op) (frac size : ℕ) (sort : ExprSort) → binary_sort op kinds.Flag (kinds.Number frac size) ≡ Ok sort
+pub flag-number : (op : Op) (frac size : ℕ) (sort : ExprSort) → binary_sort op kinds.Flag (kinds.Number frac size)
+    ≡ Ok sort
     → ⊥
 flag-number ops.Or frac size sort e = cc
 flag-number op frac size sort e = cc
 
-pub number-flag : (op : Op) (frac size : ℕ) (sort : ExprSort) → binary_sort op (kinds.Number frac size) kinds.Flag ≡ Ok sort
+pub number-flag : (op : Op) (frac size : ℕ) (sort : ExprSort) → binary_sort op (kinds.Number frac size) kinds.Flag
+    ≡ Ok sort
     → ⊥
 number-flag ops.Or frac size sort e = cc
 number-flag op frac size sort e = cc
@@ -219,5 +225,7 @@ computes int s op left right sort (values.Number a) (values.Number b) eager nl n
     let l = number_sort left a nl hl in
     let r = number_sort right b nr hr in
     subst (λ (t : ExprSort). Computes int s op t right (values.Number a) (values.Number b)) (sym l.is)
-    (subst (λ (t : ExprSort). Computes int s op (kinds.Number a.frac l.size) t (values.Number a) (values.Number b)) (sym r.is)
-    (numbers-compute int s op a b l.size r.size sort eager (record { left = l.small; right = r.small }) (cc (l.is, r.is, e))))
+    (subst (λ (t : ExprSort). Computes int s op (kinds.Number a.frac l.size) t (values.Number a) (values.Number b))
+    (sym r.is)
+    (numbers-compute int s op a b l.size r.size sort eager (record { left = l.small; right = r.small })
+    (cc (l.is, r.is, e))))

@@ -42,17 +42,20 @@ use Rattle.c_expressions.proofs.Wraps.{lifted, low_bits-is, wrapped-unsigned}
 use Rattle.c_expressions.proofs.Kept.{kept-wrapped, wraps-signed}
 
 -- low bits are as they are in uint64_t
-low-stays : (z : ℤ) (k : ℕ) → k ≤ 64 → converted (Unsigned W64) (int_rem_euclid z (pos (2 ^ k))) ≡ gives (Unsigned W64) (int_rem_euclid z (pos (2 ^ k)))
+low-stays : (z : ℤ) (k : ℕ) → k ≤ 64 → converted (Unsigned W64) (int_rem_euclid z (pos (2 ^ k))) ≡ gives (Unsigned W64)
+    (int_rem_euclid z (pos (2 ^ k)))
 low-stays z k few =
     let some = pow_pos k in
     let up = lifted z (2 ^ k) some in
     let is = int_rem_euclid_is z (pos (2 ^ k)) (2 ^ k) (unsigned_abs z) up.0 some refl up.1 in
     let low : up.0 % 2 ^ k < 2 ^ k = mod-lt up.0 some in
     let below : up.0 % 2 ^ k < 2 ^ 64 = omega (arith, low, power-le k 64 few) in
-    ap (gives (Unsigned W64)) (ap (λ (y : ℤ). int_rem_euclid y (pos (2 ^ 64))) is ∙ ap pos (mod-eq_of_lt below) ∙ sym is)
+    ap (gives (Unsigned W64))
+    (ap (λ (y : ℤ). int_rem_euclid y (pos (2 ^ 64))) is ∙ ap pos (mod-eq_of_lt below) ∙ sym is)
 
 -- a local has its own type
-local-means : (int : Width) (s : Store) (l : Locals) (t : CType) (k : ℕ) (z : ℤ) → l t k ≡ Some z → meaning int s l (Local t k) ≡ gives t z
+local-means : (int : Width) (s : Store) (l : Locals) (t : CType) (k : ℕ) (z : ℤ) → l t k ≡ Some z → meaning int s l
+    (Local t k) ≡ gives t z
 unfolding meaning
 local-means int s l t k z there = ap (read_as t) there
 
@@ -71,12 +74,14 @@ kept-own : (n : Num) (scale : Scale) (m : ℤ) → fitted n scale Error ≡ Ok m
 unfolding fitted
 kept-own n scale m is = at (is_in_range scale (floored n scale.frac)) is
   where
-    at : (b : Bool) → cond b (Ok (floored n scale.frac)) (by_mode Error scale (floored n scale.frac)) ≡ Ok m → floored n scale.frac ≡ m
+    at : (b : Bool) → cond b (Ok (floored n scale.frac)) (by_mode Error scale (floored n scale.frac)) ≡ Ok m
+        → floored n scale.frac ≡ m
     at true e = cc
     at false e = cc
 
 -- the number is brought to the datum's fraction
-record Brought (int : Width) (s : Store) (l : Locals) (n : ℕ) (size : ℕ) (scale : Scale) (x : Flat) (v : Num) : Type 0 where
+record Brought (int : Width) (s : Store) (l : Locals) (n : ℕ) (size : ℕ) (scale : Scale) (x : Flat)
+    (v : Num) : Type 0 where
   after : Locals
   goes : ending int s l (brought_code v.frac size scale x) ≡ Goes after
   there : IsBrought after x.next v size scale
@@ -90,16 +95,19 @@ brings int s l n size scale x v few small most ends =
     record {
       after = with_local ends.0 t x.next z;
       goes = then-goes int s l ends.0 (with_local ends.0 t x.next z) x.code _ ends.1
-          (floored-goes int s ends.0 v x.next size scale.frac x.expr few small most (ends.3 ends.0 (agree-itself x.next ends.0)));
+          (floored-goes int s ends.0 v x.next size scale.frac x.expr few small most
+          (ends.3 ends.0 (agree-itself x.next ends.0)));
       there = set-there ends.0 t x.next z;
     }
 
 -- where nothing overflows there is no fault
-no_fault : (n : Num) (scale : Scale) (mode : Mode) (m : ℤ) (e : Overflow) → by_mode mode scale (floored n scale.frac) ≡ Ok m
+no_fault : (n : Num) (scale : Scale) (mode : Mode) (m : ℤ) (e : Overflow) → by_mode mode scale (floored n scale.frac)
+    ≡ Ok m
     → fitted n scale mode ≡ Err e → ⊥
 no_fault n scale mode m e is err = absurd (cc (no_overflow n scale mode m is, ap is_err err))
 
-module _ (int : Width) (s : Store) (l : Locals) (n d size : ℕ) (scale : Scale) (x : Flat) (v : Num) (most_int : bits int ≤ 64)
+module _ (int : Width) (s : Store) (l : Locals) (n d size : ℕ) (scale : Scale) (x : Flat) (v : Num)
+    (most_int : bits int ≤ 64)
     (few : v.frac ≤ 64) (small : unsigned_abs v.mantissa ≤ 2 ^ size) (most : size_at scale.frac v.frac size ≤ 100)
     (ends : EndsAs int s n x l (Ok (values.Number v))) where
   abbrev w : Width
@@ -110,14 +118,16 @@ module _ (int : Width) (s : Store) (l : Locals) (n d size : ℕ) (scale : Scale)
 
   stores-saturated : (r : Result ℤ Overflow) → fitted v scale Saturate ≡ r
       → StoresAs int s l d (stored_c d v.frac size scale Saturate x) r
-  stores-saturated (Ok m) is = (b.after, b.goes, saturates int s b.after x.next v size scale m few small most b.there is)
+  stores-saturated (Ok m) is =
+      (b.after, b.goes, saturates int s b.after x.next v size scale m few small most b.there is)
   stores-saturated (Err e) is = absurd (no_fault v scale Saturate _ e refl is)
 
   -- the test before a store
   tests : ending int s l (stored_c d v.frac size scale Error x).code
       ≡ cond (is_err (fitted v scale Error)) (Faults (Overflows d)) (Goes b.after)
   tests = then-ends int s l b.after (brought_code v.frac size scale x) _ _ b.goes
-      (fault_if-ends int s b.after (Overflows d) (out_c scale (size_at scale.frac v.frac size) w (brought_local v.frac size scale x))
+      (fault_if-ends int s b.after (Overflows d)
+      (out_c scale (size_at scale.frac v.frac size) w (brought_local v.frac size scale x))
       (is_err (fitted v scale Error)) (overflows int s b.after x.next v size scale few small most b.there))
 
   stores-tested : (r : Result ℤ Overflow) → fitted v scale Error ≡ r
@@ -128,7 +138,8 @@ module _ (int : Width) (s : Store) (l : Locals) (n d size : ℕ) (scale : Scale)
     subst (λ (z : ℤ). Has int s b.after (Local (Signed w) x.next) z) (kept-own v scale m is)
         (local-has int s b.after (Signed w) x.next (floored v scale.frac) b.there),
   )
-  stores-tested (Err e) is = tests ∙ ap (λ (r : Result ℤ Overflow). cond (is_err r) (Faults (Overflows d)) (Goes b.after)) is
+  stores-tested (Err e) is = tests ∙ ap
+      (λ (r : Result ℤ Overflow). cond (is_err r) (Faults (Overflows d)) (Goes b.after)) is
 
   stores-wrapped : (r : Result ℤ Overflow) → fitted v scale Wrap ≡ r
       → StoresAs int s l d (stored_c d v.frac size scale Wrap x) r
@@ -140,7 +151,8 @@ module _ (int : Width) (s : Store) (l : Locals) (n d size : ℕ) (scale : Scale)
       let after = with_local b.after (Unsigned W64) k u in
       let has : Has int s b.after (Local (Signed w) x.next) z = local-has int s b.after (Signed w) x.next z b.there in
       let sets = set-goes int s b.after k (Unsigned W64) (low_bits_c scale (Local (Signed w) x.next)) u u
-      (Unsigned W64, low_bits-is int s b.after scale (Local (Signed w) x.next) z most_int has) (low-stays z scale.width scale.bits_within) in
+      (Unsigned W64, low_bits-is int s b.after scale (Local (Signed w) x.next) z most_int has)
+      (low-stays z scale.width scale.bits_within) in
       let means = local-means int s after (Unsigned W64) k u (set-there b.after (Unsigned W64) k u) in (
         after,
         then-goes int s l b.after after _ _ b.goes sets,
@@ -150,7 +162,8 @@ module _ (int : Width) (s : Store) (l : Locals) (n d size : ℕ) (scale : Scale)
       low : CExpr
       low = Local (Unsigned W64) (x.next + 1)
 
-      at : (after : Locals) → meaning int s after low ≡ gives (Unsigned W64) (int_rem_euclid (floored v scale.frac) (pos (2 ^ scale.width)))
+      at : (after : Locals) → meaning int s after low ≡ gives (Unsigned W64)
+          (int_rem_euclid (floored v scale.frac) (pos (2 ^ scale.width)))
           → (c : Bool) → scale.signed ≡ c → Has int s after (cond c (signed_c scale low) low) m
       at after means true sign = wraps-signed int s after v scale low m most_int sign means is
       at after means false sign = subst (λ (y : ℤ). Has int s after low y)
@@ -182,8 +195,10 @@ assigns int tests s vals marks e n d l frac size scale mode v fit show active mo
     let c = scope_at vals marks in
     let x = flat c tests n e in
     let narrow = IfOk-at_ok IsNarrow sort (sort_of-narrow c e) in
-    let has = IfOk-at_ok (HasSort (kinds.Number frac size)) value (value_has_sort int tests s vals marks e n l (kinds.Number frac size) fit show active sort) in
-    let ends = subst (λ (w : Valued). EndsAs int s n x l w) value (ends_as_value int tests s vals marks e n l (kinds.Number frac size) fit show active sort) in
+    let has = IfOk-at_ok (HasSort (kinds.Number frac size)) value
+    (value_has_sort int tests s vals marks e n l (kinds.Number frac size) fit show active sort) in
+    let ends = subst (λ (w : Valued). EndsAs int s n x l w) value
+    (ends_as_value int tests s vals marks e n l (kinds.Number frac size) fit show active sort) in
     let most : size_at scale.frac frac size ≤ 100 = narrow-there (size_at scale.frac frac size) none in
     let few : v.frac ≤ 64 = omega (arith, has.0, narrow.0) in
     subst (λ (f : ℕ). StoresAs int s l d (stored_c d f size scale mode x) (fitted v scale mode)) has.0

@@ -50,7 +50,8 @@ set-shows (x ∷ vals) (f ∷ fields) (suc v) d show lt (suc u) within =
     set-shows vals fields v d (λ u lt. show (suc u) (omega arith)) (omega arith) u (omega arith)
 
 -- the statement that stores the mantissa of a datum
-put-stores : (int : Width) (calls : Calls) (k : ℕ) (s : Store) (l : Locals) (vals : List Datum) (v : ℕ) (m : ℤ) (e : CExpr)
+put-stores : (int : Width) (calls : Calls) (k : ℕ) (s : Store) (l : Locals) (vals : List Datum) (v : ℕ) (m : ℤ)
+    (e : CExpr)
     (rest : Block) → ShowsData vals s → v < length vals → Has int s l e m
     → converted (field_type (datum vals v).sort) m ≡ gives (field_type (datum vals v).sort) m
     → (outcome int calls k (PutField v e rest) s l
@@ -58,8 +59,10 @@ put-stores : (int : Width) (calls : Calls) (k : ℕ) (s : Store) (l : Locals) (v
     × ShowsData (with_mantissa vals v m) (with_field s v (record { type = field_type (datum vals v).sort; value = m }))
 unfolding outcome
 put-stores int calls k s l vals v m e rest show lt has takes = (
-  ap (λ (x : Meaning). with_value (with_meaning x (λ x. brought_to (slice_get s.fields v) x.value)) (λ y. outcome int calls k rest (with_field s v y) l)) has.1
-      ∙ ap (λ (o : Option Object). with_value (brought_to o m) (λ y. outcome int calls k rest (with_field s v y) l)) (show v lt)
+  ap (λ (x : Meaning). with_value (with_meaning x (λ x. brought_to (slice_get s.fields v) x.value))
+      (λ y. outcome int calls k rest (with_field s v y) l)) has.1
+      ∙ ap (λ (o : Option Object). with_value (brought_to o m) (λ y. outcome int calls k rest (with_field s v y) l))
+      (show v lt)
       ∙ ap (λ (x : Meaning). with_value x (λ y. outcome int calls k rest (with_field s v y) l)) takes,
   set-shows vals s.fields v (record (datum vals v) { mantissa = m }) show lt,
 )
@@ -73,7 +76,8 @@ flag-takes b = ap (λ (c : Bool). gives Truth (one_if c)) (truth-stays b)
 -- ---- assignments
 
 -- the fault of an expression is one of its assignment
-stored-faults : (int : Width) (s : Store) (l : Locals) (v frac size : ℕ) (scale : Scale) (mode : Mode) (x : Flat) (f : Fault)
+stored-faults : (int : Width) (s : Store) (l : Locals) (v frac size : ℕ) (scale : Scale) (mode : Mode) (x : Flat)
+    (f : Fault)
     → ending int s l x.code ≡ Faults f → ending int s l (stored_c v frac size scale mode x).code ≡ Faults f
 stored-faults int s l v frac size scale Saturate x f is = then-faults int s l x.code _ f is
 stored-faults int s l v frac size scale Wrap x f is = then-faults int s l _ _ f (then-faults int s l x.code _ f is)
@@ -92,11 +96,13 @@ module _ (int : Width) (calls : Calls) (k : ℕ) (helper : Width → ℕ) (fault
       let put = put-stores int calls k s ends.0 vals v m c.kept rest show there ends.2 (takes m refl) in (
         record { type = field_type (datum vals v).sort; value = m },
         ends.0,
-        written-goes int calls k helper faulted after bad s divides returning c.code (PutField v c.kept rest) l ends.0 ends.1 ∙ put.0,
+        written-goes int calls k helper faulted after bad s divides returning c.code
+            (PutField v c.kept rest) l ends.0 ends.1 ∙ put.0,
         put.1,
       )
   stores-assign c (Err e) ends takes =
-      written-faults int calls k helper faulted after bad s divides returning c.code (PutField v c.kept rest) l (Overflows v) ends
+      written-faults int calls k helper faulted after bad s divides returning c.code (PutField v c.kept rest) l
+      (Overflows v) ends
 
   -- a fault of the expression
   faults-assign : (c : Stores) (f : Fault) → ending int s l c.code ≡ Faults f
@@ -106,7 +112,8 @@ module _ (int : Width) (calls : Calls) (k : ℕ) (helper : Width → ℕ) (fault
       written-faults int calls k helper faulted after bad s divides returning c.code (PutField v c.kept rest) l f is
 
 -- the assignment of an expression
-pub assigns-data : (int : Width) (tests : ℕ → CExpr) (calls : Calls) (k : ℕ) (helper : Width → ℕ) (faulted : Fault → Block)
+pub assigns-data : (int : Width) (tests : ℕ → CExpr) (calls : Calls) (k : ℕ) (helper : Width → ℕ)
+    (faulted : Fault → Block)
     (after : Fault → Store → Store) (bad : CValue) (s : Store) (vals : List Datum) (marks : Configuration) (v : ℕ)
     (e : Expr) (sort : ExprSort) (n : ℕ) (rest : Block) (l : Locals)
     → CanAssign int tests calls k helper faulted after bad s vals marks v e sort
@@ -134,13 +141,15 @@ assigns-data int tests calls k helper faulted after bad s vals marks v e sort n 
         (outcome int calls k (assigned_block helper faulted v st rest) s l) (Err f)
     faults = faults-assign int calls k helper faulted after bad s c.divides c.returning vals v c.shown c.there rest l
 
-    by_sort : (so : Sort) (given : ExprSort) (value : Valued) → (datum vals v).sort ≡ so → assignment_fault so given ≡ None
+    by_sort : (so : Sort) (given : ExprSort) (value : Valued) → (datum vals v).sort ≡ so → assignment_fault so given
+        ≡ None
         → sort_of (scope_at vals marks) e ≡ Ok given → value_of vals marks e ≡ value → IfOk value (HasSort given)
         → EndsAs int s n x l value
         → EndsAssigned (λ u m. outcome int calls k rest u m) after bad v s
         (outcome int calls k (assigned_block helper faulted v (stores_of v so (datum vals v).mode given x) rest) s l)
         (assigned_by vals v value)
-    by_sort sorts.Flag kinds.Flag (Err f) is none sorted value has ends = faults (record { code = x.code; kept = x.expr }) f ends
+    by_sort sorts.Flag kinds.Flag (Err f) is none sorted value has ends = faults
+        (record { code = x.code; kept = x.expr }) f ends
     by_sort sorts.Flag kinds.Flag (Ok (values.Number y)) is none sorted value has ends = absurd has
     by_sort sorts.Flag kinds.Flag (Ok (values.Flag b)) is none sorted value has ends =
         stores (record { code = x.code; kept = x.expr }) (Ok (one_if b))
@@ -153,12 +162,14 @@ assigns-data int tests calls k helper faulted after bad s vals marks v e sort n 
     by_sort (sorts.Number scale) (kinds.Number frac size) (Err f) is none sorted value has ends =
         faults (stored_c v frac size scale (datum vals v).mode x) f
         (stored-faults int s l v frac size scale (datum vals v).mode x f ends)
-    by_sort (sorts.Number scale) (kinds.Number frac size) (Ok (values.Flag b)) is none sorted value has ends = absurd has
+    by_sort (sorts.Number scale) (kinds.Number frac size)
+        (Ok (values.Flag b)) is none sorted value has ends = absurd has
     by_sort (sorts.Number scale) (kinds.Number frac size) (Ok (values.Number y)) is none sorted value has ends =
         let mode = (datum vals v).mode in
         let st = stored_c v frac size scale mode x in
         subst (λ (so : Sort). EndsAssigned (λ u m. outcome int calls k rest u m) after bad v s
-        (outcome int calls k (assigned_block helper faulted v st rest) s l) (keep vals v (kept_number y so mode))) (sym is)
+        (outcome int calls k (assigned_block helper faulted v st rest) s l) (keep vals v (kept_number y so mode)))
+        (sym is)
         (stores st (fitted y scale mode)
         (assigns int tests s vals marks e n v l frac size scale mode y c.sorts c.shown c.active c.int_is sorted none value)
         (λ m same. subst (λ (so : Sort). converted (field_type so) m ≡ gives (field_type so) m) (sym is)

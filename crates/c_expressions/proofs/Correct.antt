@@ -86,7 +86,8 @@ literal-has int s l x sort e =
     let size = least_size (unsigned_abs x.mantissa) in
     let within = number_within-is x.frac size sort e in
     let has = subst (λ (t : ExprSort). HasSort t (values.Number x)) within.2 (literal-has_sort x sort e) in
-    has_roomy int s l size _ _ (const-roomy int s l (width_for size) size x.mantissa (width_for-room size within.1) has.1)
+    has_roomy int s l size _ _
+    (const-roomy int s l (width_for size) size x.mantissa (width_for-room size within.1) has.1)
 
 flag-has : (int : Width) (s : Store) (l : Locals) (b : Bool) → Has int s l (Const Truth (one_if b)) (one_if b)
 unfolding meaning
@@ -210,7 +211,8 @@ passed-or (Ok (values.Flag q)) right is has = refl
 passed-or (Ok (values.Number n)) right is has = absurd (subst (λ (t : ExprSort). HasSort t (values.Number n)) is has)
 
 -- the ending of both sides
-record AreBoth (int : Width) (s : Store) (l : Locals) (n : ℕ) (left right : ExprSort) (a b : Flat) (va vb : Valued) : Type 0 where
+record AreBoth (int : Width) (s : Store) (l : Locals) (n : ℕ) (left right : ExprSort) (a b : Flat)
+    (va vb : Valued) : Type 0 where
   up : n ≤ a.next
   up_more : a.next ≤ b.next
   left_narrow : IsNarrow left
@@ -229,7 +231,8 @@ eager-operator : (int : Width) (s : Store) (l : Locals) (n : ℕ) (op : Op) (lef
     (va vb : Valued) → IsEager op → binary_sort op left right ≡ Ok sort → AreBoth int s l n left right a b va vb
     → EndsAs int s n (eager_flat op left right a b) l (with_value va (λ x. with_value vb (applied op x)))
 eager-operator int s l n op left right sort a b va vb eager given both =
-    eager-ends int s l n a b (operator_c op left right a.expr b.expr) va vb (applied op) both.up both.up_more both.left_ends both.right_ends
+    eager-ends int s l n a b (operator_c op left right a.expr b.expr) va vb
+    (applied op) both.up both.up_more both.left_ends both.right_ends
     (λ x y va_is vb_is. let c = computes int s op left right sort x y eager both.left_narrow both.right_narrow
     (IfOk-at_ok (HasSort left) va_is both.left_sorted) (IfOk-at_ok (HasSort right) vb_is both.right_sorted) given in
     (c.value, c.applied_is, λ later ha hb. c.has later a.expr b.expr ha hb))
@@ -256,8 +259,10 @@ quotient-operator int s l n left right sort a b (Ok (values.Number p)) (Ok (valu
     let y = number_sort right q both.right_narrow both.right_sorted in
     let is : quotient_sort p.frac x.size q.frac y.size ≡ Ok sort = cc (x.is, y.is, given) in
     subst (λ (t : ExprSort). EndsAs int s n (quotient_flat t right a b) l (quotient_value (quotient_of p q))) (sym x.is)
-    (subst (λ (t : ExprSort). EndsAs int s n (quotient_flat (kinds.Number p.frac x.size) t a b) l (quotient_value (quotient_of p q))) (sym y.is)
-    (quotient-ends int s l n a b p q x.size y.size sort both.up both.up_more (record { left = x.small; right = y.small }) y.few is both.left_ends both.right_ends))
+    (subst (λ (t : ExprSort). EndsAs int s n (quotient_flat (kinds.Number p.frac x.size) t a b) l
+    (quotient_value (quotient_of p q))) (sym y.is)
+    (quotient-ends int s l n a b p q x.size y.size sort both.up both.up_more
+    (record { left = x.small; right = y.small }) y.few is both.left_ends both.right_ends))
 
 -- &&
 and-operator : (int : Width) (s : Store) (l : Locals) (n : ℕ) (left right sort : ExprSort) (a b : Flat)
@@ -269,10 +274,12 @@ and-operator int s l n left right sort a b (Err f) vb given both = at (is_nothin
     at true = then-faults int s l a.code _ f both.left_ends
     at false = then-faults int s l a.code _ f both.left_ends
 and-operator int s l n left right sort a b (Ok (values.Number x)) vb given both =
-    absurd (subst (λ (t : ExprSort). HasSort t (values.Number x)) (of_flags-are left right sort given).left_is both.left_sorted)
+    absurd (subst (λ (t : ExprSort). HasSort t (values.Number x))
+    (of_flags-are left right sort given).left_is both.left_sorted)
 and-operator int s l n left right sort a b (Ok (values.Flag p)) vb given both =
     let are = of_flags-are left right sort given in
-    subst (λ (t : ExprSort). EndsAs int s n (operator_flat ops.And t right a b) l (operator_value ops.And (Ok (values.Flag p)) vb)) (sym are.left_is)
+    subst (λ (t : ExprSort). EndsAs int s n (operator_flat ops.And t right a b) l
+    (operator_value ops.And (Ok (values.Flag p)) vb)) (sym are.left_is)
     (value p (and-ends int s l n a b p vb (is_nothing b.code) both.up both.up_more refl
     (subst (λ (t : ExprSort). IfOk vb (HasSort t)) are.right_is both.right_sorted) both.left_ends both.right_ends))
   where
@@ -292,10 +299,12 @@ or-operator int s l n left right sort a b (Err f) vb given both = at (is_nothing
     at true = then-faults int s l a.code _ f both.left_ends
     at false = then-faults int s l a.code _ f both.left_ends
 or-operator int s l n left right sort a b (Ok (values.Number x)) vb given both =
-    absurd (subst (λ (t : ExprSort). HasSort t (values.Number x)) (of_flags-are left right sort given).left_is both.left_sorted)
+    absurd (subst (λ (t : ExprSort). HasSort t (values.Number x))
+    (of_flags-are left right sort given).left_is both.left_sorted)
 or-operator int s l n left right sort a b (Ok (values.Flag p)) vb given both =
     let are = of_flags-are left right sort given in
-    subst (λ (t : ExprSort). EndsAs int s n (operator_flat ops.Or t right a b) l (operator_value ops.Or (Ok (values.Flag p)) vb)) (sym are.left_is)
+    subst (λ (t : ExprSort). EndsAs int s n (operator_flat ops.Or t right a b) l
+    (operator_value ops.Or (Ok (values.Flag p)) vb)) (sym are.left_is)
     (value p (or-ends int s l n a b p vb (is_nothing b.code) both.up both.up_more refl
     (subst (λ (t : ExprSort). IfOk vb (HasSort t)) are.right_is both.right_sorted) both.left_ends both.right_ends))
   where
@@ -332,14 +341,17 @@ operator-up other left right a b = omega arith
 -- ---- every expression
 
 -- what holds of an expression, with locals from n on
-record IsCorrect (int : Width) (tests : ℕ → CExpr) (s : Store) (vals : List Datum) (marks : Configuration) (e : Expr) (n : ℕ) (l : Locals)
+record IsCorrect (int : Width) (tests : ℕ → CExpr) (s : Store) (vals : List Datum) (marks : Configuration) (e : Expr)
+    (n : ℕ) (l : Locals)
     (sort : ExprSort) : Type 0 where
   ends : EndsAs int s n (flat (scope_at vals marks) tests n e) l (value_of vals marks e)
   sorted : IfOk (value_of vals marks e) (HasSort sort)
   up : n ≤ (flat (scope_at vals marks) tests n e).next
 
-correct : (int : Width) (tests : ℕ → CExpr) (s : Store) (vals : List Datum) (marks : Configuration) → HaveTheirSorts vals
-    → ShowsData vals s → ShowsActive int tests marks s → (e : Expr) (n : ℕ) (l : Locals) (sort : ExprSort) → sort_of (scope_at vals marks) e ≡ Ok sort
+correct : (int : Width) (tests : ℕ → CExpr) (s : Store) (vals : List Datum) (marks : Configuration)
+    → HaveTheirSorts vals
+    → ShowsData vals s → ShowsActive int tests marks s → (e : Expr) (n : ℕ) (l : Locals) (sort : ExprSort) → sort_of
+    (scope_at vals marks) e ≡ Ok sort
     → IsCorrect int tests s vals marks e n l sort
 unfolding sort_of value_of flat
 correct int tests s vals marks fit show active (Lit x) n l sort is = record {
@@ -357,12 +369,14 @@ correct int tests s vals marks fit show active (Read v) n l sort is =
     let fits = datum-sorted vals v there.0 fit in
     let d = datum vals v in
     record {
-      ends = leaf-ends int s l n _ (value_at d.sort d.mantissa) (λ later. field-has int s later vals v show there.0 fits);
+      ends = leaf-ends int s l n _ (value_at d.sort d.mantissa)
+          (λ later. field-has int s later vals v show there.0 fits);
       sorted = value-has_sort d.sort (value_at d.sort d.mantissa) sort (d.mantissa, fits, refl) there.1;
       up = omega arith;
     }
 correct int tests s vals marks fit show active (Active q) n l sort is = record {
-  ends = leaf-ends int s l n _ (values.Flag (is_on q marks)) (λ later. active q later (state-there (mark_count marks) q sort is));
+  ends = leaf-ends int s l n _ (values.Flag (is_on q marks))
+      (λ later. active q later (state-there (mark_count marks) q sort is));
   sorted = has_flag sort (is_on q marks) (state-flag (mark_count marks) q sort is);
   up = omega arith;
 }
@@ -373,8 +387,10 @@ correct int tests s vals marks fit show active (Neg a) n l sort is =
     let narrow = IfOk-at_ok IsNarrow part.1 (sort_of-narrow c a) in
     let f = flat c tests n a in
     record {
-      ends = subst (λ (t : Sorted). EndsAs int s n (record f { expr = negation_c (sort_in t) f.expr }) l (value_of vals marks (Neg a))) (sym part.1)
-          (same-code int s l n f (negation_c part.0 f.expr) (value_of vals marks a) (λ x. values.Number (negation_of (number_of x))) inner.ends
+      ends = subst (λ (t : Sorted). EndsAs int s n (record f { expr = negation_c (sort_in t) f.expr }) l
+          (value_of vals marks (Neg a))) (sym part.1)
+          (same-code int s l n f (negation_c part.0 f.expr) (value_of vals marks a)
+          (λ x. values.Number (negation_of (number_of x))) inner.ends
           (λ x x_is later has. negative-has int s later part.0 sort x f.expr part.2 narrow
           (IfOk-at_ok (HasSort part.0) x_is inner.sorted) has));
       sorted = if_ok-with (value_of vals marks a) (HasSort part.0) (HasSort sort) _ inner.sorted
@@ -415,12 +431,17 @@ correct int tests s vals marks fit show active (Bin op a b) n l sort is =
       right_ends = λ m. (right m).ends;
     } in
     record {
-      ends = subst (λ (t : Sorted). EndsAs int s n (operator_flat op (sort_in t) (sort_in (sort_of c b)) f g) l (value_of vals marks (Bin op a b))) (sym sides.left_is)
-          (subst (λ (t : Sorted). EndsAs int s n (operator_flat op sides.left (sort_in t) f g) l (value_of vals marks (Bin op a b))) (sym sides.right_is)
-          (operator-ends int s l n op sides.left sides.right sort f g (value_of vals marks a) (value_of vals marks b) sides.given both));
+      ends = subst (λ (t : Sorted). EndsAs int s n (operator_flat op (sort_in t) (sort_in (sort_of c b)) f g) l
+          (value_of vals marks (Bin op a b))) (sym sides.left_is)
+          (subst (λ (t : Sorted). EndsAs int s n (operator_flat op sides.left (sort_in t) f g) l
+          (value_of vals marks (Bin op a b))) (sym sides.right_is)
+          (operator-ends int s l n op sides.left sides.right sort f g (value_of vals marks a)
+          (value_of vals marks b) sides.given both));
       sorted = if_ok-with (value_of vals marks a) (HasSort sides.left) (HasSort sort) _ left.sorted
-          (λ x h. chosen-sorted op sides.left sides.right sort x (value_of vals marks b) narrow narrow' h (right l).sorted sides.given);
-      up = let more = operator-up op (sort_in (sort_of c a)) (sort_in (sort_of c b)) f g in omega (arith, left.up, (right l).up, more);
+          (λ x h. chosen-sorted op sides.left sides.right sort x (value_of vals marks b) narrow narrow' h
+          (right l).sorted sides.given);
+      up = let more = operator-up op (sort_in (sort_of c a)) (sort_in (sort_of c b)) f g in omega
+          (arith, left.up, (right l).up, more);
     }
 
 -- the C ends as the value does
@@ -428,10 +449,13 @@ pub ends_as_value : (int : Width) (tests : ℕ → CExpr) (s : Store) (vals : Li
     (n : ℕ) (l : Locals) (sort : ExprSort) → HaveTheirSorts vals → ShowsData vals s → ShowsActive int tests marks s
     → sort_of (scope_at vals marks) e ≡ Ok sort
     → EndsAs int s n (flat (scope_at vals marks) tests n e) l (value_of vals marks e)
-ends_as_value int tests s vals marks e n l sort fit show active is = (correct int tests s vals marks fit show active e n l sort is).ends
+ends_as_value int tests s vals marks e n l sort fit show active is =
+    (correct int tests s vals marks fit show active e n l sort is).ends
 
 -- and the value has the sort
-pub value_has_sort : (int : Width) (tests : ℕ → CExpr) (s : Store) (vals : List Datum) (marks : Configuration) (e : Expr)
+pub value_has_sort : (int : Width) (tests : ℕ → CExpr) (s : Store) (vals : List Datum) (marks : Configuration)
+    (e : Expr)
     (n : ℕ) (l : Locals) (sort : ExprSort) → HaveTheirSorts vals → ShowsData vals s → ShowsActive int tests marks s
     → sort_of (scope_at vals marks) e ≡ Ok sort → IfOk (value_of vals marks e) (HasSort sort)
-value_has_sort int tests s vals marks e n l sort fit show active is = (correct int tests s vals marks fit show active e n l sort is).sorted
+value_has_sort int tests s vals marks e n l sort fit show active is =
+    (correct int tests s vals marks fit show active e n l sort is).sorted

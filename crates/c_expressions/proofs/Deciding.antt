@@ -21,7 +21,9 @@ both-decided : (int : Width) (s : Store) (l : Locals) (a b : CExpr) → Has int 
 unfolding meaning
 both-decided int s l a b has = (
   Signed int,
-  ap (λ (m : Meaning). with_meaning m (λ x. cond (is_true x.value) (with_meaning (meaning int s l b) (λ y. truth int (is_true y.value))) (truth int false))) has.1,
+  ap (λ (m : Meaning). with_meaning m
+      (λ x. cond (is_true x.value) (with_meaning (meaning int s l b) (λ y. truth int (is_true y.value)))
+      (truth int false))) has.1,
 )
 
 both-goes_on : (int : Width) (s : Store) (l : Locals) (a b : CExpr) (q : Bool) → Has int s l a (one_if true)
@@ -29,7 +31,9 @@ both-goes_on : (int : Width) (s : Store) (l : Locals) (a b : CExpr) (q : Bool) �
 unfolding meaning
 both-goes_on int s l a b q ha hb = (
   Signed int,
-  ap (λ (m : Meaning). with_meaning m (λ x. cond (is_true x.value) (with_meaning (meaning int s l b) (λ y. truth int (is_true y.value))) (truth int false))) ha.1
+  ap (λ (m : Meaning). with_meaning m
+      (λ x. cond (is_true x.value) (with_meaning (meaning int s l b) (λ y. truth int (is_true y.value)))
+      (truth int false))) ha.1
       ∙ ap (λ (m : Meaning). with_meaning m (λ y. truth int (is_true y.value))) hb.1
       ∙ ap (truth int) (truth-stays q),
 )
@@ -39,7 +43,9 @@ either-decided : (int : Width) (s : Store) (l : Locals) (a b : CExpr) → Has in
 unfolding meaning
 either-decided int s l a b has = (
   Signed int,
-  ap (λ (m : Meaning). with_meaning m (λ x. cond (is_true x.value) (truth int true) (with_meaning (meaning int s l b) (λ y. truth int (is_true y.value))))) has.1,
+  ap (λ (m : Meaning). with_meaning m
+      (λ x. cond (is_true x.value) (truth int true)
+      (with_meaning (meaning int s l b) (λ y. truth int (is_true y.value))))) has.1,
 )
 
 either-goes_on : (int : Width) (s : Store) (l : Locals) (a b : CExpr) (q : Bool) → Has int s l a (one_if false)
@@ -47,7 +53,9 @@ either-goes_on : (int : Width) (s : Store) (l : Locals) (a b : CExpr) (q : Bool)
 unfolding meaning
 either-goes_on int s l a b q ha hb = (
   Signed int,
-  ap (λ (m : Meaning). with_meaning m (λ x. cond (is_true x.value) (truth int true) (with_meaning (meaning int s l b) (λ y. truth int (is_true y.value))))) ha.1
+  ap (λ (m : Meaning). with_meaning m
+      (λ x. cond (is_true x.value) (truth int true)
+      (with_meaning (meaning int s l b) (λ y. truth int (is_true y.value))))) ha.1
       ∙ ap (λ (m : Meaning). with_meaning m (λ y. truth int (is_true y.value))) hb.1
       ∙ ap (truth int) (truth-stays q),
 )
@@ -87,7 +95,8 @@ plain-decided int s l n a b e decided na nb nothing d ha = (
 )
 
 -- it isn't
-pub plain-goes_on : (int : Width) (s : Store) (l : Locals) (n : ℕ) (a b : Flat) (e : CExpr) (decided : Bool) (vb : Valued)
+pub plain-goes_on : (int : Width) (s : Store) (l : Locals) (n : ℕ) (a b : Flat) (e : CExpr) (decided : Bool)
+    (vb : Valued)
     → n ≤ a.next → a.next ≤ b.next → Decides int s decided a.expr b.expr e → IfOk vb (HasSort kinds.Flag)
     → EndsAs int s n a l (Ok (values.Flag (not decided))) → ((m : Locals) → EndsAs int s a.next b m vb)
     → EndsAs int s n (record { code = Then a.code b.code; expr = e; next = b.next }) l vb
@@ -129,7 +138,8 @@ start int s l m k a p c end first has rest =
 
 lazy-decided : (int : Width) (s : Store) (l : Locals) (n : ℕ) (a b : Flat) (goes_on : CExpr → CExpr) (p : Bool)
     → n ≤ a.next → a.next ≤ b.next
-    → ((m : Locals) → Has int s m (Local Truth b.next) (one_if p) → Has int s m (goes_on (Local Truth b.next)) (one_if false))
+    → ((m : Locals) → Has int s m (Local Truth b.next) (one_if p) → Has int s m (goes_on (Local Truth b.next))
+    (one_if false))
     → EndsAs int s n a l (Ok (values.Flag p))
     → EndsAs int s n (lazy_flat goes_on a b) l (Ok (values.Flag p))
 lazy-decided int s l n a b goes_on p na nb tests ha =
@@ -140,13 +150,17 @@ lazy-decided int s l n a b goes_on p na nb tests ha =
       start int s l ha.0 k a p _ (Goes after) ha.1 (ha.3 ha.0 (agree-itself a.next ha.0))
           (if-ends int s after (goes_on (Local Truth k)) (Then b.code (Set Truth k b.expr)) false (tests after local)),
       agree-through n a.next l ha.0 after na ha.2 (agree-set a.next k ha.0 Truth (one_if p) nb),
-      λ later agree. local-has int s later Truth k (one_if p) (agree Truth k (omega arith) ∙ set-there ha.0 Truth k (one_if p)),
+      λ later agree. local-has int s later Truth k (one_if p)
+          (agree Truth k (omega arith) ∙ set-there ha.0 Truth k (one_if p)),
     )
 
-lazy-goes_on : (int : Width) (s : Store) (l : Locals) (n : ℕ) (a b : Flat) (goes_on : CExpr → CExpr) (p : Bool) (vb : Valued)
+lazy-goes_on : (int : Width) (s : Store) (l : Locals) (n : ℕ) (a b : Flat) (goes_on : CExpr → CExpr) (p : Bool)
+    (vb : Valued)
     → n ≤ a.next → a.next ≤ b.next
-    → ((m : Locals) → Has int s m (Local Truth b.next) (one_if p) → Has int s m (goes_on (Local Truth b.next)) (one_if true))
-    → IfOk vb (HasSort kinds.Flag) → EndsAs int s n a l (Ok (values.Flag p)) → ((m : Locals) → EndsAs int s a.next b m vb)
+    → ((m : Locals) → Has int s m (Local Truth b.next) (one_if p) → Has int s m (goes_on (Local Truth b.next))
+    (one_if true))
+    → IfOk vb (HasSort kinds.Flag) → EndsAs int s n a l (Ok (values.Flag p)) →
+    ((m : Locals) → EndsAs int s a.next b m vb)
     → EndsAs int s n (lazy_flat goes_on a b) l vb
 lazy-goes_on int s l n a b goes_on p (Ok (values.Number y)) na nb tests has ha hb = absurd has
 lazy-goes_on int s l n a b goes_on p (Err f) na nb tests has ha hb =
@@ -169,8 +183,10 @@ lazy-goes_on int s l n a b goes_on p (Ok (values.Flag q)) na nb tests has ha hb 
           (truth-set int s second.0 k b.expr q (second.3 second.0 (agree-itself b.next second.0)))),
       agree-through n a.next l ha.0 after na ha.2
           (agree-through a.next a.next ha.0 before after (omega arith) (agree-set a.next k ha.0 Truth (one_if p) nb)
-          (agree-through a.next a.next before second.0 after (omega arith) second.2 (agree-set a.next k second.0 Truth (one_if q) nb))),
-      λ later agree. local-has int s later Truth k (one_if q) (agree Truth k (omega arith) ∙ set-there second.0 Truth k (one_if q)),
+          (agree-through a.next a.next before second.0 after (omega arith) second.2
+          (agree-set a.next k second.0 Truth (one_if q) nb))),
+      λ later agree. local-has int s later Truth k (one_if q)
+          (agree Truth k (omega arith) ∙ set-there second.0 Truth k (one_if q)),
     )
 
 -- ---- operators on flags
@@ -178,7 +194,8 @@ lazy-goes_on int s l n a b goes_on p (Ok (values.Flag q)) na nb tests has ha hb 
 pub and-ends : (int : Width) (s : Store) (l : Locals) (n : ℕ) (a b : Flat) (p : Bool) (vb : Valued) (nothing : Bool)
     → n ≤ a.next → a.next ≤ b.next → is_nothing b.code ≡ nothing → IfOk vb (HasSort kinds.Flag)
     → EndsAs int s n a l (Ok (values.Flag p)) → ((m : Locals) → EndsAs int s a.next b m vb)
-    → EndsAs int s n (cond nothing (record { code = Then a.code b.code; expr = Both a.expr b.expr; next = b.next }) (lazy_flat (λ e. e) a b)) l
+    → EndsAs int s n (cond nothing (record { code = Then a.code b.code; expr = Both a.expr b.expr; next = b.next })
+    (lazy_flat (λ e. e) a b)) l
     (cond p vb (Ok (values.Flag p)))
 and-ends int s l n a b true vb true na nb is has ha hb =
     plain-goes_on int s l n a b _ false vb na nb (both-decides int s a.expr b.expr) has ha hb
@@ -192,7 +209,8 @@ and-ends int s l n a b false vb false na nb is has ha hb =
 pub or-ends : (int : Width) (s : Store) (l : Locals) (n : ℕ) (a b : Flat) (p : Bool) (vb : Valued) (nothing : Bool)
     → n ≤ a.next → a.next ≤ b.next → is_nothing b.code ≡ nothing → IfOk vb (HasSort kinds.Flag)
     → EndsAs int s n a l (Ok (values.Flag p)) → ((m : Locals) → EndsAs int s a.next b m vb)
-    → EndsAs int s n (cond nothing (record { code = Then a.code b.code; expr = Either a.expr b.expr; next = b.next }) (lazy_flat Bang a b)) l
+    → EndsAs int s n (cond nothing (record { code = Then a.code b.code; expr = Either a.expr b.expr; next = b.next })
+    (lazy_flat Bang a b)) l
     (cond p (Ok (values.Flag p)) vb)
 or-ends int s l n a b false vb true na nb is has ha hb =
     plain-goes_on int s l n a b _ true vb na nb (either-decides int s a.expr b.expr) has ha hb

@@ -24,26 +24,34 @@ use Rattle.c_expressions.proofs.Storing.{floored-small, saturated-has, out-has}
 pub room-there : (n : Num) (size : ℕ) (scale : Scale) → n.frac ≤ 64 → size_at scale.frac n.frac size ≤ 100
     → size_at scale.frac n.frac size + 1 < bits (floored_width n.frac size scale.frac)
 room-there n size scale few most =
-    let h = width_for-room (max (size_at scale.frac n.frac size) (n.frac - scale.frac)) (omega arith) in omega (arith, h)
+    let h = width_for-room (max (size_at scale.frac n.frac size) (n.frac - scale.frac)) (omega arith) in omega
+    (arith, h)
 
 brought-is : (int : Width) (s : Store) (l : Locals) (k : ℕ) (n : Num) (size : ℕ) (scale : Scale) → n.frac ≤ 64
     → size_at scale.frac n.frac size ≤ 100 → IsBrought l k n size scale
-    → Roomy int s l (size_at scale.frac n.frac size) (Local (Signed (floored_width n.frac size scale.frac)) k) (floored n scale.frac)
+    → Roomy int s l (size_at scale.frac n.frac size) (Local (Signed (floored_width n.frac size scale.frac)) k)
+    (floored n scale.frac)
 brought-is int s l k n size scale few most there =
     local-roomy int s l (floored_width n.frac size scale.frac) k (size_at scale.frac n.frac size) (floored n scale.frac)
     (room-there n size scale few most) there
 
 -- what is kept where numbers out of range are brought to the nearest end
-pub saturates : (int : Width) (s : Store) (l : Locals) (k : ℕ) (n : Num) (size : ℕ) (scale : Scale) (m : ℤ) → n.frac ≤ 64
+pub saturates : (int : Width) (s : Store) (l : Locals) (k : ℕ) (n : Num) (size : ℕ) (scale : Scale) (m : ℤ)
+    → n.frac ≤ 64
     → unsigned_abs n.mantissa ≤ 2 ^ size → size_at scale.frac n.frac size ≤ 100 → IsBrought l k n size scale
     → fitted n scale Saturate ≡ Ok m
-    → Has int s l (saturated_c scale (size_at scale.frac n.frac size) (floored_width n.frac size scale.frac) (Local (Signed (floored_width n.frac size scale.frac)) k)) m
+    → Has int s l (saturated_c scale (size_at scale.frac n.frac size) (floored_width n.frac size scale.frac)
+    (Local (Signed (floored_width n.frac size scale.frac)) k)) m
 unfolding fitted
 saturates int s l k n size scale m few small most there is =
-    subst (λ (z : ℤ). Has int s l (saturated_c scale (size_at scale.frac n.frac size) (floored_width n.frac size scale.frac) (Local (Signed (floored_width n.frac size scale.frac)) k)) z)
+    subst (λ (z : ℤ). Has int s l
+    (saturated_c scale (size_at scale.frac n.frac size) (floored_width n.frac size scale.frac)
+    (Local (Signed (floored_width n.frac size scale.frac)) k)) z)
     (same (is_in_range scale (floored n scale.frac)) is)
-    (saturated-has int s l scale (size_at scale.frac n.frac size) (floored_width n.frac size scale.frac) (Local (Signed (floored_width n.frac size scale.frac)) k) (floored n scale.frac)
-    (room-there n size scale few most) (brought-is int s l k n size scale few most there) (floored-small n size scale.frac small))
+    (saturated-has int s l scale (size_at scale.frac n.frac size) (floored_width n.frac size scale.frac)
+    (Local (Signed (floored_width n.frac size scale.frac)) k) (floored n scale.frac)
+    (room-there n size scale few most) (brought-is int s l k n size scale few most there)
+    (floored-small n size scale.frac small))
   where
     same : (b : Bool) → cond b (Ok (floored n scale.frac)) (by_mode Saturate scale (floored n scale.frac)) ≡ Ok m
         → cond b (floored n scale.frac) (nearest_end scale (floored n scale.frac)) ≡ m
@@ -53,14 +61,19 @@ saturates int s l k n size scale m few small most there is =
 -- the test of an overflow is true exactly where there is one
 pub overflows : (int : Width) (s : Store) (l : Locals) (k : ℕ) (n : Num) (size : ℕ) (scale : Scale) → n.frac ≤ 64
     → unsigned_abs n.mantissa ≤ 2 ^ size → size_at scale.frac n.frac size ≤ 100 → IsBrought l k n size scale
-    → Has int s l (out_c scale (size_at scale.frac n.frac size) (floored_width n.frac size scale.frac) (Local (Signed (floored_width n.frac size scale.frac)) k))
+    → Has int s l (out_c scale (size_at scale.frac n.frac size) (floored_width n.frac size scale.frac)
+    (Local (Signed (floored_width n.frac size scale.frac)) k))
     (one_if (is_err (fitted n scale Error)))
 unfolding fitted
 overflows int s l k n size scale few small most there =
-    subst (λ (b : Bool). Has int s l (out_c scale (size_at scale.frac n.frac size) (floored_width n.frac size scale.frac) (Local (Signed (floored_width n.frac size scale.frac)) k)) (one_if b))
+    subst (λ (b : Bool). Has int s l
+    (out_c scale (size_at scale.frac n.frac size) (floored_width n.frac size scale.frac)
+    (Local (Signed (floored_width n.frac size scale.frac)) k)) (one_if b))
     (same (is_in_range scale (floored n scale.frac)))
-    (out-has int s l scale (size_at scale.frac n.frac size) (floored_width n.frac size scale.frac) (Local (Signed (floored_width n.frac size scale.frac)) k) (floored n scale.frac)
-    (room-there n size scale few most) (brought-is int s l k n size scale few most there) (floored-small n size scale.frac small))
+    (out-has int s l scale (size_at scale.frac n.frac size) (floored_width n.frac size scale.frac)
+    (Local (Signed (floored_width n.frac size scale.frac)) k) (floored n scale.frac)
+    (room-there n size scale few most) (brought-is int s l k n size scale few most there)
+    (floored-small n size scale.frac small))
   where
     same : (b : Bool) → not b ≡ is_err (cond b (Ok (floored n scale.frac)) (by_mode Error scale (floored n scale.frac)))
     same true = refl
@@ -71,7 +84,8 @@ overflows int s l k n size scale few small most there =
 least_width-holds : (n : ℕ) → n ≤ 64 → n ≤ bits (least_width n)
 least_width-holds n most = at (nat_le n 8) (nat_le n 16) (nat_le n 32) refl refl refl
   where
-    at : (a b c : Bool) → nat_le n 8 ≡ a → nat_le n 16 ≡ b → nat_le n 32 ≡ c → n ≤ bits (cond a W8 (cond b W16 (cond c W32 W64)))
+    at : (a b c : Bool) → nat_le n 8 ≡ a → nat_le n 16 ≡ b → nat_le n 32 ≡ c → n ≤ bits
+        (cond a W8 (cond b W16 (cond c W32 W64)))
     at true b c e f g = grind (arith, nat_tests)
     at false true c e f g = grind (arith, nat_tests)
     at false false true e f g = grind (arith, nat_tests)

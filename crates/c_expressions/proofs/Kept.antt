@@ -45,7 +45,8 @@ wrapped-in_range scale z is = stays-in (least scale) (greatest scale) z (2 ^ sca
     at false = let h : 0 < 2 ^ scale.width = pow_pos scale.width in omega (arith, ints, h)
 
 -- what is kept is what the number wraps to
-pub kept-wrapped : (n : Num) (scale : Scale) (m : ℤ) → fitted n scale Wrap ≡ Ok m → wrapped scale (floored n scale.frac) ≡ m
+pub kept-wrapped : (n : Num) (scale : Scale) (m : ℤ) → fitted n scale Wrap ≡ Ok m → wrapped scale (floored n scale.frac)
+    ≡ m
 unfolding fitted
 kept-wrapped n scale m is = at (is_in_range scale (floored n scale.frac)) refl is
   where
@@ -56,7 +57,8 @@ kept-wrapped n scale m is = at (is_in_range scale (floored n scale.frac)) refl i
     at false e f = cc
 
 -- the low bits, which an unsigned scale keeps
-pub wraps-unsigned : (int : Width) (s : Store) (l : Locals) (n : Num) (scale : Scale) (x : CExpr) (m : ℤ) → bits int ≤ 64
+pub wraps-unsigned : (int : Width) (s : Store) (l : Locals) (n : Num) (scale : Scale) (x : CExpr) (m : ℤ)
+    → bits int ≤ 64
     → scale.signed ≡ false → Has int s l x (floored n scale.frac) → fitted n scale Wrap ≡ Ok m
     → Has int s l (low_bits_c scale x) m
 wraps-unsigned int s l n scale x m most sign has is =
@@ -66,7 +68,8 @@ wraps-unsigned int s l n scale x m most sign has is =
 
 -- the number of a signed scale with these low bits, which x gives
 pub wraps-signed : (int : Width) (s : Store) (l : Locals) (n : Num) (scale : Scale) (x : CExpr) (m : ℤ) → bits int ≤ 64
-    → scale.signed ≡ true → meaning int s l x ≡ gives (Unsigned W64) (int_rem_euclid (floored n scale.frac) (pos (2 ^ scale.width)))
+    → scale.signed ≡ true → meaning int s l x ≡ gives (Unsigned W64)
+    (int_rem_euclid (floored n scale.frac) (pos (2 ^ scale.width)))
     → fitted n scale Wrap ≡ Ok m → Has int s l (signed_c scale x) m
 wraps-signed int s l n scale x m most sign low is =
     subst (λ (z : ℤ). Has int s l (signed_c scale x) z) (kept-wrapped n scale m is)

@@ -35,7 +35,8 @@ at_least_passes x y = grind (arith, ints)
 -- ---- both sides at the greater fraction
 
 -- both sides in a type with room for numbers of that size
-record AreBrought (int : Width) (s : Store) (l : Locals) (w : Width) (size : ℕ) (a b : Num) (ea eb : CExpr) : Type 0 where
+record AreBrought (int : Width) (s : Store) (l : Locals) (w : Width) (size : ℕ) (a b : Num)
+    (ea eb : CExpr) : Type 0 where
   left : Roomy int s l size (brought w (common_frac a b - a.frac) ea) (scaled a (common_frac a b))
   right : Roomy int s l size (brought w (common_frac a b - b.frac) eb) (scaled b (common_frac a b))
   left_small : unsigned_abs (scaled a (common_frac a b)) ≤ 2 ^ size
@@ -48,8 +49,10 @@ are_brought : (int : Width) (s : Store) (l : Locals) (w : Width) (size ma mb : �
 are_brought int s l w size ma mb a b ea eb room left right sized ha hb = record {
   left = brought-roomy int s l w ma size (common_frac a b - a.frac) ea a.mantissa room left sized.left ha;
   right = brought-roomy int s l w mb size (common_frac a b - b.frac) eb b.mantissa room right sized.right hb;
-  left_small = size-weaker _ (ma + (common_frac a b - a.frac)) size (shifted-within a.mantissa (common_frac a b - a.frac) ma sized.left) left;
-  right_small = size-weaker _ (mb + (common_frac a b - b.frac)) size (shifted-within b.mantissa (common_frac a b - b.frac) mb sized.right) right;
+  left_small = size-weaker _ (ma + (common_frac a b - a.frac)) size
+      (shifted-within a.mantissa (common_frac a b - a.frac) ma sized.left) left;
+  right_small = size-weaker _ (mb + (common_frac a b - b.frac)) size
+      (shifted-within b.mantissa (common_frac a b - b.frac) mb sized.right) right;
 }
 
 -- ---- operators
@@ -62,7 +65,8 @@ pub comparison-has : (int : Width) (s : Store) (l : Locals) (op : Comparison) (a
 comparison-has int s l op a b ma mb ea eb sort sized e ha hb =
     let size = max (size_at (common_frac a b) a.frac ma) (size_at (common_frac a b) b.frac mb) in
     let most = (comparison_sort-is a b ma mb sort e).0 in
-    let both = are_brought int s l (comparison_width a.frac ma b.frac mb) size ma mb a b ea eb (width_for-room size most) (omega arith) (omega arith) sized ha hb in
+    let both = are_brought int s l (comparison_width a.frac ma b.frac mb) size ma mb a b ea eb
+    (width_for-room size most) (omega arith) (omega arith) sized ha hb in
     compare-has int s l op size _ _ _ _ both.left both.right both.left_small both.right_small
 
 -- the size of a sum, and one less, for its operands
@@ -71,12 +75,15 @@ pub sum-has : (int : Width) (s : Store) (l : Locals) (op : Arithmetic) (a b : Nu
     → unsigned_abs (exact op (scaled a (common_frac a b)) (scaled b (common_frac a b)))
     ≤ 2 ^ (1 + max (size_at (common_frac a b) a.frac ma) (size_at (common_frac a b) b.frac mb))
     → Has int s l ea a.mantissa → Has int s l eb b.mantissa
-    → Has int s l (sum_c op a.frac ma b.frac mb ea eb) (exact op (scaled a (common_frac a b)) (scaled b (common_frac a b)))
+    → Has int s l (sum_c op a.frac ma b.frac mb ea eb)
+    (exact op (scaled a (common_frac a b)) (scaled b (common_frac a b)))
 sum-has int s l op a b ma mb ea eb sort sized e small ha hb =
     let size = 1 + max (size_at (common_frac a b) a.frac ma) (size_at (common_frac a b) b.frac mb) in
     let most = (number_within-is (common_frac a b) size sort e).1 in
-    let both = are_brought int s l (sum_width a.frac ma b.frac mb) size ma mb a b ea eb (width_for-room size most) (omega arith) (omega arith) sized ha hb in
-    has_roomy int s l size _ _ (calc-roomy int s l op size _ _ _ _ both.left both.right both.left_small both.right_small small)
+    let both = are_brought int s l (sum_width a.frac ma b.frac mb) size ma mb a b ea eb (width_for-room size most)
+    (omega arith) (omega arith) sized ha hb in
+    has_roomy int s l size _ _
+    (calc-roomy int s l op size _ _ _ _ both.left both.right both.left_small both.right_small small)
 
 -- sums and differences of numbers at one fraction
 pub sum-small : (a b : Num) (ma mb : ℕ) → AreSized a b ma mb

@@ -19,16 +19,21 @@ signed w z = record { type = Signed w; value = z }
 -- two values of signed types with room for them and for the result
 calculated-is : (int a b : Width) (op : Arithmetic) (size : ℕ) (x y : ℤ) → size + 1 < bits a → size + 1 < bits b
     → unsigned_abs x ≤ 2 ^ size → unsigned_abs y ≤ 2 ^ size → unsigned_abs (exact op x y) ≤ 2 ^ size
-    → (v : Width) × (size + 1 < bits v) × (calculated int op (signed a x) (signed b y) ≡ gives (Signed v) (exact op x y))
+    → (v : Width) × (size + 1 < bits v) ×
+    (calculated int op (signed a x) (signed b y) ≡ gives (Signed v) (exact op x y))
 calculated-is int a b op size x y room room' left right result =
     let c = common-signed int a b in
     let wide : size + 1 < bits c.to = omega (arith, c.left) in
-    let in_type : CType → Meaning = λ t. with_meaning (converted t x) (λ a. with_meaning (converted t y) (λ b. converted t (exact op a.value b.value))) in (
+    let in_type : CType → Meaning = λ t. with_meaning (converted t x)
+    (λ a. with_meaning (converted t y) (λ b. converted t (exact op a.value b.value))) in (
       c.to,
       wide,
       ap in_type c.is
-          ∙ ap (λ (m : Meaning). with_meaning m (λ a. with_meaning (as_signed c.to y) (λ b. as_signed c.to (exact op a.value b.value)))) (signed-stays c.to size x wide left)
-          ∙ ap (λ (m : Meaning). with_meaning m (λ b. as_signed c.to (exact op x b.value))) (signed-stays c.to size y wide right)
+          ∙ ap (λ (m : Meaning). with_meaning m
+          (λ a. with_meaning (as_signed c.to y) (λ b. as_signed c.to (exact op a.value b.value))))
+          (signed-stays c.to size x wide left)
+          ∙ ap (λ (m : Meaning). with_meaning m (λ b. as_signed c.to (exact op x b.value)))
+          (signed-stays c.to size y wide right)
           ∙ signed-stays c.to size (exact op x y) wide result,
     )
 
@@ -38,9 +43,12 @@ compared-is : (int a b : Width) (op : Comparison) (size : ℕ) (x y : ℤ) → s
 compared-is int a b op size x y room room' left right =
     let c = common-signed int a b in
     let wide : size + 1 < bits c.to = omega (arith, c.left) in
-    let in_type : CType → Meaning = λ t. with_meaning (converted t x) (λ a. with_meaning (converted t y) (λ b. truth int (passes op a.value b.value))) in
+    let in_type : CType → Meaning = λ t. with_meaning (converted t x)
+    (λ a. with_meaning (converted t y) (λ b. truth int (passes op a.value b.value))) in
     ap in_type c.is
-    ∙ ap (λ (m : Meaning). with_meaning m (λ a. with_meaning (as_signed c.to y) (λ b. truth int (passes op a.value b.value)))) (signed-stays c.to size x wide left)
+    ∙ ap (λ (m : Meaning). with_meaning m
+    (λ a. with_meaning (as_signed c.to y) (λ b. truth int (passes op a.value b.value))))
+    (signed-stays c.to size x wide left)
     ∙ ap (λ (m : Meaning). with_meaning m (λ b. truth int (passes op x b.value))) (signed-stays c.to size y wide right)
 
 negated-is : (int a : Width) (size : ℕ) (x : ℤ) → size + 1 < bits a → unsigned_abs x ≤ 2 ^ size
@@ -50,15 +58,20 @@ negated-is int a size x room small =
     let wide : size + 1 < bits p.to = omega (arith, p.wider) in (
       p.to,
       ap (λ (t : CType). with_meaning (converted t x) (λ a. converted t (neg_ℤ a.value))) p.is
-          ∙ ap (λ (m : Meaning). with_meaning m (λ a. as_signed p.to (neg_ℤ a.value))) (signed-stays p.to size x wide small)
+          ∙ ap (λ (m : Meaning). with_meaning m (λ a. as_signed p.to (neg_ℤ a.value)))
+          (signed-stays p.to size x wide small)
           ∙ signed-stays p.to size (neg_ℤ x) wide (omega (arith, unsigned_abs-neg x)),
     )
 
 divided-is : (w : Width) (size : ℕ) (x y : ℤ) → size + 1 < bits w → unsigned_abs x ≤ 2 ^ size
     → unsigned_abs y ≤ 2 ^ size → is_true y ≡ true → floored_by w x y ≡ gives (Signed w) (floor_div x y)
 divided-is w size x y room left right some =
-    ap (λ (m : Meaning). with_meaning m (λ a. with_meaning (as_signed w y) (λ b. cond (is_true b.value) (as_signed w (floor_div a.value b.value)) Wrong))) (signed-stays w size x room left)
-    ∙ ap (λ (m : Meaning). with_meaning m (λ b. cond (is_true b.value) (as_signed w (floor_div x b.value)) Wrong)) (signed-stays w size y room right)
+    ap (λ (m : Meaning). with_meaning m
+    (λ a. with_meaning (as_signed w y)
+    (λ b. cond (is_true b.value) (as_signed w (floor_div a.value b.value)) Wrong)))
+    (signed-stays w size x room left)
+    ∙ ap (λ (m : Meaning). with_meaning m (λ b. cond (is_true b.value) (as_signed w (floor_div x b.value)) Wrong))
+    (signed-stays w size y room right)
     ∙ ap (λ (b : Bool). cond b (as_signed w (floor_div x y)) Wrong) some
     ∙ signed-stays w size (floor_div x y) room (omega (arith, floor_div-within x y))
 
@@ -140,7 +153,8 @@ pub divide-goes : (int : Width) (s : Store) (l : Locals) (w : Width) (k size : �
     → is_true y ≡ true → ending int s l (Divide w k a b) ≡ Goes (with_local l (Signed w) k (floor_div x y))
 unfolding ending
 divide-goes int s l w k size a b x y room ha hb left right some =
-    ap (λ (m : Meaning). with_result m (λ x. with_result (meaning int s l b) (λ y. with_result (floored_by w x.value y.value) set))) ha.1
+    ap (λ (m : Meaning). with_result m
+    (λ x. with_result (meaning int s l b) (λ y. with_result (floored_by w x.value y.value) set))) ha.1
     ∙ ap (λ (m : Meaning). with_result m (λ y. with_result (floored_by w x y.value) set)) hb.1
     ∙ ap (λ (m : Meaning). with_result m set) (divided-is w size x y room left right some)
   where
@@ -172,7 +186,8 @@ brought-roomy int s l w own size d e z room within small has = at (nat_eq d 0) r
     times_one (negsuc a) = let e : suc a ≡ suc a * 1 = omega arith in ap (λ (x : ℕ). neg_ℤ (pos x)) e
 
     at : (b : Bool) → nat_eq d 0 ≡ b → Roomy int s l size
-        (cond b (Cast (Signed w) e) (Calc Times (Cast (Signed w) e) (Const (Signed w) (pos (2 ^ d))))) (z *ℤ pos (2 ^ d))
+        (cond b (Cast (Signed w) e) (Calc Times (Cast (Signed w) e) (Const (Signed w) (pos (2 ^ d)))))
+        (z *ℤ pos (2 ^ d))
     at false is = times
     at true is =
         let none : d ≡ 0 = grind arith in

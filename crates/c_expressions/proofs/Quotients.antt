@@ -30,11 +30,13 @@ pub set-goes : (int : Width) (s : Store) (l : Locals) (k : ℕ) (t : CType) (e :
     → converted t z ≡ gives t z' → ending int s l (Set t k e) ≡ Goes (with_local l t k z')
 unfolding ending
 set-goes int s l k t e z z' has to =
-    ap (λ (m : Meaning). with_result (with_meaning m (λ x. converted t x.value)) (λ x. Goes (with_local l t k x.value))) has.1
+    ap (λ (m : Meaning). with_result (with_meaning m (λ x. converted t x.value))
+    (λ x. Goes (with_local l t k x.value))) has.1
     ∙ ap (λ (m : Meaning). with_result m (λ x. Goes (with_local l t k x.value))) to
 
 -- a local that is set is read
-pub local-has : (int : Width) (s : Store) (l : Locals) (t : CType) (k : ℕ) (z : ℤ) → l t k ≡ Some z → Has int s l (Local t k) z
+pub local-has : (int : Width) (s : Store) (l : Locals) (t : CType) (k : ℕ) (z : ℤ) → l t k ≡ Some z → Has int s l
+    (Local t k) z
 unfolding meaning
 local-has int s l t k z there = (t, ap (read_as t) there)
 
@@ -49,7 +51,8 @@ fault_if-ends int s l x e b has =
 -- the test of a divisor, which is a local
 zero-ends : (int : Width) (s : Store) (l : Locals) (w : Width) (k size : ℕ) (z : ℤ) (b : Bool) → size + 1 < bits w
     → unsigned_abs z ≤ 2 ^ size → l (Signed w) k ≡ Some z → is_true z ≡ b
-    → ending int s l (FaultIf ZeroDivisor (is_zero_c (Signed w) (Local (Signed w) k))) ≡ cond b (Goes l) (Faults ZeroDivisor)
+    → ending int s l (FaultIf ZeroDivisor (is_zero_c (Signed w) (Local (Signed w) k))) ≡ cond b (Goes l)
+    (Faults ZeroDivisor)
 zero-ends int s l w k size z b room small there is =
     let nothing : unsigned_abs (pos 0) ≤ 2 ^ size = omega arith in
     fault_if-ends int s l ZeroDivisor (is_zero_c (Signed w) (Local (Signed w) k)) (passes IsEqual z (pos 0))
@@ -65,10 +68,12 @@ zero-ends int s l w k size z b room small there is =
     at p false e = ap (λ (c : Bool). cond c (Faults ZeroDivisor) (Goes l)) e
 
 -- a quotient of two numbers of these sizes
-pub quotient-ends : (int : Width) (s : Store) (l : Locals) (n : ℕ) (a b : Flat) (p q : Num) (ma mb : ℕ) (sort : ExprSort)
+pub quotient-ends : (int : Width) (s : Store) (l : Locals) (n : ℕ) (a b : Flat) (p q : Num) (ma mb : ℕ)
+    (sort : ExprSort)
     → n ≤ a.next → a.next ≤ b.next → AreSized p q ma mb → mb ≤ 100 → quotient_sort p.frac ma q.frac mb ≡ Ok sort
     → EndsAs int s n a l (Ok (values.Number p)) → ((m : Locals) → EndsAs int s a.next b m (Ok (values.Number q)))
-    → EndsAs int s n (quotient_flat (kinds.Number p.frac ma) (kinds.Number q.frac mb) a b) l (quotient_value (quotient_of p q))
+    → EndsAs int s n (quotient_flat (kinds.Number p.frac ma) (kinds.Number q.frac mb) a b) l
+    (quotient_value (quotient_of p q))
 quotient-ends int s l n a b p q ma mb sort na nb sized most_right e ha hb = at (nat_eq (unsigned_abs q.mantissa) 0) refl
   where
     k : ℕ
@@ -128,12 +133,14 @@ quotient-ends int s l n a b p q ma mb sort na nb sized most_right e ha hb = at (
     test : CCode
     test = FaultIf ZeroDivisor (is_zero_c (Signed w) (Local (Signed w) k))
 
-    tests : (c : Bool) → is_true q.mantissa ≡ c → ending int s with_divisor test ≡ cond c (Goes with_divisor) (Faults ZeroDivisor)
+    tests : (c : Bool) → is_true q.mantissa ≡ c → ending int s with_divisor test ≡ cond c (Goes with_divisor)
+        (Faults ZeroDivisor)
     tests c is = zero-ends int s with_divisor w k size q.mantissa c room right_small divisor_there is
 
     sets_quotient : is_true q.mantissa ≡ true
         → ending int s with_divisor (Divide w (k + 1) dividend (Local (Signed w) k)) ≡ Goes with_quotient
-    sets_quotient some = divide-goes int s with_divisor w (k + 1) size dividend (Local (Signed w) k) (dividend_of p q) q.mantissa room
+    sets_quotient some = divide-goes int s with_divisor w (k + 1) size dividend (Local (Signed w) k)
+        (dividend_of p q) q.mantissa room
         (dividend-has int s with_divisor p q ma mb a.expr sort sized e most_right (ha.3 with_divisor agree)) divisor_has
         (size-weaker _ own size (dividend-within p q ma sized.left) (omega arith)) right_small some
 
@@ -154,18 +161,21 @@ quotient-ends int s l n a b p q ma mb sort na nb sized most_right e ha hb = at (
         (agree-through a.next (k + 1) left_after with_divisor with_quotient (omega arith) agree
         (agree-set (k + 1) (k + 1) with_divisor (Signed w) result (omega arith)))
 
-    gives_quotient : (later : Locals) → AgreeBelow (k + 2) with_quotient later → Has int s later (Local (Signed w) (k + 1)) result
+    gives_quotient : (later : Locals) → AgreeBelow (k + 2) with_quotient later → Has int s later
+        (Local (Signed w) (k + 1)) result
     gives_quotient later same = local-has int s later (Signed w) (k + 1) result
         (same (Signed w) (k + 1) (omega arith) ∙ set-there with_divisor (Signed w) (k + 1) result)
 
     at : (c : Bool) → nat_eq (unsigned_abs q.mantissa) 0 ≡ c
         → EndsAs int s n (quotient_flat (kinds.Number p.frac ma) (kinds.Number q.frac mb) a b) l
         (quotient_value (cond c (Err (record {})) (Ok (record { mantissa = result; frac = common_frac p q }))))
-    at true zero_is = so_far (Faults ZeroDivisor) final (then-faults int s with_divisor _ _ ZeroDivisor (tests false (ap not zero_is)))
+    at true zero_is = so_far (Faults ZeroDivisor) final
+        (then-faults int s with_divisor _ _ ZeroDivisor (tests false (ap not zero_is)))
     at false some = (
       with_quotient,
       so_far (Goes with_quotient) final
-          (then-goes int s with_divisor with_divisor with_quotient _ _ (tests true (ap not some)) (sets_quotient (ap not some))),
+          (then-goes int s with_divisor with_divisor with_quotient _ _ (tests true (ap not some))
+          (sets_quotient (ap not some))),
       kept,
       gives_quotient,
     )

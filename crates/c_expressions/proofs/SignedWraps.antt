@@ -20,16 +20,20 @@ calc-at : (int : Width) (t : CType) (op : Arithmetic) (x y z : ℤ) → common i
     → converted t y ≡ gives t y → converted t (exact op x y) ≡ gives t z
     → calculated int op (record { type = t; value = x }) (record { type = t; value = y }) ≡ gives t z
 calc-at int t op x y z same left right result =
-    ap (λ (t : CType). with_meaning (converted t x) (λ a. with_meaning (converted t y) (λ b. converted t (exact op a.value b.value)))) same
-    ∙ ap (λ (m : Meaning). with_meaning m (λ a. with_meaning (converted t y) (λ b. converted t (exact op a.value b.value)))) left
+    ap (λ (t : CType). with_meaning (converted t x)
+    (λ a. with_meaning (converted t y) (λ b. converted t (exact op a.value b.value)))) same
+    ∙ ap (λ (m : Meaning). with_meaning m
+    (λ a. with_meaning (converted t y) (λ b. converted t (exact op a.value b.value)))) left
     ∙ ap (λ (m : Meaning). with_meaning m (λ b. converted t (exact op x b.value))) right ∙ result
 
 compare-at : (int : Width) (t : CType) (op : Comparison) (x y : ℤ) → common int t t ≡ t → converted t x ≡ gives t x
     → converted t y ≡ gives t y
     → compared int op (record { type = t; value = x }) (record { type = t; value = y }) ≡ truth int (passes op x y)
 compare-at int t op x y same left right =
-    ap (λ (t : CType). with_meaning (converted t x) (λ a. with_meaning (converted t y) (λ b. truth int (passes op a.value b.value)))) same
-    ∙ ap (λ (m : Meaning). with_meaning m (λ a. with_meaning (converted t y) (λ b. truth int (passes op a.value b.value)))) left
+    ap (λ (t : CType). with_meaning (converted t x)
+    (λ a. with_meaning (converted t y) (λ b. truth int (passes op a.value b.value)))) same
+    ∙ ap (λ (m : Meaning). with_meaning m
+    (λ a. with_meaning (converted t y) (λ b. truth int (passes op a.value b.value)))) left
     ∙ ap (λ (m : Meaning). with_meaning m (λ b. truth int (passes op x b.value))) right
 
 negate-at : (int : Width) (t : CType) (x z : ℤ) → promoted int t ≡ t → converted t x ≡ gives t x
@@ -89,8 +93,14 @@ wraps z h some =
     let r = m % (h * 2) in
     let first = int_rem_euclid_is z (pos (h * 2)) (h * 2) (unsigned_abs z) m twice refl up.1 in
     let more : (z -ℤ neg_ℤ (pos h)) +ℤ pos (unsigned_abs z * (h * 2)) ≡ pos (m + h) = omega (arith, ints, up.1) in
-    let second = int_rem_euclid_is (z -ℤ neg_ℤ (pos h)) (pos (h * 2)) (h * 2) (unsigned_abs z) (m + h) twice refl more in
-    (r, first, mod-lt m twice, ap (λ (y : ℤ). neg_ℤ (pos h) +ℤ y) second ∙ at m r refl (int_le (pos r) (pos (h - 1))) refl)
+    let second = int_rem_euclid_is (z -ℤ neg_ℤ (pos h)) (pos (h * 2)) (h * 2) (unsigned_abs z)
+    (m + h) twice refl more in (
+      r,
+      first,
+      mod-lt m twice,
+      ap (λ (y : ℤ). neg_ℤ (pos h) +ℤ y) second ∙ at m r refl
+          (int_le (pos r) (pos (h - 1))) refl,
+    )
   where
     at : (m r : ℕ) → m % (h * 2) ≡ r → (b : Bool) → int_le (pos r) (pos (h - 1)) ≡ b
         → neg_ℤ (pos h) +ℤ pos ((m + h) % (h * 2)) ≡ cond b (pos r) (neg_ℤ (pos (h * 2 - 1 - r)) -ℤ pos 1)
@@ -192,18 +202,22 @@ signed-has int s l scale e r most below is =
     rest : ℕ
     rest = h * 2 - 1 - r
 
-    rest_means : meaning int s l (Calc Less (Const (Unsigned W64) (pos (2 ^ scale.width - 1))) e) ≡ gives (Unsigned W64) (pos rest)
+    rest_means : meaning int s l (Calc Less (Const (Unsigned W64) (pos (2 ^ scale.width - 1))) e) ≡ gives (Unsigned W64)
+        (pos rest)
     rest_means =
-        let top : converted (Unsigned W64) (pos (2 ^ scale.width - 1)) ≡ gives (Unsigned W64) (pos (2 ^ scale.width - 1)) =
+        let top : converted (Unsigned W64) (pos (2 ^ scale.width - 1)) ≡ gives (Unsigned W64)
+        (pos (2 ^ scale.width - 1)) =
         unsigned-at (2 ^ scale.width - 1) (omega (arith, all, h_fits, h_some)) in
         let less : exact Less (pos (2 ^ scale.width - 1)) (pos r) ≡ pos rest = omega (arith, ints, all, below) in
         calc-means int s l (Unsigned W64) Less _ e (pos (2 ^ scale.width - 1)) (pos r) (pos rest)
         (const-means int s l (Unsigned W64) _ top) is
-        (calc-at int (Unsigned W64) Less (pos (2 ^ scale.width - 1)) (pos r) (pos rest) (common_unsigned int most) top (unsigned-at r r_fits)
+        (calc-at int (Unsigned W64) Less (pos (2 ^ scale.width - 1)) (pos r) (pos rest) (common_unsigned int most) top
+        (unsigned-at r r_fits)
         (ap (λ (z : ℤ). converted (Unsigned W64) z) less ∙ unsigned-at rest (omega (arith, h_fits))))
 
     higher : int_le (pos r) (pos (h - 1)) ≡ false → Has int s l
-        (Calc Less (Minus (Cast (Signed W64) (Calc Less (Const (Unsigned W64) (pos (2 ^ scale.width - 1))) e))) (Const (Signed W64) (pos 1)))
+        (Calc Less (Minus (Cast (Signed W64) (Calc Less (Const (Unsigned W64) (pos (2 ^ scale.width - 1))) e)))
+        (Const (Signed W64) (pos 1)))
         (neg_ℤ (pos rest) -ℤ pos 1)
     higher high =
         let big : h ≤ r = grind (arith, nat_tests, ints) in
@@ -215,9 +229,11 @@ signed-has int s l scale e r most below is =
           calc-means int s l (Signed W64) Less _ _ (neg_ℤ (pos rest)) (pos 1) (neg_ℤ (pos rest) -ℤ pos 1)
               (minus-means int s l (Signed W64) _ (pos rest) (neg_ℤ (pos rest))
               (cast-means int s l (Signed W64) (Unsigned W64) _ (pos rest) rest_means (signed-at (pos rest) fits))
-              (negate-at int (Signed W64) (pos rest) (neg_ℤ (pos rest)) (stays_signed int most) (signed-at (pos rest) fits) (signed-at (neg_ℤ (pos rest)) fits')))
+              (negate-at int (Signed W64) (pos rest) (neg_ℤ (pos rest)) (stays_signed int most)
+              (signed-at (pos rest) fits) (signed-at (neg_ℤ (pos rest)) fits')))
               (const-means int s l (Signed W64) (pos 1) refl)
-              (calc-at int (Signed W64) Less (neg_ℤ (pos rest)) (pos 1) (neg_ℤ (pos rest) -ℤ pos 1) (common_signed int most)
+              (calc-at int (Signed W64) Less (neg_ℤ (pos rest)) (pos 1) (neg_ℤ (pos rest) -ℤ pos 1)
+              (common_signed int most)
               (signed-at (neg_ℤ (pos rest)) fits') refl (signed-at (neg_ℤ (pos rest) -ℤ pos 1) fits'')),
         )
 
@@ -234,7 +250,8 @@ wrapped-signed int s l scale e z most signed is =
     let low : meaning int s l e ≡ gives (Unsigned W64) (pos halves.0) =
     is ∙ ap (λ (n : ℕ). gives (Unsigned W64) (int_rem_euclid z (pos n))) all ∙ ap (gives (Unsigned W64)) halves.1 in
     let by_sign : wrapped scale z ≡ neg_ℤ (pos h) +ℤ int_rem_euclid (z -ℤ neg_ℤ (pos h)) (pos (2 ^ scale.width)) =
-    ap (λ (b : Bool). cond b (neg_ℤ (pos h)) (pos 0) +ℤ int_rem_euclid (z -ℤ cond b (neg_ℤ (pos h)) (pos 0)) (pos (2 ^ scale.width))) signed in
+    ap (λ (b : Bool). cond b (neg_ℤ (pos h)) (pos 0) +ℤ int_rem_euclid (z -ℤ cond b (neg_ℤ (pos h)) (pos 0))
+    (pos (2 ^ scale.width))) signed in
     let value : wrapped scale z ≡ from_low h halves.0 =
     by_sign ∙ ap (λ (n : ℕ). neg_ℤ (pos h) +ℤ int_rem_euclid (z -ℤ neg_ℤ (pos h)) (pos n)) all ∙ halves.3 in
     subst (λ (y : ℤ). Has int s l (signed_c scale e) y) (sym value)

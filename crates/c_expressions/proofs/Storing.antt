@@ -42,7 +42,13 @@ floored-small n size t small = at (nat_le n.frac t) refl
     at false is =
         let below : t ≤ n.frac = grind (arith, nat_tests) in
         let same = ap unsigned_abs (floored-dropped n t below) in
-        omega (arith, same, floor_div-within n.mantissa (pos (2 ^ (n.frac - t))), size-weaker _ size (size_at t n.frac size) small (omega arith))
+        omega (
+          arith,
+          same,
+          floor_div-within n.mantissa (pos (2 ^ (n.frac - t))),
+          size-weaker _ size
+              (size_at t n.frac size) small (omega arith),
+        )
 
 -- the code that brings the number to the datum's fraction, where its size is at most 100
 pub floored-goes : (int : Width) (s : Store) (l : Locals) (n : Num) (k size t : ℕ) (e : CExpr) → n.frac ≤ 64
@@ -62,20 +68,24 @@ floored-goes int s l n k size t e few small most has = at (nat_le n.frac t) refl
 
     raised : n.frac ≤ t → Has int s l (brought w (t - n.frac) e) (floored n t)
     raised above = subst (λ (z : ℤ). Has int s l (brought w (t - n.frac) e) z) (sym (floored-raised n t above))
-        (has_roomy int s l big _ _ (brought-roomy int s l w size big (t - n.frac) e n.mantissa room (omega arith) small has))
+        (has_roomy int s l big _ _
+        (brought-roomy int s l w size big (t - n.frac) e n.mantissa room (omega arith) small has))
 
     within : unsigned_abs (floored n t) ≤ 2 ^ big
     within = size-weaker _ (size_at t n.frac size) big (floored-small n size t small) (omega arith)
 
     dropped : t ≤ n.frac → ending int s l (Divide w k e (Const (Signed w) (pos (2 ^ (n.frac - t)))))
         ≡ Goes (with_local l (Signed w) k (floored n t))
-    dropped below = divide-goes int s l w k big e (Const (Signed w) (pos (2 ^ (n.frac - t)))) n.mantissa (pos (2 ^ (n.frac - t)))
-        room has (has_roomy int s l big _ _ (const-roomy int s l w big (pos (2 ^ (n.frac - t))) room (power-le (n.frac - t) big (omega arith))))
+    dropped below = divide-goes int s l w k big e (Const (Signed w) (pos (2 ^ (n.frac - t)))) n.mantissa
+        (pos (2 ^ (n.frac - t)))
+        room has (has_roomy int s l big _ _
+        (const-roomy int s l w big (pos (2 ^ (n.frac - t))) room (power-le (n.frac - t) big (omega arith))))
         (size-weaker _ size big small (omega arith)) (power-le (n.frac - t) big (omega arith)) (pow-true (n.frac - t))
         ∙ ap (λ (z : ℤ). Goes (with_local l (Signed w) k z)) (sym (floored-dropped n t below))
 
     at : (b : Bool) → nat_le n.frac t ≡ b → ending int s l
-        (cond b (Set (Signed w) k (brought w (t - n.frac) e)) (Divide w k e (Const (Signed w) (pos (2 ^ (n.frac - t))))))
+        (cond b (Set (Signed w) k (brought w (t - n.frac) e))
+        (Divide w k e (Const (Signed w) (pos (2 ^ (n.frac - t))))))
         ≡ Goes (with_local l (Signed w) k (floored n t))
     at true is = set-goes int s l k (Signed w) (brought w (t - n.frac) e) (floored n t) (floored n t)
         (raised (grind (arith, nat_tests))) (signed-stays w big (floored n t) room within)
@@ -91,29 +101,38 @@ unfolding meaning
 choose-has int s l w c a b t x y fits hc ha hb = at t refl
   where
     brought : Meaning → Meaning
-    brought m = with_meaning m (λ y. with_meaning (as_signed w y.value) (λ z. converted (promoted int (Signed w)) z.value))
+    brought m = with_meaning m
+        (λ y. with_meaning (as_signed w y.value) (λ z. converted (promoted int (Signed w)) z.value))
 
     test : meaning int s l (Choose (Signed w) c a b) ≡ brought (cond t (meaning int s l a) (meaning int s l b))
-    test = ap (λ (m : Meaning). with_meaning m (λ x. brought (cond (is_true x.value) (meaning int s l a) (meaning int s l b)))) hc.1
+    test = ap (λ (m : Meaning). with_meaning m
+        (λ x. brought (cond (is_true x.value) (meaning int s l a) (meaning int s l b)))) hc.1
         ∙ ap (λ (t : Bool). brought (cond t (meaning int s l a) (meaning int s l b))) (truth-stays t)
 
     stays : (u : CType) (z : ℤ) → fits_signed (bits w) z ≡ true → (v : CType) × (brought (gives u z) ≡ gives v z)
     stays u z fits =
         let p = promoted-signed int w in (
           Signed p.to,
-          ap (λ (m : Meaning). with_meaning m (λ z. converted (promoted int (Signed w)) z.value)) (fitting-stays (bits w) w z (omega arith) fits)
+          ap (λ (m : Meaning). with_meaning m (λ z. converted (promoted int (Signed w)) z.value))
+              (fitting-stays (bits w) w z (omega arith) fits)
               ∙ ap (λ (t : CType). converted t z) p.is ∙ fitting-stays (bits w) p.to z p.wider fits,
         )
 
     at : (u : Bool) → t ≡ u → Has int s l (Choose (Signed w) c a b) (cond u x y)
     at true is =
         let h = ha is in
-        let r = stays h.0 x (ap (λ (t : Bool). fits_signed (bits w) (cond t x y)) (sym is) ∙ fits) in
-        (r.0, test ∙ ap (λ (t : Bool). brought (cond t (meaning int s l a) (meaning int s l b))) is ∙ ap brought h.1 ∙ r.1)
+        let r = stays h.0 x (ap (λ (t : Bool). fits_signed (bits w) (cond t x y)) (sym is) ∙ fits) in (
+          r.0,
+          test ∙ ap (λ (t : Bool). brought (cond t (meaning int s l a) (meaning int s l b))) is ∙ ap brought h.1
+              ∙ r.1,
+        )
     at false is =
         let h = hb is in
-        let r = stays h.0 y (ap (λ (t : Bool). fits_signed (bits w) (cond t x y)) (sym is) ∙ fits) in
-        (r.0, test ∙ ap (λ (t : Bool). brought (cond t (meaning int s l a) (meaning int s l b))) is ∙ ap brought h.1 ∙ r.1)
+        let r = stays h.0 y (ap (λ (t : Bool). fits_signed (bits w) (cond t x y)) (sym is) ∙ fits) in (
+          r.0,
+          test ∙ ap (λ (t : Bool). brought (cond t (meaning int s l a) (meaning int s l b))) is ∙ ap brought h.1
+              ∙ r.1,
+        )
 
 -- ---- ends of the range
 
@@ -152,7 +171,8 @@ high-roomy : (int : Width) (s : Store) (l : Locals) (scale : Scale) (size : ℕ)
     → can_pass scale size ≡ true → Roomy int s l size (high_c scale w) (greatest scale)
 high-roomy int s l scale size w room is =
     let within : magnitude_bits scale ≤ size = grind (arith, nat_tests) in
-    const-roomy int s l w size (greatest scale) room (size-weaker _ (magnitude_bits scale) size (greatest-small scale) within)
+    const-roomy int s l w size (greatest scale) room
+    (size-weaker _ (magnitude_bits scale) size (greatest-small scale) within)
 
 low-small : (scale : Scale) (size : ℕ) → can_pass_low scale size ≡ true → unsigned_abs (least scale) ≤ 2 ^ size
 low-small scale size is = at scale.signed refl
@@ -168,7 +188,8 @@ above-has : (int : Width) (s : Store) (l : Locals) (scale : Scale) (size : ℕ) 
     → Has int s l (above_c scale w x) (one_if (int_lt (greatest scale) z))
 above-has int s l scale size w x z room has small is =
     let within : magnitude_bits scale ≤ size = grind (arith, nat_tests) in
-    compare-has int s l IsAbove size x (high_c scale w) z (greatest scale) has (high-roomy int s l scale size w room is) small
+    compare-has int s l IsAbove size x (high_c scale w) z (greatest scale) has
+    (high-roomy int s l scale size w room is) small
     (size-weaker _ (magnitude_bits scale) size (greatest-small scale) within)
 
 below-has : (int : Width) (s : Store) (l : Locals) (scale : Scale) (size : ℕ) (w : Width) (x : CExpr) (z : ℤ)
@@ -203,16 +224,20 @@ upper-small scale size z small = at (int_lt (greatest scale) z) refl
 
 upper-has : (int : Width) (s : Store) (l : Locals) (scale : Scale) (size : ℕ) (w : Width) (x : CExpr) (z : ℤ)
     → size + 1 < bits w → Roomy int s l size x z → unsigned_abs z ≤ 2 ^ size
-    → Has int s l (cond (can_pass scale size) (Choose (Signed w) (above_c scale w x) (high_c scale w) x) x) (upper scale z)
+    → Has int s l (cond (can_pass scale size) (Choose (Signed w) (above_c scale w x) (high_c scale w) x) x)
+    (upper scale z)
 upper-has int s l scale size w x z room has small = at (can_pass scale size) refl
   where
     at : (b : Bool) → can_pass scale size ≡ b
         → Has int s l (cond b (Choose (Signed w) (above_c scale w x) (high_c scale w) x) x) (upper scale z)
-    at true is = choose-has int s l w (above_c scale w x) (high_c scale w) x (int_lt (greatest scale) z) (greatest scale) z
+    at true is = choose-has int s l w (above_c scale w x) (high_c scale w) x (int_lt (greatest scale) z)
+        (greatest scale) z
         (size-fits (bits w) size (upper scale z) room (upper-small scale size z small))
         (above-has int s l scale size w x z room has small is)
-        (λ _. has_roomy int s l size _ _ (high-roomy int s l scale size w room is)) (λ _. has_roomy int s l size _ _ has)
-    at false is = subst (λ (b : Bool). Has int s l x (cond b (greatest scale) z)) (sym (not_above scale size z small is))
+        (λ _. has_roomy int s l size _ _ (high-roomy int s l scale size w room is))
+        (λ _. has_roomy int s l size _ _ has)
+    at false is = subst (λ (b : Bool). Has int s l x (cond b (greatest scale) z))
+        (sym (not_above scale size z small is))
         (has_roomy int s l size _ _ has)
 
 clamped : (low high z : ℤ) → cond (int_lt z low) low (cond (int_lt high z) high z)
@@ -240,11 +265,14 @@ saturated-has int s l scale size w x z room has small =
     at : (b : Bool) → can_pass_low scale size ≡ b
         → Has int s l (cond b (Choose (Signed w) (below_c scale w x) (low_c scale w) rest) rest)
         (cond (int_lt z (least scale)) (least scale) (upper scale z))
-    at true is = choose-has int s l w (below_c scale w x) (low_c scale w) rest (int_lt z (least scale)) (least scale) (upper scale z)
+    at true is = choose-has int s l w (below_c scale w x) (low_c scale w) rest (int_lt z (least scale)) (least scale)
+        (upper scale z)
         (size-fits (bits w) size _ room (lower (int_lt z (least scale)) is))
         (below-has int s l scale size w x z room has small is)
-        (λ _. has_roomy int s l size _ _ (const-roomy int s l w size (least scale) room (low-small scale size is))) (λ _. rest_has)
-    at false is = subst (λ (b : Bool). Has int s l rest (cond b (least scale) (upper scale z))) (sym (not_below scale size z small is)) rest_has
+        (λ _. has_roomy int s l size _ _ (const-roomy int s l w size (least scale) room (low-small scale size is)))
+        (λ _. rest_has)
+    at false is = subst (λ (b : Bool). Has int s l rest (cond b (least scale) (upper scale z)))
+        (sym (not_below scale size z small is)) rest_has
 
 -- ---- an overflow
 
@@ -274,14 +302,19 @@ out-has int s l scale size w x z room has small =
 
     at : (b c : Bool) → can_pass_low scale size ≡ b → can_pass scale size ≡ c
         → Has int s l (cond b (cond c (Either (below_c scale w x) (above_c scale w x)) (below_c scale w x))
-        (cond c (above_c scale w x) (Const Truth (pos 0)))) (one_if (int_lt z (least scale) || int_lt (greatest scale) z))
+        (cond c (above_c scale w x) (Const Truth (pos 0))))
+        (one_if (int_lt z (least scale) || int_lt (greatest scale) z))
     at true true low high = either-has int s l _ _ _ _ (below-has int s l scale size w x z room has small low)
         (above-has int s l scale size w x z room has small high)
     at true false low high = subst (λ (b : Bool). Has int s l (below_c scale w x) (one_if b))
-        (or_false (int_lt z (least scale)) ∙ ap (λ (b : Bool). int_lt z (least scale) || b) (sym (not_above scale size z small high)))
+        (or_false (int_lt z (least scale)) ∙ ap (λ (b : Bool). int_lt z (least scale) || b)
+        (sym (not_above scale size z small high)))
         (below-has int s l scale size w x z room has small low)
-    at false true low high = subst (λ (b : Bool). Has int s l (above_c scale w x) (one_if (b || int_lt (greatest scale) z)))
+    at false true low high = subst
+        (λ (b : Bool). Has int s l (above_c scale w x) (one_if (b || int_lt (greatest scale) z)))
         (sym (not_below scale size z small low)) (above-has int s l scale size w x z room has small high)
-    at false false low high = subst (λ (b : Bool). Has int s l (Const Truth (pos 0)) (one_if (b || int_lt (greatest scale) z)))
+    at false false low high = subst
+        (λ (b : Bool). Has int s l (Const Truth (pos 0)) (one_if (b || int_lt (greatest scale) z)))
         (sym (not_below scale size z small low))
-        (subst (λ (b : Bool). Has int s l (Const Truth (pos 0)) (one_if b)) (sym (not_above scale size z small high)) (flag-const int s l false))
+        (subst (λ (b : Bool). Has int s l (Const Truth (pos 0)) (one_if b)) (sym (not_above scale size z small high))
+        (flag-const int s l false))

@@ -63,27 +63,36 @@ mask-stays k few =
     ap (λ (x : ℕ). gives (Unsigned W64) (pos x)) (mod-eq_of_lt below)
 
 -- & with the mask of a remainder
-masked-is : (n k : ℕ) → combined_in (Unsigned W64) BitAnd (pos n) (pos (2 ^ k - 1)) ≡ gives (Unsigned W64) (pos (n % 2 ^ k))
+masked-is : (n k : ℕ) → combined_in (Unsigned W64) BitAnd (pos n) (pos (2 ^ k - 1)) ≡ gives (Unsigned W64)
+    (pos (n % 2 ^ k))
 masked-is n k = ap (λ (x : ℕ). gives (Unsigned W64) (pos x)) (and_mask n k)
 
 pub low_bits-is : (int : Width) (s : Store) (l : Locals) (scale : Scale) (x : CExpr) (z : ℤ) → bits int ≤ 64
-    → Has int s l x z → meaning int s l (low_bits_c scale x) ≡ gives (Unsigned W64) (int_rem_euclid z (pos (2 ^ scale.width)))
+    → Has int s l x z → meaning int s l (low_bits_c scale x) ≡ gives (Unsigned W64)
+    (int_rem_euclid z (pos (2 ^ scale.width)))
 unfolding meaning
 low_bits-is int s l scale x z most has =
     let k = scale.width in
     let few = scale.bits_within in
     let up = lifted z (2 ^ 64) (pow_pos 64) in
     let n = up.0 % 2 ^ 64 in
-    let first : int_rem_euclid z (pos (2 ^ 64)) ≡ pos n = int_rem_euclid_is z (pos (2 ^ 64)) (2 ^ 64) (unsigned_abs z) up.0 (pow_pos 64) refl up.1 in
+    let first : int_rem_euclid z (pos (2 ^ 64)) ≡ pos n = int_rem_euclid_is z (pos (2 ^ 64)) (2 ^ 64)
+    (unsigned_abs z) up.0 (pow_pos 64) refl up.1 in
     let u : CValue = record { type = Unsigned W64; value = pos n } in
     let mask : CValue = record { type = Unsigned W64; value = pos (2 ^ k - 1) } in
     let own : converted (Unsigned W64) (pos n) ≡ gives (Unsigned W64) (pos n) =
     ap (λ (x : ℕ). gives (Unsigned W64) (pos x)) (mod-eq_of_lt (mod-lt up.0 (pow_pos 64))) in
-    ap (λ (m : Meaning). with_meaning (with_meaning m (λ x. converted (Unsigned W64) x.value)) (λ x. with_meaning (converted (Unsigned W64) (pos (2 ^ k - 1))) (combined int BitAnd x))) has.1
-    ∙ ap (λ (y : ℤ). with_meaning (converted (Unsigned W64) (pos (2 ^ k - 1))) (combined int BitAnd (record { type = Unsigned W64; value = y }))) first
+    ap (λ (m : Meaning). with_meaning (with_meaning m (λ x. converted (Unsigned W64) x.value))
+    (λ x. with_meaning (converted (Unsigned W64) (pos (2 ^ k - 1))) (combined int BitAnd x))) has.1
+    ∙ ap (λ (y : ℤ). with_meaning (converted (Unsigned W64) (pos (2 ^ k - 1)))
+    (combined int BitAnd (record { type = Unsigned W64; value = y }))) first
     ∙ ap (λ (m : Meaning). with_meaning m (combined int BitAnd u)) (mask-stays k few)
-    ∙ ap (λ (t : CType). with_meaning (converted t (pos n)) (λ a. with_meaning (converted t (pos (2 ^ k - 1))) (λ b. combined_in t BitAnd a.value b.value))) (common_unsigned int most)
-    ∙ ap (λ (m : Meaning). with_meaning m (λ a. with_meaning (converted (Unsigned W64) (pos (2 ^ k - 1))) (λ b. combined_in (Unsigned W64) BitAnd a.value b.value))) own
+    ∙ ap (λ (t : CType). with_meaning (converted t (pos n))
+    (λ a. with_meaning (converted t (pos (2 ^ k - 1))) (λ b. combined_in t BitAnd a.value b.value)))
+    (common_unsigned int most)
+    ∙ ap (λ (m : Meaning). with_meaning m
+    (λ a. with_meaning (converted (Unsigned W64) (pos (2 ^ k - 1)))
+    (λ b. combined_in (Unsigned W64) BitAnd a.value b.value))) own
     ∙ ap (λ (m : Meaning). with_meaning m (λ b. combined_in (Unsigned W64) BitAnd (pos n) b.value)) (mask-stays k few)
     ∙ masked-is n k
     ∙ ap (gives (Unsigned W64)) (ap (λ (y : ℤ). int_rem_euclid y (pos (2 ^ k))) (sym first) ∙ rem-rem z k 64 few)

@@ -43,8 +43,10 @@ EndsAssigned go after bad v s o (Ok vals) =
 EndsAssigned go after bad v s o (Err fault) = o ≡ Returns (after fault s) bad
 
 -- what the assignment of an expression to a datum needs: the struct shows data of their sorts and which states are
--- active, int has at most 64 bits, flow_divW is there, what is written for a fault returns, and the datum takes the sort
-pub record CanAssign (int : Width) (tests : ℕ → CExpr) (calls : Calls) (k : ℕ) (helper : Width → ℕ) (faulted : Fault → Block)
+-- active, int has at most 64 bits, flow_divW is there, what is written for a fault returns, and the datum takes the
+-- sort
+pub record CanAssign (int : Width) (tests : ℕ → CExpr) (calls : Calls) (k : ℕ) (helper : Width → ℕ)
+    (faulted : Fault → Block)
     (after : Fault → Store → Store) (bad : CValue) (s : Store) (vals : List Datum) (marks : Configuration) (v : ℕ)
     (e : Expr) (sort : ExprSort) : Type 0 where
   pub sorts : HaveTheirSorts vals

@@ -41,7 +41,8 @@ Has int s l e z = (t : CType) × (meaning int s l e ≡ gives t z)
 
 -- the tests of states give whether they are active
 abbrev pub ShowsActive : Width → (ℕ → CExpr) → Configuration → Store → Type 0
-ShowsActive int tests marks s = (q : ℕ) (l : Locals) → q < mark_count marks → Has int s l (tests q) (one_if (is_on q marks))
+ShowsActive int tests marks s = (q : ℕ) (l : Locals) → q < mark_count marks → Has int s l (tests q)
+    (one_if (is_on q marks))
 
 -- the locals below k are the same
 abbrev pub AgreeBelow : ℕ → Locals → Locals → Type 0

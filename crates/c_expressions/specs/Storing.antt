@@ -25,7 +25,8 @@ floored_width frac size t = width_for (max (size_at t frac size) (frac - t))
 -- the number at fraction t, by floor, as local k
 abbrev pub floored_code : ℕ → ℕ → ℕ → ℕ → CExpr → CCode
 floored_code k frac size t e = let w = floored_width frac size t in
-    if nat_le frac t then Set (Signed w) k (brought w (t - frac) e) else Divide w k e (Const (Signed w) (pos (2 ^ (frac - t))))
+    if nat_le frac t then Set (Signed w) k (brought w (t - frac) e) else Divide w k e
+    (Const (Signed w) (pos (2 ^ (frac - t))))
 
 -- ---- ends of the range; an end that no number of the size passes isn't tested, and need not fit the type
 
@@ -67,12 +68,14 @@ out_c scale size w x =
 abbrev pub low_bits_c : Scale → CExpr → CExpr
 low_bits_c scale x = Bits BitAnd (Cast (Unsigned W64) x) (Const (Unsigned W64) (pos (2 ^ scale.width - 1)))
 
--- the number of a signed scale whose low bits are u, an unsigned number below 2 ^ width: u itself, or for the upper half
--- -(MASK - u) - 1, which no step takes out of int64_t
+-- the number of a signed scale whose low bits are u, an unsigned number below 2 ^ width: u itself, or for the upper
+-- half -(MASK - u) - 1, which no step takes out of int64_t
 abbrev pub signed_c : Scale → CExpr → CExpr
 signed_c scale u =
-    Choose (Signed W64) (Compare IsAtMost u (Const (Unsigned W64) (pos (2 ^ (scale.width - 1) - 1)))) (Cast (Signed W64) u)
-    (Calc Less (Minus (Cast (Signed W64) (Calc Less (Const (Unsigned W64) (pos (2 ^ scale.width - 1))) u))) (Const (Signed W64) (pos 1)))
+    Choose (Signed W64) (Compare IsAtMost u (Const (Unsigned W64) (pos (2 ^ (scale.width - 1) - 1))))
+    (Cast (Signed W64) u)
+    (Calc Less (Minus (Cast (Signed W64) (Calc Less (Const (Unsigned W64) (pos (2 ^ scale.width - 1))) u)))
+    (Const (Signed W64) (pos 1)))
 
 -- ---- an assignment of a number
 
@@ -94,11 +97,13 @@ brought_code frac size scale x =
 abbrev pub stored_c : ℕ → ℕ → ℕ → Scale → Mode → Flat → Stores
 stored_c v frac size scale Saturate x = record {
   code = brought_code frac size scale x;
-  kept = saturated_c scale (size_at scale.frac frac size) (floored_width frac size scale.frac) (brought_local frac size scale x);
+  kept = saturated_c scale (size_at scale.frac frac size) (floored_width frac size scale.frac)
+      (brought_local frac size scale x);
 }
 stored_c v frac size scale Error x = record {
   code = Then (brought_code frac size scale x) (FaultIf (Overflows v)
-      (out_c scale (size_at scale.frac frac size) (floored_width frac size scale.frac) (brought_local frac size scale x)));
+      (out_c scale (size_at scale.frac frac size) (floored_width frac size scale.frac)
+      (brought_local frac size scale x)));
   kept = brought_local frac size scale x;
 }
 stored_c v frac size scale Wrap x = record {

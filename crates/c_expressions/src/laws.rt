@@ -24,19 +24,20 @@ ghost use Rattle.c_expressions.specs.Translation.{flat};
 ghost use Rattle.c_expressions.specs.Claims.{ShowsData, ShowsActive, EndsAs, field_type};
 ghost use Rattle.c_expressions.specs.Storing.{stored_c, StoresAs};
 
-/// For every expression with a sort, in a struct that shows the world's data, with tests that give which
-/// states are active, and for every width of int, the C ends as the value does: in its fault, or with
-/// the value, and without undefined behaviour.
+/// For every expression with a sort, in a struct that shows the world's data, with tests that give
+/// which states are active, and for every width of int, the C ends as the value does: in its fault,
+/// or with the value, and without undefined behaviour.
 pub fn expressions_have_their_values()
-    ensures { (int : Width) (tests : ℕ → CExpr) (s : Store) (vals : List Datum) (marks : Configuration)
+    ensures { (int : Width) (tests : ℕ → CExpr) (s : Store) (vals : List Datum)
+        (marks : Configuration)
         (e : Expr) (n : ℕ) (l : Locals) (sort : ExprSort) → HaveTheirSorts vals → ShowsData vals s →
         ShowsActive int tests marks s → sort_of (scope_at vals marks) e ≡ Ok sort →
         EndsAs int s n (flat (scope_at vals marks) tests n e) l (value_of vals marks e) }
 {}
 
 /// An assignment of a number that has no fault of its own: its code faults exactly where the number
-/// overflows the datum, and else goes on and gives what is kept, without undefined behaviour, where int
-/// has at most 64 bits. What is kept is stored in the datum's field as it is.
+/// overflows the datum, and else goes on and gives what is kept, without undefined behaviour, where
+/// int has at most 64 bits. What is kept is stored in the datum's field as it is.
 pub fn assignments_store_what_is_kept()
     ensures kept { (int : Width) (tests : ℕ → CExpr) (s : Store) (vals : List Datum)
         (marks : Configuration) (e : Expr) (n d : ℕ) (l : Locals) (frac size : ℕ) (scale : Scale)
@@ -51,18 +52,21 @@ pub fn assignments_store_what_is_kept()
         converted (field_type (sorts.Number scale)) m ≡ gives (field_type (sorts.Number scale)) m }
 {}
 
-/// The statements that are written for code do what it does: where it goes on, the statements after it
-/// follow with its locals, and where it faults, the function returns as it does for that fault. A file
-/// in which flow_divW stands has the calls that this needs.
+/// The statements that are written for code do what it does: where it goes on, the statements after
+/// it follow with its locals, and where it faults, the function returns as it does for that fault.
+/// A file in which flow_divW stands has the calls that this needs.
 pub fn statements_do_what_code_does()
-    ensures goes { (int : Width) (calls : Calls) (k : ℕ) (helper : Width → ℕ) (faulted : Fault → Block)
+    ensures goes { (int : Width) (calls : Calls) (k : ℕ) (helper : Width → ℕ)
+        (faulted : Fault → Block)
         (after : Fault → Store → Store) (bad : CValue) (s : Store) → Divides calls helper s →
         Returning int calls k faulted after bad s → (code : CCode) (rest : Block) (l m : Locals) →
         ending int s l code ≡ Goes m →
         outcome int calls k (written helper faulted code rest) s l ≡ outcome int calls k rest s m }
-    ensures faults { (int : Width) (calls : Calls) (k : ℕ) (helper : Width → ℕ) (faulted : Fault → Block)
+    ensures faults { (int : Width) (calls : Calls) (k : ℕ) (helper : Width → ℕ)
+        (faulted : Fault → Block)
         (after : Fault → Store → Store) (bad : CValue) (s : Store) → Divides calls helper s →
-        Returning int calls k faulted after bad s → (code : CCode) (rest : Block) (l : Locals) (x : Fault) →
+        Returning int calls k faulted after bad s → (code : CCode) (rest : Block) (l : Locals)
+        (x : Fault) →
         ending int s l code ≡ Faults x →
         outcome int calls k (written helper faulted code rest) s l ≡ Returns (after x s) bad }
     ensures divides { (file : File) (int : Width) (k : ℕ) (helper : Width → ℕ) (s : Store) →
@@ -70,8 +74,8 @@ pub fn statements_do_what_code_does()
         Divides (call file int (suc k)) helper s }
 {}
 
-/// The statements of an assignment store the value in the datum's field, and then the struct shows the
-/// data that the assignment gives; or the function returns with the fault of the assignment.
+/// The statements of an assignment store the value in the datum's field, and then the struct shows
+/// the data that the assignment gives; or the function returns with the fault of the assignment.
 pub fn assignments_change_the_struct()
     ensures { (int : Width) (tests : ℕ → CExpr) (calls : Calls) (k : ℕ) (helper : Width → ℕ)
         (faulted : Fault → Block) (after : Fault → Store → Store) (bad : CValue) (s : Store)
@@ -80,7 +84,8 @@ pub fn assignments_change_the_struct()
         CanAssign int tests calls k helper faulted after bad s vals marks v e sort →
         EndsAssigned (λ u m. outcome int calls k rest u m) after bad v s
         (outcome int calls k (assigned_block helper faulted v
-        (stores_of v (datum vals v).sort (datum vals v).mode sort (flat (scope_at vals marks) tests n e))
+        (stores_of v (datum vals v).sort (datum vals v).mode sort
+        (flat (scope_at vals marks) tests n e))
         rest) s l)
         (assigned_by vals v (value_of vals marks e)) }
 {}

@@ -1,7 +1,7 @@
 //! How an expression of a chart becomes C, and an assignment.
 //!
-//! `specs/Translation.antt` says which C is written for an expression, `specs/Storing.antt` which is
-//! written to store a number, `specs/Code.antt` which statements their code is, and
+//! `specs/Translation.antt` says which C is written for an expression, `specs/Storing.antt` which
+//! is written to store a number, `specs/Code.antt` which statements their code is, and
 //! `specs/Assigning.antt` which statements assign to a datum.
 #![tactic(auto)]
 

@@ -37,24 +37,30 @@ module _ (t : Tree) (n : ℕ → ℕ) (num : Numbers t n) where
     last_at p (Some y) e =
         let up = (k.lasts p y e).1 in
         let lt = child_within t y p up in
-        find-first (λ x. is_child t p x && (n x == slice_index_or st.kept p 0)) 0 (state_count t) y (omega arith) (omega (arith, lt))
+        find-first (λ x. is_child t p x && (n x == slice_index_or st.kept p 0)) 0 (state_count t) y (omega arith)
+        (omega (arith, lt))
         (and_both _ _ (child_of_parent t p y up) (ap (λ i. n y == i) (h.lasts p ∙ ap (number n) e) ∙ same_self (n y)))
         (λ x lo hi. and_right _ _ (λ c. ap (λ i. n x == i) (h.lasts p ∙ ap (number n) e)
-        ∙ differ (n x) (n y) (λ f. absurd (let same = num.apart p x y (parent_of_child t p x c) up f in omega (arith, hi, same)))))
+        ∙ differ (n x) (n y) (λ f. absurd
+        (let same = num.apart p x y (parent_of_child t p x c) up f in omega (arith, hi, same)))))
 
     -- the fields tell the marks that they show
     pub told_is : told t n st ≡ m
     unfolding told is_on last_of mark_count
     told_is =
-        let a = fill_by_all (λ s. c_on t n s st) m.flags (state_count t) false k.sized (λ s lt. sym (on_is t n st m h s)) in
-        let b = fill_by_all (λ p. find (λ x. is_child t p x && (n x == slice_index_or st.kept p 0)) (range_with_len 0 (state_count t)))
+        let a = fill_by_all (λ s. c_on t n s st) m.flags (state_count t) false k.sized
+        (λ s lt. sym (on_is t n st m h s)) in
+        let b = fill_by_all (λ p. find (λ x. is_child t p x && (n x == slice_index_or st.kept p 0))
+        (range_with_len 0 (state_count t)))
         m.last (state_count t) None k.entries (λ p lt. sym (last_at p (last_of p m) refl)) in
-        ap (λ l. record { flags = l; last = (told t n st).last }) (sym a) ∙ ap (λ l. record { flags = m.flags; last = l }) (sym b)
+        ap (λ l. record { flags = l; last = (told t n st).last }) (sym a) ∙ ap
+        (λ l. record { flags = m.flags; last = l }) (sym b)
 
   -- memory tells the world that it stands for
   pub world_is : (m : Memory) (w : World) → Stands t n m w → world_of t n m ≡ w
   world_is m w h =
-      ap (λ x. record { marks = x; vals = m.vals; outputs = m.outputs; used = m.used }) (told_is m.states w.marks h.consistent h.states)
+      ap (λ x. record { marks = x; vals = m.vals; outputs = m.outputs; used = m.used })
+      (told_is m.states w.marks h.consistent h.states)
       ∙ ap (λ x. record { marks = w.marks; vals = x; outputs = m.outputs; used = m.used }) h.vals
       ∙ ap (λ x. record { marks = w.marks; vals = w.vals; outputs = x; used = m.used }) h.outputs
       ∙ ap (λ x. record { marks = w.marks; vals = w.vals; outputs = w.outputs; used = x }) h.used
@@ -76,5 +82,6 @@ module _ (t : Tree) (n : ℕ → ℕ) (num : Numbers t n) where
   pub own_agrees : Agree t n (own_sums t n)
   own_agrees = record {
     truth = λ x m w h. ap (truth_of x) (world_is m w h);
-    store = λ v x m w h. subst (λ u. Stored t n m (with_vals m (assigned_in v x u)) (assigned_in v x w)) (sym (world_is m w h)) (stored_is v x m w h);
+    store = λ v x m w h. subst (λ u. Stored t n m (with_vals m (assigned_in v x u)) (assigned_in v x w))
+        (sym (world_is m w h)) (stored_is v x m w h);
   }

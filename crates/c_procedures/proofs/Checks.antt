@@ -10,12 +10,14 @@ use Rattle.c_procedures.specs.Meaning.{CProgram, Calls, check, exec, branch, and
 use Rattle.c_procedures.specs.Written.{no_flag, on_under, on_check, childless_check, bare_check, last_under, takes_if, takes_check, set_block, unset_block}
 
 module _ (P : CProgram) (m : Memory) (now : Now) (l : Locals) where
-  no_flag_is : (xs : List ℕ) → check P (no_flag xs) m now l ≡ not (list_any (λ x. slice_index_or m.states.flags x false) xs)
+  no_flag_is : (xs : List ℕ) → check P (no_flag xs) m now l ≡ not
+      (list_any (λ x. slice_index_or m.states.flags x false) xs)
   no_flag_is [] = refl
   no_flag_is (x ∷ xs) = at (slice_index_or m.states.flags x false) (no_flag_is xs)
     where
       at : (b : Bool) → check P (no_flag xs) m now l ≡ not (list_any (λ x. slice_index_or m.states.flags x false) xs)
-          → (not b && check P (no_flag xs) m now l) ≡ not (b || list_any (λ x. slice_index_or m.states.flags x false) xs)
+          → (not b && check P (no_flag xs) m now l) ≡ not
+          (b || list_any (λ x. slice_index_or m.states.flags x false) xs)
       at true e = refl
       at false e = e
 
@@ -41,7 +43,8 @@ module _ (P : CProgram) (m : Memory) (now : Now) (l : Locals) where
   last_under_is s None = refl
   last_under_is s (Some p) = refl
 
-  pub last_test : (s : ℕ) → check P (last_under P.numbers s (parent_of P.tree s)) m now l ≡ c_last P.tree P.numbers s m.states
+  pub last_test : (s : ℕ) → check P (last_under P.numbers s (parent_of P.tree s)) m now l
+      ≡ c_last P.tree P.numbers s m.states
   unfolding c_last
   last_test s = last_under_is s (parent_of P.tree s)
 
@@ -55,12 +58,14 @@ module _ (P : CProgram) (m : Memory) (now : Now) (l : Locals) where
   takes_test (Some p) = takes_if_is p (is_or (comp_of P.tree p))
 
   module _ (call : Calls) (k : ℕ) (go : Memory → Locals → Out) where
-    set_runs : (s : ℕ) (o : Option ℕ) → exec P call k now (set_block P.numbers s o) m l ≡ Fell (with_states (c_set P.numbers s o m.states) m) l
+    set_runs : (s : ℕ) (o : Option ℕ) → exec P call k now (set_block P.numbers s o) m l ≡ Fell
+        (with_states (c_set P.numbers s o m.states) m) l
     unfolding exec
     set_runs s None = refl
     set_runs s (Some p) = refl
 
-    unset_runs : (s : ℕ) (o : Option ℕ) → exec P call k now (unset_block s o) m l ≡ Fell (with_states (c_unset s o m.states) m) l
+    unset_runs : (s : ℕ) (o : Option ℕ) → exec P call k now (unset_block s o) m l ≡ Fell
+        (with_states (c_unset s o m.states) m) l
     unfolding exec
     unset_runs s None = refl
     unset_runs s (Some p) = refl
@@ -76,13 +81,18 @@ module _ (P : CProgram) (m : Memory) (now : Now) (l : Locals) where
     mark_by false s o = ap (λ x. and_on x go) end_runs
 
     -- `mark`
-    pub mark_runs : (s : ℕ) → and_on (branch (Ok (check P (takes_check P.tree P.numbers (parent_of P.tree s)) m now l)) m
-        (exec P call k now (set_block P.numbers s (or_parent P.tree (parent_of P.tree s))) m l) (exec P call k now End m l)) go
+    pub mark_runs : (s : ℕ) → and_on
+        (branch (Ok (check P (takes_check P.tree P.numbers (parent_of P.tree s)) m now l)) m
+        (exec P call k now (set_block P.numbers s (or_parent P.tree (parent_of P.tree s))) m l)
+        (exec P call k now End m l)) go
         ≡ go (with_states (c_mark P.tree P.numbers s m.states) m) l
     unfolding c_mark
     mark_runs s =
-        mark_by (check P (takes_check P.tree P.numbers (parent_of P.tree s)) m now l) s (or_parent P.tree (parent_of P.tree s))
-        ∙ ap (λ b. go (with_states (if b then c_set P.numbers s (or_parent P.tree (parent_of P.tree s)) m.states else m.states) m) l) (takes_test (parent_of P.tree s))
+        mark_by (check P (takes_check P.tree P.numbers (parent_of P.tree s)) m now l) s
+        (or_parent P.tree (parent_of P.tree s))
+        ∙ ap (λ b. go (with_states
+        (if b then c_set P.numbers s (or_parent P.tree (parent_of P.tree s)) m.states else m.states) m) l)
+        (takes_test (parent_of P.tree s))
 
     clear_by : (b : Bool) (s : ℕ) (o : Option ℕ)
         → and_on (branch (Ok b) m (exec P call k now (unset_block s o) m l) (exec P call k now End m l)) go
@@ -97,4 +107,5 @@ module _ (P : CProgram) (m : Memory) (now : Now) (l : Locals) where
     unfolding c_clear
     clear_runs s =
         clear_by (check P (bare_check P.tree P.numbers s) m now l) s (or_parent P.tree (parent_of P.tree s))
-        ∙ ap (λ b. go (with_states (if b then c_unset s (or_parent P.tree (parent_of P.tree s)) m.states else m.states) m) l) (bare_test s)
+        ∙ ap (λ b. go (with_states
+        (if b then c_unset s (or_parent P.tree (parent_of P.tree s)) m.states else m.states) m) l) (bare_test s)

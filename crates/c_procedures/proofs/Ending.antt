@@ -42,14 +42,16 @@ first_at t n k p m w h e = record {
   base = omega arith;
   above_base = e ∙ sym (no_notes 1 p);
   cursor = omega arith;
-  above_cursor = ap (λ y. drop y m.notes) (later_zero 0) ∙ e ∙ sym (no_notes 1 p) ∙ sym (ap (λ y. pending y (fresh p None 0 0 None ∷ [])) (later_zero 1));
+  above_cursor = ap (λ y. drop y m.notes) (later_zero 0) ∙ e ∙ sym (no_notes 1 p) ∙ sym
+      (ap (λ y. pending y (fresh p None 0 0 None ∷ [])) (later_zero 1));
 }
 
 module _ (t : Tree) (n : ℕ → ℕ) (k : Procedures) (b : Bounds) where
   abbrev pub code : Program
   code = record { tree = t; bounds = b; procedures = k }
 
-  ends_with : (least : ℕ) (now : Now) (start : Machine) (o : Out) → DoesCall code n least now None None [] start o → EndsWith code n least start o
+  ends_with : (least : ℕ) (now : Now) (start : Machine) (o : Out) → DoesCall code n least now None None [] start o
+      → EndsWith code n least start o
   ends_with least now start (Fell m l) h = h
   ends_with least now start (Left m r) h = record {
     moment = record { world = h.world; fault = None };
@@ -65,11 +67,14 @@ module _ (t : Tree) (n : ℕ → ℕ) (k : Procedures) (b : Bounds) where
   ends_with least now start Wrong h = h
 
   -- a call from outside
-  pub called_outside : (num : Numbers t n) (same : length t.comps ≡ state_count t) (sums : Sums) (agree : Agree t n sums)
-      (bodies : ℕ → Block) (written : AreWritten t n k bodies) (fuel p : ℕ) (now : Now) (m : Memory) (w : World) → Stands t n m w → m.notes ≡ []
+  pub called_outside : (num : Numbers t n) (same : length t.comps ≡ state_count t) (sums : Sums)
+      (agree : Agree t n sums)
+      (bodies : ℕ → Block) (written : AreWritten t n k bodies) (fuel p : ℕ) (now : Now) (m : Memory) (w : World)
+      → Stands t n m w → m.notes ≡ []
       → EndsWith code n (pred fuel) (first_frame p w now)
       (call_fn (record { sums = sums; tree = t; numbers = n; bounds = b; bodies = bodies }) fuel p now 0 0 0 m)
   called_outside num same sums agree bodies written fuel p now m w h e =
       ends_with (pred fuel) now (first_frame p w now) _
-      (calls_do t n num same k b sums agree bodies written fuel p 0 0 0 now None None m w (fresh p None 0 0 None) [] refl refl
+      (calls_do t n num same k b sums agree bodies written fuel p 0 0 0 now None None m w
+      (fresh p None 0 0 None) [] refl refl
       (first_at t n k p m w h e))

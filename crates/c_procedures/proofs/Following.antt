@@ -135,7 +135,8 @@ goes_on C least s s' way h =
     let x = longer C way.steps h.steps s s' h.last way.by h.by in
     record { steps = x.0; last = h.last; by = x.1; enough = omega (arith, x.2, h.enough) }
 
-module _ (C : Program) (n : ℕ → ℕ) (least : ℕ) (now : Now) (note : Option ℕ) (saved : Option Event) (fs : List Frame) where
+module _ (C : Program) (n : ℕ → ℕ) (least : ℕ) (now : Now) (note : Option ℕ) (saved : Option Event)
+    (fs : List Frame) where
   -- code comes to the start before
   pub does_on : (s s' : Machine) (ys : List Instr) (o : Out) → Reaches C s s' → Does C n least now note saved fs s' ys o
       → Does C n least now note saved fs s ys o
@@ -161,16 +162,25 @@ module _ (C : Program) (n : ℕ → ℕ) (least : ℕ) (now : Now) (note : Optio
   does_less fewer s ys (Fell m l) le h = h
   does_less fewer s ys (Left m r) le h = h
   does_less fewer s ys (Failed m x) le h = h
-  does_less fewer s ys Starved le h = record { steps = h.steps; last = h.last; by = h.by; enough = omega (arith, le, h.enough) }
+  does_less fewer s ys Starved le h = record {
+    steps = h.steps;
+    last = h.last;
+    by = h.by;
+    enough = omega
+        (arith, le, h.enough);
+  }
   does_less fewer s ys Wrong le h = h
 
   -- first some statements and then others
-  pub does_then : (s : Machine) (mid ys : List Instr) (o : Out) (go : Memory → Locals → Out) → Does C n least now note saved fs s mid o
-      → ((m : Memory) (l : Locals) (w : World) (r : ℕ) (f : Frame) → IsAt C.tree n C.procedures note saved mid m l w r f fs
+  pub does_then : (s : Machine) (mid ys : List Instr) (o : Out) (go : Memory → Locals → Out)
+      → Does C n least now note saved fs s mid o
+      → ((m : Memory) (l : Locals) (w : World) (r : ℕ) (f : Frame)
+      → IsAt C.tree n C.procedures note saved mid m l w r f fs
       → Does C n least now note saved fs (machine w now r (f ∷ fs)) ys (go m l))
       → Does C n least now note saved fs s ys (and_on o go)
   does_then s mid ys (Fell m l) go h rest =
-      does_on s (machine h.world now h.result (h.frame ∷ fs)) ys (go m l) h.reached (rest m l h.world h.result h.frame h.at)
+      does_on s (machine h.world now h.result (h.frame ∷ fs)) ys (go m l) h.reached
+      (rest m l h.world h.result h.frame h.at)
   does_then s mid ys (Left m r) go h rest = h
   does_then s mid ys (Failed m x) go h rest = h
   does_then s mid ys Starved go h rest = h
@@ -178,10 +188,12 @@ module _ (C : Program) (n : ℕ → ℕ) (least : ℕ) (now : Now) (note : Optio
 
 -- ---- the function further on
 
-module _ (t : Tree) (n : ℕ → ℕ) (k : Procedures) (note : Option ℕ) (saved : Option Event) (xs ys : List Instr) (m : Memory)
+module _ (t : Tree) (n : ℕ → ℕ) (k : Procedures) (note : Option ℕ) (saved : Option Event) (xs ys : List Instr)
+    (m : Memory)
     (l : Locals) (w : World) (r : ℕ) (f : Frame) (fs : List Frame) (h : IsAt t n k note saved xs m l w r f fs) where
   -- at another place, in another world with the same notes
-  pub moved : (i : ℕ) (m' : Memory) (w' : World) → drop i (instructions k f.proc) ≡ ys → Stands t n m' w' → m'.notes ≡ m.notes
+  pub moved : (i : ℕ) (m' : Memory) (w' : World) → drop i (instructions k f.proc) ≡ ys → Stands t n m' w' → m'.notes
+      ≡ m.notes
       → IsAt t n k note saved ys m' l w' r (record f { place = i }) fs
   moved i m' w' code stands same = record {
     code = code;
@@ -195,7 +207,8 @@ module _ (t : Tree) (n : ℕ → ℕ) (k : Procedures) (note : Option ℕ) (save
     base = subst (λ x. l.base ≤ length x) (sym same) h.base;
     above_base = ap (drop l.base) same ∙ h.above_base ∙ same_pending (suc f.base) f (record f { place = i }) fs refl;
     cursor = subst (λ x. l.cursor ≤ length x) (sym same) h.cursor;
-    above_cursor = ap (drop (later l.cursor l.base)) same ∙ h.above_cursor ∙ same_pending (later f.cursor (suc f.base)) f (record f { place = i }) fs refl;
+    above_cursor = ap (drop (later l.cursor l.base)) same ∙ h.above_cursor ∙ same_pending
+        (later f.cursor (suc f.base)) f (record f { place = i }) fs refl;
   }
 
   -- the notes, where the function returns

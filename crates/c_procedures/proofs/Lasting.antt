@@ -26,8 +26,10 @@ not_for : (C : Program) (least : ℕ) (m : Machine) → IsOver (run C least m) �
 not_for C least m over goes = subst IsOver (still_going C least goes.steps m goes.last goes.enough goes.by) over
 
 -- so a call from outside ends as code
-pub ends_as_code : (k : Code) (n : ℕ → ℕ) (b : Bounds) (least : ℕ) (start : Machine) (o : Out) → IsCode k → IsMoment k b start
-    → IsOver (run (program_of k b) least start) → EndsWith (program_of k b) n least start o → EndsAsCode (program_of k b) n start o
+pub ends_as_code : (k : Code) (n : ℕ → ℕ) (b : Bounds) (least : ℕ) (start : Machine) (o : Out) → IsCode k
+    → IsMoment k b start
+    → IsOver (run (program_of k b) least start) → EndsWith (program_of k b) n least start o → EndsAsCode
+    (program_of k b) n start o
 ends_as_code k n b least start (Fell m l) is moment over h = h
 ends_as_code k n b least start (Left m r) is moment over h = h
 ends_as_code k n b least start (Failed m x) is moment over h = h

@@ -44,7 +44,8 @@ pub differ : (x y : ℕ) → x ≢ y → (x == y) ≡ false
 differ x y ne = grind (arith, nat_tests)
 
 -- the parent that is an OR
-pub or_parent_is : (t : Tree) (s p : ℕ) → or_parent t (parent_of t s) ≡ Some p → (parent_of t s ≡ Some p) × (is_or (comp_of t p) ≡ true)
+pub or_parent_is : (t : Tree) (s p : ℕ) → or_parent t (parent_of t s) ≡ Some p → (parent_of t s ≡ Some p) ×
+    (is_or (comp_of t p) ≡ true)
 or_parent_is t s p e = at (parent_of t s) refl e
   where
     by : (q : ℕ) (b : Bool) → is_or (comp_of t q) ≡ b → parent_of t s ≡ Some q → cond b (Some q) None ≡ Some p
@@ -52,14 +53,17 @@ or_parent_is t s p e = at (parent_of t s) refl e
     by q true h k f = let same : q ≡ p = cc in (k ∙ f, subst (λ y. is_or (comp_of t y) ≡ true) same h)
     by q false h k f = absurd cc
 
-    at : (o : Option ℕ) → parent_of t s ≡ o → or_parent t o ≡ Some p → (parent_of t s ≡ Some p) × (is_or (comp_of t p) ≡ true)
+    at : (o : Option ℕ) → parent_of t s ≡ o → or_parent t o ≡ Some p → (parent_of t s ≡ Some p) ×
+        (is_or (comp_of t p) ≡ true)
     at None k f = absurd cc
     at (Some q) k f = by q (is_or (comp_of t q)) refl k f
 
-pub or_parent_at : (t : Tree) (s p : ℕ) → parent_of t s ≡ Some p → is_or (comp_of t p) ≡ true → or_parent t (parent_of t s) ≡ Some p
+pub or_parent_at : (t : Tree) (s p : ℕ) → parent_of t s ≡ Some p → is_or (comp_of t p) ≡ true → or_parent t
+    (parent_of t s) ≡ Some p
 or_parent_at t s p e h = ap (or_parent t) e ∙ ap (λ b. cond b (Some p) None) h
 
-pub no_or_parent : (t : Tree) (s p : ℕ) → parent_of t s ≡ Some p → is_or (comp_of t p) ≡ false → or_parent t (parent_of t s) ≡ None
+pub no_or_parent : (t : Tree) (s p : ℕ) → parent_of t s ≡ Some p → is_or (comp_of t p) ≡ false → or_parent t
+    (parent_of t s) ≡ None
 no_or_parent t s p e h = ap (or_parent t) e ∙ ap (λ b. cond b (Some p) None) h
 
 module _ (t : Tree) (n : ℕ → ℕ) (st : States) (m : Configuration) (h : Shows t n st m) where
@@ -86,10 +90,13 @@ module _ (t : Tree) (n : ℕ → ℕ) (st : States) (m : Configuration) (h : Sho
           ∙ any_nothing (filter (is_child t s) (range_with_len 0 (state_count t))) in
           ap (λ i. i == 0) z ∙ ap not (sym none)
       at (inr k) =
-          let on : is_on k.child m ≡ true = sym (h.ons s k.child k.up o) ∙ ap (λ i. i == n k.child) k.is ∙ same_self (n k.child) in
+          let on : is_on k.child m ≡ true = sym (h.ons s k.child k.up o) ∙ ap (λ i. i == n k.child) k.is ∙ same_self
+          (n k.child) in
           let lt = child_within t k.child s k.up in
           let some : list_any (λ x. is_on x m) (filter (is_child t s) (range_with_len 0 (state_count t))) ≡ true =
-          true_where _ (λ e. absurd (let off = none_in_range (λ x. is_on x m) (is_child t s) 0 (state_count t) k.child (omega arith) (omega (arith, lt)) (child_of_parent t s k.child k.up) e in cc)) in
+          true_where _ (λ e. absurd
+          (let off = none_in_range (λ x. is_on x m) (is_child t s) 0 (state_count t) k.child (omega arith)
+          (omega (arith, lt)) (child_of_parent t s k.child k.up) e in cc)) in
           differ _ _ (λ e. num.some k.child (sym k.is ∙ e)) ∙ ap not (sym some)
 
   -- no child of another state is active where their flags are off

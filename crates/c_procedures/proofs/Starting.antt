@@ -24,13 +24,15 @@ suc_numbers t = record { some = λ x e. absurd (omega (arith, e)); apart = λ p 
 zeros : (k i : ℕ) → get_or (replicate k zero) i zero ≡ zero
 zeros k i = ⊎_elim
     (λ lt. get_or-replicate k i zero zero lt)
-    (λ le. let past : length (replicate k zero) ≤ i = omega (arith, le, length-replicate k zero) in get_or-eq_default (replicate k zero) zero past)
+    (λ le. let past : length (replicate k zero) ≤ i = omega (arith, le, length-replicate k zero) in get_or-eq_default
+    (replicate k zero) zero past)
     (cases_lt i k)
 
 offs : (k i : ℕ) → get_or (replicate k false) i false ≡ false
 offs k i = ⊎_elim
     (λ lt. get_or-replicate k i false false lt)
-    (λ le. let past : length (replicate k false) ≤ i = omega (arith, le, length-replicate k false) in get_or-eq_default (replicate k false) false past)
+    (λ le. let past : length (replicate k false) ≤ i = omega (arith, le, length-replicate k false) in get_or-eq_default
+    (replicate k false) false past)
     (cases_lt i k)
 
 -- fields that are all 0 show that no state is active and none is remembered
@@ -40,7 +42,8 @@ no_fields_show t n num = record {
   chosen_length = length-replicate (state_count t) 0;
   flags_length = length-replicate (state_count t) false;
   kept_length = length-replicate (state_count t) 0;
-  ons = λ p x up o. ap (λ i. i == n x) (zeros (state_count t) p) ∙ differ 0 (n x) (λ e. num.some x (sym e)) ∙ sym (none_on t x);
+  ons = λ p x up o. ap (λ i. i == n x) (zeros (state_count t) p) ∙ differ 0 (n x) (λ e. num.some x (sym e)) ∙ sym
+      (none_on t x);
   child = λ p o. inl (zeros (state_count t) p);
   no_choice = λ p o. zeros (state_count t) p;
   bits = λ x e. offs (state_count t) x ∙ sym (none_on t x);
@@ -51,11 +54,14 @@ no_fields_show t n num = record {
 -- ---- 1 + how many siblings come before
 
 -- with one number more there are as many children or one more
-count_more : (t : Tree) (p y : ℕ) → length (children_below t p (suc y)) ≡ length (children_below t p y) + (if is_child t p y then 1 else 0)
+count_more : (t : Tree) (p y : ℕ) → length (children_below t p (suc y)) ≡ length (children_below t p y) +
+    (if is_child t p y then 1 else 0)
 unfolding children_below
 count_more t p y =
-    ap length (filter-range_more (is_child t p) 0 y) ∙ length-append (filter (is_child t p) (range_with_len 0 y)) (cond (is_child t p (0 + y)) ((0 + y) ∷ []) [])
-    ∙ ap (λ i. length (filter (is_child t p) (range_with_len 0 y)) + length (cond (is_child t p i) (i ∷ []) [])) zero_more
+    ap length (filter-range_more (is_child t p) 0 y) ∙ length-append (filter (is_child t p) (range_with_len 0 y))
+    (cond (is_child t p (0 + y)) ((0 + y) ∷ []) [])
+    ∙ ap (λ i. length (filter (is_child t p) (range_with_len 0 y)) + length
+    (cond (is_child t p i) (i ∷ []) [])) zero_more
     ∙ ap (λ i. length (filter (is_child t p) (range_with_len 0 y)) + i) (one (is_child t p y))
   where
     zero_more : 0 + y ≡ y
@@ -77,7 +83,8 @@ count_after t p x (suc y) c lt = at (λ less. count_after t p x y c less) (cases
     at rest (inr le) =
         let same : x ≡ y = omega arith in
         let one = ap {B = ℕ} (λ b. if b then 1 else 0) c in
-        let more = subst (λ z. length (children_below t p (suc z)) ≡ length (children_below t p x) + (if is_child t p x then 1 else 0)) same (count_more t p x) in
+        let more = subst (λ z. length (children_below t p (suc z)) ≡ length (children_below t p x) +
+        (if is_child t p x then 1 else 0)) same (count_more t p x) in
         omega (arith, one, more)
 
 -- these numbers serve
@@ -91,11 +98,13 @@ place_numbers t = record {
     rank : (x p : ℕ) → parent_of t x ≡ Some p → suc (rank_by t x (parent_of t x)) ≡ suc (length (children_below t p x))
     rank x p up = ap (λ o. suc (rank_by t x o)) up
 
-    same_rank : (p x y : ℕ) → parent_of t x ≡ Some p → parent_of t y ≡ Some p → suc (rank_by t x (parent_of t x)) ≡ suc (rank_by t y (parent_of t y))
+    same_rank : (p x y : ℕ) → parent_of t x ≡ Some p → parent_of t y ≡ Some p → suc (rank_by t x (parent_of t x)) ≡ suc
+        (rank_by t y (parent_of t y))
         → suc (length (children_below t p x)) ≡ suc (length (children_below t p y))
     same_rank p x y ux uy e = sym (rank x p ux) ∙ e ∙ rank y p uy
 
-    apart : (p x y : ℕ) → parent_of t x ≡ Some p → parent_of t y ≡ Some p → suc (length (children_below t p x)) ≡ suc (length (children_below t p y))
+    apart : (p x y : ℕ) → parent_of t x ≡ Some p → parent_of t y ≡ Some p → suc (length (children_below t p x)) ≡ suc
+        (length (children_below t p y))
         → (x < y) ⊎ (y ≤ x) → (y < x) ⊎ (x ≤ y) → x ≡ y
     apart p x y ux uy e (inl lt) g = absurd (omega (arith, e, count_after t p x y (child_of_parent t p x ux) lt))
     apart p x y ux uy e (inr le) (inl lt) = absurd (omega (arith, e, count_after t p y x (child_of_parent t p y uy) lt))

@@ -98,6 +98,8 @@ never_stuck k b m is h stuck = at stuck.last.frames refl
         let x = top_instr k b is stuck.last f fs last e in
         let w = stuck.last.world in
         let acts : step C stuck.last ≡ act C (Some x.instr) w stuck.last.now stuck.last.result f fs =
-        ap (λ (fs : List Frame). step C (record { world = w; now = stuck.last.now; result = stuck.last.result; frames = fs })) e
+        ap (λ (fs : List Frame). step C
+        (record { world = w; now = stuck.last.now; result = stuck.last.result; frames = fs })) e
         ∙ ap (λ (o : Option Instr). act C o w stuck.last.now stuck.last.result f fs) x.there in
-        subst (λ (x : Next). GoesOrFaults x) (sym acts ∙ stuck.stops) (act_goes C x.instr w stuck.last.now stuck.last.result f fs)
+        subst (λ (x : Next). GoesOrFaults x) (sym acts ∙ stuck.stops)
+        (act_goes C x.instr w stuck.last.now stuck.last.result f fs)

@@ -41,14 +41,16 @@ module _ (t : Tree) (n : ℕ → ℕ) (num : Numbers t n) where
   -- ---- one store
 
   -- the numbers of one OR in two stores
-  one_choice : (st st' : States) (m : Configuration) → Shows t n st m → Shows t n st' m → (p : ℕ) → is_or (comp_of t p) ≡ true
+  one_choice : (st st' : States) (m : Configuration) → Shows t n st m → Shows t n st' m → (p : ℕ) → is_or (comp_of t p)
+      ≡ true
       → slice_index_or st.chosen p 0 ≡ slice_index_or st'.chosen p 0
   one_choice st st' m h h' p o = at (h.child p o) (h'.child p o)
     where
       by : (a b : States) → Shows t n a m → Shows t n b m → IsChild t n p (slice_index_or a.chosen p 0)
           → slice_index_or b.chosen p 0 ≡ slice_index_or a.chosen p 0
       by a b ha hb k =
-          let on : is_on k.child m ≡ true = sym (ha.ons p k.child k.up o) ∙ ap (λ i. i == n k.child) k.is ∙ same_self (n k.child) in
+          let on : is_on k.child m ≡ true = sym (ha.ons p k.child k.up o) ∙ ap (λ i. i == n k.child) k.is ∙ same_self
+          (n k.child) in
           same_is _ _ (hb.ons p k.child k.up o ∙ on) ∙ sym k.is
 
       at : (slice_index_or st.chosen p 0 ≡ 0) ⊎ IsChild t n p (slice_index_or st.chosen p 0)
@@ -71,9 +73,12 @@ module _ (t : Tree) (n : ℕ → ℕ) (num : Numbers t n) where
   -- two stores that show the same marks are one
   pub one_store : (st st' : States) (m : Configuration) → Shows t n st m → Shows t n st' m → st ≡ st'
   one_store st st' m h h' =
-      let a : st.chosen ≡ st'.chosen = ext_get_or 0 st.chosen st'.chosen (h.chosen_length ∙ sym h'.chosen_length) (λ p lt. choice_either st st' m h h' p (is_or (comp_of t p)) refl) in
-      let b : st.flags ≡ st'.flags = ext_get_or false st.flags st'.flags (h.flags_length ∙ sym h'.flags_length) (λ x lt. flag_either st st' m h h' x (or_parent t (parent_of t x)) refl) in
-      let c : st.kept ≡ st'.kept = ext_get_or 0 st.kept st'.kept (h.kept_length ∙ sym h'.kept_length) (λ p lt. h.lasts p ∙ sym (h'.lasts p)) in
+      let a : st.chosen ≡ st'.chosen = ext_get_or 0 st.chosen st'.chosen (h.chosen_length ∙ sym h'.chosen_length)
+      (λ p lt. choice_either st st' m h h' p (is_or (comp_of t p)) refl) in
+      let b : st.flags ≡ st'.flags = ext_get_or false st.flags st'.flags (h.flags_length ∙ sym h'.flags_length)
+      (λ x lt. flag_either st st' m h h' x (or_parent t (parent_of t x)) refl) in
+      let c : st.kept ≡ st'.kept = ext_get_or 0 st.kept st'.kept (h.kept_length ∙ sym h'.kept_length)
+      (λ p lt. h.lasts p ∙ sym (h'.lasts p)) in
       ap (λ l. record { chosen = l; flags = st.flags; kept = st.kept }) a
       ∙ ap (λ l. record { chosen = st'.chosen; flags = l; kept = st.kept }) b
       ∙ ap (λ l. record { chosen = st'.chosen; flags = st'.flags; kept = l }) c
@@ -81,18 +86,22 @@ module _ (t : Tree) (n : ℕ → ℕ) (num : Numbers t n) where
   -- ---- it tells the marks
 
   -- what is remembered
-  one_last : (st : States) (m m' : Configuration) → IsConsistent t m → IsConsistent t m' → Shows t n st m → Shows t n st m'
+  one_last : (st : States) (m m' : Configuration) → IsConsistent t m → IsConsistent t m' → Shows t n st m
+      → Shows t n st m'
       → (p : ℕ) (o o' : Option ℕ) → last_of p m ≡ o → last_of p m' ≡ o' → number n o ≡ number n o' → o ≡ o'
   one_last st m m' k k' h h' p None None e e' f = refl
   one_last st m m' k k' h h' p None (Some y) e e' f = absurd (num.some y (sym f))
   one_last st m m' k k' h h' p (Some x) None e e' f = absurd (num.some x f)
-  one_last st m m' k k' h h' p (Some x) (Some y) e e' f = ap Some (num.apart p x y (k.lasts p x e).1 (k'.lasts p y e').1 f)
+  one_last st m m' k k' h h' p (Some x) (Some y) e e' f = ap Some
+      (num.apart p x y (k.lasts p x e).1 (k'.lasts p y e').1 f)
 
   -- consistent marks that a store shows are those that it tells
-  pub one_configuration : (st : States) (m m' : Configuration) → IsConsistent t m → IsConsistent t m' → Shows t n st m → Shows t n st m' → m ≡ m'
+  pub one_configuration : (st : States) (m m' : Configuration) → IsConsistent t m → IsConsistent t m' → Shows t n st m
+      → Shows t n st m' → m ≡ m'
   unfolding is_on last_of mark_count
   one_configuration st m m' k k' h h' =
-      let a : m.flags ≡ m'.flags = ext_get_or false m.flags m'.flags (k.sized ∙ sym k'.sized) (λ x lt. sym (on_is t n st m h x) ∙ on_is t n st m' h' x) in
+      let a : m.flags ≡ m'.flags = ext_get_or false m.flags m'.flags (k.sized ∙ sym k'.sized)
+      (λ x lt. sym (on_is t n st m h x) ∙ on_is t n st m' h' x) in
       let b : m.last ≡ m'.last = ext_get_or None m.last m'.last (k.entries ∙ sym k'.entries)
       (λ p lt. one_last st m m' k k' h h' p (last_of p m) (last_of p m') refl refl (sym (h.lasts p) ∙ h'.lasts p)) in
       ap (λ l. record { flags = l; last = m.last }) a ∙ ap (λ l. record { flags = m'.flags; last = l }) b
@@ -109,7 +118,8 @@ module _ (t : Tree) (n : ℕ → ℕ) (num : Numbers t n) where
     -- the active child passes both tests
     active_is : (p x : ℕ) → active_child t p m ≡ Some x → (parent_of t x ≡ Some p) × (is_on x m ≡ true)
     active_is p x e =
-        let first = is_first (λ y. is_child t p y && is_on y m) 0 (state_count t) x (sym (active_child-find t p m) ∙ e) in
+        let first = is_first (λ y. is_child t p y && is_on y m) 0 (state_count t) x
+        (sym (active_child-find t p m) ∙ e) in
         let both = both_of (is_child t p x) (is_on x m) first.passes in
         (parent_of_child t p x both.0, both.1)
 
@@ -117,7 +127,8 @@ module _ (t : Tree) (n : ℕ → ℕ) (num : Numbers t n) where
     active_none : (p x : ℕ) → active_child t p m ≡ None → parent_of t x ≡ Some p → is_on x m ≡ false
     active_none p x e up =
         let lt = child_within t x p up in
-        let off = is_none (λ y. is_child t p y && is_on y m) 0 (state_count t) (sym (active_child-find t p m) ∙ e) x (omega arith) (omega (arith, lt)) in
+        let off = is_none (λ y. is_child t p y && is_on y m) 0 (state_count t) (sym (active_child-find t p m) ∙ e) x
+        (omega arith) (omega (arith, lt)) in
         ap (λ b. b && is_on x m) (sym (child_of_parent t p x up)) ∙ off
 
     -- the number of the active child tells each child
@@ -147,7 +158,8 @@ module _ (t : Tree) (n : ℕ → ℕ) (num : Numbers t n) where
     beyond p le = let far : length m.last ≤ p = omega (arith, le, k.entries) in get_or-eq_default m.last None far
 
     -- the choice at an OR
-    choice_at : (p : ℕ) → is_or (comp_of t p) ≡ true → slice_index_or (shown t n m).chosen p 0 ≡ number n (active_child t p m)
+    choice_at : (p : ℕ) → is_or (comp_of t p) ≡ true → slice_index_or (shown t n m).chosen p 0 ≡ number n
+        (active_child t p m)
     unfolding shown
     choice_at p o =
         get_or-map-range_with_len (choice t n m) 0 (state_count t) p p 0 (or_within t p same o) (omega arith)
@@ -165,7 +177,8 @@ module _ (t : Tree) (n : ℕ → ℕ) (num : Numbers t n) where
       no_choice = λ p o. none p o (cases_lt p (state_count t));
       bits = λ x e. bit x e (cases_lt x (state_count t));
       no_bits = λ p x e. let u = or_parent_is t x p e in
-          get_or-map-range_with_len (λ x. flag_by (or_parent t (parent_of t x)) x m) 0 (state_count t) x x false (child_within t x p u.0) (omega arith)
+          get_or-map-range_with_len (λ x. flag_by (or_parent t (parent_of t x)) x m) 0 (state_count t) x x false
+          (child_within t x p u.0) (omega arith)
           ∙ ap (λ q. flag_by q x m) e;
       lasts = λ p. last p (cases_lt p (state_count t));
     }
@@ -181,22 +194,28 @@ module _ (t : Tree) (n : ℕ → ℕ) (num : Numbers t n) where
             get_or-eq_default (map (choice t n m) (range_with_len 0 (state_count t))) 0 past
 
         bit : (x : ℕ) → or_parent t (parent_of t x) ≡ None → (x < state_count t) ⊎ (state_count t ≤ x)
-            → get_or (map (λ x. flag_by (or_parent t (parent_of t x)) x m) (range_with_len 0 (state_count t))) x false ≡ is_on x m
+            → get_or (map (λ x. flag_by (or_parent t (parent_of t x)) x m) (range_with_len 0 (state_count t))) x false
+            ≡ is_on x m
         bit x e (inl lt) =
-            get_or-map-range_with_len (λ x. flag_by (or_parent t (parent_of t x)) x m) 0 (state_count t) x x false lt (omega arith)
+            get_or-map-range_with_len (λ x. flag_by (or_parent t (parent_of t x)) x m) 0 (state_count t) x x false lt
+            (omega arith)
             ∙ ap (λ q. flag_by q x m) e
         bit x e (inr le) =
             let long = length-map-range_with_len (λ x. flag_by (or_parent t (parent_of t x)) x m) 0 (state_count t) in
-            let past : length (map (λ x. flag_by (or_parent t (parent_of t x)) x m) (range_with_len 0 (state_count t))) ≤ x = omega (arith, le, long) in
+            let past : length (map (λ x. flag_by (or_parent t (parent_of t x)) x m)
+            (range_with_len 0 (state_count t))) ≤ x = omega (arith, le, long) in
             let beyond : mark_count m ≤ x = omega (arith, le, k.sized) in
-            get_or-eq_default (map (λ x. flag_by (or_parent t (parent_of t x)) x m) (range_with_len 0 (state_count t))) false past
+            get_or-eq_default (map (λ x. flag_by (or_parent t (parent_of t x)) x m)
+            (range_with_len 0 (state_count t))) false past
             ∙ sym (on_past x m beyond)
 
         last : (p : ℕ) → (p < state_count t) ⊎ (state_count t ≤ p)
             → get_or (map (λ p. number n (last_of p m)) (range_with_len 0 (state_count t))) p 0 ≡ number n (last_of p m)
-        last p (inl lt) = get_or-map-range_with_len (λ p. number n (last_of p m)) 0 (state_count t) p p 0 lt (omega arith)
+        last p (inl lt) = get_or-map-range_with_len (λ p. number n (last_of p m)) 0 (state_count t) p p 0 lt
+            (omega arith)
         last p (inr le) =
             let long = length-map-range_with_len (λ p. number n (last_of p m)) 0 (state_count t) in
-            let past : length (map (λ p. number n (last_of p m)) (range_with_len 0 (state_count t))) ≤ p = omega (arith, le, long) in
+            let past : length (map (λ p. number n (last_of p m)) (range_with_len 0 (state_count t))) ≤ p = omega
+            (arith, le, long) in
             get_or-eq_default (map (λ p. number n (last_of p m)) (range_with_len 0 (state_count t))) 0 past
             ∙ sym (ap (number n) (beyond p le))

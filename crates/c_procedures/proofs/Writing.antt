@@ -26,7 +26,8 @@ drop_rest (suc k) (suc m) (x ∷ xs) le =
 
 -- two drops are one
 drop_two : (k j : ℕ) (xs : List Instr) → drop j (drop k xs) ≡ drop (k + j) xs
-drop_two k j xs = let e : k + j - k ≡ j = omega arith in ap (λ y. drop y (drop k xs)) (sym e) ∙ drop_rest k (k + j) xs (omega arith)
+drop_two k j xs = let e : k + j - k ≡ j = omega arith in ap (λ y. drop y (drop k xs)) (sym e) ∙ drop_rest k (k + j) xs
+    (omega arith)
 
 -- what stands at a place is the head of the rest
 drop_at : (xs : List Instr) (k : ℕ) (x : Instr) → slice_get xs k ≡ Some x → drop k xs ≡ x ∷ drop (suc k) xs
@@ -61,7 +62,8 @@ end_skip_is (suc k) xs j e = drop_at xs k (i.Skip j) (skip_is (slice_get xs k) j
 
 module _ (t : Tree) (n : ℕ → ℕ) (react : ℕ) where
   -- statements that come to a skip come to where it leads
-  through_skip : {xs zs : List Instr} {a : Block} (j : ℕ) (ys : List Instr) → Written t n react xs zs a → zs ≡ i.Skip j ∷ ys
+  through_skip : {xs zs : List Instr} {a : Block} (j : ℕ) (ys : List Instr) → Written t n react xs zs a → zs
+      ≡ i.Skip j ∷ ys
       → Written t n react xs (drop j ys) a
   through_skip j ys (Stops zs) e =
       subst (λ y. Written t n react y (drop j ys) c.End) (sym e) (Skips j ys (drop j ys) c.End (Stops (drop j ys)))
@@ -90,22 +92,28 @@ module _ (t : Tree) (n : ℕ → ℕ) (react : ℕ) where
   Right more = (m : ℕ) (xs : List Instr) (a : Block) → more m xs ≡ Some a → Written t n react xs (drop m xs) a
 
   module _ (more : ℕ → List Instr → Option Block) (right : Right more) where
-    before_is : (x : Instr) (m : ℕ) (rest : List Instr) (a : Block) → IsStraight t x → before t n react x (more m rest) ≡ Some a
+    before_is : (x : Instr) (m : ℕ) (rest : List Instr) (a : Block) → IsStraight t x → before t n react x (more m rest)
+        ≡ Some a
         → Written t n react (x ∷ rest) (drop m rest) a
     before_is x m rest a good e = at (more m rest) refl e
       where
-        at : (o : Option Block) → more m rest ≡ o → before t n react x o ≡ Some a → Written t n react (x ∷ rest) (drop m rest) a
+        at : (o : Option Block) → more m rest ≡ o → before t n react x o ≡ Some a → Written t n react (x ∷ rest)
+            (drop m rest) a
         at None f h = absurd cc
         at (Some d) f h =
             let same : straight t n react x d ≡ a = cc in
-            subst (λ y. Written t n react (x ∷ rest) (drop m rest) y) same (Steps x rest (drop m rest) d good (right m rest d f))
+            subst (λ y. Written t n react (x ∷ rest) (drop m rest) y) same
+            (Steps x rest (drop m rest) d good (right m rest d f))
 
-    fork_is : (k : ℕ) (x : Cond) (rest mid ys : List Instr) (o q s : Option Block) (a : Block) → fork t n x o q s ≡ Some a
-        → ((d : Block) → o ≡ Some d → Written t n react rest mid d) → ((d : Block) → q ≡ Some d → Written t n react (drop k rest) mid d)
+    fork_is : (k : ℕ) (x : Cond) (rest mid ys : List Instr) (o q s : Option Block) (a : Block) → fork t n x o q s
+        ≡ Some a
+        → ((d : Block) → o ≡ Some d → Written t n react rest mid d) →
+        ((d : Block) → q ≡ Some d → Written t n react (drop k rest) mid d)
         → ((d : Block) → s ≡ Some d → Written t n react mid ys d) → Written t n react (i.Unless k x ∷ rest) ys a
     fork_is k x rest mid ys (Some p) (Some q) (Some s) a e hp hq hs =
         let same : c.If (test_of t n x) p q s ≡ a = cc in
-        subst (λ y. Written t n react (i.Unless k x ∷ rest) ys y) same (Forks k x rest mid ys p q s (hp p refl) (hq q refl) (hs s refl))
+        subst (λ y. Written t n react (i.Unless k x ∷ rest) ys y) same
+        (Forks k x rest mid ys p q s (hp p refl) (hq q refl) (hs s refl))
     fork_is k x rest mid ys (Some p) (Some q) None a e hp hq hs = absurd cc
     fork_is k x rest mid ys (Some p) None s a e hp hq hs = absurd cc
     fork_is k x rest mid ys None q s a e hp hq hs = absurd cc
@@ -116,11 +124,15 @@ module _ (t : Tree) (n : ℕ → ℕ) (react : ℕ) where
         let h = only_is (nat_le k m) (fork t n x (more k rest) (Some c.End) (more (m - k) (drop k rest))) a e in
         fork_is k x rest (drop k rest) (drop m rest) (more k rest) (Some c.End) (more (m - k) (drop k rest)) a h.1
         (λ d g. right k rest d g)
-        (λ d g. let same : c.End ≡ d = cc in subst (λ y. Written t n react (drop k rest) (drop k rest) y) same (Stops (drop k rest)))
-        (λ d g. subst (λ y. Written t n react (drop k rest) y d) (drop_rest k m rest (le_of k m h.0)) (right (m - k) (drop k rest) d g))
+        (λ d g. let same : c.End ≡ d = cc in subst (λ y. Written t n react (drop k rest) (drop k rest) y) same
+        (Stops (drop k rest)))
+        (λ d g. subst (λ y. Written t n react (drop k rest) y d) (drop_rest k m rest (le_of k m h.0))
+        (right (m - k) (drop k rest) d g))
     fork_at_is m k x rest (Some j) a f e =
-        let h = only_is (nat_le (k + j) m) (fork t n x (more (pred k) rest) (more j (drop k rest)) (more (m - (k + j)) (drop j (drop k rest)))) a e in
-        fork_is k x rest (drop j (drop k rest)) (drop m rest) (more (pred k) rest) (more j (drop k rest)) (more (m - (k + j)) (drop j (drop k rest))) a h.1
+        let h = only_is (nat_le (k + j) m)
+        (fork t n x (more (pred k) rest) (more j (drop k rest)) (more (m - (k + j)) (drop j (drop k rest)))) a e in
+        fork_is k x rest (drop j (drop k rest)) (drop m rest) (more (pred k) rest) (more j (drop k rest))
+        (more (m - (k + j)) (drop j (drop k rest))) a h.1
         (λ d g. through_skip j (drop k rest) (right (pred k) rest d g) (end_skip_is k rest j f))
         (λ d g. right j (drop k rest) d g)
         (λ d g. subst (λ y. Written t n react (drop j (drop k rest)) y d)
@@ -133,9 +145,12 @@ module _ (t : Tree) (n : ℕ → ℕ) (react : ℕ) where
     one_is m (i.Unless k x) rest a e = fork_at_is m k x rest (end_skip k rest) a refl e
     one_is m (i.Skip j) rest a e =
         let h = only_is (nat_le j m) (more (m - j) (drop j rest)) a e in
-        Skips j rest (drop m rest) a (subst (λ y. Written t n react (drop j rest) y a) (drop_rest j m rest (le_of j m h.0)) (right (m - j) (drop j rest) a h.1))
+        Skips j rest (drop m rest) a
+        (subst (λ y. Written t n react (drop j rest) y a) (drop_rest j m rest (le_of j m h.0))
+        (right (m - j) (drop j rest) a h.1))
     one_is m (i.Ret r) rest a e =
-        let same : c.Return r ≡ a = cc in subst (λ y. Written t n react (i.Ret r ∷ rest) (drop m rest) y) same (Returns r rest (drop m rest))
+        let same : c.Return r ≡ a = cc in subst (λ y. Written t n react (i.Ret r ∷ rest) (drop m rest) y) same
+        (Returns r rest (drop m rest))
     one_is m (i.Assign v x) rest a e = before_is (i.Assign v x) m rest a tt e
     one_is m (i.Emit x) rest a e = before_is (i.Emit x) m rest a tt e
     one_is m (i.Mark s) rest a e =

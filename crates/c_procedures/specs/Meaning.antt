@@ -97,14 +97,16 @@ Calls = ℕ → Now → ℕ → ℕ → ℕ → Memory → Out
 -- one turn's call, where there is a note at the cursor
 abbrev pub turn : Calls → Option ℕ → Now → Memory → Locals → (Memory → Locals → Out) → Out
 turn call None now m l go = c.Wrong
-turn call (Some p) now m l go = and_with (call p now (length m.notes) l.home l.result m) (λ m' r. go m' (record l { result = r }))
+turn call (Some p) now m l go = and_with (call p now (length m.notes) l.home l.result m)
+    (λ m' r. go m' (record l { result = r }))
 
 -- the `while` of `Play`
 unfoldable pub turns : CProgram → Calls → ℕ → Now → Memory → Locals → Out
 turns P call zero now m l = c.Starved
 turns P call (suc k) now m l =
     if nat_lt l.cursor (length m.notes) && c_bare P.tree P.numbers l.home m.states
-    then pay P.bounds m (λ v. turn call (slice_get v.notes l.cursor) now v (record l { cursor = suc l.cursor }) (turns P call k now))
+    then pay P.bounds m (λ v. turn call (slice_get v.notes l.cursor) now v (record l { cursor = suc l.cursor })
+    (turns P call k now))
     else c.Fell m l
 
 -- the cursor before the first turn
@@ -121,7 +123,8 @@ exec P call k now (c.Keep p i rest) m l =
 exec P call k now (c.Store v x rest) m l = and_stored (P.sums.store v x m) m (λ v. exec P call k now rest v l)
 exec P call k now (c.Put e rest) m l = exec P call k now rest (record m { outputs = m.outputs ++ e ∷ [] }) l
 exec P call k now (c.Pay rest) m l = pay P.bounds m (λ v. exec P call k now rest v l)
-exec P call k now (c.Deep rest) m l = unless_met (nat_le P.bounds.depth now.depth) faults.Depth m (exec P call k now rest m l)
+exec P call k now (c.Deep rest) m l = unless_met (nat_le P.bounds.depth now.depth) faults.Depth m
+    (exec P call k now rest m l)
 exec P call k now (c.SetHome s rest) m l = exec P call k now rest m (record l { home = s })
 exec P call k now (c.SetBase rest) m l = exec P call k now rest m (record l { base = length m.notes })
 exec P call k now (c.Push p rest) m l = exec P call k now rest (record m { notes = m.notes ++ p ∷ [] }) l
@@ -129,10 +132,12 @@ exec P call k now (c.Pop rest) m l = exec P call k now rest (record m { notes = 
 exec P call k now (c.Call p rest) m l =
     and_with (call p now l.base l.home l.result m) (λ v r. exec P call k now rest v (record l { result = r }))
 exec P call k now (c.Send e p rest) m l =
-    and_with (call p (deeper e now) (length m.notes) 0 l.result m) (λ v r. exec P call k now rest v (record l { result = r }))
+    and_with (call p (deeper e now) (length m.notes) 0 l.result m)
+    (λ v r. exec P call k now rest v (record l { result = r }))
 exec P call k now (c.Play rest) m l = and_on (turns P call k now m (from_base l)) (λ v u. exec P call k now rest v u)
 exec P call k now (c.If t a b rest) m l =
-    and_on (branch (truth_c P t m now l) m (exec P call k now a m l) (exec P call k now b m l)) (λ v u. exec P call k now rest v u)
+    and_on (branch (truth_c P t m now l) m (exec P call k now a m l) (exec P call k now b m l))
+    (λ v u. exec P call k now rest v u)
 exec P call k now (c.Return i) m l = c.Left m i
 exec P call k now c.ReturnResult m l = c.Left m l.result
 

@@ -38,12 +38,15 @@ Stored t n m (Err x) (Ok w) = ⊥
 -- the arithmetic of C agrees with that of code
 pub record Agree (t : Tree) (n : ℕ → ℕ) (sums : Sums) : Type 0 where
   pub truth : (x : Expr) (m : Memory) (w : World) → Stands t n m w → sums.truth x m ≡ truth_of x w
-  pub store : (v : ℕ) (x : Expr) (m : Memory) (w : World) → Stands t n m w → Stored t n m (sums.store v x m) (assigned_in v x w)
+  pub store : (v : ℕ) (x : Expr) (m : Memory) (w : World) → Stands t n m w → Stored t n m (sums.store v x m)
+      (assigned_in v x w)
 
 -- The function stands where the top frame is: these instructions follow; memory stands for the world, its notes are
 -- those of the frames; home and last result are the frame's and the machine's; `base` says how many notes lie up to the
--- frame's base, and the later of `cursor` and `base` how many lie below those that `Play` may still find. The frame has this note and this saved event.
-pub record IsAt (t : Tree) (n : ℕ → ℕ) (k : Procedures) (note : Option ℕ) (saved : Option Event) (xs : List Instr) (m : Memory)
+-- frame's base, and the later of `cursor` and `base` how many lie below those that `Play` may still find. The frame has
+-- this note and this saved event.
+pub record IsAt (t : Tree) (n : ℕ → ℕ) (k : Procedures) (note : Option ℕ) (saved : Option Event) (xs : List Instr)
+    (m : Memory)
     (l : Locals) (w : World) (r : ℕ) (f : Frame) (fs : List Frame) : Type 0 where
   pub code : drop f.place (instructions k f.proc) ≡ xs
   pub stands : Stands t n m w
@@ -94,7 +97,8 @@ module _ (C : Program) (n : ℕ → ℕ) (now : Now) (note : Option ℕ) (saved 
     pub stands : Stands C.tree n m world
     pub falls : Falls C start world x
 
-module _ (C : Program) (n : ℕ → ℕ) (least : ℕ) (now : Now) (note : Option ℕ) (saved : Option Event) (fs : List Frame) where
+module _ (C : Program) (n : ℕ → ℕ) (least : ℕ) (now : Now) (note : Option ℕ) (saved : Option Event)
+    (fs : List Frame) where
   -- code does what statements did, from a start; where they were starved it goes on for so many steps
   abbrev pub Does : Machine → List Instr → Out → Type 0
   Does start ys (Fell m l) = Passed C n now note saved fs start ys m l
@@ -113,7 +117,8 @@ module _ (C : Program) (n : ℕ → ℕ) (least : ℕ) (now : Now) (note : Optio
 
 -- calls do what a frame of the procedure does
 abbrev pub CallsDo : Program → (ℕ → ℕ) → ℕ → Calls → Type 0
-CallsDo C n least call = (p base home r : ℕ) (now : Now) (note : Option ℕ) (saved : Option Event) (m : Memory) (w : World)
+CallsDo C n least call = (p base home r : ℕ) (now : Now) (note : Option ℕ) (saved : Option Event) (m : Memory)
+    (w : World)
     (f : Frame) (fs : List Frame) → f.proc ≡ p → f.place ≡ 0
     → IsAt C.tree n C.procedures note saved (instructions C.procedures p) m (begins base home r) w r f fs
     → DoesCall C n least now note saved fs (machine w now r (f ∷ fs)) (call p now base home r m)
@@ -150,7 +155,8 @@ EndsAsCode C n start Wrong = ⊥
 unfoldable pub told : Tree → (ℕ → ℕ) → States → Configuration
 told t n st = record {
   flags = map (λ s. c_on t n s st) (range_with_len 0 (state_count t));
-  last = map (λ p. find (λ x. is_child t p x && (n x == slice_index_or st.kept p 0)) (range_with_len 0 (state_count t))) (range_with_len 0 (state_count t));
+  last = map (λ p. find (λ x. is_child t p x && (n x == slice_index_or st.kept p 0)) (range_with_len 0 (state_count t)))
+      (range_with_len 0 (state_count t));
 }
 
 -- the world that memory tells
@@ -164,4 +170,7 @@ with_vals m (Err x) = Err x
 
 -- the arithmetic of code, on the world that memory tells: it agrees with itself
 abbrev pub own_sums : Tree → (ℕ → ℕ) → Sums
-own_sums t n = record { truth = λ x m. truth_of x (world_of t n m); store = λ v x m. with_vals m (assigned_in v x (world_of t n m)) }
+own_sums t n = record {
+  truth = λ x m. truth_of x (world_of t n m);
+  store = λ v x m. with_vals m (assigned_in v x (world_of t n m));
+}

@@ -76,8 +76,8 @@ pub data Block : Type 0 where
   Call : ℕ → Block → Block
   -- `r = pN(m, E, depth + 1u, m->noted, 0u, r); if (r == BAD) return BAD;`
   Send : ℕ → ℕ → Block → Block
-  -- `if (cursor < base) cursor = base; while ((cursor < m->noted) && bare(m, home)) { PAY cursor++;
-  -- switch (m->note[cursor - 1u]) { case N: r = pN(m, e, depth, m->noted, home, r); break; .. } if (r == BAD) return BAD; }`
+  -- `if (cursor < base) cursor = base; while ((cursor < m->noted) && bare(m, home)) { PAY cursor++; switch
+  -- (m->note[cursor - 1u]) { case N: r = pN(m, e, depth, m->noted, home, r); break; .. } if (r == BAD) return BAD; }`
   Play : Block → Block
   -- `if (test) { .. } else { .. } ..`
   If : Test → Block → Block → Block → Block

@@ -79,15 +79,18 @@ noted_call p (Some b) rest = c.Push b (c.Call p (c.Pop rest))
 unfoldable pub straight : Tree → (ℕ → ℕ) → ℕ → Instr → Block → Block
 straight t n react (i.Assign v x) rest = c.Store v x rest
 straight t n react (i.Emit e) rest = c.Pay (c.Put e rest)
-straight t n react (i.Mark s) rest = c.If (c.Simple (takes_check t n (parent_of t s))) (set_block n s (or_parent t (parent_of t s))) c.End rest
-straight t n react (i.Clear s) rest = c.If (c.Simple (bare_check t n s)) (unset_block s (or_parent t (parent_of t s))) c.End rest
+straight t n react (i.Mark s) rest = c.If (c.Simple (takes_check t n (parent_of t s)))
+    (set_block n s (or_parent t (parent_of t s))) c.End rest
+straight t n react (i.Clear s) rest = c.If (c.Simple (bare_check t n s))
+    (unset_block s (or_parent t (parent_of t s))) c.End rest
 straight t n react (i.Keep s) rest = keep_block n s (parent_of t s) rest
 straight t n react (i.Unless k x) rest = rest
 straight t n react (i.Skip k) rest = rest
 straight t n react (i.Call p tag) rest = noted_call p tag rest
 straight t n react (i.Visit p tag) rest = c.Pay (noted_call p tag rest)
 straight t n react (i.Send e) rest = c.Deep (c.Pay (c.Send e react rest))
-straight t n react (i.SendTo e s p) rest = c.Deep (c.Pay (c.If (c.Simple (on_check t n s)) (c.Send e p c.End) c.End rest))
+straight t n react (i.SendTo e s p) rest = c.Deep
+    (c.Pay (c.If (c.Simple (on_check t n s)) (c.Send e p c.End) c.End rest))
 straight t n react i.Play rest = c.Play rest
 straight t n react (i.Home s) rest = c.SetHome s rest
 straight t n react i.Begin rest = c.SetBase rest

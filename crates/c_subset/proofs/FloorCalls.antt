@@ -39,14 +39,16 @@ quotient-fits n x y some fits = at (is_short x y) refl
     at : (b : Bool) → is_short x y ≡ b → fits_signed n (int_div x y) ≡ true
     at true e =
         let low = quotient-low x y (both-true (is_true (int_rem x y)) (differ x y) e) in
-        let less : int_div x y -ℤ pos 1 ≡ floor_div x y = sym (ap (λ (b : Bool). cond b (int_div x y -ℤ pos 1) (int_div x y)) e) ∙ floor in
+        let less : int_div x y -ℤ pos 1 ≡ floor_div x y = sym
+        (ap (λ (b : Bool). cond b (int_div x y -ℤ pos 1) (int_div x y)) e) ∙ floor in
         let fit : fits_signed n (int_div x y -ℤ pos 1) ≡ true = ap (fits_signed n) less ∙ fits in
         up (int_div x y) low fit
       where
         up : (q : ℤ) → int_le q (pos 0) ≡ true → fits_signed n (q -ℤ pos 1) ≡ true → fits_signed n q ≡ true
         up q low fit = let some = pow_pos (n - 1) in grind (arith, ints)
     at false e =
-        let same : int_div x y ≡ floor_div x y = sym (ap (λ (b : Bool). cond b (int_div x y -ℤ pos 1) (int_div x y)) e) ∙ floor in
+        let same : int_div x y ≡ floor_div x y = sym (ap (λ (b : Bool). cond b (int_div x y -ℤ pos 1) (int_div x y)) e)
+        ∙ floor in
         ap (fits_signed n) same ∙ fits
 
 -- a remainder is one of the type of the divisor
@@ -76,15 +78,19 @@ unfolding meaning
 calc-holds int s l n a b x y fx fy fz ha hb =
     let c = common-signed int ha.in_type hb.in_type in
     let wide : n ≤ bits c.to = omega (arith, c.left, ha.wide) in
-    let in_type : CType → Meaning = λ t. with_meaning (converted t x) (λ a. with_meaning (converted t y) (λ b. converted t (exact Less a.value b.value))) in
+    let in_type : CType → Meaning = λ t. with_meaning (converted t x)
+    (λ a. with_meaning (converted t y) (λ b. converted t (exact Less a.value b.value))) in
     record {
       in_type = c.to;
       wide = wide;
       is = ap (λ (m : Meaning). with_meaning m (λ x. with_meaning (meaning int s l b) (calculated int Less x))) ha.is
           ∙ ap (λ (m : Meaning). with_meaning m (calculated int Less (signed ha.in_type x))) hb.is
           ∙ ap in_type c.is
-          ∙ ap (λ (m : Meaning). with_meaning m (λ a. with_meaning (as_signed c.to y) (λ b. as_signed c.to (exact Less a.value b.value)))) (fitting-stays n c.to x wide fx)
-          ∙ ap (λ (m : Meaning). with_meaning m (λ b. as_signed c.to (exact Less x b.value))) (fitting-stays n c.to y wide fy)
+          ∙ ap (λ (m : Meaning). with_meaning m
+          (λ a. with_meaning (as_signed c.to y) (λ b. as_signed c.to (exact Less a.value b.value))))
+          (fitting-stays n c.to x wide fx)
+          ∙ ap (λ (m : Meaning). with_meaning m (λ b. as_signed c.to (exact Less x b.value)))
+          (fitting-stays n c.to y wide fy)
           ∙ fitting-stays n c.to (x -ℤ y) wide fz;
     }
 
@@ -95,15 +101,19 @@ unfolding meaning
 quotient-holds int s l n a b x y fx fy some fq ha hb =
     let c = common-signed int ha.in_type hb.in_type in
     let wide : n ≤ bits c.to = omega (arith, c.left, ha.wide) in
-    let in_type : CType → Meaning = λ t. with_meaning (converted t x) (λ a. with_meaning (converted t y) (λ b. divided_in t Quotient a.value b.value)) in
+    let in_type : CType → Meaning = λ t. with_meaning (converted t x)
+    (λ a. with_meaning (converted t y) (λ b. divided_in t Quotient a.value b.value)) in
     record {
       in_type = c.to;
       wide = wide;
       is = ap (λ (m : Meaning). with_meaning m (λ x. with_meaning (meaning int s l b) (divided int Quotient x))) ha.is
           ∙ ap (λ (m : Meaning). with_meaning m (divided int Quotient (signed ha.in_type x))) hb.is
           ∙ ap in_type c.is
-          ∙ ap (λ (m : Meaning). with_meaning m (λ a. with_meaning (as_signed c.to y) (λ b. divided_in (Signed c.to) Quotient a.value b.value))) (fitting-stays n c.to x wide fx)
-          ∙ ap (λ (m : Meaning). with_meaning m (λ b. divided_in (Signed c.to) Quotient x b.value)) (fitting-stays n c.to y wide fy)
+          ∙ ap (λ (m : Meaning). with_meaning m
+          (λ a. with_meaning (as_signed c.to y) (λ b. divided_in (Signed c.to) Quotient a.value b.value)))
+          (fitting-stays n c.to x wide fx)
+          ∙ ap (λ (m : Meaning). with_meaning m (λ b. divided_in (Signed c.to) Quotient x b.value))
+          (fitting-stays n c.to y wide fy)
           ∙ ap (λ (b : Bool). cond b (as_signed c.to (int_div x y)) Wrong) some
           ∙ fitting-stays n c.to (int_div x y) wide fq;
     }
@@ -115,17 +125,23 @@ unfolding meaning
 remainder-holds int s l n a b x y fx fy some fq ha hb =
     let c = common-signed int ha.in_type hb.in_type in
     let wide : n ≤ bits c.to = omega (arith, c.left, ha.wide) in
-    let in_type : CType → Meaning = λ t. with_meaning (converted t x) (λ a. with_meaning (converted t y) (λ b. divided_in t Remainder a.value b.value)) in
+    let in_type : CType → Meaning = λ t. with_meaning (converted t x)
+    (λ a. with_meaning (converted t y) (λ b. divided_in t Remainder a.value b.value)) in
     record {
       in_type = c.to;
       wide = wide;
       is = ap (λ (m : Meaning). with_meaning m (λ x. with_meaning (meaning int s l b) (divided int Remainder x))) ha.is
           ∙ ap (λ (m : Meaning). with_meaning m (divided int Remainder (signed ha.in_type x))) hb.is
           ∙ ap in_type c.is
-          ∙ ap (λ (m : Meaning). with_meaning m (λ a. with_meaning (as_signed c.to y) (λ b. divided_in (Signed c.to) Remainder a.value b.value))) (fitting-stays n c.to x wide fx)
-          ∙ ap (λ (m : Meaning). with_meaning m (λ b. divided_in (Signed c.to) Remainder x b.value)) (fitting-stays n c.to y wide fy)
-          ∙ ap (λ (b : Bool). cond b (with_meaning (as_signed c.to (int_div x y)) (λ q. as_signed c.to (int_rem x y))) Wrong) some
-          ∙ ap (λ (m : Meaning). with_meaning m (λ q. as_signed c.to (int_rem x y))) (fitting-stays n c.to (int_div x y) wide fq)
+          ∙ ap (λ (m : Meaning). with_meaning m
+          (λ a. with_meaning (as_signed c.to y) (λ b. divided_in (Signed c.to) Remainder a.value b.value)))
+          (fitting-stays n c.to x wide fx)
+          ∙ ap (λ (m : Meaning). with_meaning m (λ b. divided_in (Signed c.to) Remainder x b.value))
+          (fitting-stays n c.to y wide fy)
+          ∙ ap (λ (b : Bool). cond b
+          (with_meaning (as_signed c.to (int_div x y)) (λ q. as_signed c.to (int_rem x y))) Wrong) some
+          ∙ ap (λ (m : Meaning). with_meaning m (λ q. as_signed c.to (int_rem x y)))
+          (fitting-stays n c.to (int_div x y) wide fq)
           ∙ fitting-stays n c.to (int_rem x y) wide (remainder-fits n x y some fy);
     }
 
@@ -136,11 +152,14 @@ unfolding meaning
 compare-means int s l n op a b x y fx fy ha hb =
     let c = common-signed int ha.in_type hb.in_type in
     let wide : n ≤ bits c.to = omega (arith, c.left, ha.wide) in
-    let in_type : CType → Meaning = λ t. with_meaning (converted t x) (λ a. with_meaning (converted t y) (λ b. truth int (passes op a.value b.value))) in
+    let in_type : CType → Meaning = λ t. with_meaning (converted t x)
+    (λ a. with_meaning (converted t y) (λ b. truth int (passes op a.value b.value))) in
     ap (λ (m : Meaning). with_meaning m (λ x. with_meaning (meaning int s l b) (compared int op x))) ha.is
     ∙ ap (λ (m : Meaning). with_meaning m (compared int op (signed ha.in_type x))) hb.is
     ∙ ap in_type c.is
-    ∙ ap (λ (m : Meaning). with_meaning m (λ a. with_meaning (as_signed c.to y) (λ b. truth int (passes op a.value b.value)))) (fitting-stays n c.to x wide fx)
+    ∙ ap (λ (m : Meaning). with_meaning m
+    (λ a. with_meaning (as_signed c.to y) (λ b. truth int (passes op a.value b.value))))
+    (fitting-stays n c.to x wide fx)
     ∙ ap (λ (m : Meaning). with_meaning m (λ b. truth int (passes op x b.value))) (fitting-stays n c.to y wide fy)
 
 -- a truth value is a number of type int
@@ -151,7 +170,12 @@ truth-holds int s l e b is = record { in_type = int; wide = omega arith; is = is
 const-holds : (int : Width) (s : Store) (l : Locals) (w : Width) (z : ℤ) → fits_signed (bits w) z ≡ true
     → Holds int s l (bits w) (Const (Signed w) z) z
 unfolding meaning
-const-holds int s l w z fits = record { in_type = w; wide = omega arith; is = fitting-stays (bits w) w z (omega arith) fits }
+const-holds int s l w z fits = record {
+  in_type = w;
+  wide = omega arith;
+  is = fitting-stays (bits w) w z
+      (omega arith) fits;
+}
 
 local-holds : (int : Width) (s : Store) (l : Locals) (w : Width) (k : ℕ) (z : ℤ) → l (Signed w) k ≡ Some z
     → Holds int s l (bits w) (Local (Signed w) k) z
@@ -174,8 +198,11 @@ both-means : (int : Width) (s : Store) (l : Locals) (a b : CExpr) (p q : Bool) �
     → meaning int s l b ≡ truth int q → meaning int s l (Both a b) ≡ truth int (p && q)
 unfolding meaning
 both-means int s l a b p q ha hb =
-    ap (λ (m : Meaning). with_meaning m (λ x. cond (is_true x.value) (with_meaning (meaning int s l b) (λ y. truth int (is_true y.value))) (truth int false))) ha
-    ∙ ap (λ (c : Bool). cond c (with_meaning (meaning int s l b) (λ y. truth int (is_true y.value))) (truth int false)) (truth-stays p)
+    ap (λ (m : Meaning). with_meaning m
+    (λ x. cond (is_true x.value) (with_meaning (meaning int s l b) (λ y. truth int (is_true y.value)))
+    (truth int false))) ha
+    ∙ ap (λ (c : Bool). cond c (with_meaning (meaning int s l b) (λ y. truth int (is_true y.value))) (truth int false))
+    (truth-stays p)
     ∙ ap (λ (m : Meaning). cond p (with_meaning m (λ y. truth int (is_true y.value))) (truth int false)) hb
     ∙ ap (λ (c : Bool). cond p (truth int c) (truth int false)) (truth-stays q) ∙ at p
   where
@@ -191,14 +218,17 @@ choose-holds : (int w : Width) (s : Store) (l : Locals) (c a b : CExpr) (p : Boo
 unfolding meaning
 choose-holds int w s l c a b p v z fits hc chosen =
     let up = promoted-signed int w in
-    let brought : Meaning → Meaning = λ m. with_meaning m (λ y. with_meaning (as_signed w y.value) (λ z. converted (promoted int (Signed w)) z.value)) in
+    let brought : Meaning → Meaning = λ m. with_meaning m
+    (λ y. with_meaning (as_signed w y.value) (λ z. converted (promoted int (Signed w)) z.value)) in
     record {
       in_type = up.to;
       wide = up.wider;
-      is = ap (λ (m : Meaning). with_meaning m (λ x. brought (cond (is_true x.value) (meaning int s l a) (meaning int s l b)))) hc
+      is = ap (λ (m : Meaning). with_meaning m
+          (λ x. brought (cond (is_true x.value) (meaning int s l a) (meaning int s l b)))) hc
           ∙ ap (λ (c : Bool). brought (cond c (meaning int s l a) (meaning int s l b))) (truth-stays p)
           ∙ ap brought chosen
-          ∙ ap (λ (m : Meaning). with_meaning m (λ z. converted (promoted int (Signed w)) z.value)) (fitting-stays (bits w) w z (omega arith) fits)
+          ∙ ap (λ (m : Meaning). with_meaning m (λ z. converted (promoted int (Signed w)) z.value))
+          (fitting-stays (bits w) w z (omega arith) fits)
           ∙ ap (λ (t : CType). converted t z) up.is
           ∙ fitting-stays (bits w) up.to z up.wider fits;
     }
@@ -242,22 +272,26 @@ module _ (int w : Width) (s : Store) (l : Locals) (x y : ℤ) (fx : fits_signed 
       (remainder-holds int s l (bits w) a b x y fx fy some fq a-holds b-holds) nothing-holds
       ∙ ap (truth int) (unequal-zero (int_rem x y)))
       (compare-means int s l (bits int) IsUnequal (Compare IsBelow a nothing) (Compare IsBelow b nothing)
-      (one_if (int_lt x (pos 0))) (one_if (int_lt y (pos 0))) (one-fits int (int_lt x (pos 0))) (one-fits int (int_lt y (pos 0)))
+      (one_if (int_lt x (pos 0))) (one_if (int_lt y (pos 0))) (one-fits int (int_lt x (pos 0)))
+      (one-fits int (int_lt y (pos 0)))
       (below a x fx a-holds) (below b y fy b-holds)
       ∙ ap (truth int) (unequal-truths (int_lt x (pos 0)) (int_lt y (pos 0))))
 
   -- the body gives the floor
   body-means : Holds int s l (bits w)
-      (Choose (Signed w) (is_low a b nothing) (Calc Less (Divide Quotient a b) (Const (Signed w) (pos 1))) (Divide Quotient a b)) (floor_div x y)
+      (Choose (Signed w) (is_low a b nothing) (Calc Less (Divide Quotient a b) (Const (Signed w) (pos 1)))
+      (Divide Quotient a b)) (floor_div x y)
   body-means = at (is_short x y) refl
     where
       value : (c : Bool) → is_short x y ≡ c → cond c (int_div x y -ℤ pos 1) (int_div x y) ≡ floor_div x y
       value c is = sym (ap (λ (b : Bool). cond b (int_div x y -ℤ pos 1) (int_div x y)) is) ∙ body-is x y some
 
       at : (c : Bool) → is_short x y ≡ c → Holds int s l (bits w)
-          (Choose (Signed w) (is_low a b nothing) (Calc Less (Divide Quotient a b) (Const (Signed w) (pos 1))) (Divide Quotient a b)) (floor_div x y)
+          (Choose (Signed w) (is_low a b nothing) (Calc Less (Divide Quotient a b) (Const (Signed w) (pos 1)))
+          (Divide Quotient a b)) (floor_div x y)
       at true is =
-          let less = calc-holds int s l (bits w) (Divide Quotient a b) (Const (Signed w) (pos 1)) (int_div x y) (pos 1) fq
+          let less = calc-holds int s l (bits w) (Divide Quotient a b) (Const (Signed w) (pos 1)) (int_div x y)
+          (pos 1) fq
           (one-fits w true) (ap (fits_signed (bits w)) (value true is) ∙ fz) quotient
           (const-holds int s l w (pos 1) (one-fits w true)) in
           choose-holds int w s l _ _ _ true less.in_type (floor_div x y) fz (test ∙ ap (truth int) is)
@@ -283,10 +317,16 @@ pub floor-call : (file : File) (int w : Width) (k f : ℕ) (s : Store) (x y : CV
 unfolding call with_arguments outcome
 floor-call file int w k f s x y is fx fy some fz =
     ap (λ (g : Option Function). run int (call file int k) k g (x ∷ y ∷ []) s) is
-    ∙ ap (λ (m : Meaning). with_value m (λ a. with_value (as_signed w y.value) (λ b. ends (with_local (with_local no_locals (Signed w) 0 a.value) (Signed w) 1 b.value)))) (fitting-stays (bits w) w x.value (omega arith) fx)
-    ∙ ap (λ (m : Meaning). with_value m (λ b. ends (with_local (with_local no_locals (Signed w) 0 x.value) (Signed w) 1 b.value))) (fitting-stays (bits w) w y.value (omega arith) fy)
+    ∙ ap (λ (m : Meaning). with_value m
+    (λ a. with_value (as_signed w y.value)
+    (λ b. ends (with_local (with_local no_locals (Signed w) 0 a.value) (Signed w) 1 b.value))))
+    (fitting-stays (bits w) w x.value (omega arith) fx)
+    ∙ ap (λ (m : Meaning). with_value m
+    (λ b. ends (with_local (with_local no_locals (Signed w) 0 x.value) (Signed w) 1 b.value)))
+    (fitting-stays (bits w) w y.value (omega arith) fy)
     ∙ ap (λ (m : Meaning). returned (Signed w) (with_value m (λ x. Returns s x))) means.is
-    ∙ ap (λ (m : Meaning). with_value m (λ y. Returns s y)) (fitting-stays (bits w) w (floor_div x.value y.value) (omega arith) fz)
+    ∙ ap (λ (m : Meaning). with_value m (λ y. Returns s y))
+    (fitting-stays (bits w) w (floor_div x.value y.value) (omega arith) fz)
   where
     ends : Locals → Outcome
     ends l = returned (Signed w) (outcome int (call file int k) k (floor_function w).body s l)
@@ -294,6 +334,9 @@ floor-call file int w k f s x y is fx fy some fz =
     l : Locals
     l = with_local (with_local no_locals (Signed w) 0 x.value) (Signed w) 1 y.value
 
-    means : Holds int s l (bits w) (Choose (Signed w) (is_low (Local (Signed w) 0) (Local (Signed w) 1) (Const (Signed w) (pos 0))) (Calc Less (Divide Quotient (Local (Signed w) 0) (Local (Signed w) 1)) (Const (Signed w) (pos 1))) (Divide Quotient (Local (Signed w) 0) (Local (Signed w) 1))) (floor_div x.value y.value)
+    means : Holds int s l (bits w)
+        (Choose (Signed w) (is_low (Local (Signed w) 0) (Local (Signed w) 1) (Const (Signed w) (pos 0)))
+        (Calc Less (Divide Quotient (Local (Signed w) 0) (Local (Signed w) 1)) (Const (Signed w) (pos 1)))
+        (Divide Quotient (Local (Signed w) 0) (Local (Signed w) 1))) (floor_div x.value y.value)
     means = body-means int w s l x.value y.value fx fy some fz (set-there no_locals (Signed w) 0 x.value)
         (set-there (with_local no_locals (Signed w) 0 x.value) (Signed w) 1 y.value)

@@ -15,8 +15,10 @@ fits-wider n m z within fits =
     grind (arith, ints)
 
 -- so it is brought to that type as it is
-pub fitting-stays : (n : ℕ) (w : Width) (z : ℤ) → n ≤ bits w → fits_signed n z ≡ true → as_signed w z ≡ gives (Signed w) z
-fitting-stays n w z within fits = ap (λ (b : Bool). cond b (gives (Signed w) z) Wrong) (fits-wider n (bits w) z within fits)
+pub fitting-stays : (n : ℕ) (w : Width) (z : ℤ) → n ≤ bits w → fits_signed n z ≡ true → as_signed w z ≡ gives
+    (Signed w) z
+fitting-stays n w z within fits = ap (λ (b : Bool). cond b (gives (Signed w) z) Wrong)
+    (fits-wider n (bits w) z within fits)
 
 -- a signed type that is promoted
 pub record IsPromoted (int w : Width) : Type 0 where
@@ -73,7 +75,8 @@ common-signed int a b =
     let c = common-wider p.to q.to in
     record {
       to = c.to;
-      is = ap (λ (t : CType). common_of t (promoted int (Signed b))) p.is ∙ ap (λ (t : CType). common_of (Signed p.to) t) q.is ∙ c.is;
+      is = ap (λ (t : CType). common_of t (promoted int (Signed b))) p.is ∙ ap
+          (λ (t : CType). common_of (Signed p.to) t) q.is ∙ c.is;
       left = omega (arith, p.wider, c.left);
       right = omega (arith, q.wider, c.right);
     }

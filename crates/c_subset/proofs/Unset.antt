@@ -19,7 +19,8 @@ no-element (suc n) t (pos zero) = refl
 no-element (suc n) t (pos (suc i)) = no-element n t (pos i)
 
 no-row : (rows : List Row) (a : ℕ) (i : ℤ)
-    → read (element (slice_get (map (λ (r : Row). replicate r.size (record { type = r.type; value = None })) rows) a) i) ≡ Wrong
+    → read (element (slice_get (map (λ (r : Row). replicate r.size (record { type = r.type; value = None })) rows) a) i)
+    ≡ Wrong
 no-row [] zero i = refl
 no-row [] (suc a) i = refl
 no-row (r ∷ rows) zero i = no-element r.size r.type i

@@ -1,5 +1,5 @@
--- What statements and functions of the C do, by C99: a big step over the struct and the locals, with fuel, one unit for each
--- call that is open and for each turn of `while`. It goes wrong where C leaves the behaviour undefined or to the
+-- What statements and functions of the C do, by C99: a big step over the struct and the locals, with fuel, one unit for
+-- each call that is open and for each turn of `while`. It goes wrong where C leaves the behaviour undefined or to the
 -- implementation.
 use Rattle.std.specs.Prelude.{ℕ, zero, suc, ◌==◌, ◌&&◌, ℤ, pos, int_le, Bool, true, false, List, [], ◌∷◌, map, replicate, Option, Some, None}
 use Rattle.std.specs.Prelude.{slice_get, slice_set, slice_index_or, if◌then◌else◌}
@@ -8,8 +8,8 @@ use Rattle.c_subset.specs.Trees.{Block, End, Set, Store as PutField, StoreAt, Ca
 use Rattle.c_subset.specs.Meaning.{bits, CValue, Meaning, Gives, Wrong, with_meaning, converted, promoted, is_true}
 use Rattle.c_subset.specs.Meaning.{Object, Store, Locals, element, meaning}
 
--- how statements end, and a function (which doesn't fall through): behind the last one; by `return` with a value; without
--- fuel; or without a meaning
+-- how statements end, and a function (which doesn't fall through): behind the last one; by `return` with a value;
+-- without fuel; or without a meaning
 pub data Outcome : Type 0 where
   Falls : Store → Locals → Outcome
   Returns : Store → CValue → Outcome
@@ -86,8 +86,8 @@ with_element s a i x =
 abbrev pub Calls : Type 0
 Calls = ℕ → List CValue → Store → Outcome
 
--- goes on with the values of arguments, from the first to the last; without side effects, their order makes no difference
--- (6.5.2.2 p10)
+-- goes on with the values of arguments, from the first to the last; without side effects, their order makes no
+-- difference (6.5.2.2 p10)
 unfoldable pub with_values : Width → Store → Locals → List CExpr → (List CValue → Outcome) → Outcome
 with_values int s l [] f = f []
 with_values int s l (e ∷ rest) f =
@@ -97,8 +97,8 @@ with_values int s l (e ∷ rest) f =
 abbrev pub called : Outcome → CType → ℕ → Locals → (Store → Locals → Outcome) → Outcome
 called o t k l go = and_with o (λ s x. with_value (converted t x.value) (λ y. go s (with_local l t k y.value)))
 
--- `switch` (6.8.4.2 p5): each label is brought to the promoted type of the value. The first that equals the value tells the
--- function; where none does, nothing is called
+-- `switch` (6.8.4.2 p5): each label is brought to the promoted type of the value. The first that equals the value tells
+-- the function; where none does, nothing is called
 abbrev pub selected : CType → ℤ → List Case → (ℕ → Outcome) → Outcome → Outcome
 selected t z [] go else_on = else_on
 selected t z (c ∷ cases) go else_on = with_value (converted t (pos c.label)) (λ y.
@@ -142,14 +142,15 @@ outcome int call k (If e a b rest) s l = with_value (meaning int s l e) (λ x.
     (λ v m. outcome int call k rest v m))
 -- 6.8.5.1
 outcome int call k (While e a rest) s l =
-    and_on (turns k (λ v m. meaning int v m e) (λ v m. outcome int call k a v m) s l) (λ v m. outcome int call k rest v m)
+    and_on (turns k (λ v m. meaning int v m e) (λ v m. outcome int call k a v m) s l)
+    (λ v m. outcome int call k rest v m)
 -- 6.8.6.4 p3
 outcome int call k (Return e) s l = with_value (meaning int s l e) (λ x. Returns s x)
 
 -- ---- functions
 
--- goes on with the locals in which the parameters from number k on have the arguments, brought to their types (6.5.2.2 p7);
--- there are as many of the ones as of the others (6.5.2.2 p6)
+-- goes on with the locals in which the parameters from number k on have the arguments, brought to their types (6.5.2.2
+-- p7); there are as many of the ones as of the others (6.5.2.2 p6)
 unfoldable pub with_arguments : List CType → List CValue → ℕ → Locals → (Locals → Outcome) → Outcome
 with_arguments [] [] k l f = f l
 with_arguments [] (x ∷ xs) k l f = GoesWrong

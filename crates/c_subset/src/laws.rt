@@ -7,9 +7,9 @@ ghost use Rattle.c_subset.specs.Meaning.{bits, fits_signed, is_true, CValue, Obj
 ghost use Rattle.c_subset.specs.Running.{Calls, outcome, call, no_locals, no_values, Returns, GoesWrong};
 ghost use Rattle.c_subset.specs.Helpers.{floor_function};
 
-/// A call of the helper for quotients gives the greatest whole number that is at most the quotient, for
-/// a divisor other than 0, where both arguments and that number are values of the type. No step of its
-/// body is undefined, and the struct stays as it is.
+/// A call of the helper for quotients gives the greatest whole number that is at most the quotient,
+/// for a divisor other than 0, where both arguments and that number are values of the type. No step
+/// of its body is undefined, and the struct stays as it is.
 pub fn the_helper_gives_the_floor()
     ensures { (file : File) (int w : Width) (k f : ℕ) (s : Store) (x y : CValue) →
         slice_get file.functions f ≡ Some (floor_function w) → fits_signed (bits w) x.value ≡ true →
@@ -19,23 +19,25 @@ pub fn the_helper_gives_the_floor()
         ≡ Returns s (record { type = Signed w; value = floor_div x.value y.value }) }
 {}
 
-/// Nothing is read before it is stored: in a struct that was given no value, and among locals that were
-/// given none, every field, every element and every local is without a meaning.
+/// Nothing is read before it is stored: in a struct that was given no value, and among locals that
+/// were given none, every field, every element and every local is without a meaning.
 pub fn nothing_is_read_before_it_is_stored()
-    ensures local { (int : Width) (s : Store) (t : CType) (k : ℕ) → meaning int s no_locals (Local t k) ≡ Wrong }
+    ensures local { (int : Width) (s : Store) (t : CType) (k : ℕ) → meaning int s no_locals
+        (Local t k) ≡ Wrong }
     ensures field { (file : File) (int : Width) (l : Locals) (f : ℕ) →
         meaning int (no_values file) l (Field f) ≡ Wrong }
     ensures element { (file : File) (int : Width) (l : Locals) (a : ℕ) (e : CExpr) →
         meaning int (no_values file) l (Element a e) ≡ Wrong }
 {}
 
-/// What C99 leaves undefined or to the implementation is Wrong, and what it defines is not: single cases
-/// where int has 32 bits.
+/// What C99 leaves undefined or to the implementation is Wrong, and what it defines is not: single
+/// cases where int has 32 bits.
 pub fn what_is_undefined_is_wrong()
     ensures sum { (s : Store) (l : Locals) → meaning W32 s l
         (Calc Plus (Const (Signed W32) (pos 2147483647)) (Const (Signed W32) (pos 1))) ≡ Wrong }
     ensures promoted_sum { (s : Store) (l : Locals) → meaning W32 s l
-        (Calc Plus (Const (Signed W8) (pos 127)) (Const (Signed W8) (pos 1))) ≡ gives (Signed W32) (pos 128) }
+        (Calc Plus (Const (Signed W8) (pos 127)) (Const (Signed W8) (pos 1))) ≡ gives (Signed W32)
+        (pos 128) }
     ensures promoted_product { (s : Store) (l : Locals) → meaning W32 s l
         (Calc Times (Const (Unsigned W16) (pos 65535)) (Const (Unsigned W16) (pos 65535))) ≡ Wrong }
     ensures unsigned_difference { (s : Store) (l : Locals) → meaning W32 s l
@@ -49,7 +51,8 @@ pub fn what_is_undefined_is_wrong()
         (Divide Quotient (Const (Signed W32) (negsuc 6)) (Const (Signed W32) (pos 2)))
         ≡ gives (Signed W32) (negsuc 2) }
     ensures remainder { (s : Store) (l : Locals) → meaning W32 s l
-        (Divide Remainder (Const (Signed W32) (negsuc 2147483647)) (Const (Signed W32) (negsuc 0))) ≡ Wrong }
+        (Divide Remainder (Const (Signed W32) (negsuc 2147483647)) (Const (Signed W32) (negsuc 0)))
+        ≡ Wrong }
     ensures conversion { (s : Store) (l : Locals) → meaning W32 s l
         (Cast (Signed W8) (Const (Signed W32) (pos 300))) ≡ Wrong }
     ensures reduction { (s : Store) (l : Locals) → meaning W32 s l
@@ -62,9 +65,11 @@ pub fn what_is_undefined_is_wrong()
     ensures not_evaluated { (s : Store) → meaning W32 s no_locals
         (Both (Const (Signed W32) (pos 0)) (Local (Signed W32) 0)) ≡ gives (Signed W32) (pos 0) }
     ensures index { (l : Locals) (o : Object) (fields : List Object) →
-        meaning W32 (record { fields = fields; rows = (o ∷ []) ∷ [] }) l (Element 0 (Const (Unsigned W32) (pos 1)))
+        meaning W32 (record { fields = fields; rows = (o ∷ []) ∷ [] }) l
+        (Element 0 (Const (Unsigned W32) (pos 1)))
         ≡ Wrong }
-    ensures index_of_a_store { (calls : Calls) (k : ℕ) (l : Locals) (o : Object) (fields : List Object)
+    ensures index_of_a_store { (calls : Calls) (k : ℕ) (l : Locals) (o : Object)
+        (fields : List Object)
         (rest : Block) → outcome W32 calls k
         (StoreAt 0 (Const (Unsigned W32) (pos 1)) (Const (Unsigned W32) (pos 0)) rest)
         (record { fields = fields; rows = (o ∷ []) ∷ [] }) l ≡ GoesWrong }

@@ -1,8 +1,8 @@
 //! The subset of C that is written for charts: its trees, and what they mean by C99.
 //!
-//! Read `specs/Trees.antt`, `specs/Meaning.antt` and `specs/Running.antt`: which C there is, what its
-//! expressions mean, and what its statements and functions do. docs/C_SUBSET.md says the same in
-//! words.
+//! Read `specs/Trees.antt`, `specs/Meaning.antt` and `specs/Running.antt`: which C there is, what
+//! its expressions mean, and what its statements and functions do. docs/C_SUBSET.md says the same
+//! in words.
 #![tactic(auto)]
 
 mod laws;

@@ -6,4 +6,5 @@ use Rattle.c_procedures.proofs.laws.bodies_are_written_for_their_instructions.Go
 
 pub returns : goal.returns
 returns c t n react xs a e =
-    subst (λ y. Written t n react xs y a) (drop_all (length xs) xs (omega arith)) (write_is t n react (suc (length xs)) (length xs) xs a e)
+    subst (λ y. Written t n react xs y a) (drop_all (length xs) xs (omega arith))
+    (write_is t n react (suc (length xs)) (length xs) xs a e)

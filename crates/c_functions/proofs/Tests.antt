@@ -1,0 +1,151 @@
+-- The tests of states give what the fields tell.
+use Rattle.std.proofs.Common.{◌≡◌, ℕ, suc, ◌-◌, ◌%◌, ◌^◌, ◌<◌, ◌≤◌, nat_eq, nat_lt, ℤ, pos, Bool, true, false, cond, Option, Some, None, bit_and, slice_get, slice_index_or, refl, sym, ap, ◌∙◌, subst, arith, mod-eq_of_lt, pow-suc}
+use Rattle.std.proofs.lemmas.Int.{ints}
+use Rattle.std.proofs.lemmas.Nat.{pow_pos}
+use Rattle.std.proofs.lemmas.Bool.Decides.{nat_tests}
+use Rattle.fixed_point.proofs.Powers.{power-le}
+use Rattle.active_config.specs.Tree.{Tree, state_count, parent_of, comp_of}
+use Rattle.active_config.specs.Marks.{Configuration, is_on, mark_count}
+use Rattle.c_subset.specs.Trees.{Width, W8, W16, W32, W64, W128, CType, Signed, Unsigned, BitAnd, Comparison, IsEqual, IsUnequal, CExpr, Const, Field, Bits, Compare}
+use Rattle.c_subset.specs.Meaning.{bits, fits_signed, CValue, Meaning, Wrong, with_meaning, gives, converted, promoted, common_of, common, combined, combined_in, compared, passes, truth, one_if, Object, read, Store, Locals, meaning}
+use Rattle.c_expressions.specs.Claims.{Has, ShowsActive}
+use Rattle.c_procedures.specs.States.{States, Shows, is_or, or_parent, on_by, c_on, last_by}
+use Rattle.c_procedures.proofs.Showing.{on_is, or_parent_is}
+use Rattle.c_functions.specs.Layout.{Layout, HasBit, IsLayout, HoldsStates, number_test, bit_test, on_by_c, on_c, last_c}
+
+abbrev unsigned : Width → ℕ → CValue
+unsigned w a = record { type = Unsigned w; value = pos a }
+
+-- ---- values of one unsigned type
+
+same_either : (c : Bool) (t : CType) → cond c t t ≡ t
+same_either true t = refl
+same_either false t = refl
+
+-- a type in which they are as they are
+record IsShared (int w : Width) : Type 0 where
+  type : CType
+  is : common int (Unsigned w) (Unsigned w) ≡ type
+  stays : (a : ℕ) → a < 2 ^ bits w → converted type (pos a) ≡ gives type (pos a)
+
+own-stays : (w : Width) (a : ℕ) → a < 2 ^ bits w → converted (Unsigned w) (pos a) ≡ gives (Unsigned w) (pos a)
+own-stays w a below = ap (λ (x : ℕ). gives (Unsigned w) (pos x)) (mod-eq_of_lt below)
+
+shared : (int w : Width) → IsShared int w
+shared int w = at (nat_lt (bits w) (bits int)) refl
+  where
+    at : (b : Bool) → nat_lt (bits w) (bits int) ≡ b → IsShared int w
+    at true e = record {
+      type = Signed int;
+      is = ap (λ (b : Bool). common_of (cond b (Signed int) (Unsigned w)) (cond b (Signed int) (Unsigned w))) e
+          ∙ same_either (nat_lt (bits int) (bits int)) (Signed int);
+      stays = λ a below.
+          let less : bits w < bits int = grind (arith, nat_tests) in
+          let wider = power-le (bits w) (bits int - 1) (omega (arith, less)) in
+          let fits : fits_signed (bits int) (pos a) ≡ true = grind (arith, ints) in
+          ap (λ (b : Bool). cond b (gives (Signed int) (pos a)) Wrong) fits;
+    }
+    at false e = record {
+      type = Unsigned w;
+      is = ap (λ (b : Bool). common_of (cond b (Signed int) (Unsigned w)) (cond b (Signed int) (Unsigned w))) e
+          ∙ same_either (nat_lt (bits w) (bits w)) (Unsigned w);
+      stays = own-stays w;
+    }
+
+compared-unsigned : (int w : Width) (op : Comparison) (a b : ℕ) → a < 2 ^ bits w → b < 2 ^ bits w
+    → compared int op (unsigned w a) (unsigned w b) ≡ truth int (passes op (pos a) (pos b))
+compared-unsigned int w op a b fa fb =
+    let c = shared int w in
+    ap (λ (t : CType). with_meaning (converted t (pos a)) (λ x. with_meaning (converted t (pos b)) (λ y. truth int (passes op x.value y.value)))) c.is
+    ∙ ap (λ (m : Meaning). with_meaning m (λ x. with_meaning (converted c.type (pos b)) (λ y. truth int (passes op x.value y.value)))) (c.stays a fa)
+    ∙ ap (λ (m : Meaning). with_meaning m (λ y. truth int (passes op (pos a) y.value))) (c.stays b fb)
+
+-- ---- numbers
+
+equal-numbers : (a b : ℕ) → passes IsEqual (pos a) (pos b) ≡ nat_eq a b
+equal-numbers a b = grind (arith, ints, nat_tests)
+
+number-has : (int : Width) (s : Store) (l : Locals) (L : Layout) (f a i : ℕ)
+    → slice_get s.fields f ≡ Some (record { type = Unsigned L.numbers; value = Some (pos a) }) → a < 2 ^ bits L.numbers
+    → i < 2 ^ bits L.numbers → Has int s l (number_test L f i) (one_if (nat_eq a i))
+unfolding meaning
+number-has int s l L f a i there fa fi = (
+  Signed int,
+  ap (λ (o : Option Object). with_meaning (read o) (λ x. with_meaning (converted (Unsigned L.numbers) (pos i)) (compared int IsEqual x))) there
+      ∙ ap (λ (m : Meaning). with_meaning m (compared int IsEqual (unsigned L.numbers a))) (own-stays L.numbers i fi)
+      ∙ compared-unsigned int L.numbers IsEqual a i fa fi
+      ∙ ap (truth int) (equal-numbers a i),
+)
+
+-- ---- bits
+
+-- a word isn't promoted, where int has at most 32 bits
+word_stays : (int : Width) → bits int ≤ 32 → common int (Unsigned W32) (Unsigned W32) ≡ Unsigned W32
+word_stays W8 most = refl
+word_stays W16 most = refl
+word_stays W32 most = refl
+word_stays W64 most = absurd (omega arith)
+word_stays W128 most = absurd (omega arith)
+
+bit-small : (k : ℕ) → k < 32 → 2 ^ k < 2 ^ 32
+bit-small k lt = let some = pow_pos k in let h = power-le (suc k) 32 lt in let twice = pow-suc 2 k in omega (arith, some, h, twice)
+
+unequal-bit : (k : ℕ) (b : Bool) → passes IsUnequal (pos (cond b (2 ^ k) 0)) (pos 0) ≡ b
+unequal-bit k true = let some = pow_pos k in grind (arith, ints)
+unequal-bit k false = refl
+
+set-small : (k : ℕ) (b : Bool) → k < 32 → cond b (2 ^ k) 0 < 2 ^ 32
+set-small k true lt = bit-small k lt
+set-small k false lt = pow_pos 32
+
+masked-means : (int : Width) (s : Store) (l : Locals) (f k : ℕ) (b : Bool) → bits int ≤ 32 → k < 32 → HasBit s f k b
+    → meaning int s l (Bits BitAnd (Field f) (Const (Unsigned W32) (pos (2 ^ k)))) ≡ gives (Unsigned W32) (pos (cond b (2 ^ k) 0))
+unfolding meaning
+masked-means int s l f k b most lt h =
+    let mask = 2 ^ k in
+    ap (λ (o : Option Object). with_meaning (read o) (λ x. with_meaning (converted (Unsigned W32) (pos mask)) (combined int BitAnd x))) h.there
+    ∙ ap (λ (m : Meaning). with_meaning m (combined int BitAnd (unsigned W32 h.word))) (own-stays W32 mask (bit-small k lt))
+    ∙ ap (λ (t : CType). with_meaning (converted t (pos h.word)) (λ x. with_meaning (converted t (pos mask)) (λ y. combined_in t BitAnd x.value y.value))) (word_stays int most)
+    ∙ ap (λ (m : Meaning). with_meaning m (λ x. with_meaning (converted (Unsigned W32) (pos mask)) (λ y. combined_in (Unsigned W32) BitAnd x.value y.value))) (own-stays W32 h.word h.small)
+    ∙ ap (λ (m : Meaning). with_meaning m (λ y. combined_in (Unsigned W32) BitAnd (pos h.word) y.value)) (own-stays W32 mask (bit-small k lt))
+    ∙ ap (λ (x : ℕ). gives (Unsigned W32) (pos x)) h.bit_is
+
+bit-has : (int : Width) (s : Store) (l : Locals) (L : Layout) (x : ℕ) (b : Bool) → bits int ≤ 32 → L.bit x < 32
+    → HasBit s (L.word x) (L.bit x) b → Has int s l (bit_test L x) (one_if b)
+unfolding meaning
+bit-has int s l L x b most lt h = (
+  Signed int,
+  ap (λ (m : Meaning). with_meaning m (λ x. with_meaning (converted (Unsigned W32) (pos 0)) (compared int IsUnequal x))) (masked-means int s l (L.word x) (L.bit x) b most lt h)
+      ∙ ap (λ (m : Meaning). with_meaning m (compared int IsUnequal (unsigned W32 (cond b (2 ^ L.bit x) 0)))) (own-stays W32 0 (pow_pos 32))
+      ∙ compared-unsigned int W32 IsUnequal (cond b (2 ^ L.bit x) 0) 0 (set-small (L.bit x) b lt) (pow_pos 32)
+      ∙ ap (truth int) (unequal-bit (L.bit x) b),
+)
+
+-- ---- states
+
+-- a state is active
+pub on-has : (int : Width) (s : Store) (l : Locals) (t : Tree) (n : ℕ → ℕ) (L : Layout) (st : States) (x : ℕ) → bits int ≤ 32
+    → IsLayout t n L → HoldsStates t L st s → x < state_count t → Has int s l (on_c t L n x) (one_if (c_on t n x st))
+unfolding on_c c_on
+on-has int s l t n L st x most layout holds lt = at (or_parent t (parent_of t x)) refl
+  where
+    at : (o : Option ℕ) → or_parent t (parent_of t x) ≡ o → Has int s l (on_by_c L n x o) (one_if (on_by n st x o))
+    at None e = bit-has int s l L x (slice_index_or st.flags x false) most (layout.bits_are x) (holds.flags x lt e)
+    at (Some p) e =
+        let or = (or_parent_is t x p e).1 in
+        number-has int s l L (L.chosen p) (slice_index_or st.chosen p 0) (n x) (holds.chosen p or) (holds.chosen_small p or) (layout.numbers x lt)
+
+-- it is remembered
+pub last-has : (int : Width) (s : Store) (l : Locals) (t : Tree) (n : ℕ → ℕ) (L : Layout) (st : States) (p x : ℕ)
+    → IsLayout t n L → HoldsStates t L st s → is_or (comp_of t p) ≡ true → x < state_count t
+    → Has int s l (last_c L n p x) (one_if (last_by n st x (Some p)))
+last-has int s l t n L st p x layout holds or lt =
+    number-has int s l L (L.kept p) (slice_index_or st.kept p 0) (n x) (holds.kept p or) (holds.kept_small p or) (layout.numbers x lt)
+
+-- so the tests are those that expressions ask for
+pub shows-active : (int : Width) (s : Store) (t : Tree) (n : ℕ → ℕ) (L : Layout) (st : States) (marks : Configuration)
+    → bits int ≤ 32 → IsLayout t n L → HoldsStates t L st s → Shows t n st marks → mark_count marks ≡ state_count t
+    → ShowsActive int (on_c t L n) marks s
+shows-active int s t n L st marks most layout holds shows same q l lt =
+    subst (λ (b : Bool). Has int s l (on_c t L n q) (one_if b)) (on_is t n st marks shows q)
+    (on-has int s l t n L st q most layout holds (omega (arith, same, lt)))

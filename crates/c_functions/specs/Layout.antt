@@ -1,0 +1,68 @@
+-- Where the states of a chart stand in the struct, and the tests of states as C.
+use Rattle.std.specs.Prelude.{◌≡◌, ℕ, ◌<◌, ◌^◌, pos, Bool, true, false, List, [], ◌∷◌, Option, Some, None, if◌then◌else◌}
+use Rattle.std.specs.Prelude.{slice_get, slice_index_or, bit_and}
+use Rattle.active_config.specs.Tree.{Tree, state_count, parent_of, comp_of}
+use Rattle.c_subset.specs.Trees.{Width, W32, Unsigned, Truth, BitAnd, IsEqual, IsUnequal, CExpr, Const, Field, Bits, Compare}
+use Rattle.c_subset.specs.Meaning.{bits, Object, Store}
+use Rattle.c_procedures.specs.States.{States, is_or, or_parent}
+
+-- the width of the numbers of children; for each OR the fields of its active child's number and of that which it
+-- remembers; for each other state the word of 32 bits that has its bit, and which bit
+pub record Layout : Type 0 where
+  pub numbers : Width
+  pub chosen : ℕ → ℕ
+  pub kept : ℕ → ℕ
+  pub word : ℕ → ℕ
+  pub bit : ℕ → ℕ
+
+-- ---- what the struct holds
+
+-- a field with a number of a child
+abbrev pub number_object : Layout → ℕ → Object
+number_object L i = record { type = Unsigned L.numbers; value = Some (pos i) }
+
+-- a word of flags, in which a bit is set or not
+pub record HasBit (s : Store) (field bit : ℕ) (is_set : Bool) : Type 0 where
+  pub word : ℕ
+  pub there : slice_get s.fields field ≡ Some (record { type = Unsigned W32; value = Some (pos word) })
+  pub small : word < 2 ^ 32
+  pub bit_is : bit_and word (2 ^ bit) ≡ (if is_set then 2 ^ bit else 0)
+
+-- numbers of children are values of their type, and bits are bits of words
+pub record IsLayout (t : Tree) (n : ℕ → ℕ) (L : Layout) : Type 0 where
+  pub numbers : (x : ℕ) → x < state_count t → n x < 2 ^ bits L.numbers
+  pub bits_are : (x : ℕ) → L.bit x < 32
+
+-- the struct holds the fields of states
+pub record HoldsStates (t : Tree) (L : Layout) (st : States) (s : Store) : Type 0 where
+  pub chosen : (p : ℕ) → is_or (comp_of t p) ≡ true
+      → slice_get s.fields (L.chosen p) ≡ Some (number_object L (slice_index_or st.chosen p 0))
+  pub chosen_small : (p : ℕ) → is_or (comp_of t p) ≡ true → slice_index_or st.chosen p 0 < 2 ^ bits L.numbers
+  pub kept : (p : ℕ) → is_or (comp_of t p) ≡ true
+      → slice_get s.fields (L.kept p) ≡ Some (number_object L (slice_index_or st.kept p 0))
+  pub kept_small : (p : ℕ) → is_or (comp_of t p) ≡ true → slice_index_or st.kept p 0 < 2 ^ bits L.numbers
+  pub flags : (x : ℕ) → x < state_count t → or_parent t (parent_of t x) ≡ None
+      → HasBit s (L.word x) (L.bit x) (slice_index_or st.flags x false)
+
+-- ---- tests
+
+-- m->f == i
+abbrev pub number_test : Layout → ℕ → ℕ → CExpr
+number_test L f i = Compare IsEqual (Field f) (Const (Unsigned L.numbers) (pos i))
+
+-- (m->aK & BIT) != 0
+abbrev pub bit_test : Layout → ℕ → CExpr
+bit_test L x =
+    Compare IsUnequal (Bits BitAnd (Field (L.word x)) (Const (Unsigned W32) (pos (2 ^ L.bit x)))) (Const (Unsigned W32) (pos 0))
+
+-- a state is active: under an OR by the number of its active child, else by its bit
+abbrev pub on_by_c : Layout → (ℕ → ℕ) → ℕ → Option ℕ → CExpr
+on_by_c L n x None = bit_test L x
+on_by_c L n x (Some p) = number_test L (L.chosen p) (n x)
+
+unfoldable pub on_c : Tree → Layout → (ℕ → ℕ) → ℕ → CExpr
+on_c t L n x = on_by_c L n x (or_parent t (parent_of t x))
+
+-- an OR remembers a state
+abbrev pub last_c : Layout → (ℕ → ℕ) → ℕ → ℕ → CExpr
+last_c L n p x = number_test L (L.kept p) (n x)

@@ -1,17 +1,22 @@
 -- The tests of states give what the fields tell.
-use Rattle.std.proofs.Common.{◌≡◌, ℕ, suc, ◌-◌, ◌%◌, ◌^◌, ◌<◌, ◌≤◌, nat_eq, nat_lt, ℤ, pos, Bool, true, false, cond, Option, Some, None, bit_and, slice_get, slice_index_or, refl, sym, ap, ◌∙◌, subst, arith, mod-eq_of_lt, pow-suc}
+use Rattle.std.proofs.Common.{◌≡◌, ℕ, zero, suc, ◌+◌, ◌-◌, ◌%◌, ◌^◌, ◌<◌, ◌≤◌, nat_eq, nat_lt, ℤ, pos, Bool, true, false, cond, not, ◌&&◌, ◌||◌, if◌then◌else◌, List, [], ◌∷◌, filter, Option, Some, None, bit_and, slice_get, slice_index_or, refl, sym, ap, ◌∙◌, subst, arith, mod-eq_of_lt, pow-suc}
+use Rattle.std.specs.List.{list_any, range_with_len}
+use Rattle.std.specs.Option.{option_map_or}
 use Rattle.std.proofs.lemmas.Int.{ints}
 use Rattle.std.proofs.lemmas.Nat.{pow_pos}
 use Rattle.std.proofs.lemmas.Bool.Decides.{nat_tests}
 use Rattle.fixed_point.proofs.Powers.{power-le}
-use Rattle.active_config.specs.Tree.{Tree, state_count, parent_of, comp_of}
+use Rattle.active_config.specs.Tree.{Tree, state_count, parent_of, comp_of, is_child, children_below, children_of}
 use Rattle.active_config.specs.Marks.{Configuration, is_on, mark_count}
-use Rattle.c_subset.specs.Trees.{Width, W8, W16, W32, W64, W128, CType, Signed, Unsigned, BitAnd, Comparison, IsEqual, IsUnequal, CExpr, Const, Field, Bits, Compare}
+use Rattle.c_subset.specs.Trees.{Width, W8, W16, W32, W64, W128, CType, Signed, Unsigned, BitAnd, Comparison, IsEqual, IsUnequal, CExpr, Const, Field, Bang, Bits, Compare, Both}
 use Rattle.c_subset.specs.Meaning.{bits, fits_signed, CValue, Meaning, Wrong, with_meaning, gives, converted, promoted, common_of, common, combined, combined_in, compared, passes, truth, one_if, Object, read, Store, Locals, meaning}
 use Rattle.c_expressions.specs.Claims.{Has, ShowsActive}
-use Rattle.c_procedures.specs.States.{States, Shows, is_or, or_parent, on_by, c_on, last_by}
+use Rattle.c_expressions.proofs.Operators.{bang-has}
+use Rattle.c_expressions.proofs.Deciding.{both-decides}
+use Rattle.c_expressions.proofs.Storing.{flag-const}
+use Rattle.c_procedures.specs.States.{States, Shows, is_or, or_parent, on_by, c_on, c_bare, childless_by, last_by}
 use Rattle.c_procedures.proofs.Showing.{on_is, or_parent_is}
-use Rattle.c_functions.specs.Layout.{Layout, HasBit, IsLayout, HoldsStates, number_test, bit_test, on_by_c, on_c, last_c}
+use Rattle.c_functions.specs.Layout.{Layout, HasBit, IsLayout, HoldsStates, number_test, bit_test, on_by_c, no_bits, childless_c, bare_c, on_c, last_c}
 
 abbrev unsigned : Width → ℕ → CValue
 unsigned w a = record { type = Unsigned w; value = pos a }
@@ -134,6 +139,79 @@ on-has int s l t n L st x most layout holds lt = at (or_parent t (parent_of t x)
     at (Some p) e =
         let or = (or_parent_is t x p e).1 in
         number-has int s l L (L.chosen p) (slice_index_or st.chosen p 0) (n x) (holds.chosen p or) (holds.chosen_small p or) (layout.numbers x lt)
+
+-- both tests hold
+both-has : (int : Width) (s : Store) (l : Locals) (a b : CExpr) (p q : Bool) → Has int s l a (one_if p)
+    → Has int s l b (one_if q) → Has int s l (Both a b) (one_if (p && q))
+both-has int s l a b true q ha hb = (both-decides int s a b).goes_on l q ha hb
+both-has int s l a b false q ha hb = (both-decides int s a b).at_once l ha
+
+-- the bits of some states
+abbrev AreBits : Layout → States → Store → List ℕ → Type 0
+AreBits L st s [] = Unit {0}
+AreBits L st s (x ∷ xs) = HasBit s (L.word x) (L.bit x) (slice_index_or st.flags x false) × AreBits L st s xs
+
+none-has : (int : Width) (s : Store) (l : Locals) (L : Layout) (st : States) (xs : List ℕ) → bits int ≤ 32
+    → ((x : ℕ) → L.bit x < 32) → AreBits L st s xs
+    → Has int s l (no_bits L xs) (one_if (not (list_any (λ x. slice_index_or st.flags x false) xs)))
+none-has int s l L st [] most small are = flag-const int s l true
+none-has int s l L st (x ∷ xs) most small are =
+    let b = slice_index_or st.flags x false in
+    let any = list_any (λ x. slice_index_or st.flags x false) xs in
+    subst (λ (c : Bool). Has int s l (no_bits L (x ∷ xs)) (one_if c)) (neither b any)
+    (both-has int s l (Bang (bit_test L x)) (no_bits L xs) (not b) (not any)
+    (bang-has int s l (bit_test L x) b (bit-has int s l L x b most (small x) are.0))
+    (none-has int s l L st xs most small are.1))
+  where
+    neither : (b c : Bool) → (not b && not c) ≡ not (b || c)
+    neither true c = refl
+    neither false c = refl
+
+-- a child of a state
+child-is : (t : Tree) (s x : ℕ) → is_child t s x ≡ true → parent_of t x ≡ Some s
+unfolding is_child
+child-is t s x is = at (parent_of t x) refl is
+  where
+    at : (o : Option ℕ) → parent_of t x ≡ o → option_map_or (λ p. nat_eq p s) o false ≡ true → parent_of t x ≡ Some s
+    at None e is = absurd (cc)
+    at (Some p) e is = let same : p ≡ s = grind (arith, nat_tests) in e ∙ ap (λ (q : ℕ). Some q) same
+
+-- the bits of the children of a state that isn't an OR
+child-bits : (t : Tree) (L : Layout) (st : States) (s : Store) (p from len : ℕ) → HoldsStates t L st s
+    → is_or (comp_of t p) ≡ false → from + len ≤ state_count t → AreBits L st s (filter (is_child t p) (range_with_len from len))
+child-bits t L st s p from zero holds not_or within = tt
+child-bits t L st s p from (suc len) holds not_or within =
+    at (is_child t p from) refl (child-bits t L st s p (from + 1) len holds not_or (omega (arith, within)))
+  where
+    at : (b : Bool) → is_child t p from ≡ b → AreBits L st s (filter (is_child t p) (range_with_len (from + 1) len))
+        → AreBits L st s (if b then from ∷ filter (is_child t p) (range_with_len (from + 1) len)
+        else filter (is_child t p) (range_with_len (from + 1) len))
+    at false e rest = rest
+    at true e rest = (
+      holds.flags from (omega (arith, within))
+          (ap (or_parent t) (child-is t p from e) ∙ ap (λ (b : Bool). cond b (Some p) None) not_or),
+      rest,
+    )
+
+childless-has : (int : Width) (s : Store) (l : Locals) (t : Tree) (n : ℕ → ℕ) (L : Layout) (st : States) (x : ℕ) (b : Bool)
+    → bits int ≤ 32 → IsLayout t n L → HoldsStates t L st s → is_or (comp_of t x) ≡ b
+    → Has int s l (childless_c t L x b) (one_if (childless_by t x st b))
+unfolding children_of children_below
+childless-has int s l t n L st x true most layout holds is =
+    number-has int s l L (L.chosen x) (slice_index_or st.chosen x 0) 0 (holds.chosen x is) (holds.chosen_small x is) (pow_pos (bits L.numbers))
+childless-has int s l t n L st x false most layout holds is =
+    none-has int s l L st (filter (is_child t x) (range_with_len 0 (state_count t))) most layout.bits_are
+    (child-bits t L st s x 0 (state_count t) holds is (omega arith))
+
+-- a state is active and none of its children is
+pub bare-has : (int : Width) (s : Store) (l : Locals) (t : Tree) (n : ℕ → ℕ) (L : Layout) (st : States) (x : ℕ)
+    → bits int ≤ 32 → IsLayout t n L → HoldsStates t L st s → x < state_count t
+    → Has int s l (bare_c t L n x) (one_if (c_bare t n x st))
+unfolding bare_c c_bare
+bare-has int s l t n L st x most layout holds lt =
+    both-has int s l (on_c t L n x) (childless_c t L x (is_or (comp_of t x))) (c_on t n x st) (childless_by t x st (is_or (comp_of t x)))
+    (on-has int s l t n L st x most layout holds lt)
+    (childless-has int s l t n L st x (is_or (comp_of t x)) most layout holds refl)
 
 -- it is remembered
 pub last-has : (int : Width) (s : Store) (l : Locals) (t : Tree) (n : ℕ → ℕ) (L : Layout) (st : States) (p x : ℕ)

@@ -1,8 +1,8 @@
 -- Where the states of a chart stand in the struct, and the tests of states as C.
 use Rattle.std.specs.Prelude.{◌≡◌, ℕ, ◌<◌, ◌^◌, pos, Bool, true, false, List, [], ◌∷◌, Option, Some, None, if◌then◌else◌}
 use Rattle.std.specs.Prelude.{slice_get, slice_index_or, bit_and}
-use Rattle.active_config.specs.Tree.{Tree, state_count, parent_of, comp_of}
-use Rattle.c_subset.specs.Trees.{Width, W32, Unsigned, Truth, BitAnd, IsEqual, IsUnequal, CExpr, Const, Field, Bits, Compare}
+use Rattle.active_config.specs.Tree.{Tree, state_count, parent_of, comp_of, children_of}
+use Rattle.c_subset.specs.Trees.{Width, W32, Unsigned, Truth, BitAnd, IsEqual, IsUnequal, CExpr, Const, Field, Bang, Bits, Compare, Both}
 use Rattle.c_subset.specs.Meaning.{bits, Object, Store}
 use Rattle.c_procedures.specs.States.{States, is_or, or_parent}
 
@@ -62,6 +62,20 @@ on_by_c L n x (Some p) = number_test L (L.chosen p) (n x)
 
 unfoldable pub on_c : Tree → Layout → (ℕ → ℕ) → ℕ → CExpr
 on_c t L n x = on_by_c L n x (or_parent t (parent_of t x))
+
+-- no bit of these states is set
+abbrev pub no_bits : Layout → List ℕ → CExpr
+no_bits L [] = Const Truth (pos 1)
+no_bits L (x ∷ xs) = Both (Bang (bit_test L x)) (no_bits L xs)
+
+-- no child of a state is active: the number of an OR is 0, and else no bit of a child is set
+abbrev pub childless_c : Tree → Layout → ℕ → Bool → CExpr
+childless_c t L x true = number_test L (L.chosen x) 0
+childless_c t L x false = no_bits L (children_of t x)
+
+-- a state is active and none of its children is
+unfoldable pub bare_c : Tree → Layout → (ℕ → ℕ) → ℕ → CExpr
+bare_c t L n x = Both (on_c t L n x) (childless_c t L x (is_or (comp_of t x)))
 
 -- an OR remembers a state
 abbrev pub last_c : Layout → (ℕ → ℕ) → ℕ → ℕ → CExpr

@@ -1,4 +1,4 @@
-use Rattle.c_functions.proofs.Tests.{on-has, last-has, shows-active}
+use Rattle.c_functions.proofs.Tests.{on-has, bare-has, last-has, shows-active}
 use Rattle.c_functions.proofs.laws.tests_of_states_give_which_are_active.Goals as goal
 
 pub returns-clause-on : goal.returns-clause-on
@@ -9,3 +9,6 @@ returns-clause-last c = last-has
 
 pub returns-clause-active : goal.returns-clause-active
 returns-clause-active c = shows-active
+
+pub returns-clause-bare : goal.returns-clause-bare
+returns-clause-bare c = bare-has

@@ -1,9 +1,10 @@
 -- The tests of states give what the fields tell.
-use Rattle.std.proofs.Common.{◌≡◌, ℕ, zero, suc, ◌+◌, ◌-◌, ◌%◌, ◌^◌, ◌<◌, ◌≤◌, nat_eq, nat_lt, ℤ, pos, Bool, true, false, cond, not, ◌&&◌, ◌||◌, if◌then◌else◌, List, [], ◌∷◌, filter, Option, Some, None, bit_and, slice_get, slice_index_or, refl, sym, ap, ◌∙◌, subst, arith, mod-eq_of_lt, pow-suc}
+use Rattle.std.proofs.Common.{◌≡◌, ℕ, zero, suc, ◌+◌, ◌-◌, ◌*◌, ◌%◌, ◌^◌, ◌<◌, ◌≤◌, nat_eq, nat_lt, ℤ, pos, Bool, true, false, cond, not, ◌&&◌, ◌||◌, if◌then◌else◌, List, [], ◌∷◌, filter, Option, Some, None, bit_and, slice_get, slice_index_or, refl, sym, ap, ◌∙◌, subst, arith, mod-eq_of_lt, pow-suc}
 use Rattle.std.specs.List.{list_any, range_with_len}
 use Rattle.std.specs.Option.{option_map_or}
 use Rattle.std.proofs.lemmas.Int.{ints}
 use Rattle.std.proofs.lemmas.Nat.{pow_pos}
+use Rattle.std.proofs.lemmas.Nat.Bits.{and_pow}
 use Rattle.std.proofs.lemmas.Bool.Decides.{nat_tests}
 use Rattle.fixed_point.proofs.Powers.{power-le}
 use Rattle.active_config.specs.Tree.{Tree, state_count, parent_of, comp_of, is_child, children_below, children_of}
@@ -18,7 +19,7 @@ use Rattle.c_procedures.specs.States.{States, Shows, is_or, or_parent, on_by, c_
 use Rattle.c_procedures.proofs.Showing.{on_is, or_parent_is}
 use Rattle.c_functions.specs.Layout.{Layout, HasBit, IsLayout, HoldsStates, number_test, bit_test, on_by_c, no_bits, childless_c, bare_c, on_c, last_c}
 
-abbrev unsigned : Width → ℕ → CValue
+abbrev pub unsigned : Width → ℕ → CValue
 unsigned w a = record { type = Unsigned w; value = pos a }
 
 -- ---- values of one unsigned type
@@ -33,7 +34,7 @@ record IsShared (int w : Width) : Type 0 where
   is : common int (Unsigned w) (Unsigned w) ≡ type
   stays : (a : ℕ) → a < 2 ^ bits w → converted type (pos a) ≡ gives type (pos a)
 
-own-stays : (w : Width) (a : ℕ) → a < 2 ^ bits w → converted (Unsigned w) (pos a) ≡ gives (Unsigned w) (pos a)
+pub own-stays : (w : Width) (a : ℕ) → a < 2 ^ bits w → converted (Unsigned w) (pos a) ≡ gives (Unsigned w) (pos a)
 own-stays w a below = ap (λ (x : ℕ). gives (Unsigned w) (pos x)) (mod-eq_of_lt below)
 
 shared : (int w : Width) → IsShared int w
@@ -85,14 +86,14 @@ number-has int s l L f a i there fa fi = (
 -- ---- bits
 
 -- a word isn't promoted, where int has at most 32 bits
-word_stays : (int : Width) → bits int ≤ 32 → common int (Unsigned W32) (Unsigned W32) ≡ Unsigned W32
+pub word_stays : (int : Width) → bits int ≤ 32 → common int (Unsigned W32) (Unsigned W32) ≡ Unsigned W32
 word_stays W8 most = refl
 word_stays W16 most = refl
 word_stays W32 most = refl
 word_stays W64 most = absurd (omega arith)
 word_stays W128 most = absurd (omega arith)
 
-bit-small : (k : ℕ) → k < 32 → 2 ^ k < 2 ^ 32
+pub bit-small : (k : ℕ) → k < 32 → 2 ^ k < 2 ^ 32
 bit-small k lt = let some = pow_pos k in let h = power-le (suc k) 32 lt in let twice = pow-suc 2 k in omega (arith, some, h, twice)
 
 unequal-bit : (k : ℕ) (b : Bool) → passes IsUnequal (pos (cond b (2 ^ k) 0)) (pos 0) ≡ b
@@ -113,7 +114,11 @@ masked-means int s l f k b most lt h =
     ∙ ap (λ (t : CType). with_meaning (converted t (pos h.word)) (λ x. with_meaning (converted t (pos mask)) (λ y. combined_in t BitAnd x.value y.value))) (word_stays int most)
     ∙ ap (λ (m : Meaning). with_meaning m (λ x. with_meaning (converted (Unsigned W32) (pos mask)) (λ y. combined_in (Unsigned W32) BitAnd x.value y.value))) (own-stays W32 h.word h.small)
     ∙ ap (λ (m : Meaning). with_meaning m (λ y. combined_in (Unsigned W32) BitAnd (pos h.word) y.value)) (own-stays W32 mask (bit-small k lt))
-    ∙ ap (λ (x : ℕ). gives (Unsigned W32) (pos x)) h.bit_is
+    ∙ ap (λ (x : ℕ). gives (Unsigned W32) (pos x)) (and_pow h.word k ∙ ap (λ (x : ℕ). x * 2 ^ k) h.bit_is ∙ times b)
+  where
+    times : (b : Bool) → cond b 1 0 * 2 ^ k ≡ cond b (2 ^ k) 0
+    times true = omega arith
+    times false = omega arith
 
 bit-has : (int : Width) (s : Store) (l : Locals) (L : Layout) (x : ℕ) (b : Bool) → bits int ≤ 32 → L.bit x < 32
     → HasBit s (L.word x) (L.bit x) b → Has int s l (bit_test L x) (one_if b)

@@ -1,9 +1,12 @@
 -- Where the states of a chart stand in the struct, and the tests of states as C.
 use Rattle.std.specs.Prelude.{◌≡◌, ℕ, ◌<◌, ◌^◌, pos, Bool, true, false, List, [], ◌∷◌, Option, Some, None, if◌then◌else◌}
-use Rattle.std.specs.Prelude.{slice_get, slice_index_or, bit_and}
+use Rattle.std.specs.Prelude.{◌-◌, ◌≢◌, slice_get, slice_index_or}
+use Rattle.std.specs.Int.{bit_at}
 use Rattle.active_config.specs.Tree.{Tree, state_count, parent_of, comp_of, children_of}
-use Rattle.c_subset.specs.Trees.{Width, W32, Unsigned, Truth, BitAnd, IsEqual, IsUnequal, CExpr, Const, Field, Bang, Bits, Compare, Both}
-use Rattle.c_subset.specs.Meaning.{bits, Object, Store}
+use Rattle.c_subset.specs.Trees.{Width, W32, Unsigned, Truth, BitAnd, BitOr, IsEqual, IsUnequal, CExpr, Const, Field, Bang, Bits, Compare, Both}
+use Rattle.c_subset.specs.Trees.{Block, Store as PutField}
+use Rattle.c_subset.specs.Meaning.{bits, CValue, Object, Store, Locals}
+use Rattle.c_subset.specs.Running.{Calls, with_field, outcome}
 use Rattle.c_procedures.specs.States.{States, is_or, or_parent}
 
 -- the width of the numbers of children; for each OR the fields of its active child's number and of that which it
@@ -26,12 +29,18 @@ pub record HasBit (s : Store) (field bit : ℕ) (is_set : Bool) : Type 0 where
   pub word : ℕ
   pub there : slice_get s.fields field ≡ Some (record { type = Unsigned W32; value = Some (pos word) })
   pub small : word < 2 ^ 32
-  pub bit_is : bit_and word (2 ^ bit) ≡ (if is_set then 2 ^ bit else 0)
+  pub bit_is : bit_at word bit ≡ (if is_set then 1 else 0)
 
--- numbers of children are values of their type, and bits are bits of words
+-- numbers of children are values of their type, and bits are bits of words; no two of what is there stand in one place
 pub record IsLayout (t : Tree) (n : ℕ → ℕ) (L : Layout) : Type 0 where
   pub numbers : (x : ℕ) → x < state_count t → n x < 2 ^ bits L.numbers
   pub bits_are : (x : ℕ) → L.bit x < 32
+  pub chosen_apart : (p q : ℕ) → is_or (comp_of t p) ≡ true → is_or (comp_of t q) ≡ true → L.chosen p ≡ L.chosen q → p ≡ q
+  pub kept_apart : (p q : ℕ) → is_or (comp_of t p) ≡ true → is_or (comp_of t q) ≡ true → L.kept p ≡ L.kept q → p ≡ q
+  pub kept_chosen : (p q : ℕ) → L.kept p ≢ L.chosen q
+  pub word_chosen : (x p : ℕ) → L.word x ≢ L.chosen p
+  pub word_kept : (x p : ℕ) → L.word x ≢ L.kept p
+  pub bits_apart : (x y : ℕ) → L.word x ≡ L.word y → L.bit x ≡ L.bit y → x ≡ y
 
 -- the struct holds the fields of states
 pub record HoldsStates (t : Tree) (L : Layout) (st : States) (s : Store) : Type 0 where
@@ -80,3 +89,24 @@ bare_c t L n x = Both (on_c t L n x) (childless_c t L x (is_or (comp_of t x)))
 -- an OR remembers a state
 abbrev pub last_c : Layout → (ℕ → ℕ) → ℕ → ℕ → CExpr
 last_c L n p x = number_test L (L.kept p) (n x)
+
+-- ---- changes, each before other statements
+
+-- m->f = i;
+abbrev pub put_number : Layout → ℕ → ℕ → Block → Block
+put_number L f i rest = PutField f (Const (Unsigned L.numbers) (pos i)) rest
+
+-- m->aK = m->aK | BIT; or m->aK = m->aK & REST;
+abbrev pub put_bit : Layout → ℕ → Bool → Block → Block
+put_bit L x true rest =
+    PutField (L.word x) (Bits BitOr (Field (L.word x)) (Const (Unsigned W32) (pos (2 ^ L.bit x)))) rest
+put_bit L x false rest =
+    PutField (L.word x) (Bits BitAnd (Field (L.word x)) (Const (Unsigned W32) (pos (2 ^ 32 - 1 - 2 ^ L.bit x)))) rest
+
+-- the statements go on with another value in one field, and then the struct holds these fields of states
+pub record Changes (int : Width) (calls : Calls) (k : ℕ) (t : Tree) (L : Layout) (st : States) (written rest : Block)
+    (s : Store) (l : Locals) : Type 0 where
+  pub field : ℕ
+  pub value : CValue
+  pub goes : outcome int calls k written s l ≡ outcome int calls k rest (with_field s field value) l
+  pub holds : HoldsStates t L st (with_field s field value)

@@ -1,8 +1,9 @@
-//! The C of the states of a chart: where they stand in the struct, and their tests.
+//! The C of the states of a chart: where they stand in the struct, their tests and their
+//! changes.
 //!
 //! Read `specs/Layout.antt`.
 #![tactic(auto)]
 
 mod laws;
 
-pub use laws::tests_of_states_give_which_are_active;
+pub use laws::{changes_of_states_change_the_struct, tests_of_states_give_which_are_active};

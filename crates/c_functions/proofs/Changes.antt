@@ -1,5 +1,5 @@
 -- The changes of states in the struct.
-use Rattle.std.proofs.Common.{◌≡◌, ◌≢◌, ℕ, zero, suc, ◌-◌, ◌*◌, ◌^◌, ◌<◌, ◌≤◌, min, max, ℤ, pos, unsigned_abs, Bool, true, false, cond, List, [], ◌∷◌, length, Option, Some, None, ◌⊎◌, bit_and, bit_or, slice_get, slice_set, slice_index_or, refl, sym, ap, ◌∙◌, subst, arith, inl, inr, ⊎_elim, get_or-set_same, get_or-set_other, w32}
+use Rattle.std.proofs.Common.{◌≡◌, ◌≢◌, ℕ, zero, suc, ◌-◌, ◌^◌, ◌<◌, ◌≤◌, min, max, ℤ, pos, unsigned_abs, Bool, true, false, cond, List, [], ◌∷◌, length, Option, Some, None, ◌⊎◌, bit_and, bit_or, slice_get, slice_set, slice_index_or, refl, sym, ap, ◌∙◌, subst, arith, inl, inr, ⊎_elim, get_or-set_same, get_or-set_other, w32}
 use Rattle.std.specs.Int.{bit_at}
 use Rattle.std.proofs.lemmas.Nat.{or_lt, and_le_l}
 use Rattle.std.proofs.lemmas.Nat.Bits.{bit_at_and, bit_at_or, bit_at-pow_same, bit_at-pow_other, bit_at_not, bit_at-lt}
@@ -7,7 +7,7 @@ use Rattle.active_config.specs.Tree.{Tree, state_count, parent_of, comp_of}
 use Rattle.active_config.proofs.TableLemmas.{same_or_other}
 use Rattle.c_subset.specs.Trees.{Width, W32, CType, Unsigned, Bitwise, BitAnd, BitOr, CExpr, Const, Field, Bits, Block, Store as PutField}
 use Rattle.c_subset.specs.Meaning.{bits, CValue, Meaning, with_meaning, gives, converted, combined, combined_in, bits_of, Object, read, Store, Locals, meaning}
-use Rattle.c_subset.specs.Running.{Calls, Outcome, with_value, object_of, brought_to, with_field, outcome}
+use Rattle.c_subset.specs.Running.{Calls, with_value, object_of, brought_to, with_field, outcome}
 use Rattle.c_procedures.specs.States.{States, is_or, or_parent, choose_child, set_flag}
 use Rattle.c_functions.specs.Layout.{Layout, HasBit, IsLayout, HoldsStates, put_number, put_bit, Changes}
 use Rattle.c_functions.proofs.Tests.{unsigned, own-stays, word_stays, bit-small}
@@ -71,9 +71,9 @@ chooses int calls k t n L st p i rest s l layout h or within small = record {
         (λ e. subst (λ (a : ℕ). a < 2 ^ bits L.numbers) (sym (ap (λ (q : ℕ). slice_index_or (slice_set st.chosen p i) q 0) e ∙ get_or-set_same st.chosen p i 0 within)) small)
         (λ ne. subst (λ (a : ℕ). a < 2 ^ bits L.numbers) (sym (get_or-set_other st.chosen p q i 0 ne)) (h.chosen_small q oq))
         (same_or_other q p);
-    kept = λ q oq. other-field s.fields (L.chosen p) (L.kept q) o (layout.kept_chosen q p) ∙ h.kept q oq;
+    kept = λ q oq. other-field s.fields (L.chosen p) (L.kept q) o (layout.kept_chosen q p oq or) ∙ h.kept q oq;
     kept_small = h.kept_small;
-    flags = λ x lt none. kept-bit s (L.chosen p) (L.word x) (L.bit x) (unsigned L.numbers i) _ (layout.word_chosen x p) (h.flags x lt none);
+    flags = λ x lt none. kept-bit s (L.chosen p) (L.word x) (L.bit x) (unsigned L.numbers i) _ (layout.word_chosen x p (lt, none) or) (h.flags x lt none);
   };
 }
   where
@@ -99,9 +99,9 @@ keeps int calls k t n L st p i rest s l layout h or within small = record {
         (λ e. subst (λ (a : ℕ). a < 2 ^ bits L.numbers) (sym (ap (λ (q : ℕ). slice_index_or (slice_set st.kept p i) q 0) e ∙ get_or-set_same st.kept p i 0 within)) small)
         (λ ne. subst (λ (a : ℕ). a < 2 ^ bits L.numbers) (sym (get_or-set_other st.kept p q i 0 ne)) (h.kept_small q oq))
         (same_or_other q p);
-    chosen = λ q oq. other-field s.fields (L.kept p) (L.chosen q) o (λ e. layout.kept_chosen p q (sym e)) ∙ h.chosen q oq;
+    chosen = λ q oq. other-field s.fields (L.kept p) (L.chosen q) o (λ e. layout.kept_chosen p q or oq (sym e)) ∙ h.chosen q oq;
     chosen_small = h.chosen_small;
-    flags = λ x lt none. kept-bit s (L.kept p) (L.word x) (L.bit x) (unsigned L.numbers i) _ (layout.word_kept x p) (h.flags x lt none);
+    flags = λ x lt none. kept-bit s (L.kept p) (L.word x) (L.bit x) (unsigned L.numbers i) _ (layout.word_kept x p (lt, none) or) (h.flags x lt none);
   };
 }
   where
@@ -161,9 +161,9 @@ turned-holds : (t : Tree) (n : ℕ → ℕ) (L : Layout) (st : States) (x new : 
     → (old : ℕ) → slice_get s.fields (L.word x) ≡ Some (record { type = Unsigned W32; value = Some (pos old) })
     → IsTurned old new (L.bit x) b → HoldsStates t L (set_flag x b st) (with_field s (L.word x) (unsigned W32 new))
 turned-holds t n L st x new b s layout h lt none within old there turned = record {
-  chosen = λ q oq. other-field s.fields (L.word x) (L.chosen q) o (λ e. layout.word_chosen x q (sym e)) ∙ h.chosen q oq;
+  chosen = λ q oq. other-field s.fields (L.word x) (L.chosen q) o (λ e. layout.word_chosen x q (lt, none) oq (sym e)) ∙ h.chosen q oq;
   chosen_small = h.chosen_small;
-  kept = λ q oq. other-field s.fields (L.word x) (L.kept q) o (λ e. layout.word_kept x q (sym e)) ∙ h.kept q oq;
+  kept = λ q oq. other-field s.fields (L.word x) (L.kept q) o (λ e. layout.word_kept x q (lt, none) oq (sym e)) ∙ h.kept q oq;
   kept_small = h.kept_small;
   flags = λ y ly ny. ⊎_elim (same y) (λ ne. other y ly ny ne (same_or_other (L.word y) (L.word x))) (same_or_other y x);
 }
@@ -193,13 +193,13 @@ turned-holds t n L st x new b s layout h lt none within old there turned = recor
     other y ly ny ne (inl near) =
         let old_bit = h.flags y ly ny in
         let one : Some (object_of (unsigned W32 old_bit.word)) ≡ Some (object_of (unsigned W32 old)) =
-            sym old_bit.there ∙ ap (λ (f : ℕ). slice_get s.fields f) near ∙ there in
+        sym old_bit.there ∙ ap (λ (f : ℕ). slice_get s.fields f) near ∙ there in
         let word : old_bit.word ≡ old = ap number_in one in
         subst (λ (c : Bool). HasBit s' (L.word y) (L.bit y) c) (sym (get_or-set_other st.flags x y b false ne)) (record {
           word = new;
           there = ap (λ (f : ℕ). slice_get s'.fields f) near ∙ same-field s.fields (L.word x) _ o there;
           small = turned.small;
-          bit_is = turned.others (L.bit y) (layout.bits_are y) (λ e. ne (layout.bits_apart y x near e))
+          bit_is = turned.others (L.bit y) (layout.bits_are y) (λ e. ne (layout.bits_apart y x (ly, ny) (lt, none) near e))
               ∙ ap (λ (w : ℕ). bit_at w (L.bit y)) (sym word) ∙ old_bit.bit_is;
         })
 

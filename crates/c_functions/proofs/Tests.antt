@@ -1,5 +1,5 @@
 -- The tests of states give what the fields tell.
-use Rattle.std.proofs.Common.{◌≡◌, ℕ, zero, suc, ◌+◌, ◌-◌, ◌*◌, ◌%◌, ◌^◌, ◌<◌, ◌≤◌, nat_eq, nat_lt, ℤ, pos, Bool, true, false, cond, not, ◌&&◌, ◌||◌, if◌then◌else◌, List, [], ◌∷◌, filter, Option, Some, None, bit_and, slice_get, slice_index_or, refl, sym, ap, ◌∙◌, subst, arith, mod-eq_of_lt, pow-suc}
+use Rattle.std.proofs.Common.{◌≡◌, ℕ, zero, suc, ◌+◌, ◌-◌, ◌*◌, ◌^◌, ◌<◌, ◌≤◌, nat_eq, nat_lt, pos, Bool, true, false, cond, not, ◌&&◌, ◌||◌, if◌then◌else◌, List, [], ◌∷◌, filter, Option, Some, None, slice_get, slice_index_or, refl, ap, ◌∙◌, subst, arith, mod-eq_of_lt, pow-suc}
 use Rattle.std.specs.List.{list_any, range_with_len}
 use Rattle.std.specs.Option.{option_map_or}
 use Rattle.std.proofs.lemmas.Int.{ints}
@@ -8,9 +8,9 @@ use Rattle.std.proofs.lemmas.Nat.Bits.{and_pow}
 use Rattle.std.proofs.lemmas.Bool.Decides.{nat_tests}
 use Rattle.fixed_point.proofs.Powers.{power-le}
 use Rattle.active_config.specs.Tree.{Tree, state_count, parent_of, comp_of, is_child, children_below, children_of}
-use Rattle.active_config.specs.Marks.{Configuration, is_on, mark_count}
-use Rattle.c_subset.specs.Trees.{Width, W8, W16, W32, W64, W128, CType, Signed, Unsigned, BitAnd, Comparison, IsEqual, IsUnequal, CExpr, Const, Field, Bang, Bits, Compare, Both}
-use Rattle.c_subset.specs.Meaning.{bits, fits_signed, CValue, Meaning, Wrong, with_meaning, gives, converted, promoted, common_of, common, combined, combined_in, compared, passes, truth, one_if, Object, read, Store, Locals, meaning}
+use Rattle.active_config.specs.Marks.{Configuration, mark_count}
+use Rattle.c_subset.specs.Trees.{Width, W8, W16, W32, W64, W128, CType, Signed, Unsigned, BitAnd, Comparison, IsEqual, IsUnequal, CExpr, Const, Field, Bang, Bits, Both}
+use Rattle.c_subset.specs.Meaning.{bits, fits_signed, CValue, Meaning, Wrong, with_meaning, gives, converted, common_of, common, combined, combined_in, compared, passes, truth, one_if, Object, read, Store, Locals, meaning}
 use Rattle.c_expressions.specs.Claims.{Has, ShowsActive}
 use Rattle.c_expressions.proofs.Operators.{bang-has}
 use Rattle.c_expressions.proofs.Deciding.{both-decides}

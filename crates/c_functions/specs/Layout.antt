@@ -1,9 +1,9 @@
 -- Where the states of a chart stand in the struct, and the tests of states as C.
 use Rattle.std.specs.Prelude.{◌≡◌, ℕ, ◌<◌, ◌^◌, pos, Bool, true, false, List, [], ◌∷◌, Option, Some, None, if◌then◌else◌}
-use Rattle.std.specs.Prelude.{◌-◌, ◌≢◌, slice_get, slice_index_or}
+use Rattle.std.specs.Prelude.{◌+◌, ◌-◌, ◌*◌, ◌/◌, ◌%◌, ◌≢◌, slice_get, slice_index_or}
 use Rattle.std.specs.Int.{bit_at}
 use Rattle.active_config.specs.Tree.{Tree, state_count, parent_of, comp_of, children_of}
-use Rattle.c_subset.specs.Trees.{Width, W32, Unsigned, Truth, BitAnd, BitOr, IsEqual, IsUnequal, CExpr, Const, Field, Bang, Bits, Compare, Both}
+use Rattle.c_subset.specs.Trees.{Width, W16, W32, Unsigned, Truth, BitAnd, BitOr, IsEqual, IsUnequal, CExpr, Const, Field, Bang, Bits, Compare, Both}
 use Rattle.c_subset.specs.Trees.{Block, Store as PutField}
 use Rattle.c_subset.specs.Meaning.{bits, CValue, Object, Store, Locals}
 use Rattle.c_subset.specs.Running.{Calls, with_field, outcome}
@@ -31,16 +31,20 @@ pub record HasBit (s : Store) (field bit : ℕ) (is_set : Bool) : Type 0 where
   pub small : word < 2 ^ 32
   pub bit_is : bit_at word bit ≡ (if is_set then 1 else 0)
 
+-- a state whose parent is no OR
+abbrev pub HasFlag : Tree → ℕ → Type 0
+HasFlag t x = (x < state_count t) × (or_parent t (parent_of t x) ≡ None)
+
 -- numbers of children are values of their type, and bits are bits of words; no two of what is there stand in one place
 pub record IsLayout (t : Tree) (n : ℕ → ℕ) (L : Layout) : Type 0 where
   pub numbers : (x : ℕ) → x < state_count t → n x < 2 ^ bits L.numbers
   pub bits_are : (x : ℕ) → L.bit x < 32
   pub chosen_apart : (p q : ℕ) → is_or (comp_of t p) ≡ true → is_or (comp_of t q) ≡ true → L.chosen p ≡ L.chosen q → p ≡ q
   pub kept_apart : (p q : ℕ) → is_or (comp_of t p) ≡ true → is_or (comp_of t q) ≡ true → L.kept p ≡ L.kept q → p ≡ q
-  pub kept_chosen : (p q : ℕ) → L.kept p ≢ L.chosen q
-  pub word_chosen : (x p : ℕ) → L.word x ≢ L.chosen p
-  pub word_kept : (x p : ℕ) → L.word x ≢ L.kept p
-  pub bits_apart : (x y : ℕ) → L.word x ≡ L.word y → L.bit x ≡ L.bit y → x ≡ y
+  pub kept_chosen : (p q : ℕ) → is_or (comp_of t p) ≡ true → is_or (comp_of t q) ≡ true → L.kept p ≢ L.chosen q
+  pub word_chosen : (x p : ℕ) → HasFlag t x → is_or (comp_of t p) ≡ true → L.word x ≢ L.chosen p
+  pub word_kept : (x p : ℕ) → HasFlag t x → is_or (comp_of t p) ≡ true → L.word x ≢ L.kept p
+  pub bits_apart : (x y : ℕ) → HasFlag t x → HasFlag t y → L.word x ≡ L.word y → L.bit x ≡ L.bit y → x ≡ y
 
 -- the struct holds the fields of states
 pub record HoldsStates (t : Tree) (L : Layout) (st : States) (s : Store) : Type 0 where
@@ -52,6 +56,16 @@ pub record HoldsStates (t : Tree) (L : Layout) (st : States) (s : Store) : Type 
   pub kept_small : (p : ℕ) → is_or (comp_of t p) ≡ true → slice_index_or st.kept p 0 < 2 ^ bits L.numbers
   pub flags : (x : ℕ) → x < state_count t → or_parent t (parent_of t x) ≡ None
       → HasBit s (L.word x) (L.bit x) (slice_index_or st.flags x false)
+
+-- a layout after so many fields, in which the three kinds of fields take turns
+abbrev pub layout_after : ℕ → Layout
+layout_after fields = record {
+  numbers = W16;
+  chosen = λ p. fields + p * 3;
+  kept = λ p. fields + p * 3 + 1;
+  word = λ x. fields + x / 32 * 3 + 2;
+  bit = λ x. x % 32;
+}
 
 -- ---- tests
 

@@ -7,7 +7,7 @@ ghost use Rattle.c_subset.specs.Meaning.{bits, one_if, Store, Locals};
 ghost use Rattle.c_subset.specs.Running.{Calls};
 ghost use Rattle.c_expressions.specs.Claims.{Has, ShowsActive};
 ghost use Rattle.c_procedures.specs.States.{States, Shows, is_or, or_parent, c_on, c_bare, last_by, choose_child, set_flag};
-ghost use Rattle.c_functions.specs.Layout.{Layout, IsLayout, HoldsStates, Changes, on_c, bare_c, last_c, put_number, put_bit};
+ghost use Rattle.c_functions.specs.Layout.{Layout, IsLayout, HoldsStates, Changes, on_c, bare_c, last_c, put_number, put_bit, layout_after};
 
 /// In a struct that holds the fields of states, the tests of states give what the fields tell, without
 /// undefined behaviour, where int has at most 32 bits. So where the fields show which states are active,
@@ -43,4 +43,10 @@ pub fn changes_of_states_change_the_struct()
         (x : ℕ) (b : Bool) (rest : Block) (s : Store) (l : Locals) → bits int ≤ 32 → IsLayout t n L →
         HoldsStates t L st s → x < state_count t → or_parent t (parent_of t x) ≡ None →
         x < length st.flags → Changes int calls k t L (set_flag x b st) (put_bit L x b rest) rest s l }
+{}
+
+/// There is such a layout, for numbers of children of 16 bits, after any number of fields.
+pub fn states_have_places()
+    ensures { (t : Tree) (n : ℕ → ℕ) (fields : ℕ) → ((x : ℕ) → x < state_count t → n x < 2 ^ 16) →
+        IsLayout t n (layout_after fields) }
 {}

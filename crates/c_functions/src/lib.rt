@@ -6,4 +6,6 @@
 
 mod laws;
 
-pub use laws::{changes_of_states_change_the_struct, tests_of_states_give_which_are_active};
+pub use laws::{
+    changes_of_states_change_the_struct, states_have_places, tests_of_states_give_which_are_active,
+};

@@ -62,8 +62,10 @@ compared-unsigned : (int w : Width) (op : Comparison) (a b : ℕ) → a < 2 ^ bi
     → compared int op (unsigned w a) (unsigned w b) ≡ truth int (passes op (pos a) (pos b))
 compared-unsigned int w op a b fa fb =
     let c = shared int w in
-    ap (λ (t : CType). with_meaning (converted t (pos a)) (λ x. with_meaning (converted t (pos b)) (λ y. truth int (passes op x.value y.value)))) c.is
-    ∙ ap (λ (m : Meaning). with_meaning m (λ x. with_meaning (converted c.type (pos b)) (λ y. truth int (passes op x.value y.value)))) (c.stays a fa)
+    ap (λ (t : CType). with_meaning (converted t (pos a))
+    (λ x. with_meaning (converted t (pos b)) (λ y. truth int (passes op x.value y.value)))) c.is
+    ∙ ap (λ (m : Meaning). with_meaning m
+    (λ x. with_meaning (converted c.type (pos b)) (λ y. truth int (passes op x.value y.value)))) (c.stays a fa)
     ∙ ap (λ (m : Meaning). with_meaning m (λ y. truth int (passes op (pos a) y.value))) (c.stays b fb)
 
 -- ---- numbers
@@ -77,7 +79,8 @@ number-has : (int : Width) (s : Store) (l : Locals) (L : Layout) (f a i : ℕ)
 unfolding meaning
 number-has int s l L f a i there fa fi = (
   Signed int,
-  ap (λ (o : Option Object). with_meaning (read o) (λ x. with_meaning (converted (Unsigned L.numbers) (pos i)) (compared int IsEqual x))) there
+  ap (λ (o : Option Object). with_meaning (read o)
+      (λ x. with_meaning (converted (Unsigned L.numbers) (pos i)) (compared int IsEqual x))) there
       ∙ ap (λ (m : Meaning). with_meaning m (compared int IsEqual (unsigned L.numbers a))) (own-stays L.numbers i fi)
       ∙ compared-unsigned int L.numbers IsEqual a i fa fi
       ∙ ap (truth int) (equal-numbers a i),
@@ -94,7 +97,8 @@ word_stays W64 most = absurd (omega arith)
 word_stays W128 most = absurd (omega arith)
 
 pub bit-small : (k : ℕ) → k < 32 → 2 ^ k < 2 ^ 32
-bit-small k lt = let some = pow_pos k in let h = power-le (suc k) 32 lt in let twice = pow-suc 2 k in omega (arith, some, h, twice)
+bit-small k lt = let some = pow_pos k in let h = power-le (suc k) 32 lt in let twice = pow-suc 2 k in omega
+    (arith, some, h, twice)
 
 unequal-bit : (k : ℕ) (b : Bool) → passes IsUnequal (pos (cond b (2 ^ k) 0)) (pos 0) ≡ b
 unequal-bit k true = let some = pow_pos k in grind (arith, ints)
@@ -105,15 +109,22 @@ set-small k true lt = bit-small k lt
 set-small k false lt = pow_pos 32
 
 masked-means : (int : Width) (s : Store) (l : Locals) (f k : ℕ) (b : Bool) → bits int ≤ 32 → k < 32 → HasBit s f k b
-    → meaning int s l (Bits BitAnd (Field f) (Const (Unsigned W32) (pos (2 ^ k)))) ≡ gives (Unsigned W32) (pos (cond b (2 ^ k) 0))
+    → meaning int s l (Bits BitAnd (Field f) (Const (Unsigned W32) (pos (2 ^ k)))) ≡ gives (Unsigned W32)
+    (pos (cond b (2 ^ k) 0))
 unfolding meaning
 masked-means int s l f k b most lt h =
     let mask = 2 ^ k in
-    ap (λ (o : Option Object). with_meaning (read o) (λ x. with_meaning (converted (Unsigned W32) (pos mask)) (combined int BitAnd x))) h.there
-    ∙ ap (λ (m : Meaning). with_meaning m (combined int BitAnd (unsigned W32 h.word))) (own-stays W32 mask (bit-small k lt))
-    ∙ ap (λ (t : CType). with_meaning (converted t (pos h.word)) (λ x. with_meaning (converted t (pos mask)) (λ y. combined_in t BitAnd x.value y.value))) (word_stays int most)
-    ∙ ap (λ (m : Meaning). with_meaning m (λ x. with_meaning (converted (Unsigned W32) (pos mask)) (λ y. combined_in (Unsigned W32) BitAnd x.value y.value))) (own-stays W32 h.word h.small)
-    ∙ ap (λ (m : Meaning). with_meaning m (λ y. combined_in (Unsigned W32) BitAnd (pos h.word) y.value)) (own-stays W32 mask (bit-small k lt))
+    ap (λ (o : Option Object). with_meaning (read o)
+    (λ x. with_meaning (converted (Unsigned W32) (pos mask)) (combined int BitAnd x))) h.there
+    ∙ ap (λ (m : Meaning). with_meaning m (combined int BitAnd (unsigned W32 h.word)))
+    (own-stays W32 mask (bit-small k lt))
+    ∙ ap (λ (t : CType). with_meaning (converted t (pos h.word))
+    (λ x. with_meaning (converted t (pos mask)) (λ y. combined_in t BitAnd x.value y.value))) (word_stays int most)
+    ∙ ap (λ (m : Meaning). with_meaning m
+    (λ x. with_meaning (converted (Unsigned W32) (pos mask)) (λ y. combined_in (Unsigned W32) BitAnd x.value y.value)))
+    (own-stays W32 h.word h.small)
+    ∙ ap (λ (m : Meaning). with_meaning m (λ y. combined_in (Unsigned W32) BitAnd (pos h.word) y.value))
+    (own-stays W32 mask (bit-small k lt))
     ∙ ap (λ (x : ℕ). gives (Unsigned W32) (pos x)) (and_pow h.word k ∙ ap (λ (x : ℕ). x * 2 ^ k) h.bit_is ∙ times b)
   where
     times : (b : Bool) → cond b 1 0 * 2 ^ k ≡ cond b (2 ^ k) 0
@@ -125,8 +136,10 @@ bit-has : (int : Width) (s : Store) (l : Locals) (L : Layout) (x : ℕ) (b : Boo
 unfolding meaning
 bit-has int s l L x b most lt h = (
   Signed int,
-  ap (λ (m : Meaning). with_meaning m (λ x. with_meaning (converted (Unsigned W32) (pos 0)) (compared int IsUnequal x))) (masked-means int s l (L.word x) (L.bit x) b most lt h)
-      ∙ ap (λ (m : Meaning). with_meaning m (compared int IsUnequal (unsigned W32 (cond b (2 ^ L.bit x) 0)))) (own-stays W32 0 (pow_pos 32))
+  ap (λ (m : Meaning). with_meaning m (λ x. with_meaning (converted (Unsigned W32) (pos 0)) (compared int IsUnequal x)))
+      (masked-means int s l (L.word x) (L.bit x) b most lt h)
+      ∙ ap (λ (m : Meaning). with_meaning m (compared int IsUnequal (unsigned W32 (cond b (2 ^ L.bit x) 0))))
+      (own-stays W32 0 (pow_pos 32))
       ∙ compared-unsigned int W32 IsUnequal (cond b (2 ^ L.bit x) 0) 0 (set-small (L.bit x) b lt) (pow_pos 32)
       ∙ ap (truth int) (unequal-bit (L.bit x) b),
 )
@@ -134,7 +147,8 @@ bit-has int s l L x b most lt h = (
 -- ---- states
 
 -- a state is active
-pub on-has : (int : Width) (s : Store) (l : Locals) (t : Tree) (n : ℕ → ℕ) (L : Layout) (st : States) (x : ℕ) → bits int ≤ 32
+pub on-has : (int : Width) (s : Store) (l : Locals) (t : Tree) (n : ℕ → ℕ) (L : Layout) (st : States) (x : ℕ)
+    → bits int ≤ 32
     → IsLayout t n L → HoldsStates t L st s → x < state_count t → Has int s l (on_c t L n x) (one_if (c_on t n x st))
 unfolding on_c c_on
 on-has int s l t n L st x most layout holds lt = at (or_parent t (parent_of t x)) refl
@@ -143,7 +157,8 @@ on-has int s l t n L st x most layout holds lt = at (or_parent t (parent_of t x)
     at None e = bit-has int s l L x (slice_index_or st.flags x false) most (layout.bits_are x) (holds.flags x lt e)
     at (Some p) e =
         let or = (or_parent_is t x p e).1 in
-        number-has int s l L (L.chosen p) (slice_index_or st.chosen p 0) (n x) (holds.chosen p or) (holds.chosen_small p or) (layout.numbers x lt)
+        number-has int s l L (L.chosen p) (slice_index_or st.chosen p 0) (n x) (holds.chosen p or)
+        (holds.chosen_small p or) (layout.numbers x lt)
 
 -- both tests hold
 both-has : (int : Width) (s : Store) (l : Locals) (a b : CExpr) (p q : Bool) → Has int s l a (one_if p)
@@ -183,7 +198,8 @@ child-is t s x is = at (parent_of t x) refl is
 
 -- the bits of the children of a state that isn't an OR
 child-bits : (t : Tree) (L : Layout) (st : States) (s : Store) (p from len : ℕ) → HoldsStates t L st s
-    → is_or (comp_of t p) ≡ false → from + len ≤ state_count t → AreBits L st s (filter (is_child t p) (range_with_len from len))
+    → is_or (comp_of t p) ≡ false → from + len ≤ state_count t → AreBits L st s
+    (filter (is_child t p) (range_with_len from len))
 child-bits t L st s p from zero holds not_or within = tt
 child-bits t L st s p from (suc len) holds not_or within =
     at (is_child t p from) refl (child-bits t L st s p (from + 1) len holds not_or (omega (arith, within)))
@@ -198,12 +214,14 @@ child-bits t L st s p from (suc len) holds not_or within =
       rest,
     )
 
-childless-has : (int : Width) (s : Store) (l : Locals) (t : Tree) (n : ℕ → ℕ) (L : Layout) (st : States) (x : ℕ) (b : Bool)
+childless-has : (int : Width) (s : Store) (l : Locals) (t : Tree) (n : ℕ → ℕ) (L : Layout) (st : States) (x : ℕ)
+    (b : Bool)
     → bits int ≤ 32 → IsLayout t n L → HoldsStates t L st s → is_or (comp_of t x) ≡ b
     → Has int s l (childless_c t L x b) (one_if (childless_by t x st b))
 unfolding children_of children_below
 childless-has int s l t n L st x true most layout holds is =
-    number-has int s l L (L.chosen x) (slice_index_or st.chosen x 0) 0 (holds.chosen x is) (holds.chosen_small x is) (pow_pos (bits L.numbers))
+    number-has int s l L (L.chosen x) (slice_index_or st.chosen x 0) 0 (holds.chosen x is) (holds.chosen_small x is)
+    (pow_pos (bits L.numbers))
 childless-has int s l t n L st x false most layout holds is =
     none-has int s l L st (filter (is_child t x) (range_with_len 0 (state_count t))) most layout.bits_are
     (child-bits t L st s x 0 (state_count t) holds is (omega arith))
@@ -214,7 +232,8 @@ pub bare-has : (int : Width) (s : Store) (l : Locals) (t : Tree) (n : ℕ → �
     → Has int s l (bare_c t L n x) (one_if (c_bare t n x st))
 unfolding bare_c c_bare
 bare-has int s l t n L st x most layout holds lt =
-    both-has int s l (on_c t L n x) (childless_c t L x (is_or (comp_of t x))) (c_on t n x st) (childless_by t x st (is_or (comp_of t x)))
+    both-has int s l (on_c t L n x) (childless_c t L x (is_or (comp_of t x))) (c_on t n x st)
+    (childless_by t x st (is_or (comp_of t x)))
     (on-has int s l t n L st x most layout holds lt)
     (childless-has int s l t n L st x (is_or (comp_of t x)) most layout holds refl)
 
@@ -223,7 +242,8 @@ pub last-has : (int : Width) (s : Store) (l : Locals) (t : Tree) (n : ℕ → �
     → IsLayout t n L → HoldsStates t L st s → is_or (comp_of t p) ≡ true → x < state_count t
     → Has int s l (last_c L n p x) (one_if (last_by n st x (Some p)))
 last-has int s l t n L st p x layout holds or lt =
-    number-has int s l L (L.kept p) (slice_index_or st.kept p 0) (n x) (holds.kept p or) (holds.kept_small p or) (layout.numbers x lt)
+    number-has int s l L (L.kept p) (slice_index_or st.kept p 0) (n x) (holds.kept p or) (holds.kept_small p or)
+    (layout.numbers x lt)
 
 -- so the tests are those that expressions ask for
 pub shows-active : (int : Width) (s : Store) (t : Tree) (n : ℕ → ℕ) (L : Layout) (st : States) (marks : Configuration)

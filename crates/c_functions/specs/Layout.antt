@@ -39,7 +39,8 @@ HasFlag t x = (x < state_count t) × (or_parent t (parent_of t x) ≡ None)
 pub record IsLayout (t : Tree) (n : ℕ → ℕ) (L : Layout) : Type 0 where
   pub numbers : (x : ℕ) → x < state_count t → n x < 2 ^ bits L.numbers
   pub bits_are : (x : ℕ) → L.bit x < 32
-  pub chosen_apart : (p q : ℕ) → is_or (comp_of t p) ≡ true → is_or (comp_of t q) ≡ true → L.chosen p ≡ L.chosen q → p ≡ q
+  pub chosen_apart : (p q : ℕ) → is_or (comp_of t p) ≡ true → is_or (comp_of t q) ≡ true
+      → L.chosen p ≡ L.chosen q → p ≡ q
   pub kept_apart : (p q : ℕ) → is_or (comp_of t p) ≡ true → is_or (comp_of t q) ≡ true → L.kept p ≡ L.kept q → p ≡ q
   pub kept_chosen : (p q : ℕ) → is_or (comp_of t p) ≡ true → is_or (comp_of t q) ≡ true → L.kept p ≢ L.chosen q
   pub word_chosen : (x p : ℕ) → HasFlag t x → is_or (comp_of t p) ≡ true → L.word x ≢ L.chosen p
@@ -76,7 +77,8 @@ number_test L f i = Compare IsEqual (Field f) (Const (Unsigned L.numbers) (pos i
 -- (m->aK & BIT) != 0
 abbrev pub bit_test : Layout → ℕ → CExpr
 bit_test L x =
-    Compare IsUnequal (Bits BitAnd (Field (L.word x)) (Const (Unsigned W32) (pos (2 ^ L.bit x)))) (Const (Unsigned W32) (pos 0))
+    Compare IsUnequal (Bits BitAnd (Field (L.word x)) (Const (Unsigned W32) (pos (2 ^ L.bit x))))
+    (Const (Unsigned W32) (pos 0))
 
 -- a state is active: under an OR by the number of its active child, else by its bit
 abbrev pub on_by_c : Layout → (ℕ → ℕ) → ℕ → Option ℕ → CExpr

@@ -32,12 +32,12 @@ use Rattle.c_subset.specs.Meaning.{bits, gives, converted, read_as, Store, Local
 use Rattle.c_subset.specs.Running.{with_local}
 use Rattle.c_expressions.specs.Code.{Goes, Faults, ending}
 use Rattle.c_expressions.specs.Translation.{Flat}
-use Rattle.c_expressions.specs.Storing.{floored_width, out_c, low_bits_c, signed_c, brought_code, brought_local, stored_c, StoresAs, IsBrought}
+use Rattle.c_expressions.specs.Storing.{floored_width, out_c, low_bits_c, signed_c, brought_code, brought_local, stored_c, StoresAs}
 use Rattle.c_expressions.specs.Claims.{Has, EndsAs}
 use Rattle.c_expressions.proofs.Running.{agree-itself, set-there, then-goes, then-ends}
 use Rattle.c_expressions.proofs.Quotients.{set-goes, local-has, fault_if-ends}
 use Rattle.c_expressions.proofs.Storing.{floored-goes}
-use Rattle.c_expressions.proofs.Fields.{saturates, overflows}
+use Rattle.c_expressions.proofs.Fields.{saturates, overflows, IsBrought}
 use Rattle.c_expressions.proofs.Wraps.{lifted, low_bits-is, wrapped-unsigned}
 use Rattle.c_expressions.proofs.Kept.{kept-wrapped, wraps-signed}
 

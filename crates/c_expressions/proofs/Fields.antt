@@ -1,5 +1,5 @@
 -- What a scale keeps of a number, and the field that takes it.
-use Rattle.std.proofs.Common.{◌≡◌, ℕ, ◌+◌, ◌-◌, ◌^◌, ◌<◌, ◌≤◌, max, nat_le, ℤ, pos, negsuc, neg_ℤ, unsigned_abs, int_le, Bool, true, false, cond, not, ◌&&◌, IsTrue, Ok, is_err, refl, ap, subst, arith, mod-eq_of_lt}
+use Rattle.std.proofs.Common.{◌≡◌, ℕ, ◌+◌, ◌-◌, ◌^◌, ◌<◌, ◌≤◌, max, nat_le, ℤ, pos, negsuc, neg_ℤ, unsigned_abs, int_le, Bool, true, false, cond, not, ◌&&◌, IsTrue, Ok, is_err, refl, ap, subst, arith, mod-eq_of_lt, Some}
 use Rattle.std.proofs.lemmas.Int.{ints}
 use Rattle.std.proofs.lemmas.Nat.{pow_pos}
 use Rattle.std.proofs.lemmas.Bool.Decides.{nat_tests}
@@ -14,11 +14,15 @@ use Rattle.actions.specs.declared.names.Sort.TheVariants as sorts
 use Rattle.actions.specs.Sorts.{size_at}
 use Rattle.c_subset.specs.Trees.{Width, W8, W16, W32, W64, Signed, Unsigned, Local}
 use Rattle.c_subset.specs.Meaning.{bits, Wrong, gives, converted, fits_signed, one_if, Store, Locals}
-use Rattle.c_expressions.specs.Storing.{floored_width, saturated_c, out_c, IsBrought}
+use Rattle.c_expressions.specs.Storing.{floored_width, saturated_c, out_c}
 use Rattle.c_expressions.specs.Claims.{Has, least_width, field_type}
 use Rattle.c_expressions.proofs.Fits.{width_for-room}
 use Rattle.c_expressions.proofs.Operators.{Roomy, local-roomy}
 use Rattle.c_expressions.proofs.Storing.{floored-small, saturated-has, out-has}
+
+-- the local has the number at the datum's fraction
+abbrev pub IsBrought : Locals → ℕ → Num → ℕ → Scale → Type 0
+IsBrought l k n size scale = l (Signed (floored_width n.frac size scale.frac)) k ≡ Some (floored n scale.frac)
 
 -- the type of the local has room
 pub room-there : (n : Num) (size : ℕ) (scale : Scale) → n.frac ≤ 64 → size_at scale.frac n.frac size ≤ 100

@@ -1,8 +1,6 @@
 -- Which C brings a number to the scale of a datum and stores it.
-use Rattle.std.specs.Prelude.{◌≡◌, Some, Result, Ok, Err, ℕ, ◌+◌, ◌-◌, ◌^◌, nat_le, max, ℤ, pos, Bool, not, ◌||◌, if◌then◌else◌}
-use Rattle.fixed_point.specs.declared.num.Num.{Num}
+use Rattle.std.specs.Prelude.{◌≡◌, Result, Ok, Err, ℕ, ◌+◌, ◌-◌, ◌^◌, nat_le, max, ℤ, pos, Bool, not, ◌||◌, if◌then◌else◌}
 use Rattle.fixed_point.specs.declared.scale.Scale.{Scale}
-use Rattle.fixed_point.specs.Numbers.{floored}
 use Rattle.fixed_point.specs.declared.fitting.Mode.{Mode}
 use Rattle.fixed_point.specs.declared.fitting.Mode.TheVariants.{Saturate, Wrap, Error}
 use Rattle.fixed_point.specs.declared.fitting.Overflow.{Overflow}
@@ -118,7 +116,3 @@ stored_c v frac size scale Wrap x = record {
 abbrev pub StoresAs : Width → Store → Locals → ℕ → Stores → Result ℤ Overflow → Type 0
 StoresAs int s l v c (Ok m) = (after : Locals) × (ending int s l c.code ≡ Goes after) × Has int s after c.kept m
 StoresAs int s l v c (Err e) = ending int s l c.code ≡ Faults (Overflows v)
-
--- the local has the number at the datum's fraction
-abbrev pub IsBrought : Locals → ℕ → Num → ℕ → Scale → Type 0
-IsBrought l k n size scale = l (Signed (floored_width n.frac size scale.frac)) k ≡ Some (floored n scale.frac)

@@ -14,7 +14,7 @@ use Rattle.actions.specs.World.{World}
 use Rattle.active_config.specs.Tree.{Tree}
 use Rattle.c_procedures.specs.Statements.{Memory, Locals, Out, Fell, Left, Failed, Starved, Wrong}
 use Rattle.c_procedures.specs.Meaning.{and_on}
-use Rattle.c_procedures.specs.Runs.{Stands, IsAt, Does, GoesFor}
+use Rattle.c_procedures.specs.Runs.{Stands, IsAt, GoesFor, Returned, Lost, Stuck}
 use Rattle.code_simulation.proofs.Steps.{one_step}
 
 -- ---- places
@@ -119,6 +119,27 @@ pub past_none : (xs : List ℕ) (j : ℕ) → drop j xs ≡ [] → length xs ≤
 past_none [] j e = omega arith
 past_none (x ∷ xs) zero e = absurd cc
 past_none (x ∷ xs) (suc j) e = omega (arith, past_none xs j e)
+
+-- ---- what statements did
+
+module _ (C : Program) (n : ℕ → ℕ) (now : Now) (note : Option ℕ) (saved : Option Event) (fs : List Frame) where
+  -- statements that fell through: code comes from the start to where these instructions follow
+  pub record Passed (start : Machine) (ys : List Instr) (m : Memory) (l : Locals) : Type 0 where
+    pub world : World
+    pub result : ℕ
+    pub frame : Frame
+    pub at : IsAt C.tree n C.procedures note saved ys m l world result frame fs
+    pub reached : Reaches C start (machine world now result (frame ∷ fs))
+
+module _ (C : Program) (n : ℕ → ℕ) (least : ℕ) (now : Now) (note : Option ℕ) (saved : Option Event)
+    (fs : List Frame) where
+  -- code does what statements did, from a start; where they were starved it goes on for so many steps
+  abbrev pub Does : Machine → List Instr → Out → Type 0
+  Does start ys (Fell m l) = Passed C n now note saved fs start ys m l
+  Does start ys (Left m r) = Returned C n now note saved fs start m r
+  Does start ys (Failed m x) = Lost C n now note saved fs start m x
+  Does start ys Starved = GoesFor C least start
+  Does start ys Wrong = Stuck C start
 
 -- ---- after some steps
 

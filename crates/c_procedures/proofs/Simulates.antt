@@ -33,11 +33,11 @@ use Rattle.c_procedures.specs.Statements as c
 use Rattle.c_procedures.specs.Meaning.{Sums, pay, turn, CProgram, Calls, check, truth_c, exec, branch, and_on, and_with, and_stored, unless_met, turns, from_base, front, closed, with_states, begins, call_fn}
 use Rattle.c_procedures.specs.Written.{test_of, on_check, noted_call, straight, keep_block, IsOrChild, IsStraight, Written, Stops, Steps, Returns, Skips, Forks}
 use Rattle.c_procedures.specs.Written.{AreWritten}
-use Rattle.c_procedures.specs.Runs.{Stands, Stored, Agree, IsAt, Does, DoesCall, CallsDo}
+use Rattle.c_procedures.specs.Runs.{Stands, Stored, Agree, IsAt, DoesCall, CallsDo}
 use Rattle.c_procedures.proofs.Showing.{on_is, bare_is, last_is, differ}
 use Rattle.c_procedures.proofs.Changing.{mark_shows, clear_shows, keep_shows}
 use Rattle.c_procedures.proofs.Checks.{on_test, bare_test, last_test, mark_runs, clear_runs}
-use Rattle.c_procedures.proofs.Following.{fetched, further, onward, same_pending, later_at, later_over, later_under, later_zero, got, dropped, within_some, past_none, does_on, does_then, moved, left_notes, does_step, does_less}
+use Rattle.c_procedures.proofs.Following.{fetched, further, onward, same_pending, later_at, later_over, later_under, later_zero, got, dropped, within_some, past_none, does_on, does_then, moved, left_notes, does_step, does_less, Does}
 
 module _ (t : Tree) (n : ℕ → ℕ) (num : Numbers t n) (same : length t.comps ≡ state_count t) (k : Procedures)
     (b : Bounds)

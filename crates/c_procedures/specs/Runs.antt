@@ -76,14 +76,6 @@ pub record GoesFor (C : Program) (least : ℕ) (start : Machine) : Type 0 where
   pub enough : least ≤ steps
 
 module _ (C : Program) (n : ℕ → ℕ) (now : Now) (note : Option ℕ) (saved : Option Event) (fs : List Frame) where
-  -- statements that fell through: code comes from the start to where these instructions follow
-  pub record Passed (start : Machine) (ys : List Instr) (m : Memory) (l : Locals) : Type 0 where
-    pub world : World
-    pub result : ℕ
-    pub frame : Frame
-    pub at : IsAt C.tree n C.procedures note saved ys m l world result frame fs
-    pub reached : Reaches C start (machine world now result (frame ∷ fs))
-
   -- a function that returned: the frame returns with the same result, and the notes are what they were
   pub record Returned (start : Machine) (m : Memory) (r : ℕ) : Type 0 where
     pub world : World
@@ -99,15 +91,7 @@ module _ (C : Program) (n : ℕ → ℕ) (now : Now) (note : Option ℕ) (saved 
 
 module _ (C : Program) (n : ℕ → ℕ) (least : ℕ) (now : Now) (note : Option ℕ) (saved : Option Event)
     (fs : List Frame) where
-  -- code does what statements did, from a start; where they were starved it goes on for so many steps
-  abbrev pub Does : Machine → List Instr → Out → Type 0
-  Does start ys (Fell m l) = Passed C n now note saved fs start ys m l
-  Does start ys (Left m r) = Returned C n now note saved fs start m r
-  Does start ys (Failed m x) = Lost C n now note saved fs start m x
-  Does start ys Starved = GoesFor C least start
-  Does start ys Wrong = Stuck C start
-
-  -- code does what a function did
+  -- code does what a function did; where it was starved it goes on for so many steps
   abbrev pub DoesCall : Machine → Out → Type 0
   DoesCall start (Fell m l) = ⊥
   DoesCall start (Left m r) = Returned C n now note saved fs start m r

@@ -54,6 +54,7 @@ pub(crate) fn list_parts_size(chart: &Chart, state: u32, kind: ListKind) -> u32
         (Rattle.checked_chart.specs.Chart.list_of (chart_of chart.now) state kind) }
     ensures low { result ≤ 32768 }
 {
+    // Only the proof reads the tree: the chart is valid.
     let _ = chart.shape();
     parts_size(chart.list(state, kind))
 }
@@ -89,6 +90,7 @@ fn junction_parts_size(chart: &Chart, junction: u32) -> u32
     ensures size { result ≡ places.junction_parts_size (chart_of chart.now) junction }
     ensures low { result ≤ 32768 }
 {
+    // Only the proof reads the tree: the chart is valid.
     let _ = chart.shape();
     parts_size(chart.junction(junction))
 }

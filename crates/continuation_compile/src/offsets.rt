@@ -23,6 +23,7 @@ pub(crate) fn parts_before(alloc: Global, chart: &Chart) -> Result<List<u32>, Me
     ensures { IfOk result (λ sums. IsTable (sum_to (places.state_parts_size (chart_of chart.now)))
         (suc (state_count (chart_of chart.now).tree)) 536870912 (items_of sums)) }
 {
+    // Only the proof reads the tree: the chart is valid.
     let _ = chart.shape();
     let sizes = state_parts_sizes(alloc, chart)?;
     sums_before(alloc, &sizes)
@@ -34,6 +35,7 @@ pub(crate) fn junction_parts_before(alloc: Global, chart: &Chart) -> Result<List
         (sum_to (places.junction_parts_size (chart_of chart.now)))
         (suc (junction_count (chart_of chart.now))) 536870912 (items_of sums)) }
 {
+    // Only the proof reads the tree: the chart is valid.
     let _ = chart.shape();
     let sizes = junction_parts_sizes(alloc, chart)?;
     sums_before(alloc, &sizes)
@@ -54,6 +56,7 @@ pub(crate) fn groups_before(
     ensures { IfOk result (λ sums. IsTable (sum_to (places.group_size (chart_of chart.now)))
         (suc (state_count (chart_of chart.now).tree)) 536870912 (items_of sums)) }
 {
+    // Only the proof reads the tree: the chart is valid.
     let _ = chart.shape();
     let sizes = group_sizes(alloc, below, default)?;
     sums_before(alloc, &sizes)
@@ -71,6 +74,7 @@ pub(crate) fn lists_before(
     ensures { IfOk result (λ sums. IsTable (sum_to (places.lists_size (chart_of chart.now)))
         (suc (state_count (chart_of chart.now).tree)) 536870912 (items_of sums)) }
 {
+    // Only the proof reads the tree: the chart is valid.
     let _ = chart.shape();
     let inner = reached_counts(alloc, chart, ListKind::Inner)?;
     let sizes = lists_sizes(alloc, outer, &inner)?;

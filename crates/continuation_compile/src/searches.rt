@@ -73,6 +73,7 @@ fn fired(numbering: &Numbering<'_>, state: u32, kind: ListKind, dest: u32) -> u3
 {
     match kind {
         ListKind::Outer => {
+            // Only the proof reads the number of states: it is small.
             let _ = numbering.states();
             3 + numbering.chart.home(state, kind, dest)
         }
@@ -240,6 +241,7 @@ fn put_empty(
     ensures { OnOk result (code_seen code.new ≡ code_seen code.old
         ++ templates.empty_code (search_seen (chart_in numbering.now) search.now).end) }
 {
+    // Only the contract reads the numbering.
     let _ = numbering;
     match search.kind {
         ListKind::Outer | ListKind::Inner => {

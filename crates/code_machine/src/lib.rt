@@ -12,8 +12,8 @@
 //! procedure that does nothing but return pushes no frame, and tests of states that aren't active
 //! and stand one after the other are passed over by one look-up.
 //!
-//! - `loaded` has the code as the machine keeps it, which no run changes; `state` has all that a run
-//!   changes but the top frame; `frames` says how the frames lie on the stack.
+//! - `loaded` has the code as the machine keeps it, which no run changes; `state` has all that a
+//!   run changes but the top frame; `frames` says how the frames lie on the stack.
 //! - `loading` makes these, and alone takes memory.
 //! - `instructions` has what each instruction does, by kind, and knows of no other instruction but
 //!   `notes`, whose `Play` asks whether a state is bare.

@@ -47,7 +47,8 @@ pub(crate) enum Move {
 #[inline(always)]
 pub(crate) fn pay(bounds: Bounds, machine: &mut MachineState) -> bool
     ensures paid { Paid (paid_in bounds (world_of machine.old)) result machine.old machine.new }
-    ensures used { result ≡ true → (machine.new.used ≡ machine.old.used + 1) × (machine.new.used ≤ bounds.steps) }
+    ensures used { result ≡ true → (machine.new.used ≡ machine.old.used + 1)
+        × (machine.new.used ≤ bounds.steps) }
 {
     if machine.used < bounds.steps {
         machine.used += 1;

@@ -16,7 +16,8 @@ returns c =
     let s = c.args.state in
     let after = end_after chart.tree c.requires.numbers.valid.tree s c.requires.state in
     let left = procs_of c.append_exit.new.draft in
-    both b (Leave s ∷ Exit s ∷ []) (span (Arrive s) (suc s) (below_count chart.tree s)) (procs_of c.args.draft.now) left _
+    both b (Leave s ∷ Exit s ∷ []) (span (Arrive s) (suc s) (below_count chart.tree s))
+    (procs_of c.args.draft.now) left _
     (both b (Leave s ∷ []) (Exit s ∷ []) (procs_of c.args.draft.now) (procs_of c.append_leave.new.draft) left
     c.in_ok-append_leave.ensures c.in_ok-append_exit.ensures)
     (c.in_ok-append_pairs.ensures ∙ span_same b (Arrive s) _ _ _ _ left (omega arith) (omega (arith, after)))

@@ -7,6 +7,7 @@
 
 mod driver;
 mod laws;
+mod move_lines;
 mod moves;
 mod net;
 mod ring;

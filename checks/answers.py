@@ -30,11 +30,13 @@ or `out N lines, N bytes` and the last line where there are more than 12, `unend
 it of each call.
 
     status 0    The whole answer was written. Nothing is on standard error.
-    status 1    A chart, a code text or an event file is refused. Of a refused chart or code nothing is on standard output; of
-                an event file the trace of the lines before.
+    status 1    A chart, a code text, a net or an event file is refused. Of a refused chart, code or net nothing is on standard
+                output; of an event file or a schedule the trace of the lines before.
     status 2    The words ask for no command. Nothing is on standard output.
-    status 3    The run has a fault, which the last line of the trace has too; `selftest` writes its line.
-    status 4    A file couldn't be read. A front of the answer was written: nothing by a command that has no event file.
+    status 3    The run has a fault, or a queue of a net is full or empty, which the last line of the trace has too; `selftest`
+                writes its line.
+    status 4    A file couldn't be read. A front of the answer was written: nothing by a command that has no
+                event file or schedule.
     status 5    Standard output couldn't be written. A front of the answer was written, and not all of it.
     status 6    Memory ran out. Nothing was written but by `rules`, which may have written a front of the trace."""
 import ctypes
@@ -57,6 +59,7 @@ HERE = os.path.dirname(os.path.abspath(__file__))
 ROOT = os.path.dirname(HERE)
 MOST_SHOWN = 12
 WITH_TRACE = ('rules', 'exec', 'run')
+TRACED = (*WITH_TRACE, 'net')
 WITH_CHART = ('check', 'fmt', 'rules', 'compile', 'run')
 WITH_CODE = ('exec', 'upgrade')
 COMMANDS = (*WITH_CHART, *WITH_CODE, 'selftest')
@@ -64,29 +67,38 @@ COMMANDS = (*WITH_CHART, *WITH_CODE, 'selftest')
 # ---- which answers there are
 
 CHART_LINES = '|'.join('%d %s' % (number, kind) for number, kind in syntax.KINDS.items() if number != 8)
-CHART_LINE = re.compile('chart [1-9][0-9]*:[1-9][0-9]*: (%s|8 TooMany (%s))\n'
-                        % (CHART_LINES, '|'.join(syntax.WITH_HISTORY.limits)))
+CHART_PLACE = '[1-9][0-9]*:[1-9][0-9]*: (%s|8 TooMany (%s))\n' % (CHART_LINES, '|'.join(syntax.WITH_HISTORY.limits))
+CHART_LINE = re.compile('chart ' + CHART_PLACE)
 FORMS = '|'.join('%d %s' % each for each in ca.KINDS.items())
 CODE_LINE = re.compile(r'code [1-9][0-9]*: (1 BadLine|3 Trailing)\n'
                        r'|code: (2 Truncated|4 Version|5 TextTooLong|6 Form (%s) [0-9]+\.[0-9]+)\n' % FORMS)
 EVENT_LINE = re.compile('event [1-9][0-9]*: (%s)\n|event: (5 TooManyLines|6 FileTooLong)\n'
                         % '|'.join('%d %s' % each for each in ev.LINE_FAULTS.items()))
 RUN_LINE = re.compile('run (0|[1-9][0-9]*): (depth|steps|zero|overflow [A-Za-z_][A-Za-z0-9_]*)\n')
+# Lines of `net` that are no lines of other commands, and the start of its trace.
+NET_LINE = re.compile('net [1-9][0-9]*: (1 BadLine|3 Trailing|4 BadRoute|5 NameTwice)\n|net: (2 Truncated|6 TextTooLong)\n'
+                      '|chart [A-Za-z][A-Za-z0-9_]* ' + CHART_PLACE)
+BAD_STEP_LINE = re.compile('event [1-9][0-9]*: 8 BadStep\n')
+QUEUE_LINE = re.compile('run (0|[1-9][0-9]*): ((?:full|empty) (?:0|[1-9][0-9]*))\n')
+NET_START = re.compile('0 [A-Za-z][A-Za-z0-9_]* 0 start ')
 USAGE = ('usage: flowc check CHART, fmt CHART, rules CHART EVENTS, compile CHART, exec CODE EVENTS, run CHART EVENTS, '
-         'upgrade CODE, bounds CHART, shrink CODE, selftest N; --depth D, --steps S\n')
+         'upgrade CODE, bounds CHART, shrink CODE, net NET SCHEDULE, selftest N; --depth D, --steps S\n')
 LINES = {0: '', 2: USAGE, 4: 'read fault\n', 5: 'write fault\n', 6: 'out of memory\n'}
 
 
-def ends_ok(out):
+def ends_ok(command, out):
     """Whether that are whole lines of a trace, the last of which has no fault."""
-    return out.startswith('0 start ') and out.endswith(' ok\n')
+    begins_well = NET_START.match(out) if command == 'net' else out.startswith('0 start ')
+    return bool(begins_well) and out.endswith(' ok\n')
 
 
 def refusal_problem(command, out, error):
     """Why this is no answer of status 1, or none."""
-    if command in WITH_TRACE and EVENT_LINE.fullmatch(error):
-        return None if ends_ok(out) else 'an event file is refused behind something else than the trace of the lines before'
-    known = (command in WITH_CHART and CHART_LINE.fullmatch(error) or command in WITH_CODE and CODE_LINE.fullmatch(error))
+    is_of_events = EVENT_LINE.fullmatch(error) or command == 'net' and BAD_STEP_LINE.fullmatch(error)
+    if command in TRACED and is_of_events:
+        return None if ends_ok(command, out) else 'an event file is refused after something else than the trace of the lines before'
+    known = (command in WITH_CHART and CHART_LINE.fullmatch(error) or command in WITH_CODE and CODE_LINE.fullmatch(error)
+             or command == 'net' and NET_LINE.fullmatch(error))
     if not known:
         return 'status 1 has a line on standard error that tells no refusal'
     return 'a refused text leaves something on standard output' if out else None
@@ -94,8 +106,8 @@ def refusal_problem(command, out, error):
 
 def fault_problem(command, out, error):
     """Why this is no answer of status 3, or none."""
-    found = RUN_LINE.fullmatch(error)
-    if not found or command not in (*WITH_TRACE, 'selftest'):
+    found = RUN_LINE.fullmatch(error) or command == 'net' and QUEUE_LINE.fullmatch(error)
+    if not found or command not in (*TRACED, 'selftest'):
         return 'status 3 has a line on standard error that tells no fault of a run'
     last = out.split('\n')[-2] if out.endswith('\n') else ''
     told = last.endswith(' ' + found[2]) and (command == 'selftest' or last.startswith(found[1] + ' '))
@@ -121,9 +133,9 @@ def problem(command, answer):
         return refusal_problem(command, out, error)
     if status == 3:
         return fault_problem(command, out, error)
-    if status == 0 and (not out.endswith('\n') or command in WITH_TRACE and not ends_ok(out)):
+    if status == 0 and (not out.endswith('\n') or command in TRACED and not ends_ok(command, out)):
         return 'the answer of status 0 is not whole'
-    if status == 4 and out and not (command in WITH_TRACE and ends_ok(out)):
+    if status == 4 and out and not (command in TRACED and ends_ok(command, out)):
         return 'something else than whole lines of a trace stands before a read fault'
     if status in (2, 6) and out and command != 'rules':
         return 'something was written at status %d' % status
@@ -270,7 +282,7 @@ def answer(program, words, files, devices, memory):
     lines = [status_text(got)] + lines_of('error', got.error) + lines_of('out', got.out)
     found = None
     if not devices:
-        asked = command if command in COMMANDS and got.status != 2 else None
+        asked = command if command in (*COMMANDS, 'net') and got.status != 2 else None
         found = problem(asked, got)
     return lines + ['opens ' + (' '.join(names) or 'none')] + (['problem: ' + found] if found else [])
 

@@ -7,15 +7,17 @@ use Rattle.clap.specs.Faults.{fault_of, level_fault}
 use Rattle.clap.specs.Simple.{rows_at, subcommand_of}
 use Rattle.clap.specs.Walk.{Row, idle, nothing_held, subcommand_met}
 use Rattle.command_words.specs.Numbers.{Text}
-use Rattle.command_words.specs.Commands.{RunBounds, Command, Check, Fmt, Rules, Compile, Exec, Run, Upgrade, Bound, Shrink, Selftest}
+use Rattle.command_words.specs.Commands.{RunBounds, Command, Check, Fmt, Rules, Compile, Exec, Run, Upgrade, Bound, Shrink, Net}
+use Rattle.command_words.specs.Commands.{Selftest}
 use Rattle.command_words.specs.Reading.{nothing, read_words}
-use Rattle.command_words.specs.Words.{command_of_texts, file_command, run_command, number_command}
+use Rattle.command_words.specs.Words.{command_of_texts, file_command, run_command, net_command, number_command}
 use Rattle.command_words.specs.Parser.{program_app}
-use Rattle.command_words.specs.Found.{command_found, file_found, run_found, number_found}
+use Rattle.command_words.specs.Found.{command_found, file_found, run_found, net_found, number_found}
 use Rattle.command_words.proofs.WordForms.{AreUtf8}
 use Rattle.command_words.proofs.LeafRules.{Leaf, shape_of_leaf}
 use Rattle.command_words.proofs.Leaves.{file_leaf, run_leaf, number_leaf}
-use Rattle.command_words.proofs.LeafAnswers.{Answers, level_agrees, file_answers, run_answers, number_answers}
+use Rattle.command_words.proofs.LeafAnswers.{Answers, level_agrees, file_answers, run_answers, net_answers}
+use Rattle.command_words.proofs.LeafAnswers.{number_answers}
 use Rattle.command_words.proofs.ProgramWalk.{names, enters, no_words_fail, unknown_fails}
 
 -- the parse of these words answers what they ask for
@@ -57,6 +59,13 @@ run_agreed : (n : Text) (command : Text → Text → RunBounds → Command) (res
     → Answers (run_command command rest) (faults (run_leaf n) rest) (run_found command (found (run_leaf n) rest).1)
 run_agreed n command rest u =
     run_answers command (read_words true None rest nothing) (faults (run_leaf n) rest) (found (run_leaf n) rest).1
+    (level_agrees (run_leaf n) rest u)
+
+-- a net
+net_level_agreed : (n : Text) (rest : List Text) → AreUtf8 rest
+    → Answers (net_command rest) (faults (run_leaf n) rest) (net_found (found (run_leaf n) rest).1)
+net_level_agreed n rest u =
+    net_answers (read_words true None rest nothing) (faults (run_leaf n) rest) (found (run_leaf n) rest).1
     (level_agrees (run_leaf n) rest u)
 
 -- a command of one number
@@ -132,6 +141,13 @@ shrink_agreed rest u =
     (enters (codes "shrink") (shape_of_leaf (file_leaf (codes "shrink"))) rest refl refl)
     (file_agreed (codes "shrink") Shrink rest u)
 
+-- `net`
+net_agreed : (rest : List Text) → AreUtf8 rest → Agreed (codes "net" ∷ rest)
+net_agreed rest u =
+    agreed_at (codes "net") (run_leaf (codes "net")) rest
+    (enters (codes "net") (shape_of_leaf (run_leaf (codes "net"))) rest refl refl)
+    (net_level_agreed (codes "net") rest u)
+
 -- `selftest`
 selftest_agreed : (rest : List Text) → AreUtf8 rest → Agreed (codes "selftest" ∷ rest)
 selftest_agreed rest u =
@@ -143,7 +159,7 @@ selftest_agreed rest u =
 
 -- for all words
 pub agreed : (words : List Text) → AreUtf8 words → Agreed words
-agreed [] u = no_words_fail
+agreed [] u = λ e. absurd (no_words_fail e)
 agreed (name ∷ rest) u =
     check (bytes_eq (codes "check") name) refl
   where
@@ -151,15 +167,15 @@ agreed (name ∷ rest) u =
         → bytes_eq (codes "rules") name ≡ false → bytes_eq (codes "compile") name ≡ false
         → bytes_eq (codes "exec") name ≡ false → bytes_eq (codes "run") name ≡ false
         → bytes_eq (codes "upgrade") name ≡ false → bytes_eq (codes "bounds") name ≡ false
-        → bytes_eq (codes "shrink") name ≡ false
+        → bytes_eq (codes "shrink") name ≡ false → bytes_eq (codes "net") name ≡ false
         → bytes_eq (codes "selftest") name ≡ false → Agreed (name ∷ rest)
-    none a b c d e f g h i j =
-        let undefined : command_of_texts (name ∷ rest) ≡ None = rw (a, b, c, d, e, f, g, h, i, j) refl in
-        let unmet : subcommand_met names idle name ≡ None = rw (a, b, c, d, e, f, g, h, i, j) refl in
+    none a b c d e f g h i j k =
+        let undefined : command_of_texts (name ∷ rest) ≡ None = rw (a, b, c, d, e, f, g, h, i, j, k) refl in
+        let unmet : subcommand_met names idle name ≡ None = rw (a, b, c, d, e, f, g, h, i, j, k) refl in
         subst
         (λ (o : Option Command). Answers o (fault_of program_app (name ∷ rest))
         (command_found (subcommand_of program_app (name ∷ rest))))
-        (sym undefined) (unknown_fails name rest u unmet)
+        (sym undefined) (λ z. absurd (unknown_fails name rest u unmet z))
 
     named : (n : Text) → bytes_eq n name ≡ true → Agreed (n ∷ rest) → Agreed (name ∷ rest)
     named n e a = subst (λ (x : Text). Agreed (x ∷ rest)) ((bytes_eq-Decides n name).0 e) a
@@ -198,9 +214,13 @@ agreed (name ∷ rest) u =
                                   where
                                     shrink : (t : Bool) → bytes_eq (codes "shrink") name ≡ t → Agreed (name ∷ rest)
                                     shrink true i = named (codes "shrink") i (shrink_agreed rest u.1)
-                                    shrink false i = selftest (bytes_eq (codes "selftest") name) refl
+                                    shrink false i = net (bytes_eq (codes "net") name) refl
                                       where
-                                        selftest : (t : Bool) → bytes_eq (codes "selftest") name ≡ t
-                                            → Agreed (name ∷ rest)
-                                        selftest true j = named (codes "selftest") j (selftest_agreed rest u.1)
-                                        selftest false j = none a b c d e f g h i j
+                                        net : (t : Bool) → bytes_eq (codes "net") name ≡ t → Agreed (name ∷ rest)
+                                        net true j = named (codes "net") j (net_agreed rest u.1)
+                                        net false j = selftest (bytes_eq (codes "selftest") name) refl
+                                          where
+                                            selftest : (t : Bool) → bytes_eq (codes "selftest") name ≡ t
+                                                → Agreed (name ∷ rest)
+                                            selftest true k = named (codes "selftest") k (selftest_agreed rest u.1)
+                                            selftest false k = none a b c d e f g h i j k

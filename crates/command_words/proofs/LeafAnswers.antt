@@ -9,14 +9,14 @@ use Rattle.clap.specs.Simple.{rows_at}
 use Rattle.clap.specs.Walk.{Row, first_of, nothing_held, row_text}
 use Rattle.clap.specs.declared.builder.value_parser.ValueParser.{ValueParser}
 use Rattle.clap.specs.declared.builder.value_parser.ValueParser.TheVariants as parsers
-use Rattle.command_words.specs.declared.words.TheConstants.{NUMBER_LIMIT}
+use Rattle.command_words.specs.declared.words.TheConstants.{NUMBER_LIMIT, NET_STEP_LIMIT}
 use Rattle.command_words.specs.Numbers.{Text, is_number_in, number_of}
-use Rattle.command_words.specs.Commands.{RunBounds, usual_bounds, Command}
+use Rattle.command_words.specs.Commands.{RunBounds, usual_bounds, Command, Net}
 use Rattle.command_words.specs.Options.{Bound, Depth, Steps, limit_of}
 use Rattle.command_words.specs.Reading.{Given, nothing, read_words}
-use Rattle.command_words.specs.Words.{bounds_of, with_one, with_two, with_number}
+use Rattle.command_words.specs.Words.{bounds_of, net_bounds_of, with_one, with_two, with_number}
 use Rattle.command_words.specs.Found.{number_in, number_at, bounds_with, bounds_found, file_found, run_found}
-use Rattle.command_words.specs.Found.{number_found}
+use Rattle.command_words.specs.Found.{net_bounds_with, net_bounds_found, net_found, number_found}
 use Rattle.command_words.proofs.NumberLemmas.{accepts_number, in_range, small_number}
 use Rattle.command_words.proofs.RowLemmas.{has, row}
 use Rattle.command_words.proofs.WordForms.{AreUtf8}
@@ -98,26 +98,44 @@ bounds_are two p rows given h =
     (bound_in Depth usual_bounds.depth given.depth refl h.depth_fits)
     (bound_in Steps usual_bounds.steps given.steps refl h.steps_fits)
 
+-- the bounds of a net, where its steps aren't too many
+net_bounds_are : (two : Bool) (p : ValueParser) (rows : List Row) (given : Given) → Holds two p rows given
+    → net_bounds_found rows ≡ cond (nat_le (net_bounds_of given).steps NET_STEP_LIMIT) (Some (net_bounds_of given)) None
+net_bounds_are two p rows given h =
+    let low : 32 ≤ NUMBER_LIMIT = omega arith in
+    let high : 50000 ≤ NUMBER_LIMIT = omega arith in
+    let depth =
+    number_is (codes "depth") 1 (limit_of Depth) rows given.depth h.depth
+    (λ v e. small_number 32 v low (h.depth_fits v e)) in
+    let steps =
+    number_is (codes "steps") 1 (limit_of Steps) rows given.steps h.steps
+    (λ v e. small_number 50000 v high (h.steps_fits v e)) in
+    ap₂ (λ (d s : Option ℕ). net_bounds_with (unwrap_or d usual_bounds.depth) (unwrap_or s NET_STEP_LIMIT)) depth steps
+    ∙ ap₂ (λ (a b : Bool). cond (nat_le (net_bounds_of given).steps NET_STEP_LIMIT)
+    (cond (a && b) (Some (net_bounds_of given)) None) None)
+    (bound_in Depth usual_bounds.depth given.depth refl h.depth_fits)
+    (bound_in Steps NET_STEP_LIMIT given.steps refl h.steps_fits)
+
 -- ---- what each command answers
 
--- the parse answers the command where there is one, and fails where there is none
+-- the parse answers the command where there is one; where there is none it fails, or nothing is found
 abbrev pub Answers : Option Command → Kinds → Option Command → Type 0
-Answers None kinds found = kinds ≡ [] → ⊥
+Answers None kinds found = kinds ≡ [] → found ≡ None
 Answers (Some command) kinds found = (kinds ≡ []) × (found ≡ Some command)
 
 -- a command of one file
 pub file_answers : (command : Text → Command) (o : Option Given) (kinds : Kinds) (rows : List Row)
     → Agrees false parsers.String (option_and_then (exactly false parsers.String) o) kinds rows
     → Answers (option_and_then (λ given. with_one command given.files) o) kinds (file_found command rows)
-file_answers command None kinds rows a = a
+file_answers command None kinds rows a = λ e. absurd (a e)
 file_answers command (Some given) kinds rows a = go given.files a
   where
     go : (files : List Text)
         → Agrees false parsers.String (exactly false parsers.String (record given { files = files })) kinds rows
         → Answers (with_one command files) kinds (file_found command rows)
-    go [] a = a
+    go [] a = λ e. absurd (a e)
     go (f ∷ []) a = (a.0, ap (option_map command) (first_is (codes "first") parsers.String rows (Some f) a.1.first))
-    go (f ∷ g ∷ more) a = a
+    go (f ∷ g ∷ more) a = λ e. absurd (a e)
 
 -- a run
 pub run_answers : (command : Text → Text → RunBounds → Command) (o : Option Given) (kinds : Kinds) (rows : List Row)
@@ -125,7 +143,7 @@ pub run_answers : (command : Text → Text → RunBounds → Command) (o : Optio
     → Answers
     (option_and_then (λ given. with_two (λ first second. command first second (bounds_of given)) given.files) o)
     kinds (run_found command rows)
-run_answers command None kinds rows a = a
+run_answers command None kinds rows a = λ e. absurd (a e)
 run_answers command (Some given) kinds rows a = go given.files a
   where
     found : Option Text → Option Text → Option RunBounds → Option Command
@@ -137,22 +155,61 @@ run_answers command (Some given) kinds rows a = go given.files a
         → Agrees true parsers.String (exactly true parsers.String (record given { files = files })) kinds rows
         → Answers (with_two (λ first second. command first second (bounds_of given)) files) kinds
         (run_found command rows)
-    go [] a = a
-    go (f ∷ []) a = a
+    go [] a = λ e. absurd (a e)
+    go (f ∷ []) a = λ e. absurd (a e)
     go (f ∷ g ∷ []) a = (
       a.0,
       λ i. found (first_is (codes "first") parsers.String rows (Some f) a.1.first i)
           (first_is (codes "second") parsers.String rows (Some g) a.1.second i)
           (bounds_are true parsers.String rows (record given { files = f ∷ g ∷ [] }) a.1 i),
     )
-    go (f ∷ g ∷ h ∷ more) a = a
+    go (f ∷ g ∷ h ∷ more) a = λ e. absurd (a e)
+
+-- a net
+pub net_answers : (o : Option Given) (kinds : Kinds) (rows : List Row)
+    → Agrees true parsers.String (option_and_then (exactly true parsers.String) o) kinds rows
+    → Answers
+    (option_and_then (λ given. cond (nat_le (net_bounds_of given).steps NET_STEP_LIMIT)
+    (with_two (λ first second. Net first second (net_bounds_of given)) given.files) None) o)
+    kinds (net_found rows)
+net_answers None kinds rows a = λ e. absurd (a e)
+net_answers (Some given) kinds rows a =
+    go given.files (nat_le (net_bounds_of given).steps NET_STEP_LIMIT) refl a
+  where
+    found : Option Text → Option Text → Option RunBounds → Option Command
+    found first second bounds =
+        option_and_then (λ (files : Text × Text). option_map (Net files.0 files.1) bounds)
+        (option_and_then (λ x. option_map (λ y. (x, y)) second) first)
+
+    -- what is found of two files
+    found_is : (f g : Text) (b : Bool) → nat_le (net_bounds_of given).steps NET_STEP_LIMIT ≡ b
+        → Holds true parsers.String rows (record given { files = f ∷ g ∷ [] })
+        → net_found rows ≡ option_map (Net f g) (cond b (Some (net_bounds_of given)) None)
+    found_is f g b e h =
+        (λ i. found (first_is (codes "first") parsers.String rows (Some f) h.first i)
+        (first_is (codes "second") parsers.String rows (Some g) h.second i)
+        (net_bounds_are true parsers.String rows (record given { files = f ∷ g ∷ [] }) h i))
+        ∙ ap (λ t. option_map (Net f g) (cond t (Some (net_bounds_of given)) None)) e
+
+    go : (files : List Text) (b : Bool) → nat_le (net_bounds_of given).steps NET_STEP_LIMIT ≡ b
+        → Agrees true parsers.String (exactly true parsers.String (record given { files = files })) kinds rows
+        → Answers (cond b (with_two (λ first second. Net first second (net_bounds_of given)) files) None) kinds
+        (net_found rows)
+    go [] true e a = λ z. absurd (a z)
+    go [] false e a = λ z. absurd (a z)
+    go (f ∷ []) true e a = λ z. absurd (a z)
+    go (f ∷ []) false e a = λ z. absurd (a z)
+    go (f ∷ g ∷ []) true e a = (a.0, found_is f g true e a.1)
+    go (f ∷ g ∷ []) false e a = λ z. found_is f g false e a.1
+    go (f ∷ g ∷ h ∷ more) true e a = λ z. absurd (a z)
+    go (f ∷ g ∷ h ∷ more) false e a = λ z. absurd (a z)
 
 -- a command of one number
 pub number_answers : (command : ℕ → Command) (o : Option Given) (kinds : Kinds) (rows : List Row)
     → Agrees false (parsers.Unsigned 0 NUMBER_LIMIT)
     (option_and_then (exactly false (parsers.Unsigned 0 NUMBER_LIMIT)) o) kinds rows
     → Answers (option_and_then (λ given. with_number command given.files) o) kinds (number_found command rows)
-number_answers command None kinds rows a = a
+number_answers command None kinds rows a = λ e. absurd (a e)
 number_answers command (Some given) kinds rows a = go given.files a
   where
     small : NUMBER_LIMIT < 2 ^ 64
@@ -167,17 +224,17 @@ number_answers command (Some given) kinds rows a = go given.files a
       ap (option_map command) (number_is (codes "first") 0 NUMBER_LIMIT rows (Some f) a.1.first
           (λ v same. let is : f ≡ v = cc in subst (λ (x : Text). is_number_in 0 NUMBER_LIMIT x ≡ true) is e)),
     )
-    test f false e a = a
+    test f false e a = λ z. absurd (a z)
 
     go : (files : List Text)
         → Agrees false (parsers.Unsigned 0 NUMBER_LIMIT)
         (exactly false (parsers.Unsigned 0 NUMBER_LIMIT) (record given { files = files }))
         kinds rows
         → Answers (with_number command files) kinds (number_found command rows)
-    go [] a = a
+    go [] a = λ e. absurd (a e)
     go (f ∷ []) a = test f (is_number_in 0 NUMBER_LIMIT f) refl
         (subst
         (λ (b : Bool). Agrees false (parsers.Unsigned 0 NUMBER_LIMIT)
         (cond b (Some (record given { files = f ∷ [] })) None) kinds rows)
         (accepts_number 0 NUMBER_LIMIT f small) a)
-    go (f ∷ g ∷ more) a = a
+    go (f ∷ g ∷ more) a = λ e. absurd (a e)

@@ -1,6 +1,6 @@
 -- The definition at words that were worked by hand.
 use Rattle.std.proofs.Common.{◌≡◌, ℕ, refl, codes, [], ◌∷◌, Some, None}
-use Rattle.command_words.specs.Commands.{RunBounds, Rules, Exec, Selftest}
+use Rattle.command_words.specs.Commands.{RunBounds, Rules, Exec, Net, Selftest}
 use Rattle.command_words.specs.Reading.{read_words}
 use Rattle.command_words.specs.Words.{command_of_texts}
 
@@ -55,6 +55,15 @@ ended = refl
 empty_file : command_of_texts (codes "rules" ∷ [] ∷ codes "-" ∷ []) ≡ Some (Rules [] (codes "-") (bounds 8 10000))
 unfolding read_words
 empty_file = refl
+
+usual_net : command_of_texts (codes "net" ∷ codes "lamp" ∷ codes "ev" ∷ [])
+    ≡ Some (Net (codes "lamp") (codes "ev") (bounds 8 2500))
+unfolding read_words
+usual_net = refl
+
+long_net : command_of_texts (codes "net" ∷ codes "lamp" ∷ codes "ev" ∷ codes "--steps" ∷ codes "2501" ∷ []) ≡ None
+unfolding read_words
+long_net = refl
 
 minus_zero : command_of_texts (codes "selftest" ∷ codes "--" ∷ codes "-0" ∷ []) ≡ None
 unfolding read_words

@@ -31,6 +31,8 @@ pub data Command : Type 0 where
   Bound : Text → Command
   -- `shrink CODE`
   Shrink : Text → Command
+  -- `net NET SCHEDULE`
+  Net : Text → Text → RunBounds → Command
   -- `selftest N`
   Selftest : ℕ → Command
 
@@ -45,6 +47,7 @@ files_named (Run first second bounds) = first ∷ second ∷ []
 files_named (Upgrade first) = first ∷ []
 files_named (Bound first) = first ∷ []
 files_named (Shrink first) = first ∷ []
+files_named (Net first second bounds) = first ∷ second ∷ []
 files_named (Selftest number) = []
 
 -- the files that the words name, none where they name no command

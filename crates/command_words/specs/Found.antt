@@ -4,10 +4,11 @@ use Rattle.std.specs.Prelude.{if◌then◌else◌, codes}
 use Rattle.std.specs.Str.{bytes_eq}
 use Rattle.flow_base.specs.declared.bounds.TheConstants.{DEPTH_LIMIT, STEP_LIMIT}
 use Rattle.clap.specs.Words.{Row, first_of, one_of}
-use Rattle.command_words.specs.declared.words.TheConstants.{NUMBER_LIMIT}
+use Rattle.command_words.specs.declared.words.TheConstants.{NUMBER_LIMIT, NET_STEP_LIMIT}
 use Rattle.command_words.specs.Numbers.{Text, is_number_in, number_of}
 use Rattle.command_words.specs.Commands.{RunBounds, usual_bounds}
-use Rattle.command_words.specs.Commands.{Command, Check, Fmt, Rules, Compile, Exec, Run, Upgrade, Bound, Shrink, Selftest}
+use Rattle.command_words.specs.Commands.{Command, Check, Fmt, Rules, Compile, Exec, Run, Upgrade, Bound, Shrink, Net}
+use Rattle.command_words.specs.Commands.{Selftest}
 
 -- the number that a text denotes, if it is one of 32 bits
 abbrev pub number_in : Text → Option ℕ
@@ -29,6 +30,16 @@ bounds_found rows =
     bounds_with (unwrap_or (number_at (codes "depth") rows) usual_bounds.depth)
     (unwrap_or (number_at (codes "steps") rows) usual_bounds.steps)
 
+-- the bounds of a net, or none where its steps are too many
+abbrev pub net_bounds_with : ℕ → ℕ → Option RunBounds
+net_bounds_with depth steps = if nat_le steps NET_STEP_LIMIT then bounds_with depth steps else None
+
+-- the bounds of a net, the usual ones of nets where they aren't given
+abbrev pub net_bounds_found : List Row → Option RunBounds
+net_bounds_found rows =
+    net_bounds_with (unwrap_or (number_at (codes "depth") rows) usual_bounds.depth)
+    (unwrap_or (number_at (codes "steps") rows) NET_STEP_LIMIT)
+
 -- the two files of a run
 abbrev pub files_found : List Row → Option (Text × Text)
 files_found rows = option_and_then (λ first. option_map (λ second. (first, second)) (first_of (codes "second") rows))
@@ -42,6 +53,12 @@ file_found command rows = option_map command (first_of (codes "first") rows)
 abbrev pub run_found : (Text → Text → RunBounds → Command) → List Row → Option Command
 run_found command rows =
     option_and_then (λ (files : Text × Text). option_map (command files.0 files.1) (bounds_found rows))
+    (files_found rows)
+
+-- the command of a net
+abbrev pub net_found : List Row → Option Command
+net_found rows =
+    option_and_then (λ (files : Text × Text). option_map (Net files.0 files.1) (net_bounds_found rows))
     (files_found rows)
 
 -- a command of one number
@@ -60,6 +77,7 @@ found_named name rows =
     if bytes_eq (codes "upgrade") name then file_found Upgrade rows else
     if bytes_eq (codes "bounds") name then file_found Bound rows else
     if bytes_eq (codes "shrink") name then file_found Shrink rows else
+    if bytes_eq (codes "net") name then net_found rows else
     if bytes_eq (codes "selftest") name then number_found Selftest rows else None
 
 -- the command of a parse, from the name of its subcommand and from that one's rows

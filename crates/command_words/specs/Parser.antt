@@ -66,5 +66,5 @@ program_app = fold with_subcommand bare_app (
     (file_app (codes "check")).top ∷ (file_app (codes "fmt")).top ∷ (run_app (codes "rules")).top
     ∷ (file_app (codes "compile")).top ∷ (run_app (codes "exec")).top ∷ (run_app (codes "run")).top
     ∷ (file_app (codes "upgrade")).top ∷ (file_app (codes "bounds")).top ∷ (file_app (codes "shrink")).top
-    ∷ (number_app (codes "selftest")).top ∷ []
+    ∷ (run_app (codes "net")).top ∷ (number_app (codes "selftest")).top ∷ []
     )

@@ -19,4 +19,5 @@ command_seen (commands.Run first second bounds) = words.Run first.now second.now
 command_seen (commands.Upgrade first) = words.Upgrade first.now
 command_seen (commands.Bound first) = words.Bound first.now
 command_seen (commands.Shrink first) = words.Shrink first.now
+command_seen (commands.Net first second bounds) = words.Net first.now second.now (bounds_seen bounds)
 command_seen (commands.Selftest number) = words.Selftest number

@@ -1,12 +1,13 @@
 -- What the words of the command line ask for.
-use Rattle.std.specs.Prelude.{ℕ, true, false, List, [], ◌∷◌, map, Option, Some, None, option_map, option_and_then}
+use Rattle.std.specs.Prelude.{ℕ, nat_le, true, false, List, [], ◌∷◌, map, Option, Some, None, option_map, option_and_then}
 use Rattle.std.specs.Prelude.{unwrap_or, String, string_bytes, if◌then◌else◌, codes}
 use Rattle.std.specs.declared.alloc.Global.{Global}
 use Rattle.std.specs.Str.{bytes_eq}
-use Rattle.command_words.specs.declared.words.TheConstants.{NUMBER_LIMIT}
+use Rattle.command_words.specs.declared.words.TheConstants.{NUMBER_LIMIT, NET_STEP_LIMIT}
 use Rattle.command_words.specs.Numbers.{Text, is_number_in, number_of}
 use Rattle.command_words.specs.Commands.{RunBounds, usual_bounds}
-use Rattle.command_words.specs.Commands.{Command, Check, Fmt, Rules, Compile, Exec, Run, Upgrade, Bound, Shrink, Selftest}
+use Rattle.command_words.specs.Commands.{Command, Check, Fmt, Rules, Compile, Exec, Run, Upgrade, Bound, Shrink, Net}
+use Rattle.command_words.specs.Commands.{Selftest}
 use Rattle.command_words.specs.Reading.{Given, nothing, read_words}
 
 -- the bounds that the options set, and the usual ones where they don't
@@ -14,6 +15,13 @@ abbrev pub bounds_of : Given → RunBounds
 bounds_of given = record {
   depth = unwrap_or (option_map number_of given.depth) usual_bounds.depth;
   steps = unwrap_or (option_map number_of given.steps) usual_bounds.steps;
+}
+
+-- the bounds of a net, whose usual steps are the most that a net may have
+abbrev pub net_bounds_of : Given → RunBounds
+net_bounds_of given = record {
+  depth = unwrap_or (option_map number_of given.depth) usual_bounds.depth;
+  steps = unwrap_or (option_map number_of given.steps) NET_STEP_LIMIT;
 }
 
 -- a command of exactly one file
@@ -47,6 +55,13 @@ run_command command words =
     option_and_then (λ given. with_two (λ first second. command first second (bounds_of given)) given.files)
     (read_words true None words nothing)
 
+-- the command of a net, which takes two files and bounds of few steps
+abbrev pub net_command : List Text → Option Command
+net_command words =
+    option_and_then (λ given. if nat_le (net_bounds_of given).steps NET_STEP_LIMIT
+    then with_two (λ first second. Net first second (net_bounds_of given)) given.files else None)
+    (read_words true None words nothing)
+
 -- a command of one number, which takes no options
 abbrev pub number_command : (ℕ → Command) → List Text → Option Command
 number_command command words =
@@ -64,6 +79,7 @@ command_named name words =
     if bytes_eq (codes "upgrade") name then file_command Upgrade words else
     if bytes_eq (codes "bounds") name then file_command Bound words else
     if bytes_eq (codes "shrink") name then file_command Shrink words else
+    if bytes_eq (codes "net") name then net_command words else
     if bytes_eq (codes "selftest") name then number_command Selftest words else None
 
 -- the first word names the command

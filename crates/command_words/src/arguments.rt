@@ -1,9 +1,10 @@
 //! The arguments of a command, as a parse found them.
 ghost use Rattle.std.specs.Prelude.{◌≡◌, option_map};
 ghost use Rattle.clap.specs.Words.{first_of, found_of, rows_of};
-ghost use Rattle.command_words.specs.Found.{bounds_found, files_found, number_at};
+ghost use Rattle.command_words.specs.Found.{bounds_found, files_found, net_bounds_found, number_at};
 ghost use Rattle.command_words.specs.Seen.{bounds_seen};
 
+use crate::words::NET_STEP_LIMIT;
 use clap::ArgMatches;
 use flow_base::Bounds;
 
@@ -23,6 +24,19 @@ pub(crate) fn bounds_in(given: &ArgMatches<'_>) -> Option<Bounds>
     let usual = Bounds::usual();
     let depth = number_in(given, "depth").unwrap_or(usual.depth);
     let steps = number_in(given, "steps").unwrap_or(usual.steps);
+    Bounds::make(depth, steps)
+}
+
+/// The bounds of a net, the usual ones of nets where no option sets them; none where the steps are
+/// more than `NET_STEP_LIMIT`.
+pub(crate) fn net_bounds_in(given: &ArgMatches<'_>) -> Option<Bounds>
+    ensures { option_map bounds_seen result ≡ net_bounds_found (rows_of (found_of given.now)) }
+{
+    let depth = number_in(given, "depth").unwrap_or(Bounds::usual().depth);
+    let steps = number_in(given, "steps").unwrap_or(NET_STEP_LIMIT);
+    if steps > NET_STEP_LIMIT {
+        return None;
+    }
     Bounds::make(depth, steps)
 }
 

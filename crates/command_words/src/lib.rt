@@ -10,4 +10,4 @@ mod arguments;
 mod parser;
 mod words;
 
-pub use words::{Command, command_from};
+pub use words::{Command, NET_STEP_LIMIT, command_from};

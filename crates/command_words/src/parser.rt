@@ -20,6 +20,7 @@ pub(crate) fn program<'a>(alloc: Global) -> Result<Command<'a>, AllocError>
     let parser = with_command(parser, with_file(alloc, "upgrade"))?;
     let parser = with_command(parser, with_file(alloc, "bounds"))?;
     let parser = with_command(parser, with_file(alloc, "shrink"))?;
+    let parser = with_command(parser, with_run(alloc, "net"))?;
     with_command(parser, with_number(alloc, "selftest"))
 }
 

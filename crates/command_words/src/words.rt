@@ -3,11 +3,11 @@ ghost use Rattle.std.specs.Prelude.{◌≡◌, IfOk, option_map};
 ghost use Rattle.clap.specs.Words.{found_of, rows_of, subcommand_rows_of};
 ghost use Rattle.command_words.specs.Commands as spec;
 ghost use Rattle.command_words.specs.Found.{command_found, file_found, found_named};
-ghost use Rattle.command_words.specs.Found.{number_found, run_found};
+ghost use Rattle.command_words.specs.Found.{net_found, number_found, run_found};
 ghost use Rattle.command_words.specs.Seen.{command_seen};
 ghost use Rattle.command_words.specs.Words.{command_of};
 
-use crate::arguments::{bounds_in, files_in, number_in, text_in};
+use crate::arguments::{bounds_in, files_in, net_bounds_in, number_in, text_in};
 use crate::parser::program;
 use clap::ArgMatches;
 use clap::error::ErrorKind;
@@ -16,6 +16,9 @@ use std::alloc::Global;
 
 /// The greatest number that a word may give: the greatest of 32 bits.
 pub(crate) const NUMBER_LIMIT: u32 = 4_294_967_295;
+
+/// The greatest number of steps that one event of a net may be given.
+pub const NET_STEP_LIMIT: u32 = 2_500;
 
 /// A command with its files, and with its bounds or its number.
 #[derive(Clone, Copy, Debug, PartialEq, Eq)]
@@ -38,6 +41,8 @@ pub enum Command<'a> {
     Bound(&'a str),
     /// `shrink CODE`
     Shrink(&'a str),
+    /// `net NET SCHEDULE`
+    Net(&'a str, &'a str, Bounds),
     /// `selftest N`
     Selftest(u32),
 }
@@ -45,7 +50,8 @@ pub enum Command<'a> {
 /// What the words ask for; none where they are no list of words of the program.
 ///
 /// `rules`, `exec` and `run` take `--depth V` (1 to `DEPTH_LIMIT`, usually 8) and `--steps V` (1 to
-/// `STEP_LIMIT`, usually 10,000), each at most once. Any list of words may end in `Memory`.
+/// `STEP_LIMIT`, usually 10,000), each at most once. `net` takes them too, with at most
+/// `NET_STEP_LIMIT` steps, which are usual. Any list of words may end in `Memory`.
 pub fn command_from<'a>(alloc: Global, words: &'a [String]) -> Result<Option<Command<'a>>, Memory>
     ensures { IfOk result (λ command. option_map command_seen command ≡ command_of words.now) }
 {
@@ -84,6 +90,7 @@ fn named<'a>(name: &str, given: &ArgMatches<'a>) -> Option<Command<'a>>
         "upgrade" => upgrade_in(given),
         "bounds" => bound_in(given),
         "shrink" => shrink_in(given),
+        "net" => net_in(given),
         "selftest" => selftest_in(given),
         _ => None,
     }
@@ -162,6 +169,14 @@ fn shrink_in<'a>(given: &ArgMatches<'a>) -> Option<Command<'a>>
         ≡ file_found spec.Shrink (rows_of (found_of given.now)) }
 {
     Some(Command::Shrink(text_in(given, "first")?))
+}
+
+/// The command `net` with its files and bounds.
+fn net_in<'a>(given: &ArgMatches<'a>) -> Option<Command<'a>>
+    ensures { option_map command_seen result ≡ net_found (rows_of (found_of given.now)) }
+{
+    let (net, schedule) = files_in(given)?;
+    Some(Command::Net(net, schedule, net_bounds_in(given)?))
 }
 
 /// The command `selftest` with its number.

@@ -22,5 +22,8 @@ returns c =
     let shrink =
     further _ _ _ (file_app (codes "shrink")) bounds
     (c.in_ok-parser-6.ensures (file_app (codes "shrink")) c.with_file-3.ensures) in
-    IfOk-weaker c.with_command-6.result _ _ (λ parser is. further _ parser _ (number_app (codes "selftest")) shrink is)
-    (c.with_command-6.ensures (number_app (codes "selftest")) c.with_number.ensures)
+    let net =
+    further _ _ _ (run_app (codes "net")) shrink
+    (c.in_ok-parser-7.ensures (run_app (codes "net")) c.with_run-3.ensures) in
+    IfOk-weaker c.with_command-7.result _ _ (λ parser is. further _ parser _ (number_app (codes "selftest")) net is)
+    (c.with_command-7.ensures (number_app (codes "selftest")) c.with_number.ensures)

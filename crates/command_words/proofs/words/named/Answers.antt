@@ -18,8 +18,8 @@ differs a b bad = go (bytes_eq a b) refl
 no_command : (name : Text) (rows : List Row) → (name ≡ codes "check" → ⊥) → (name ≡ codes "fmt" → ⊥)
     → (name ≡ codes "rules" → ⊥) → (name ≡ codes "compile" → ⊥) → (name ≡ codes "exec" → ⊥) → (name ≡ codes "run" → ⊥)
     → (name ≡ codes "upgrade" → ⊥) → (name ≡ codes "bounds" → ⊥) → (name ≡ codes "shrink" → ⊥)
-    → (name ≡ codes "selftest" → ⊥) → found_named name rows ≡ None
-no_command name rows a b c d e f g h i j =
+    → (name ≡ codes "net" → ⊥) → (name ≡ codes "selftest" → ⊥) → found_named name rows ≡ None
+no_command name rows a b c d e f g h i j k =
     rw (
       differs (codes "check") name a,
       differs (codes "fmt") name b,
@@ -30,7 +30,8 @@ no_command name rows a b c d e f g h i j =
       differs (codes "upgrade") name g,
       differs (codes "bounds") name h,
       differs (codes "shrink") name i,
-      differs (codes "selftest") name j,
+      differs (codes "net") name j,
+      differs (codes "selftest") name k,
     ) refl
 
 -- the name is none of the program's
@@ -38,4 +39,5 @@ pub returns-in_default : goal.returns-in_default
 returns-in_default c =
     sym (no_command c.args.name.now (rows_of (found_of c.args.given.now)) c.in_default.not-check c.in_default.not-fmt
     c.in_default.not-rules c.in_default.not-compile c.in_default.not-exec c.in_default.not-run
-    c.in_default.not-upgrade c.in_default.not-bounds c.in_default.not-shrink c.in_default.not-selftest)
+    c.in_default.not-upgrade c.in_default.not-bounds c.in_default.not-shrink c.in_default.not-net
+    c.in_default.not-selftest)

@@ -7,5 +7,16 @@ pub mod CountLemmas
 pub mod RulesLemmas
 pub mod CodeFileLemmas
 pub mod CompiledText
+pub mod SameSteps
 pub mod SameTraces
 pub mod WithinNeed
+pub mod NetTextLemmas
+pub mod NetChartLemmas
+pub mod NetRouteLemmas
+pub mod LaterMoments
+pub mod SameNets
+pub mod SameDriving
+pub mod NetRulesLemmas
+pub mod NetMachineLemmas
+pub mod NetJoinLemmas
+pub mod NetEndLemmas

@@ -1,9 +1,11 @@
 -- Two programs with the same runs are traced in the same ways.
-use Rattle.std.proofs.Common.{◌≡◌, ◌↔◌, ℕ, true, List, [], ◌∷◌, Option, Result, Ok, Err, refl, sym, subst, inl, inr}
+use Rattle.std.proofs.Common.{◌≡◌, ◌↔◌, ℕ, true, List, [], ◌∷◌, Option, Result, Ok, Err, refl, sym, subst}
 use Rattle.flow_base.specs.declared.bounds.Bounds.{Bounds}
+use Rattle.flow_base.specs.declared.fault.Fault.{Fault}
 use Rattle.active_config.specs.Tree.{Tree}
 use Rattle.actions.specs.Names.{Names}
 use Rattle.actions.specs.Runs.{EventWithInputs, Moment, StartRelation, ReactionRelation, Runs}
+use Rattle.actions.specs.World.{World}
 use Rattle.checked_chart.specs.Chart.{Chart}
 use Rattle.checked_chart.specs.Valid.{IsValid}
 use Rattle.sos_rules.specs.Reactions as rules
@@ -15,8 +17,7 @@ use Rattle.chart_layout.specs.Bodies.{code_of_chart}
 use Rattle.chart_layout.proofs.Whole.{code_runs}
 use Rattle.commands.specs.Call.{Call}
 use Rattle.step_driver.specs.Traces.{RunFault, Ran}
-use Rattle.step_driver.specs.Driving.{Seen, WroteAll, WroteGiven, WrotePart, WroteSome, TakesNoMore, Drives}
-use Rattle.step_driver.specs.Driving.{RanFirst, IsStartLine, engine_runs}
+use Rattle.step_driver.specs.Driving.{Seen, Wrote, RanFirst, IsStartLine, engine_runs, Drives}
 use Rattle.step_driver.specs.StepRuns.{StepRuns}
 use Rattle.step_driver.specs.declared.driver.DriveEnd.{DriveEnd}
 use Rattle.step_driver.specs.declared.driver.DriveEnd.TheVariants as ends
@@ -24,6 +25,7 @@ use Rattle.commands.specs.declared.traced.TraceEnd.{TraceEnd}
 use Rattle.commands.specs.Trace.{Behaviour, TraceEnds, Driven, NotBegun, seen_of}
 use Rattle.commands.specs.Exec.{by_code}
 use Rattle.commands.specs.Run.{by_compiled}
+use Rattle.commands.proofs.SameSteps.{wrote_all, wrote_given, wrote_part, wrote_some, takes_no_more, wrote}
 
 -- every run of the first is one of the second
 abbrev pub RunsToo : StartRelation → ReactionRelation → StartRelation → ReactionRelation → Type 0
@@ -43,112 +45,56 @@ module _ (start start' : StartRelation) (react react' : ReactionRelation) (t : T
     ended = r.ended;
   }
 
+  -- a start is the run over no events
+  started : (w : World) (f : Option Fault) → start' w f → start w f
+  started w f s = (back [] (record { world = w; fault = f } ∷ []) (s, refl)).0
+
   -- a traced run over the first events
-  ran_first : (all : List EventWithInputs) (text : List ℕ) (fault : Option RunFault)
-      → RanFirst start react t n all text fault → RanFirst start' react' t n all text fault
-  ran_first all text fault r = record {
+  ran_first : (events : List EventWithInputs) (text : List ℕ) (fault : Option RunFault)
+      → RanFirst start react t n events text fault → RanFirst start' react' t n events text fault
+  ran_first events text fault r = record {
     events = r.events;
     rest = r.rest;
     first_events = r.first_events;
     ran = ran r.events text fault r.ran;
   }
 
-  -- a start is the run over no events
-  started : (text : List ℕ) → IsStartLine start' t n text → IsStartLine start t n text
-  started text l = record {
-    world = l.world;
-    fault = l.fault;
-    starts = (back [] (record { world = l.world; fault = l.fault } ∷ []) (l.starts, refl)).0;
-    line = l.line;
-  }
+  -- the line of a start
+  begin : (text : List ℕ) → IsStartLine start' t n text → IsStartLine start t n text
+  begin text b = record { world = b.world; fault = b.fault; starts = started b.world b.fault b.starts; line = b.line }
 
-  -- the runs of the first and of the second
-  abbrev one : StepRuns
-  one = engine_runs start react t n
+  -- the steps of the first
+  abbrev first : StepRuns
+  first = engine_runs start react t n
 
-  abbrev other : StepRuns
-  other = engine_runs start' react' t n
-
-  -- the whole trace
-  wrote_all : (seen : Seen) (result : Result (Unit {0}) DriveEnd) → WroteAll one seen result → WroteAll other seen result
-  wrote_all seen result w = record {
-    text = w.text;
-    is_text = w.is_text;
-    trace = w.trace;
-    end = w.end;
-    ran = ran _ w.trace w.end w.ran;
-    wrote = w.wrote;
-    answer = w.answer;
-  }
-
-  -- that of what was given
-  wrote_given : (seen : Seen) → WroteGiven one seen → WroteGiven other seen
-  wrote_given seen w = record {
-    given = w.given;
-    taken = w.taken;
-    whole = w.whole;
-    has_whole = w.has_whole;
-    good = w.good;
-    short = w.short;
-    within = w.within;
-    trace = w.trace;
-    ran = ran _ w.trace _ w.ran;
-    wrote = w.wrote;
-  }
-
-  -- a front of it
-  wrote_part : (seen : Seen) → WrotePart one seen → WrotePart other seen
-  wrote_part seen w = record {
-    text = w.text;
-    is_text = w.is_text;
-    trace = w.trace;
-    end = w.end;
-    ran = ran_first _ w.trace w.end w.ran;
-    front = w.front;
-    untouched = λ begin l told front. w.untouched begin (started begin l) told front;
-  }
-
-  -- that of some events
-  wrote_some : (seen : Seen) → WroteSome one seen → WroteSome other seen
-  wrote_some seen w = record {
-    text = w.text;
-    is_text = w.is_text;
-    trace = w.trace;
-    ran = elim w.ran [ inl none ↦ inl none | inr some ↦ inr (ran_first _ w.trace _ some) ];
-    wrote = w.wrote;
-  }
-
-  -- what was taken
-  takes_no_more : (seen : Seen) → TakesNoMore one seen → TakesNoMore other seen
-  takes_no_more seen taken = elim taken [
-    | inl same ↦ inl same
-    | inr some ↦
-        inr (record {
-          lines = some.lines;
-          ahead = some.ahead;
-          taken = some.taken;
-          closed = some.closed;
-          good = some.good;
-          few = some.few;
-          within = some.within;
-          trace = some.trace;
-          more = some.more;
-          ran = ran _ some.trace _ some.ran;
-          wrote = some.wrote;
-        })
-  ]
+  -- the whole trace, and what was taken
+  wrote_too : (seen : Seen) (result : Result (Unit {0}) DriveEnd) → Wrote first seen result
+      → Wrote (engine_runs start' react' t n) seen result
+  wrote_too seen result w =
+      wrote first (Ran start' react' t n) (RanFirst start' react' t n) (IsStartLine start' t n) ran ran_first begin seen result w
 
   -- what was driven
   pub drives : (seen : Seen) (result : Result (Unit {0}) DriveEnd) → Drives start react t n seen result
       → Drives start' react' t n seen result
-  drives seen (Ok done) d = (wrote_all seen (Ok done) d.0, d.1)
-  drives seen (Err (ends.Line number fault)) d = (wrote_all seen (Err (ends.Line number fault)) d.0, takes_no_more seen d.1)
-  drives seen (Err (ends.Fault index fault)) d = (wrote_all seen (Err (ends.Fault index fault)) d.0, takes_no_more seen d.1)
-  drives seen (Err ends.Read) d = wrote_given seen d
-  drives seen (Err ends.Write) d = (wrote_part seen d.0, takes_no_more seen d.1)
-  drives seen (Err ends.TooManyLines) d = (wrote_all seen (Err ends.TooManyLines) d.0, takes_no_more seen d.1)
-  drives seen (Err ends.FileTooLong) d = (wrote_all seen (Err ends.FileTooLong) d.0, takes_no_more seen d.1)
-  drives seen (Err ends.Memory) d = (wrote_some seen d.0, takes_no_more seen d.1)
+  drives seen (Ok done) d = (
+    wrote_all first (Ran start' react' t n) (RanFirst start' react' t n) (IsStartLine start' t n) ran ran_first begin seen
+    (Ok done) d.0,
+    d.1,
+  )
+  drives seen (Err (ends.Line number fault)) d = wrote_too seen (Err (ends.Line number fault)) d
+  drives seen (Err (ends.Fault index fault)) d = wrote_too seen (Err (ends.Fault index fault)) d
+  drives seen (Err ends.Read) d =
+      wrote_given first (Ran start' react' t n) (RanFirst start' react' t n) (IsStartLine start' t n) ran ran_first begin seen d
+  drives seen (Err ends.Write) d = (
+    wrote_part first (Ran start' react' t n) (RanFirst start' react' t n) (IsStartLine start' t n) ran ran_first begin seen d.0,
+    takes_no_more first (Ran start' react' t n) (RanFirst start' react' t n) (IsStartLine start' t n) ran ran_first begin seen d.1,
+  )
+  drives seen (Err ends.TooManyLines) d = wrote_too seen (Err ends.TooManyLines) d
+  drives seen (Err ends.FileTooLong) d = wrote_too seen (Err ends.FileTooLong) d
+  drives seen (Err ends.Memory) d = (
+    wrote_some first (Ran start' react' t n) (RanFirst start' react' t n) (IsStartLine start' t n) ran ran_first begin seen d.0,
+    takes_no_more first (Ran start' react' t n) (RanFirst start' react' t n) (IsStartLine start' t n) ran ran_first begin seen d.1,
+  )
 
 module _ (c : Chart) (k : Code) (b : Bounds) (runs : RunsAs c k) (tree : k.tree ≡ c.tree) (names : k.names ≡ c.names) where
   -- the code runs as the chart

@@ -15,3 +15,10 @@ pub mod Upgrade
 pub mod Shrink
 pub mod Compile
 pub mod Run
+pub mod NetCharts
+pub mod NetFiles
+pub mod NetRoutes
+pub mod NetRules
+pub mod NetMachines
+pub mod Schedule
+pub mod NetCommand

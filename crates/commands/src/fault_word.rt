@@ -2,6 +2,7 @@
 ghost use Rattle.std.specs.Prelude.{◌≡◌, ◌≤◌, Some, length};
 ghost use Rattle.actions.specs.Names.{names_of};
 ghost use Rattle.trace_text.specs.Trace as lines;
+ghost use Rattle.commands.specs.NetRules.{no_names};
 ghost use Rattle.commands.specs.Trace.{HasShortNames};
 ghost use Rattle.commands.specs.declared.fault_word.TheConstants.{NAME_LIMIT};
 
@@ -45,6 +46,20 @@ impl FaultWord {
                 text.push_str("overflow ");
                 text.push_str(datum_name(names, datum));
             }
+        }
+        FaultWord { text }
+    }
+
+    /// The word of a fault, where no names are known. It takes no memory.
+    pub(crate) fn without_names(fault: Fault) -> FaultWord
+        ensures { result ≡ lines.result_word no_names (Some fault) }
+    {
+        let mut text = ArrayString::new();
+        match fault {
+            Fault::Depth => text.push_str("depth"),
+            Fault::Steps => text.push_str("steps"),
+            Fault::Zero => text.push_str("zero"),
+            Fault::Overflow(_) => text.push_str("overflow "),
         }
         FaultWord { text }
     }

@@ -20,10 +20,16 @@ mod compile_laws;
 mod exec;
 mod fault_word;
 mod file;
+mod net;
+mod net_charts;
+mod net_file;
+mod net_machines;
+mod net_routes;
 mod refusal;
 mod rules;
 mod run;
 mod run_laws;
+mod schedule;
 mod shrink;
 mod text;
 mod traced;
@@ -37,6 +43,7 @@ pub use compile_laws::what_compile_writes_is_read;
 pub use exec::{ExecEnd, exec_code, run_code};
 pub use fault_word::FaultWord;
 pub use file::{FileEnd, read_text};
+pub use net::{ChartOfNet, NetCommandEnd, run_net};
 pub use refusal::{Refusal, TOO_LONG, end_of_fault};
 pub use rules::{RulesEnd, run_chart};
 pub use run::{RunEnd, run_compiled, run_printed};
@@ -44,6 +51,7 @@ pub use run_laws::{
     code_of_a_chart_overruns_no_bounds_of_its_need, compiled_code_is_traced_as_its_chart,
     shrunk_code_runs_as_its_chart,
 };
+pub use schedule::ScheduleEnd;
 pub use shrink::shrink_code;
 pub use text::{TextEnd, write_made};
 pub use traced::{TraceEnd, trace};

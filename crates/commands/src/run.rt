@@ -73,7 +73,7 @@ pub fn run_printed<I: Inputs, O: Sink>(
 }
 
 /// The code of a chart, printed and read again.
-fn printed(alloc: Global, chart: &Chart) -> Result<Code, Memory>
+pub(crate) fn printed(alloc: Global, chart: &Chart) -> Result<Code, Memory>
     ensures { IfOk result (λ code. code_of code ≡ code_of_chart (chart_of chart.now)) }
 {
     let text = compiled_text(alloc, chart)?;

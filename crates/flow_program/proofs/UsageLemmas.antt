@@ -1,7 +1,8 @@
 -- A call ends as Usage only where the words are none of the program's.
-use Rattle.std.proofs.Common.{◌≡◌, ◌⊎◌, ◌∙◌, Option, Some, None, inl, inr, refl, sym, ap, subst}
+use Rattle.std.proofs.Common.{◌≡◌, ◌⊎◌, ◌∙◌, ℕ, List, Option, Some, None, inl, inr, refl, sym, ap, subst}
 use Rattle.flow_base.specs.declared.status.Status.TheVariants as statuses
-use Rattle.command_words.specs.Commands.{Command, Check, Fmt, Rules, Compile, Exec, Run, Upgrade, Bound, Shrink, Selftest}
+use Rattle.command_words.specs.Commands.{Command, Check, Fmt, Rules, Compile, Exec, Run, Upgrade, Bound, Shrink, Net}
+use Rattle.command_words.specs.Commands.{Selftest}
 use Rattle.commands.specs.declared.file.FileEnd.{FileEnd}
 use Rattle.commands.specs.declared.file.FileEnd.TheVariants as files
 use Rattle.commands.specs.declared.text.TextEnd.{TextEnd}
@@ -16,13 +17,18 @@ use Rattle.commands.specs.declared.exec.ExecEnd.{ExecEnd}
 use Rattle.commands.specs.declared.exec.ExecEnd.TheVariants as execs
 use Rattle.commands.specs.declared.run.RunEnd.{RunEnd}
 use Rattle.commands.specs.declared.run.RunEnd.TheVariants as compiled_ends
+use Rattle.commands.specs.declared.net.NetCommandEnd.{NetCommandEnd}
+use Rattle.commands.specs.declared.net.NetCommandEnd.TheVariants as nets
+use Rattle.commands.specs.declared.schedule.ScheduleEnd.{ScheduleEnd}
+use Rattle.commands.specs.declared.schedule.ScheduleEnd.TheVariants as schedules
+use Rattle.net_text.specs.declared.fault.NetFault.{NetFault}
 use Rattle.selftest_command.specs.declared.command.SelftestEnd.{SelftestEnd}
 use Rattle.selftest_command.specs.declared.command.SelftestEnd.TheVariants as cases
 use Rattle.commands.specs.declared.refusal.Refusal.{Refusal}
 use Rattle.flow_program.specs.declared.ending.Ending.{Ending}
 use Rattle.flow_program.specs.declared.ending.Ending.TheVariants as endings
 use Rattle.flow_program.specs.Ending.{of_chart_file, of_text, of_trace, of_rules, of_code_file, of_exec, of_run, of_upgrade}
-use Rattle.flow_program.specs.Ending.{of_selftest, status_of}
+use Rattle.flow_program.specs.Ending.{of_net_file, of_net_chart, of_schedule, of_net, of_selftest, status_of}
 use Rattle.flow_program.specs.Answer.{Ends, CallEnds}
 
 -- a chart file of which nothing comes ends no call so
@@ -75,6 +81,38 @@ upgrade texts.Done e = absurd cc
 upgrade (texts.Unread end) e = code_file end e
 upgrade texts.Write e = absurd cc
 
+-- nor does a net file of which nothing comes
+net_file : (end : FileEnd NetFault) → endings.Usage ≡ of_net_file end → ⊥
+net_file (files.Refused fault) e = absurd cc
+net_file files.Read e = absurd cc
+net_file files.Memory e = absurd cc
+
+-- nor does the file of a chart of a net of which nothing comes
+net_chart : (name : List ℕ) (end : FileEnd Refusal) → endings.Usage ≡ of_net_chart name end → ⊥
+net_chart name (files.Refused refusal) e = absurd cc
+net_chart name files.Read e = absurd cc
+net_chart name files.Memory e = absurd cc
+
+-- nor does a run over a schedule
+schedule : (end : ScheduleEnd) → endings.Usage ≡ of_schedule end → ⊥
+schedule schedules.Done e = absurd cc
+schedule (schedules.Line number fault) e = absurd cc
+schedule schedules.TooManyLines e = absurd cc
+schedule schedules.FileTooLong e = absurd cc
+schedule (schedules.Fault step word) e = absurd cc
+schedule (schedules.Full step route) e = absurd cc
+schedule (schedules.Empty step route) e = absurd cc
+schedule schedules.Read e = absurd cc
+schedule schedules.Write e = absurd cc
+schedule schedules.Memory e = absurd cc
+
+-- nor does `net`
+net : (end : NetCommandEnd) → endings.Usage ≡ of_net end → ⊥
+net (nets.NoNet end) e = net_file end e
+net (nets.NoChart name end) e = net_chart name end e
+net (nets.NoRoute line) e = absurd cc
+net (nets.Ran end) e = schedule end e
+
 -- nor does `selftest`
 case : (end : SelftestEnd) → endings.Usage ≡ of_selftest end → ⊥
 case cases.Done e = absurd cc
@@ -88,10 +126,14 @@ usage_ending : (ending : Ending) → status_of ending ≡ statuses.Usage → end
 usage_ending endings.Done e = absurd cc
 usage_ending (endings.Chart refusal) e = absurd cc
 usage_ending (endings.Code fault) e = absurd cc
+usage_ending (endings.Net fault) e = absurd cc
+usage_ending (endings.NetChart name refusal) e = absurd cc
 usage_ending (endings.Line number fault) e = absurd cc
 usage_ending endings.TooManyLines e = absurd cc
 usage_ending endings.FileTooLong e = absurd cc
 usage_ending (endings.Fault index word) e = absurd cc
+usage_ending (endings.Full step route) e = absurd cc
+usage_ending (endings.Empty step route) e = absurd cc
 usage_ending endings.Usage e = refl
 usage_ending endings.Read e = absurd cc
 usage_ending endings.Write e = absurd cc
@@ -108,6 +150,7 @@ never (Run first second given) call h = compiled h.end h.ending_is
 never (Upgrade first) call h = upgrade h.end h.ending_is
 never (Bound first) call h = text h.end h.ending_is
 never (Shrink first) call h = upgrade h.end h.ending_is
+never (Net first second given) call h = net h.end h.ending_is
 never (Selftest number) call h = case h.end h.ending_is
 
 -- a call ends as Usage only where its words ask for no command

@@ -1,11 +1,12 @@
 -- The answer of the program: what it writes and how it ends, for all words, files and faults.
-use Rattle.std.specs.Prelude.{◌≡◌, ◌⊎◌, ℕ, List, Option, Some, None}
+use Rattle.std.specs.Prelude.{◌≡◌, ◌⊎◌, ℕ, List, [], Option, Some, None}
 use Rattle.std.specs.Io.KnownBytes.{append_known}
 use Rattle.flow_base.specs.Causes.{Stands}
 use Rattle.flow_base.specs.declared.bounds.Bounds.{Bounds}
 use Rattle.flow_base.specs.declared.status.Status.{Status}
-use Rattle.command_words.specs.Commands.{RunBounds, Command, Check, Fmt, Rules, Compile, Exec, Run, Upgrade, Bound, Shrink, Selftest}
-use Rattle.command_words.specs.Commands.{files_of}
+use Rattle.command_words.specs.Commands.{RunBounds, Command, Check, Fmt, Rules, Compile, Exec, Run, Upgrade, Bound, Shrink, Net}
+use Rattle.command_words.specs.Commands.{Selftest}
+use Rattle.command_words.specs.Commands.{files_named}
 use Rattle.commands.specs.Call.{Output, Call, OthersStay}
 use Rattle.commands.specs.Writing.{WroteFront}
 use Rattle.commands.specs.Bounds.{BoundsEnds}
@@ -15,12 +16,13 @@ use Rattle.commands.specs.Exec.{ExecEnds}
 use Rattle.commands.specs.Shrink.{ShrinkEnds}
 use Rattle.commands.specs.Upgrade.{UpgradeEnds}
 use Rattle.commands.specs.Compile.{CompileEnds}
+use Rattle.commands.specs.NetCommand.{NetEnds, NetOthersStay}
 use Rattle.commands.specs.Run.{RunEnds}
 use Rattle.selftest_command.specs.Selftest.{SelftestEnds}
 use Rattle.selftest_command.specs.declared.command.SelftestEnd.{SelftestEnd}
 use Rattle.flow_program.specs.declared.ending.Ending.{Ending}
 use Rattle.flow_program.specs.declared.ending.Ending.TheVariants as endings
-use Rattle.flow_program.specs.Ending.{of_text, of_rules, of_exec, of_run, of_upgrade, of_selftest, status_of, line_of}
+use Rattle.flow_program.specs.Ending.{of_text, of_rules, of_exec, of_run, of_upgrade, of_net, of_selftest, status_of, line_of}
 use Rattle.flow_program.specs.Fmt.{FmtEnds}
 
 -- the call ends at once: nothing is read, and nothing is written
@@ -62,7 +64,27 @@ Ends (Some (Run first second given)) call ending =
 Ends (Some (Upgrade first)) call ending = EndsAs of_upgrade (UpgradeEnds call first) ending
 Ends (Some (Bound first)) call ending = EndsAs of_text (BoundsEnds call first) ending
 Ends (Some (Shrink first)) call ending = EndsAs of_upgrade (ShrinkEnds call first) ending
+Ends (Some (Net first second given)) call ending =
+    EndsAs of_net (Under given (λ bounds end. NetEnds bounds call first second end)) ending
 Ends (Some (Selftest number)) call ending = EndsAs of_selftest (CaseEnds call number) ending
+
+-- files that the words don't name keep what they have left; those of the charts that the text of a net names are read too
+abbrev pub OthersKeep : Option Command → Call → Type 0
+OthersKeep None call = OthersStay [] call.sources_before call.sources_after
+OthersKeep (Some (Check first)) call = OthersStay (files_named (Check first)) call.sources_before call.sources_after
+OthersKeep (Some (Fmt first)) call = OthersStay (files_named (Fmt first)) call.sources_before call.sources_after
+OthersKeep (Some (Rules first second given)) call =
+    OthersStay (files_named (Rules first second given)) call.sources_before call.sources_after
+OthersKeep (Some (Compile first)) call = OthersStay (files_named (Compile first)) call.sources_before call.sources_after
+OthersKeep (Some (Exec first second given)) call =
+    OthersStay (files_named (Exec first second given)) call.sources_before call.sources_after
+OthersKeep (Some (Run first second given)) call =
+    OthersStay (files_named (Run first second given)) call.sources_before call.sources_after
+OthersKeep (Some (Upgrade first)) call = OthersStay (files_named (Upgrade first)) call.sources_before call.sources_after
+OthersKeep (Some (Bound first)) call = OthersStay (files_named (Bound first)) call.sources_before call.sources_after
+OthersKeep (Some (Shrink first)) call = OthersStay (files_named (Shrink first)) call.sources_before call.sources_after
+OthersKeep (Some (Net first second given)) call = NetOthersStay call first second
+OthersKeep (Some (Selftest number)) call = OthersStay (files_named (Selftest number)) call.sources_before call.sources_after
 
 -- how a call ends, and when: as the command does, or memory runs out before the words are read
 abbrev pub CallEnds : Option Command → Call → Ending → Type 0
@@ -74,12 +96,12 @@ LineStands before after line =
     (after.holds ≡ append_known before.holds line) ⊎ WroteFront before after line
 
 -- the answer: the call ends in one way, which fixes its status and its line on standard error, all of which stands
--- there where no write of it fails; files that the words don't name keep what they have left
+-- there where no write of it fails; other files than those of the command keep what they have left
 pub record Answer (command : Option Command) (call : Call) (errors_before errors_after : Output)
     (status : Status) : Type 0 where
   pub ending : Ending
   pub ends : CallEnds command call ending
-  pub others : OthersStay (files_of command) call.sources_before call.sources_after
+  pub others : OthersKeep command call
   pub answered : status ≡ status_of ending
   pub line : Stands errors_before.faults errors_after.faults
       → errors_after.holds ≡ append_known errors_before.holds (line_of ending)

@@ -21,6 +21,13 @@ use Rattle.commands.specs.declared.exec.ExecEnd.{ExecEnd}
 use Rattle.commands.specs.declared.exec.ExecEnd.TheVariants as execs
 use Rattle.commands.specs.declared.run.RunEnd.{RunEnd}
 use Rattle.commands.specs.declared.run.RunEnd.TheVariants as compiled
+use Rattle.commands.specs.declared.net.NetCommandEnd.{NetCommandEnd}
+use Rattle.commands.specs.declared.net.NetCommandEnd.TheVariants as nets
+use Rattle.commands.specs.declared.schedule.ScheduleEnd.{ScheduleEnd}
+use Rattle.commands.specs.declared.schedule.ScheduleEnd.TheVariants as schedules
+use Rattle.net_text.specs.Faults as net_faults
+use Rattle.net_text.specs.declared.fault.NetFault.{NetFault}
+use Rattle.net_text.specs.declared.fault.NetFault.TheVariants.{BadRoute}
 use Rattle.selftest_command.specs.declared.command.SelftestEnd.{SelftestEnd}
 use Rattle.selftest_command.specs.declared.command.SelftestEnd.TheVariants as cases
 use Rattle.commands.specs.declared.refusal.Refusal.{Refusal}
@@ -79,6 +86,38 @@ of_upgrade texts.Done = endings.Done
 of_upgrade (texts.Unread end) = of_code_file end
 of_upgrade texts.Write = endings.Write
 
+-- where nothing comes of a net file
+abbrev pub of_net_file : FileEnd NetFault → Ending
+of_net_file (files.Refused fault) = endings.Net fault
+of_net_file files.Read = endings.Read
+of_net_file files.Memory = endings.Memory
+
+-- where nothing comes of the file of a chart of a net
+abbrev pub of_net_chart : List ℕ → FileEnd Refusal → Ending
+of_net_chart name (files.Refused refusal) = endings.NetChart name refusal
+of_net_chart name files.Read = endings.Read
+of_net_chart name files.Memory = endings.Memory
+
+-- of a net's run over a schedule
+abbrev pub of_schedule : ScheduleEnd → Ending
+of_schedule schedules.Done = endings.Done
+of_schedule (schedules.Line number fault) = endings.Line number fault
+of_schedule schedules.TooManyLines = endings.TooManyLines
+of_schedule schedules.FileTooLong = endings.FileTooLong
+of_schedule (schedules.Fault step word) = endings.Fault step word
+of_schedule (schedules.Full step route) = endings.Full step route
+of_schedule (schedules.Empty step route) = endings.Empty step route
+of_schedule schedules.Read = endings.Read
+of_schedule schedules.Write = endings.Write
+of_schedule schedules.Memory = endings.Memory
+
+-- of `net`
+abbrev pub of_net : NetCommandEnd → Ending
+of_net (nets.NoNet end) = of_net_file end
+of_net (nets.NoChart name end) = of_net_chart name end
+of_net (nets.NoRoute line) = endings.Net (BadRoute line)
+of_net (nets.Ran end) = of_schedule end
+
 -- of `selftest`
 abbrev pub of_selftest : SelftestEnd → Ending
 of_selftest cases.Done = endings.Done
@@ -94,10 +133,14 @@ abbrev pub status_of : Ending → Status
 status_of endings.Done = statuses.Ok
 status_of (endings.Chart refusal) = statuses.Refused
 status_of (endings.Code fault) = statuses.Refused
+status_of (endings.Net fault) = statuses.Refused
+status_of (endings.NetChart name refusal) = statuses.Refused
 status_of (endings.Line number fault) = statuses.Refused
 status_of endings.TooManyLines = statuses.Refused
 status_of endings.FileTooLong = statuses.Refused
 status_of (endings.Fault index word) = statuses.RunFault
+status_of (endings.Full step route) = statuses.RunFault
+status_of (endings.Empty step route) = statuses.RunFault
 status_of endings.Usage = statuses.Usage
 status_of endings.Read = statuses.Read
 status_of endings.Write = statuses.Write
@@ -107,6 +150,14 @@ status_of endings.Memory = statuses.Memory
 abbrev pub place_text : Span → List ℕ
 place_text at = codes "chart " ++ decimal at.line ++ codes ":" ++ decimal at.column
 
+-- a place in a text
+abbrev pub spot_text : Span → List ℕ
+spot_text at = decimal at.line ++ codes ":" ++ decimal at.column
+
+-- a place in the text of a chart of a net
+abbrev pub named_place_text : List ℕ → Span → List ℕ
+named_place_text name at = codes "chart " ++ name ++ codes " " ++ spot_text at
+
 -- number and name of a kind of fault of a chart text
 abbrev pub kind_text : FormKind → List ℕ
 kind_text kind = codes ": " ++ decimal (form_number kind) ++ codes " " ++ form_name kind
@@ -115,18 +166,26 @@ kind_text kind = codes ": " ++ decimal (form_number kind) ++ codes " " ++ form_n
 abbrev pub event_fault_text : LineFault → List ℕ
 event_fault_text fault = decimal (line_fault_number fault) ++ codes " " ++ line_fault_name fault
 
+-- the step at which a route ended a run, a word for how, and the route
+abbrev pub stop_text : ℕ → List ℕ → ℕ → List ℕ
+stop_text step word route = codes "run " ++ decimal step ++ codes ": " ++ word ++ decimal route ++ codes "\n"
+
 -- the line on standard error, none where the answer is whole
 abbrev pub line_of : Ending → List ℕ
 line_of endings.Done = []
 line_of (endings.Chart refusal) = place_text refusal.at ++ kind_text refusal.kind ++ codes "\n"
 line_of (endings.Code fault) = fault_text fault ++ codes "\n"
+line_of (endings.Net fault) = net_faults.fault_text fault ++ codes "\n"
+line_of (endings.NetChart name refusal) = named_place_text name refusal.at ++ kind_text refusal.kind ++ codes "\n"
 line_of (endings.Line number fault) =
     codes "event " ++ decimal number ++ codes ": " ++ event_fault_text fault ++ codes "\n"
 line_of endings.TooManyLines = codes "event: 5 TooManyLines\n"
 line_of endings.FileTooLong = codes "event: 6 FileTooLong\n"
 line_of (endings.Fault index word) = codes "run " ++ decimal index ++ codes ": " ++ word ++ codes "\n"
+line_of (endings.Full step route) = stop_text step (codes "full ") route
+line_of (endings.Empty step route) = stop_text step (codes "empty ") route
 line_of endings.Usage =
-    codes "usage: flowc check CHART, fmt CHART, rules CHART EVENTS, compile CHART, exec CODE EVENTS, run CHART EVENTS, upgrade CODE, bounds CHART, shrink CODE, selftest N; --depth D, --steps S\n"
+    codes "usage: flowc check CHART, fmt CHART, rules CHART EVENTS, compile CHART, exec CODE EVENTS, run CHART EVENTS, upgrade CODE, bounds CHART, shrink CODE, net NET SCHEDULE, selftest N; --depth D, --steps S\n"
 line_of endings.Read = codes "read fault\n"
 line_of endings.Write = codes "write fault\n"
 line_of endings.Memory = codes "out of memory\n"

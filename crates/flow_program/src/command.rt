@@ -1,17 +1,16 @@
 //! The program.
 ghost use Rattle.std.specs.Prelude.{◌≡◌, ◌⊎◌, Some, None, option_map};
-ghost use Rattle.command_words.specs.Commands.{files_named, files_of};
 ghost use Rattle.command_words.specs.Seen.{command_seen};
 ghost use Rattle.command_words.specs.Words.{command_of};
-ghost use Rattle.commands.specs.Call.{sources_of, output_of, call_of, OthersStay};
-ghost use Rattle.flow_program.specs.Answer.{Ends, CallEnds, Answer};
+ghost use Rattle.commands.specs.Call.{output_of, call_of};
+ghost use Rattle.flow_program.specs.Answer.{Ends, CallEnds, OthersKeep, Answer};
 
 use crate::ending::Ending;
 use crate::fmt::format_chart;
 use crate::report::report;
 use command_words::{Command, command_from};
 use commands::{
-    bound_chart, check_chart, compile_chart, exec_code, run_chart, run_compiled, shrink_code,
+    bound_chart, check_chart, compile_chart, exec_code, run_chart, run_compiled, run_net, shrink_code,
     upgrade_code,
 };
 use flow_base::{Inputs, Memory, Sink, Status};
@@ -32,8 +31,10 @@ use std::alloc::Global;
 /// code of the file. `bounds CHART` writes the bounds of a run that no event of the accepted chart
 /// of the file can overrun, or that a certificate gives none. `shrink CODE` writes the text of
 /// format 2 of smaller code of the same meaning.
+/// `net NET SCHEDULE` compiles the charts of the files that the text of the first file names, runs
+/// their code over the steps of the second file, and writes the trace.
 /// `selftest N` runs generated case N by the rules and as printed code, and writes one line of
-/// counts. `rules`, `exec` and `run` take the bounds `--depth` and `--steps`. All other words are
+/// counts. `rules`, `exec`, `run` and `net` take the bounds `--depth` and `--steps`. All other words are
 /// refused as Usage. Any words may end in Memory before anything is read.
 pub fn chart_main<I: Inputs, O: Sink, E: Sink>(
     alloc: Global,
@@ -58,8 +59,8 @@ pub fn chart_main<I: Inputs, O: Sink, E: Sink>(
 fn call<I: Inputs, O: Sink>(alloc: Global, words: &[String], inputs: &mut I, out: &mut O) -> Ending
     ensures ends { CallEnds (command_of words.now)
         (call_of I.Inputs O.Sink inputs.old inputs.new out.old out.new) result }
-    ensures others { OthersStay (files_of (command_of words.now))
-        (sources_of I.Inputs inputs.old) (sources_of I.Inputs inputs.new) }
+    ensures others { OthersKeep (command_of words.now)
+        (call_of I.Inputs O.Sink inputs.old inputs.new out.old out.new) }
 {
     match command_from(alloc, words) {
         Ok(asked) => answer_asked(alloc, asked, inputs, out),
@@ -76,8 +77,8 @@ fn answer_asked<I: Inputs, O: Sink>(
 ) -> Ending
     ensures ends { Ends (option_map command_seen asked.entry)
         (call_of I.Inputs O.Sink inputs.old inputs.new out.old out.new) result }
-    ensures others { OthersStay (files_of (option_map command_seen asked.entry))
-        (sources_of I.Inputs inputs.old) (sources_of I.Inputs inputs.new) }
+    ensures others { OthersKeep (option_map command_seen asked.entry)
+        (call_of I.Inputs O.Sink inputs.old inputs.new out.old out.new) }
 {
     match asked {
         Some(command) => answer(alloc, command, inputs, out),
@@ -94,8 +95,8 @@ fn answer<I: Inputs, O: Sink>(
 ) -> Ending
     ensures ends { Ends (Some (command_seen command.entry))
         (call_of I.Inputs O.Sink inputs.old inputs.new out.old out.new) result }
-    ensures others { OthersStay (files_named (command_seen command.entry))
-        (sources_of I.Inputs inputs.old) (sources_of I.Inputs inputs.new) }
+    ensures others { OthersKeep (Some (command_seen command.entry))
+        (call_of I.Inputs O.Sink inputs.old inputs.new out.old out.new) }
 {
     match command {
         Command::Check(chart) => Ending::from(check_chart(alloc, chart, inputs, out)),
@@ -113,6 +114,9 @@ fn answer<I: Inputs, O: Sink>(
         Command::Upgrade(code) => Ending::from(upgrade_code(alloc, code, inputs, out)),
         Command::Bound(chart) => Ending::from(bound_chart(alloc, chart, inputs, out)),
         Command::Shrink(code) => Ending::from(shrink_code(alloc, code, inputs, out)),
+        Command::Net(net, schedule, bounds) => {
+            Ending::from(run_net(alloc, net, schedule, bounds, inputs, out))
+        }
         Command::Selftest(number) => Ending::from(selftest(alloc, number, out)),
     }
 }

@@ -3,9 +3,13 @@ ghost use Rattle.std.specs.Prelude.{◌≡◌};
 ghost use Rattle.flow_program.specs.Ending as spec;
 
 use code_text::CodeTextFault;
-use commands::{ExecEnd, FaultWord, FileEnd, Refusal, RulesEnd, RunEnd, TextEnd, TraceEnd};
+use commands::{
+    ChartOfNet, ExecEnd, FaultWord, FileEnd, NetCommandEnd, Refusal, RulesEnd, RunEnd, ScheduleEnd,
+    TextEnd, TraceEnd,
+};
 use event_file::LineFault;
 use flow_base::Status;
+use net_text::NetFault;
 use selftest_command::SelftestEnd;
 
 /// How a call of the program ends.
@@ -17,6 +21,10 @@ pub enum Ending {
     Chart(Refusal),
     /// The code text is refused.
     Code(CodeTextFault),
+    /// The net text is refused.
+    Net(NetFault),
+    /// The text of that chart of a net is refused.
+    NetChart(ChartOfNet, Refusal),
     /// The event file is refused at that line, counted from 1.
     Line(u64, LineFault),
     /// The event file has more events than it may.
@@ -25,6 +33,10 @@ pub enum Ending {
     FileTooLong,
     /// The run has the fault of that word at that index.
     Fault(u64, FaultWord),
+    /// At the step of the first number of a schedule the route of the second was full.
+    Full(u64, u32),
+    /// At the step of the first number of a schedule the route of the second was empty.
+    Empty(u64, u32),
     /// The words name no command.
     Usage,
     /// A file that the words name couldn't be read.
@@ -44,10 +56,12 @@ impl Ending {
             Ending::Done => Status::Ok,
             Ending::Chart(_)
             | Ending::Code(_)
+            | Ending::Net(_)
+            | Ending::NetChart(_, _)
             | Ending::Line(_, _)
             | Ending::TooManyLines
             | Ending::FileTooLong => Status::Refused,
-            Ending::Fault(_, _) => Status::RunFault,
+            Ending::Fault(_, _) | Ending::Full(_, _) | Ending::Empty(_, _) => Status::RunFault,
             Ending::Usage => Status::Usage,
             Ending::Read => Status::Read,
             Ending::Write => Status::Write,
@@ -174,6 +188,63 @@ impl From<TextEnd<CodeTextFault>> for Ending {
             TextEnd::Done => Ending::Done,
             TextEnd::Unread(end) => Ending::from(end),
             TextEnd::Write => Ending::Write,
+        }
+    }
+}
+
+impl From<FileEnd<NetFault>> for Ending {
+    ghost use Rattle.std.specs.Prelude.{◌≡◌};
+    ghost use Rattle.flow_program.specs.Ending.{of_net_file};
+
+    ghost from_gives = { λ end ending. ending ≡ of_net_file end };
+
+    fn from(end: FileEnd<NetFault>) -> Ending {
+        match end {
+            FileEnd::Refused(fault) => Ending::Net(fault),
+            FileEnd::Read => Ending::Read,
+            FileEnd::Memory => Ending::Memory,
+        }
+    }
+}
+
+impl From<ScheduleEnd> for Ending {
+    ghost use Rattle.std.specs.Prelude.{◌≡◌};
+    ghost use Rattle.flow_program.specs.Ending.{of_schedule};
+
+    ghost from_gives = { λ end ending. ending ≡ of_schedule end };
+
+    fn from(end: ScheduleEnd) -> Ending {
+        match end {
+            ScheduleEnd::Done => Ending::Done,
+            ScheduleEnd::Line(number, fault) => Ending::Line(number, fault),
+            ScheduleEnd::TooManyLines => Ending::TooManyLines,
+            ScheduleEnd::FileTooLong => Ending::FileTooLong,
+            ScheduleEnd::Fault(step, word) => Ending::Fault(step, word),
+            ScheduleEnd::Full(step, route) => Ending::Full(step, route),
+            ScheduleEnd::Empty(step, route) => Ending::Empty(step, route),
+            ScheduleEnd::Read => Ending::Read,
+            ScheduleEnd::Write => Ending::Write,
+            ScheduleEnd::Memory => Ending::Memory,
+        }
+    }
+}
+
+impl From<NetCommandEnd> for Ending {
+    ghost use Rattle.std.specs.Prelude.{◌≡◌};
+    ghost use Rattle.flow_program.specs.Ending.{of_net};
+
+    ghost from_gives = { λ end ending. ending ≡ of_net end };
+
+    fn from(end: NetCommandEnd) -> Ending {
+        match end {
+            NetCommandEnd::NoNet(end) => Ending::from(end),
+            NetCommandEnd::NoChart(chart, FileEnd::Refused(refusal)) => {
+                Ending::NetChart(chart, refusal)
+            }
+            NetCommandEnd::NoChart(_, FileEnd::Read) => Ending::Read,
+            NetCommandEnd::NoChart(_, FileEnd::Memory) => Ending::Memory,
+            NetCommandEnd::NoRoute(line) => Ending::Net(NetFault::BadRoute(line)),
+            NetCommandEnd::Ran(end) => Ending::from(end),
         }
     }
 }

@@ -111,7 +111,7 @@ fn check_event_files(rt: &(impl AllocGlobal + Abort), lines: &[&str], text: &str
 }
 
 const USAGE: &str =
-    "usage: flowc check CHART, fmt CHART, rules CHART EVENTS, compile CHART, exec CODE EVENTS, run CHART EVENTS, upgrade CODE, bounds CHART, shrink CODE, selftest N; --depth D, --steps S\n";
+    "usage: flowc check CHART, fmt CHART, rules CHART EVENTS, compile CHART, exec CODE EVENTS, run CHART EVENTS, upgrade CODE, bounds CHART, shrink CODE, net NET SCHEDULE, selftest N; --depth D, --steps S\n";
 
 const OTHER_WORDS: &[&str] = &[
     "",

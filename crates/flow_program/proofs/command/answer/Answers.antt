@@ -37,3 +37,14 @@ returns-in-Run-clause-ends g c =
       ends = record { bounds = c.in-Run.bounds; depth = refl; steps = refl; ends = c.run_compiled.ensures.ends };
       ending_is = c.from-in-Run.ensures;
     })
+
+-- `net` runs under its bounds
+pub returns-in-Net-clause-ends : goal.returns-in-Net-clause-ends
+returns-in-Net-clause-ends g c =
+    let call = call_of g.I.Inputs g.O.Sink c.args.inputs.now c.run_net.new.inputs c.args.out.now c.run_net.new.out in
+    subst (λ (command : Command). Ends (Some (command_seen command)) call c.from-in-Net.result) (sym c.in-Net.is)
+    (record {
+      end = c.run_net.result;
+      ends = record { bounds = c.in-Net.bounds; depth = refl; steps = refl; ends = c.run_net.ensures.ends };
+      ending_is = c.from-in-Net.ensures;
+    })

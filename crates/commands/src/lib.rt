@@ -1,6 +1,6 @@
-//! The commands over files: `check`, `bounds`, `rules`, `compile`, `exec`, `run`, `upgrade` and
-//! `shrink`, and what they share: a file read whole, a text that is written, and the trace of any
-//! engine.
+//! The commands over files: `check`, `bounds`, `rules`, `compile`, `exec`, `run`, `upgrade`,
+//! `shrink` and `net`, and what they share: a file read whole, a text that is written, and the trace
+//! of any engine.
 //!
 //! Read `specs/Call.antt` first, then `specs/Reading.antt`, `specs/Writing.antt` and
 //! `specs/Texts.antt`, which says how a command ends that writes one text made of one file;
@@ -8,7 +8,9 @@
 //! `specs/Check.antt`, `specs/Bounds.antt`, `specs/Rules.antt`, `specs/Compile.antt`,
 //! `specs/Exec.antt`, `specs/Run.antt`, `specs/Upgrade.antt` or `specs/Shrink.antt`.
 //! `specs/Refusals.antt` and `specs/Accepted.antt` say which chart texts are refused,
-//! `specs/CodeText.antt` which code texts are read.
+//! `specs/CodeText.antt` which code texts are read. For `net` read `specs/NetCharts.antt`,
+//! `specs/NetRoutes.antt`, `specs/NetRules.antt`, `specs/Schedule.antt` and
+//! `specs/NetCommand.antt`, in this order.
 #![tactic(auto)]
 
 mod accepted_file;

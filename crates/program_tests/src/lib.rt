@@ -10,6 +10,8 @@ mod devices;
 #[cfg(test)]
 mod formatting;
 #[cfg(test)]
+mod nets;
+#[cfg(test)]
 mod rows;
 #[cfg(test)]
 mod running;

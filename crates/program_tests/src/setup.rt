@@ -63,7 +63,7 @@ fn files(rt: &(impl AllocGlobal + Abort), text: &str, events: &str, fail: &[u64]
 }
 
 /// A sink that takes pieces of a size; the listed writes to it fail.
-fn sink(rt: &(impl AllocGlobal + Abort), piece: usize, fail: &[u64]) -> MemSink
+pub fn sink(rt: &(impl AllocGlobal + Abort), piece: usize, fail: &[u64]) -> MemSink
     requires { 0 < piece }
 {
     MemSink::new(rt.alloc(), 16_384, piece, numbers(rt, fail)).expect(rt, "memory")

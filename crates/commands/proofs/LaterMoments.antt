@@ -1,5 +1,5 @@
 -- A run of an engine, and the moment of one event more.
-use Rattle.std.proofs.Common.{◌≡◌, ℕ, List, [], ◌∷◌, ◌++◌, Option, Some, None, refl, sym, subst}
+use Rattle.std.proofs.Common.{◌≡◌, List, [], ◌∷◌, ◌++◌, Option, Some, None, refl, sym, subst}
 use Rattle.flow_base.specs.declared.fault.Fault.{Fault}
 use Rattle.actions.specs.Runs.{EventWithInputs, ReactionRelation, Moment, ReactsWithInputs, UnlessFaulted, GoesOn}
 use Rattle.actions.specs.World.{World}
@@ -39,14 +39,13 @@ one_later react m (e ∷ events) (n ∷ moments) w given next ends goes step =
     at (Some fault) none rest = absurd cc
     at None goes rest =
         let first : goes.0 ≡ n = let is = goes.2 in cc in
-        let later : goes.1 ≡ moments = let is = goes.2 in cc in
-        (
+        let later : goes.1 ≡ moments = let is = goes.2 in cc in (
           n,
           moments ++ next ∷ [],
           refl,
           subst (λ (x : Moment). ReactsWithInputs react m.world e x.world x.fault) first goes.3,
           rest (subst (λ (x : Moment). GoesOn react x events moments) first
-          (subst (λ (x : List Moment). GoesOn react goes.0 events x) later goes.4)),
+              (subst (λ (x : List Moment). GoesOn react goes.0 events x) later goes.4)),
         )
 
 -- and that is what the event gives from the world before it

@@ -17,7 +17,7 @@ use Rattle.commands.specs.Accepted.{RefusesAccepted}
 use Rattle.commands.specs.Call.{Sources, OthersStay}
 use Rattle.commands.specs.NetCharts.{LoadedChart, loaded_as, chart_known, GivesChart, ReadsCharts, chart_in, chart_numbered}
 use Rattle.commands.specs.NetCharts.{AllRead, ChartUnread, before_charts, loaded_in}
-use Rattle.commands.specs.NetFiles.{IsTaken, IsAdded, IsReadFile}
+use Rattle.commands.specs.NetFiles.{IsTaken, IsReadFile}
 use Rattle.commands.specs.Reading.{Unread}
 use Rattle.commands.specs.declared.file.FileEnd.{FileEnd}
 use Rattle.commands.specs.declared.net_charts.ReadFile.{ReadFile}
@@ -90,28 +90,26 @@ pub reads_more : (earlier : List LoadedChart) (before now after : Sources) (ahea
     → ReadsCharts earlier before after (ahead ++ c ∷ []) (loaded ++ loaded_as c chart ∷ [])
 reads_more earlier before now after [] c chart loaded reads gives =
     let none : loaded ≡ [] = reads.0 in
-    let same : earlier ++ loaded ≡ earlier = ap (λ (l : List LoadedChart). earlier ++ l) none ∙ append-nil earlier in
-    (
+    let same : earlier ++ loaded ≡ earlier = ap (λ (l : List LoadedChart). earlier ++ l) none ∙ append-nil earlier in (
       chart,
       [],
       after,
       ap (λ (l : List LoadedChart). l ++ loaded_as c chart ∷ []) none,
       subst (λ (s : Sources). GivesChart (chart_known c.file earlier) s after c.file chart) reads.1
-      (subst (λ (l : List LoadedChart). GivesChart (chart_known c.file l) now after c.file chart) same gives),
+          (subst (λ (l : List LoadedChart). GivesChart (chart_known c.file l) now after c.file chart) same gives),
       (refl, refl),
     )
 reads_more earlier before now after (a ∷ ahead) c chart loaded reads gives =
     let first = loaded_as a reads.0 in
     let same : earlier ++ loaded ≡ (earlier ++ first ∷ []) ++ reads.1 =
-    ap (λ (l : List LoadedChart). earlier ++ l) reads.3 ∙ sym (append_assoc earlier (first ∷ []) reads.1) in
-    (
+    ap (λ (l : List LoadedChart). earlier ++ l) reads.3 ∙ sym (append_assoc earlier (first ∷ []) reads.1) in (
       reads.0,
       reads.1 ++ loaded_as c chart ∷ [],
       reads.2,
       ap (λ (l : List LoadedChart). l ++ loaded_as c chart ∷ []) reads.3,
       reads.4,
       reads_more (earlier ++ first ∷ []) reads.2 now after ahead c chart reads.1 reads.5
-      (subst (λ (l : List LoadedChart). GivesChart (chart_known c.file l) now after c.file chart) same gives),
+          (subst (λ (l : List LoadedChart). GivesChart (chart_known c.file l) now after c.file chart) same gives),
     )
 
 -- ---- the files of the charts

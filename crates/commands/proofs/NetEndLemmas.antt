@@ -1,5 +1,5 @@
 -- How a net's files were read, and what is left of them.
-use Rattle.std.proofs.Common.{◌≡◌, ◌≢◌, ◌∙◌, ℕ, zero, suc, Bool, true, false, cond, List, [], ◌∷◌, ◌++◌, Option, Some, None, Result, Ok, Err, map, length, refl, sym, ap, subst, inl, inr, option_map}
+use Rattle.std.proofs.Common.{◌≡◌, ◌≢◌, ◌∙◌, ℕ, Bool, true, false, cond, List, [], ◌∷◌, ◌++◌, Option, Some, None, Result, Ok, Err, length, refl, sym, ap, subst, inl, inr, option_map}
 use Rattle.std.specs.Prelude.{slice_get}
 use Rattle.std.specs.Io.KnownBytes.{IsAtEnd}
 use Rattle.std.specs.List.{find, AllByRecursion}
@@ -15,7 +15,6 @@ use Rattle.chart_net.specs.NetDriving.{NetDrives}
 use Rattle.chart_net.specs.declared.driver.NetEnd.{NetEnd}
 use Rattle.chart_net.specs.declared.driver.NetEnd.TheVariants as answers
 use Rattle.net_text.specs.NetTexts.{NetText}
-use Rattle.net_text.specs.Reading.{net_of_text}
 use Rattle.net_text.specs.declared.fault.NetFault.{NetFault}
 use Rattle.net_text.specs.declared.limits.TheConstants.{NET_TEXT_LIMIT}
 use Rattle.net_text.specs.declared.net.NetChart.{NetChart}
@@ -222,8 +221,7 @@ pub all_ended : (net : Net) (call : Call) (first second : List ℕ) (text : NetT
 all_ended net call first second text loaded between end read ends e =
     let later : Call = record call { sources_before = between } in
     let still = schedule_still net later second end ends e in
-    let charts = reads_end [] read.between between text.charts loaded tt read.charts_read in
-    (
+    let charts = reads_end [] read.between between text.charts loaded tt read.charts_read in (
       still first (charts.1 first (read_end call.sources_before read.between first read.net_read.text read.net_read.read)),
       (
         schedule_end net later second end ends e,

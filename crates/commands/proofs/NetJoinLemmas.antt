@@ -1,5 +1,5 @@
 -- A route of the charts of a net joins two of its machines.
-use Rattle.std.proofs.Common.{◌≡◌, ◌∙◌, ℕ, ◌<◌, ◌≤◌, List, [], ◌∷◌, ◌++◌, Option, Some, None, map, refl, sym, ap, subst, length, arith, option_map}
+use Rattle.std.proofs.Common.{◌≡◌, ◌∙◌, ℕ, ◌<◌, List, [], ◌∷◌, ◌++◌, Option, Some, None, refl, sym, ap, subst, length, arith, option_map}
 use Rattle.std.specs.Prelude.{slice_get}
 use lib.ListN.{get_or}
 use Rattle.flow_base.specs.declared.bounds.Bounds.{Bounds}

@@ -1,5 +1,5 @@
 -- Nets whose charts have the same runs are driven in the same ways.
-use Rattle.std.proofs.Common.{◌≡◌, ◌∙◌, ℕ, Bool, List, [], ◌∷◌, ◌++◌, Option, Some, None, Result, Ok, Err, refl, sym, ap, ap₂, cond, subst, inl, inr}
+use Rattle.std.proofs.Common.{◌≡◌, ◌∙◌, ℕ, List, [], ◌∷◌, ◌++◌, Option, Some, None, Result, Ok, Err, refl, sym, ap₂, cond, subst}
 use Rattle.std.specs.Prelude.{nat_eq, slice_index, codes}
 use Rattle.std.specs.List.{position}
 use Rattle.std.specs.Str.{bytes_eq}
@@ -143,14 +143,14 @@ module _ (net : Net) (starts : ℕ → StartRelation) (reacts : ℕ → Reaction
       (wrote_given (net_runs net) (NetRan second) (RanFront second) (IsStartTrace second) ran ran_first begin seen d)
   net_drives seen (Err ends.Write) d = (
     subst (λ (say : List ℕ → Result (Option NetStep) LineFault). WrotePart (saying say) seen) says
-    (wrote_part (net_runs net) (NetRan second) (RanFront second) (IsStartTrace second) ran ran_first begin seen d.0),
+        (wrote_part (net_runs net) (NetRan second) (RanFront second) (IsStartTrace second) ran ran_first begin seen d.0),
     taken_too seen d.1,
   )
   net_drives seen (Err ends.TooManyLines) d = wrote_too seen (Err ends.TooManyLines) d
   net_drives seen (Err ends.FileTooLong) d = wrote_too seen (Err ends.FileTooLong) d
   net_drives seen (Err ends.Memory) d = (
     subst (λ (say : List ℕ → Result (Option NetStep) LineFault). WroteSome (saying say) seen) says
-    (wrote_some (net_runs net) (NetRan second) (RanFront second) (IsStartTrace second) ran ran_first begin seen d.0),
+        (wrote_some (net_runs net) (NetRan second) (RanFront second) (IsStartTrace second) ran ran_first begin seen d.0),
     taken_too seen d.1,
   )
   net_drives seen (Err (ends.Full p r)) d = wrote_too seen (Err (ends.Full p r)) d

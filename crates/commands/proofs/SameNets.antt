@@ -2,11 +2,11 @@
 use Rattle.std.proofs.Common.{◌≡◌, ℕ, Bool, true, false, cond, List, [], ◌∷◌, ◌++◌, Option, Some, None, refl, sym, ap, ◌∙◌, subst, eqb-true}
 use Rattle.std.specs.Prelude.{nat_eq, slice_get}
 use Rattle.flow_base.specs.declared.fault.Fault.{Fault}
-use Rattle.actions.specs.Runs.{EventWithInputs, StartRelation, ReactionRelation, Moment, Runs, GoesOn}
+use Rattle.actions.specs.Runs.{EventWithInputs, StartRelation, ReactionRelation, Moment, Runs}
 use Rattle.actions.specs.World.{World}
 use Rattle.net_text.specs.declared.route.Route.{Route}
 use Rattle.chart_net.specs.Nets.{Net, Item, ChartState, NetWorld, net_before, replaced}
-use Rattle.chart_net.specs.NetRuns.{NetStep, Starts, Gives, Takes, Outcome, NetMoment, ChartGives, took_also, Moves}
+use Rattle.chart_net.specs.NetRuns.{NetStep, Starts, Gives, Takes, NetMoment, ChartGives, took_also, Moves}
 use Rattle.chart_net.specs.NetRuns.{event_of_item, next_item, with_got, TakesItem, TakesFrom, Does, is_well, goes_on, UnlessOver}
 use Rattle.chart_net.specs.NetRuns.{NetGoesOn}
 use Rattle.commands.proofs.LaterMoments.{well, EndsAt, one_later, last_given, ends_later}

@@ -78,7 +78,7 @@ module _ (start start' : StartRelation) (react react' : ReactionRelation) (t : T
       → Drives start' react' t n seen result
   drives seen (Ok done) d = (
     wrote_all first (Ran start' react' t n) (RanFirst start' react' t n) (IsStartLine start' t n) ran ran_first begin seen
-    (Ok done) d.0,
+        (Ok done) d.0,
     d.1,
   )
   drives seen (Err (ends.Line number fault)) d = wrote_too seen (Err (ends.Line number fault)) d

@@ -44,4 +44,3 @@ before_routes (Some route) routes = route ∷ routes
 abbrev pub routes_in : List LoadedChart → List RouteText → List Route
 routes_in loaded [] = []
 routes_in loaded (text ∷ texts) = before_routes (route_in loaded text) (routes_in loaded texts)
-

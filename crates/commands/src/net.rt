@@ -96,7 +96,5 @@ pub fn run_net<I: Inputs, O: Sink>(
     if let Some(line) = bad_route(net.charts.items(), &files, net.routes.items()) {
         return NetCommandEnd::NoRoute(line);
     }
-    NetCommandEnd::Ran(run_schedule(
-        alloc, &net, &files, bounds, second, inputs, out,
-    ))
+    NetCommandEnd::Ran(run_schedule(alloc, &net, &files, bounds, second, inputs, out))
 }

@@ -10,11 +10,7 @@ use net_text::{NetChart, Route, RouteText, route_of};
 
 /// The line of the first text that names no route, if there is one. The files of all charts must
 /// have been read. It takes no memory.
-pub(crate) fn bad_route(
-    charts: &[NetChart],
-    files: &[ReadFile],
-    texts: &[RouteText],
-) -> Option<u32>
+pub(crate) fn bad_route(charts: &[NetChart], files: &[ReadFile], texts: &[RouteText]) -> Option<u32>
     requires { AllRead files.now charts.now }
     ensures { result ≡ spec.bad_route (loaded_in files.now charts.now) texts.now }
 {
@@ -26,10 +22,12 @@ pub(crate) fn bad_route(
 fn first_bad(charts: &[NetChart], files: &[ReadFile], texts: &[RouteText]) -> Option<usize>
     ensures place { result ≡ position (λ (text : RouteTextShown).
         not (is_some (spec.route_between text (chart_numbered charts.now files.now text.from)
-            (chart_numbered charts.now files.now text.to)))) texts.now }
+        (chart_numbered charts.now files.now text.to)))) texts.now }
     ensures within { IfSome result (λ n. n < length texts.now) }
 {
-    texts.iter().position(|text| names_none(charts, files, text))
+    texts
+        .iter()
+        .position(|text| names_none(charts, files, text))
 }
 
 /// Whether a text names no route.

@@ -10,8 +10,8 @@ use crate::fmt::format_chart;
 use crate::report::report;
 use command_words::{Command, command_from};
 use commands::{
-    bound_chart, check_chart, compile_chart, exec_code, run_chart, run_compiled, run_net, shrink_code,
-    upgrade_code,
+    bound_chart, check_chart, compile_chart, exec_code, run_chart, run_compiled, run_net,
+    shrink_code, upgrade_code,
 };
 use flow_base::{Inputs, Memory, Sink, Status};
 use selftest_command::selftest;
@@ -30,12 +30,11 @@ use std::alloc::Global;
 /// and runs the text of its code as `exec` does. `upgrade CODE` writes the text of format 2 of the
 /// code of the file. `bounds CHART` writes the bounds of a run that no event of the accepted chart
 /// of the file can overrun, or that a certificate gives none. `shrink CODE` writes the text of
-/// format 2 of smaller code of the same meaning.
-/// `net NET SCHEDULE` compiles the charts of the files that the text of the first file names, runs
-/// their code over the steps of the second file, and writes the trace.
-/// `selftest N` runs generated case N by the rules and as printed code, and writes one line of
-/// counts. `rules`, `exec`, `run` and `net` take the bounds `--depth` and `--steps`. All other words are
-/// refused as Usage. Any words may end in Memory before anything is read.
+/// format 2 of smaller code of the same meaning. `net NET SCHEDULE` compiles the charts of the files
+/// that the text of the first file names, runs their code over the steps of the second file, and
+/// writes the trace. `selftest N` runs generated case N by the rules and as printed code, and writes
+/// one line of counts. `rules`, `exec`, `run` and `net` take the bounds `--depth` and `--steps`. All
+/// other words are refused as Usage. Any words may end in Memory before anything is read.
 pub fn chart_main<I: Inputs, O: Sink, E: Sink>(
     alloc: Global,
     words: &[String],

@@ -3,7 +3,8 @@ ghost use Rattle.std.specs.Prelude.{◌≡◌, ◌++◌, OnOk, OnErr, codes, dec
 ghost use Rattle.std.specs.Io.KnownBytes.{append_known};
 ghost use Rattle.flow_base.specs.Bytes.{AppendsProperFront};
 ghost use Rattle.flow_base.specs.Causes.{HasCause};
-ghost use Rattle.flow_program.specs.Ending.{place_text, kind_text, event_fault_text, line_of, named_place_text, spot_text, stop_text};
+ghost use Rattle.flow_program.specs.Ending.{place_text, kind_text, event_fault_text, line_of};
+ghost use Rattle.flow_program.specs.Ending.{named_place_text, spot_text, stop_text};
 
 use crate::ending::Ending;
 use chart_tree::FormKind;

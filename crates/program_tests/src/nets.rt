@@ -45,11 +45,7 @@ const ROWS: &[(&str, &str, Answer<'_>)] = &[
             "run 3: full 0\n",
         ),
     ),
-    (
-        NO_OUTPUT,
-        "",
-        (Status::Refused, "", "net 6: 4 BadRoute\n"),
-    ),
+    (NO_OUTPUT, "", (Status::Refused, "", "net 6: 4 BadRoute\n")),
     (
         NET,
         "take 1\n",

@@ -27,15 +27,17 @@ returns-in-Err-read_charts-clause-ends g c =
     let given = c.in-Ok.ensures.given in
     let unread =
     subst (λ (charts : List NetChart). ChartUnread between after charts c.in-Err-read_charts.unread.number c.in-Err-read_charts.unread.end)
-    c.items.ensures c.in-Err-read_charts.ensures in
-    (record {
-      net = net;
-      between = between;
-      net_read = record { text = given.text; read = given.read; means = given.means };
-      number = c.in-Err-read_charts.unread.number;
-      unread = unread;
-      named = c.of.ensures ∙ unread_name between after net c.in-Err-read_charts.unread.number c.in-Err-read_charts.unread.end unread;
-    }, refl)
+    c.items.ensures c.in-Err-read_charts.ensures in (
+      record {
+        net = net;
+        between = between;
+        net_read = record { text = given.text; read = given.read; means = given.means };
+        number = c.in-Err-read_charts.unread.number;
+        unread = unread;
+        named = c.of.ensures ∙ unread_name between after net c.in-Err-read_charts.unread.number c.in-Err-read_charts.unread.end unread;
+      },
+      refl,
+    )
 
 -- only its files were read
 pub returns-in-Err-read_charts-clause-others : goal.returns-in-Err-read_charts-clause-others

@@ -1,4 +1,4 @@
-use Rattle.std.proofs.Common.{◌∙◌, refl, sym, ap, Bool, List, ℕ, Option, option_map}
+use Rattle.std.proofs.Common.{sym, ap, Bool, option_map}
 use Rattle.std.specs.Str.{bytes_eq}
 use Rattle.checked_chart.specs.Kept.{chart_of}
 use Rattle.commands.proofs.NetChartLemmas.{found_at, unfound}

@@ -1,4 +1,4 @@
-use Rattle.std.proofs.Common.{◌≡◌, ◌<◌, ◌∷◌, ◌++◌, List, [], None, take, drop, suc, sym, ap, subst, length, arith, ◌∙◌}
+use Rattle.std.proofs.Common.{◌≡◌, List, [], None, take, drop, suc, sym, subst, arith}
 use lib.ListN.{length-take}
 use Rattle.commands.specs.NetCharts.{AllRead, loaded_in}
 use Rattle.commands.specs.NetMachines.{IsMachineNet}

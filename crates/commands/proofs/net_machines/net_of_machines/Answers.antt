@@ -1,5 +1,5 @@
-use Rattle.std.proofs.Common.{◌≡◌, ◌∙◌, List, None, Option, take, drop, suc, is_some, sym, ap, subst, length, arith}
-use lib.ListN.{get_or, length-take}
+use Rattle.std.proofs.Common.{◌≡◌, ◌∙◌, List, None, take, drop, suc, is_some, sym, ap, subst, length, arith}
+use lib.ListN.{length-take}
 use Rattle.commands.specs.NetCharts.{chart_numbered, loaded_in}
 use Rattle.commands.specs.NetMachines.{IsMachineNet}
 use Rattle.commands.specs.NetRoutes.{IsJoined, bad_route, route_between, routes_in}
@@ -10,7 +10,6 @@ use Rattle.commands.proofs.NetRouteLemmas.{same_route}
 use Rattle.net_text.specs.NetTexts.{IsRouteWithin, net_text_of}
 use Rattle.net_text.specs.declared.net.NetChart.{NetChart}
 use Rattle.net_text.specs.declared.net.RouteText.{RouteText}
-use Rattle.net_text.specs.declared.route.Route.{Route}
 use Rattle.commands.proofs.net_machines.net_of_machines.Goals as goal
 
 -- each text names a route

@@ -21,7 +21,8 @@ Next react w given events ms = (next : Moment) × (later : List Moment) × (ms �
     × ReactsWithInputs react w given next.world next.fault × GoesOn react next events later
 
 -- one event more leaves one moment more
-pub one_later : (react : ReactionRelation) (m : Moment) (events : List EventWithInputs) (moments : List Moment) (w : World)
+pub one_later : (react : ReactionRelation) (m : Moment) (events : List EventWithInputs) (moments : List Moment)
+    (w : World)
     (given : EventWithInputs) (next : Moment) → EndsAt m events moments w → GoesOn react m events moments
     → ReactsWithInputs react w given next.world next.fault
     → GoesOn react m (events ++ given ∷ []) (moments ++ next ∷ [])
@@ -49,7 +50,8 @@ one_later react m (e ∷ events) (n ∷ moments) w given next ends goes step =
         )
 
 -- and that is what the event gives from the world before it
-pub last_given : (react : ReactionRelation) (m : Moment) (events : List EventWithInputs) (moments : List Moment) (w : World)
+pub last_given : (react : ReactionRelation) (m : Moment) (events : List EventWithInputs) (moments : List Moment)
+    (w : World)
     (given : EventWithInputs) (next : Moment) → EndsAt m events moments w
     → GoesOn react m (events ++ given ∷ []) (moments ++ next ∷ [])
     → ReactsWithInputs react w given next.world next.fault

@@ -1,5 +1,6 @@
 -- The charts of a net, read one after another.
-use Rattle.std.proofs.Common.{◌≡◌, ◌∙◌, ℕ, zero, suc, Bool, true, false, cond, refl, sym, ap, subst, List, [], ◌∷◌, ◌++◌, append_assoc, append-nil}
+use Rattle.std.proofs.Common.{◌≡◌, ◌∙◌, ℕ, zero, suc, Bool, true, false, cond, refl, sym, ap, subst, List, [], ◌∷◌}
+use Rattle.std.proofs.Common.{◌++◌, append_assoc, append-nil}
 use Rattle.std.proofs.Common.{Option, Some, None, is_some, option_map, length, take, drop, ◌<◌, ◌+◌, arith}
 use Rattle.std.specs.Prelude.{slice_get, map, nat_lt}
 use Rattle.std.specs.List.{find, position, position_or_len}
@@ -15,7 +16,8 @@ use Rattle.checked_chart.specs.Kept.{chart_of}
 use Rattle.net_text.specs.declared.net.NetChart.{NetChart}
 use Rattle.commands.specs.Accepted.{RefusesAccepted}
 use Rattle.commands.specs.Call.{Sources, OthersStay}
-use Rattle.commands.specs.NetCharts.{LoadedChart, loaded_as, chart_known, GivesChart, ReadsCharts, chart_in, chart_numbered}
+use Rattle.commands.specs.NetCharts.{LoadedChart, loaded_as, chart_known, GivesChart, ReadsCharts, chart_in}
+use Rattle.commands.specs.NetCharts.{chart_numbered}
 use Rattle.commands.specs.NetCharts.{AllRead, ChartUnread, before_charts, loaded_in}
 use Rattle.commands.specs.NetFiles.{IsTaken, IsReadFile}
 use Rattle.commands.specs.Reading.{Unread}
@@ -73,18 +75,21 @@ same_text t = (bytes_eq-Decides t t).1 refl
 
 -- a chart after others
 known_more : (name : List ℕ) (loaded : List LoadedChart) (l : LoadedChart)
-    → chart_known name (loaded ++ l ∷ []) ≡ or_else (chart_known name loaded) (cond (bytes_eq l.file name) (Some l.chart) None)
+    → chart_known name (loaded ++ l ∷ []) ≡ or_else (chart_known name loaded)
+    (cond (bytes_eq l.file name) (Some l.chart) None)
 known_more name loaded l =
     find_more (λ (c : LoadedChart). c.chart) (λ (c : LoadedChart). bytes_eq c.file name) loaded l
 
 -- a file after others
 in_more : (name : List ℕ) (files : List ReadFile) (f : ReadFile)
-    → chart_in (files ++ f ∷ []) name ≡ or_else (chart_in files name) (cond (bytes_eq f.file name) (Some (chart_of f.chart)) None)
+    → chart_in (files ++ f ∷ []) name ≡ or_else (chart_in files name) (cond (bytes_eq f.file name)
+    (Some (chart_of f.chart)) None)
 in_more name files f =
     find_more (λ (g : ReadFile). chart_of g.chart) (λ (g : ReadFile). bytes_eq g.file name) files f
 
 -- one chart more is read after others
-pub reads_more : (earlier : List LoadedChart) (before now after : Sources) (ahead : List NetChart) (c : NetChart) (chart : Chart)
+pub reads_more : (earlier : List LoadedChart) (before now after : Sources) (ahead : List NetChart) (c : NetChart)
+    (chart : Chart)
     (loaded : List LoadedChart) → ReadsCharts earlier before now ahead loaded
     → GivesChart (chart_known c.file (earlier ++ loaded)) now after c.file chart
     → ReadsCharts earlier before after (ahead ++ c ∷ []) (loaded ++ loaded_as c chart ∷ [])
@@ -115,18 +120,21 @@ reads_more earlier before now after (a ∷ ahead) c chart loaded reads gives =
 -- ---- the files of the charts
 
 -- a chart more among those whose files were read
-pub loaded_more : (files : List ReadFile) (ahead : List NetChart) (c : NetChart) (chart : Chart) → chart_in files c.file ≡ Some chart
+pub loaded_more : (files : List ReadFile) (ahead : List NetChart) (c : NetChart) (chart : Chart)
+    → chart_in files c.file ≡ Some chart
     → loaded_in files (ahead ++ c ∷ []) ≡ loaded_in files ahead ++ loaded_as c chart ∷ []
 loaded_more files [] c chart e = ap (λ (o : Option Chart). before_charts c o []) e
 loaded_more files (a ∷ ahead) c chart e = go (chart_in files a.file) (loaded_more files ahead c chart e)
   where
     go : (o : Option Chart) → loaded_in files (ahead ++ c ∷ []) ≡ loaded_in files ahead ++ loaded_as c chart ∷ []
-        → before_charts a o (loaded_in files (ahead ++ c ∷ [])) ≡ before_charts a o (loaded_in files ahead) ++ loaded_as c chart ∷ []
+        → before_charts a o (loaded_in files (ahead ++ c ∷ [])) ≡ before_charts a o
+        (loaded_in files ahead) ++ loaded_as c chart ∷ []
     go None e = e
     go (Some x) e = ap (λ (l : List LoadedChart). loaded_as a x ∷ l) e
 
 -- all of them, and one more
-all_more : (files : List ReadFile) (ahead : List NetChart) (c : NetChart) (chart : Chart) → chart_in files c.file ≡ Some chart
+all_more : (files : List ReadFile) (ahead : List NetChart) (c : NetChart) (chart : Chart)
+    → chart_in files c.file ≡ Some chart
     → AllRead files ahead → AllRead files (ahead ++ c ∷ [])
 all_more files [] c chart e all = (ap is_some e, tt)
 all_more files (a ∷ ahead) c chart e all = (all.0, all_more files ahead c chart e all.1)
@@ -149,9 +157,11 @@ loaded_still files f (c ∷ charts) all = λ i.
     before_charts c (found_still files f c.file all.0 i) (loaded_still files f charts all.1 i)
 
 -- and all of them still are
-all_still : (files : List ReadFile) (f : ReadFile) (charts : List NetChart) → AllRead files charts → AllRead (files ++ f ∷ []) charts
+all_still : (files : List ReadFile) (f : ReadFile) (charts : List NetChart) → AllRead files charts → AllRead
+    (files ++ f ∷ []) charts
 all_still files f [] all = tt
-all_still files f (c ∷ charts) all = (ap is_some (found_still files f c.file all.0) ∙ all.0, all_still files f charts all.1)
+all_still files f (c ∷ charts) all = (ap is_some (found_still files f c.file all.0)
+    ∙ all.0, all_still files f charts all.1)
 
 -- ---- how far reading is
 
@@ -188,7 +198,8 @@ with_known before now after ahead files c chart p e same =
     go name None here false same = refl
     go name None here true same =
         let named : c.file ≡ name = (bytes_eq-Decides c.file name).0 same in
-        absurd (let bad = sym here ∙ (ap (λ (t : List ℕ). chart_known t (loaded_in files ahead)) (sym named) ∙ p.known c.file ∙ e) in cc)
+        absurd (let bad = sym here ∙ (ap (λ (t : List ℕ). chart_known t (loaded_in files ahead)) (sym named)
+            ∙ p.known c.file ∙ e) in cc)
 
 -- a chart whose file is read now
 with_added : (before now after : Sources) (ahead : List NetChart) (files : List ReadFile) (c : NetChart) (f : ReadFile)
@@ -214,7 +225,8 @@ with_added before now after ahead files c f p e read =
       all = all_more new ahead c chart here (all_still files f ahead p.all);
       known = λ name. ap (chart_known name) more ∙ known_more name loaded (loaded_as c chart)
           ∙ ap (λ (o : Option Chart). or_else o (cond (bytes_eq c.file name) (Some chart) None)) (p.known name)
-          ∙ ap (λ (t : List ℕ). or_else (chart_in files name) (cond (bytes_eq t name) (Some chart) None)) (sym read.named)
+          ∙ ap (λ (t : List ℕ). or_else (chart_in files name) (cond (bytes_eq t name) (Some chart) None))
+          (sym read.named)
           ∙ sym (in_more name files f);
     }
 
@@ -259,7 +271,8 @@ numbered files (c ∷ charts) (suc n) all = numbered files charts n all.1 ∙ go
 -- ---- other files
 
 -- files that no chart has are left as they were
-pub reads_others : (earlier : List LoadedChart) (before after : Sources) (charts : List NetChart) (loaded : List LoadedChart)
+pub reads_others : (earlier : List LoadedChart) (before after : Sources) (charts : List NetChart)
+    (loaded : List LoadedChart)
     → ReadsCharts earlier before after charts loaded
     → OthersStay (map (λ (c : NetChart). c.file) charts) before after
 reads_others earlier before after [] loaded reads other h = ap (λ (s : Sources). s.left other) reads.1

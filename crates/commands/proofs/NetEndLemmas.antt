@@ -1,5 +1,6 @@
 -- How a net's files were read, and what is left of them.
-use Rattle.std.proofs.Common.{◌≡◌, ◌≢◌, ◌∙◌, ℕ, Bool, true, false, cond, List, [], ◌∷◌, ◌++◌, Option, Some, None, Result, Ok, Err, length, refl, sym, ap, subst, inl, inr, option_map}
+use Rattle.std.proofs.Common.{◌≡◌, ◌≢◌, ◌∙◌, ℕ, Bool, true, false, cond, List, [], ◌∷◌, ◌++◌, Option, Some, None}
+use Rattle.std.proofs.Common.{Result, Ok, Err, length, refl, sym, ap, subst, inl, inr, option_map}
 use Rattle.std.specs.Prelude.{slice_get}
 use Rattle.std.specs.Io.KnownBytes.{IsAtEnd}
 use Rattle.std.specs.List.{find, AllByRecursion}
@@ -21,7 +22,8 @@ use Rattle.net_text.specs.declared.net.NetChart.{NetChart}
 use Rattle.net_text.specs.declared.net.RouteText.{RouteText}
 use Rattle.commands.specs.Accepted.{RefusesAccepted}
 use Rattle.commands.specs.Call.{Sources, Call, OthersStay}
-use Rattle.commands.specs.NetCharts.{SaysNet, RefusesNet, LoadedChart, loaded_as, chart_known, name_at, GivesChart, ReadsCharts, ChartUnread, loaded_in}
+use Rattle.commands.specs.NetCharts.{SaysNet, RefusesNet, LoadedChart, loaded_as, chart_known, name_at, GivesChart}
+use Rattle.commands.specs.NetCharts.{ReadsCharts, ChartUnread, loaded_in}
 use Rattle.commands.specs.NetCommand.{files_of_charts, files_said, NetOthersStay, NetRead}
 use Rattle.commands.specs.NetRoutes.{bad_route}
 use Rattle.commands.specs.Reading.{IsTold, ReadWhole, Gives, Unread}
@@ -44,13 +46,15 @@ told (Some t) = (t, refl)
 
 -- where nothing comes of the file of the net, no other file was read
 pub no_net_others : (call : Call) (first second : List ℕ) (end : FileEnd NetFault)
-    → Unread NET_TEXT_LIMIT RefusesNet call.sources_before call.sources_after first end → NetOthersStay call first second
+    → Unread NET_TEXT_LIMIT RefusesNet call.sources_before call.sources_after first end
+    → NetOthersStay call first second
 no_net_others call first second end unread =
     let t = told (call.sources_before.left first) in
     record {
       text = t.0;
       is_told = t.1;
-      others = λ other h. unread_others NET_TEXT_LIMIT RefusesNet call.sources_before call.sources_after first end unread other h.0;
+      others = λ other h. unread_others NET_TEXT_LIMIT RefusesNet call.sources_before call.sources_after first end
+          unread other h.0;
     }
 
 -- of a list of names, those of another list with more
@@ -60,7 +64,8 @@ more_names other [] later h = (tt, h)
 more_names other (n ∷ ahead) later h = let rest = more_names other ahead later h.1 in ((h.0, rest.0), rest.1)
 
 -- the files of two lists of charts
-files_join : (ahead later : List NetChart) → files_of_charts (ahead ++ later) ≡ files_of_charts ahead ++ files_of_charts later
+files_join : (ahead later : List NetChart) → files_of_charts (ahead ++ later) ≡ files_of_charts ahead ++
+    files_of_charts later
 files_join [] later = refl
 files_join (c ∷ ahead) later = ap (λ (files : List (List ℕ)). c.file ∷ files) (files_join ahead later)
 
@@ -83,7 +88,8 @@ net_others call first second net between middle given charts schedule = record {
   is_told = given.read.is_told;
   others = λ other h.
       schedule other h.1.0
-      ∙ (charts other (subst (λ (o : Result NetText NetFault). AllByRecursion (λ name. other ≢ name) (files_said o)) given.means h.1.1)
+      ∙ (charts other (subst (λ (o : Result NetText NetFault). AllByRecursion (λ name. other ≢ name)
+      (files_said o)) given.means h.1.1)
       ∙ given.read.others other h.0);
 }
 
@@ -96,7 +102,8 @@ schedule_others net call second end (NotBegun e same out) = λ other ne. ap (λ 
 -- ---- the name of the chart that isn't read
 
 -- the chart after the first ones
-chart_after : (ahead : List NetChart) (c : NetChart) (later : List NetChart) → slice_get (ahead ++ c ∷ later) (length ahead) ≡ Some c
+chart_after : (ahead : List NetChart) (c : NetChart) (later : List NetChart) → slice_get (ahead ++ c ∷ later)
+    (length ahead) ≡ Some c
 chart_after [] c later = refl
 chart_after (a ∷ ahead) c later = chart_after ahead c later
 
@@ -116,7 +123,8 @@ read_still : (before after : Sources) (name text other : List ℕ) → ReadWhole
 read_still before after name text other read end =
     elim (cases_Bool (bytes_eq other name)) [
       | inl same ↦ rw ((bytes_eq-Decides other name).0 same, read.at_end) (read_out-IsAtEnd _)
-      | inr differs ↦ rw (read.others other (λ e. let bad = sym ((bytes_eq-Decides other name).1 e) ∙ differs in cc)) end
+      | inr differs ↦ rw (read.others other (λ e. let bad = sym ((bytes_eq-Decides other name).1 e)
+          ∙ differs in cc)) end
     ]
 
 -- nothing is left of a file that was read whole
@@ -124,20 +132,23 @@ read_end : (before after : Sources) (name text : List ℕ) → ReadWhole before 
 read_end before after name text read = rw read.at_end (read_out-IsAtEnd _)
 
 -- nothing is left of the file of a chart that is known
-known_end : (file : List ℕ) (earlier : List LoadedChart) (now : Sources) (chart : Chart) → chart_known file earlier ≡ Some chart
+known_end : (file : List ℕ) (earlier : List LoadedChart) (now : Sources) (chart : Chart)
+    → chart_known file earlier ≡ Some chart
     → AllByRecursion (λ (l : LoadedChart). IsAtEnd (now.left l.file)) earlier → IsAtEnd (now.left file)
 known_end file [] now chart e all = absurd cc
 known_end file (l ∷ earlier) now chart e all =
     go (bytes_eq l.file file) refl e (λ rest. known_end file earlier now chart rest all.1)
   where
     go : (b : Bool) → bytes_eq l.file file ≡ b
-        → option_map (λ (c : LoadedChart). c.chart) (cond b (Some l) (find (λ (c : LoadedChart). bytes_eq c.file file) earlier)) ≡ Some chart
+        → option_map (λ (c : LoadedChart). c.chart) (cond b (Some l) (find
+        (λ (c : LoadedChart). bytes_eq c.file file) earlier)) ≡ Some chart
         → (chart_known file earlier ≡ Some chart → IsAtEnd (now.left file)) → IsAtEnd (now.left file)
     go true same e rest = subst (λ (t : List ℕ). IsAtEnd (now.left t)) ((bytes_eq-Decides l.file file).0 same) all.0
     go false same e rest = rest e
 
 -- what is left of each is as said before, after one was given
-given_still : (o : Option Chart) (before after : Sources) (file : List ℕ) (chart : Chart) → GivesChart o before after file chart
+given_still : (o : Option Chart) (before after : Sources) (file : List ℕ) (chart : Chart)
+    → GivesChart o before after file chart
     → (other : List ℕ) → IsAtEnd (before.left other) → IsAtEnd (after.left other)
 given_still None before after file chart gives other end = read_still before after file gives.text other gives.read end
 given_still (Some known) before after file chart gives other end =
@@ -149,7 +160,8 @@ given_end : (before after : Sources) (c : NetChart) (chart : Chart) (earlier : L
     → GivesChart (chart_known c.file earlier) before after c.file chart → IsAtEnd (after.left c.file)
 given_end before after c chart earlier all gives = go (chart_known c.file earlier) refl gives
   where
-    go : (o : Option Chart) → chart_known c.file earlier ≡ o → GivesChart o before after c.file chart → IsAtEnd (after.left c.file)
+    go : (o : Option Chart) → chart_known c.file earlier ≡ o → GivesChart o before after c.file chart → IsAtEnd
+        (after.left c.file)
     go None e gives = read_end before after c.file gives.text gives.read
     go (Some known) e gives =
         subst (λ (s : Sources). IsAtEnd (s.left c.file)) (sym gives.1) (known_end c.file earlier before known e all)
@@ -160,11 +172,14 @@ all_with : (before after : Sources) (earlier : List LoadedChart) (l : LoadedChar
     → AllByRecursion (λ (l : LoadedChart). IsAtEnd (before.left l.file)) earlier
     → AllByRecursion (λ (l : LoadedChart). IsAtEnd (after.left l.file)) (earlier ++ l ∷ [])
 all_with before after [] l still end all = (end, tt)
-all_with before after (e ∷ earlier) l still end all = (still e.file all.0, all_with before after earlier l still end all.1)
+all_with before after (e ∷ earlier) l still end all = (still e.file all.0, all_with before after earlier l still end
+    all.1)
 
 -- after all charts were read nothing is left of their files, nor of a file of which nothing was left before
-pub reads_end : (earlier : List LoadedChart) (before after : Sources) (charts : List NetChart) (loaded : List LoadedChart)
-    → AllByRecursion (λ (l : LoadedChart). IsAtEnd (before.left l.file)) earlier → ReadsCharts earlier before after charts loaded
+pub reads_end : (earlier : List LoadedChart) (before after : Sources) (charts : List NetChart)
+    (loaded : List LoadedChart)
+    → AllByRecursion (λ (l : LoadedChart). IsAtEnd (before.left l.file)) earlier
+    → ReadsCharts earlier before after charts loaded
     → AllByRecursion (λ file. IsAtEnd (after.left file)) (files_of_charts charts)
     × ((other : List ℕ) → IsAtEnd (before.left other) → IsAtEnd (after.left other))
 reads_end earlier before after [] loaded all reads =
@@ -178,7 +193,8 @@ reads_end earlier before after (c ∷ charts) loaded all reads =
 
 -- a run that ended well leaves nothing of the schedule
 driven_end : (net : Net) (call : Call) (second : List ℕ) (answer : Result (Unit {0}) NetEnd)
-    → NetDrives net (seen_of call second) answer → runs.Done ≡ end_with net.declared answer → IsAtEnd (call.sources_after.left second)
+    → NetDrives net (seen_of call second) answer → runs.Done ≡ end_with net.declared answer → IsAtEnd
+    (call.sources_after.left second)
 driven_end net call second (Ok done) d e = d.1
 driven_end net call second (Err (answers.Line number fault)) d e = absurd cc
 driven_end net call second (Err (answers.Fault p c fault)) d e = absurd cc
@@ -191,30 +207,36 @@ driven_end net call second (Err (answers.Full p r)) d e = absurd cc
 driven_end net call second (Err (answers.Empty p r)) d e = absurd cc
 
 -- so does a run over it
-schedule_end : (net : Net) (call : Call) (second : List ℕ) (end : ScheduleEnd) → ScheduleEnds net call second end → end ≡ runs.Done
+schedule_end : (net : Net) (call : Call) (second : List ℕ) (end : ScheduleEnd) → ScheduleEnds net call second end
+    → end ≡ runs.Done
     → IsAtEnd (call.sources_after.left second)
 schedule_end net call second end (Driven d) e = driven_end net call second d.answer d.drives (sym e ∙ d.end_is)
 schedule_end net call second end (NotBegun m same out) e = absurd (let bad = sym e ∙ m in cc)
 
 -- nothing is left of a file after the schedule was read, where nothing was left before
-schedule_still : (net : Net) (call : Call) (second : List ℕ) (end : ScheduleEnd) → ScheduleEnds net call second end → end ≡ runs.Done
+schedule_still : (net : Net) (call : Call) (second : List ℕ) (end : ScheduleEnd) → ScheduleEnds net call second end
+    → end ≡ runs.Done
     → (other : List ℕ) → IsAtEnd (call.sources_before.left other) → IsAtEnd (call.sources_after.left other)
 schedule_still net call second end ends e other before =
     elim (cases_Bool (bytes_eq other second)) [
       | inl same ↦ rw ((bytes_eq-Decides other second).0 same) (schedule_end net call second end ends e)
       | inr differs ↦
-          rw (schedule_others net call second end ends other (λ same. let bad = sym ((bytes_eq-Decides other second).1 same) ∙ differs in cc))
+          rw (schedule_others net call second end ends other (λ same. let bad = sym
+              ((bytes_eq-Decides other second).1 same) ∙ differs in cc))
           before
     ]
 
 -- each of all is so afterwards
-all_still : (before after : Sources) (names : List (List ℕ)) → ((other : List ℕ) → IsAtEnd (before.left other) → IsAtEnd (after.left other))
-    → AllByRecursion (λ name. IsAtEnd (before.left name)) names → AllByRecursion (λ name. IsAtEnd (after.left name)) names
+all_still : (before after : Sources) (names : List (List ℕ)) → ((other : List ℕ) → IsAtEnd (before.left other)
+    → IsAtEnd (after.left other))
+    → AllByRecursion (λ name. IsAtEnd (before.left name)) names → AllByRecursion
+    (λ name. IsAtEnd (after.left name)) names
 all_still before after [] still all = tt
 all_still before after (n ∷ names) still all = (still n all.0, all_still before after names still all.1)
 
 -- after a run that ended well nothing is left of any of the files
-pub all_ended : (net : Net) (call : Call) (first second : List ℕ) (text : NetText) (loaded : List LoadedChart) (between : Sources)
+pub all_ended : (net : Net) (call : Call) (first second : List ℕ) (text : NetText) (loaded : List LoadedChart)
+    (between : Sources)
     (end : ScheduleEnd) → NetRead call.sources_before between first text loaded
     → ScheduleEnds net (record call { sources_before = between }) second end → end ≡ runs.Done
     → AllByRecursion (λ file. IsAtEnd (call.sources_after.left file)) (first ∷ second ∷ files_of_charts text.charts)
@@ -222,7 +244,8 @@ all_ended net call first second text loaded between end read ends e =
     let later : Call = record call { sources_before = between } in
     let still = schedule_still net later second end ends e in
     let charts = reads_end [] read.between between text.charts loaded tt read.charts_read in (
-      still first (charts.1 first (read_end call.sources_before read.between first read.net_read.text read.net_read.read)),
+      still first (charts.1 first (read_end call.sources_before read.between first read.net_read.text
+          read.net_read.read)),
       (
         schedule_end net later second end ends e,
         all_still between call.sources_after (files_of_charts text.charts) still charts.0,
@@ -230,8 +253,10 @@ all_ended net call first second text loaded between end read ends e =
     )
 
 -- no route is refused, by what is shown of files, charts and routes
-pub good_as : (fs files : List ReadFile) (cs charts : List NetChart) (ts texts : List RouteText) (line : Option ℕ) → fs ≡ files
-    → cs ≡ charts → ts ≡ texts → line ≡ bad_route (loaded_in fs cs) ts → line ≡ None → bad_route (loaded_in files charts) texts ≡ None
+pub good_as : (fs files : List ReadFile) (cs charts : List NetChart) (ts texts : List RouteText) (line : Option ℕ)
+    → fs ≡ files
+    → cs ≡ charts → ts ≡ texts → line ≡ bad_route (loaded_in fs cs) ts → line ≡ None → bad_route
+    (loaded_in files charts) texts ≡ None
 good_as fs files cs charts ts texts line f c t is none =
     let same : bad_route (loaded_in fs cs) ts ≡ bad_route (loaded_in files charts) texts =
     λ i. bad_route (loaded_in (f i) (c i)) (t i) in

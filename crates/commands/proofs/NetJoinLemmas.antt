@@ -1,5 +1,6 @@
 -- A route of the charts of a net joins two of its machines.
-use Rattle.std.proofs.Common.{◌≡◌, ◌∙◌, ℕ, ◌<◌, List, [], ◌∷◌, ◌++◌, Option, Some, None, refl, sym, ap, subst, length, arith, option_map}
+use Rattle.std.proofs.Common.{◌≡◌, ◌∙◌, ℕ, ◌<◌, List, [], ◌∷◌, ◌++◌, Option, Some, None, refl, sym, ap, subst, length}
+use Rattle.std.proofs.Common.{arith, option_map}
 use Rattle.std.specs.Prelude.{slice_get}
 use lib.ListN.{get_or}
 use Rattle.flow_base.specs.declared.bounds.Bounds.{Bounds}
@@ -32,7 +33,8 @@ record Loaded (o : Option LoadedChart) (chart : Chart) : Type 0 where
   pub is : l.chart ≡ chart
 
 -- where there is a chart, one was loaded
-loaded_of : (o : Option LoadedChart) (chart : Chart) → option_map (λ (l : LoadedChart). l.chart) o ≡ Some chart → Loaded o chart
+loaded_of : (o : Option LoadedChart) (chart : Chart) → option_map (λ (l : LoadedChart). l.chart) o ≡ Some chart
+    → Loaded o chart
 loaded_of None chart e = absurd cc
 loaded_of (Some l) chart e = record { l = l; there = refl; is = cc }
 
@@ -42,7 +44,8 @@ declares : (bounds : Bounds) (l : LoadedChart) (chart : Chart) → l.chart ≡ c
 unfolding code_of_chart
 declares bounds l chart e = ap (λ (c : Chart). c.names) e
 
-module _ (bounds : Bounds) (charts : List NetChart) (files : List ReadFile) (all : AllRead files charts) (routes : List Route)
+module _ (bounds : Bounds) (charts : List NetChart) (files : List ReadFile) (all : AllRead files charts)
+    (routes : List Route)
     (net : MachineNet) (is : IsMachineNet bounds (loaded_in files charts) routes net) where
   -- the machine of the chart of a number
   machine_at : (n m : ℕ) (chart : Chart) (l : LoadedChart) → m ≡ n → slice_get (loaded_in files charts) n ≡ Some l
@@ -66,23 +69,27 @@ module _ (bounds : Bounds) (charts : List NetChart) (files : List ReadFile) (all
       (machine_at text.to route.to joined.second to.l joined.numbers.to to.there)
       (subst (λ (n : Names). Joins n (machine.ghosts.declared (program_of_chart bounds to.l).program) route)
       (sym (declares bounds from.l joined.first from.is))
-      (subst (λ (n : Names). Joins joined.first.names n route) (sym (declares bounds to.l joined.second to.is)) joined.joins))
+      (subst (λ (n : Names). Joins joined.first.names n route) (sym (declares bounds to.l joined.second to.is))
+          joined.joins))
       (omega (arith, cap, within.some)) (omega (arith, cap, within.few))
 
 -- one route more was added
-pub route_added : (bounds : Bounds) (loaded : List LoadedChart) (ahead : List RouteText) (text : RouteText) (route : Route)
+pub route_added : (bounds : Bounds) (loaded : List LoadedChart) (ahead : List RouteText) (text : RouteText)
+    (route : Route)
     (old new : MachineNet) → IsMachineNet bounds loaded (routes_in loaded ahead) old → route_in loaded text ≡ Some route
     → IsNet machine.ghosts new → machine_charts new ≡ machine_charts old → routes_of new ≡ routes_of old ++ route ∷ []
     → IsMachineNet bounds loaded (routes_in loaded (ahead ++ text ∷ [])) new
 route_added bounds loaded ahead text route old new is there whole charts routes = record {
   whole = whole;
   charts = charts ∙ is.charts;
-  routes_are = routes ∙ ap (λ (r : List Route). r ++ route ∷ []) is.routes_are ∙ sym (routes_more loaded ahead text route there);
+  routes_are = routes ∙ ap (λ (r : List Route). r ++ route ∷ []) is.routes_are ∙ sym
+      (routes_more loaded ahead text route there);
   valid = is.valid;
 }
 
 -- a text that is shown of a list is one of the list
-pub text_at : (shown texts : List RouteText) (i : ℕ) (x : RouteText) → shown ≡ texts → i < length shown → x ≡ get_or shown i x
+pub text_at : (shown texts : List RouteText) (i : ℕ) (x : RouteText) → shown ≡ texts → i < length shown
+    → x ≡ get_or shown i x
     → (i < length texts) × (x ≡ get_or texts i x)
 text_at shown texts i x same lt at =
     subst (λ (ts : List RouteText). (i < length ts) × (x ≡ get_or ts i x)) same (lt, at)

@@ -1,5 +1,6 @@
 -- The machines of the charts of a net, added one after another.
-use Rattle.std.proofs.Common.{◌≡◌, ◌∙◌, ℕ, ◌≤◌, Bool, true, false, not, refl, sym, ap, subst, arith, List, [], ◌∷◌, ◌++◌}
+use Rattle.std.proofs.Common.{◌≡◌, ◌∙◌, ℕ, ◌≤◌, Bool, true, false, not, refl, sym, ap, subst, arith, List, [], ◌∷◌}
+use Rattle.std.proofs.Common.{◌++◌}
 use Rattle.std.proofs.Common.{Option, Some, None, is_some, map, length, cond, append_assoc, option_map}
 use Rattle.std.specs.List.{find, list_any, AllByRecursion}
 use Rattle.std.specs.Str.{bytes_eq}
@@ -22,12 +23,14 @@ use Rattle.commands.proofs.NetChartLemmas.{loaded_more}
 -- ---- of lists
 
 -- a later one of all
-all_at : {A : Type 0} (P : A → Type 0) (ahead : List A) (x : A) (later : List A) → AllByRecursion P (ahead ++ x ∷ later) → P x
+all_at : {A : Type 0} (P : A → Type 0) (ahead : List A) (x : A) (later : List A) → AllByRecursion P
+    (ahead ++ x ∷ later) → P x
 all_at P [] x later all = all.0
 all_at P (a ∷ ahead) x later all = all_at P ahead x later all.1
 
 -- all of some, and one more
-all_also : {A : Type 0} (P : A → Type 0) (xs : List A) (x : A) → AllByRecursion P xs → P x → AllByRecursion P (xs ++ x ∷ [])
+all_also : {A : Type 0} (P : A → Type 0) (xs : List A) (x : A) → AllByRecursion P xs → P x → AllByRecursion P
+    (xs ++ x ∷ [])
 all_also P [] x all more = (more, tt)
 all_also P (a ∷ xs) x all more = (all.0, all_also P xs x all.1 more)
 
@@ -82,7 +85,8 @@ loaded_names : (files : List ReadFile) (charts : List NetChart) → AllRead file
 loaded_names files [] all = refl
 loaded_names files (c ∷ charts) all = go (chart_in files c.file) all.0 (loaded_names files charts all.1)
   where
-    go : (o : Option Chart) → is_some o ≡ true → map (λ (l : LoadedChart). l.name) (loaded_in files charts) ≡ names_of charts
+    go : (o : Option Chart) → is_some o ≡ true → map (λ (l : LoadedChart). l.name)
+        (loaded_in files charts) ≡ names_of charts
         → map (λ (l : LoadedChart). l.name) (before_charts c o (loaded_in files charts)) ≡ c.name ∷ names_of charts
     go None some e = absurd cc
     go (Some chart) some e = ap (λ (names : List (List ℕ)). c.name ∷ names) e
@@ -104,7 +108,8 @@ all_ahead files (c ∷ ahead) later all = (all.0, all_ahead files ahead later al
 
 -- the names of the net's charts, by what it shows
 names_shown : (bounds : Bounds) (loaded : List LoadedChart)
-    → map (λ (c : ChartOf Program). c.name) (map (program_of_chart bounds) loaded) ≡ map (λ (l : LoadedChart). l.name) loaded
+    → map (λ (c : ChartOf Program). c.name) (map (program_of_chart bounds) loaded) ≡ map
+    (λ (l : LoadedChart). l.name) loaded
 names_shown bounds [] = refl
 names_shown bounds (l ∷ loaded) = ap (λ (names : List (List ℕ)). l.name ∷ names) (names_shown bounds loaded)
 
@@ -143,7 +148,8 @@ module _ (bounds : Bounds) (files : List ReadFile) where
       let one = loaded_as c added.chart in
       record {
         whole = added.whole;
-        charts = added.charts ∙ ap (λ (charts : List (ChartOf Program)). charts ++ program_of_chart bounds one ∷ []) is.charts
+        charts = added.charts ∙ ap (λ (charts : List (ChartOf Program)). charts ++ program_of_chart bounds one ∷ [])
+            is.charts
             ∙ sym (map-append (program_of_chart bounds) (loaded_in files ahead) (one ∷ []))
             ∙ ap (map (program_of_chart bounds)) (sym more);
         routes_are = added.routes ∙ is.routes_are;
@@ -177,7 +183,8 @@ routes_more loaded [] text route e = ap (λ (o : Option Route). before_routes o 
 routes_more loaded (a ∷ ahead) text route e = go (route_in loaded a) (routes_more loaded ahead text route e)
   where
     go : (o : Option Route) → routes_in loaded (ahead ++ text ∷ []) ≡ routes_in loaded ahead ++ route ∷ []
-        → before_routes o (routes_in loaded (ahead ++ text ∷ [])) ≡ before_routes o (routes_in loaded ahead) ++ route ∷ []
+        → before_routes o (routes_in loaded (ahead ++ text ∷ [])) ≡ before_routes o
+        (routes_in loaded ahead) ++ route ∷ []
     go None e = e
     go (Some r) e = ap (λ (routes : List Route). r ∷ routes) e
 

@@ -26,4 +26,5 @@ module _ (charts : List NetChart) (files : List ReadFile) (all : AllRead files c
       → option_map (λ (text : RouteText). text.line) (find (names_none charts files) texts)
       ≡ bad_route (loaded_in files charts) texts
   same_bad texts = λ i.
-      option_map (λ (text : RouteText). text.line) (find (λ (text : RouteText). not (is_some (same_route text i))) texts)
+      option_map (λ (text : RouteText). text.line) (find (λ (text : RouteText). not
+          (is_some (same_route text i))) texts)

@@ -1,5 +1,6 @@
 -- The net of the machines of charts runs as the net of the charts by the rules.
-use Rattle.std.proofs.Common.{◌≡◌, ◌∙◌, ℕ, zero, suc, List, [], ◌∷◌, Option, Some, None, Result, map, refl, ap, subst, option_map}
+use Rattle.std.proofs.Common.{◌≡◌, ◌∙◌, ℕ, zero, suc, List, [], ◌∷◌, Option, Some, None, Result, map, refl, ap, subst}
+use Rattle.std.proofs.Common.{option_map}
 use Rattle.std.specs.Prelude.{slice_get}
 use Rattle.std.specs.List.{AllByRecursion}
 use Rattle.std.specs.Option.{option_map_or}
@@ -59,7 +60,8 @@ module _ (bounds : Bounds) (loaded : List LoadedChart) (routes : List Route) whe
 
   -- the names
   names_are : (charts : List LoadedChart)
-      → map (λ (c : ChartOf Program). c.name) (map (program_of_chart bounds) charts) ≡ map (λ (c : LoadedChart). c.name) charts
+      → map (λ (c : ChartOf Program). c.name) (map (program_of_chart bounds) charts) ≡ map
+      (λ (c : LoadedChart). c.name) charts
   names_are [] = refl
   names_are (c ∷ charts) = ap (λ (names : List (List ℕ)). c.name ∷ names) (names_are charts)
 
@@ -81,7 +83,8 @@ module _ (bounds : Bounds) (loaded : List LoadedChart) (routes : List Route) whe
 
   -- the tree of states
   tree_is : (o : Option LoadedChart)
-      → option_map_or (λ (c : ChartOf Program). machine.ghosts.tree c.program) (option_map (program_of_chart bounds) o) (tree_of [] [])
+      → option_map_or (λ (c : ChartOf Program). machine.ghosts.tree c.program)
+      (option_map (program_of_chart bounds) o) (tree_of [] [])
       ≡ option_map_or (λ (c : Chart). c.tree) (option_map (λ (c : LoadedChart). c.chart) o) (tree_of [] [])
   unfolding code_of_chart
   tree_is None = refl
@@ -89,7 +92,8 @@ module _ (bounds : Bounds) (loaded : List LoadedChart) (routes : List Route) whe
 
   -- what is declared
   declared_is : (o : Option LoadedChart)
-      → option_map_or (λ (c : ChartOf Program). machine.ghosts.declared c.program) (option_map (program_of_chart bounds) o) no_names
+      → option_map_or (λ (c : ChartOf Program). machine.ghosts.declared c.program)
+      (option_map (program_of_chart bounds) o) no_names
       ≡ option_map_or (λ (c : Chart). c.names) (option_map (λ (c : LoadedChart). c.chart) o) no_names
   unfolding code_of_chart
   declared_is None = refl
@@ -102,10 +106,12 @@ module _ (bounds : Bounds) (loaded : List LoadedChart) (routes : List Route) whe
     starts = λ n. (ap (start_of machine.ghosts) (program_at n) ∙ start_is (slice_get loaded n)) i;
     reacts = λ n. (ap (reaction_of machine.ghosts) (program_at n) ∙ reaction_is (slice_get loaded n)) i;
     trees = λ n.
-        (ap (λ (o : Option (ChartOf Program)). option_map_or (λ (c : ChartOf Program). machine.ghosts.tree c.program) o (tree_of [] []))
+        (ap (λ (o : Option (ChartOf Program)). option_map_or (λ (c : ChartOf Program). machine.ghosts.tree c.program)
+            o (tree_of [] []))
         (program_at n) ∙ tree_is (slice_get loaded n)) i;
     declared = λ n.
-        (ap (λ (o : Option (ChartOf Program)). option_map_or (λ (c : ChartOf Program). machine.ghosts.declared c.program) o no_names)
+        (ap (λ (o : Option (ChartOf Program)). option_map_or (λ (c : ChartOf Program). machine.ghosts.declared
+            c.program) o no_names)
         (program_at n) ∙ declared_is (slice_get loaded n)) i;
     routes = routes;
   }
@@ -119,7 +125,8 @@ module _ (bounds : Bounds) (loaded : List LoadedChart) (routes : List Route) whe
   never events (m ∷ moments) A runs = absurd runs.0
 
   -- the chart of a number is valid
-  valid_at : (charts : List LoadedChart) (n : ℕ) (c : Chart) → AllByRecursion (λ (l : LoadedChart). IsValid l.chart) charts
+  valid_at : (charts : List LoadedChart) (n : ℕ) (c : Chart) → AllByRecursion
+      (λ (l : LoadedChart). IsValid l.chart) charts
       → chart_at charts n ≡ Some c → IsValid c
   valid_at [] n c all e = absurd cc
   valid_at (l ∷ charts) zero c all e = let same : l.chart ≡ c = cc in subst IsValid same all.0
@@ -127,7 +134,8 @@ module _ (bounds : Bounds) (loaded : List LoadedChart) (routes : List Route) whe
 
   module _ (all : AllByRecursion (λ (l : LoadedChart). IsValid l.chart) loaded) where
     -- the runs of the code of a chart are those of the chart
-    to_rules : ChartsRunToo net_by_code.starts net_by_code.reacts (net_by_rules bounds loaded routes).starts (net_by_rules bounds loaded routes).reacts
+    to_rules : ChartsRunToo net_by_code.starts net_by_code.reacts (net_by_rules bounds loaded routes).starts
+        (net_by_rules bounds loaded routes).reacts
     to_rules n events moments = go (chart_at loaded n) (λ c e. valid_at loaded n c all e)
       where
         go : (o : Option Chart) → ((c : Chart) → o ≡ Some c → IsValid c)
@@ -137,7 +145,8 @@ module _ (bounds : Bounds) (loaded : List LoadedChart) (routes : List Route) whe
         go (Some c) valid runs = (code_runs c (valid c refl) bounds events moments).1 runs
 
     -- and the other way
-    to_code : ChartsRunToo (net_by_rules bounds loaded routes).starts (net_by_rules bounds loaded routes).reacts net_by_code.starts net_by_code.reacts
+    to_code : ChartsRunToo (net_by_rules bounds loaded routes).starts (net_by_rules bounds loaded routes).reacts
+        net_by_code.starts net_by_code.reacts
     to_code n events moments = go (chart_at loaded n) (λ c e. valid_at loaded n c all e)
       where
         go : (o : Option Chart) → ((c : Chart) → o ≡ Some c → IsValid c)
@@ -155,8 +164,10 @@ module _ (bounds : Bounds) (loaded : List LoadedChart) (routes : List Route) whe
         to_rules to_code seen answer (subst (λ (net : Net). NetDrives net seen answer) net_is d)
 
 -- the ending by the files that were read is that of the net
-pub same_end : (bounds : Bounds) (charts : List NetChart) (files : List ReadFile) (routes : List Route) → AllRead files charts
+pub same_end : (bounds : Bounds) (charts : List NetChart) (files : List ReadFile) (routes : List Route)
+    → AllRead files charts
     → (answer : Result (Unit {0}) NetEnd)
-    → end_by (chart_numbered charts files) answer ≡ end_with (net_by_rules bounds (loaded_in files charts) routes).declared answer
+    → end_by (chart_numbered charts files) answer ≡ end_with (net_by_rules bounds
+    (loaded_in files charts) routes).declared answer
 same_end bounds charts files routes all answer = λ i.
     end_with (λ n. option_map_or (λ (c : Chart). c.names) (numbered files charts n all i) no_names) answer

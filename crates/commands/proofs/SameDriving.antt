@@ -1,5 +1,6 @@
 -- Nets whose charts have the same runs are driven in the same ways.
-use Rattle.std.proofs.Common.{◌≡◌, ◌∙◌, ℕ, List, [], ◌∷◌, ◌++◌, Option, Some, None, Result, Ok, Err, refl, sym, ap₂, cond, subst}
+use Rattle.std.proofs.Common.{◌≡◌, ◌∙◌, ℕ, List, [], ◌∷◌, ◌++◌, Option, Some, None, Result, Ok, Err, refl, sym, ap₂}
+use Rattle.std.proofs.Common.{cond, subst}
 use Rattle.std.specs.Prelude.{nat_eq, slice_index, codes}
 use Rattle.std.specs.List.{position}
 use Rattle.std.specs.Str.{bytes_eq}
@@ -20,7 +21,8 @@ use Rattle.commands.proofs.SameSteps.{wrote_all, wrote_given, wrote_part, wrote_
 use Rattle.commands.proofs.SameNets.{ChartsRunToo, other, net_goes_too}
 
 module _ (net : Net) (starts : ℕ → StartRelation) (reacts : ℕ → ReactionRelation)
-    (to : ChartsRunToo net.starts net.reacts starts reacts) (back : ChartsRunToo starts reacts net.starts net.reacts) where
+    (to : ChartsRunToo net.starts net.reacts starts reacts) (back : ChartsRunToo starts reacts net.starts net.reacts)
+        where
   -- the net with the other runs
   abbrev second : Net
   second = other net starts reacts to
@@ -76,7 +78,8 @@ module _ (net : Net) (starts : ℕ → StartRelation) (reacts : ℕ → Reaction
   -- ---- runs and what is written
 
   -- a traced run
-  ran : (steps : List NetStep) (text : List ℕ) (end : Option RunEnd) → NetRan net steps text end → NetRan second steps text end
+  ran : (steps : List NetStep) (text : List ℕ) (end : Option RunEnd) → NetRan net steps text end
+      → NetRan second steps text end
   ran steps text end r = record {
     moments = r.moments;
     runs = net_goes_too net starts reacts to (starts_of net ++ steps) r.moments r.runs;
@@ -120,7 +123,8 @@ module _ (net : Net) (starts : ℕ → StartRelation) (reacts : ℕ → Reaction
       → WroteAll (net_runs second) seen result
   all_too seen result w =
       subst (λ (say : List ℕ → Result (Option NetStep) LineFault). WroteAll (saying say) seen result) says
-      (wrote_all (net_runs net) (NetRan second) (RanFront second) (IsStartTrace second) ran ran_first begin seen result w)
+      (wrote_all (net_runs net) (NetRan second) (RanFront second) (IsStartTrace second) ran ran_first begin seen
+          result w)
 
   -- what was taken
   taken_too : (seen : Seen) → TakesNoMore (net_runs net) seen → TakesNoMore (net_runs second) seen
@@ -134,7 +138,8 @@ module _ (net : Net) (starts : ℕ → StartRelation) (reacts : ℕ → Reaction
   wrote_too seen result w = (all_too seen result w.0, taken_too seen w.1)
 
   -- what was driven
-  pub net_drives : (seen : Seen) (result : Result (Unit {0}) NetEnd) → NetDrives net seen result → NetDrives second seen result
+  pub net_drives : (seen : Seen) (result : Result (Unit {0}) NetEnd) → NetDrives net seen result
+      → NetDrives second seen result
   net_drives seen (Ok done) d = (all_too seen (Ok done) d.0, d.1)
   net_drives seen (Err (ends.Line number fault)) d = wrote_too seen (Err (ends.Line number fault)) d
   net_drives seen (Err (ends.Fault p c fault)) d = wrote_too seen (Err (ends.Fault p c fault)) d
@@ -143,14 +148,16 @@ module _ (net : Net) (starts : ℕ → StartRelation) (reacts : ℕ → Reaction
       (wrote_given (net_runs net) (NetRan second) (RanFront second) (IsStartTrace second) ran ran_first begin seen d)
   net_drives seen (Err ends.Write) d = (
     subst (λ (say : List ℕ → Result (Option NetStep) LineFault). WrotePart (saying say) seen) says
-        (wrote_part (net_runs net) (NetRan second) (RanFront second) (IsStartTrace second) ran ran_first begin seen d.0),
+        (wrote_part (net_runs net) (NetRan second) (RanFront second) (IsStartTrace second) ran ran_first begin seen
+            d.0),
     taken_too seen d.1,
   )
   net_drives seen (Err ends.TooManyLines) d = wrote_too seen (Err ends.TooManyLines) d
   net_drives seen (Err ends.FileTooLong) d = wrote_too seen (Err ends.FileTooLong) d
   net_drives seen (Err ends.Memory) d = (
     subst (λ (say : List ℕ → Result (Option NetStep) LineFault). WroteSome (saying say) seen) says
-        (wrote_some (net_runs net) (NetRan second) (RanFront second) (IsStartTrace second) ran ran_first begin seen d.0),
+        (wrote_some (net_runs net) (NetRan second) (RanFront second) (IsStartTrace second) ran ran_first begin seen
+            d.0),
     taken_too seen d.1,
   )
   net_drives seen (Err (ends.Full p r)) d = wrote_too seen (Err (ends.Full p r)) d

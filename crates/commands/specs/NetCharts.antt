@@ -1,5 +1,6 @@
 -- The text of a net, and the charts of its files.
-use Rattle.std.specs.Prelude.{◌≡◌, ◌≢◌, ℕ, List, [], ◌∷◌, ◌++◌, Option, Some, None, option_map, option_and_then, is_some, true, length, slice_get, Result, Ok, Err, Vec}
+use Rattle.std.specs.Prelude.{◌≡◌, ◌≢◌, ℕ, List, [], ◌∷◌, ◌++◌, Option, Some, None, option_map, option_and_then}
+use Rattle.std.specs.Prelude.{is_some, true, length, slice_get, Result, Ok, Err, Vec}
 use Rattle.std.specs.List.{find, AllByRecursion}
 use Rattle.std.specs.Option.{option_map_or}
 use Rattle.std.specs.Str.{bytes_eq}
@@ -66,8 +67,10 @@ ReadsCharts earlier before after (c ∷ charts) loaded =
     × GivesChart (chart_known c.file earlier) before between c.file chart
     × ReadsCharts (earlier ++ loaded_as c chart ∷ []) between after charts later
 
--- the files of the first charts were read, and nothing comes of that of the chart of that number, which no earlier chart has
-pub record ChartUnread (before after : Sources) (charts : List NetChart) (number : ℕ) (end : FileEnd Refusal) : Type 0 where
+-- the files of the first charts were read, and nothing comes of that of the chart of that number, which no earlier
+-- chart has
+pub record ChartUnread (before after : Sources) (charts : List NetChart) (number : ℕ)
+    (end : FileEnd Refusal) : Type 0 where
   pub ahead : List NetChart
   pub chart : NetChart
   pub later : List NetChart

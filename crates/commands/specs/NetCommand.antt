@@ -47,7 +47,8 @@ pub record RouteRefused (before after : Sources) (first : List ℕ) (line : ℕ)
   pub read : NetRead before after first net loaded
   pub refused : bad_route loaded net.routes ≡ Some line
 
--- The files of the net and of its charts were read, each route is good, and the net ran over the schedule by the rules, each
+-- The files of the net and of its charts were read, each route is good, and the net ran over the schedule by the
+-- rules, each
 -- event with these bounds. Where the run ended well, nothing is left of any of the files.
 pub record NetRan (bounds : Bounds) (call : Call) (first second : List ℕ) (end : ScheduleEnd) : Type 0 where
   pub net : NetText
@@ -60,7 +61,8 @@ pub record NetRan (bounds : Bounds) (call : Call) (first second : List ℕ) (end
   pub ended : end ≡ runs.Done
       → AllByRecursion (λ file. IsAtEnd (call.sources_after.left file)) (first ∷ second ∷ files_of_charts net.charts)
 
--- How `net` ends with these bounds, and when. Where nothing comes of the file of the net or of a chart, or a route is refused,
+-- How `net` ends with these bounds, and when. Where nothing comes of the file of the net or of a chart, or a route is
+-- refused,
 -- no later file is read and nothing is written.
 abbrev pub NetEnds : Bounds → Call → List ℕ → List ℕ → NetCommandEnd → Type 0
 NetEnds bounds call first second (ends.NoNet end) =

@@ -29,7 +29,8 @@ pub record IsAdded (before after : Sources) (name : List ℕ) (old new : List Re
   pub read : IsReadFile before after name f
 
 -- what comes of a file that is read after others
-abbrev pub FileAdded : Sources → Sources → List ℕ → List ReadFile → List ReadFile → Result (Unit {0}) (FileEnd Refusal) → Type 0
+abbrev pub FileAdded : Sources → Sources → List ℕ → List ReadFile → List ReadFile → Result (Unit {0})
+    (FileEnd Refusal) → Type 0
 FileAdded before after name old new (Ok done) = IsAdded before after name old new
 FileAdded before after name old new (Err end) = Unread CHART_TEXT_LIMIT RefusesAccepted before after name end
 
@@ -39,7 +40,8 @@ IsTaken None before after name old new = IsAdded before after name old new
 IsTaken (Some chart) before after name old new = (new ≡ old) × (after ≡ before)
 
 -- what comes of a file that is read, unless it was read before
-abbrev pub FileTaken : Sources → Sources → List ℕ → List ReadFile → List ReadFile → Result (Unit {0}) (FileEnd Refusal) → Type 0
+abbrev pub FileTaken : Sources → Sources → List ℕ → List ReadFile → List ReadFile → Result (Unit {0})
+    (FileEnd Refusal) → Type 0
 FileTaken before after name old new (Ok done) = IsTaken (chart_in old name) before after name old new
 FileTaken before after name old new (Err end) =
     (chart_in old name ≡ None) × Unread CHART_TEXT_LIMIT RefusesAccepted before after name end

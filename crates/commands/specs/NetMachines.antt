@@ -27,7 +27,8 @@ abbrev pub program_of_chart : Bounds → LoadedChart → ChartOf Program
 program_of_chart bounds c = record { name = c.name; program = record { code = code_of_chart c.chart; bounds = bounds } }
 
 -- The net has the machines of these valid charts, and these routes. It isn't driven yet.
-pub record IsMachineNet (bounds : Bounds) (loaded : List LoadedChart) (routes : List Route) (net : MachineNet) : Type 0 where
+pub record IsMachineNet (bounds : Bounds) (loaded : List LoadedChart) (routes : List Route)
+    (net : MachineNet) : Type 0 where
   pub whole : IsNet machine.ghosts net
   pub charts : machine_charts net ≡ map (program_of_chart bounds) loaded
   pub routes_are : routes_of net ≡ routes

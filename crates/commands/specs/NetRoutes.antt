@@ -1,5 +1,6 @@
 -- The routes that the texts of a net name between its charts.
-use Rattle.std.specs.Prelude.{◌≡◌, ℕ, List, [], ◌∷◌, Option, Some, None, is_some, not, option_map, option_and_then, slice_get}
+use Rattle.std.specs.Prelude.{◌≡◌, ℕ, List, [], ◌∷◌, Option, Some, None, is_some, not, option_map, option_and_then}
+use Rattle.std.specs.Prelude.{slice_get}
 use Rattle.std.specs.List.{find}
 use Rattle.checked_chart.specs.Chart.{Chart}
 use Rattle.net_text.specs.Routes.{HasSameNumbers, Joins, route_of}
@@ -33,7 +34,8 @@ pub record IsJoined (text : RouteText) (from to : Option Chart) (route : Route) 
 -- the line of the first text that names no route, if there is one
 abbrev pub bad_route : List LoadedChart → List RouteText → Option ℕ
 bad_route loaded texts =
-    option_map (λ (text : RouteText). text.line) (find (λ (text : RouteText). not (is_some (route_in loaded text))) texts)
+    option_map (λ (text : RouteText). text.line) (find (λ (text : RouteText). not
+        (is_some (route_in loaded text))) texts)
 
 -- the route, if there is one, before others
 abbrev pub before_routes : Option Route → List Route → List Route

@@ -33,7 +33,8 @@ end_with declared (Err (answers.Empty step route)) = ends.Empty step route
 abbrev pub end_by : (ℕ → Option Chart) → Result (Unit {0}) NetEnd → ScheduleEnd
 end_by charts = end_with (λ c. option_map_or (λ (chart : Chart). chart.names) (charts c) no_names)
 
--- The net was driven over the schedule, and that is the answer: what was written by it, and the causes of Read and Write.
+-- The net was driven over the schedule, and that is the answer: what was written by it, and the causes of Read and
+-- Write.
 -- Memory didn't run out. No other file is read.
 pub record NetWasDriven (net : Net) (call : Call) (second : List ℕ) (end : ScheduleEnd) : Type 0 where
   pub answer : Result (Unit {0}) NetEnd

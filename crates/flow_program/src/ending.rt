@@ -238,14 +238,21 @@ impl From<NetCommandEnd> for Ending {
     fn from(end: NetCommandEnd) -> Ending {
         match end {
             NetCommandEnd::NoNet(end) => Ending::from(end),
-            NetCommandEnd::NoChart(chart, FileEnd::Refused(refusal)) => {
-                Ending::NetChart(chart, refusal)
-            }
-            NetCommandEnd::NoChart(_, FileEnd::Read) => Ending::Read,
-            NetCommandEnd::NoChart(_, FileEnd::Memory) => Ending::Memory,
+            NetCommandEnd::NoChart(chart, end) => of_net_chart(chart, end),
             NetCommandEnd::NoRoute(line) => Ending::Net(NetFault::BadRoute(line)),
             NetCommandEnd::Ran(end) => Ending::from(end),
         }
+    }
+}
+
+/// The ending where nothing comes of the file of a chart of a net.
+fn of_net_chart(chart: ChartOfNet, end: FileEnd<Refusal>) -> Ending
+    ensures { result ≡ spec.of_net_chart chart end }
+{
+    match end {
+        FileEnd::Refused(refusal) => Ending::NetChart(chart, refusal),
+        FileEnd::Read => Ending::Read,
+        FileEnd::Memory => Ending::Memory,
     }
 }
 

@@ -7,7 +7,8 @@ use Rattle.commands.specs.NetRules.{net_by_rules}
 use Rattle.commands.specs.Schedule.{ScheduleEnds}
 use Rattle.commands.specs.declared.net_charts.ReadFile.{ReadFile}
 use Rattle.commands.proofs.NetChartLemmas.{reads_others}
-use Rattle.commands.proofs.NetEndLemmas.{all_ended, good_as, no_net_others, no_chart_others, net_others, schedule_others, unread_name}
+use Rattle.commands.proofs.NetEndLemmas.{all_ended, good_as, no_net_others, no_chart_others, net_others}
+use Rattle.commands.proofs.NetEndLemmas.{schedule_others, unread_name}
 use Rattle.net_text.specs.NetTexts.{net_text_of}
 use Rattle.net_text.specs.declared.net.NetChart.{NetChart}
 use Rattle.commands.proofs.net.run_net.Goals as goal
@@ -15,7 +16,8 @@ use Rattle.commands.proofs.net.run_net.Goals as goal
 -- nothing comes of the file of the net
 pub returns-in-Err-clause-others : goal.returns-in-Err-clause-others
 returns-in-Err-clause-others g c =
-    no_net_others (call_of g.I.Inputs g.O.Sink c.args.inputs.now c.read_net_file.new.inputs c.args.out.now c.args.out.now)
+    no_net_others (call_of g.I.Inputs g.O.Sink c.args.inputs.now c.read_net_file.new.inputs c.args.out.now
+        c.args.out.now)
     c.args.first.now c.args.second.now c.in-Err.end c.in-Err.ensures.given
 
 -- nothing comes of the file of a chart
@@ -26,7 +28,8 @@ returns-in-Err-read_charts-clause-ends g c =
     let after = sources_of g.I.Inputs c.read_charts.new.inputs in
     let given = c.in-Ok.ensures.given in
     let unread =
-    subst (λ (charts : List NetChart). ChartUnread between after charts c.in-Err-read_charts.unread.number c.in-Err-read_charts.unread.end)
+    subst (λ (charts : List NetChart). ChartUnread between after charts c.in-Err-read_charts.unread.number
+        c.in-Err-read_charts.unread.end)
     c.items.ensures c.in-Err-read_charts.ensures in (
       record {
         net = net;
@@ -34,7 +37,8 @@ returns-in-Err-read_charts-clause-ends g c =
         net_read = record { text = given.text; read = given.read; means = given.means };
         number = c.in-Err-read_charts.unread.number;
         unread = unread;
-        named = c.of.ensures ∙ unread_name between after net c.in-Err-read_charts.unread.number c.in-Err-read_charts.unread.end unread;
+        named = c.of.ensures ∙ unread_name between after net c.in-Err-read_charts.unread.number
+            c.in-Err-read_charts.unread.end unread;
       },
       refl,
     )
@@ -47,10 +51,12 @@ returns-in-Err-read_charts-clause-others g c =
     let after = sources_of g.I.Inputs c.read_charts.new.inputs in
     let given = c.in-Ok.ensures.given in
     let unread =
-    subst (λ (charts : List NetChart). ChartUnread between after charts c.in-Err-read_charts.unread.number c.in-Err-read_charts.unread.end)
+    subst (λ (charts : List NetChart). ChartUnread between after charts c.in-Err-read_charts.unread.number
+        c.in-Err-read_charts.unread.end)
     c.items.ensures c.in-Err-read_charts.ensures in
     net_others (call_of g.I.Inputs g.O.Sink c.args.inputs.now c.read_charts.new.inputs c.args.out.now c.args.out.now)
-    c.args.first.now c.args.second.now net between after (record { text = given.text; read = given.read; means = given.means })
+    c.args.first.now c.args.second.now net between after (record { text = given.text; read = given.read; means =
+        given.means })
     (no_chart_others between after net.charts c.in-Err-read_charts.unread.number c.in-Err-read_charts.unread.end unread)
     (λ other ne. refl)
 
@@ -62,11 +68,14 @@ returns-in-Some-clause-others g c =
     let after = sources_of g.I.Inputs c.read_charts.new.inputs in
     let given = c.in-Ok.ensures.given in
     let reads =
-    subst (λ (charts : List NetChart). ReadsCharts [] between after charts (loaded_in c.in-Ok-read_charts.files.items charts))
+    subst (λ (charts : List NetChart). ReadsCharts [] between after charts
+        (loaded_in c.in-Ok-read_charts.files.items charts))
     c.items.ensures c.in-Ok-read_charts.ensures.0 in
     net_others (call_of g.I.Inputs g.O.Sink c.args.inputs.now c.read_charts.new.inputs c.args.out.now c.args.out.now)
-    c.args.first.now c.args.second.now net between after (record { text = given.text; read = given.read; means = given.means })
-    (reads_others [] between after net.charts (loaded_in c.in-Ok-read_charts.files.items net.charts) reads) (λ other ne. refl)
+    c.args.first.now c.args.second.now net between after (record { text = given.text; read = given.read; means =
+        given.means })
+    (reads_others [] between after net.charts (loaded_in c.in-Ok-read_charts.files.items net.charts) reads)
+        (λ other ne. refl)
 
 -- the net ran
 pub returns-clause-ends : goal.returns-clause-ends
@@ -76,7 +85,8 @@ returns-clause-ends g c =
     let loaded = loaded_in files net.charts in
     let between = sources_of g.I.Inputs c.read_net_file.new.inputs in
     let middle = sources_of g.I.Inputs c.read_charts.new.inputs in
-    let call = call_of g.I.Inputs g.O.Sink c.args.inputs.now c.run_schedule.new.inputs c.args.out.now c.run_schedule.new.out in
+    let call = call_of g.I.Inputs g.O.Sink c.args.inputs.now c.run_schedule.new.inputs c.args.out.now
+        c.run_schedule.new.out in
     let later : Call = record call { sources_before = middle } in
     let given = c.in-Ok.ensures.given in
     let reads =
@@ -97,11 +107,13 @@ returns-clause-ends g c =
       loaded = loaded;
       between = middle;
       read = read;
-      good = good_as c.deref.result.now files c.items-2.result.now net.charts c.items-3.result.now net.routes c.bad_route.result
+      good = good_as c.deref.result.now files c.items-2.result.now net.charts c.items-3.result.now net.routes
+          c.bad_route.result
           c.deref.ensures.value c.items-2.ensures c.items-3.ensures c.bad_route.ensures c.in_default.is;
       traces = traces;
       ended = λ e.
-          all_ended (net_by_rules c.args.bounds loaded (routes_in loaded net.routes)) call c.args.first.now c.args.second.now net
+          all_ended (net_by_rules c.args.bounds loaded (routes_in loaded net.routes)) call c.args.first.now
+              c.args.second.now net
           loaded middle c.run_schedule.result read traces e;
     }
 
@@ -113,11 +125,15 @@ returns-clause-others g c =
     let middle = sources_of g.I.Inputs c.read_charts.new.inputs in
     let given = c.in-Ok.ensures.given in
     let reads =
-    subst (λ (charts : List NetChart). ReadsCharts [] between middle charts (loaded_in c.in-Ok-read_charts.files.items charts))
+    subst (λ (charts : List NetChart). ReadsCharts [] between middle charts
+        (loaded_in c.in-Ok-read_charts.files.items charts))
     c.items.ensures c.in-Ok-read_charts.ensures.0 in
-    net_others (call_of g.I.Inputs g.O.Sink c.args.inputs.now c.run_schedule.new.inputs c.args.out.now c.run_schedule.new.out)
-    c.args.first.now c.args.second.now net between middle (record { text = given.text; read = given.read; means = given.means })
+    net_others (call_of g.I.Inputs g.O.Sink c.args.inputs.now c.run_schedule.new.inputs c.args.out.now
+        c.run_schedule.new.out)
+    c.args.first.now c.args.second.now net between middle (record { text = given.text; read = given.read; means =
+        given.means })
     (reads_others [] between middle net.charts (loaded_in c.in-Ok-read_charts.files.items net.charts) reads)
     (schedule_others _
-    (call_of g.I.Inputs g.O.Sink c.read_charts.new.inputs c.run_schedule.new.inputs c.args.out.now c.run_schedule.new.out)
+    (call_of g.I.Inputs g.O.Sink c.read_charts.new.inputs c.run_schedule.new.inputs c.args.out.now
+        c.run_schedule.new.out)
     c.args.second.now c.run_schedule.result c.run_schedule.ensures)

@@ -5,4 +5,5 @@ use Rattle.commands.proofs.net_charts.read_charts.Given as goal
 
 -- the files of the charts so far were read
 abbrev pub invariant-charts : goal.invariant-charts
-invariant-charts g l = Progress (sources_of g.I.Inputs l.fn.inputs) (sources_of g.I.Inputs l.inputs) (take l.number l.charts) l.files.items
+invariant-charts g l = Progress (sources_of g.I.Inputs l.fn.inputs) (sources_of g.I.Inputs l.inputs)
+    (take l.number l.charts) l.files.items

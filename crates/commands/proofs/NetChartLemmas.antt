@@ -160,8 +160,11 @@ loaded_still files f (c ∷ charts) all = λ i.
 all_still : (files : List ReadFile) (f : ReadFile) (charts : List NetChart) → AllRead files charts → AllRead
     (files ++ f ∷ []) charts
 all_still files f [] all = tt
-all_still files f (c ∷ charts) all = (ap is_some (found_still files f c.file all.0)
-    ∙ all.0, all_still files f charts all.1)
+all_still files f (c ∷ charts) all = (
+  ap is_some (found_still files f c.file all.0)
+      ∙ all.0,
+  all_still files f charts all.1,
+)
 
 -- ---- how far reading is
 
@@ -199,7 +202,7 @@ with_known before now after ahead files c chart p e same =
     go name None here true same =
         let named : c.file ≡ name = (bytes_eq-Decides c.file name).0 same in
         absurd (let bad = sym here ∙ (ap (λ (t : List ℕ). chart_known t (loaded_in files ahead)) (sym named)
-            ∙ p.known c.file ∙ e) in cc)
+        ∙ p.known c.file ∙ e) in cc)
 
 -- a chart whose file is read now
 with_added : (before now after : Sources) (ahead : List NetChart) (files : List ReadFile) (c : NetChart) (f : ReadFile)

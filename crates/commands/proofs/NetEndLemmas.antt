@@ -172,8 +172,11 @@ all_with : (before after : Sources) (earlier : List LoadedChart) (l : LoadedChar
     → AllByRecursion (λ (l : LoadedChart). IsAtEnd (before.left l.file)) earlier
     → AllByRecursion (λ (l : LoadedChart). IsAtEnd (after.left l.file)) (earlier ++ l ∷ [])
 all_with before after [] l still end all = (end, tt)
-all_with before after (e ∷ earlier) l still end all = (still e.file all.0, all_with before after earlier l still end
-    all.1)
+all_with before after (e ∷ earlier) l still end all = (
+  still e.file all.0,
+  all_with before after earlier l still end
+      all.1,
+)
 
 -- after all charts were read nothing is left of their files, nor of a file of which nothing was left before
 pub reads_end : (earlier : List LoadedChart) (before after : Sources) (charts : List NetChart)
@@ -222,7 +225,7 @@ schedule_still net call second end ends e other before =
       | inl same ↦ rw ((bytes_eq-Decides other second).0 same) (schedule_end net call second end ends e)
       | inr differs ↦
           rw (schedule_others net call second end ends other (λ same. let bad = sym
-              ((bytes_eq-Decides other second).1 same) ∙ differs in cc))
+          ((bytes_eq-Decides other second).1 same) ∙ differs in cc))
           before
     ]
 

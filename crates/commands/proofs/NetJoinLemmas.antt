@@ -70,7 +70,7 @@ module _ (bounds : Bounds) (charts : List NetChart) (files : List ReadFile) (all
       (subst (λ (n : Names). Joins n (machine.ghosts.declared (program_of_chart bounds to.l).program) route)
       (sym (declares bounds from.l joined.first from.is))
       (subst (λ (n : Names). Joins joined.first.names n route) (sym (declares bounds to.l joined.second to.is))
-          joined.joins))
+      joined.joins))
       (omega (arith, cap, within.some)) (omega (arith, cap, within.few))
 
 -- one route more was added

@@ -27,4 +27,4 @@ module _ (charts : List NetChart) (files : List ReadFile) (all : AllRead files c
       ≡ bad_route (loaded_in files charts) texts
   same_bad texts = λ i.
       option_map (λ (text : RouteText). text.line) (find (λ (text : RouteText). not
-          (is_some (same_route text i))) texts)
+      (is_some (same_route text i))) texts)

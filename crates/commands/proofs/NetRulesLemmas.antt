@@ -107,11 +107,11 @@ module _ (bounds : Bounds) (loaded : List LoadedChart) (routes : List Route) whe
     reacts = λ n. (ap (reaction_of machine.ghosts) (program_at n) ∙ reaction_is (slice_get loaded n)) i;
     trees = λ n.
         (ap (λ (o : Option (ChartOf Program)). option_map_or (λ (c : ChartOf Program). machine.ghosts.tree c.program)
-            o (tree_of [] []))
+        o (tree_of [] []))
         (program_at n) ∙ tree_is (slice_get loaded n)) i;
     declared = λ n.
         (ap (λ (o : Option (ChartOf Program)). option_map_or (λ (c : ChartOf Program). machine.ghosts.declared
-            c.program) o no_names)
+        c.program) o no_names)
         (program_at n) ∙ declared_is (slice_get loaded n)) i;
     routes = routes;
   }

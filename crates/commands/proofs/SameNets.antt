@@ -107,10 +107,13 @@ module _ (net : Net) (starts : ℕ → StartRelation) (reacts : ℕ → Reaction
   moved_on before step c given next reached h e =
       let fine = no_fault h.moment.fault _ (ap (λ (n : NetMoment). goes_on n.outcome) (sym h.is) ∙ e) in
       let here = reached_later c (before.charts c).world (before.charts c).took given h.moment
-          (reached c) h.gives fine in
+      (reached c) h.gives fine in
       subst (λ (n : NetMoment). AllReached net.starts net.reacts n.after) (sym h.is)
-      (all_replaced before c (record { world = Some h.moment.world; took = took_also
-          (before.charts c).took given }) reached here)
+      (all_replaced before c (record {
+        world = Some h.moment.world;
+        took = took_also
+            (before.charts c).took given;
+      }) reached here)
 
   -- what a step does in the first net it does in the second, and where the run goes on, runs left the worlds of all
   -- charts
@@ -160,9 +163,14 @@ module _ (net : Net) (starts : ℕ → StartRelation) (reacts : ℕ → Reaction
   goes_too before [] moments reached h = h
   goes_too before (step ∷ steps) moments reached h =
       let next = h.0 in
-      let does = step_too before step next reached h.3 in
-      (next, h.1, h.2, does.0, rest (goes_on next.outcome) does.1 h.4 (λ now more. goes_too next.after steps h.1 now
-          more))
+      let does = step_too before step next reached h.3 in (
+        next,
+        h.1,
+        h.2,
+        does.0,
+        rest (goes_on next.outcome) does.1 h.4 (λ now more. goes_too next.after steps h.1 now
+            more),
+      )
     where
       rest : (b : Bool) → (b ≡ true → AllReached net.starts net.reacts h.0.after)
           → UnlessOver b h.1 (NetGoesOn net h.0.after steps h.1)

@@ -7,7 +7,7 @@ use Rattle.step_driver.specs.StepRuns.{StepRuns}
 module _ (s : StepRuns) (Ran RanFirst : List s.Step → List ℕ → Option s.End → Type 0) (IsBegin : List ℕ → Type 0)
     (to : (steps : List s.Step) (text : List ℕ) (end : Option s.End) → s.Ran steps text end → Ran steps text end)
     (first : (steps : List s.Step) (text : List ℕ) (end : Option s.End) → s.RanFirst steps text end
-        → RanFirst steps text end)
+    → RanFirst steps text end)
     (back : (text : List ℕ) → IsBegin text → s.IsBegin text) where
   -- the same steps with other runs
   abbrev pub others : StepRuns

@@ -35,7 +35,7 @@ pub record IsJoined (text : RouteText) (from to : Option Chart) (route : Route) 
 abbrev pub bad_route : List LoadedChart → List RouteText → Option ℕ
 bad_route loaded texts =
     option_map (λ (text : RouteText). text.line) (find (λ (text : RouteText). not
-        (is_some (route_in loaded text))) texts)
+    (is_some (route_in loaded text))) texts)
 
 -- the route, if there is one, before others
 abbrev pub before_routes : Option Route → List Route → List Route

@@ -17,7 +17,7 @@ use Rattle.commands.proofs.net.run_net.Goals as goal
 pub returns-in-Err-clause-others : goal.returns-in-Err-clause-others
 returns-in-Err-clause-others g c =
     no_net_others (call_of g.I.Inputs g.O.Sink c.args.inputs.now c.read_net_file.new.inputs c.args.out.now
-        c.args.out.now)
+    c.args.out.now)
     c.args.first.now c.args.second.now c.in-Err.end c.in-Err.ensures.given
 
 -- nothing comes of the file of a chart
@@ -29,7 +29,7 @@ returns-in-Err-read_charts-clause-ends g c =
     let given = c.in-Ok.ensures.given in
     let unread =
     subst (λ (charts : List NetChart). ChartUnread between after charts c.in-Err-read_charts.unread.number
-        c.in-Err-read_charts.unread.end)
+    c.in-Err-read_charts.unread.end)
     c.items.ensures c.in-Err-read_charts.ensures in (
       record {
         net = net;
@@ -52,11 +52,15 @@ returns-in-Err-read_charts-clause-others g c =
     let given = c.in-Ok.ensures.given in
     let unread =
     subst (λ (charts : List NetChart). ChartUnread between after charts c.in-Err-read_charts.unread.number
-        c.in-Err-read_charts.unread.end)
+    c.in-Err-read_charts.unread.end)
     c.items.ensures c.in-Err-read_charts.ensures in
     net_others (call_of g.I.Inputs g.O.Sink c.args.inputs.now c.read_charts.new.inputs c.args.out.now c.args.out.now)
-    c.args.first.now c.args.second.now net between after (record { text = given.text; read = given.read; means =
-        given.means })
+    c.args.first.now c.args.second.now net between after (record {
+      text = given.text;
+      read = given.read;
+      means =
+          given.means;
+    })
     (no_chart_others between after net.charts c.in-Err-read_charts.unread.number c.in-Err-read_charts.unread.end unread)
     (λ other ne. refl)
 
@@ -69,13 +73,17 @@ returns-in-Some-clause-others g c =
     let given = c.in-Ok.ensures.given in
     let reads =
     subst (λ (charts : List NetChart). ReadsCharts [] between after charts
-        (loaded_in c.in-Ok-read_charts.files.items charts))
+    (loaded_in c.in-Ok-read_charts.files.items charts))
     c.items.ensures c.in-Ok-read_charts.ensures.0 in
     net_others (call_of g.I.Inputs g.O.Sink c.args.inputs.now c.read_charts.new.inputs c.args.out.now c.args.out.now)
-    c.args.first.now c.args.second.now net between after (record { text = given.text; read = given.read; means =
-        given.means })
+    c.args.first.now c.args.second.now net between after (record {
+      text = given.text;
+      read = given.read;
+      means =
+          given.means;
+    })
     (reads_others [] between after net.charts (loaded_in c.in-Ok-read_charts.files.items net.charts) reads)
-        (λ other ne. refl)
+    (λ other ne. refl)
 
 -- the net ran
 pub returns-clause-ends : goal.returns-clause-ends
@@ -86,7 +94,7 @@ returns-clause-ends g c =
     let between = sources_of g.I.Inputs c.read_net_file.new.inputs in
     let middle = sources_of g.I.Inputs c.read_charts.new.inputs in
     let call = call_of g.I.Inputs g.O.Sink c.args.inputs.now c.run_schedule.new.inputs c.args.out.now
-        c.run_schedule.new.out in
+    c.run_schedule.new.out in
     let later : Call = record call { sources_before = middle } in
     let given = c.in-Ok.ensures.given in
     let reads =
@@ -113,7 +121,7 @@ returns-clause-ends g c =
       traces = traces;
       ended = λ e.
           all_ended (net_by_rules c.args.bounds loaded (routes_in loaded net.routes)) call c.args.first.now
-              c.args.second.now net
+          c.args.second.now net
           loaded middle c.run_schedule.result read traces e;
     }
 
@@ -126,14 +134,18 @@ returns-clause-others g c =
     let given = c.in-Ok.ensures.given in
     let reads =
     subst (λ (charts : List NetChart). ReadsCharts [] between middle charts
-        (loaded_in c.in-Ok-read_charts.files.items charts))
+    (loaded_in c.in-Ok-read_charts.files.items charts))
     c.items.ensures c.in-Ok-read_charts.ensures.0 in
     net_others (call_of g.I.Inputs g.O.Sink c.args.inputs.now c.run_schedule.new.inputs c.args.out.now
-        c.run_schedule.new.out)
-    c.args.first.now c.args.second.now net between middle (record { text = given.text; read = given.read; means =
-        given.means })
+    c.run_schedule.new.out)
+    c.args.first.now c.args.second.now net between middle (record {
+      text = given.text;
+      read = given.read;
+      means =
+          given.means;
+    })
     (reads_others [] between middle net.charts (loaded_in c.in-Ok-read_charts.files.items net.charts) reads)
     (schedule_others _
     (call_of g.I.Inputs g.O.Sink c.read_charts.new.inputs c.run_schedule.new.inputs c.args.out.now
-        c.run_schedule.new.out)
+    c.run_schedule.new.out)
     c.args.second.now c.run_schedule.result c.run_schedule.ensures)

@@ -11,7 +11,7 @@ returns-in_err-place c =
     let p : ReadFile → Bool = λ f. bytes_eq f.file c.args.name.now in
     rw c.from_residual.ensures
     (ap (option_map (λ (f : ReadFile). chart_of f.chart)) (sym (unfound p c.args.files.now
-        c.in_err-place.ensures.place)))
+    c.in_err-place.ensures.place)))
 
 -- the first file of that name
 pub returns : goal.returns

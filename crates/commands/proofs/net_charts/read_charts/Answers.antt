@@ -20,7 +20,7 @@ charts-preserved g c =
     let after = sources_of g.I.Inputs c.take_file.new.inputs in
     subst (λ (ahead : List NetChart). Progress before after ahead c.take_file.new.files.items)
     (sym (take_more c.args.charts.now c.charts.number c.index-charts-number.result c.charts-test.true
-        c.index-charts-number.is))
+    c.index-charts-number.is))
     (one_more before (sources_of g.I.Inputs c.charts.inputs) after _ c.charts.files.items c.take_file.new.files.items
     c.index-charts-number.result c.text-file.result.now c.charts.invariant
     (c.text-file.ensures ∙ ap (λ (chart : NetChart). chart.file) (sym c.index-charts-number.is)) c.in-Ok.ensures)

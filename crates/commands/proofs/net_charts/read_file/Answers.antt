@@ -8,4 +8,4 @@ pub returns-in-Err : goal.returns-in-Err
 returns-in-Err g c =
     let given = c.in_ok-chart.ensures in
     ran_out_after CHART_TEXT_LIMIT RefusesAccepted _ _ c.args.name.now given.text given.read
-        given.means.read.spells.short
+    given.means.read.spells.short

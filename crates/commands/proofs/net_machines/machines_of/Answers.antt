@@ -38,9 +38,9 @@ pub charts-preserved : goal.charts-preserved
 charts-preserved c =
     let ahead = take c.charts.chart-index c.args.charts.now in
     let more = take_more c.args.charts.now c.charts.chart-index c.chart-item.result c.charts-test.true c.chart-item.is
-        in
+    in
     subst (λ (charts : List NetChart). IsMachineNet c.args.bounds (loaded_in c.args.files.now charts) []
-        c.add_machine.new.machines)
+    c.add_machine.new.machines)
     (sym more)
     (one_added c.args.bounds c.args.files.now ahead c.chart-item.result c.charts.machines c.add_machine.new.machines
     c.charts.invariant c.in_ok-add_machine.ensures)

@@ -17,7 +17,7 @@ pub returns : goal.returns
 returns c =
     let found =
     found_at (names_none c.args.charts.now c.args.files.now) c.args.texts.now c.in_ok-place.place
-        c.index-texts-place.result
+    c.index-texts-place.result
     c.in_ok-place.ensures.place c.in_ok-place.ensures.within c.index-texts-place.is in
     rw (← c.index-texts-place.is)
     (ap (option_map (λ (text : RouteText). text.line)) (sym found)

@@ -23,16 +23,16 @@ returns g c =
     let routes = routes_in loaded net.routes in
     let is = c.in-Ok.ensures in
     let call = call_of g.I.Inputs g.O.Sink c.args.inputs.now c.net_drive-answer.new.inputs c.args.out.now
-        c.net_drive-answer.new.out in
+    c.net_drive-answer.new.out in
     let seen = seen_of call c.args.second.now in
     let answer = c.net_drive-answer.result in
     Driven (record {
       answer = answer;
       drives = drives_by_rules c.args.bounds loaded routes is.valid seen answer
           (subst (λ (charts : List (ChartOf Program)). NetDrives (net_of machine.ghosts charts routes) seen answer)
-              is.charts
+          is.charts
           (subst (λ (all : List Route). NetDrives (net_of machine.ghosts
-              (machine_charts c.in-Ok.machines) all) seen answer)
+          (machine_charts c.in-Ok.machines) all) seen answer)
           is.routes_are c.net_drive-answer.ensures.drives));
       reads = c.net_drive-answer.ensures.reads;
       writes = c.net_drive-answer.ensures.writes;

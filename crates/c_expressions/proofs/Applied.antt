@@ -11,13 +11,16 @@ use Rattle.actions.specs.declared.sort.ExprSort.TheVariants as kinds
 use Rattle.actions.specs.Sorts.{IsNarrow, binary_sort}
 use Rattle.actions.specs.Values.{HasSort, applied, same_flag}
 use Rattle.actions.proofs.OperatorLemmas.{AreSized}
-use Rattle.c_subset.specs.Trees.{Width, W8, W16, W32, W64, W128, CType, Signed, Truth, Plus, Less, Comparison, IsEqual, IsUnequal, IsBelow, IsAtMost, IsAbove, IsAtLeast, CExpr, Cast, Compare}
-use Rattle.c_subset.specs.Meaning.{Meaning, with_meaning, gives, converted, as_signed, compared, passes, truth, one_if, Store, Locals, meaning, common}
+use Rattle.c_subset.specs.Trees.{Width, W8, W16, W32, W64, W128, CType, Signed, Truth, Plus, Less, Comparison, IsEqual}
+use Rattle.c_subset.specs.Trees.{IsUnequal, IsBelow, IsAtMost, IsAbove, IsAtLeast, CExpr, Cast, Compare}
+use Rattle.c_subset.specs.Meaning.{Meaning, with_meaning, gives, converted, as_signed, compared, passes, truth, one_if}
+use Rattle.c_subset.specs.Meaning.{Store, Locals, meaning, common}
 use Rattle.c_expressions.specs.Translation.{operator_c, numbers_c, flags_c}
 use Rattle.c_expressions.specs.Claims.{Has, shown}
 use Rattle.c_subset.proofs.TypeLemmas.{truth-stays}
 use Rattle.c_expressions.proofs.Fits.{one-stays}
-use Rattle.c_expressions.proofs.Numbers.{equal_passes, below_passes, at_most_passes, above_passes, at_least_passes, comparison-has, sum-has, sum-small, difference-small, product-has}
+use Rattle.c_expressions.proofs.Numbers.{equal_passes, below_passes, at_most_passes, above_passes, at_least_passes}
+use Rattle.c_expressions.proofs.Numbers.{comparison-has, sum-has, sum-small, difference-small, product-has}
 
 -- ---- a number's sort, with the number's own fraction
 

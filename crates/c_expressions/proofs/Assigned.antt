@@ -1,5 +1,7 @@
 -- The whole C of an assignment of a number.
-use Rattle.std.proofs.Common.{◌≡◌, ℕ, ◌+◌, ◌%◌, ◌^◌, ◌<◌, ◌≤◌, ℤ, pos, unsigned_abs, Bool, true, false, cond, Some, None, Result, Ok, Err, is_err, nat_lt, List, refl, sym, ap, ◌∙◌, subst, arith, mod-lt, mod-eq_of_lt}
+use Rattle.std.proofs.Common.{◌≡◌, ℕ, ◌+◌, ◌%◌, ◌^◌, ◌<◌, ◌≤◌, ℤ, pos, unsigned_abs, Bool, true, false, cond, Some}
+use Rattle.std.proofs.Common.{None, Result, Ok, Err, is_err, nat_lt, List, refl, sym, ap, ◌∙◌, subst, arith, mod-lt}
+use Rattle.std.proofs.Common.{mod-eq_of_lt}
 use Rattle.std.proofs.lemmas.Int.{int_rem_euclid_is}
 use Rattle.std.proofs.lemmas.Nat.{pow_pos}
 use Rattle.std.specs.Int.{int_rem_euclid}
@@ -32,7 +34,8 @@ use Rattle.c_subset.specs.Meaning.{bits, gives, converted, read_as, Store, Local
 use Rattle.c_subset.specs.Running.{with_local}
 use Rattle.c_expressions.specs.Code.{Goes, Faults, ending}
 use Rattle.c_expressions.specs.Translation.{Flat}
-use Rattle.c_expressions.specs.Storing.{floored_width, out_c, low_bits_c, signed_c, brought_code, brought_local, stored_c, StoresAs}
+use Rattle.c_expressions.specs.Storing.{floored_width, out_c, low_bits_c, signed_c, brought_code, brought_local}
+use Rattle.c_expressions.specs.Storing.{stored_c, StoresAs}
 use Rattle.c_expressions.specs.Claims.{Has, EndsAs}
 use Rattle.c_expressions.proofs.Running.{agree-itself, set-there, then-goes, then-ends}
 use Rattle.c_expressions.proofs.Quotients.{set-goes, local-has, fault_if-ends}

@@ -1,5 +1,6 @@
 -- The statements of an assignment store what the datum keeps, and the struct shows the new data.
-use Rattle.std.proofs.Common.{◌≡◌, ℕ, zero, suc, ◌<◌, ℤ, Bool, List, [], ◌∷◌, length, slice_get, slice_set, Some, None, Option, Result, Ok, Err, IfOk, refl, sym, ap, ◌∙◌, subst, arith}
+use Rattle.std.proofs.Common.{◌≡◌, ℕ, zero, suc, ◌<◌, ℤ, Bool, List, [], ◌∷◌, length, slice_get, slice_set, Some, None}
+use Rattle.std.proofs.Common.{Option, Result, Ok, Err, IfOk, refl, sym, ap, ◌∙◌, subst, arith}
 use Rattle.flow_base.specs.declared.fault.Fault.{Fault}
 use Rattle.flow_base.specs.declared.fault.Fault.TheVariants.{Overflow as Overflows}
 use Rattle.fixed_point.specs.declared.scale.Scale.{Scale}
@@ -171,6 +172,7 @@ assigns-data int tests calls k helper faulted after bad s vals marks v e sort n 
         (outcome int calls k (assigned_block helper faulted v st rest) s l) (keep vals v (kept_number y so mode)))
         (sym is)
         (stores st (fitted y scale mode)
-        (assigns int tests s vals marks e n v l frac size scale mode y c.sorts c.shown c.active c.int_is sorted none value)
+        (assigns int tests s vals marks e n v l frac size scale mode y c.sorts c.shown c.active c.int_is sorted none
+        value)
         (λ m same. subst (λ (so : Sort). converted (field_type so) m ≡ gives (field_type so) m) (sym is)
         (field-takes scale m (fitted_is_in y scale mode m same))))

@@ -1,5 +1,7 @@
 -- The C of an expression that has a sort ends as its value does.
-use Rattle.std.proofs.Common.{◌≡◌, ℕ, zero, suc, ◌^◌, ◌<◌, ◌≤◌, ℤ, pos, int_lt, neg_ℤ, unsigned_abs, Bool, true, false, cond, not, IsTrue, List, [], ◌∷◌, length, Ok, Err, IfOk, if◌then◌else◌, refl, sym, ap, ◌∙◌, subst, arith}
+use Rattle.std.proofs.Common.{◌≡◌, ℕ, zero, suc, ◌^◌, ◌<◌, ◌≤◌, ℤ, pos, int_lt, neg_ℤ, unsigned_abs, Bool, true, false}
+use Rattle.std.proofs.Common.{cond, not, IsTrue, List, [], ◌∷◌, length, Ok, Err, IfOk, if◌then◌else◌, refl, sym, ap}
+use Rattle.std.proofs.Common.{◌∙◌, subst, arith}
 use Rattle.std.proofs.lemmas.Int.{ints}
 use Rattle.std.proofs.lemmas.Bool.Decides.{nat_tests}
 use Rattle.std.proofs.lemmas.Result.{IfOk-at_ok}
@@ -16,8 +18,10 @@ use Rattle.actions.specs.declared.sort.ExprSort.{ExprSort}
 use Rattle.actions.specs.declared.sort.ExprSort.TheVariants as kinds
 use Rattle.actions.specs.Data.{Datum, datum, value_at, is_mantissa_of, HaveTheirSorts, HasItsSort}
 use Rattle.actions.specs.Exprs.{Expr, Lit, Flag, Read, Active, Neg, Not, Bin}
-use Rattle.actions.specs.Sorts.{Scope, Sorted, IsNarrow, with_sort, negative_sort, not_sort, binary_sort, of_flags, state_sort, literal_sort, least_size, sort_of, quotient_sort}
-use Rattle.actions.specs.Values.{Valued, HasSort, with_value, applied, decides, number_of, flag_of, quotient_value, value_of, scope_at}
+use Rattle.actions.specs.Sorts.{Scope, Sorted, IsNarrow, with_sort, negative_sort, not_sort, binary_sort, of_flags}
+use Rattle.actions.specs.Sorts.{state_sort, literal_sort, least_size, sort_of, quotient_sort}
+use Rattle.actions.specs.Values.{Valued, HasSort, with_value, applied, decides, number_of, flag_of, quotient_value}
+use Rattle.actions.specs.Values.{value_of, scope_at}
 use Rattle.actions.proofs.MagnitudeLemmas.{unsigned_abs-neg}
 use Rattle.actions.proofs.OperatorLemmas.{number_within-is}
 use Rattle.actions.proofs.OperandLemmas.{applied-has_sort, has_flag}
@@ -26,7 +30,8 @@ use Rattle.actions.proofs.SortLemmas.{literal-has_sort, value-has_sort, datum-th
 use Rattle.c_subset.specs.Trees.{Width, Signed, Truth, CExpr, Const, Field, Bang}
 use Rattle.c_subset.specs.Meaning.{gives, read, one_if, Store, Locals, meaning}
 use Rattle.c_expressions.specs.Code.{Nothing, Faults, ending}
-use Rattle.c_expressions.specs.Translation.{Flat, flat, operator_flat, operator_c, eager_flat, lazy_flat, quotient_flat, negation_c, sort_in, width_for, is_nothing}
+use Rattle.c_expressions.specs.Translation.{Flat, flat, operator_flat, operator_c, eager_flat, lazy_flat, quotient_flat}
+use Rattle.c_expressions.specs.Translation.{negation_c, sort_in, width_for, is_nothing}
 use Rattle.c_expressions.specs.Claims.{ShowsData, ShowsActive, field_type, Has, shown, EndsAs}
 use Rattle.c_subset.proofs.TypeLemmas.{truth-stays}
 use Rattle.c_expressions.proofs.Fits.{width_for-room}
@@ -318,10 +323,14 @@ or-operator int s l n left right sort a b (Ok (values.Flag p)) vb given both =
 operator-ends : (int : Width) (s : Store) (l : Locals) (n : ℕ) (op : Op) (left right sort : ExprSort) (a b : Flat)
     (va vb : Valued) → binary_sort op left right ≡ Ok sort → AreBoth int s l n left right a b va vb
     → EndsAs int s n (operator_flat op left right a b) l (operator_value op va vb)
-operator-ends int s l n ops.Div left right sort a b va vb given both = quotient-operator int s l n left right sort a b va vb given both
-operator-ends int s l n ops.And left right sort a b va vb given both = and-operator int s l n left right sort a b va vb given both
-operator-ends int s l n ops.Or left right sort a b va vb given both = or-operator int s l n left right sort a b va vb given both
-operator-ends int s l n other left right sort a b va vb given both = eager-operator int s l n other left right sort a b va vb tt given both
+operator-ends int s l n ops.Div left right sort a b va vb given both =
+    quotient-operator int s l n left right sort a b va vb given both
+operator-ends int s l n ops.And left right sort a b va vb given both =
+    and-operator int s l n left right sort a b va vb given both
+operator-ends int s l n ops.Or left right sort a b va vb given both =
+    or-operator int s l n left right sort a b va vb given both
+operator-ends int s l n other left right sort a b va vb given both =
+    eager-operator int s l n other left right sort a b va vb tt given both
 
 -- it uses no fewer locals than its right side
 operator-up : (op : Op) (left right : ExprSort) (a b : Flat) → b.next ≤ (operator_flat op left right a b).next

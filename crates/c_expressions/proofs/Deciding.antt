@@ -6,12 +6,14 @@ use Rattle.actions.specs.Values.{Valued, HasSort}
 use Rattle.c_subset.specs.Trees.{Width, Signed, Truth, CExpr, Bang, Both, Either, Local}
 use Rattle.c_subset.specs.Meaning.{Meaning, with_meaning, gives, is_true, one_if, truth, Store, Locals, meaning}
 use Rattle.c_subset.specs.Running.{with_local}
-use Rattle.c_expressions.specs.Code.{CCode, Nothing, Then, Set, Divide, FaultIf, If, Ending, Goes, Faults, with_result, ending}
+use Rattle.c_expressions.specs.Code.{CCode, Nothing, Then, Set, Divide, FaultIf, If, Ending, Goes, Faults, with_result}
+use Rattle.c_expressions.specs.Code.{ending}
 use Rattle.c_expressions.specs.Translation.{Flat, is_nothing, lazy_flat}
 use Rattle.c_expressions.specs.Claims.{Has, EndsAs}
 use Rattle.c_subset.proofs.TypeLemmas.{truth-stays}
 use Rattle.c_expressions.proofs.Operators.{bang-has}
-use Rattle.c_expressions.proofs.Running.{agree-through, agree-less, agree-itself, agree-set, set-there, then-goes, then-ends, then-faults}
+use Rattle.c_expressions.proofs.Running.{agree-through, agree-less, agree-itself, agree-set, set-there, then-goes}
+use Rattle.c_expressions.proofs.Running.{then-ends, then-faults}
 use Rattle.c_expressions.proofs.Quotients.{set-goes, local-has}
 
 -- ---- both sides in one expression
@@ -70,7 +72,8 @@ pub both-decides : (int : Width) (s : Store) (a b : CExpr) → Decides int s fal
 both-decides int s a b = record { at_once = λ l. both-decided int s l a b; goes_on = λ l. both-goes_on int s l a b }
 
 pub either-decides : (int : Width) (s : Store) (a b : CExpr) → Decides int s true a b (Either a b)
-either-decides int s a b = record { at_once = λ l. either-decided int s l a b; goes_on = λ l. either-goes_on int s l a b }
+either-decides int s a b =
+    record { at_once = λ l. either-decided int s l a b; goes_on = λ l. either-goes_on int s l a b }
 
 -- code that is nothing
 nothing-goes : (int : Width) (s : Store) (l : Locals) (c : CCode) → is_nothing c ≡ true → ending int s l c ≡ Goes l

@@ -1,5 +1,7 @@
 -- What a scale keeps of a number, and the field that takes it.
-use Rattle.std.proofs.Common.{◌≡◌, ℕ, ◌+◌, ◌-◌, ◌^◌, ◌<◌, ◌≤◌, max, nat_le, ℤ, pos, negsuc, neg_ℤ, unsigned_abs, int_le, Bool, true, false, cond, not, ◌&&◌, IsTrue, Ok, is_err, refl, ap, subst, arith, mod-eq_of_lt, Some}
+use Rattle.std.proofs.Common.{◌≡◌, ℕ, ◌+◌, ◌-◌, ◌^◌, ◌<◌, ◌≤◌, max, nat_le, ℤ, pos, negsuc, neg_ℤ, unsigned_abs, int_le}
+use Rattle.std.proofs.Common.{Bool, true, false, cond, not, ◌&&◌, IsTrue, Ok, is_err, refl, ap, subst, arith}
+use Rattle.std.proofs.Common.{mod-eq_of_lt, Some}
 use Rattle.std.proofs.lemmas.Int.{ints}
 use Rattle.std.proofs.lemmas.Nat.{pow_pos}
 use Rattle.std.proofs.lemmas.Bool.Decides.{nat_tests}

@@ -1,19 +1,24 @@
 -- The C of an operator on numbers, where the operator has a sort.
-use Rattle.std.proofs.Common.{◌≡◌, ℕ, ◌+◌, ◌-◌, ◌^◌, ◌<◌, ◌≤◌, max, ℤ, ◌+ℤ◌, ◌-ℤ◌, ◌*ℤ◌, neg_ℤ, unsigned_abs, int_cmp, is_eq, is_lt, is_le, is_gt, is_ge, Ok, arith}
+use Rattle.std.proofs.Common.{◌≡◌, ℕ, ◌+◌, ◌-◌, ◌^◌, ◌<◌, ◌≤◌, max, ℤ, ◌+ℤ◌, ◌-ℤ◌, ◌*ℤ◌, neg_ℤ, unsigned_abs, int_cmp}
+use Rattle.std.proofs.Common.{is_eq, is_lt, is_le, is_gt, is_ge, Ok, arith}
 use Rattle.std.proofs.lemmas.Int.{ints}
 use Rattle.fixed_point.specs.declared.num.Num.{Num}
 use Rattle.fixed_point.specs.Numbers.{scaled, common_frac, dividend_of}
 use Rattle.actions.specs.declared.sort.ExprSort.{ExprSort}
 use Rattle.actions.specs.declared.sort.ExprSort.TheVariants as kinds
 use Rattle.actions.specs.Sorts.{size_at, sum_sort, product_sort, quotient_sort, comparison_sort}
-use Rattle.actions.proofs.MagnitudeLemmas.{size-weaker, shifted-within, scaled-within, product-within, sum-within, difference-within}
+use Rattle.actions.proofs.MagnitudeLemmas.{size-weaker, shifted-within, scaled-within, product-within, sum-within}
+use Rattle.actions.proofs.MagnitudeLemmas.{difference-within}
 use Rattle.actions.proofs.OperatorLemmas.{AreSized, number_within-is, comparison_sort-is}
-use Rattle.c_subset.specs.Trees.{Width, Signed, Arithmetic, Times, Comparison, IsEqual, IsBelow, IsAtMost, IsAbove, IsAtLeast, CExpr, Cast, Minus}
+use Rattle.c_subset.specs.Trees.{Width, Signed, Arithmetic, Times, Comparison, IsEqual, IsBelow, IsAtMost, IsAbove}
+use Rattle.c_subset.specs.Trees.{IsAtLeast, CExpr, Cast, Minus}
 use Rattle.c_subset.specs.Meaning.{bits, exact, passes, one_if, Store, Locals}
-use Rattle.c_expressions.specs.Translation.{brought, width_for, sum_width, sum_c, product_c, comparison_width, comparison_c, quotient_width, dividend_c}
+use Rattle.c_expressions.specs.Translation.{brought, width_for, sum_width, sum_c, product_c, comparison_width}
+use Rattle.c_expressions.specs.Translation.{comparison_c, quotient_width, dividend_c}
 use Rattle.c_expressions.specs.Claims.{Has}
 use Rattle.c_expressions.proofs.Fits.{width_for-room}
-use Rattle.c_expressions.proofs.Operators.{Roomy, has_roomy, cast-roomy, calc-roomy, compare-has, minus-has, brought-roomy}
+use Rattle.c_expressions.proofs.Operators.{Roomy, has_roomy, cast-roomy, calc-roomy, compare-has, minus-has}
+use Rattle.c_expressions.proofs.Operators.{brought-roomy}
 
 -- ---- comparisons of whole numbers
 

@@ -1,10 +1,14 @@
 -- C's operators on operands that have room.
-use Rattle.std.proofs.Common.{◌≡◌, ℕ, suc, ◌+◌, ◌*◌, ◌^◌, ◌<◌, ◌≤◌, nat_eq, ℤ, pos, negsuc, ◌*ℤ◌, neg_ℤ, unsigned_abs, Bool, true, false, cond, not, Some, refl, sym, ap, ◌∙◌, subst, arith}
+use Rattle.std.proofs.Common.{◌≡◌, ℕ, suc, ◌+◌, ◌*◌, ◌^◌, ◌<◌, ◌≤◌, nat_eq, ℤ, pos, negsuc, ◌*ℤ◌, neg_ℤ, unsigned_abs}
+use Rattle.std.proofs.Common.{Bool, true, false, cond, not, Some, refl, sym, ap, ◌∙◌, subst, arith}
 use Rattle.fixed_point.proofs.Powers.{power-le}
 use Rattle.fixed_point.specs.Numbers.{floor_div}
 use Rattle.actions.proofs.MagnitudeLemmas.{size-weaker, shifted-within, unsigned_abs-neg, floor_div-within}
-use Rattle.c_subset.specs.Trees.{Width, CType, Signed, Arithmetic, Times, Comparison, CExpr, Const, Local, Cast, Minus, Bang, Calc, Compare}
-use Rattle.c_subset.specs.Meaning.{bits, CValue, Meaning, Wrong, with_meaning, gives, converted, as_signed, exact, calculated, compared, passes, negated, truth, one_if, is_true, read_as, Store, Locals, meaning}
+use Rattle.c_subset.specs.Trees.{Width, CType, Signed, Arithmetic, Times, Comparison, CExpr, Const, Local, Cast, Minus}
+use Rattle.c_subset.specs.Trees.{Bang, Calc, Compare}
+use Rattle.c_subset.specs.Meaning.{bits, CValue, Meaning, Wrong, with_meaning, gives, converted, as_signed, exact}
+use Rattle.c_subset.specs.Meaning.{calculated, compared, passes, negated, truth, one_if, is_true, read_as, Store}
+use Rattle.c_subset.specs.Meaning.{Locals, meaning}
 use Rattle.c_expressions.specs.Translation.{brought}
 use Rattle.c_expressions.specs.Claims.{Has}
 use Rattle.c_subset.proofs.TypeLemmas.{promoted-signed, common-signed, truth-stays}

@@ -1,5 +1,6 @@
 -- A quotient: the divisor as a local, the fault where it is 0, and the quotient as a local.
-use Rattle.std.proofs.Common.{◌≡◌, ℕ, ◌+◌, ◌<◌, ◌≤◌, max, nat_eq, ℤ, pos, ◌^◌, unsigned_abs, Bool, true, false, cond, not, Some, Ok, Err, refl, ap, ◌∙◌, arith}
+use Rattle.std.proofs.Common.{◌≡◌, ℕ, ◌+◌, ◌<◌, ◌≤◌, max, nat_eq, ℤ, pos, ◌^◌, unsigned_abs, Bool, true, false, cond}
+use Rattle.std.proofs.Common.{not, Some, Ok, Err, refl, ap, ◌∙◌, arith}
 use Rattle.std.proofs.lemmas.Int.{ints}
 use Rattle.std.proofs.lemmas.Bool.Decides.{nat_tests}
 use Rattle.flow_base.specs.declared.fault.Fault.{Fault}
@@ -14,7 +15,8 @@ use Rattle.actions.specs.Values.{quotient_value}
 use Rattle.actions.proofs.MagnitudeLemmas.{size-weaker, dividend-within}
 use Rattle.actions.proofs.OperatorLemmas.{AreSized, number_within-is}
 use Rattle.c_subset.specs.Trees.{Width, CType, Signed, IsEqual, CExpr, Const, Local}
-use Rattle.c_subset.specs.Meaning.{bits, Meaning, with_meaning, gives, converted, passes, one_if, is_true, read_as, Store, Locals, meaning}
+use Rattle.c_subset.specs.Meaning.{bits, Meaning, with_meaning, gives, converted, passes, one_if, is_true, read_as}
+use Rattle.c_subset.specs.Meaning.{Store, Locals, meaning}
 use Rattle.c_subset.specs.Running.{with_local}
 use Rattle.c_subset.proofs.TypeLemmas.{truth-stays}
 use Rattle.c_expressions.specs.Code.{CCode, Then, Set, Divide, FaultIf, Ending, Goes, Faults, with_result, ending}
@@ -23,7 +25,8 @@ use Rattle.c_expressions.specs.Claims.{Has, AgreeBelow, EndsAs}
 use Rattle.c_expressions.proofs.Fits.{width_for-room, signed-stays}
 use Rattle.c_expressions.proofs.Operators.{const-roomy, compare-has, local-roomy, divide-goes}
 use Rattle.c_expressions.proofs.Numbers.{dividend-has}
-use Rattle.c_expressions.proofs.Running.{agree-through, agree-itself, agree-set, set-there, then-goes, then-ends, then-faults}
+use Rattle.c_expressions.proofs.Running.{agree-through, agree-itself, agree-set, set-there, then-goes, then-ends}
+use Rattle.c_expressions.proofs.Running.{then-faults}
 
 -- a local is set to what the expression gives in its type
 pub set-goes : (int : Width) (s : Store) (l : Locals) (k : ℕ) (t : CType) (e : CExpr) (z z' : ℤ) → Has int s l e z

@@ -1,5 +1,6 @@
 -- Code that runs before an expression, one piece after another.
-use Rattle.std.proofs.Common.{◌≡◌, ℕ, ◌≤◌, nat_eq, ℤ, Bool, true, false, cond, ◌&&◌, Some, Ok, Err, refl, sym, ap, ◌∙◌, subst, arith}
+use Rattle.std.proofs.Common.{◌≡◌, ℕ, ◌≤◌, nat_eq, ℤ, Bool, true, false, cond, ◌&&◌, Some, Ok, Err, refl, sym, ap, ◌∙◌}
+use Rattle.std.proofs.Common.{subst, arith}
 use Rattle.flow_base.specs.declared.fault.Fault.{Fault}
 use Rattle.actions.specs.declared.expr.Value.{Value}
 use Rattle.actions.specs.Values.{Valued, with_value}
@@ -65,7 +66,8 @@ eager-ends int s l n a b e (Ok x) (Err f) apply na nb ha hb computes =
 eager-ends int s l n a b e (Ok x) (Ok y) apply na nb ha hb computes =
     let second = hb ha.0 in
     let c = computes x y refl refl in
-    subst (λ (v : Valued). EndsAs int s n (record { code = Then a.code b.code; expr = e; next = b.next }) l v) (sym c.1) (
+    subst (λ (v : Valued). EndsAs int s n (record { code = Then a.code b.code; expr = e; next = b.next }) l v)
+    (sym c.1) (
       second.0,
       then-goes int s l ha.0 second.0 a.code b.code ha.1 second.1,
       agree-through n a.next l ha.0 second.0 na ha.2 second.2,

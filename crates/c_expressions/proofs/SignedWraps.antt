@@ -1,5 +1,7 @@
 -- Wrapping to a signed scale by uint64_t and int64_t.
-use Rattle.std.proofs.Common.{◌≡◌, ℕ, suc, ◌+◌, ◌-◌, ◌*◌, ◌/◌, ◌%◌, ◌^◌, ◌<◌, ◌≤◌, ℤ, pos, ◌+ℤ◌, ◌-ℤ◌, neg_ℤ, unsigned_abs, int_le, Bool, true, false, cond, refl, sym, ap, ◌∙◌, subst, arith, mod-lt, mod-eq_of_lt, div-add-mod', pow-suc}
+use Rattle.std.proofs.Common.{◌≡◌, ℕ, suc, ◌+◌, ◌-◌, ◌*◌, ◌/◌, ◌%◌, ◌^◌, ◌<◌, ◌≤◌, ℤ, pos, ◌+ℤ◌, ◌-ℤ◌, neg_ℤ}
+use Rattle.std.proofs.Common.{unsigned_abs, int_le, Bool, true, false, cond, refl, sym, ap, ◌∙◌, subst, arith, mod-lt}
+use Rattle.std.proofs.Common.{mod-eq_of_lt, div-add-mod', pow-suc}
 use Rattle.std.proofs.lemmas.Int.{ints, int_rem_euclid_is}
 use Rattle.std.proofs.lemmas.Nat.{pow_pos, mod-mul-add}
 use Rattle.std.proofs.lemmas.Bool.Decides.{nat_tests}
@@ -7,8 +9,11 @@ use Rattle.std.specs.Int.{int_rem_euclid}
 use Rattle.fixed_point.proofs.Powers.{power-le}
 use Rattle.fixed_point.specs.Scales.{wrapped}
 use Rattle.fixed_point.specs.declared.scale.Scale.{Scale}
-use Rattle.c_subset.specs.Trees.{Width, W8, W16, W32, W64, W128, CType, Signed, Unsigned, Arithmetic, Less, Comparison, IsAtMost, CExpr, Const, Cast, Minus, Calc, Compare}
-use Rattle.c_subset.specs.Meaning.{bits, Meaning, Wrong, with_meaning, gives, converted, fits_signed, exact, calculated, compared, negated, passes, truth, one_if, promoted, common, common_of, Store, Locals, meaning}
+use Rattle.c_subset.specs.Trees.{Width, W8, W16, W32, W64, W128, CType, Signed, Unsigned, Arithmetic, Less, Comparison}
+use Rattle.c_subset.specs.Trees.{IsAtMost, CExpr, Const, Cast, Minus, Calc, Compare}
+use Rattle.c_subset.specs.Meaning.{bits, Meaning, Wrong, with_meaning, gives, converted, fits_signed, exact, calculated}
+use Rattle.c_subset.specs.Meaning.{compared, negated, passes, truth, one_if, promoted, common, common_of, Store, Locals}
+use Rattle.c_subset.specs.Meaning.{meaning}
 use Rattle.c_expressions.specs.Storing.{signed_c}
 use Rattle.c_expressions.specs.Claims.{Has}
 use Rattle.c_expressions.proofs.Wraps.{lifted, common_unsigned}

@@ -1,5 +1,6 @@
 -- The C that brings a number to a scale gives what the scale keeps.
-use Rattle.std.proofs.Common.{◌≡◌, ℕ, ◌+◌, ◌-◌, ◌^◌, ◌<◌, ◌≤◌, max, nat_eq, nat_le, ℤ, pos, unsigned_abs, int_lt, int_le, Bool, true, false, cond, not, ◌&&◌, ◌||◌, refl, sym, ap, ◌∙◌, subst, arith}
+use Rattle.std.proofs.Common.{◌≡◌, ℕ, ◌+◌, ◌-◌, ◌^◌, ◌<◌, ◌≤◌, max, nat_eq, nat_le, ℤ, pos, unsigned_abs, int_lt}
+use Rattle.std.proofs.Common.{int_le, Bool, true, false, cond, not, ◌&&◌, ◌||◌, refl, sym, ap, ◌∙◌, subst, arith}
 use Rattle.std.proofs.lemmas.Int.{ints}
 use Rattle.std.proofs.lemmas.Nat.{pow_pos, pow-add}
 use Rattle.std.proofs.lemmas.Bool.Decides.{nat_tests}
@@ -12,9 +13,11 @@ use Rattle.fixed_point.specs.declared.scale.Scale.{Scale}
 use Rattle.actions.specs.Sorts.{size_at, magnitude_bits}
 use Rattle.actions.proofs.MagnitudeLemmas.{size-weaker, scaled-within, floor_div-within}
 use Rattle.c_subset.specs.Trees.{Width, CType, Signed, Truth, IsBelow, IsAbove, CExpr, Const, Either, Choose}
-use Rattle.c_subset.specs.Meaning.{bits, fits_signed, Meaning, with_meaning, gives, as_signed, converted, promoted, is_true, one_if, Store, Locals, meaning}
+use Rattle.c_subset.specs.Meaning.{bits, fits_signed, Meaning, with_meaning, gives, as_signed, converted, promoted}
+use Rattle.c_subset.specs.Meaning.{is_true, one_if, Store, Locals, meaning}
 use Rattle.c_expressions.specs.Translation.{brought}
-use Rattle.c_expressions.specs.Storing.{floored_width, floored_code, can_pass, can_pass_low, low_c, high_c, below_c, above_c, saturated_c, out_c}
+use Rattle.c_expressions.specs.Storing.{floored_width, floored_code, can_pass, can_pass_low, low_c, high_c, below_c}
+use Rattle.c_expressions.specs.Storing.{above_c, saturated_c, out_c}
 use Rattle.c_subset.specs.Running.{with_local}
 use Rattle.c_expressions.specs.Code.{Set, Divide, Goes, ending}
 use Rattle.c_expressions.specs.Claims.{Has}

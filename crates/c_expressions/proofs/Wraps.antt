@@ -1,5 +1,6 @@
 -- Numbers modulo a power of two.
-use Rattle.std.proofs.Common.{◌≡◌, ℕ, suc, ◌+◌, ◌-◌, ◌*◌, ◌/◌, ◌%◌, ◌^◌, ◌<◌, ◌≤◌, ℤ, pos, negsuc, ◌+ℤ◌, ◌-ℤ◌, neg_ℤ, unsigned_abs, Bool, false, cond, refl, sym, ap, ◌∙◌, arith, mod-lt, mod-eq_of_lt}
+use Rattle.std.proofs.Common.{◌≡◌, ℕ, suc, ◌+◌, ◌-◌, ◌*◌, ◌/◌, ◌%◌, ◌^◌, ◌<◌, ◌≤◌, ℤ, pos, negsuc, ◌+ℤ◌, ◌-ℤ◌, neg_ℤ}
+use Rattle.std.proofs.Common.{unsigned_abs, Bool, false, cond, refl, sym, ap, ◌∙◌, arith, mod-lt, mod-eq_of_lt}
 use Rattle.std.proofs.lemmas.Int.{ints, int_rem_euclid_is}
 use Rattle.fixed_point.proofs.Powers.{power-le}
 use Rattle.std.proofs.lemmas.Nat.{pow_pos, pow-add, mul-le, mod-pow-add, mod-mul-add, and_mask}
@@ -7,7 +8,8 @@ use Rattle.std.specs.Int.{int_rem_euclid}
 use Rattle.fixed_point.specs.Scales.{wrapped}
 use Rattle.fixed_point.specs.declared.scale.Scale.{Scale}
 use Rattle.c_subset.specs.Trees.{Width, W8, W16, W32, W64, W128, CType, Unsigned, BitAnd, CExpr}
-use Rattle.c_subset.specs.Meaning.{bits, CValue, Meaning, with_meaning, gives, converted, combined, combined_in, common, common_of, promoted, Store, Locals, meaning}
+use Rattle.c_subset.specs.Meaning.{bits, CValue, Meaning, with_meaning, gives, converted, combined, combined_in, common}
+use Rattle.c_subset.specs.Meaning.{common_of, promoted, Store, Locals, meaning}
 use Rattle.c_expressions.specs.Storing.{low_bits_c}
 use Rattle.c_expressions.specs.Claims.{Has}
 

@@ -1,14 +1,18 @@
 -- The statements that are written for code do what it does.
-use Rattle.std.proofs.Common.{◌≡◌, ℕ, suc, ℤ, Bool, true, false, cond, [], ◌∷◌, Some, slice_get, refl, sym, ap, ◌∙◌, subst, arith}
+use Rattle.std.proofs.Common.{◌≡◌, ℕ, suc, ℤ, Bool, true, false, cond, [], ◌∷◌, Some, slice_get, refl, sym, ap, ◌∙◌}
+use Rattle.std.proofs.Common.{subst, arith}
 use Rattle.flow_base.specs.declared.fault.Fault.{Fault}
 use Rattle.fixed_point.specs.Numbers.{floor_div}
 use Rattle.c_subset.specs.Trees.{Width, Signed, Block, End, File}
-use Rattle.c_subset.specs.Meaning.{bits, fits_signed, CValue, Meaning, Gives, Wrong, with_meaning, gives, as_signed, converted, is_true, Store, Locals, meaning}
-use Rattle.c_subset.specs.Running.{Outcome, Falls, Returns, with_value, and_on, with_local, Calls, with_values, called, outcome, call}
+use Rattle.c_subset.specs.Meaning.{bits, fits_signed, CValue, Meaning, Gives, Wrong, with_meaning, gives, as_signed}
+use Rattle.c_subset.specs.Meaning.{converted, is_true, Store, Locals, meaning}
+use Rattle.c_subset.specs.Running.{Outcome, Falls, Returns, with_value, and_on, with_local, Calls, with_values, called}
+use Rattle.c_subset.specs.Running.{outcome, call}
 use Rattle.c_subset.specs.Helpers.{floor_function}
 use Rattle.c_subset.proofs.TypeLemmas.{fitting-stays}
 use Rattle.c_subset.proofs.FloorCalls.{floor-call}
-use Rattle.c_expressions.specs.Code.{CCode, Nothing, Then, Set, Divide, FaultIf, If, Ending, Goes, Faults, Lost, with_locals, with_result, floored_by, ending, written, Divides, Returning}
+use Rattle.c_expressions.specs.Code.{CCode, Nothing, Then, Set, Divide, FaultIf, If, Ending, Goes, Faults, Lost}
+use Rattle.c_expressions.specs.Code.{with_locals, with_result, floored_by, ending, written, Divides, Returning}
 
 -- ---- what flow_divW gives
 

@@ -4,7 +4,8 @@ use Rattle.flow_base.specs.declared.fault.Fault.{Fault}
 use Rattle.fixed_point.specs.Numbers.{floor_div}
 use Rattle.c_subset.specs.Trees.{Width, CType, Signed, CExpr, Block, End}
 use Rattle.c_subset.specs.Trees as c
-use Rattle.c_subset.specs.Meaning.{CValue, Meaning, Gives, Wrong, with_meaning, gives, as_signed, converted, is_true, Store, Locals, meaning}
+use Rattle.c_subset.specs.Meaning.{CValue, Meaning, Gives, Wrong, with_meaning, gives, as_signed, converted, is_true}
+use Rattle.c_subset.specs.Meaning.{Store, Locals, meaning}
 use Rattle.c_subset.specs.Running.{with_local, Calls, Returns, outcome}
 
 -- code

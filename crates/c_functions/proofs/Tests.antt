@@ -1,5 +1,7 @@
 -- The tests of states give what the fields tell.
-use Rattle.std.proofs.Common.{◌≡◌, ℕ, zero, suc, ◌+◌, ◌-◌, ◌*◌, ◌^◌, ◌<◌, ◌≤◌, nat_eq, nat_lt, pos, Bool, true, false, cond, not, ◌&&◌, ◌||◌, if◌then◌else◌, List, [], ◌∷◌, filter, Option, Some, None, slice_get, slice_index_or, refl, ap, ◌∙◌, subst, arith, mod-eq_of_lt, pow-suc}
+use Rattle.std.proofs.Common.{◌≡◌, ℕ, zero, suc, ◌+◌, ◌-◌, ◌*◌, ◌^◌, ◌<◌, ◌≤◌, nat_eq, nat_lt, pos, Bool, true, false}
+use Rattle.std.proofs.Common.{cond, not, ◌&&◌, ◌||◌, if◌then◌else◌, List, [], ◌∷◌, filter, Option, Some, None}
+use Rattle.std.proofs.Common.{slice_get, slice_index_or, refl, ap, ◌∙◌, subst, arith, mod-eq_of_lt, pow-suc}
 use Rattle.std.specs.List.{list_any, range_with_len}
 use Rattle.std.specs.Option.{option_map_or}
 use Rattle.std.proofs.lemmas.Int.{ints}
@@ -9,15 +11,19 @@ use Rattle.std.proofs.lemmas.Bool.Decides.{nat_tests}
 use Rattle.fixed_point.proofs.Powers.{power-le}
 use Rattle.active_config.specs.Tree.{Tree, state_count, parent_of, comp_of, is_child, children_below, children_of}
 use Rattle.active_config.specs.Marks.{Configuration, mark_count}
-use Rattle.c_subset.specs.Trees.{Width, W8, W16, W32, W64, W128, CType, Signed, Unsigned, BitAnd, Comparison, IsEqual, IsUnequal, CExpr, Const, Field, Bang, Bits, Both}
-use Rattle.c_subset.specs.Meaning.{bits, fits_signed, CValue, Meaning, Wrong, with_meaning, gives, converted, common_of, common, combined, combined_in, compared, passes, truth, one_if, Object, read, Store, Locals, meaning}
+use Rattle.c_subset.specs.Trees.{Width, W8, W16, W32, W64, W128, CType, Signed, Unsigned, BitAnd, Comparison, IsEqual}
+use Rattle.c_subset.specs.Trees.{IsUnequal, CExpr, Const, Field, Bang, Bits, Both}
+use Rattle.c_subset.specs.Meaning.{bits, fits_signed, CValue, Meaning, Wrong, with_meaning, gives, converted, common_of}
+use Rattle.c_subset.specs.Meaning.{common, combined, combined_in, compared, passes, truth, one_if, Object, read, Store}
+use Rattle.c_subset.specs.Meaning.{Locals, meaning}
 use Rattle.c_expressions.specs.Claims.{Has, ShowsActive}
 use Rattle.c_expressions.proofs.Operators.{bang-has}
 use Rattle.c_expressions.proofs.Deciding.{both-decides}
 use Rattle.c_expressions.proofs.Storing.{flag-const}
 use Rattle.c_procedures.specs.States.{States, Shows, is_or, or_parent, on_by, c_on, c_bare, childless_by, last_by}
 use Rattle.c_procedures.proofs.Showing.{on_is, or_parent_is}
-use Rattle.c_functions.specs.Layout.{Layout, HasBit, IsLayout, HoldsStates, number_test, bit_test, on_by_c, no_bits, childless_c, bare_c, on_c, last_c}
+use Rattle.c_functions.specs.Layout.{Layout, HasBit, IsLayout, HoldsStates, number_test, bit_test, on_by_c, no_bits}
+use Rattle.c_functions.specs.Layout.{childless_c, bare_c, on_c, last_c}
 
 abbrev pub unsigned : Width → ℕ → CValue
 unsigned w a = record { type = Unsigned w; value = pos a }

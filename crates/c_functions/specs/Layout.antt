@@ -1,9 +1,11 @@
 -- Where the states of a chart stand in the struct, and the tests of states as C.
-use Rattle.std.specs.Prelude.{◌≡◌, ℕ, ◌<◌, ◌^◌, pos, Bool, true, false, List, [], ◌∷◌, Option, Some, None, if◌then◌else◌}
+use Rattle.std.specs.Prelude.{◌≡◌, ℕ, ◌<◌, ◌^◌, pos, Bool, true, false, List, [], ◌∷◌, Option, Some, None}
+use Rattle.std.specs.Prelude.{if◌then◌else◌}
 use Rattle.std.specs.Prelude.{◌+◌, ◌-◌, ◌*◌, ◌/◌, ◌%◌, ◌≢◌, slice_get, slice_index_or}
 use Rattle.std.specs.Int.{bit_at}
 use Rattle.active_config.specs.Tree.{Tree, state_count, parent_of, comp_of, children_of}
-use Rattle.c_subset.specs.Trees.{Width, W16, W32, Unsigned, Truth, BitAnd, BitOr, IsEqual, IsUnequal, CExpr, Const, Field, Bang, Bits, Compare, Both}
+use Rattle.c_subset.specs.Trees.{Width, W16, W32, Unsigned, Truth, BitAnd, BitOr, IsEqual, IsUnequal, CExpr, Const}
+use Rattle.c_subset.specs.Trees.{Field, Bang, Bits, Compare, Both}
 use Rattle.c_subset.specs.Trees.{Block, Store as PutField}
 use Rattle.c_subset.specs.Meaning.{bits, CValue, Object, Store, Locals}
 use Rattle.c_subset.specs.Running.{Calls, with_field, outcome}

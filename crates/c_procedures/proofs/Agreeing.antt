@@ -1,5 +1,6 @@
 -- Memory tells the world, and so some arithmetic agrees with that of code.
-use Rattle.std.proofs.Common.{◌≡◌, ℕ, ◌&&◌, List, Option, Some, None, Bool, true, false, Result, Ok, Err, refl, sym, ap, ◌∙◌, subst, arith}
+use Rattle.std.proofs.Common.{◌≡◌, ℕ, ◌&&◌, List, Option, Some, None, Bool, true, false, Result, Ok, Err, refl, sym, ap}
+use Rattle.std.proofs.Common.{◌∙◌, subst, arith}
 use Rattle.std.proofs.lemmas.List.FromFn.{fill_by_all}
 use Rattle.std.specs.Prelude.{◌==◌, slice_index_or}
 use Rattle.std.specs.List.{find, range_with_len}
@@ -71,7 +72,9 @@ module _ (t : Tree) (n : ℕ → ℕ) (num : Numbers t n) where
   stored_is v x m w h = by (value_of w.vals w.marks x)
     where
       data_by : (o : Result (List Datum) Fault) → Stored t n m (with_vals m (with_data o w)) (with_data o w)
-      data_by (Ok vals) = (record { states = h.states; consistent = h.consistent; vals = refl; outputs = h.outputs; used = h.used }, refl)
+      data_by (Ok vals) =
+          (record { states = h.states; consistent = h.consistent; vals = refl; outputs = h.outputs; used = h.used },
+          refl)
       data_by (Err y) = refl
 
       by : (o : Valued) → Stored t n m (with_vals m (assigned_value v o w)) (assigned_value v o w)

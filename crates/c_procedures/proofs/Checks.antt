@@ -1,13 +1,16 @@
 -- The tests that are written are the tests of the fields.
-use Rattle.std.proofs.Common.{◌≡◌, ℕ, List, [], ◌∷◌, Option, Some, None, Bool, true, false, not, ◌&&◌, ◌||◌, Ok, refl, ap, ◌∙◌}
+use Rattle.std.proofs.Common.{◌≡◌, ℕ, List, [], ◌∷◌, Option, Some, None, Bool, true, false, not, ◌&&◌, ◌||◌, Ok, refl}
+use Rattle.std.proofs.Common.{ap, ◌∙◌}
 use Rattle.std.specs.Prelude.{slice_index_or, if◌then◌else◌}
 use Rattle.std.specs.List.{list_any}
 use Rattle.active_config.specs.Tree.{parent_of, comp_of, children_of}
 use Rattle.actions.specs.Work.{Now}
-use Rattle.c_procedures.specs.States.{is_or, or_parent, c_on, on_by, c_bare, childless_by, c_last, last_by, c_takes, c_set, c_unset, c_mark, c_clear}
+use Rattle.c_procedures.specs.States.{is_or, or_parent, c_on, on_by, c_bare, childless_by, c_last, last_by, c_takes}
+use Rattle.c_procedures.specs.States.{c_set, c_unset, c_mark, c_clear}
 use Rattle.c_procedures.specs.Statements.{Memory, Locals, Out, Fell, End}
 use Rattle.c_procedures.specs.Meaning.{CProgram, Calls, check, exec, branch, and_on, with_states}
-use Rattle.c_procedures.specs.Written.{no_flag, on_under, on_check, childless_check, bare_check, last_under, takes_if, takes_check, set_block, unset_block}
+use Rattle.c_procedures.specs.Written.{no_flag, on_under, on_check, childless_check, bare_check, last_under, takes_if}
+use Rattle.c_procedures.specs.Written.{takes_check, set_block, unset_block}
 
 module _ (P : CProgram) (m : Memory) (now : Now) (l : Locals) where
   no_flag_is : (xs : List ℕ) → check P (no_flag xs) m now l ≡ not

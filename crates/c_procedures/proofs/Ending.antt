@@ -1,5 +1,6 @@
 -- A call from outside ends as the run of code does.
-use Rattle.std.proofs.Common.{◌≡◌, ℕ, zero, suc, ◌++◌, [], ◌∷◌, length, drop, Some, None, refl, sym, ap, ◌∙◌, arith, pred}
+use Rattle.std.proofs.Common.{◌≡◌, ℕ, zero, suc, ◌++◌, [], ◌∷◌, length, drop, Some, None, refl, sym, ap, ◌∙◌, arith}
+use Rattle.std.proofs.Common.{pred}
 use Rattle.flow_base.specs.declared.bounds.Bounds.{Bounds}
 use Rattle.active_config.specs.Tree.{Tree, state_count}
 use Rattle.actions.specs.World.{World}

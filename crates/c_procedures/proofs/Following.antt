@@ -1,5 +1,6 @@
 -- How code follows statements, one after another.
-use Rattle.std.proofs.Common.{◌≡◌, ◌≤◌, ◌<◌, ℕ, zero, suc, ◌+◌, ◌++◌, List, [], ◌∷◌, length, drop, Option, Some, None, Bool, true, false, cond, refl, sym, ap, ◌∙◌, subst, arith}
+use Rattle.std.proofs.Common.{◌≡◌, ◌≤◌, ◌<◌, ℕ, zero, suc, ◌+◌, ◌++◌, List, [], ◌∷◌, length, drop, Option, Some, None}
+use Rattle.std.proofs.Common.{Bool, true, false, cond, refl, sym, ap, ◌∙◌, subst, arith}
 use Rattle.std.specs.Prelude.{slice_get, nat_lt, if◌then◌else◌}
 use Rattle.std.proofs.lemmas.Bool.{le-ltb, ltb-true, ltb-false}
 use Rattle.actions.specs.declared.event.Event.{Event}
@@ -161,11 +162,14 @@ module _ (C : Program) (n : ℕ → ℕ) (least : ℕ) (now : Now) (note : Optio
   -- code comes to the start before
   pub does_on : (s s' : Machine) (ys : List Instr) (o : Out) → Reaches C s s' → Does C n least now note saved fs s' ys o
       → Does C n least now note saved fs s ys o
-  does_on s s' ys (Fell m l) way h = record { world = h.world; result = h.result; frame = h.frame; at = h.at; reached = on_to way h.reached }
-  does_on s s' ys (Left m r) way h = record { world = h.world; stands = h.stands; notes = h.notes; reached = on_to way h.reached }
+  does_on s s' ys (Fell m l) way h =
+      record { world = h.world; result = h.result; frame = h.frame; at = h.at; reached = on_to way h.reached }
+  does_on s s' ys (Left m r) way h =
+      record { world = h.world; stands = h.stands; notes = h.notes; reached = on_to way h.reached }
   does_on s s' ys (Failed m x) way h = record { world = h.world; stands = h.stands; falls = falls_on way h.falls }
   does_on s s' ys Starved way h = goes_on C least s s' way h
-  does_on s s' ys Wrong way h = record { last = h.last; reached = on_to way h.reached; frames = h.frames; stops = h.stops }
+  does_on s s' ys Wrong way h =
+      record { last = h.last; reached = on_to way h.reached; frames = h.frames; stops = h.stops }
 
   -- by one step, which counts
   pub does_step : (before : ℕ) (s s' : Machine) (ys : List Instr) (o : Out) → before ≤ suc least → step C s ≡ Goes s'

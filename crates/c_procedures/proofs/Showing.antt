@@ -10,7 +10,8 @@ use Rattle.active_config.specs.Marks.{Configuration, is_on, is_bare, is_last, is
 use Rattle.active_config.proofs.ParentLemmas.{child_within}
 use Rattle.active_config.proofs.ChildLemmas.{parent_of_child, child_of_parent}
 use Rattle.active_config.proofs.MarksLemmas.{none_in_range}
-use Rattle.c_procedures.specs.States.{States, Numbers, is_or, or_parent, number, c_on, on_by, c_bare, childless_by, c_last, last_by}
+use Rattle.c_procedures.specs.States.{States, Numbers, is_or, or_parent, number, c_on, on_by, c_bare, childless_by}
+use Rattle.c_procedures.specs.States.{c_last, last_by}
 use Rattle.c_procedures.specs.States.{IsChild, Shows}
 
 -- tests that agree on what is kept

@@ -1,5 +1,6 @@
 -- The functions of the C program do what the procedures of the code do.
-use Rattle.std.proofs.Common.{◌≡◌, ◌≤◌, ◌<◌, ℕ, zero, suc, ◌+◌, ◌++◌, List, [], ◌∷◌, length, drop, Option, Some, None, Bool, true, false, not, ◌&&◌}
+use Rattle.std.proofs.Common.{◌≡◌, ◌≤◌, ◌<◌, ℕ, zero, suc, ◌+◌, ◌++◌, List, [], ◌∷◌, length, drop, Option, Some, None}
+use Rattle.std.proofs.Common.{Bool, true, false, not, ◌&&◌}
 use Rattle.std.proofs.Common.{pred, Result, Ok, Err, refl, sym, ap, ◌∙◌, subst, arith, append-nil, length-append}
 use Rattle.std.proofs.lemmas.List.{drop_all, drop-append-le}
 use Rattle.std.specs.Prelude.{if◌then◌else◌, ◌==◌, nat_le, nat_lt, slice_get}
@@ -25,19 +26,26 @@ use Rattle.code_language.specs.Machine.{Program, Frame, Machine, machine, later,
 use Rattle.code_simulation.specs.Reach.{Reaches, Falls, with_note, pending}
 use Rattle.code_simulation.proofs.Joins.{here}
 use Rattle.code_simulation.proofs.Notes.{pending_at, pending_past, IsHead, noted_head}
-use Rattle.code_simulation.proofs.Steps.{go_mark, go_clear, go_keep, go_skip, go_home, go_begin, go_ret, go_pass, go_pass_zero}
-use Rattle.code_simulation.proofs.Steps.{go_unless_true, go_unless_false, fall_unless, one_step, one_fall, go_play_none, go_play_lame}
+use Rattle.code_simulation.proofs.Steps.{go_mark, go_clear, go_keep, go_skip, go_home, go_begin, go_ret, go_pass}
+use Rattle.code_simulation.proofs.Steps.{go_pass_zero}
+use Rattle.code_simulation.proofs.Steps.{go_unless_true, go_unless_false, fall_unless, one_step, one_fall, go_play_none}
+use Rattle.code_simulation.proofs.Steps.{go_play_lame}
 use Rattle.c_procedures.specs.States.{Numbers, Shows, is_or, c_mark, c_clear, c_keep, keep_by}
 use Rattle.c_procedures.specs.Statements.{Memory, Locals, Block, Out, Fell, Left, Failed, Starved, Wrong}
 use Rattle.c_procedures.specs.Statements as c
-use Rattle.c_procedures.specs.Meaning.{Sums, pay, turn, CProgram, Calls, check, truth_c, exec, branch, and_on, and_with, and_stored, unless_met, turns, from_base, front, closed, with_states, begins, call_fn}
-use Rattle.c_procedures.specs.Written.{test_of, on_check, noted_call, straight, keep_block, IsOrChild, IsStraight, Written, Stops, Steps, Returns, Skips, Forks}
+use Rattle.c_procedures.specs.Meaning.{Sums, pay, turn, CProgram, Calls, check, truth_c, exec, branch, and_on, and_with}
+use Rattle.c_procedures.specs.Meaning.{and_stored, unless_met, turns, from_base, front, closed, with_states, begins}
+use Rattle.c_procedures.specs.Meaning.{call_fn}
+use Rattle.c_procedures.specs.Written.{test_of, on_check, noted_call, straight, keep_block, IsOrChild, IsStraight}
+use Rattle.c_procedures.specs.Written.{Written, Stops, Steps, Returns, Skips, Forks}
 use Rattle.c_procedures.specs.Written.{AreWritten}
 use Rattle.c_procedures.specs.Runs.{Stands, Stored, Agree, IsAt, DoesCall, CallsDo}
 use Rattle.c_procedures.proofs.Showing.{on_is, bare_is, last_is, differ}
 use Rattle.c_procedures.proofs.Changing.{mark_shows, clear_shows, keep_shows}
 use Rattle.c_procedures.proofs.Checks.{on_test, bare_test, last_test, mark_runs, clear_runs}
-use Rattle.c_procedures.proofs.Following.{fetched, further, onward, same_pending, later_at, later_over, later_under, later_zero, got, dropped, within_some, past_none, does_on, does_then, moved, left_notes, does_step, does_less, Does}
+use Rattle.c_procedures.proofs.Following.{fetched, further, onward, same_pending, later_at, later_over, later_under}
+use Rattle.c_procedures.proofs.Following.{later_zero, got, dropped, within_some, past_none, does_on, does_then, moved}
+use Rattle.c_procedures.proofs.Following.{left_notes, does_step, does_less, Does}
 
 module _ (t : Tree) (n : ℕ → ℕ) (num : Numbers t n) (same : length t.comps ≡ state_count t) (k : Procedures)
     (b : Bounds)
@@ -61,8 +69,11 @@ module _ (t : Tree) (n : ℕ → ℕ) (num : Numbers t n) (same : length t.comps
       at : (d : Bool) → can_mark t s w.marks ≡ d → Shows t n (c_mark t n s m.states)
           (if d then with_mark s true w.marks else w.marks)
           → Stands t n (with_states (c_mark t n s m.states) m) (if d then set_mark s true w else w)
-      at true e sh = record { states = sh; consistent = marked t w.marks h.consistent s e; vals = h.vals; outputs = h.outputs; used = h.used }
-      at false e sh = record { states = sh; consistent = h.consistent; vals = h.vals; outputs = h.outputs; used = h.used }
+      at true e sh =
+          record { states = sh; consistent = marked t w.marks h.consistent s e;
+            vals = h.vals; outputs = h.outputs; used = h.used }
+      at false e sh =
+          record { states = sh; consistent = h.consistent; vals = h.vals; outputs = h.outputs; used = h.used }
 
   clear_stands : (s : ℕ) (m : Memory) (w : World) → s < state_count t → Stands t n m w
       → Stands t n (with_states (c_clear t n s m.states) m) (clear_in t s w)
@@ -73,8 +84,11 @@ module _ (t : Tree) (n : ℕ → ℕ) (num : Numbers t n) (same : length t.comps
       at : (d : Bool) → is_bare t s w.marks ≡ d → Shows t n (c_clear t n s m.states)
           (if d then with_mark s false w.marks else w.marks)
           → Stands t n (with_states (c_clear t n s m.states) m) (if d then set_mark s false w else w)
-      at true e sh = record { states = sh; consistent = cleared t w.marks h.consistent s e; vals = h.vals; outputs = h.outputs; used = h.used }
-      at false e sh = record { states = sh; consistent = h.consistent; vals = h.vals; outputs = h.outputs; used = h.used }
+      at true e sh =
+          record { states = sh; consistent = cleared t w.marks h.consistent s e;
+            vals = h.vals; outputs = h.outputs; used = h.used }
+      at false e sh =
+          record { states = sh; consistent = h.consistent; vals = h.vals; outputs = h.outputs; used = h.used }
 
   or_of : (x : Comp) → is_or x ≡ true → x ≡ Or
   or_of Leaf h = absurd cc
@@ -463,12 +477,20 @@ module _ (t : Tree) (n : ℕ → ℕ) (num : Numbers t n) (same : length t.comps
         (calls p l.base l.home l.result now (Some q) None (record v { notes = v.notes ++ q ∷ [] }) u
         (fresh p (Some q) f.base f.home None) (next f ∷ fs) refl refl
         (called p (Some q) x rest m (record v { notes = v.notes ++ q ∷ [] }) l w u r f h
-        (record { states = st.states; consistent = st.consistent; vals = st.vals; outputs = st.outputs; used = st.used }) (ap (λ y. y ++ q ∷ []) e))))
+        (record {
+          states = st.states; consistent = st.consistent; vals = st.vals; outputs = st.outputs; used = st.used })
+        (ap (λ y. y ++ q ∷ []) e))))
         (λ o y z so eo. low (machine z now y (next f ∷ fs)) ys
         (after a (record o { notes = front o.notes }) (record l { result = y }))
         (go (record o { notes = front o.notes }) (record l { result = y }) z y (next f)
         (resulted x rest m (record o { notes = front o.notes }) l w z r y f h
-        (record { states = so.states; consistent = so.consistent; vals = so.vals; outputs = so.outputs; used = so.used })
+        (record {
+          states = so.states;
+          consistent = so.consistent;
+          vals = so.vals;
+          outputs = so.outputs;
+          used = so.used;
+        })
         (ap front eo ∙ front_push (pending 0 (next f ∷ fs)) q ∙ same_notes m x rest l w r f h))))
 
     step_call : (p : ℕ) (tag : Option ℕ) (rest ys : List Instr) (a : Block) → Rest rest ys a

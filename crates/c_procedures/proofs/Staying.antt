@@ -1,5 +1,6 @@
 -- Well-formed code never comes to a place without an instruction.
-use Rattle.std.proofs.Common.{◌≡◌, ℕ, zero, suc, Bool, true, false, List, [], ◌∷◌, length, Option, Some, None, Result, Ok, Err, if◌then◌else◌, refl, sym, ap, ◌∙◌, subst}
+use Rattle.std.proofs.Common.{◌≡◌, ℕ, zero, suc, Bool, true, false, List, [], ◌∷◌, length, Option, Some, None, Result}
+use Rattle.std.proofs.Common.{Ok, Err, if◌then◌else◌, refl, sym, ap, ◌∙◌, subst}
 use Rattle.flow_base.specs.declared.bounds.Bounds.{Bounds}
 use Rattle.flow_base.specs.declared.fault.Fault.{Fault}
 use Rattle.active_config.specs.Marks.{is_bare}
@@ -9,7 +10,8 @@ use Rattle.actions.specs.Work.{Now}
 use Rattle.code_language.specs.Code.{Code}
 use Rattle.code_language.specs.Instrs.{Instr}
 use Rattle.code_language.specs.Instrs as i
-use Rattle.code_language.specs.Machine.{Program, Frame, Machine, Next, Goes, Stops, if_ok, if_deep, test_next, pass_on, holds, noted, later, machine, fresh, next, play_next, act, step}
+use Rattle.code_language.specs.Machine.{Program, Frame, Machine, Next, Goes, Stops, if_ok, if_deep, test_next, pass_on}
+use Rattle.code_language.specs.Machine.{holds, noted, later, machine, fresh, next, play_next, act, step}
 use Rattle.code_language.specs.Reactions.{program_of}
 use Rattle.code_language.specs.WellFormed.{IsCode}
 use Rattle.code_costs.specs.Moments.{IsMoment, StaysSound}

@@ -1,5 +1,6 @@
 -- What the writer writes is written for the instructions.
-use Rattle.std.proofs.Common.{◌≡◌, ◌≤◌, ◌<◌, ℕ, zero, suc, pred, ◌+◌, ◌-◌, List, [], ◌∷◌, drop, Option, Some, None, Bool, true, false, refl, sym, ap, ◌∙◌, subst, arith}
+use Rattle.std.proofs.Common.{◌≡◌, ◌≤◌, ◌<◌, ℕ, zero, suc, pred, ◌+◌, ◌-◌, List, [], ◌∷◌, drop, Option, Some, None}
+use Rattle.std.proofs.Common.{Bool, true, false, refl, sym, ap, ◌∙◌, subst, arith}
 use Rattle.std.specs.Prelude.{nat_le, nat_lt, slice_get, is_some}
 use Rattle.std.proofs.lemmas.Bool.Decides.{nat_tests}
 use Rattle.active_config.specs.Tree.{Tree, state_count, parent_of}
@@ -8,7 +9,8 @@ use Rattle.code_language.specs.Instrs as i
 use Rattle.c_procedures.specs.States.{or_parent}
 use Rattle.c_procedures.specs.Statements.{Block}
 use Rattle.c_procedures.specs.Statements as c
-use Rattle.c_procedures.specs.Written.{straight, test_of, IsOrChild, IsStraight, Written, Stops, Steps, Returns, Skips, Forks}
+use Rattle.c_procedures.specs.Written.{straight, test_of, IsOrChild, IsStraight, Written, Stops, Steps, Returns, Skips}
+use Rattle.c_procedures.specs.Written.{Forks}
 use Rattle.c_procedures.specs.Writer.{is_straight, skip_of, end_skip, before, fork, only_if, fork_at, write_one, write}
 use Rattle.c_procedures.proofs.Showing.{or_parent_is}
 

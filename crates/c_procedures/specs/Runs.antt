@@ -1,5 +1,6 @@
 -- How the C program stands to a run of code.
-use Rattle.std.specs.Prelude.{◌≡◌, ◌≢◌, ◌≤◌, ◌++◌, ℕ, suc, List, [], ◌∷◌, length, drop, Option, Some, None, Result, Ok, Err}
+use Rattle.std.specs.Prelude.{◌≡◌, ◌≢◌, ◌≤◌, ◌++◌, ℕ, suc, List, [], ◌∷◌, length, drop, Option, Some, None, Result, Ok}
+use Rattle.std.specs.Prelude.{Err}
 use Rattle.flow_base.specs.declared.fault.Fault.{Fault}
 use Rattle.std.specs.Prelude.{◌==◌, ◌&&◌, map, slice_index_or}
 use Rattle.std.specs.List.{find, range_with_len}

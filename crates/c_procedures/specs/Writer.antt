@@ -1,6 +1,7 @@
 -- How statements are written: each `unless` becomes an `if` over the instructions that it may pass over, with an `else`
 -- where those end in a `skip`. Where jumps aren't nested nothing is written.
-use Rattle.std.specs.Prelude.{◌-◌, ◌+◌, ℕ, zero, suc, pred, nat_le, nat_lt, List, [], ◌∷◌, length, drop, Option, Some, None}
+use Rattle.std.specs.Prelude.{◌-◌, ◌+◌, ℕ, zero, suc, pred, nat_le, nat_lt, List, [], ◌∷◌, length, drop, Option, Some}
+use Rattle.std.specs.Prelude.{None}
 use Rattle.std.specs.Prelude.{Bool, true, false, slice_get, is_some}
 use Rattle.active_config.specs.Tree.{Tree, state_count, parent_of}
 use Rattle.code_language.specs.Instrs.{Cond, Instr}

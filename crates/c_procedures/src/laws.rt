@@ -1,7 +1,9 @@
 //! What holds of the fields of the C program.
-ghost use Rattle.std.specs.Prelude.{◌≡◌, ◌<◌, ℕ, suc, pred, List, [], length, true, false, Some, if◌then◌else◌};
+ghost use Rattle.std.specs.Prelude.{◌≡◌, ◌<◌, ℕ, suc, pred, List, [], length, true, false, Some};
+ghost use Rattle.std.specs.Prelude.{if◌then◌else◌};
 ghost use Rattle.active_config.specs.Tree.{Tree, state_count, parent_of, comp_of};
-ghost use Rattle.active_config.specs.Marks.{Configuration, is_on, is_bare, is_last, can_mark, with_mark, with_last, no_marks, IsConsistent};
+ghost use Rattle.active_config.specs.Marks.{Configuration, is_on, is_bare, is_last, can_mark};
+ghost use Rattle.active_config.specs.Marks.{with_mark, with_last, no_marks, IsConsistent};
 ghost use Rattle.flow_base.specs.declared.bounds.Bounds.{Bounds};
 ghost use Rattle.code_language.specs.Code.{Procedures, Code};
 ghost use Rattle.code_language.specs.Machine.{Machine, run};
@@ -16,8 +18,11 @@ ghost use Rattle.c_procedures.specs.Meaning.{Sums, call_fn};
 ghost use Rattle.code_language.specs.Instrs.{Instr};
 ghost use Rattle.c_procedures.specs.Written.{AreWritten, Written};
 ghost use Rattle.c_procedures.specs.Writer.{body};
-ghost use Rattle.c_procedures.specs.Runs.{Agree, CallsDo, EndsWith, EndsAsCode, Stuck, Stands, own_sums, world_of};
-ghost use Rattle.c_procedures.specs.States.{States, Numbers, Shows, is_or, shown, no_fields, place_number, c_on, c_bare, c_last, c_mark, c_clear, c_keep};
+ghost use Rattle.c_procedures.specs.Runs.{Agree, CallsDo, EndsWith, EndsAsCode, Stuck, Stands};
+ghost use Rattle.c_procedures.specs.Runs.{own_sums, world_of};
+ghost use Rattle.c_procedures.specs.States.{States, Numbers, Shows, is_or, shown, no_fields};
+ghost use Rattle.c_procedures.specs.States.{place_number, c_on, c_bare, c_last, c_mark, c_clear};
+ghost use Rattle.c_procedures.specs.States.{c_keep};
 
 /// The tests of the fields are those of the marks that they show.
 pub fn tests_of_fields_are_those_of_marks()
@@ -70,7 +75,8 @@ pub fn functions_do_what_procedures_do()
         (bodies : ℕ → Block) → Numbers t n
         → length t.comps ≡ state_count t → Agree t n sums → AreWritten t n k bodies → (fuel : ℕ)
         → CallsDo (record { tree = t; bounds = b; procedures = k }) n (pred fuel)
-        (call_fn (record { sums = sums; tree = t; numbers = n; bounds = b; bodies = bodies }) fuel) }
+        (call_fn (record { sums = sums; tree = t; numbers = n; bounds = b; bodies = bodies })
+        fuel) }
 {}
 
 /// What is written for the instructions of a procedure does what they do.
@@ -90,7 +96,8 @@ pub fn calls_from_outside_end_as_code()
         → m.notes ≡ []
         → EndsWith (record { tree = t; bounds = b; procedures = k }) n (pred fuel)
         (first_frame p w now)
-        (call_fn (record { sums = sums; tree = t; numbers = n; bounds = b; bodies = bodies }) fuel p now 0 0 0 m) }
+        (call_fn (record { sums = sums; tree = t; numbers = n; bounds = b; bodies = bodies })
+        fuel p now 0 0 0 m) }
 {}
 
 /// Fields that are all 0 show that no state is active and none is remembered; and 1 + a state's

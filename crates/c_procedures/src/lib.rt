@@ -1,10 +1,10 @@
 //! The plan of a C function for each procedure of code, and that it does what the procedure does.
 //!
 //! A plan has statements over the fields of states, data, outputs and notes; it leaves open which C
-//! each of them is. Read `specs/Statements.antt` and `specs/Meaning.antt` for plans and what they do,
-//! `specs/States.antt` for the fields of states, `specs/Written.antt` and `specs/Writer.antt` for
-//! which plan is written for instructions, and `specs/Runs.antt` for how a plan stands to a run of
-//! code.
+//! each of them is. Read `specs/Statements.antt` and `specs/Meaning.antt` for plans and what they
+//! do, `specs/States.antt` for the fields of states, `specs/Written.antt` and `specs/Writer.antt`
+//! for which plan is written for instructions, and `specs/Runs.antt` for how a plan stands to a run
+//! of code.
 #![tactic(auto)]
 
 mod laws;

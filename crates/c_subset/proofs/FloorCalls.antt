@@ -1,14 +1,21 @@
 -- A call of flow_divW gives the floor, and no step of its body goes wrong.
-use Rattle.std.proofs.Common.{◌≡◌, ℕ, suc, ◌-◌, ◌<◌, ◌≤◌, nat_eq, ℤ, pos, negsuc, ◌-ℤ◌, neg_ℤ, unsigned_abs, int_lt, int_le, int_div, int_rem, Bool, true, false, cond, not, ◌&&◌, [], ◌∷◌, Option, Some, slice_get, refl, sym, ap, ◌∙◌, arith}
+use Rattle.std.proofs.Common.{◌≡◌, ℕ, suc, ◌-◌, ◌<◌, ◌≤◌, nat_eq, ℤ, pos, negsuc, ◌-ℤ◌, neg_ℤ, unsigned_abs, int_lt}
+use Rattle.std.proofs.Common.{int_le, int_div, int_rem, Bool, true, false, cond, not, ◌&&◌, [], ◌∷◌, Option, Some}
+use Rattle.std.proofs.Common.{slice_get, refl, sym, ap, ◌∙◌, arith}
 use Rattle.std.proofs.lemmas.Int.{ints, rem_below}
 use Rattle.std.proofs.lemmas.Nat.{pow_pos}
 use Rattle.std.proofs.lemmas.Bool.Decides.{nat_tests}
 use Rattle.fixed_point.specs.Numbers.{floor_div}
-use Rattle.c_subset.specs.Trees.{Width, CType, Signed, Less, Quotient, Remainder, Comparison, IsUnequal, IsBelow, CExpr, Const, Local, Calc, Divide, Compare, Both, Choose, Function, File}
-use Rattle.c_subset.specs.Meaning.{bits, fits_signed, CValue, Meaning, Wrong, with_meaning, gives, as_signed, converted, one_if, is_true, exact, calculated, divided, divided_in, passes, truth, compared, promoted, read_as, Store, Locals, meaning}
-use Rattle.c_subset.specs.Running.{Outcome, Returns, with_value, same_type, no_locals, with_local, outcome, with_arguments, returned, run, call}
+use Rattle.c_subset.specs.Trees.{Width, CType, Signed, Less, Quotient, Remainder, Comparison, IsUnequal, IsBelow, CExpr}
+use Rattle.c_subset.specs.Trees.{Const, Local, Calc, Divide, Compare, Both, Choose, Function, File}
+use Rattle.c_subset.specs.Meaning.{bits, fits_signed, CValue, Meaning, Wrong, with_meaning, gives, as_signed, converted}
+use Rattle.c_subset.specs.Meaning.{one_if, is_true, exact, calculated, divided, divided_in, passes, truth, compared}
+use Rattle.c_subset.specs.Meaning.{promoted, read_as, Store, Locals, meaning}
+use Rattle.c_subset.specs.Running.{Outcome, Returns, with_value, same_type, no_locals, with_local, outcome}
+use Rattle.c_subset.specs.Running.{with_arguments, returned, run, call}
 use Rattle.c_subset.specs.Helpers.{is_low, floor_function}
-use Rattle.c_subset.proofs.TypeLemmas.{fitting-stays, promoted-signed, common-signed, one-fits, truth-stays, same_type-itself}
+use Rattle.c_subset.proofs.TypeLemmas.{fitting-stays, promoted-signed, common-signed, one-fits, truth-stays}
+use Rattle.c_subset.proofs.TypeLemmas.{same_type-itself}
 use Rattle.c_subset.proofs.FloorBody.{differ, is_short, body, body-is}
 
 -- ---- numbers

@@ -5,7 +5,8 @@ use Rattle.std.proofs.lemmas.Bool.{ltb-false}
 use Rattle.std.proofs.lemmas.Bool.Decides.{nat_tests}
 use Rattle.fixed_point.proofs.Powers.{power-le}
 use Rattle.c_subset.specs.Trees.{Width, W8, W16, W32, W64, W128, CType, Signed, Unsigned, Truth}
-use Rattle.c_subset.specs.Meaning.{bits, fits_signed, Wrong, gives, as_signed, promoted, common_of, common, one_if, is_true}
+use Rattle.c_subset.specs.Meaning.{bits, fits_signed, Wrong, gives, as_signed, promoted, common_of, common, one_if}
+use Rattle.c_subset.specs.Meaning.{is_true}
 use Rattle.c_subset.specs.Running.{same_type}
 
 -- a value of a signed type is one of each wider one

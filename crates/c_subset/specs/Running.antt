@@ -1,7 +1,8 @@
 -- What statements and functions of the C do, by C99: a big step over the struct and the locals, with fuel, one unit for
 -- each call that is open and for each turn of `while`. It goes wrong where C leaves the behaviour undefined or to the
 -- implementation.
-use Rattle.std.specs.Prelude.{ℕ, zero, suc, ◌==◌, ◌&&◌, ℤ, pos, int_le, Bool, true, false, List, [], ◌∷◌, map, replicate, Option, Some, None}
+use Rattle.std.specs.Prelude.{ℕ, zero, suc, ◌==◌, ◌&&◌, ℤ, pos, int_le, Bool, true, false, List, [], ◌∷◌, map}
+use Rattle.std.specs.Prelude.{replicate, Option, Some, None}
 use Rattle.std.specs.Prelude.{slice_get, slice_set, slice_index_or, if◌then◌else◌}
 use Rattle.c_subset.specs.Trees.{Width, CType, Signed, Unsigned, Truth, CExpr, Case, Function, Row, File}
 use Rattle.c_subset.specs.Trees.{Block, End, Set, Store as PutField, StoreAt, Call, Select, If, While, Return}

@@ -1,10 +1,14 @@
 //! What holds of the subset.
 ghost use Rattle.std.specs.Prelude.{◌≡◌, ℕ, suc, pos, negsuc, List, [], ◌∷◌, Some, slice_get, true};
 ghost use Rattle.fixed_point.specs.Numbers.{floor_div};
-ghost use Rattle.c_subset.specs.Trees.{Width, W8, W16, W32, CType, Signed, Unsigned, Plus, Less, Times, Quotient, Remainder, BitAnd};
-ghost use Rattle.c_subset.specs.Trees.{CExpr, Const, Field, Element, Local, Cast, Minus, Calc, Divide, Bits, Both, StoreAt, Block, End, Function, File};
-ghost use Rattle.c_subset.specs.Meaning.{bits, fits_signed, is_true, CValue, Object, Store, Locals, Wrong, gives, meaning};
-ghost use Rattle.c_subset.specs.Running.{Calls, outcome, call, no_locals, no_values, Returns, GoesWrong};
+ghost use Rattle.c_subset.specs.Trees.{Width, W8, W16, W32, CType, Signed, Unsigned, Plus, Less};
+ghost use Rattle.c_subset.specs.Trees.{Times, Quotient, Remainder, BitAnd};
+ghost use Rattle.c_subset.specs.Trees.{CExpr, Const, Field, Element, Local, Cast, Minus, Calc};
+ghost use Rattle.c_subset.specs.Trees.{Divide, Bits, Both, StoreAt, Block, End, Function, File};
+ghost use Rattle.c_subset.specs.Meaning.{bits, fits_signed, is_true, CValue, Object, Store, Locals};
+ghost use Rattle.c_subset.specs.Meaning.{Wrong, gives, meaning};
+ghost use Rattle.c_subset.specs.Running.{Calls, outcome, call, no_locals, no_values, Returns};
+ghost use Rattle.c_subset.specs.Running.{GoesWrong};
 ghost use Rattle.c_subset.specs.Helpers.{floor_function};
 
 /// A call of the helper for quotients gives the greatest whole number that is at most the quotient,

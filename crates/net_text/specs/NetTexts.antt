@@ -28,7 +28,7 @@ first_repeat before [] = None
 first_repeat before (name ∷ names) =
     if list_any (bytes_eq name) before then Some (length before) else first_repeat (before ++ name ∷ []) names
 
--- a route leads from one of so many charts to one of them, and holds 1 to 1,024 items
+-- a route leads from one of so many charts to one of them, and may hold at most so many items, 1 to 1,024
 pub record IsRouteWithin (charts : ℕ) (route : RouteText) : Type 0 where
   pub from : route.from < charts
   pub to : route.to < charts

@@ -19,13 +19,13 @@ use Rattle.net_text.specs.declared.route.Route.{Route}
 
 -- ---- events
 
--- the chart raises the event for its environment
+-- the chart puts the event out
 abbrev pub is_raised_by_chart : EventKind → Bool
 is_raised_by_chart event_kinds.Input = false
 is_raised_by_chart event_kinds.Local = false
 is_raised_by_chart event_kinds.Output = true
 
--- the environment of the chart raises the event
+-- the event comes from the world around the chart
 abbrev pub is_raised_outside : EventKind → Bool
 is_raised_outside event_kinds.Input = true
 is_raised_outside event_kinds.Local = false

@@ -40,9 +40,10 @@ pub struct DataNumbers {
 
 /// The route that a text names, where `from` and `to` are what its two charts declare.
 ///
-/// None exactly where the one chart has no output event or no output datum, or the other no input
-/// event or no input, of the name that the text has, or where the sorts of the data differ. It
-/// takes no memory.
+/// None exactly where the first chart has no output event of the name that the text has, or the
+/// second no input event; where the text names one of SRC and DST without the other; or, if the
+/// text names them, where the first chart has no output datum of the name SRC, the second has no
+/// input of the name DST, or the sorts of the two differ. It takes no memory.
 pub fn route_of(text: &RouteText, from: &Names, to: &Names) -> Option<Route>
     requires from_few { spec.AreFew (names_of from.now) }
     requires to_few { spec.AreFew (names_of to.now) }

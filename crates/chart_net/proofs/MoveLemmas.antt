@@ -24,7 +24,8 @@ use Rattle.chart_net.specs.NetParts.{started_below}
 use Rattle.chart_net.specs.NetRuns.{NetStep, NetMoment, Moved, ChartGives, Moves, Does, after_move, took_also}
 use Rattle.chart_net.specs.NetTraces.{Why, ByFault, ByFull, ByEmpty, chart_line, event_at, moment_word, why_moved}
 use Rattle.chart_net.specs.Moving.{IsNext, LineDone, MoveEnds, MoveEndsBy, StepDone, StepEnds, StepTried, UnlessMemory}
-use Rattle.chart_net.specs.Moving.{answer_after, is_memory, is_read, is_write, seat_line, without_number}
+use Rattle.chart_net.specs.Moving.{answer_after, seat_line, without_number}
+use Rattle.chart_net.specs.Causes.{is_memory, is_read, is_write}
 use Rattle.chart_net.specs.Seats.{IsSeat, SeatGives, SeatMoves, chart_of, index_after, names_at}
 use Rattle.chart_net.specs.Rings.{Queue}
 use Rattle.chart_net.specs.Sending.{sends}

@@ -28,8 +28,8 @@ use Rattle.step_driver.proofs.Driven.{RunLaws, Driven, FirstRun, EndOf, NoLineDo
 use Rattle.step_driver.proofs.Driven.{line_refused, line_too_many, line_ended, line_cut, line_wants, begun_first}
 use Rattle.step_driver.proofs.Driven.{begun_ended, begun_wants}
 use Rattle.step_driver.proofs.FileLemmas.{reads_nothing}
-use Rattle.chart_net.specs.Moving.{LineDone, StepDone, StepEnds, StepTried, answer_after, answer_for, is_memory}
-use Rattle.chart_net.specs.Moving.{is_read, is_write}
+use Rattle.chart_net.specs.Moving.{LineDone, StepDone, StepEnds, StepTried, answer_after, answer_for}
+use Rattle.chart_net.specs.Causes.{is_memory, is_read, is_write}
 use Rattle.chart_net.specs.NetDriving.{HasReadCause, NetDrives, RanFront, end_of_line, net_runs}
 use Rattle.chart_net.specs.Nets.{Net, NetWorld, net_before}
 use Rattle.chart_net.specs.NetRuns.{NetStep, Starts, Outcome, Moved, WasEmpty, is_well, goes_on, starts_of}

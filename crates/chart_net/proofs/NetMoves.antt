@@ -9,7 +9,8 @@ use Rattle.step_driver.specs.StepRuns.{StepRuns}
 use Rattle.step_driver.specs.declared.lines.NoLine.{NoLine}
 use Rattle.step_driver.proofs.Buffered.{Buffered, Between, buffered_start, line_buffered, start_stops, line_stops}
 use Rattle.step_driver.proofs.Buffered.{next_stops}
-use Rattle.chart_net.specs.Moving.{LineDone, StepEnds, is_read, is_write}
+use Rattle.chart_net.specs.Moving.{LineDone, StepEnds}
+use Rattle.chart_net.specs.Causes.{is_read, is_write}
 use Rattle.chart_net.specs.NetDriving.{NetDrives, end_of_line, net_runs}
 use Rattle.chart_net.specs.Nets.{Net, NetWorld}
 use Rattle.chart_net.specs.NetRuns.{NetStep, Starts}

@@ -10,5 +10,6 @@ pub mod Routes
 pub mod Changes
 pub mod Seats
 pub mod NetParts
+pub mod Causes
 pub mod Moving
 pub mod NetDriving

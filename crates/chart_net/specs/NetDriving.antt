@@ -8,7 +8,8 @@ use Rattle.step_driver.specs.StepRuns.{StepRuns}
 use Rattle.step_driver.specs.declared.lines.NoLine.{NoLine}
 use Rattle.step_driver.specs.declared.lines.NoLine.TheVariants as no_lines
 use Rattle.event_file.specs.declared.fault.LineFault.TheVariants as line_faults
-use Rattle.chart_net.specs.Moving.{answer_for, is_read, is_write}
+use Rattle.chart_net.specs.Causes.{is_read, is_write}
+use Rattle.chart_net.specs.Moving.{answer_for}
 use Rattle.chart_net.specs.Nets.{Net, net_before}
 use Rattle.chart_net.specs.NetRuns.{NetStep, NetMoment, NetGoesOn, NetRuns, starts_of}
 use Rattle.chart_net.specs.NetTraces.{RunEnd, NetRan, net_trace, end_from}

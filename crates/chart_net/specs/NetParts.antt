@@ -31,8 +31,7 @@ abbrev pub CanTakeAll : Net → Route → Queue → Type 0
 CanTakeAll net route ring = AllByRecursion (CanTake (net.declared route.to) route.target) ring.items
 
 -- The parts of a net fit each other: there are not too many, each chart has what its steps need, each route is one
--- that the
--- net may have, and has a ring whose items its chart can take.
+-- that the net may have, and has a ring whose items its chart can take.
 pub record IsSound {G : Type 0} (members : Engine G) (net : Parts G) : Type 0 where
   pub charts_few : length net.seats.items ≤ CHART_LIMIT
   pub routes_few : length net.routes.items ≤ ROUTE_LIMIT
@@ -68,8 +67,7 @@ pub record IsNet {G : Type 0} (members : Engine G) (net : Parts G) : Type 0 wher
 -- ---- the worlds of a net
 
 -- a chart at that stage, with that world, which took so many events, stands for that state; at the end of its run it
--- stands
--- for any
+-- stands for any
 abbrev pub ChartStands : Stage → World → ℕ → ChartState → Type 0
 ChartStands Fresh w index state = (state.world ≡ None) × (length state.took ≡ index)
 ChartStands Running w index state = (state.world ≡ Some w) × (length state.took ≡ index)
@@ -82,8 +80,8 @@ pub record StandsFor {G : Type 0} (members : Engine G) (net : Parts G) (now : Ne
       (now.charts c))
   pub waiting : Wait net.rings.items now.routes
 
--- All that is said of a net is kept: its charts and routes, that its parts fit each other, its stages, and what it
--- stands for.
+-- What is said of a net is kept: its charts and routes, that its parts fit each other, its stages, and the worlds
+-- that it stands for.
 pub record IsKept {G : Type 0} (members : Engine G) (old new : Parts G) : Type 0 where
   pub charts : charts_of members new ≡ charts_of members old
   pub routes : routes_of new ≡ routes_of old

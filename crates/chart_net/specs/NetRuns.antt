@@ -20,8 +20,7 @@ pub data NetStep : Type 0 where
   Takes : ℕ → NetStep
 
 -- What a step did: a chart was started, or was given an event, which left that moment, and then the route of a number
--- was
--- full, or none. Or there was nothing to take from a route.
+-- was full, or none. Or there was nothing to take from a route.
 pub data Outcome : Type 0 where
   Moved : ℕ → Option EventWithInputs → Moment → Option ℕ → Outcome
   WasEmpty : ℕ → Outcome
@@ -78,12 +77,15 @@ event_of_item net route item =
 abbrev pub next_item : RouteState → Option Item
 next_item state = slice_get state.sent (length state.got)
 
+-- a route from which that item was taken
+abbrev pub with_taken : RouteState → Item → RouteState
+with_taken state item = record { sent = state.sent; got = state.got ++ item ∷ [] }
+
 -- the net after an item was taken from a route, before its chart is given the event
 abbrev pub with_got : NetWorld → ℕ → Item → NetWorld
 with_got before r item = record {
   charts = before.charts;
-  routes = replaced before.routes r
-      (record { sent = (before.routes r).sent; got = (before.routes r).got ++ item ∷ [] });
+  routes = replaced before.routes r (with_taken (before.routes r) item);
 }
 
 -- the chart at the end of a route takes that item, if there is one

@@ -22,8 +22,7 @@ event_at None = events.Start
 event_at (Some given) = given.event
 
 -- The line of a moment of a chart: the number of the step, the chart's name, and the line of its own trace, whose
--- index counts
--- the events that it took.
+-- index counts the events that it took.
 abbrev pub chart_line : Net → ℕ → ℕ → ℕ → Event → Moment → Option ℕ → List ℕ
 chart_line net p c index event m full =
     decimal p ++ codes " " ++ slice_index_or net.names c [] ++ codes " "

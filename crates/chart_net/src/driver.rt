@@ -4,7 +4,7 @@ ghost use Rattle.flow_base.specs.Causes.{OthersKept, NoneFalls};
 ghost use Rattle.event_file.specs.Reading.{unused};
 ghost use Rattle.trace_text.specs.Pieces.{nothing_held};
 ghost use Rattle.step_driver.specs.Ending.{LinesEnd};
-ghost use Rattle.chart_net.specs.Moving.{is_read, is_write};
+ghost use Rattle.chart_net.specs.Causes.{is_read, is_write};
 ghost use Rattle.chart_net.specs.NetDriving as spec;
 ghost use Rattle.chart_net.specs.NetParts.{IsNet, charts_of, net_shown, routes_of};
 
@@ -16,14 +16,16 @@ use step_driver::{NoLine, next_line};
 use thiserror::Error;
 use trace_text::Pieces;
 
-/// Why a run over a schedule ended before the end of the schedule.
+/// Why a run over a schedule ended before the end of the schedule. The steps of a schedule are
+/// numbered from 1, and the start of a chart is the step 0.
 #[derive(Clone, Copy, Debug, PartialEq, Eq, Error)]
 pub enum NetEnd {
-    /// The line of that number has that fault. The trace of the steps before it was written.
+    /// A line of the schedule has a fault: the number of the line, and the fault. The trace of the
+    /// steps before it was written.
     #[error("line {0}: {1}")]
     Line(u64, LineFault),
-    /// At the step of the first number the chart of the second has that fault. The line of the trace
-    /// that tells it was written.
+    /// A chart has a fault: the number of the step, the number of the chart, and the fault. The line
+    /// of the trace that tells it was written.
     #[error("chart {1} has a fault at step {0}")]
     Fault(u64, u32, Fault),
     /// A read failed.
@@ -42,12 +44,12 @@ pub enum NetEnd {
     /// An engine wants memory.
     #[error("out of memory")]
     Memory,
-    /// At the step of the first number the route of the second was full when an item was to be sent
-    /// on it. The line of the trace that tells it was written.
+    /// A route was full when an item was to be sent on it: the number of the step, and the number of
+    /// the route. The line of the trace that tells it was written.
     #[error("route {1} is full at step {0}")]
     Full(u64, u32),
-    /// At the step of the first number nothing waited on the route of the second. The line of the
-    /// trace that tells it was written.
+    /// Nothing waited on a route from which an item was to be taken: the number of the step, and the
+    /// number of the route. The line of the trace that tells it was written.
     #[error("route {1} is empty at step {0}")]
     Empty(u64, u32),
 }
@@ -71,17 +73,19 @@ impl From<NoLine> for NetEnd {
 /// Runs a net over the steps of a schedule: it starts the charts in order, and then takes line by
 /// line. Before it reads the schedule, the lines of the trace for the starts, and for each step so
 /// far, have been written. Lines whose steps are at hand together are written together,
-/// `PIECE_SIZE` bytes at once. Beside what an engine takes it takes no memory.
+/// `PIECE_SIZE` bytes at once.
 ///
 /// After `Read`, the trace of the steps in the whole lines that were given has been written; after
 /// `Write` a front of the trace, and after `Memory` whole lines of it. After every other answer the
-/// whole trace has been written. `Memory` comes only where an engine answered it.
+/// whole trace has been written. Engines that never want memory give no `Memory`.
 ///
 /// `Read` comes only where all bytes that were given ask for more, so what they refuse isn't kept
 /// back by a further read. After every other error no more was taken of the schedule than lines
 /// whose trace has been written, and `BUFFER_SIZE` bytes after them.
 ///
 /// The net keeps its charts and routes. Nothing else is said of it, nor of the reader.
+///
+/// This project's choice.
 pub fn net_drive<G: Engine, I: Inputs, O: Sink>(
     net: &mut Net<G>,
     inputs: &mut I,
@@ -148,9 +152,9 @@ fn run_lines<G: Engine, I: Inputs, O: Sink>(
     for c in 0..net.count() as u32 {
         net.start_chart::<O>(c, pieces, out)?;
     }
-    let mut index = 0;
+    let mut last_step = 0;
     'lines: while next_line(inputs, name, lines, pieces, out)? {
-        index = net.run_line::<O>(lines.line(), lines.number(), index, pieces, out)?;
+        last_step = net.run_line::<O>(lines.line(), lines.number(), last_step, pieces, out)?;
     }
     Ok(())
 }

@@ -7,6 +7,7 @@ ghost use Rattle.trace_text.specs.Pieces.{Puts};
 ghost use Rattle.trace_text.specs.Trace.{IsEventOf};
 ghost use Rattle.chart_net.specs.Changes.{At, ChangesAt};
 ghost use Rattle.chart_net.specs.Holding.{Sent, Took, Wait};
+ghost use Rattle.chart_net.specs.Causes.{is_read, is_write};
 ghost use Rattle.chart_net.specs.Moving as spec;
 ghost use Rattle.chart_net.specs.NetParts.{AreAt, IsSound, StandsFor, all_running, charts_of};
 ghost use Rattle.chart_net.specs.NetParts.{net_shown, routes_of, started_below};
@@ -44,12 +45,12 @@ impl<G: Engine> Net<G> {
             (Puts (O.wrote out.old) (O.wrote out.new) (O.faults out.old) (O.faults out.new) pieces.old
             pieces.new)
             pieces.new.failed result }
-        ensures failed { pieces.new.failed ≡ spec.is_write result }
+        ensures failed { pieces.new.failed ≡ is_write result }
         ensures charts { charts_of G.Engine self.new ≡ charts_of G.Engine self.old }
         ensures routes { routes_of self.new ≡ routes_of self.old }
         ensures sound { IsSound G.Engine self.new }
         ensures stages { OnOk result (AreAt G.Engine self.new (started_below (c + 1)) 0) }
-        ensures reads { spec.is_read result ≡ false }
+        ensures reads { is_read result ≡ false }
         ensures memory { IsTrue G.never_wants_memory → result ≢ Err NetEnd.Memory }
     {
         let end = self.start_at(c as usize);
@@ -80,12 +81,12 @@ impl<G: Engine> Net<G> {
             (Puts (O.wrote out.old) (O.wrote out.new) (O.faults out.old) (O.faults out.new) pieces.old
             pieces.new)
             pieces.new.failed result) }
-        ensures failed { pieces.new.failed ≡ spec.is_write result }
+        ensures failed { pieces.new.failed ≡ is_write result }
         ensures charts { charts_of G.Engine self.new ≡ charts_of G.Engine self.old }
         ensures routes { routes_of self.new ≡ routes_of self.old }
         ensures sound { IsSound G.Engine self.new }
         ensures stages { OnOk result (AreAt G.Engine self.new all_running (p + 1)) }
-        ensures reads { spec.is_read result ≡ false }
+        ensures reads { is_read result ≡ false }
         ensures memory { IsTrue G.never_wants_memory → result ≢ Err NetEnd.Memory }
     {
         let end = self.give_at(c as usize, event);
@@ -111,12 +112,12 @@ impl<G: Engine> Net<G> {
             (Puts (O.wrote out.old) (O.wrote out.new) (O.faults out.old) (O.faults out.new) pieces.old
             pieces.new)
             pieces.new.failed result }
-        ensures failed { pieces.new.failed ≡ spec.is_write result }
+        ensures failed { pieces.new.failed ≡ is_write result }
         ensures charts { charts_of G.Engine self.new ≡ charts_of G.Engine self.old }
         ensures routes { routes_of self.new ≡ routes_of self.old }
         ensures sound { IsSound G.Engine self.new }
         ensures stages { OnOk result (AreAt G.Engine self.new all_running (p + 1)) }
-        ensures reads { spec.is_read result ≡ false }
+        ensures reads { is_read result ≡ false }
         ensures memory { IsTrue G.never_wants_memory → result ≢ Err NetEnd.Memory }
     {
         let route = self.routes[r as usize];
@@ -221,12 +222,12 @@ impl<G: Engine> Net<G> {
             (Puts (O.wrote out.old) (O.wrote out.new) (O.faults out.old) (O.faults out.new) pieces.old
             pieces.new)
             pieces.new.failed result) }
-        ensures failed { pieces.new.failed ≡ spec.is_write result }
+        ensures failed { pieces.new.failed ≡ is_write result }
         ensures seats { self.new.seats ≡ self.old.seats }
         ensures routes { self.new.routes ≡ self.old.routes }
         ensures sound { IsSound G.Engine self.new }
         ensures ok { result ≡ Ok tt → end ≡ Ok tt }
-        ensures reads { spec.is_read result ≡ false }
+        ensures reads { is_read result ≡ false }
         ensures memory { result ≡ Err NetEnd.Memory → end ≡ Err Halt.Memory }
     {
         match end {
@@ -258,12 +259,12 @@ impl<G: Engine> Net<G> {
             (Puts (O.wrote out.old) (O.wrote out.new) (O.faults out.old) (O.faults out.new) pieces.old
             pieces.new)
             pieces.new.failed result) }
-        ensures failed { pieces.new.failed ≡ spec.is_write result }
+        ensures failed { pieces.new.failed ≡ is_write result }
         ensures seats { self.new.seats ≡ self.old.seats }
         ensures routes { self.new.routes ≡ self.old.routes }
         ensures sound { IsSound G.Engine self.new }
         ensures ok { result ≡ Ok tt → fault ≡ None }
-        ensures reads { spec.is_read result ≡ false }
+        ensures reads { is_read result ≡ false }
         ensures memory { result ≢ Err NetEnd.Memory }
     {
         let full = self.send_from(c, fault);

@@ -48,8 +48,8 @@ impl<G: Engine> Net<G> {
         self.seats.len()
     }
 
-    /// Adds a route, with room for as many items as it may hold, which is all the memory that it
-    /// takes. On an error the net is unchanged.
+    /// Adds a route to a net that isn't driven yet, with room for as many items as the route may
+    /// hold, which is all the memory that it takes. On an error the net is unchanged.
     pub fn add_route(&mut self, route: Route) -> Result<(), Memory>
         requires net { IsNet G.Engine self.old }
         requires few { length (routes_of self.old) < ROUTE_LIMIT }
@@ -74,8 +74,9 @@ impl<G: Engine> Net<G> {
 }
 
 impl<G: Engine + Drop> Net<G> {
-    /// Adds a chart that isn't started, by its name and what runs it, with room for the values of
-    /// its steps. On an error the net is unchanged, and the name and the engine are dropped.
+    /// Adds a chart that isn't started to a net that isn't driven yet, by its name and what runs it,
+    /// with room for the values of its steps. On an error the net is unchanged, and the name and the
+    /// engine are dropped.
     pub fn add_chart(&mut self, name: Text, engine: G) -> Result<(), Memory>
         requires net { IsNet G.Engine self.old }
         requires fresh { G.stage engine ≡ Fresh }

@@ -5,6 +5,7 @@ ghost use Rattle.std.specs.List.{position, range_with_len};
 ghost use Rattle.std.specs.Str.{bytes_eq};
 ghost use Rattle.event_file.specs.EventLines.{event_of_line, tokens_of};
 ghost use Rattle.trace_text.specs.Pieces.{Puts};
+ghost use Rattle.chart_net.specs.Causes.{is_read, is_write};
 ghost use Rattle.chart_net.specs.Moving as spec;
 ghost use Rattle.chart_net.specs.NetParts.{AreAt, IsKept, IsSound, StandsFor, all_running};
 ghost use Rattle.chart_net.specs.NetParts.{charts_of, net_shown, routes_of};
@@ -52,12 +53,12 @@ impl<G: Engine> Net<G> {
             (Puts (O.wrote out.old) (O.wrote out.new) (O.faults out.old) (O.faults out.new) pieces.old
             pieces.new)
             pieces.new.failed result }
-        ensures failed { pieces.new.failed ≡ spec.is_write result }
+        ensures failed { pieces.new.failed ≡ is_write result }
         ensures charts { charts_of G.Engine self.new ≡ charts_of G.Engine self.old }
         ensures routes { routes_of self.new ≡ routes_of self.old }
         ensures sound { IsSound G.Engine self.new }
         ensures stages { IfOk result (AreAt G.Engine self.new all_running) }
-        ensures reads { spec.is_read result ≡ false }
+        ensures reads { is_read result ≡ false }
         ensures memory { IsTrue G.never_wants_memory → result ≢ Err NetEnd.Memory }
     {
         let step = match self.read_step(line) {
@@ -93,12 +94,12 @@ impl<G: Engine> Net<G> {
             (Puts (O.wrote out.old) (O.wrote out.new) (O.faults out.old) (O.faults out.new) pieces.old
             pieces.new)
             pieces.new.failed result }
-        ensures failed { pieces.new.failed ≡ spec.is_write result }
+        ensures failed { pieces.new.failed ≡ is_write result }
         ensures charts { charts_of G.Engine self.new ≡ charts_of G.Engine self.old }
         ensures routes { routes_of self.new ≡ routes_of self.old }
         ensures sound { IsSound G.Engine self.new }
         ensures stages { OnOk result (AreAt G.Engine self.new all_running (p + 1)) }
-        ensures reads { spec.is_read result ≡ false }
+        ensures reads { is_read result ≡ false }
         ensures memory { IsTrue G.never_wants_memory → result ≢ Err NetEnd.Memory }
     {
         match step {

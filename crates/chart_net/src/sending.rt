@@ -2,7 +2,7 @@
 ghost use Rattle.std.specs.Prelude.{◌≡◌, ◌<◌, ◌^◌, ℕ, length, IfSome};
 ghost use Rattle.chart_net.specs.Changes.{ChangesAt};
 ghost use Rattle.chart_net.specs.Holding.{HaveRoom, HaveSources, Sent, Took, Wait, finds_full};
-ghost use Rattle.chart_net.specs.Holding.{given};
+ghost use Rattle.chart_net.specs.Holding.{ring_after};
 ghost use Rattle.chart_net.specs.Nets.{RouteState};
 ghost use Rattle.chart_net.specs.Rings.{later, oldest};
 ghost use Rattle.chart_net.specs.Sending as spec;
@@ -66,7 +66,7 @@ fn send_event(
 fn send_item(route: Route, chart: u32, vals: &Vals, event: u32, ring: &mut Ring) -> bool
     requires { route.from ≡ chart → IfSome route.source (λ v. v < length vals.now) }
     ensures full { result ≡ finds_full route chart event ring.old }
-    ensures ring { ring.new ≡ given route chart vals.now event ring.old }
+    ensures ring { ring.new ≡ ring_after route chart vals.now event ring.old }
 {
     if !carries(route, chart, event) {
         return false;

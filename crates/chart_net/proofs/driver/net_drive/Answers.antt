@@ -1,7 +1,7 @@
 use Rattle.std.proofs.Common.{◌≡◌, false, sym, ◌∙◌}
 use Rattle.trace_text.proofs.PieceLemmas.{kept_now}
 use Rattle.step_driver.proofs.Buffered.{finished, not_finished}
-use Rattle.chart_net.specs.Moving.{is_write}
+use Rattle.chart_net.specs.Causes.{is_write}
 use Rattle.chart_net.specs.NetDriving.{NetDrives, net_runs}
 use Rattle.chart_net.specs.NetParts.{charts_of, net_shown, routes_of}
 use Rattle.chart_net.proofs.NetDriven.{driver_laws}

@@ -114,35 +114,35 @@ returns-in_err-next_line-clause-failed g c =
     c.in_err-next_line.ensures.moves ∙ sym (writes_same _))
 
 -- the run ends at a line
-pub returns-in_err-index-clause-ends : goal.returns-in_err-index-clause-ends
-returns-in_err-index-clause-ends g c =
+pub returns-in_err-last_step-clause-ends : goal.returns-in_err-last_step-clause-ends
+returns-in_err-last_step-clause-ends g c =
     let x = g.G.Engine in
     let first = c.args.net.now in
     let net = net_shown x first in
     let one = gives_one x g.met.G.Engine.one_start g.met.G.Engine.one_reaction (charts_of x first) (routes_of first) in
-    let p = err_from_is_err_and c.from_residual-in_err-index.result c.from_residual-in_err-index.ensures.1 in
+    let p = err_from_is_err_and c.from_residual-in_err-last_step.result c.from_residual-in_err-last_step.ensures.1 in
     let inv = c.lines.invariant in
     let n = c.in_ok-next_line.ensures.next in
     let next = rw c.if-branch.true at n in
     let b = between (net_runs net) _ _ _ _ _ _ _ _ _ _ _ _ _ _ _ inv.driven next c.in_ok-next_line.ensures.moves in
-    let e = c.in_err-index.ensures in
+    let e = c.in_err-last_step.ensures in
     let t = e.done in
     let taken = rw (c.line.ensures, c.number.ensures) at t in
     let same = shown_same x first c.lines.net inv.charts inv.routes in
     rw (p.1, p.2) (line_over net (net_shown x c.lines.net) _ _ _ _ _ _ _ _ _ _ _ _ _ _ _ _ _ _ same one b e.failed
     e.reads taken)
 
-pub returns-in_err-index-clause-others : goal.returns-in_err-index-clause-others
-returns-in_err-index-clause-others g c =
+pub returns-in_err-last_step-clause-others : goal.returns-in_err-last_step-clause-others
+returns-in_err-last_step-clause-others g c =
     let inv = c.lines.invariant in
     λ other ne. c.in_ok-next_line.ensures.others other ne ∙ inv.others other ne
 
-pub returns-in_err-index-clause-reads : goal.returns-in_err-index-clause-reads
-returns-in_err-index-clause-reads g c =
-    let p = err_from_is_err_and c.from_residual-in_err-index.result c.from_residual-in_err-index.ensures.1 in
+pub returns-in_err-last_step-clause-reads : goal.returns-in_err-last_step-clause-reads
+returns-in_err-last_step-clause-reads g c =
+    let p = err_from_is_err_and c.from_residual-in_err-last_step.result c.from_residual-in_err-last_step.ensures.1 in
     let inv = c.lines.invariant in
     let stay = c.in_ok-next_line.ensures.reads.others refl in
-    rw (p.1, p.2) (no_read _ _ _ _ c.in_err-index.ensures.reads (λ other. stay other ∙ inv.counts other))
+    rw (p.1, p.2) (no_read _ _ _ _ c.in_err-last_step.ensures.reads (λ other. stay other ∙ inv.counts other))
 
 -- one line more
 pub lines-preserved : goal.lines-preserved
@@ -154,7 +154,7 @@ lines-preserved g c =
     let n = c.in_ok-next_line.ensures.next in
     let next = rw c.if-branch.true at n in
     let b = between (net_runs net) _ _ _ _ _ _ _ _ _ _ _ _ _ _ _ inv.driven next c.in_ok-next_line.ensures.moves in
-    let e = c.in_ok-index.ensures in
+    let e = c.in_ok-last_step.ensures in
     let t = e.done in
     let taken = rw (c.line.ensures, c.number.ensures) at t in
     let same = shown_same x first c.lines.net inv.charts inv.routes in

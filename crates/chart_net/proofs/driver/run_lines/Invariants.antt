@@ -30,13 +30,13 @@ invariant-lines g l =
     let e = g.G.Engine in
     let shown = net_shown e l.fn.net in
     record {
-      driven : Buffered (net_runs shown) (NetState shown (StandsFor e l.net) l.index) (g.O.Sink.wrote l.fn.out)
+      driven : Buffered (net_runs shown) (NetState shown (StandsFor e l.net) l.last_step) (g.O.Sink.wrote l.fn.out)
           (g.O.Sink.wrote l.out) (g.O.Sink.faults l.fn.out) (g.O.Sink.faults l.out)
-          (g.I.Inputs.left l.fn.inputs l.name) (g.I.Inputs.left l.inputs l.name) l.pieces l.lines l.index;
+          (g.I.Inputs.left l.fn.inputs l.name) (g.I.Inputs.left l.inputs l.name) l.pieces l.lines l.last_step;
       charts : charts_of e l.net ≡ charts_of e l.fn.net;
       routes : routes_of l.net ≡ routes_of l.fn.net;
       sound : IsSound e l.net;
-      running : AreAt e l.net all_running l.index;
+      running : AreAt e l.net all_running l.last_step;
       others : OthersKept l.name (g.I.Inputs.left l.fn.inputs) (g.I.Inputs.left l.inputs);
       counts : AllStay (g.I.Inputs.faults l.fn.inputs) (g.I.Inputs.faults l.inputs);
     }

@@ -1,7 +1,7 @@
 use Rattle.std.proofs.Common.{◌≡◌, ℕ, List, Some, Result, sym, ap, ◌∙◌, subst}
 use Rattle.std.specs.Prelude.{slice_get}
 use Rattle.trace_text.specs.Pieces.{Puts}
-use Rattle.chart_net.specs.Moving.{is_read, is_write}
+use Rattle.chart_net.specs.Causes.{is_read, is_write}
 use Rattle.chart_net.specs.NetTraces.{why_moved}
 use Rattle.chart_net.specs.declared.driver.NetEnd.{NetEnd}
 use Rattle.chart_net.proofs.MoveLemmas.{answer_no_read, answer_not_memory, answer_well, answer_write, line_is}

@@ -19,8 +19,10 @@ use Rattle.code_fields.proofs.CutLemmas.{option_map_some}
 use Rattle.code_fields.proofs.ScaleLemmas.{same_scale as one_scale}
 use Rattle.net_text.specs.declared.net.RouteText.{RouteText}
 use Rattle.net_text.specs.declared.route.Route.{Route}
-use Rattle.net_text.specs.Routes.{is_raised_by_chart, is_raised_outside, is_output_event, is_input_event}
-use Rattle.net_text.specs.Routes.{output_event, input_event, is_set_by_chart, is_set_outside, is_output_datum}
+use Rattle.event_file.specs.EventLines as lines
+use Rattle.event_file.specs.InputValues.{is_input}
+use Rattle.net_text.specs.Routes.{is_put_out, is_output_event, is_input_event}
+use Rattle.net_text.specs.Routes.{output_event, input_event, is_set_by_chart, is_output_datum}
 use Rattle.net_text.specs.Routes.{is_input_datum, output_datum, input_datum, same_sign, same_sort, have_same_sort}
 use Rattle.net_text.specs.Routes.{DataNumbers, numbers_with, numbers_named, data_numbers, IsOutputEvent, AreJoined}
 use Rattle.net_text.specs.Routes.{DataJoined, Joins, HasSameNumbers, route_with, route_of}
@@ -36,30 +38,30 @@ found_at p (x ∷ xs) i h =
 -- ---- events
 
 -- an output event
-raised_by_chart : (kind : EventKind) → is_raised_by_chart kind ≡ true → kind ≡ event_kinds.Output
-raised_by_chart event_kinds.Input h = absurd cc
-raised_by_chart event_kinds.Local h = absurd cc
-raised_by_chart event_kinds.Output h = refl
+put_out : (kind : EventKind) → is_put_out kind ≡ true → kind ≡ event_kinds.Output
+put_out event_kinds.Input h = absurd cc
+put_out event_kinds.Local h = absurd cc
+put_out event_kinds.Output h = refl
 
 -- an input event
-raised_outside : (kind : EventKind) → is_raised_outside kind ≡ true → kind ≡ event_kinds.Input
-raised_outside event_kinds.Input h = refl
-raised_outside event_kinds.Local h = absurd cc
-raised_outside event_kinds.Output h = absurd cc
+input_event_kind : (kind : EventKind) → lines.is_input_event kind ≡ true → kind ≡ event_kinds.Input
+input_event_kind event_kinds.Input h = refl
+input_event_kind event_kinds.Local h = absurd cc
+input_event_kind event_kinds.Output h = absurd cc
 
 -- what was found as an output event is one
 output_event-is : (name : List ℕ) (n : Names) (e : ℕ) → output_event name n ≡ Some e → IsOutputEvent n e
 output_event-is name n e h =
     let at = found_at (is_output_event name) n.events e h in
-    let both = and_parts (bytes_eq at.0.name name) (is_raised_by_chart at.0.kind) at.2 in
-    (at.0, at.1, raised_by_chart at.0.kind both.1)
+    let both = and_parts (bytes_eq at.0.name name) (is_put_out at.0.kind) at.2 in
+    (at.0, at.1, put_out at.0.kind both.1)
 
 -- what was found as an input event is one
 input_event-is : (name : List ℕ) (n : Names) (e : ℕ) → input_event name n ≡ Some e → IsInputEvent n e
 input_event-is name n e h =
     let at = found_at (is_input_event name) n.events e h in
-    let both = and_parts (bytes_eq at.0.name name) (is_raised_outside at.0.kind) at.2 in
-    (at.0, at.1, raised_outside at.0.kind both.1)
+    let both = and_parts (bytes_eq at.0.name name) (lines.is_input_event at.0.kind) at.2 in
+    (at.0, at.1, input_event_kind at.0.kind both.1)
 
 -- ---- data
 
@@ -70,10 +72,10 @@ set_by_chart var_kinds.Output h = refl
 set_by_chart var_kinds.Local h = absurd cc
 
 -- an input
-set_outside : (kind : VarKind) → is_set_outside kind ≡ true → kind ≡ var_kinds.Input
-set_outside var_kinds.Input h = refl
-set_outside var_kinds.Output h = absurd cc
-set_outside var_kinds.Local h = absurd cc
+input_kind : (kind : VarKind) → is_input kind ≡ true → kind ≡ var_kinds.Input
+input_kind var_kinds.Input h = refl
+input_kind var_kinds.Output h = absurd cc
+input_kind var_kinds.Local h = absurd cc
 
 -- both are signed, or neither is
 same_sign-is : (a b : Bool) → same_sign a b ≡ true → a ≡ b
@@ -128,10 +130,10 @@ numbers_named-joined from to source target pair h =
     let a = found_at (is_output_datum source) from.vars s sent in
     let b = found_at (is_input_datum target) to.vars t given in
     let out = and_parts (bytes_eq a.0.name source) (is_set_by_chart a.0.kind) a.2 in
-    let inp = and_parts (bytes_eq b.0.name target) (is_set_outside b.0.kind) b.2 in
+    let inp = and_parts (bytes_eq b.0.name target) (is_input b.0.kind) b.2 in
     joined_if from to s t a.0 b.0 (slice_get from.vars s) (slice_get to.vars t) pair
     (have_same_sort (slice_get from.vars s) (slice_get to.vars t)) a.1 b.1 refl a.1 b.1 (set_by_chart a.0.kind out.1)
-    (set_outside b.0.kind inp.1) more))
+    (input_kind b.0.kind inp.1) more))
 
 -- the data of a route
 data_numbers-joined : (from to : Names) (source target : Option (List ℕ)) (pair : DataNumbers)

@@ -14,30 +14,26 @@ use Rattle.actions.specs.declared.names.Sort.TheVariants as sorts
 use Rattle.actions.specs.declared.names.Var.{Var}
 use Rattle.actions.specs.declared.names.VarKind.{VarKind}
 use Rattle.actions.specs.declared.names.VarKind.TheVariants as var_kinds
+use Rattle.event_file.specs.EventLines as lines
+use Rattle.event_file.specs.InputValues.{is_input}
 use Rattle.net_text.specs.declared.net.RouteText.{RouteText}
 use Rattle.net_text.specs.declared.route.Route.{Route}
 
 -- ---- events
 
 -- the chart puts the event out
-abbrev pub is_raised_by_chart : EventKind → Bool
-is_raised_by_chart event_kinds.Input = false
-is_raised_by_chart event_kinds.Local = false
-is_raised_by_chart event_kinds.Output = true
-
--- the event comes from the world around the chart
-abbrev pub is_raised_outside : EventKind → Bool
-is_raised_outside event_kinds.Input = true
-is_raised_outside event_kinds.Local = false
-is_raised_outside event_kinds.Output = false
+abbrev pub is_put_out : EventKind → Bool
+is_put_out event_kinds.Input = false
+is_put_out event_kinds.Local = false
+is_put_out event_kinds.Output = true
 
 -- an output event of that name
 abbrev pub is_output_event : List ℕ → EventDecl → Bool
-is_output_event name event = bytes_eq event.name name && is_raised_by_chart event.kind
+is_output_event name event = bytes_eq event.name name && is_put_out event.kind
 
 -- an input event of that name
 abbrev pub is_input_event : List ℕ → EventDecl → Bool
-is_input_event name event = bytes_eq event.name name && is_raised_outside event.kind
+is_input_event name event = bytes_eq event.name name && lines.is_input_event event.kind
 
 -- the number of the output event of that name
 abbrev pub output_event : List ℕ → Names → Option ℕ
@@ -55,19 +51,13 @@ is_set_by_chart var_kinds.Input = false
 is_set_by_chart var_kinds.Output = true
 is_set_by_chart var_kinds.Local = false
 
--- the environment of the chart sets the datum
-abbrev pub is_set_outside : VarKind → Bool
-is_set_outside var_kinds.Input = true
-is_set_outside var_kinds.Output = false
-is_set_outside var_kinds.Local = false
-
 -- an output datum of that name
 abbrev pub is_output_datum : List ℕ → Var → Bool
 is_output_datum name var = bytes_eq var.name name && is_set_by_chart var.kind
 
 -- an input of that name
 abbrev pub is_input_datum : List ℕ → Var → Bool
-is_input_datum name var = bytes_eq var.name name && is_set_outside var.kind
+is_input_datum name var = bytes_eq var.name name && is_input var.kind
 
 -- the number of the output datum of that name
 abbrev pub output_datum : List ℕ → Names → Option ℕ

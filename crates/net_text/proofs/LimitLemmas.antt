@@ -18,13 +18,13 @@ use Rattle.net_text.specs.declared.net.NetChart.{NetChart}
 use Rattle.net_text.specs.declared.net.RouteText.{RouteText}
 use Rattle.net_text.specs.Fields.{number_within, chart_number, count_behind, EventFront, event_with, event_front}
 use Rattle.net_text.specs.Fields.{DataNames, data_names, route_with_cap, route_with_taken, route_with_sent}
-use Rattle.net_text.specs.Fields.{route_of, chart_of}
+use Rattle.net_text.specs.Fields.{route_of_line, chart_of_line}
 use Rattle.net_text.specs.NetTexts.{NetText, names_of, first_repeat, IsRouteWithin, IsNetText, net_text_of}
 use Rattle.net_text.specs.Views.{Answers}
 use Rattle.net_text.specs.declared.net.NetText as declared
 use Rattle.net_text.specs.Lines.{cut_of}
 use Rattle.net_text.specs.Reading.{Partial, nothing_read, chart_next, route_next, with_chart_count, with_route_count}
-use Rattle.net_text.specs.Reading.{with_chart, with_route, next_at, next, or_refuse, refusal, is_whole, all_read}
+use Rattle.net_text.specs.Reading.{with_chart, with_route, next_at, next, or_refuse, refusal, has_ended, all_read}
 use Rattle.net_text.specs.Reading.{outcome_from, outcome_of, unless_repeated, with_own_names, net_of_text}
 
 -- ---- numbers
@@ -117,10 +117,10 @@ route_with_taken-is charts line sent taken route s t h =
     route_with_cap-is charts line sent taken cap rest route s t within.0 within.1 more)
 
 -- the route of a line
-route_of-is : (charts line : ℕ) (text : List ℕ) (route : RouteText) → route_of charts line text ≡ Some route
+route_of_line-is : (charts line : ℕ) (text : List ℕ) (route : RouteText) → route_of_line charts line text ≡ Some route
     → IsRouteWithin charts route
-unfolding route_of
-route_of-is charts line text route h =
+unfolding route_of_line
+route_of_line-is charts line text route h =
     option_and_then_some (λ rest. option_and_then (route_with_sent charts line) (event_front charts rest))
     (behind (codes "r ") text) route h (λ rest begun g.
     option_and_then_some (route_with_sent charts line) (event_front charts rest) route g (λ sent first more.
@@ -195,16 +195,16 @@ next_at-keeps expects.ChartCount p number line q k h =
     let within = count_behind-is (codes "charts ") 1 16 n line is in
     subst (λ (r : Partial). KeepsTo r.expected r) same (charts_keep p n k within.0 within.1))
 next_at-keeps (expects.Chart more) p number line q k h =
-    option_map_some (with_chart p more) (chart_of line) q h (λ chart is same.
+    option_map_some (with_chart p more) (chart_of_line line) q h (λ chart is same.
     subst (λ (r : Partial). KeepsTo r.expected r) same (chart_keeps p more chart k.0 k.1))
 next_at-keeps expects.RouteCount p number line q k h =
     option_map_some (with_route_count p) (count_behind (codes "routes ") 0 64 line) q h (λ n is same.
     let within = count_behind-is (codes "routes ") 0 64 n line is in
     subst (λ (r : Partial). KeepsTo r.expected r) same (routes_keep p n k.0 k.1 within.1))
 next_at-keeps (expects.Route more) p number line q k h =
-    option_map_some (with_route p more) (route_of (length p.charts) number line) q h (λ route is same.
+    option_map_some (with_route p more) (route_of_line (length p.charts) number line) q h (λ route is same.
     subst (λ (r : Partial). KeepsTo r.expected r) same
-    (route_keeps p more route k.0 k.1 k.2 (route_of-is (length p.charts) number line route is)))
+    (route_keeps p more route k.0 k.1 k.2 (route_of_line-is (length p.charts) number line route is)))
 next_at-keeps expects.End p number line q k h = words_keep expects.Nothing p q (bytes_eq line (codes "end")) k h
 next_at-keeps expects.Nothing p number line q k h = absurd cc
 
@@ -225,7 +225,7 @@ pub record IsWithin (net : NetText) : Type 0 where
   pub routes : All (IsRouteWithin (length net.charts)) net.routes
 
 -- what was read to its end
-whole_within : (expected : Expected) (p : Partial) → is_whole expected ≡ true → KeepsTo expected p
+whole_within : (expected : Expected) (p : Partial) → has_ended expected ≡ true → KeepsTo expected p
     → IsWithin (all_read p)
 whole_within expects.Version p w k = absurd cc
 whole_within expects.ChartCount p w k = absurd cc
@@ -236,7 +236,7 @@ whole_within expects.End p w k = absurd cc
 whole_within expects.Nothing p w k = record { some = k.0.some; few = k.0.few; few_routes = k.1; routes = k.2 }
 
 -- the end of a text
-ended : (whole empty : Bool) (p : Partial) (number : ℕ) (net : NetText) → is_whole p.expected ≡ whole
+ended : (whole empty : Bool) (p : Partial) (number : ℕ) (net : NetText) → has_ended p.expected ≡ whole
     → KeepsTo p.expected p
     → (if not whole then Err faults.Truncated else if empty then Ok (all_read p) else Err (faults.Trailing number))
     ≡ Ok net
@@ -257,7 +257,7 @@ outcome_from-within : (p : Partial) (number : ℕ) (lines : List (List ℕ)) (re
     → KeepsTo p.expected p
     → outcome_from p number lines rest ≡ Ok net → IsWithin net
 outcome_from-within p number [] rest net k h =
-    ended (is_whole p.expected) (nat_eq (length rest) 0) p number net refl k h
+    ended (has_ended p.expected) (nat_eq (length rest) 0) p number net refl k h
 outcome_from-within p number (line ∷ lines) rest net k h =
     line_within (next p number line) (refusal p.expected number) (λ q. outcome_from q (number + 1) lines rest) net
     (λ q e g. outcome_from-within q (number + 1) lines rest net (next-keeps p number line q k e) g) h

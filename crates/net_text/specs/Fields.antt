@@ -41,8 +41,8 @@ abbrev pub chart_with : List ℕ → List ℕ → Option NetChart
 chart_with name text = option_map (λ file. record { name = name; file = file }) (file_of text)
 
 -- the chart of a line: `c NAME FILE`
-unfoldable pub chart_of : List ℕ → Option NetChart
-chart_of line = option_and_then (word_then name_of chart_with) (behind (codes "c ") line)
+unfoldable pub chart_of_line : List ℕ → Option NetChart
+chart_of_line line = option_and_then (word_then name_of chart_with) (behind (codes "c ") line)
 
 -- ---- routes
 
@@ -101,7 +101,7 @@ abbrev pub route_with_sent : ℕ → ℕ → EventFront → Option RouteText
 route_with_sent charts line sent = option_and_then (route_with_taken line sent) (event_front charts sent.rest)
 
 -- the route of the line of that number, in a net of so many charts: `r FROM EVENT TO EVENT CAP SRC DST`
-unfoldable pub route_of : ℕ → ℕ → List ℕ → Option RouteText
-route_of charts line text =
+unfoldable pub route_of_line : ℕ → ℕ → List ℕ → Option RouteText
+route_of_line charts line text =
     option_and_then (λ rest. option_and_then (route_with_sent charts line) (event_front charts rest))
     (behind (codes "r ") text)

@@ -9,7 +9,7 @@ use Rattle.net_text.specs.declared.fault.NetFault.TheVariants as faults
 use Rattle.net_text.specs.declared.limits.TheConstants.{NET_TEXT_LIMIT, CHART_LIMIT, ROUTE_LIMIT}
 use Rattle.net_text.specs.declared.net.NetChart.{NetChart}
 use Rattle.net_text.specs.declared.net.RouteText.{RouteText}
-use Rattle.net_text.specs.Fields.{count_behind, chart_of, route_of}
+use Rattle.net_text.specs.Fields.{count_behind, chart_of_line, route_of_line}
 use Rattle.net_text.specs.Lines.{cut_of}
 use Rattle.net_text.specs.NetTexts.{NetText, names_of, first_repeat}
 
@@ -62,10 +62,11 @@ abbrev pub next_at : Expected → Partial → ℕ → List ℕ → Option Partia
 next_at expects.Version p number line = with_words (codes "flownet 1") expects.ChartCount p line
 next_at expects.ChartCount p number line =
     option_map (with_chart_count p) (count_behind (codes "charts ") 1 CHART_LIMIT line)
-next_at (expects.Chart more) p number line = option_map (with_chart p more) (chart_of line)
+next_at (expects.Chart more) p number line = option_map (with_chart p more) (chart_of_line line)
 next_at expects.RouteCount p number line =
     option_map (with_route_count p) (count_behind (codes "routes ") 0 ROUTE_LIMIT line)
-next_at (expects.Route more) p number line = option_map (with_route p more) (route_of (length p.charts) number line)
+next_at (expects.Route more) p number line =
+    option_map (with_route p more) (route_of_line (length p.charts) number line)
 next_at expects.End p number line = with_words (codes "end") expects.Nothing p line
 next_at expects.Nothing p number line = None
 
@@ -74,18 +75,18 @@ unfoldable pub next : Partial → ℕ → List ℕ → Option Partial
 next p number line = next_at p.expected p number line
 
 -- the line `end` was read
-abbrev pub is_whole : Expected → Bool
-is_whole expects.Version = false
-is_whole expects.ChartCount = false
-is_whole (expects.Chart more) = false
-is_whole expects.RouteCount = false
-is_whole (expects.Route more) = false
-is_whole expects.End = false
-is_whole expects.Nothing = true
+abbrev pub has_ended : Expected → Bool
+has_ended expects.Version = false
+has_ended expects.ChartCount = false
+has_ended (expects.Chart more) = false
+has_ended expects.RouteCount = false
+has_ended (expects.Route more) = false
+has_ended expects.End = false
+has_ended expects.Nothing = true
 
 -- why the line of that number can't stand
 abbrev pub refusal : Expected → ℕ → NetFault
-refusal expected number = if is_whole expected then faults.Trailing number else faults.BadLine number
+refusal expected number = if has_ended expected then faults.Trailing number else faults.BadLine number
 
 -- ---- whole texts
 
@@ -96,7 +97,7 @@ all_read p = record { charts = p.charts; routes = p.routes }
 -- the outcome where no whole line is left, and the line that is not whole has that number
 abbrev pub at_end : Partial → ℕ → List ℕ → Result NetText NetFault
 at_end p number rest =
-    if not (is_whole p.expected) then Err faults.Truncated else
+    if not (has_ended p.expected) then Err faults.Truncated else
     if length rest == 0 then Ok (all_read p) else Err (faults.Trailing number)
 
 -- what go gives for what is read, or the fault where nothing is read

@@ -19,20 +19,20 @@ use Rattle.net_text.specs.declared.partial.Partial.{Partial as PartialRead}
 use Rattle.net_text.specs.declared.route.DataNumbers.{DataNumbers}
 
 -- a chart with the bytes of its name and its file
-abbrev pub chart_of : ChartParts → NetChart
-chart_of chart = record { name = chart.name.now; file = chart.file.now }
+abbrev pub shown_chart : ChartParts → NetChart
+shown_chart chart = record { name = chart.name.now; file = chart.file.now }
 
 -- the bytes of the event's name, and of what stands after it
-abbrev pub front_of : EventFront → fields.EventFront
-front_of front = record { chart = front.chart; event = front.event.now; rest = front.rest.now }
+abbrev pub shown_front : EventFront → fields.EventFront
+shown_front front = record { chart = front.chart; event = front.event.now; rest = front.rest.now }
 
 -- the bytes of both names
-abbrev pub data_names : DataNames → fields.DataNames
-data_names pair = record { source = option_copied pair.source; target = option_copied pair.target }
+abbrev pub shown_names : DataNames → fields.DataNames
+shown_names pair = record { source = option_copied pair.source; target = option_copied pair.target }
 
 -- a route with the bytes of its names
-abbrev pub route_of : RouteParts → RouteText
-route_of route =
+abbrev pub shown_route : RouteParts → RouteText
+shown_route route =
     record {
       line = route.line;
       from = route.from;
@@ -45,8 +45,8 @@ route_of route =
     }
 
 -- the numbers of both data
-abbrev pub data_numbers : DataNumbers → routes.DataNumbers
-data_numbers pair = record { source = pair.source; target = pair.target }
+abbrev pub shown_numbers : DataNumbers → routes.DataNumbers
+shown_numbers pair = record { source = pair.source; target = pair.target }
 
 -- a name, if there is one
 abbrev pub IsNameOrNone : Option (List ℕ) → Type 0

@@ -11,8 +11,8 @@ use flow_base::Text;
 use std::alloc::{AllocError, Global};
 
 /// The chart of a line, if it is one.
-pub fn chart_of(alloc: Global, line: &[u8]) -> Result<Option<NetChart>, AllocError>
-    ensures { IfOk result (λ chart. chart ≡ spec.chart_of line.now) }
+pub fn chart_of_line(alloc: Global, line: &[u8]) -> Result<Option<NetChart>, AllocError>
+    ensures { IfOk result (λ chart. chart ≡ spec.chart_of_line line.now) }
 {
     match chart_parts(line) {
         Some(parts) => Ok(Some(NetChart {
@@ -35,13 +35,13 @@ fn file_text(alloc: Global, file: &[u8]) -> Result<Text, AllocError>
 }
 
 /// The route of the line of that number, in a net of so many charts, if the line is one.
-pub fn route_of(
+pub fn route_of_line(
     alloc: Global,
     charts: usize,
     line: u32,
     text: &[u8],
 ) -> Result<Option<RouteText>, AllocError>
-    ensures { IfOk result (λ route. route ≡ spec.route_of charts line text.now) }
+    ensures { IfOk result (λ route. route ≡ spec.route_of_line charts line text.now) }
 {
     match route_parts(charts, line, text) {
         Some(parts) => Ok(Some(route_text(alloc, parts)?)),
@@ -52,7 +52,7 @@ pub fn route_of(
 /// A route with copies of its names.
 fn route_text(alloc: Global, parts: RouteParts<'_>) -> Result<RouteText, AllocError>
     requires { views.HasNames parts }
-    ensures { IfOk result (λ route. route ≡ views.route_of parts.entry) }
+    ensures { IfOk result (λ route. route ≡ views.shown_route parts.entry) }
 {
     Ok(RouteText {
         line: parts.line,

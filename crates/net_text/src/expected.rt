@@ -42,8 +42,8 @@ pub fn route_next(count: u32) -> Expected
 }
 
 /// Whether the line `end` was read.
-pub fn is_whole(expected: Expected) -> bool
-    ensures { result ≡ spec.is_whole expected }
+pub fn has_ended(expected: Expected) -> bool
+    ensures { result ≡ spec.has_ended expected }
 {
     match expected {
         Expected::Nothing => true,

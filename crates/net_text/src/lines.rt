@@ -60,9 +60,9 @@ pub struct RouteParts<'a> {
 }
 
 /// The chart of a line.
-#[tactic(auto, unfolding(crate::specs::Fields::chart_of))]
+#[tactic(auto, unfolding(crate::specs::Fields::chart_of_line))]
 pub fn chart_parts(line: &[u8]) -> Option<ChartParts<'_>>
-    ensures parts { option_map views.chart_of result ≡ spec.chart_of line.now }
+    ensures parts { option_map views.shown_chart result ≡ spec.chart_of_line line.now }
     ensures named { IfSome result (λ chart. IsTrue (is_name chart.name.now)) }
     ensures filed { IfSome result (λ chart. IsTrue (spec.is_file_name chart.file.now)) }
 {
@@ -73,9 +73,9 @@ pub fn chart_parts(line: &[u8]) -> Option<ChartParts<'_>>
 }
 
 /// The route of the line of that number, in a net of so many charts.
-#[tactic(auto, unfolding(crate::specs::Fields::route_of))]
+#[tactic(auto, unfolding(crate::specs::Fields::route_of_line))]
 pub fn route_parts(charts: usize, line: u32, text: &[u8]) -> Option<RouteParts<'_>>
-    ensures parts { option_map views.route_of result ≡ spec.route_of charts line text.now }
+    ensures parts { option_map views.shown_route result ≡ spec.route_of_line charts line text.now }
     ensures named { IfSome result views.HasNames }
 {
     let sent = event_front(behind(b"r ", text)?, charts)?;
@@ -91,8 +91,8 @@ fn route_with_taken<'a>(
 ) -> Option<RouteParts<'a>>
     requires sent { IsTrue (is_name sent.event.now) }
     requires taken { IsTrue (is_name taken.event.now) }
-    ensures parts { option_map views.route_of result
-        ≡ spec.route_with_taken line (views.front_of sent.entry) (views.front_of taken.entry) }
+    ensures parts { option_map views.shown_route result
+        ≡ spec.route_with_taken line (views.shown_front sent.entry) (views.shown_front taken.entry) }
     ensures named { IfSome result views.HasNames }
 {
     let parts = cut_at(taken.rest, b' ')?;
@@ -112,7 +112,7 @@ fn route_with_taken<'a>(
 
 /// The event of one of so many charts at the front of a text.
 fn event_front(text: &[u8], charts: usize) -> Option<EventFront<'_>>
-    ensures front { option_map views.front_of result ≡ spec.event_front charts text.now }
+    ensures front { option_map views.shown_front result ≡ spec.event_front charts text.now }
     ensures named { IfSome result (λ front. IsTrue (is_name front.event.now)) }
 {
     let number = cut_at(text, b' ')?;
@@ -129,7 +129,7 @@ fn event_front(text: &[u8], charts: usize) -> Option<EventFront<'_>>
 /// The data of a route.
 #[tactic(auto, unfolding(crate::specs::Fields::data_names))]
 fn data_names(text: &[u8]) -> Option<DataNames<'_>>
-    ensures names { option_map views.data_names result ≡ spec.data_names text.now }
+    ensures names { option_map views.shown_names result ≡ spec.data_names text.now }
     ensures named { IfSome result (λ pair. views.IsNameOrNone (option_copied pair.source)
         × views.IsNameOrNone (option_copied pair.target)) }
 {

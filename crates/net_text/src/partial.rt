@@ -5,7 +5,7 @@ ghost use Rattle.net_text.specs.NetTexts.{net_text_of};
 ghost use Rattle.net_text.specs.Reading as spec;
 ghost use Rattle.net_text.specs.Views.{partial_of, GoesOn};
 
-use crate::copies::{chart_of, route_of};
+use crate::copies::{chart_of_line, route_of_line};
 use crate::expected::{Expected, chart_next, route_next};
 use crate::fields::count_behind;
 use crate::limits::{CHART_LIMIT, ROUTE_LIMIT};
@@ -96,9 +96,9 @@ impl Partial {
     fn read_chart(&mut self, alloc: Global, line: &[u8], more: u32) -> Result<bool, AllocError>
         ensures { IfOk result (λ stands.
             GoesOn (option_map (spec.with_chart (partial_of self.old) more)
-            (fields.chart_of line.now)) stands (partial_of self.new)) }
+            (fields.chart_of_line line.now)) stands (partial_of self.new)) }
     {
-        let Some(chart) = chart_of(alloc, line)? else {
+        let Some(chart) = chart_of_line(alloc, line)? else {
             return Ok(false);
         };
         self.charts.push(chart)?;
@@ -131,7 +131,7 @@ impl Partial {
             GoesOn (spec.next_at (Expected.Route more) (partial_of self.old) number line.now)
             stands (partial_of self.new)) }
     {
-        let Some(route) = route_of(alloc, self.charts.len(), number, line)? else {
+        let Some(route) = route_of_line(alloc, self.charts.len(), number, line)? else {
             return Ok(false);
         };
         self.routes.push(route)?;

@@ -6,7 +6,7 @@ ghost use Rattle.net_text.specs.NetTexts.{net_text_of, IsNetText};
 ghost use Rattle.net_text.specs.Reading as spec;
 ghost use Rattle.net_text.specs.Views.{partial_of, Answers};
 
-use crate::expected::{Expected, is_whole};
+use crate::expected::{Expected, has_ended};
 use crate::fault::NetFault;
 use crate::limits::NET_TEXT_LIMIT;
 use crate::net::NetText;
@@ -83,7 +83,7 @@ fn next_line(text: &[u8]) -> Option<Parts<'_>>
 fn refusal(expected: Expected, number: u32) -> NetFault
     ensures { result ≡ spec.refusal expected number }
 {
-    if is_whole(expected) {
+    if has_ended(expected) {
         NetFault::Trailing(number)
     } else {
         NetFault::BadLine(number)
@@ -95,7 +95,7 @@ fn refusal(expected: Expected, number: u32) -> NetFault
 fn read_to_end(partial: Partial, number: u32, rest: &[u8]) -> Result<NetText, NetFault>
     ensures { Answers result (spec.at_end (partial_of partial) number rest.now) }
 {
-    if !is_whole(partial.expected()) {
+    if !has_ended(partial.expected()) {
         return Err(NetFault::Truncated);
     }
     if !rest.is_empty() {

@@ -134,7 +134,7 @@ fn data_numbers(
 ) -> Option<DataNumbers>
     requires from_few { spec.AreFew (names_of from.now) }
     requires to_few { spec.AreFew (names_of to.now) }
-    ensures { option_map views.data_numbers result
+    ensures { option_map views.shown_numbers result
         ≡ spec.data_numbers (names_of from.now) (names_of to.now) source.now target.now }
 {
     match (source, target) {
@@ -151,7 +151,7 @@ fn data_numbers(
 fn numbers_named(from: &Names, to: &Names, source: &str, target: &str) -> Option<DataNumbers>
     requires from_few { spec.AreFew (names_of from.now) }
     requires to_few { spec.AreFew (names_of to.now) }
-    ensures { option_map views.data_numbers result
+    ensures { option_map views.shown_numbers result
         ≡ spec.numbers_named (names_of from.now) (names_of to.now) source.now target.now }
 {
     let sources = from.vars.items();

@@ -10,8 +10,9 @@ use Rattle.event_file.specs.Limits.{Limit, TooLong, PastFile, line_limit}
 use Rattle.event_file.specs.Lines.{lines_of, without_return}
 use Rattle.actions.specs.Runs.{EventWithInputs}
 
--- where the events of a file stop: at its end, before the line of a number with its fault, before an event that is one
--- too many, or before a line that holds the first byte that a file has no room for
+-- where the events of a file stop: at its end, before the line of a number with its fault, before an event (in the
+-- schedule of a net: a step) that is one too many, or before a line that holds the first byte that a file has no room
+-- for
 pub data Stop : Type 0 where
   AtEnd : Stop
   AtLine : ℕ → LineFault → Stop

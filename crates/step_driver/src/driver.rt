@@ -1,5 +1,5 @@
 //! A run over an event file that comes in pieces.
-ghost use Rattle.std.specs.Prelude.{◌≡◌, ◌≢◌, ◌<◌, ◌^◌, length, false, IsTrue, Err};
+ghost use Rattle.std.specs.Prelude.{◌≡◌, ◌≢◌, ◌<◌, ◌^◌, length, IsTrue, Err};
 ghost use Rattle.flow_base.specs.Causes.{OthersKept, NoneFalls};
 ghost use Rattle.actions.specs.Engines.{Fresh};
 ghost use Rattle.event_file.specs.LineValues.{IsMadeFor};

@@ -72,9 +72,10 @@ module _ (t : Tree) (n : ℕ → ℕ) (num : Numbers t n) where
   stored_is v x m w h = by (value_of w.vals w.marks x)
     where
       data_by : (o : Result (List Datum) Fault) → Stored t n m (with_vals m (with_data o w)) (with_data o w)
-      data_by (Ok vals) =
-          (record { states = h.states; consistent = h.consistent; vals = refl; outputs = h.outputs; used = h.used },
-          refl)
+      data_by (Ok vals) = (
+        record { states = h.states; consistent = h.consistent; vals = refl; outputs = h.outputs; used = h.used },
+        refl,
+      )
       data_by (Err y) = refl
 
       by : (o : Valued) → Stored t n m (with_vals m (assigned_value v o w)) (assigned_value v o w)

@@ -70,8 +70,13 @@ module _ (t : Tree) (n : ℕ → ℕ) (num : Numbers t n) (same : length t.comps
           (if d then with_mark s true w.marks else w.marks)
           → Stands t n (with_states (c_mark t n s m.states) m) (if d then set_mark s true w else w)
       at true e sh =
-          record { states = sh; consistent = marked t w.marks h.consistent s e;
-            vals = h.vals; outputs = h.outputs; used = h.used }
+          record {
+            states = sh;
+            consistent = marked t w.marks h.consistent s e;
+            vals = h.vals;
+            outputs = h.outputs;
+            used = h.used;
+          }
       at false e sh =
           record { states = sh; consistent = h.consistent; vals = h.vals; outputs = h.outputs; used = h.used }
 
@@ -85,8 +90,13 @@ module _ (t : Tree) (n : ℕ → ℕ) (num : Numbers t n) (same : length t.comps
           (if d then with_mark s false w.marks else w.marks)
           → Stands t n (with_states (c_clear t n s m.states) m) (if d then set_mark s false w else w)
       at true e sh =
-          record { states = sh; consistent = cleared t w.marks h.consistent s e;
-            vals = h.vals; outputs = h.outputs; used = h.used }
+          record {
+            states = sh;
+            consistent = cleared t w.marks h.consistent s e;
+            vals = h.vals;
+            outputs = h.outputs;
+            used = h.used;
+          }
       at false e sh =
           record { states = sh; consistent = h.consistent; vals = h.vals; outputs = h.outputs; used = h.used }
 
@@ -478,7 +488,12 @@ module _ (t : Tree) (n : ℕ → ℕ) (num : Numbers t n) (same : length t.comps
         (fresh p (Some q) f.base f.home None) (next f ∷ fs) refl refl
         (called p (Some q) x rest m (record v { notes = v.notes ++ q ∷ [] }) l w u r f h
         (record {
-          states = st.states; consistent = st.consistent; vals = st.vals; outputs = st.outputs; used = st.used })
+          states = st.states;
+          consistent = st.consistent;
+          vals = st.vals;
+          outputs = st.outputs;
+          used = st.used;
+        })
         (ap (λ y. y ++ q ∷ []) e))))
         (λ o y z so eo. low (machine z now y (next f ∷ fs)) ys
         (after a (record o { notes = front o.notes }) (record l { result = y }))

@@ -222,6 +222,7 @@ class Case:
         numbers = [self.choices.randrange(CHARTS) for _ in range(min(count, self.choice([1, 2, 3, 4])))]
         for at, number in enumerate(numbers):
             self.files['chart%d' % at] = chart_text(self.seed, number).encode('latin-1')
+        self.chart_files = dict(self.files)                  # also of a chart whose file is taken away below
         self.places = [self.choices.randrange(len(numbers)) for _ in range(count)]
         self.names = ['c%d' % at for at in range(count)]
         if self.chance(0.02):
@@ -443,7 +444,7 @@ class Comparison:
             if alone.out != told:
                 wrong.append('case %d: chart %d has another trace alone' % (number, at))
             if self.program:
-                files = {'chart': made.files['chart%d' % made.places[at]], 'events': events.encode('latin-1')}
+                files = {'chart': made.chart_files['chart%d' % made.places[at]], 'events': events.encode('latin-1')}
                 options = ['--depth', str(made.depth), '--steps', str(made.steps)]
                 wrong += differences('case %d, chart %d alone' % (number, at), alone,
                                      self.run(['rules', 'chart', 'events', *options], files))

@@ -19,7 +19,7 @@ use Rattle.actions.specs.declared.event.Event.TheVariants as events
 use Rattle.chart_net.specs.Changes.{At}
 use Rattle.chart_net.specs.Holding.{Sent, Wait}
 use Rattle.chart_net.specs.Nets.{ChartState, NetWorld, RouteState}
-use Rattle.chart_net.specs.NetParts.{AreAt, ChartStands, IsSound, StandsFor, charts_of, net_shown, routes_of}
+use Rattle.chart_net.specs.NetParts.{AreAt, ChartStands, HasOver, IsSound, StandsFor, charts_of, net_shown, routes_of}
 use Rattle.chart_net.specs.NetParts.{started_below}
 use Rattle.chart_net.specs.NetRuns.{NetStep, NetMoment, Moved, ChartGives, Moves, Does, after_move, took_also}
 use Rattle.chart_net.specs.NetTraces.{Why, ByFault, ByFull, ByEmpty, chart_line, event_at, moment_word, why_moved}
@@ -205,6 +205,16 @@ module _ {G : Type 0} (members : Engine G) (old new : Parts G) (c : ℕ) (before
   charts_moved = ap (map (chart_of members)) seats
       ∙ mapped_same (chart_of members) old.seats.items c before after there
       (chart_same members before after moves.name moves.program)
+
+  -- where memory ran out the chart is at the end of its run
+  pub over_moved : (result : Result (Unit {0}) NetEnd) → (result ≡ Err ends.Memory → end ≡ Err halts.Memory)
+      → result ≡ Err ends.Memory → HasOver members new
+  over_moved result wants is = record {
+    number = c;
+    seat = after;
+    there = ap (λ (l : List (Seat G)). slice_get l c) seats ∙ read_same old.seats.items c before after there;
+    over = moves.stage ∙ ap stage_after (wants is);
+  }
 
   -- the parts still fit each other
   pub sound_moved : routes_of new ≡ routes_of old → new.rings.items ≡ old.rings.items → IsSound members old

@@ -11,6 +11,7 @@ use Rattle.chart_net.specs.Rings.{Queue}
 use Rattle.chart_net.specs.Routes.{CanTake, IsRoute}
 use Rattle.chart_net.specs.Seats.{IsSeat, chart_of}
 use Rattle.chart_net.specs.declared.net.Net.{Net as Parts}
+use Rattle.chart_net.specs.declared.seat.Seat.{Seat}
 use Rattle.net_text.specs.declared.limits.TheConstants.{CHART_LIMIT, ROUTE_LIMIT}
 use Rattle.net_text.specs.declared.route.Route.{Route}
 
@@ -57,6 +58,13 @@ all_fresh c = Fresh
 -- all charts are between two events
 abbrev pub all_running : ℕ → Stage
 all_running c = Running
+
+-- the engine of a chart is at the end of its run
+pub record HasOver {G : Type 0} (members : Engine G) (net : Parts G) : Type 0 where
+  pub number : ℕ
+  pub seat : Seat G
+  pub there : slice_get net.seats.items number ≡ Some seat
+  pub over : members.stage seat.engine ≡ Over
 
 -- A net that isn't driven yet: its parts fit each other, no chart is started, and nothing was sent.
 pub record IsNet {G : Type 0} (members : Engine G) (net : Parts G) : Type 0 where

@@ -6,7 +6,7 @@ ghost use Rattle.trace_text.specs.Pieces.{nothing_held};
 ghost use Rattle.step_driver.specs.Ending.{LinesEnd};
 ghost use Rattle.chart_net.specs.Causes.{is_read, is_write};
 ghost use Rattle.chart_net.specs.NetDriving as spec;
-ghost use Rattle.chart_net.specs.NetParts.{IsNet, charts_of, net_shown, routes_of};
+ghost use Rattle.chart_net.specs.NetParts.{HasOver, IsNet, charts_of, net_shown, routes_of};
 
 use crate::net::Net;
 use actions::Engine;
@@ -77,7 +77,8 @@ impl From<NoLine> for NetEnd {
 ///
 /// After `Read`, the trace of the steps in the whole lines that were given has been written; after
 /// `Write` a front of the trace, and after `Memory` whole lines of it. After every other answer the
-/// whole trace has been written. Engines that never want memory give no `Memory`.
+/// whole trace has been written. After `Memory` the engine of a chart is at the end of its run, and
+/// engines that never want memory give no `Memory`.
 ///
 /// `Read` comes only where all bytes that were given ask for more, so what they refuse isn't kept
 /// back by a further read. After every other error no more was taken of the schedule than lines
@@ -111,6 +112,7 @@ pub fn net_drive<G: Engine, I: Inputs, O: Sink>(
     ensures counts { NoneFalls (I.faults inputs.old) (I.faults inputs.new) }
     ensures reads { spec.HasReadCause name.now (I.faults inputs.old) (I.faults inputs.new) result }
     ensures writes { spec.HasWriteCause (O.faults out.old) (O.faults out.new) result }
+    ensures over { result ≡ Err NetEnd.Memory → HasOver G.Engine net.new }
     ensures memory { IsTrue G.never_wants_memory → result ≢ Err NetEnd.Memory }
 {
     let mut pieces = Pieces::new();
@@ -147,6 +149,7 @@ fn run_lines<G: Engine, I: Inputs, O: Sink>(
     ensures others { OthersKept name.now (I.left inputs.old) (I.left inputs.new) }
     ensures counts { NoneFalls (I.faults inputs.old) (I.faults inputs.new) }
     ensures reads { spec.HasReadCause name.now (I.faults inputs.old) (I.faults inputs.new) result }
+    ensures over { result ≡ Err NetEnd.Memory → HasOver G.Engine net.new }
     ensures memory { IsTrue G.never_wants_memory → result ≢ Err NetEnd.Memory }
 {
     for c in 0..net.count() as u32 {

@@ -9,7 +9,7 @@ ghost use Rattle.chart_net.specs.Changes.{At, ChangesAt};
 ghost use Rattle.chart_net.specs.Holding.{Sent, Took, Wait};
 ghost use Rattle.chart_net.specs.Causes.{is_read, is_write};
 ghost use Rattle.chart_net.specs.Moving as spec;
-ghost use Rattle.chart_net.specs.NetParts.{AreAt, IsSound, StandsFor, all_running, charts_of};
+ghost use Rattle.chart_net.specs.NetParts.{AreAt, HasOver, IsSound, StandsFor, all_running, charts_of};
 ghost use Rattle.chart_net.specs.NetParts.{net_shown, routes_of, started_below};
 ghost use Rattle.chart_net.specs.NetRuns.{Gives, Starts, Takes, inputs_of_item};
 ghost use Rattle.chart_net.specs.NetTraces.{why_moved};
@@ -51,6 +51,7 @@ impl<G: Engine> Net<G> {
         ensures sound { IsSound G.Engine self.new }
         ensures stages { OnOk result (AreAt G.Engine self.new (started_below (c + 1)) 0) }
         ensures reads { is_read result ≡ false }
+        ensures over { result ≡ Err NetEnd.Memory → HasOver G.Engine self.new }
         ensures memory { IsTrue G.never_wants_memory → result ≢ Err NetEnd.Memory }
     {
         let end = self.start_at(c as usize);
@@ -87,6 +88,7 @@ impl<G: Engine> Net<G> {
         ensures sound { IsSound G.Engine self.new }
         ensures stages { OnOk result (AreAt G.Engine self.new all_running (p + 1)) }
         ensures reads { is_read result ≡ false }
+        ensures over { result ≡ Err NetEnd.Memory → HasOver G.Engine self.new }
         ensures memory { IsTrue G.never_wants_memory → result ≢ Err NetEnd.Memory }
     {
         let end = self.give_at(c as usize, event);
@@ -118,6 +120,7 @@ impl<G: Engine> Net<G> {
         ensures sound { IsSound G.Engine self.new }
         ensures stages { OnOk result (AreAt G.Engine self.new all_running (p + 1)) }
         ensures reads { is_read result ≡ false }
+        ensures over { result ≡ Err NetEnd.Memory → HasOver G.Engine self.new }
         ensures memory { IsTrue G.never_wants_memory → result ≢ Err NetEnd.Memory }
     {
         let route = self.routes[r as usize];

@@ -7,7 +7,7 @@ ghost use Rattle.event_file.specs.EventLines.{event_of_line, tokens_of};
 ghost use Rattle.trace_text.specs.Pieces.{Puts};
 ghost use Rattle.chart_net.specs.Causes.{is_read, is_write};
 ghost use Rattle.chart_net.specs.Moving as spec;
-ghost use Rattle.chart_net.specs.NetParts.{AreAt, IsKept, IsSound, StandsFor, all_running};
+ghost use Rattle.chart_net.specs.NetParts.{AreAt, HasOver, IsKept, IsSound, StandsFor, all_running};
 ghost use Rattle.chart_net.specs.NetParts.{charts_of, net_shown, routes_of};
 ghost use Rattle.chart_net.specs.NetRuns.{NetStep};
 ghost use Rattle.chart_net.specs.Nets.{NetWorld};
@@ -59,6 +59,7 @@ impl<G: Engine> Net<G> {
         ensures sound { IsSound G.Engine self.new }
         ensures stages { IfOk result (AreAt G.Engine self.new all_running) }
         ensures reads { is_read result ≡ false }
+        ensures over { result ≡ Err NetEnd.Memory → HasOver G.Engine self.new }
         ensures memory { IsTrue G.never_wants_memory → result ≢ Err NetEnd.Memory }
     {
         let step = match self.read_step(line) {
@@ -100,6 +101,7 @@ impl<G: Engine> Net<G> {
         ensures sound { IsSound G.Engine self.new }
         ensures stages { OnOk result (AreAt G.Engine self.new all_running (p + 1)) }
         ensures reads { is_read result ≡ false }
+        ensures over { result ≡ Err NetEnd.Memory → HasOver G.Engine self.new }
         ensures memory { IsTrue G.never_wants_memory → result ≢ Err NetEnd.Memory }
     {
         match step {

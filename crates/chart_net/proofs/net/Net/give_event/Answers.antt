@@ -9,7 +9,7 @@ use Rattle.chart_net.specs.NetParts.{AreAt, ChartStands, StandsFor, all_running,
 use Rattle.chart_net.specs.NetRuns.{Gives}
 use Rattle.chart_net.specs.Seats.{names_at}
 use Rattle.chart_net.specs.declared.seat.Seat.{Seat}
-use Rattle.chart_net.proofs.MoveLemmas.{charts_moved, ends_before, event_is, move_done, names_there, on_ok, sound_moved}
+use Rattle.chart_net.proofs.MoveLemmas.{over_moved, charts_moved, ends_before, event_is, move_done, names_there, on_ok, sound_moved}
 use Rattle.chart_net.proofs.MoveLemmas.{stages_moved}
 use Rattle.chart_net.proofs.PartLemmas.{gives_event}
 use Rattle.chart_net.proofs.net.Net.give_event.Goals as goal
@@ -104,3 +104,12 @@ returns-clause-stages g c =
     all_running all_running c.args.p (c.args.p + 1) (c.end_move.ensures.ok well) (λ k other. refl) refl (omega arith)
     (omega (arith, before))
     c.requires.stages)
+
+pub returns-clause-over : goal.returns-clause-over
+returns-clause-over g c =
+    let m = c.give_at-end.ensures.moves in
+    let given : Option EventWithInputs = Some (record { event = c.args.event; inputs = m.before.vals.values }) in
+    let seats : c.end_move.new.self.seats.items ≡ set c.args.self.now.seats.items c.args.c m.after =
+    rw c.end_move.ensures.seats m.is in
+    over_moved g.G.Engine c.args.self.now c.end_move.new.self c.args.c m.before m.after given c.give_at-end.result
+    m.there seats m.change c.end_move.result c.end_move.ensures.memory

@@ -6,7 +6,7 @@ use Rattle.trace_text.specs.Pieces.{Puts}
 use Rattle.chart_net.specs.NetParts.{AreAt, ChartStands, started_below}
 use Rattle.chart_net.specs.NetRuns.{Starts}
 use Rattle.chart_net.proofs.MoveLemmas.{charts_moved, ends_before, move_done, names_there, not_started, on_ok}
-use Rattle.chart_net.proofs.MoveLemmas.{sound_moved, stages_moved, started_here, started_others}
+use Rattle.chart_net.proofs.MoveLemmas.{over_moved, sound_moved, stages_moved, started_here, started_others}
 use Rattle.chart_net.proofs.PartLemmas.{gives_start}
 use Rattle.chart_net.proofs.net.Net.start_chart.Goals as goal
 
@@ -77,3 +77,11 @@ returns-clause-stages g c =
     (started_below c.args.c) (started_below (c.args.c + 1)) 0 0 (c.end_move.ensures.ok well) (started_others c.args.c)
     (started_here c.args.c)
     (omega arith) (c.requires.stages c.args.c m.before m.there).1 c.requires.stages)
+
+pub returns-clause-over : goal.returns-clause-over
+returns-clause-over g c =
+    let m = c.start_at-end.ensures.moves in
+    let seats : c.end_move.new.self.seats.items ≡ set c.args.self.now.seats.items c.args.c m.after =
+    rw c.end_move.ensures.seats m.is in
+    over_moved g.G.Engine c.args.self.now c.end_move.new.self c.args.c m.before m.after None c.start_at-end.result
+    m.there seats m.change c.end_move.result c.end_move.ensures.memory

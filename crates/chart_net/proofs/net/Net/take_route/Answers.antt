@@ -16,7 +16,7 @@ use Rattle.chart_net.specs.Routes.{CanTake}
 use Rattle.chart_net.specs.Seats.{names_at}
 use Rattle.net_text.specs.declared.route.Route.{Route}
 use Rattle.chart_net.proofs.MoveLemmas.{charts_moved, ends_before, event_is, move_done, names_there, on_ok, seat_there}
-use Rattle.chart_net.proofs.MoveLemmas.{sound_moved, stages_moved, unless_memory}
+use Rattle.chart_net.proofs.MoveLemmas.{over_moved, sound_moved, stages_moved, unless_memory}
 use Rattle.chart_net.proofs.PartLemmas.{along, declared_is, gives_event}
 use Rattle.chart_net.proofs.TakeLemmas.{takes_item, takes_nothing, to_within}
 use Rattle.chart_net.proofs.net.Net.take_route.Goals as goal
@@ -241,3 +241,19 @@ returns-in-Some-clause-stages g c =
     all_running all_running c.args.p (c.args.p + 1) (c.end_move.ensures.ok well) (λ k other. refl) refl (omega arith)
     (omega (arith, before))
     (λ k s here. c.requires.stages k s (rw c.item_from.ensures.seats at here)))
+
+pub returns-in-Some-clause-over : goal.returns-in-Some-clause-over
+returns-in-Some-clause-over g c =
+    let old = c.item_from.new.self in
+    let route : Route = c.index-route.result.now in
+    let m = c.take_at-end.ensures.moves in
+    let given : Option EventWithInputs =
+    Some (record {
+      event = Named route.event;
+      inputs = inputs_of_item (names_at g.G.Engine m.before) route.target
+          c.in-Some.item;
+    }) in
+    let seats : c.end_move.new.self.seats.items ≡ set old.seats.items route.to m.after =
+    rw c.end_move.ensures.seats m.is in
+    over_moved g.G.Engine old c.end_move.new.self route.to m.before m.after given c.take_at-end.result m.there seats
+    m.change c.end_move.result c.end_move.ensures.memory

@@ -24,8 +24,8 @@ pub enum NetEnd {
     /// steps before it was written.
     #[error("line {0}: {1}")]
     Line(u64, LineFault),
-    /// A chart has a fault: the number of the step, the number of the chart, and the fault. The line
-    /// of the trace that tells it was written.
+    /// A chart has a fault: the number of the step, the number of the chart, and the fault. The
+    /// line of the trace that tells it was written.
     #[error("chart {1} has a fault at step {0}")]
     Fault(u64, u32, Fault),
     /// A read failed.
@@ -44,12 +44,12 @@ pub enum NetEnd {
     /// An engine wants memory.
     #[error("out of memory")]
     Memory,
-    /// A route was full when an item was to be sent on it: the number of the step, and the number of
-    /// the route. The line of the trace that tells it was written.
+    /// A route was full when an item was to be sent on it: the number of the step, and the number
+    /// of the route. The line of the trace that tells it was written.
     #[error("route {1} is full at step {0}")]
     Full(u64, u32),
-    /// Nothing waited on a route from which an item was to be taken: the number of the step, and the
-    /// number of the route. The line of the trace that tells it was written.
+    /// Nothing waited on a route from which an item was to be taken: the number of the step, and
+    /// the number of the route. The line of the trace that tells it was written.
     #[error("route {1} is empty at step {0}")]
     Empty(u64, u32),
 }

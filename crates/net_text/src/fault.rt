@@ -20,8 +20,8 @@ pub enum NetFault {
     Truncated,
     /// A byte stands after the line `end`; this is the line after it.
     Trailing(u32),
-    /// The first line of a route for which `route_of` gives none. `read_net` doesn't answer it, since
-    /// it doesn't know what the charts declare.
+    /// The first line of a route for which `route_of` gives none. `read_net` doesn't answer it,
+    /// since it doesn't know what the charts declare.
     BadRoute(u32),
     /// The first line of a chart that has the name of an earlier one.
     NameTwice(u32),

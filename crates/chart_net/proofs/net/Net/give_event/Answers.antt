@@ -9,8 +9,8 @@ use Rattle.chart_net.specs.NetParts.{AreAt, ChartStands, StandsFor, all_running,
 use Rattle.chart_net.specs.NetRuns.{Gives}
 use Rattle.chart_net.specs.Seats.{names_at}
 use Rattle.chart_net.specs.declared.seat.Seat.{Seat}
-use Rattle.chart_net.proofs.MoveLemmas.{over_moved, charts_moved, ends_before, event_is, move_done, names_there, on_ok, sound_moved}
-use Rattle.chart_net.proofs.MoveLemmas.{stages_moved}
+use Rattle.chart_net.proofs.MoveLemmas.{charts_moved, ends_before, event_is, move_done, names_there, on_ok, sound_moved}
+use Rattle.chart_net.proofs.MoveLemmas.{over_moved, stages_moved}
 use Rattle.chart_net.proofs.PartLemmas.{gives_event}
 use Rattle.chart_net.proofs.net.Net.give_event.Goals as goal
 

@@ -41,7 +41,6 @@ import answers
 from programs import Ended, parser, status_text
 
 SECONDS = 120
-GREATEST_BOUNDS = ('--depth', '32', '--steps', '50000')
 LIBRARY = r'''
 #define _GNU_SOURCE
 #include <dlfcn.h>
@@ -140,6 +139,35 @@ class Scene(NamedTuple):
 
 # ---- the scenes
 
+NET_OF_ONE = b'flownet 1\ncharts 1\nc c c\nroutes 0\nend\n'
+# Three charts, two of one file; an event that goes on two routes, an item with a value, and a chart that sends to itself.
+NET = b'''flownet 1
+charts 3
+c a a
+c b b
+c c b
+routes 4
+r 0 up 1 IN 2 v x
+r 0 up 2 IN 1 - -
+r 1 back 0 BACK 4 - -
+r 2 back 2 IN 1 v x
+end
+'''
+NET_CHARTS = {
+    'a': b'''chart A {
+  event input GO; event input BACK; event output up; output v : int8;
+  default -> S; state S { outer GO { v = v + 1; emit up; } -> S; outer BACK -> S; }
+}
+''',
+    'b': b'''chart B {
+  event input IN; event output back; input x : int8 wrap; output v : int8 error = 60;
+  default -> S; state S { outer IN { v = v + x; emit back; } -> S; }
+}
+'''}
+STEPS = b'ev a GO\ntake 0\ntake 1\n# both answer\nev b IN x=0\ntake 2\ntake 3\nev a GO\ntake 0\ntake 2\n'
+START_WITH_A_FAULT = NET_CHARTS['b'].replace(b'default', b'entry { v = v / x; } default')
+
+
 def sample(path):
     with open(os.path.join(answers.ROOT, path), 'rb') as file:
         return file.read()
@@ -166,21 +194,67 @@ def scenes(program, with_selftest):
             Scene('fmt', ['fmt', 'c'], {'c': pump}), Scene('compile', ['compile', 'c'], {'c': watch}),
             Scene('upgrade', ['upgrade', 'c'], {'c': compiled(program, watch)}),
             Scene('upgrade refused', ['upgrade', 'c'], {'c': compiled(program, door)[:-7]})]
-    for command in answers.WITH_TRACE:
+    for command in answers.TRACED:
         for name, chart, events in (('', watch, watch_events), (' of the door', door, door_events),
                                     (' with a bad line', door, b'PUSH\nPUSH locked=2\n'),
                                     (' with a fault', fault, b'tick\n' * 9)):
             made.append(with_trace(program, command, chart, events)._replace(name=command + name))
-    made.append(most_frames())
+    made += [most_frames(), *net_scenes(), most_net()]
     if with_selftest:
         made.append(Scene('selftest', ['selftest', '0'], {}))
     return made
 
 
+def net_scenes():
+    """Nets of several charts: whole runs, each end of a run, each kind of a refusal, and files that aren't there."""
+    craft = {name: sample('examples/net/' + name) for name in
+             ('craft.net', 'monitor.chart', 'mission.chart', 'attitude.chart', 'radio.chart', 'craft.schedule')}
+    made = [Scene('net of the craft', ['net', 'craft.net', 'craft.schedule'], craft), small_net('', {})]
+    for name, files in ((' refused', {'n': NET[:-5]}), (' with a refused chart', {'b': NET_CHARTS['b'][:-3]}),
+                        (' with a bad route', {'n': NET.replace(b'BACK', b'IN')}), (' with a bad step', {'e': STEPS + b'take 4\n'}),
+                        (' that is empty', {'e': STEPS + b'take 2\ntake 2\n'}), (' that is full', {'e': b'ev a GO\n' * 9}),
+                        (' with a fault', {'e': STEPS + b'take 3\n'}), (' with a fault of a start', {'b': START_WITH_A_FAULT}),
+                        (' without a chart', {'b': None}), (' without a schedule', {'e': None})):
+        made.append(small_net(name, files))
+    return made
+
+
+def small_net(name, files):
+    """The scene of the small net with some other files; one that is None isn't there."""
+    kept = {'n': NET, **NET_CHARTS, 'e': STEPS, **files}
+    return Scene('net of three' + name, ['net', 'n', 'e'], {each: data for each, data in kept.items() if data is not None})
+
+
+def most_net():
+    """A net with the most charts and routes, the longest queues, and much room for frames."""
+    routes = b''.join(b'r %d back %d IN 1024 v x\n' % (at % 16, (at * 5 + 1) % 16) for at in range(64))
+    net = b'flownet 1\ncharts 16\n' + b''.join(b'c c%d b\n' % at for at in range(16)) + b'routes 64\n' + routes + b'end\n'
+    steps = b''.join(b'ev c%d IN x=1\n' % at for at in range(16)) + b''.join(b'take %d\n' % at for at in range(0, 64, 9))
+    return Scene('net of the most', ['net', *greatest_bounds('net'), 'n', 'e'], {'n': net, 'b': NET_CHARTS['b'], 'e': steps})
+
+
+def greatest_bounds(command):
+    return '--depth', '32', '--steps', '2500' if command == 'net' else '50000'
+
+
+def event_lines(command, events):
+    """The lines of an event file as that command reads them: `net` has them as steps of the chart c."""
+    if command != 'net':
+        return events
+    return b''.join(line if is_skipped(line) else b'ev c ' + line for line in events.splitlines(keepends=True))
+
+
+def is_skipped(line):
+    return not line.split() or line.split()[0].startswith(b'#')
+
+
 def with_trace(program, command, chart, events, options=()):
-    """The scene of a command that writes a trace; `exec` has the code of the chart."""
+    """The scene of a command that writes a trace; `exec` has the code of the chart, and `net` a net of this chart alone."""
     text = compiled(program, chart) if command == 'exec' else chart
-    return Scene(command, [command, *options, 'c', 'e'], {'c': text, 'e': events})
+    files = {'c': text, 'e': event_lines(command, events)}
+    if command == 'net':
+        files['n'] = NET_OF_ONE
+    return Scene(command, [command, *options, 'n' if command == 'net' else 'c', 'e'], files)
 
 
 class Place:
@@ -495,7 +569,7 @@ def failing_streams(trial):
     for place in trial.places():
         failing_devices(trial, place)
         cut_outputs(trial, place)
-    for command in answers.WITH_TRACE:
+    for command in answers.TRACED:
         place = Place(trial.program, with_trace(trial.program, command, SMALL_CHART, b'tick\n' * 20000))
         for size in (0, 1, 20, 512, 4096, 100000):
             answer = left_output(place, size)
@@ -566,26 +640,27 @@ def pipes_cut_short(trial, scenes):
 
 def line_by_line(trial):
     """Each line of a trace must be there before the next line of the event file is given."""
-    chart = sample('examples/compiled/door.chart')
-    lines = sample('examples/compiled/door.events').splitlines(keepends=True)
-    for command in answers.WITH_TRACE:
-        place = Place(trial.program, with_trace(trial.program, command, chart, b''.join(lines)))
+    door = sample('examples/compiled/door.chart'), sample('examples/compiled/door.events')
+    scenes = [(with_trace(trial.program, command, *door), 1) for command in answers.TRACED] + [(small_net('', {}), 3)]
+    for scene, starts in scenes:
+        place = Place(trial.program, scene)
+        lines = [line for line in scene.files['e'].splitlines(keepends=True) if not is_skipped(line)]
         # This end of the pipe reads too, so that it is there whether the program opens the other one or not.
         with open(place.make_pipe('e'), 'r+b', buffering=0) as events:
             running = Running(place, subprocess.PIPE)
-            got = [running.process.stdout.readline()]
+            got = [running.process.stdout.readline() for _ in range(starts)]
             for line in lines:
                 events.write(line)
                 got.append(running.process.stdout.readline())
         answer = running.ended(b'')
         trial.judge.count('lines that are given one by one', answer)
         if (b''.join(got).decode('latin-1'), answer) != (place.right.out, Ended('', '', 0)):
-            trial.judge.tell(command + ' line by line', 'another trace', answer)
+            trial.judge.tell(scene.name + ' line by line', 'another trace', answer)
 
 
 def nothing_is_read_first(trial):
     """Where the first line can't be written, no byte of the event file may be taken."""
-    for command in answers.WITH_TRACE:
+    for command in answers.TRACED:
         place = Place(trial.program, with_trace(trial.program, command, SMALL_CHART, b''))
         pipe = os.open(place.make_pipe('e'), os.O_RDWR | os.O_NONBLOCK)
         os.write(pipe, b'tick\n')
@@ -604,8 +679,11 @@ ADDED_LINES = 10
 
 
 def lengthen(path):
-    with open(path, 'ab') as file:
-        file.write(b'tick\n' * ADDED_LINES)
+    """Writes more lines after the last one, each of them like it."""
+    with open(path, 'r+b') as file:
+        last = file.readline()
+        file.seek(0, os.SEEK_END)
+        file.write(last * ADDED_LINES)
 
 
 def changing_files(trial):
@@ -613,9 +691,9 @@ def changing_files(trial):
     lines = 30000
     changes = {'cut': lambda path: os.truncate(path, 60001), 'emptied': lambda path: os.truncate(path, 0),
                'removed': os.unlink, 'replaced': lambda path: os.rename(path + '2', path), 'lengthened': lengthen}
-    for command in answers.WITH_TRACE:
+    for command in answers.TRACED:
         scene = with_trace(trial.program, command, SMALL_CHART, b'tick\n' * lines)
-        longest = Place(trial.program, scene._replace(files={**scene.files, 'e': b'tick\n' * (lines + ADDED_LINES)})).right
+        longest = Place(trial.program, with_trace(trial.program, command, SMALL_CHART, b'tick\n' * (lines + ADDED_LINES))).right
         for name, change in changes.items():
             place = Place(trial.program, scene._replace(files={**scene.files, 'e2': b'NO\n'}))
             running, output = begun(place)
@@ -651,7 +729,7 @@ def few_files(trial):
 
 def failing_files(trial):
     """Files that are pipes, or that change, and too few that may be open."""
-    pipes_cut_short(trial, [scene for scene in trial.scenes if len(scene.files) == 2 or scene.name == 'check'])
+    pipes_cut_short(trial, [scene for scene in trial.scenes if len(scene.files) >= 2 or scene.name == 'check'])
     line_by_line(trial)
     nothing_is_read_first(trial)
     changing_files(trial)
@@ -662,7 +740,7 @@ def failing_files(trial):
 
 def most_frames():
     """Code of the greatest height under the greatest bounds, so with the most room for frames."""
-    return Scene('exec with the most frames', ['exec', *GREATEST_BOUNDS, 'c', 'e'],
+    return Scene('exec with the most frames', ['exec', *greatest_bounds('exec'), 'c', 'e'],
                  {'c': answers.code_texts()['height_200'], 'e': b'tick\n'})
 
 
@@ -676,8 +754,8 @@ def deep_scenes(program):
     made = []
     for name, chart in (('deep states', nest), ('a long chain', chain), ('nested sends', sends)):
         made += [Scene('%s of %s' % (command, name), [command, 'c'], {'c': chart}) for command in ('fmt', 'compile')]
-        for command in answers.WITH_TRACE:
-            scene = with_trace(program, command, chart, b'tick\ntick\n', GREATEST_BOUNDS)
+        for command in answers.TRACED:
+            scene = with_trace(program, command, chart, b'tick\ntick\n', greatest_bounds(command))
             made.append(scene._replace(name='%s of %s' % (command, name)))
     front = b'chart C { default -> A; state A { during { n = '
     for name, text in (('parentheses', front + b'(' * 1000000), ('signs', front + b'- ' * 500000), ('braces', b'{' * 1000000),

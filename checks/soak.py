@@ -15,13 +15,18 @@ again. It is one of these:
                     has the same counts, code of the same traces, and the traces are compared as above.
     hostile code    The same of a code text.
     hostile events  The same of an event file.
+    net             A random net of charts with a schedule, as in random_nets.py: the trace must keep the law of nets, as net_law.py
+                    has it; `rules`, `run` or `exec` must write the trace that each chart has in the net over what it took; and
+                    a chart or a line of an event must be refused as these commands refuse it.
+    hostile net     The same of a net where the bytes of the net text, of the schedule or of a chart are changed.
     words           A random list of words: the usage line comes exactly where they ask for no command, by the readers of words
                     of chart_rules.py and code_machine.py; all else has the answer of the same words in the plainest form.
 
-For one case in ten, of charts one in twenty, the references chart_check.py, chart_rules.py, code_text.py and code_machine.py
-must answer alike. Each answer of each call must be one that answers.py allows. A call may use L seconds of processor time, 60
+For one case in ten, of charts one in twenty, the references chart_check.py, chart_rules.py, code_text.py, code_machine.py and
+nets.py must answer alike. Each answer of each call must be one that answers.py allows. A call may use L seconds of processor time, 60
 where nothing is said, and so much memory: 32 MiB, 400 bytes for each byte of a chart and 64 for each byte of a code text, and
-for `exec` and `run` room for the frames of its bounds, (steps + 1) * (height + 1) * 32 bytes, where the height is 200 or 87. A
+for `exec`, `run` and each chart of a net room for the frames of its bounds, (steps + 1) * (height + 1) * 32 bytes, where the height is
+200 or 87. A
 program that can't begin with 1 GiB, such as one built with a sanitizer, runs without that limit.
 
 A line is written for each difference, whose files are kept in FOLDER, and at the end a summary. The status is 1 where anything
@@ -44,13 +49,16 @@ import chart_syntax as syntax
 import code_acceptance as ca
 import code_machine as cm
 import code_text as ct
+import net_law
+import nets
 import random_charts
 import random_codes
 import random_compiled
+import random_nets
 from demands import Wrong
 from programs import Ended, differences, parser, print_counts, waited
 
-KINDS = {'chart': 6, 'code': 4, 'hostile chart': 4, 'hostile code': 3, 'hostile events': 3, 'words': 3}
+KINDS = {'chart': 6, 'code': 4, 'hostile chart': 4, 'hostile code': 3, 'hostile events': 3, 'net': 4, 'hostile net': 3, 'words': 3}
 ONE_IN = 10
 MIB = 1 << 20
 CHART_HEIGHT = 87
@@ -68,7 +76,7 @@ class Measured(random_compiled.Program):
         self.longest = longest
         self.limited = answers.begins(self.path, 1 << 30)
         self.calls, self.seconds, self.memory, self.bad = Counter(), Counter(), Counter(), []
-        self.nothing_fails = True
+        self.may_fail = ()                                  # the statuses of failures that may come
 
     def size(self, name):
         try:
@@ -76,13 +84,29 @@ class Measured(random_compiled.Program):
         except OSError:
             return 0
 
+    def read(self, name):
+        with open(os.path.join(self.folder, name), 'rb') as file:
+            return file.read()
+
     def most_memory(self, command, names, options):
         """How much memory a call may have."""
+        if command == 'net':
+            return self.most_of_net(names[0], options)
         first = self.size(names[0]) if names else 0
         most = 32 * MIB + first * (64 if command in answers.WITH_CODE else 400)
         if command in ('exec', 'run'):
             steps = int(options[options.index('--steps') + 1]) if '--steps' in options else rules.USUAL_STEPS
             most += (steps + 1) * ((ca.MOST_HEIGHT if command == 'exec' else CHART_HEIGHT) + 1) * 32
+        return most
+
+    def most_of_net(self, name, options):
+        """How much memory a net may have, by the charts that its text seems to have."""
+        most = 32 * MIB
+        if os.path.isfile(os.path.join(self.folder, name)):
+            with open(os.path.join(self.folder, name), 'rb') as file:
+                charts = re.findall(b'^c [^ \n]+ ([!-~]+)$', file.read(nets.LONGEST_NET + 1), re.MULTILINE)[:nets.MOST_CHARTS]
+            steps = int(options[options.index('--steps') + 1])
+            most += sum(400 * self.size(chart.decode('ascii')) + (steps + 1) * (CHART_HEIGHT + 1) * 32 for chart in charts)
         return most
 
     def run(self, command, *names, options=()):
@@ -109,7 +133,7 @@ class Measured(random_compiled.Program):
         self.count(command or 'no command', status, used)
         answer = Ended(*texts, status, timed_out)
         found = answers.problem(command, answer)
-        if status in (4, 5, 6) and command is not None and found is None and self.nothing_fails:
+        if status in (4, 5, 6) and status not in self.may_fail and command is not None and found is None:
             found = 'status %d where nothing failed' % status
         if found:
             self.bad.append('%s: %s' % (' '.join(map(repr, words)), found))
@@ -197,15 +221,15 @@ def changed(choices, data, other):
 # ---- words
 
 def pieces_of_words(choices):
-    numbers = ['0', '1', '3', '8', '32', '33', '50000', '50001', '+5', '-5', '007', '', 'x', '1e3', '٣', '99999999999999999999']
+    numbers = ['0', '1', '3', '8', '32', '33', '2500', '2501', '50000', '50001', '+5', '-5', '007', '', 'x', '1e3', '٣', '99999999999999999999']
     number = choices.choice(numbers)
-    return choices.choice([['c'], ['c'], ['k'], ['e'], ['e'], ['e'], ['nothing'], [''], ['-'], ['--'], ['--depth', number],
+    return choices.choice([['c'], ['c'], ['k'], ['n'], ['e'], ['e'], ['e'], ['nothing'], [''], ['-'], ['--'], ['--depth', number],
                            ['--depth=' + number], ['--steps', number], ['--steps=' + number], ['--depth'], ['--steps='],
                            ['-x'], ['--help'], ['\udcff'], ['--depths', number]])
 
 
 def random_words(choices):
-    words = [choices.choice([*answers.COMMANDS, *answers.WITH_TRACE * 4, '', 'Rules', '--', 'c'])]
+    words = [choices.choice([*answers.COMMANDS, *answers.TRACED * 4, '', 'Rules', '--', 'c'])]
     for _ in range(choices.choice([0, 1, 1, 2, 2, 2, 3, 3, 4])):
         words += pieces_of_words(choices)
     return words
@@ -215,9 +239,12 @@ def asked(words):
     """The command that the words ask for, as its words in the plainest form, or none."""
     if any('\udc80' <= letter <= '\udcff' for word in words for letter in word):
         return None
-    if not words or words[0] not in answers.COMMANDS:
+    if not words or words[0] not in (*answers.COMMANDS, 'net'):
         return None
     command, *rest = words
+    if command == 'net':
+        found = rules.words_of(rest, nets.MOST_STEPS, nets.MOST_STEPS)
+        return found and [command, '--depth', str(found[1]), '--steps', str(found[2]), '--', *found[0]]
     if command in answers.WITH_TRACE:
         found = rules.words_of(rest)
         if found != cm.words_of(rest):
@@ -394,12 +421,84 @@ class Soak:
         self.differ(name, self.trace_lines(name, text, events, random_compiled.bounds_of(choices), number % ONE_IN == 0),
                     chart=text, events=events)
 
+    def net_case(self, name, number, choices):
+        made = random_nets.Case('soak %s' % self.seed, number)
+        self.net_answers(name, number, made.words, made.files)
+
+    def hostile_net_case(self, name, number, choices):
+        made = random_nets.Case('soak %s' % self.seed, number)
+        if made.files:
+            file = choices.choice(['net', 'net', 'schedule', 'schedule', choices.choice(sorted(made.files))])
+            other = made.files[choices.choice(sorted(made.files))]
+            made.files[file] = changed(choices, made.files.get(file, b''), other)
+        self.net_answers(name, number, made.words, made.files)
+
+    def net_answers(self, name, number, words, files):
+        """Compares what `net` answers with the law of nets, with what other commands answer of its charts, and for a share with
+        nets.py."""
+        program = self.program
+        for each in os.listdir(program.folder):
+            os.unlink(os.path.join(program.folder, each))
+        for each, data in files.items():
+            program.write(each, data)
+        plain = asked(['net', *words])
+        memory = (program.most_memory('net', [plain[-2]], plain) if plain else 512 * MIB) if program.limited else None
+        program.may_fail = (4,)                             # a file that isn't there, or that a hostile text names
+        ran = program.call(['net', *words], memory, 'net' if plain else None)
+        program.may_fail = ()
+        self.found['nets with status %s' % ran.status] += 1
+        lines = []
+        if number % ONE_IN == 0:
+            self.found['nets compared with nets.py'] += 1
+            lines += differences(name + ' nets.py', nets.answer(words, program.read), ran)
+        if plain:
+            lines += self.alone_lines(name, plain, files, ran)
+        self.differ(name, lines, words=' '.join(words).encode(), **files)
+
+    def alone_lines(self, name, plain, files, ran):
+        """What is wrong with an answer of `net` by the law of nets and by other commands."""
+        refused = re.fullmatch('chart ([A-Za-z][A-Za-z0-9_]*) (.*\n)', ran.error)
+        text = files.get('net', b'').decode('latin-1')
+        if refused and ' ' in refused[2]:
+            file = next(chart.file for chart in net_law.charts_of(text) if chart.name == refused[1])
+            self.program.write('nothing', b'')              # what is left of the net
+            checked = self.program.run('check', 'nothing' if file == 'net' else file)
+            return differences(name + ' check', Ended('', 'chart ' + refused[2], 1), checked)
+        if not ran.out:
+            return []
+        schedule = plain[-1]
+        is_given = schedule == 'net' or schedule in [chart.file for chart in net_law.charts_of(text)]
+        try:
+            charts, result = net_law.law_of(text, b'' if is_given else files.get(schedule, b''), ran.out)
+        except (net_law.Broken, IndexError, KeyError, ValueError) as broken:
+            return ['%s: the law of nets: %s' % (name, broken)]
+        lines = []
+        for chart in charts:
+            if chart.lines and net_law.is_readable(chart.events):
+                lines += self.one_alone(name, chart, plain[1:5])
+        return lines
+
+    def one_alone(self, name, chart, options):
+        """What is wrong with a chart that runs alone over what it took in a net."""
+        program = self.program
+        self.found['charts of nets that were run alone'] += 1
+        program.write('events', ''.join(line + '\n' for line in chart.events).encode('latin-1'))
+        command, file = answers.WITH_TRACE[len(chart.events) % 3], chart.file
+        if command == 'exec':
+            file = 'code'
+            program.write(file, program.run('compile', chart.file).out.encode('latin-1'))
+        index, *_, result = chart.lines[-1].rstrip('\n').split(' ', 5)
+        expected = Ended(''.join(chart.lines), '' if result == 'ok' else 'run %s: %s\n' % (index, result), 0 if result == 'ok' else 3)
+        return differences('%s: %s alone by %s' % (name, chart.name, command), expected,
+                           program.run(command, file, 'events', options=options))
+
     def words_case(self, name, number, choices):
         """Lists of words, each compared with its plainest form."""
         door = {kind: os.path.join(answers.ROOT, 'examples/compiled/door.' + kind) for kind in ('chart', 'code', 'events')}
         for file, kind in (('c', 'chart'), ('k', 'code'), ('e', 'events')):
             with open(door[kind], 'rb') as sample:
                 self.program.write(file, sample.read())
+        self.program.write('n', b'flownet 1\ncharts 2\nc c c\nc d c\nroutes 0\nend\n')
         for _ in range(10):
             words = random_words(choices)
             plain = asked(words)
@@ -407,12 +506,12 @@ class Soak:
             if plain and plain[0] == 'selftest':
                 continue
             memory = 512 * MIB if self.program.limited else None
-            self.program.nothing_fails = False
+            self.program.may_fail = (4, 5, 6)
             command = plain[0] if plain else None
             got = self.program.call([os.fsencode(word.encode('utf-8', 'surrogateescape')) for word in words], memory, command)
             if plain:
                 self.differ(name, differences('%s %r' % (name, words), self.program.call(plain, memory, command), got))
-            self.program.nothing_fails = True
+            self.program.may_fail = ()
 
     # ---- the summary
 

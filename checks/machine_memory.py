@@ -1,5 +1,5 @@
 #!/usr/bin/env python3
-r"""Counts the requests for memory of `exec` while its machine runs, and demands that there is none.
+r"""Counts the requests for memory of `exec` and `net` while their machines run, and demands that there is none.
 
     python3 checks/machine_memory.py --against PROGRAM
 
@@ -13,6 +13,10 @@ times; no request may be made there. Before that the event file is opened, which
 The start. Two codes differ in the first value of one flag alone: by it the start does nothing, or takes thousands of steps
 through junctions, broadcasts, outputs and assignments. Up to the first piece of the trace, which begins with the line of the start,
 both make as many requests.
+
+Nets. The same holds of a net of charts: its machines and queues are there before the first line. In its run three queues are filled up
+to 1,024 items and emptied, again and again, and it ends with its schedule, or with a queue that is full or empty. Of the two starts one
+sends hundreds of items.
 
 `rules` over the same files is to make requests while it runs, so that the count is seen to count. The counts are
 written, and then a line for each demand that isn't met; the status is 1 where there is such a line."""
@@ -96,6 +100,43 @@ BUSY = '''chart Busy {
 }
 '''
 
+# The first chart sends to the second, that to the third, and the third to itself.
+QUEUES = '''flownet 1
+charts 3
+c first first
+c second other
+c third other
+routes 3
+r 0 UP 1 IN 1024 v x
+r 1 ON 2 IN 1024 w x
+r 2 ON 2 AGAIN 1024 w x
+end
+'''
+QUEUE_CHARTS = {'first': '''chart First {
+  event input GO; event local L; event output UP; input level : int16; output v : int16 wrap;
+  default -> A;
+  state A and {
+    state P { default -> X; state X { outer GO { v = v + level; send L; } -> Y; } state Y { outer GO -> X; } }
+    state Q { during { emit UP; } inner L -> R; default -> R; state R { exit { v = v + 1; } } }
+  }
+}
+''', 'other': '''chart Other {
+  event input IN; event input AGAIN; event output ON; input x : int16; output w : int16;
+  default -> A; state A { outer IN { w = x; emit ON; } -> A; outer AGAIN -> A; }
+}
+'''}
+ROUND = b''.join(b'ev first tick level=%d\n' % (n % 300) for n in range(1024)) + b''.join(b'take %d\n' % at * 1024 for at in range(3))
+SCHEDULES = {'': ROUND * 3, ' full': ROUND * 2 + b'ev first tick\n' * 1025, ' empty': ROUND + b'take 2\n'}
+# The start of the first chart sends each time that it goes round.
+START = '''flownet 1
+charts 2
+c busy %s
+c other other
+routes 1
+r 0 OUT 1 IN 1024 - -
+end
+'''
+
 
 class Notes(NamedTuple):
     """How many pieces of a trace were written, and how many requests were made before the first, the second and the last."""
@@ -153,9 +194,14 @@ def samples():
 def events_take_nothing(counter, name):
     """What is wrong with the requests between the pieces of a trace; a run with a fault ends early and counts as any other."""
     counter.compile(name)
-    answer, notes = counter.call('exec', name + '.code', name + '.events')
-    print('%-12s exec   %s, %6d lines in %4d pieces, requests %d, %d, %d'
-          % (name, status_text(answer), answer.out.count('\n'), *notes))
+    return nothing_while_it_runs(counter, name, 'exec', name + '.code', name + '.events')
+
+
+def nothing_while_it_runs(counter, name, *words):
+    """What is wrong with the requests of a command between the pieces of its trace."""
+    answer, notes = counter.call(*words)
+    print('%-12s %-6s %s, %6d lines in %4d pieces, requests %d, %d, %d'
+          % (name, words[0], status_text(answer), answer.out.count('\n'), *notes))
     if notes.pieces < 3:
         return ['%s: %d pieces of a trace, which are too few' % (name, notes.pieces)]
     return [] if notes.last == notes.second else ['%s: %d requests while the machine runs' % (name, notes.last - notes.second)]
@@ -175,6 +221,34 @@ def a_start_takes_nothing(counter):
         lengths.append(len(answer.out))
     wrong = [] if lengths[1] > 2 * lengths[0] else ['the start that works puts out no more than the other']
     return wrong + ([] if befores[0] == befores[1] else ['a start: %d requests more' % (befores[1] - befores[0])])
+
+
+def nets_take_nothing(counter):
+    """What is wrong with the requests between the pieces of a trace of a net, which ends in each way."""
+    counter.put('queues', QUEUES.encode())
+    for name, chart in QUEUE_CHARTS.items():
+        counter.put(name, chart.encode())
+    wrong = []
+    for name, schedule in SCHEDULES.items():
+        counter.put('schedule', schedule)
+        wrong += nothing_while_it_runs(counter, 'queues' + name, 'net', 'queues', 'schedule')
+    return wrong
+
+
+def starts_of_nets_take_nothing(counter):
+    """What is wrong with the requests before the first line of two nets, of whose starts one does nothing."""
+    befores, lengths = [], []
+    for name, busy in (('idle', 'false'), ('work', 'true ')):
+        counter.put(name, (BUSY % busy).replace('2400', '400').encode())
+        counter.put(name + '.net', (START % name).encode())
+        answer, notes = counter.call('net', name + '.net', 'none.events')
+        print('%-12s net    %s, requests before the starts are written %d' % (name, status_text(answer), notes.first))
+        if answer.status != 0:
+            return ['%s in a net: %s' % (name, status_text(answer))]
+        befores.append(notes.first)
+        lengths.append(len(answer.out))
+    wrong = [] if lengths[1] > 2 * lengths[0] else ['the start in a net that works puts out no more than the other']
+    return wrong + ([] if befores[0] == befores[1] else ['a start in a net: %d requests more' % (befores[1] - befores[0])])
 
 
 def rules_take_some(counter):
@@ -198,6 +272,7 @@ def main():
             counter.put(name + '.events', events)
             wrong += events_take_nothing(counter, name)
         wrong += a_start_takes_nothing(counter) + rules_take_some(counter)
+        wrong += nets_take_nothing(counter) + starts_of_nets_take_nothing(counter)
     for line in wrong:
         print(line)
     return 1 if wrong else 0

@@ -14,9 +14,9 @@ The start. Two codes differ in the first value of one flag alone: by it the star
 through junctions, broadcasts, outputs and assignments. Up to the first piece of the trace, which begins with the line of the start,
 both make as many requests.
 
-Nets. The same holds of a net of charts: its machines and queues are there before the first line. In its run three queues are filled up
-to 1,024 items and emptied, again and again, and it ends with its schedule, or with a queue that is full or empty. Of the two starts one
-sends hundreds of items.
+Nets. The same holds of a net of charts: its machines and queues are there before the first line. In its run three queues are
+filled up to 1,024 items and emptied, again and again, and it ends with its schedule, or with a queue that is full or empty. Of the
+two starts one sends hundreds of items.
 
 `rules` over the same files is to make requests while it runs, so that the count is seen to count. The counts are
 written, and then a line for each demand that isn't met; the status is 1 where there is such a line."""
@@ -125,7 +125,7 @@ QUEUE_CHARTS = {'first': '''chart First {
   default -> A; state A { outer IN { w = x; emit ON; } -> A; outer AGAIN -> A; }
 }
 '''}
-ROUND = b''.join(b'ev first tick level=%d\n' % (n % 300) for n in range(1024)) + b''.join(b'take %d\n' % at * 1024 for at in range(3))
+ROUND = b''.join([b'ev first tick level=%d\n' % (n % 300) for n in range(1024)] + [b'take %d\n' % at * 1024 for at in range(3)])
 SCHEDULES = {'': ROUND * 3, ' full': ROUND * 2 + b'ev first tick\n' * 1025, ' empty': ROUND + b'take 2\n'}
 # The start of the first chart sends each time that it goes round.
 START = '''flownet 1

@@ -1,9 +1,9 @@
-"""Whether a trace of `net` keeps the law of nets, by the texts of the net and the schedule and by the trace alone, as docs/NETS.md has
-it in words. No chart is read or run here: what each chart took is told as an event file, over which a command is to write the same
-lines of that chart alone.
+"""Whether a trace of `net` keeps the law of nets, as docs/NETS.md has it in words, by the texts of the net and the schedule and by
+the trace alone. No chart is read or run here: what each chart took is told as an event file, over which a command is to write the
+same lines of that chart alone.
 
-`law_of` wants a net text that wasn't refused. A chart doesn't set its inputs, so the value that a chart took of a route stands in its
-line of the trace."""
+`law_of` wants a net text that wasn't refused. A chart doesn't set its inputs, so the value that a chart took of a route stands in
+its line of the trace."""
 from collections import deque
 from typing import NamedTuple
 

@@ -23,11 +23,10 @@ again. It is one of these:
                     of chart_rules.py and code_machine.py; all else has the answer of the same words in the plainest form.
 
 For one case in ten, of charts one in twenty, the references chart_check.py, chart_rules.py, code_text.py, code_machine.py and
-nets.py must answer alike. Each answer of each call must be one that answers.py allows. A call may use L seconds of processor time, 60
-where nothing is said, and so much memory: 32 MiB, 400 bytes for each byte of a chart and 64 for each byte of a code text, and
-for `exec`, `run` and each chart of a net room for the frames of its bounds, (steps + 1) * (height + 1) * 32 bytes, where the height is
-200 or 87. A
-program that can't begin with 1 GiB, such as one built with a sanitizer, runs without that limit.
+nets.py must answer alike. Each answer of each call must be one that answers.py allows. A call may use L seconds of processor
+time, 60 where nothing is said, and so much memory: 32 MiB, 400 bytes for each byte of a chart and 64 for each byte of a code text,
+and for `exec`, `run` and each chart of a net room for the frames of its bounds, (steps + 1) * (height + 1) * 32 bytes, where the
+height is 200 or 87. A program that can't begin with 1 GiB, such as one built with a sanitizer, runs without that limit.
 
 A line is written for each difference, whose files are kept in FOLDER, and at the end a summary. The status is 1 where anything
 differed."""
@@ -221,7 +220,8 @@ def changed(choices, data, other):
 # ---- words
 
 def pieces_of_words(choices):
-    numbers = ['0', '1', '3', '8', '32', '33', '2500', '2501', '50000', '50001', '+5', '-5', '007', '', 'x', '1e3', '٣', '99999999999999999999']
+    numbers = ['0', '1', '3', '8', '32', '33', '2500', '2501', '50000', '50001', '+5', '-5', '007', '', 'x', '1e3', '٣',
+               '99999999999999999999']
     number = choices.choice(numbers)
     return choices.choice([['c'], ['c'], ['k'], ['n'], ['e'], ['e'], ['e'], ['nothing'], [''], ['-'], ['--'], ['--depth', number],
                            ['--depth=' + number], ['--steps', number], ['--steps=' + number], ['--depth'], ['--steps='],
@@ -488,8 +488,8 @@ class Soak:
             file = 'code'
             program.write(file, program.run('compile', chart.file).out.encode('latin-1'))
         index, *_, result = chart.lines[-1].rstrip('\n').split(' ', 5)
-        expected = Ended(''.join(chart.lines), '' if result == 'ok' else 'run %s: %s\n' % (index, result), 0 if result == 'ok' else 3)
-        return differences('%s: %s alone by %s' % (name, chart.name, command), expected,
+        error, status = ('', 0) if result == 'ok' else ('run %s: %s\n' % (index, result), 3)
+        return differences('%s: %s alone by %s' % (name, chart.name, command), Ended(''.join(chart.lines), error, status),
                            program.run(command, file, 'events', options=options))
 
     def words_case(self, name, number, choices):

@@ -9,6 +9,7 @@ steps of each event. A row has how many instructions of code an event takes, how
 where callgrind is installed, and the peak memory of `exec`. The codes of the second table are long texts, of 16 and of 64 MiB: a
 row has their bytes, and the seconds of processor time and the peak memory of `exec` over an event file without lines, of
 `upgrade` and of `shrink`. It makes its files in a temporary folder, and is no test: how fast a program is has no limit."""
+import multiprocessing
 import os
 import sys
 import tempfile
@@ -119,8 +120,14 @@ def lines_text(lines):
     return ''.join(line + '\n' for line in lines)
 
 
+def write_text(kind, size, folder):
+    return write(folder, 'code', lines_text(repeated(kind, size * MIB)))
+
+
 def text_row(program, kind, size, folder):
-    length = write(folder, 'code', lines_text(repeated(kind, size * MIB)))
+    """The row of a long text."""
+    with multiprocessing.Pool(1) as pool:                           # so that this process stays small
+        length = pool.apply(write_text, (kind, size, folder))
     write(folder, 'events', '')
     columns = ['`%s`' % kind, '{:,}'.format(length)]
     for words in (['exec', 'code', 'events'], ['upgrade', 'code'], ['shrink', 'code']):

@@ -118,7 +118,8 @@ def chain():
 def events():
     """4,096 junctions in a chain, through which each of 1,000 input events goes, and 999 states more."""
     yield 'chart C or {'
-    yield from ('event input E%d;' % place for place in range(1000))
+    yield 'event input GO;'
+    yield from ('event input E%d;' % place for place in range(1, 1000))
     yield 'default -> S0;'
     for place in range(JUNCTIONS):
         to = '@j%d' % (place + 1) if place + 1 < JUNCTIONS else 'S0'

@@ -1,0 +1,909 @@
+#!/usr/bin/env python3
+r"""The subset of C that docs/C_SUBSET.md defines, read and run by the words of that page alone.
+
+    python3 checks/c_subset.py [--int W] [--fuel N] FILE DEED ..
+    python3 checks/c_subset.py --table [--check] < checks/c_table.txt
+
+FILE is a file of C in the grammar of the page. Anything else is refused, with the line. The deeds are done one after the other, with
+one struct, in which nothing has a value at first. They are
+
+    f(1, -2)      calls the function, with m where it has that parameter, and writes `f(1, -2) = 7`
+    f=3           gives the field a value of its type; so does a[2]=3 with an element
+    show          writes each member of the struct with what it has, such as `f = 3`, `g = unset` and `a = 0 unset 5`
+
+What has no rule on the page ends the run: `Wrong in line L: ` and the rule, with the clause of C99. A call that needs more fuel than
+N ends it with `without fuel`, and one that needs too many calls and turns with `no end in N calls and turns`. `int` has W bits, 16,
+32 or 64, and 32 where nothing is said. The status is 0 where all deeds were done, 1 where the run ended before, 2 where the file or a
+deed is refused.
+
+Where the page leaves something open, this is how it is read here
+    Spelling: an operand is a local, `m->f`, `m->a[e]`, a constant `(T)C`, or stands in parentheses, which may stand around any
+    operand. Comments `/* .. */`, spaces and line feeds may stand between words. There is no backslash and no `??` in a file.
+    The file begins with `#include <stdint.h>` and `#include <stdbool.h>`, of which the first alone does where `bool` isn't used,
+    and then `__extension__ typedef __int128 flow_wide;` where it is. The struct has a name, at least one member, and each array has
+    at least one element. Two functions, two members and two locals of a function have different names, no local has the name of a
+    function, and none of them is a word of C or begins with `_`. A prototype is the head of its function with `;`.
+    Constants: C is 0 or has no 0 in front; it is followed by `u` where T has no sign, and may be so where T is `bool`. Without `u` it
+    is below 2^63, with it below 2^64. A negative one has no `u`, may stand in parentheses, and -2^63 is `(-9223372036854775807 - 1)`.
+    Labels: labels are written as C, with or without `u`. Where the type of e is known, no two labels are the same in its
+    promoted type. A label after the one that equals the value isn't brought to the type.
+    Fuel: a `while` whose e is 0 ends, also after as many turns as there are.
+
+A table has the form of tables.py, in blocks, with the parts
+
+    int W, fuel N     for this block
+    struct MEMBERS    the members of the struct, on one line; `int8_t f;` where nothing is said
+    function TEXT     a function on one line; the prototypes are made of these
+    line TEXT         a line of the file; such lines stand for the whole file, and then there is no struct and no function
+    wide              the file has the line that names flow_wide
+    do DEED           a deed
+    e EXPRESSION      an expression over the struct, whose value and type are the answer
+
+The answer is what is written."""
+import re
+import sys
+from collections import namedtuple
+
+import tables
+from programs import parser
+
+USUAL_INT, USUAL_FUEL = 32, 100000
+MOST_WORK = 20000000                # calls and turns of one run
+DEEPEST = 1000000                   # calls of Python in one another
+OPENING = ['#include <stdint.h>', '#include <stdbool.h>']
+WIDE_LINE = '__extension__ typedef __int128 flow_wide;'
+
+Type = namedtuple('Type', 'kind bits')                       # the kind is 'signed', 'unsigned' or 'bool'
+Value = namedtuple('Value', 'number type')
+BOOL = Type('bool', 1)
+TYPES = {'bool': BOOL, 'flow_wide': Type('signed', 128)}
+TYPES.update(('int%d_t' % bits, Type('signed', bits)) for bits in (8, 16, 32, 64))
+TYPES.update(('uint%d_t' % bits, Type('unsigned', bits)) for bits in (8, 16, 32, 64))
+NAMES = {each: name for name, each in TYPES.items()}
+
+# expressions
+Constant = namedtuple('Constant', 'type number')
+Local = namedtuple('Local', 'name')
+Field = namedtuple('Field', 'name')
+Element = namedtuple('Element', 'array index')
+Cast = namedtuple('Cast', 'type part')
+Negative = namedtuple('Negative', 'part')
+Not = namedtuple('Not', 'part')
+Binary = namedtuple('Binary', 'mark left right')
+Choice = namedtuple('Choice', 'test type yes no')
+
+# statements, each with its line
+SetLocal = namedtuple('SetLocal', 'line local value')
+SetField = namedtuple('SetField', 'line name value')
+SetElement = namedtuple('SetElement', 'line array index value')
+Call = namedtuple('Call', 'line local function with_m arguments')
+Switch = namedtuple('Switch', 'line value cases')            # the cases are pairs of a label and a call
+If = namedtuple('If', 'line test yes no')
+While = namedtuple('While', 'line test body')
+Return = namedtuple('Return', 'line value')
+
+# A function: its head as it is written, its parameters as names in their order, and its locals with their types, the parameters among them.
+Function = namedtuple('Function', 'head type name with_m parameters locals body')
+File = namedtuple('File', 'fields arrays functions')         # the types of fields, types and lengths of arrays, functions by name
+
+
+class Refused(Exception):
+    """The file or a deed isn't one that the page allows."""
+
+    def __init__(self, line, reason):
+        super().__init__(line, reason)
+        self.text = 'refused in line %d: %s' % (line, reason) if line else 'refused: ' + reason
+
+
+class Wrong(Exception):
+    """The run came to something for which the page has no rule."""
+
+    def __init__(self, rule):
+        super().__init__(rule)
+        self.rule, self.line = rule, None
+
+
+class NoFuel(Exception):
+    """A call or a turn had no fuel."""
+
+
+class Late(Exception):
+    """The run takes too many calls and turns for this program."""
+
+
+# ---- types and conversions
+
+def holds(type_, number):
+    """Whether a number is one of the type."""
+    if type_.kind == 'signed':
+        return -2 ** (type_.bits - 1) <= number < 2 ** (type_.bits - 1)
+    return 0 <= number < 2 ** type_.bits
+
+
+def brought(number, type_):
+    """What a number is in a type: 6.3.1.2 and 6.3.1.3."""
+    if type_.kind == 'bool':
+        return 0 if number == 0 else 1
+    if type_.kind == 'unsigned':
+        return number % 2 ** type_.bits
+    if not holds(type_, number):
+        raise Wrong('a value that is not one of %s is brought to it (6.3.1.3 p3)' % NAMES[type_])
+    return number
+
+
+def result(number, type_, what):
+    """The exact result of arithmetic in a type, reduced where it is unsigned."""
+    if type_.kind == 'unsigned':
+        return Value(number % 2 ** type_.bits, type_)
+    if not holds(type_, number):
+        raise Wrong('%s is not one of %s (6.5 p5)' % (what, NAMES[type_]))
+    return Value(number, type_)
+
+
+class Widths:
+    """What depends on how many bits `int` has."""
+
+    def __init__(self, int_bits):
+        self.int = Type('signed', int_bits)
+
+    def promoted(self, type_):
+        """The promoted type: 6.3.1.1 p2."""
+        return self.int if type_.kind == 'bool' or type_.bits < self.int.bits else type_
+
+    def common(self, left, right):
+        """The type of the usual arithmetic conversions: 6.3.1.8 p1."""
+        left, right = self.promoted(left), self.promoted(right)
+        if left.kind == right.kind:
+            return max(left, right, key=lambda each: each.bits)
+        signed, unsigned = (left, right) if left.kind == 'signed' else (right, left)
+        return unsigned if unsigned.bits >= signed.bits else signed
+
+
+def known_type(e, file, locals_, widths):
+    """The type of an expression, or None where it has a field or an array that isn't there."""
+    if isinstance(e, (Constant, Cast)):
+        return e.type
+    if isinstance(e, Local):
+        return locals_[e.name]
+    if isinstance(e, Field):
+        return file.fields.get(e.name)
+    if isinstance(e, Element):
+        return file.arrays.get(e.array, (None, 0))[0]
+    if isinstance(e, Choice):
+        return widths.promoted(e.type)
+    if isinstance(e, Negative):
+        part = known_type(e.part, file, locals_, widths)
+        return part and widths.promoted(part)
+    if isinstance(e, Not) or e.mark not in '+-*/%&|':
+        return widths.int
+    left, right = (known_type(each, file, locals_, widths) for each in (e.left, e.right))
+    return left and right and widths.common(left, right)
+
+
+# ---- words
+
+TOKEN = re.compile(r'''
+    (?P<space>[ \n]+|/\*.*?\*/)
+  | (?P<include>\#include\ <[a-z]+\.h>(?=\n))
+  | (?P<name>[A-Za-z_][A-Za-z_0-9]*)
+  | (?P<number>(?:0|[1-9][0-9]*)u?(?![A-Za-z_0-9.]))
+  | (?P<mark>->|\+\+|--|<<|>>|<=|>=|==|!=|&&|\|\||//|[-+*/%&|<>=!?:;,(){}\[\]])''', re.S | re.X)
+Token = namedtuple('Token', 'kind text line')
+KEYWORDS = set('''auto break case char const continue default do double else enum extern float for goto if inline int long register
+    restrict return short signed sizeof static struct switch typedef union unsigned void volatile while true false m'''.split())
+MARKS = '+ - * / % & | == != < <= > >= && ||'.split()
+
+
+def tokens(text):
+    """The words of a file, without spaces and comments, and with an empty one at the end."""
+    found, place, line = [], 0, 1
+    for strange in ('\\', '??'):
+        if strange in text:
+            raise Refused(text[:text.index(strange)].count('\n') + 1, 'no word has ' + strange)
+    while place < len(text):
+        match = TOKEN.match(text, place)
+        if match is None:
+            raise Refused(line, 'no word begins with %r' % text[place:place + 8])
+        if match.lastgroup != 'space':
+            found.append(Token(match.lastgroup, match[0], line))
+        line += match[0].count('\n')
+        place = match.end()
+    return found + [Token('end', 'the end', line)]
+
+
+class Reader:
+    """Reads a file in the grammar of the page."""
+
+    def __init__(self, text, int_bits):
+        self.tokens, self.place, self.widths = tokens(text), 0, Widths(int_bits)
+        self.types, self.file, self.struct = {}, File({}, {}, {}), None
+        self.prototypes, self.locals, self.with_m = {}, {}, False
+
+    # -- single words
+
+    def line(self):
+        return self.tokens[self.place].line
+
+    def ahead(self, *texts):
+        """Whether these words come next."""
+        return [each.text for each in self.tokens[self.place:self.place + len(texts)]] == list(texts)
+
+    def refuse(self, reason):
+        raise Refused(self.line(), reason)
+
+    def next(self, kind, what):
+        """The next word, which must be of this kind."""
+        token = self.tokens[self.place]
+        if token.kind != kind:
+            self.refuse('%s is wanted, not `%s`' % (what, token.text))
+        self.place += 1
+        return token.text
+
+    def take(self, text):
+        """Goes past these words, where they come next."""
+        words = text.split()
+        if not self.ahead(*words):
+            return False
+        self.place += len(words)
+        return True
+
+    def want(self, text):
+        """Goes past words that must come next."""
+        for word in text.split():
+            if not self.take(word):
+                self.refuse('`%s` is wanted, not `%s`' % (word, self.tokens[self.place].text))
+
+    def new_name(self, taken, what):
+        """A name that isn't a word of C and isn't taken."""
+        name = self.next('name', 'the name of a ' + what)
+        if name in KEYWORDS or name in TYPES or name.startswith('_'):
+            self.refuse('`%s` cannot be a name' % name)
+        if name in taken:
+            self.refuse('the name `%s` is taken' % name)
+        return name
+
+    def type_ahead(self):
+        return self.tokens[self.place].text in TYPES
+
+    def type(self):
+        name = self.next('name', 'a type')
+        if name not in self.types:
+            self.refuse('`%s` is no type of this file' % name)
+        return TYPES[name]
+
+    def count(self):
+        text = self.next('number', 'a number of elements')
+        if text.endswith('u') or text == '0':
+            self.refuse('an array has at least one element, and no `u`')
+        return int(text)
+
+    # -- the file
+
+    def whole_file(self):
+        self.opening()
+        self.members()
+        while self.ahead('static'):
+            head = self.head()
+            if not self.take(';'):
+                self.function(head)
+            elif self.file.functions:
+                self.refuse('prototypes stand before all functions')
+            elif head.name in self.prototypes:
+                self.refuse('a function has one prototype')
+            else:
+                self.prototypes[head.name] = head
+        if self.tokens[self.place].kind != 'end':
+            self.refuse('a function is wanted, not `%s`' % self.tokens[self.place].text)
+        for name in self.prototypes:
+            if name not in self.file.functions:
+                self.refuse('there is no function `%s`' % name)
+        return self.file
+
+    def opening(self):
+        """The lines in front of the struct."""
+        included = []
+        while self.tokens[self.place].kind == 'include':
+            included.append(self.next('include', 'a header'))
+        if included not in (OPENING, OPENING[:1]):
+            self.refuse('a file begins with ' + ' and '.join(OPENING))
+        self.types = set(TYPES) - {'flow_wide'} - ({'bool'} if len(included) == 1 else set())
+        if self.take('__extension__ typedef __int128 flow_wide ;'):
+            self.types.add('flow_wide')
+
+    def members(self):
+        self.want('struct')
+        self.struct = self.new_name((), 'struct')
+        self.want('{')
+        while not self.take('}'):
+            type_ = self.type()
+            name = self.new_name({**self.file.fields, **self.file.arrays}, 'member')
+            if self.take('['):
+                self.file.arrays[name] = type_, self.count()
+                self.want(']')
+            else:
+                self.file.fields[name] = type_
+            self.want(';')
+        self.want(';')
+        if not self.file.fields and not self.file.arrays:
+            self.refuse('the struct has no member')
+
+    def head(self):
+        """A function without its body."""
+        begin = self.place
+        self.want('static')
+        type_ = self.type()
+        name = self.new_name(self.file.functions, 'function')
+        self.want('(')
+        with_m, parameters = self.take('struct %s * m' % self.struct), {}
+        while not self.ahead(')'):
+            if with_m or parameters:
+                self.want(',')
+            parameter_type = self.type()
+            parameters[self.new_name(parameters, 'parameter')] = parameter_type
+        if not with_m and not parameters:
+            self.refuse('a function has a parameter')
+        self.want(')')
+        return Function([each.text for each in self.tokens[begin:self.place]], type_, name, with_m, list(parameters), parameters, [])
+
+    def function(self, head):
+        if head.name not in self.prototypes or self.prototypes[head.name].head != head.head:
+            self.refuse('the prototype of `%s` is missing or another one' % head.name)
+        self.locals, self.with_m = dict(head.locals), head.with_m
+        self.want('{')
+        while self.type_ahead():
+            type_ = self.type()
+            self.locals[self.new_name(self.locals, 'local')] = type_
+            self.want(';')
+        for name in self.locals:
+            if name in self.prototypes:
+                self.refuse('the local `%s` has the name of a function' % name)
+        body = self.statements()
+        self.file.functions[head.name] = head._replace(locals=self.locals, body=body)
+
+    # -- statements
+
+    def statements(self):
+        """Statements up to the end of a block, and that end."""
+        found = []
+        while not self.take('}'):
+            found.append(self.statement())
+        return found
+
+    def statement(self):
+        line = self.line()
+        for word, rest in (('if', self.if_), ('while', self.while_), ('switch', self.switch), ('return', self.return_)):
+            if self.take(word):
+                return rest(line)
+        if self.take('m ->'):
+            return self.store(line)
+        local = self.local()
+        self.want('=')
+        if self.tokens[self.place].kind == 'name' and self.tokens[self.place + 1].text == '(':
+            return self.call(line, local)
+        value = self.expression()
+        self.want(';')
+        return SetLocal(line, local, value)
+
+    def local(self):
+        name = self.next('name', 'a statement or the name of a local')
+        if name not in self.locals:
+            self.refuse('there is no local `%s`' % name)
+        return name
+
+    def member(self):
+        if not self.with_m:
+            self.refuse('this function has no parameter m')
+        return self.next('name', 'the name of a member')
+
+    def store(self, line):
+        name, index = self.member(), None
+        if self.take('['):
+            index = self.expression()
+            self.want(']')
+        self.want('=')
+        value = self.expression()
+        self.want(';')
+        return SetField(line, name, value) if index is None else SetElement(line, name, index, value)
+
+    def call(self, line, local):
+        """A call up to its `;`."""
+        function, arguments = self.next('name', 'the name of a function'), []
+        self.want('(')
+        with_m = self.take('m')
+        if with_m and not self.with_m:
+            self.refuse('this function has no parameter m')
+        while not self.take(')'):
+            if with_m or arguments:
+                self.want(',')
+            arguments.append(self.expression())
+        self.want(';')
+        called = self.prototypes.get(function)
+        if called and called.with_m != with_m:
+            self.refuse('`%s` %s' % (function, 'has m as its first argument' if called.with_m else 'has no parameter m'))
+        return Call(line, local, function, with_m, arguments)
+
+    def in_parentheses(self):
+        self.want('(')
+        e = self.expression()
+        self.want(')')
+        return e
+
+    def if_(self, line):
+        test = self.in_parentheses()
+        self.want('{')
+        yes, no = self.statements(), []
+        if self.take('else'):
+            self.want('{')
+            no = self.statements()
+        return If(line, test, yes, no)
+
+    def while_(self, line):
+        test = self.in_parentheses()
+        self.want('{')
+        return While(line, test, self.statements())
+
+    def return_(self, line):
+        value = self.expression()
+        self.want(';')
+        return Return(line, value)
+
+    def switch(self, line):
+        value, cases = self.in_parentheses(), []
+        self.want('{')
+        while self.take('case'):
+            label = self.number(None)
+            self.want(':')
+            case_line, local = self.line(), self.local()
+            self.want('=')
+            cases.append((label, self.call(case_line, local)))
+            self.want('break ;')
+        self.want('default : break ; }')
+        self.demand_cases(value, cases)
+        return Switch(line, value, cases)
+
+    def demand_cases(self, value, cases):
+        """Refuses cases that set different locals, pass different arguments, or have the same label."""
+        same = [call._replace(line=0, function='') for _, call in cases]
+        if any(each != same[0] for each in same):
+            self.refuse('all cases of a switch set the same local and pass the same arguments')
+        type_ = known_type(value, self.file, self.locals, self.widths)
+        promoted = type_ and self.widths.promoted(type_)
+        unsigned = promoted and promoted.kind == 'unsigned'
+        labels = [label % 2 ** promoted.bits if unsigned else label for label, _ in cases]
+        if len(set(labels)) < len(labels):
+            self.refuse('two labels of a switch are the same')
+
+    # -- expressions
+
+    def expression(self):
+        e, is_operand = self.part()
+        mark = self.tokens[self.place].text
+        if mark not in MARKS and mark != '?':
+            return e
+        if not is_operand:
+            self.refuse('parentheses stand around an operand that is not a single word')
+        self.place += 1
+        if mark != '?':
+            return Binary(mark, e, self.operand())
+        type_, yes = self.arm()
+        self.want(':')
+        other, no = self.arm()
+        if other != type_:
+            self.refuse('the types after ? and : differ')
+        return Choice(e, type_, yes, no)
+
+    def arm(self):
+        """A type and the operand that is brought to it."""
+        self.want('(')
+        type_ = self.type()
+        self.want(')')
+        return type_, self.operand()
+
+    def operand(self):
+        e, is_operand = self.part()
+        if not is_operand:
+            self.refuse('parentheses stand around an operand that is not a single word')
+        return e
+
+    def part(self):
+        """An expression without an operator between two operands, and whether it is an operand."""
+        if self.take('-'):
+            return Negative(self.operand()), False
+        if self.take('!'):
+            return Not(self.operand()), False
+        if self.take('('):
+            if self.type_ahead():
+                return self.cast()
+            e = self.expression()
+            self.want(')')
+            return e, True
+        if self.take('m ->'):
+            return self.member_value(), True
+        return Local(self.local()), True
+
+    def member_value(self):
+        name = self.member()
+        if not self.take('['):
+            return Field(name)
+        index = self.expression()
+        self.want(']')
+        return Element(name, index)
+
+    def cast(self):
+        """What begins with a type in parentheses, of which the first is passed: a constant, or an expression brought to it."""
+        type_ = self.type()
+        self.want(')')
+        if self.number_ahead():
+            return Constant(type_, self.number(type_)), True
+        return Cast(type_, self.operand()), False
+
+    def number_ahead(self):
+        kinds = [each.kind for each in self.tokens[self.place:self.place + 3]]
+        return kinds[0] == 'number' or (self.ahead('-') and kinds[1] == 'number') or (self.ahead('(', '-') and kinds[2] == 'number')
+
+    def number(self, type_):
+        """A whole number as a constant of this type, or as a label."""
+        if self.take('( - 9223372036854775807 - 1 )'):
+            return -2 ** 63
+        if self.take('( -'):
+            number = -self.digits('signed')
+            self.want(')')
+            return number
+        if self.take('-'):
+            return -self.digits('signed')
+        return self.digits(type_ and type_.kind)
+
+    def digits(self, kind):
+        """A constant without sign, which has `u` where the kind wants it."""
+        text = self.next('number', 'a constant')
+        has_u = text.endswith('u')
+        if (kind == 'signed' and has_u) or (kind == 'unsigned' and not has_u):
+            self.refuse('a constant has `u` where its type has no sign, and only there')
+        number = int(text.rstrip('u'))
+        if number >= 2 ** (64 if has_u else 63):
+            self.refuse('a constant is too large for 64 bits')
+        return number
+
+
+def read(text, int_bits=USUAL_INT):
+    """The file of a text, a character for each byte."""
+    return Reader(text, int_bits).whole_file()
+
+
+def read_expression(text, file, types, int_bits):
+    """An expression over the struct of a file."""
+    reader = Reader(text, int_bits)
+    reader.file, reader.types, reader.with_m = file, types, True
+    e = reader.expression()
+    reader.next('end', 'the end')
+    return e
+
+
+# ---- running
+
+class Frame:
+    """A call that is going on: its function, what its locals have, and the fuel of its body."""
+
+    def __init__(self, function, fuel):
+        self.function, self.values, self.fuel = function, {}, fuel
+
+
+class Run:
+    """A file with its struct."""
+
+    def __init__(self, file, int_bits=USUAL_INT, most=MOST_WORK):
+        self.file, self.widths, self.work = file, Widths(int_bits), most
+        self.fields = dict.fromkeys(file.fields)                                  # None where nothing was stored
+        self.elements = {name: [None] * count for name, (_, count) in file.arrays.items()}
+
+    # -- expressions
+
+    def value(self, e, frame):
+        return VALUE[type(e)](self, e, frame)
+
+    def number(self, e, frame):
+        return self.value(e, frame).number
+
+    def constant(self, e, frame):
+        return Value(brought(e.number, e.type), e.type)
+
+    def local(self, e, frame):
+        if e.name not in frame.values:
+            raise Wrong('a local is read that was given no value (6.7.8 p10)')
+        return Value(frame.values[e.name], frame.function.locals[e.name])
+
+    def field(self, e, frame):
+        type_ = self.field_type(e.name)
+        if self.fields[e.name] is None:
+            raise Wrong('a field is read that was given no value (6.7.8 p10)')
+        return Value(self.fields[e.name], type_)
+
+    def field_type(self, name):
+        if name not in self.file.fields:
+            raise Wrong('there is no such field (6.5.2.3 p2)')
+        return self.file.fields[name]
+
+    def element(self, e, frame):
+        type_, place = self.place(e, frame)
+        if self.elements[e.array][place] is None:
+            raise Wrong('an element is read that was given no value (6.7.8 p10)')
+        return Value(self.elements[e.array][place], type_)
+
+    def place(self, e, frame):
+        """The type of an array and the place of the element that is named."""
+        index = self.number(e.index, frame)
+        if e.array not in self.file.arrays:
+            raise Wrong('there is no such array (6.5.2.3 p2)')
+        type_, count = self.file.arrays[e.array]
+        if not 0 <= index < count:
+            raise Wrong('an index is outside of its array (6.5.6 p8)')
+        return type_, index
+
+    def cast(self, e, frame):
+        return Value(brought(self.number(e.part, frame), e.type), e.type)
+
+    def negative(self, e, frame):
+        number, type_ = self.value(e.part, frame)
+        type_ = self.widths.promoted(type_)
+        return result(-brought(number, type_), type_, 'a negative')
+
+    def not_(self, e, frame):
+        return self.truth(self.number(e.part, frame) == 0)
+
+    def truth(self, condition):
+        return Value(1 if condition else 0, self.widths.int)
+
+    def choice(self, e, frame):
+        chosen = e.yes if self.number(e.test, frame) != 0 else e.no
+        number = brought(self.number(chosen, frame), e.type)
+        type_ = self.widths.promoted(e.type)
+        return Value(brought(number, type_), type_)
+
+    def binary(self, e, frame):
+        if e.mark in ('&&', '||'):
+            return self.shortened(e, frame)
+        left, right = self.value(e.left, frame), self.value(e.right, frame)
+        type_ = self.widths.common(left.type, right.type)
+        return self.operation(e.mark, brought(left.number, type_), brought(right.number, type_), type_)
+
+    def shortened(self, e, frame):
+        """`&&` and `||`, which don't evaluate the right operand where the left one tells the value."""
+        left = self.number(e.left, frame) != 0
+        if left == (e.mark == '||'):
+            return self.truth(left)
+        return self.truth(self.number(e.right, frame) != 0)
+
+    def operation(self, mark, a, b, type_):
+        """An operator on two numbers of the common type."""
+        if mark in COMPARE:
+            return self.truth(COMPARE[mark](a, b))
+        if mark in ARITHMETIC:
+            what, of = ARITHMETIC[mark]
+            return result(of(a, b), type_, what)
+        if mark in '/%':
+            return division(mark, a, b, type_)
+        if type_.kind != 'unsigned':
+            raise Wrong('& and | of a signed type (6.5 p4)')
+        return Value(a & b if mark == '&' else a | b, type_)
+
+    # -- statements: each gives None where it ends after its last part, and the value where it returned
+
+    def all(self, statements, frame):
+        for statement in statements:
+            try:
+                returned = DO[type(statement)](self, statement, frame)
+            except Wrong as wrong:
+                wrong.line = wrong.line or statement.line
+                raise
+            if returned is not None:
+                return returned
+        return None
+
+    def set_local(self, s, frame):
+        frame.values[s.local] = brought(self.number(s.value, frame), frame.function.locals[s.local])
+
+    def set_field(self, s, frame):
+        number = self.number(s.value, frame)
+        self.fields[s.name] = brought(number, self.field_type(s.name))
+
+    def set_element(self, s, frame):
+        type_, place = self.place(s, frame)
+        self.elements[s.array][place] = brought(self.number(s.value, frame), type_)
+
+    def call(self, s, frame):
+        arguments = [self.number(each, frame) for each in s.arguments]
+        returned = self.called(s.function, arguments, frame.fuel)
+        frame.values[s.local] = brought(returned.number, frame.function.locals[s.local])
+
+    def switch(self, s, frame):
+        number, type_ = self.value(s.value, frame)
+        type_ = self.widths.promoted(type_)
+        for label, call in s.cases:
+            try:
+                is_this = brought(label, type_) == brought(number, type_)
+            except Wrong:
+                raise Wrong('a label is not one of %s (6.8.4.2 p5)' % NAMES[type_]) from None
+            if is_this:
+                return self.call(call, frame)
+        return None
+
+    def if_(self, s, frame):
+        return self.all(s.yes if self.number(s.test, frame) != 0 else s.no, frame)
+
+    def while_(self, s, frame):
+        turns = frame.fuel
+        while self.number(s.test, frame) != 0:
+            if turns == 0:
+                raise NoFuel
+            turns -= 1
+            self.count_work()
+            returned = self.all(s.body, frame)
+            if returned is not None:
+                return returned
+        return None
+
+    def return_(self, s, frame):
+        return Value(brought(self.number(s.value, frame), frame.function.type), frame.function.type)
+
+    # -- functions
+
+    def count_work(self):
+        self.work -= 1
+        if self.work < 0:
+            raise Late
+
+    def called(self, name, arguments, fuel):
+        """What a call returns, of these numbers."""
+        if fuel == 0:
+            raise NoFuel
+        self.count_work()
+        function = self.file.functions.get(name)
+        if function is None:
+            raise Wrong('there is no such function (6.5.1 p2)')
+        if len(arguments) != len(function.parameters):
+            raise Wrong('there are not as many arguments as parameters (6.5.2.2 p2)')
+        frame = Frame(function, fuel - 1)
+        for parameter, number in zip(function.parameters, arguments):
+            frame.values[parameter] = brought(number, function.locals[parameter])
+        returned = self.all(function.body, frame)
+        if returned is None:
+            raise Wrong('the body of `%s` ends without return (6.9.1 p12)' % name)
+        return returned
+
+    # -- deeds
+
+    def deed(self, text, fuel):
+        """Does a deed, and gives the lines that it writes."""
+        text = text.replace(' ', '')
+        call = re.fullmatch(r'(\w+)\(((?:-?[0-9]+(?:,-?[0-9]+)*)?)\)', text)
+        if call:
+            arguments = [int(each) for each in call[2].split(',') if each]
+            returned = self.called(call[1], arguments, fuel)
+            return ['%s(%s) = %d' % (call[1], ', '.join(map(str, arguments)), returned.number)]
+        stored = re.fullmatch(r'(\w+)(?:\[([0-9]+)\])?=(-?[0-9]+)', text)
+        if stored:
+            self.store(stored[1], stored[2] and int(stored[2]), int(stored[3]))
+            return []
+        if text != 'show':
+            raise Refused(0, 'no deed is `%s`' % text)
+        return self.shown()
+
+    def store(self, name, index, number):
+        """Gives a field, or the element with an index, a value that must be one of its type."""
+        type_, count = (self.file.fields.get(name), 0) if index is None else self.file.arrays.get(name, (None, 0))
+        if type_ is None or not holds(type_, number) or (index is not None and index >= count):
+            raise Refused(0, 'nothing named `%s` can be %d' % (name, number))
+        if index is None:
+            self.fields[name] = number
+        else:
+            self.elements[name][index] = number
+
+    def shown(self):
+        """A line for each member of the struct, fields first."""
+        members = [(name, [number]) for name, number in self.fields.items()] + list(self.elements.items())
+        return ['%s = %s' % (name, ' '.join('unset' if each is None else str(each) for each in numbers)) for name, numbers in members]
+
+
+def division(mark, a, b, type_):
+    """`/` and `%` in a type: 6.5.5 p5, p6."""
+    if b == 0:
+        raise Wrong('a division by 0 (6.5.5 p5)')
+    quotient = abs(a) // abs(b) * (1 if (a < 0) == (b < 0) else -1)
+    if not holds(type_, quotient):
+        raise Wrong('a quotient is not one of %s (6.5.5 p6)' % NAMES[type_])
+    return Value(quotient if mark == '/' else a - b * quotient, type_)
+
+
+COMPARE = {'==': lambda a, b: a == b, '!=': lambda a, b: a != b, '<': lambda a, b: a < b,
+           '<=': lambda a, b: a <= b, '>': lambda a, b: a > b, '>=': lambda a, b: a >= b}
+ARITHMETIC = {'+': ('a sum', lambda a, b: a + b), '-': ('a difference', lambda a, b: a - b), '*': ('a product', lambda a, b: a * b)}
+VALUE = {Constant: Run.constant, Local: Run.local, Field: Run.field, Element: Run.element, Cast: Run.cast,
+         Negative: Run.negative, Not: Run.not_, Binary: Run.binary, Choice: Run.choice}
+DO = {SetLocal: Run.set_local, SetField: Run.set_field, SetElement: Run.set_element, Call: Run.call,
+      Switch: Run.switch, If: Run.if_, While: Run.while_, Return: Run.return_}
+
+
+def ending(wrong):
+    """The line that a run ends with."""
+    if isinstance(wrong, Wrong):
+        return 'Wrong%s: %s' % (' in line %d' % wrong.line if wrong.line else '', wrong.rule)
+    if isinstance(wrong, Refused):
+        return wrong.text
+    if isinstance(wrong, NoFuel):
+        return 'without fuel'
+    if isinstance(wrong, Late):
+        return 'no end in %d calls and turns' % MOST_WORK
+    return 'too deep for this program'
+
+
+ENDINGS = Wrong, Refused, NoFuel, Late, RecursionError
+
+
+# ---- the table
+
+def text_of(block):
+    """The text of the file of a block."""
+    lines = block.values('line')
+    if lines:
+        return ''.join(line + '\n' for line in lines)
+    functions = block.values('function')
+    lines = OPENING + ([WIDE_LINE] if block.values('wide') else [])
+    lines.append('struct s { %s };' % ' '.join(block.values('struct') or ['int8_t f;']))
+    lines += [each[:each.index('{')] + ';' for each in functions] + functions
+    return ''.join(line + '\n' for line in lines)
+
+
+def shown_value(run, text, types):
+    """The value of an expression, with its type."""
+    value = run.value(read_expression(text, run.file, types, run.widths.int.bits), Frame(None, 0))
+    return ['%s %d' % (NAMES[value.type], value.number)]
+
+
+def answer_lines(block):
+    """What is written of a block."""
+    int_bits = int((block.values('int') or [USUAL_INT])[0])
+    fuel = int((block.values('fuel') or [USUAL_FUEL])[0])
+    lines = []
+    try:
+        run = Run(read(text_of(block), int_bits), int_bits)
+        types = set(TYPES) if block.values('wide') else set(TYPES) - {'flow_wide'}
+        for word, rest in block.parts:
+            if word == 'do':
+                lines += run.deed(rest, fuel)
+            elif word == 'e':
+                lines += shown_value(run, rest, types)
+            elif word not in ('int', 'fuel', 'struct', 'function', 'line', 'wide'):
+                raise SystemExit('no part of a block is `%s`' % word)
+    except ENDINGS as wrong:
+        lines.append(ending(wrong))
+    return lines
+
+
+def do_deeds(options):
+    """Does the deeds that the words ask for, and gives the status."""
+    try:
+        with open(options.file, 'rb') as file:
+            run = Run(read(file.read().decode('latin-1'), options.int), options.int)
+        for deed in options.deeds:
+            sys.stdout.writelines(line + '\n' for line in run.deed(deed, options.fuel))
+    except ENDINGS as wrong:
+        print(ending(wrong))
+        return 2 if isinstance(wrong, Refused) else 1
+    return 0
+
+
+def main(words):
+    """Does what the words ask for, and gives the status."""
+    sys.setrecursionlimit(DEEPEST)
+    if words in (['--table'], ['--table', '--check']):
+        return tables.answer_table(sys.stdin.buffer, answer_lines, '--check' in words)
+    reader = parser(__doc__)
+    reader.add_argument('--int', type=int, choices=(16, 32, 64), default=USUAL_INT)
+    reader.add_argument('--fuel', type=int, default=USUAL_FUEL)
+    reader.add_argument('file', metavar='FILE')
+    reader.add_argument('deeds', metavar='DEED', nargs='*')
+    return do_deeds(reader.parse_args(words))
+
+
+if __name__ == '__main__':
+    sys.exit(main(sys.argv[1:]))

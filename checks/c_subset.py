@@ -409,7 +409,7 @@ class Reader:
         """A call up to its `;`."""
         function, arguments = self.next('name', 'the name of a function'), []
         self.want('(')
-        with_m = self.take('m')
+        with_m = (self.ahead('m', ',') or self.ahead('m', ')')) and self.take('m')
         if with_m and not self.with_m:
             self.refuse('this function has no parameter m')
         while not self.take(')'):

@@ -4,10 +4,10 @@ r"""Random files in the subset of C, by c_subset.py and by C compilers.
     python3 checks/random_c.py --seed S --files N --wrong M [--first K] [--keep FOLDER]
 
 A file is made statement by statement, each of which is tried by c_subset.py from several structs and locals and is kept where it isn't
-Wrong. It is written, read back by c_subset.py, which must give the same trees, and called some times with a struct of which a part has
-values. A call that is Wrong is left out. gcc and clang, where they are there, compile it by `-std=c99 -pedantic-errors` with -O0,
-with -O2, and with -O1 and `-fsanitize=undefined`. What the calls return and what is in the struct at the end must be what c_subset.py
-says, and the sanitizers must report nothing.
+Wrong; some of its functions return the value of an expression and no more. It is written, read back by c_subset.py, which must give
+the same trees, and its functions are called with a struct of which most has values. A call that is Wrong is left out. gcc and clang,
+where they are there, compile it by `-std=c99 -pedantic-errors` with -O0, with -O2, and with -O1 and `-fsanitize=undefined`. What the
+calls return and what is in the struct at the end must be what c_subset.py says, and the sanitizers must report nothing.
 
 A wrong expression is a random one over a struct that c_subset.py finds to be Wrong in a way that a sanitizer sees: a sum, difference,
 product, negative or quotient that isn't one of its type, a division by 0, an index outside of its array. The sanitizer of some
@@ -29,9 +29,10 @@ import c_subset as c
 from programs import ended, parser, print_counts
 
 LONGEST = 600               # seconds for one compilation or run
-FILES, EXPRESSIONS = 40, 100  # in one batch
+FILES, EXPRESSIONS = 30, 100  # in one batch
 FUEL, MOST = 200, 20000      # of one call
 ENVIRONMENTS = 5             # in which a statement is tried
+VALUES, CALLS = 12, 8        # functions of a file that return the value of an expression, and calls besides one of each function
 TRIES = 30                   # for one statement
 FLAGS = ['-std=c99', '-pedantic-errors', '-w']
 BUILDS = [['-O0'], ['-O2'], ['-O1', '-fsanitize=undefined']]
@@ -324,7 +325,22 @@ class FileMaker:
             self.floor_function()
         for each in range(self.rng.randint(1, 3)):
             self.make_function('g%d_%d' % (self.number, each))
+        for each in range(VALUES):
+            self.value_function('v%d_%d' % (self.number, each))
         return self.file
+
+    def value_function(self, name):
+        """A function that returns the value of an expression, in a type that holds most of them."""
+        type_ = c.TYPES['flow_wide' if self.wide else self.rng.choice(['int64_t', 'int64_t', 'uint64_t'])]
+        function = c.Function([], type_, name, True, [], {}, [])
+        self.maker.names = []
+        environments = [Environment(self.struct_of(0), c.Frame(function, FUEL - 1)) for _ in range(2)]
+        body = self.kept(environments, self.value_ending)[0]
+        if body:
+            self.file.functions[name] = function._replace(body=body)
+
+    def value_ending(self):
+        return [c.Return(1, self.maker.expression(2))]
 
     def floor_function(self):
         """The function of the page."""
@@ -510,8 +526,8 @@ def kind_of(wrong):
 def called_c(rng, number, run, opaque, met):
     """Lines of C that call functions of a file, and the lines that are expected."""
     code, lines = [], []
-    for _ in range(8):
-        function = rng.choice(list(run.file.functions.values()))
+    functions = list(run.file.functions.values())
+    for function in functions + [rng.choice(functions) for _ in range(CALLS)]:
         arguments = [rng.number(function.locals[each]) for each in function.parameters]
         before = copied(run)
         try:
@@ -589,7 +605,7 @@ class Comparison:
             lines = list(file_lines(file, maker.struct))
             text = joined(opening(maker.wide) + lines)
             self.differ('batch %d file %d' % (batch, number), wrong_text(file, text), text)
-            run, opaque = maker.struct_of(0.2), rng.chance(0.5)
+            run, opaque = maker.struct_of(0.1), rng.chance(0.5)
             driver = list(stored_c(run, number, opaque))
             calls, answers = called_c(rng, number, run, opaque, self.met)
             texts += lines

@@ -468,16 +468,23 @@ class FileMaker:
 
     def switch(self):
         value = self.maker.expression(2)
+        if self.rng.chance(0.4):
+            value = c.Cast(c.TYPES[self.rng.choice(['uint32_t', 'uint64_t'])], c.Negative(value))
         first = self.file.functions[self.rng.choice(list(self.file.functions))]
         call = self.call(first.name)
         like = [each.name for each in self.file.functions.values()
                 if each.with_m == first.with_m and len(each.parameters) == len(first.parameters)]
         type_ = self.maker_type(value)
-        labels = {self.rng.number(type_) for _ in range(self.rng.randint(0, 5))}
+        labels = self.labels(type_).values()
         cases = [(label, call._replace(function=self.rng.choice(like))) for label in labels if -2 ** 63 <= label < 2 ** 64]
         if type_.kind == 'signed':
             cases = [each for each in cases if each[0] < 2 ** 63]
         return [c.Switch(1, value, cases)]
+
+    def labels(self, type_):
+        """Some labels, by what they become in the type, of which many are near 0 on both sides."""
+        labels = [self.rng.randint(-3, 3) if self.rng.chance(0.6) else self.rng.number(type_) for _ in range(self.rng.randint(0, 6))]
+        return {c.brought(label, type_): label for label in labels}
 
     def maker_type(self, value):
         widths = c.Widths(32)

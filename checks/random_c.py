@@ -332,12 +332,32 @@ class FileMaker:
     def value_function(self, name):
         """A function that returns the value of an expression, in a type that holds most of them."""
         type_ = c.TYPES['flow_wide' if self.wide else self.rng.choice(['int64_t', 'int64_t', 'uint64_t'])]
-        function = c.Function([], type_, name, True, [], {}, [])
+        self.function = c.Function([], type_, name, True, [], {'x0': type_}, [])
         self.maker.names = []
-        environments = [Environment(self.struct_of(0), c.Frame(function, FUEL - 1)) for _ in range(2)]
-        body = self.kept(environments, self.value_ending)[0]
+        environments = [Environment(self.struct_of(0), c.Frame(self.function, FUEL - 1)) for _ in range(2)]
+        others = [each for each in self.file.functions if each.startswith('v')]
+        make = (lambda: self.value_switch(environments[0], others)) if others and self.rng.chance(0.3) else self.value_ending
+        body = self.kept(environments, make)[0]
         if body:
-            self.file.functions[name] = function._replace(body=body)
+            self.file.functions[name] = self.function._replace(body=body)
+
+    def value_switch(self, environment, others):
+        """A choice between functions of one expression each, and the return of what was called."""
+        value = self.switch_value()
+        type_ = self.maker_type(value)
+        labels = self.labels(type_)
+        number = c.brought(environment.run.number(value, environment.frame), type_) if self.rng.chance(0.8) else 0
+        labels[number] = number - 2 ** type_.bits if type_.kind == 'unsigned' and self.rng.chance(0.5) else number
+        call = c.Call(1, 'x0', '', True, [])
+        cases = [(label, call._replace(function=self.rng.choice(others))) for label in labels.values() if -2 ** 63 <= label < 2 ** 63]
+        start = c.SetLocal(1, 'x0', c.Constant(c.TYPES['uint8_t'], 77))
+        return [start, c.Switch(1, value, cases), c.Return(1, c.Local('x0'))]
+
+    def switch_value(self):
+        value = self.maker.expression(2)
+        if self.rng.chance(0.4):
+            value = c.Cast(c.TYPES[self.rng.choice(['uint32_t', 'uint64_t'])], c.Negative(value))
+        return value
 
     def value_ending(self):
         return [c.Return(1, self.maker.expression(2))]
@@ -382,7 +402,10 @@ class FileMaker:
     def kept(self, environments, make):
         """Statements that are Wrong nowhere, or none where none are found, and the environments after them."""
         for _ in range(TRIES):
-            statements = make()
+            try:
+                statements = make()
+            except c.Wrong:
+                continue
             left = survivors(environments, statements)
             if left is not None:
                 return statements, left
@@ -467,9 +490,7 @@ class FileMaker:
         return c.Call(1, self.local(), name, function.with_m, arguments)
 
     def switch(self):
-        value = self.maker.expression(2)
-        if self.rng.chance(0.4):
-            value = c.Cast(c.TYPES[self.rng.choice(['uint32_t', 'uint64_t'])], c.Negative(value))
+        value = self.switch_value()
         first = self.file.functions[self.rng.choice(list(self.file.functions))]
         call = self.call(first.name)
         like = [each.name for each in self.file.functions.values()

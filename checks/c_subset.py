@@ -82,7 +82,7 @@ If = namedtuple('If', 'line test yes no')
 While = namedtuple('While', 'line test body')
 Return = namedtuple('Return', 'line value')
 
-# A function: its head as it is written, its parameters as names in their order, and its locals with their types, the parameters among them.
+# A function: its head as it is written, its parameters as names in their order, and the types of its locals, parameters among them.
 Function = namedtuple('Function', 'head type name with_m parameters locals body')
 File = namedtuple('File', 'fields arrays functions')         # the types of fields, types and lengths of arrays, functions by name
 

@@ -27,7 +27,7 @@ Where the page leaves something open, this is how it is read here
     is below 2^63, with it below 2^64. A negative one has no `u`, may stand in parentheses, and -2^63 is `(-9223372036854775807 - 1)`.
     Labels: labels are written as C, with or without `u`. Where the type of e is known, no two labels are the same in its
     promoted type. A label after the one that equals the value isn't brought to the type.
-    Fuel: a `while` whose e is 0 ends, also after as many turns as there are.
+    Fuel: each test of a `while` takes a turn, also the one that finds 0.
 
 A table has the form of tables.py, in blocks, with the parts
 
@@ -731,16 +731,14 @@ class Run:
         return self.all(s.yes if self.number(s.test, frame) != 0 else s.no, frame)
 
     def while_(self, s, frame):
-        turns = frame.fuel
-        while self.number(s.test, frame) != 0:
-            if turns == 0:
-                raise NoFuel
-            turns -= 1
+        for _ in range(frame.fuel):
+            if self.number(s.test, frame) == 0:
+                return None
             self.count_work()
             returned = self.all(s.body, frame)
             if returned is not None:
                 return returned
-        return None
+        raise NoFuel
 
     def return_(self, s, frame):
         return Value(brought(self.number(s.value, frame), frame.function.type), frame.function.type)

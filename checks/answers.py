@@ -60,8 +60,8 @@ ROOT = os.path.dirname(HERE)
 MOST_SHOWN = 12
 WITH_TRACE = ('rules', 'exec', 'run')
 TRACED = (*WITH_TRACE, 'net')
-WITH_CHART = ('check', 'fmt', 'rules', 'compile', 'run')
-WITH_CODE = ('exec', 'upgrade')
+WITH_CHART = ('check', 'fmt', 'rules', 'compile', 'run', 'bounds')
+WITH_CODE = ('exec', 'upgrade', 'shrink')
 COMMANDS = (*WITH_CHART, *WITH_CODE, 'selftest')
 
 # ---- which answers there are

@@ -193,7 +193,8 @@ def scenes(program, with_selftest):
             Scene('check', ['check', 'c'], {'c': pump}), Scene('check refused', ['check', 'c'], {'c': pump[:-20]}),
             Scene('fmt', ['fmt', 'c'], {'c': pump}), Scene('compile', ['compile', 'c'], {'c': watch}),
             Scene('upgrade', ['upgrade', 'c'], {'c': compiled(program, watch)}),
-            Scene('upgrade refused', ['upgrade', 'c'], {'c': compiled(program, door)[:-7]})]
+            Scene('upgrade refused', ['upgrade', 'c'], {'c': compiled(program, door)[:-7]}),
+            Scene('bounds', ['bounds', 'c'], {'c': pump}), Scene('shrink', ['shrink', 'c'], {'c': compiled(program, watch)})]
     for command in answers.TRACED:
         for name, chart, events in (('', watch, watch_events), (' of the door', door, door_events),
                                     (' with a bad line', door, b'PUSH\nPUSH locked=2\n'),

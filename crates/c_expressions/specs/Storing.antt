@@ -29,22 +29,27 @@ floored_code k frac size t e = let w = floored_width frac size t in
 
 -- ---- ends of the range; an end that no number of the size passes isn't tested, and need not fit the type
 
--- numbers of the size can pass the upper end, and the lower one of a signed scale
+-- numbers of the size can pass the upper end of a scale, and the lower one where it is signed
 abbrev pub can_pass : Scale → ℕ → Bool
 can_pass scale size = nat_le (magnitude_bits scale) size
 
+-- numbers of the size can pass the lower end: that of a scale without a sign is 0
 abbrev pub can_pass_low : Scale → ℕ → Bool
 can_pass_low scale size = not scale.signed || can_pass scale size
 
+-- (T)LO, the lower end
 abbrev pub low_c : Scale → Width → CExpr
 low_c scale w = Const (Signed w) (least scale)
 
+-- (T)HI, the upper end
 abbrev pub high_c : Scale → Width → CExpr
 high_c scale w = Const (Signed w) (greatest scale)
 
+-- x < (T)LO
 abbrev pub below_c : Scale → Width → CExpr → CExpr
 below_c scale w x = Compare IsBelow x (low_c scale w)
 
+-- x > (T)HI
 abbrev pub above_c : Scale → Width → CExpr → CExpr
 above_c scale w x = Compare IsAbove x (high_c scale w)
 

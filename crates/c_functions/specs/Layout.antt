@@ -87,6 +87,7 @@ abbrev pub on_by_c : Layout → (ℕ → ℕ) → ℕ → Option ℕ → CExpr
 on_by_c L n x None = bit_test L x
 on_by_c L n x (Some p) = number_test L (L.chosen p) (n x)
 
+-- the test that a state of the tree is active
 unfoldable pub on_c : Tree → Layout → (ℕ → ℕ) → ℕ → CExpr
 on_c t L n x = on_by_c L n x (or_parent t (parent_of t x))
 

@@ -9,7 +9,7 @@ use Rattle.c_subset.specs.Trees.{Block, End, Set, Store as PutField, StoreAt, Ca
 use Rattle.c_subset.specs.Meaning.{bits, CValue, Meaning, Gives, Wrong, with_meaning, converted, promoted, is_true}
 use Rattle.c_subset.specs.Meaning.{Object, Store, Locals, element, meaning}
 
--- how statements end, and a function (which doesn't fall through): behind the last one; by `return` with a value;
+-- how statements end, and a function (which doesn't fall through): after the last one; by `return` with a value;
 -- without fuel; or without a meaning
 pub data Outcome : Type 0 where
   Falls : Store → Locals → Outcome
@@ -151,7 +151,7 @@ outcome int call k (Return e) s l = with_value (meaning int s l e) (λ x. Return
 -- ---- functions
 
 -- goes on with the locals in which the parameters from number k on have the arguments, brought to their types (6.5.2.2
--- p7); there are as many of the ones as of the others (6.5.2.2 p6)
+-- p7); there are as many of the ones as of the others (6.5.2.2 p2)
 unfoldable pub with_arguments : List CType → List CValue → ℕ → Locals → (Locals → Outcome) → Outcome
 with_arguments [] [] k l f = f l
 with_arguments [] (x ∷ xs) k l f = GoesWrong

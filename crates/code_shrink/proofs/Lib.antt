@@ -18,12 +18,14 @@ pub mod WholeCode
 pub mod NeatCode
 pub mod SameCode
 pub mod InOrder
+pub mod ResultLemmas
 pub mod ConstantTruth
 pub mod Marking
 pub mod KeptLemmas
 pub mod NumberLemmas
 pub mod MadeLemmas
 pub mod WholeLemmas
+pub mod OriginLemmas
 pub mod SlideLemmas
 pub mod SearchLemmas
 pub mod LiveLemmas

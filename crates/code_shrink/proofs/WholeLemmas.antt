@@ -23,12 +23,13 @@ use Rattle.code_shrink.specs.Numbers.{number_by}
 use Rattle.code_shrink.specs.Shrunk.{IsShrunk}
 use Rattle.code_shrink.specs.Smaller.{straight, recounted, put_if, squeezed, keeps, smaller}
 use Rattle.code_shrink.specs.Whole.{keep_if, is_live, number_in, collected, smaller_code, AllReached, IsExact}
-use Rattle.code_shrink.specs.Whole.{AreSmaller}
+use Rattle.code_shrink.specs.Whole.{smaller_procedures, AreSmaller}
 use Rattle.code_shrink.specs.Ways.{way_of}
 use Rattle.code_shrink.specs.declared.places.Way.{Way}
 use Rattle.code_shrink.proofs.Collected.{smaller_has_copy}
 use Rattle.code_shrink.proofs.Endings.{run_copy, run_back}
 use Rattle.code_shrink.proofs.InOrder.{smaller_in_order}
+use Rattle.code_shrink.proofs.ResultLemmas.{results_stay}
 use Rattle.code_shrink.proofs.NeatCode.{smaller_code_is_neat}
 use Rattle.code_shrink.proofs.Orders.{heights_less, works_less}
 use Rattle.code_shrink.proofs.SameCode.{neat_code_stays}
@@ -206,6 +207,7 @@ is_shrunk k live flags well exact =
       height = heights_less (known_of k) live flags k.procedures.procs (code_parts k well).procs kept.each;
       work = works_less (known_of k) live flags k.procedures.procs (code_parts k well).procs kept.each;
       order = smaller_in_order live flags k.procedures exact;
+      results = results_stay live flags k.procedures exact;
       stays = neat_code_stays live flags k well exact;
     }
 
@@ -240,23 +242,16 @@ few_and_short k well =
 abbrev procedures_with : List (List Instr) → ℕ → ℕ → Procedures
 procedures_with ps p q = record { procs = ps; start = p; react = q }
 
--- the procedures are made exactly of what is reached
-pub are_smaller : (live : List Bool) (flags : List (List Bool)) (k : Procedures) (numbers : List ℕ)
-    (procs : List (List Instr)) (start react : ℕ) → IsExact live flags k
-    → ((p : ℕ) → number_by numbers p ≡ number_in live p) → procs ≡ collected (number_by numbers) live flags k.procs
-    → start ≡ number_by numbers k.start → react ≡ number_by numbers k.react
-    → AreSmaller k (record { procs = procs; start = start; react = react })
-are_smaller live flags k numbers procs start react exact same made first second =
+-- the procedures are made exactly of what is kept
+pub are_made : (live : List Bool) (flags : List (List Bool)) (k : Procedures) (numbers : List ℕ)
+    (procs : List (List Instr)) (start react : ℕ) → ((p : ℕ) → number_by numbers p ≡ number_in live p)
+    → procs ≡ collected (number_by numbers) live flags k.procs → start ≡ number_by numbers k.start
+    → react ≡ number_by numbers k.react
+    → record { procs = procs; start = start; react = react } ≡ smaller_procedures live flags k
+are_made live flags k numbers procs start react same made first second =
     let all : procs ≡ collected (number_in live) live flags k.procs =
     made ∙ collected_same (number_by numbers) (number_in live) same live flags k.procs in
-    record {
-      live = live;
-      flags = flags;
-      exact = exact;
-      made =
-          ap (λ (ps : List (List Instr)). procedures_with ps start react) all
-          ∙ ap (λ (p : ℕ). procedures_with (collected (number_in live) live flags k.procs) p react)
-          (first ∙ same k.start)
-          ∙ ap (procedures_with (collected (number_in live) live flags k.procs) (number_in live k.start))
-          (second ∙ same k.react);
-    }
+    ap (λ (ps : List (List Instr)). procedures_with ps start react) all
+    ∙ ap (λ (p : ℕ). procedures_with (collected (number_in live) live flags k.procs) p react) (first ∙ same k.start)
+    ∙ ap (procedures_with (collected (number_in live) live flags k.procs) (number_in live k.start))
+    (second ∙ same k.react)

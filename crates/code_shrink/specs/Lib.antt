@@ -6,5 +6,6 @@ pub mod Shrunk
 pub mod Ways
 pub mod Kept
 pub mod Numbers
+pub mod Origins
 pub mod Slides
 pub mod Search

@@ -1,8 +1,9 @@
 //! Smaller code of the same meaning.
 //!
-//! The public call is `shrink`, whose one clause is `IsShrunk` of `specs/Shrunk.antt`. Read
-//! `specs/Neat.antt`, what neat code is; `specs/Smaller.antt` and `specs/Whole.antt`, how code is
-//! made smaller; and `specs/Follows.antt`, when a procedure does what another one does.
+//! The public call is `shrink`, whose one clause is `IsShrunk` of `specs/Shrunk.antt`;
+//! `shrink_with_origins` tells besides which procedures of the code those of the smaller code were.
+//! Read `specs/Neat.antt`, what neat code is; `specs/Smaller.antt` and `specs/Whole.antt`, how code
+//! is made smaller; and `specs/Follows.antt`, when a procedure does what another one does.
 #![tactic(auto)]
 
 mod constants;
@@ -10,6 +11,7 @@ mod kept;
 mod laws;
 mod live;
 mod numbers;
+mod origins;
 mod places;
 mod renamed;
 mod search;
@@ -19,7 +21,7 @@ mod tables;
 mod ways;
 
 pub use laws::{copies_run_as_their_code, what_is_reached_is_shrunk_code};
-pub use shrinking::shrink;
+pub use shrinking::{Shrunk, shrink, shrink_with_origins};
 
 /// The code, with the world below it.
 pub use code_language as form;

@@ -6,19 +6,30 @@ ghost use Rattle.code_language.specs.Acceptance.{procs_of};
 ghost use Rattle.code_language.specs.Code.{code_of};
 ghost use Rattle.code_language.specs.declared.limits.TheConstants.{INSTR_LIMIT};
 ghost use Rattle.code_shrink.specs.Numbers.{number_by};
+ghost use Rattle.code_shrink.specs.Origins.{HadNumbers};
 ghost use Rattle.code_shrink.specs.Search.{flags_of, ways_in};
 ghost use Rattle.code_shrink.specs.Shrunk.{IsShrunk};
 ghost use Rattle.code_shrink.specs.Smaller.{straight};
 ghost use Rattle.code_shrink.specs.Ways.{way_of};
-ghost use Rattle.code_shrink.specs.Whole.{collected, AllReached, AreSmaller};
+ghost use Rattle.code_shrink.specs.Whole.{collected, AllReached};
 
 use crate::live::{Live, live_procedures};
 use crate::numbers::{number_at, numbers_of};
+use crate::origins::origins_of;
 use crate::smaller::smaller_procedure;
 use crate::tables::{copy_events, copy_states, copy_vars};
 use code_language::{Code, CodeEnd, Instr, RawCode, accept};
 use flow_base::{List, Memory};
 use std::alloc::Global;
+
+/// Smaller code, and where its procedures come from.
+#[derive(Debug, Drop)]
+pub struct Shrunk {
+    /// The smaller code.
+    pub code: Code,
+    /// For each of its procedures the number that it had, in ascending order.
+    pub origins: Vec<u32>,
+}
 
 /// Smaller code of the same meaning: constant tests are decided, jumps lead past jumps, and only
 /// what is reached then is left. A test that divides by zero stays, since it is a fault of the run.
@@ -30,31 +41,61 @@ use std::alloc::Global;
 pub fn shrink(alloc: Global, code: &Code) -> Result<Code, Memory>
     ensures { IfOk result (λ smaller. IsShrunk (code_of code.now) (code_of smaller)) }
 {
-    let raw = smaller_raw(alloc, code)?;
-    match accept(alloc, raw) {
-        Ok(smaller) => Ok(smaller),
+    let shrunk = shrink_with_origins(alloc, code)?;
+    Ok(shrunk.code)
+}
+
+/// The smaller code that `shrink` gives, with the numbers that its procedures had.
+///
+/// Its time and its memory grow with the code, as those of `accept` do. `Memory` only where memory
+/// was refused.
+///
+/// Source: this project's choice.
+pub fn shrink_with_origins(alloc: Global, code: &Code) -> Result<Shrunk, Memory>
+    ensures shrunk { IfOk result (λ shrunk. IsShrunk (code_of code.now) (code_of shrunk.code)) }
+    ensures origins { IfOk result (λ shrunk. HadNumbers (code_of code.now).procedures
+        (code_of shrunk.code).procedures shrunk.origins.items) }
+{
+    let made = smaller_raw(alloc, code)?;
+    let origins = made.origins;
+    match accept(alloc, made.raw) {
+        Ok(code) => Ok(Shrunk { code, origins }),
         Err(CodeEnd::Memory) => Err(Memory),
         // The smaller code is well formed.
         Err(CodeEnd::Fault(_)) => unreachable!(),
     }
 }
 
+/// The smaller code before it is accepted, and where its procedures come from.
+#[derive(Drop)]
+struct Made {
+    /// The smaller code.
+    raw: RawCode,
+    /// The numbers that its procedures had.
+    origins: Vec<u32>,
+}
+
 /// The smaller code, before it is accepted.
-fn smaller_raw(alloc: Global, code: &Code) -> Result<RawCode, Memory>
-    ensures { IfOk result (λ raw. IsShrunk (code_of code.now) (code_of raw)) }
+fn smaller_raw(alloc: Global, code: &Code) -> Result<Made, Memory>
+    ensures shrunk { IfOk result (λ made. IsShrunk (code_of code.now) (code_of made.raw)) }
+    ensures origins { IfOk result (λ made. HadNumbers (code_of code.now).procedures
+        (code_of made.raw).procedures made.origins.items) }
 {
     let kept = kept_procedures(alloc, code)?;
     let raw = code.raw();
     let states = copy_states(alloc, raw.states.items())?;
     let vars = copy_vars(alloc, raw.vars.items())?;
     let events = copy_events(alloc, raw.events.items())?;
-    Ok(RawCode {
-        states,
-        vars,
-        events,
-        start: kept.start,
-        react: kept.react,
-        procs: kept.procs,
+    Ok(Made {
+        raw: RawCode {
+            states,
+            vars,
+            events,
+            start: kept.start,
+            react: kept.react,
+            procs: kept.procs,
+        },
+        origins: kept.origins,
     })
 }
 
@@ -67,24 +108,28 @@ struct Kept {
     react: u32,
     /// The procedures.
     procs: List<List<Instr>>,
+    /// The numbers that they had.
+    origins: Vec<u32>,
 }
 
 /// What is kept of the procedures of the code.
 fn kept_procedures(alloc: Global, code: &Code) -> Result<Kept, Memory>
-    ensures { IfOk result (λ kept. AreSmaller (code_of code.now).procedures (record {
+    ensures { IfOk result (λ kept. HadNumbers (code_of code.now).procedures (record {
       procs = procs_of (items_of kept.procs);
       start = kept.start;
       react = kept.react;
-    })) }
+    }) kept.origins.items) }
 {
     let live = live_procedures(alloc, code)?;
     let raw = code.raw();
+    let origins = origins_of(alloc, &live.live)?;
     let numbers = numbers_of(alloc, &live.live)?;
     let procs = smaller_procs(alloc, raw.procs.items(), &live, &numbers)?;
     Ok(Kept {
         start: number_at(&numbers, raw.start),
         react: number_at(&numbers, raw.react),
         procs,
+        origins,
     })
 }
 

@@ -5,8 +5,8 @@ use Rattle.code_shrink.proofs.WholeLemmas.{made_shrunk}
 use Rattle.code_shrink.proofs.shrinking.smaller_raw.Goals as goal
 
 -- the tables are equal, and of the procedures exactly what is reached is kept
-pub returns : goal.returns
-returns c =
+pub returns-clause-shrunk : goal.returns-clause-shrunk
+returns-clause-shrunk c =
     let made : RawCode = record {
       states = c.in_ok-states.states;
       vars = c.in_ok-vars.vars;
@@ -19,4 +19,4 @@ returns c =
     (c.in_ok-states.ensures ∙ c.items.ensures ∙ ap (λ (raw : RawCode). items_of raw.states) c.raw-raw.ensures.raw)
     (c.in_ok-vars.ensures ∙ c.items-2.ensures ∙ ap (λ (raw : RawCode). items_of raw.vars) c.raw-raw.ensures.raw)
     (c.in_ok-events.ensures ∙ c.items-3.ensures ∙ ap (λ (raw : RawCode). items_of raw.events) c.raw-raw.ensures.raw)
-    c.in_ok-kept.ensures
+    c.in_ok-kept.ensures.smaller

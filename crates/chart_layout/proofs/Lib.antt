@@ -15,3 +15,5 @@ pub mod PartStands
 pub mod ListStands
 pub mod Whole
 pub mod Every
+pub mod Results
+pub mod ListResults

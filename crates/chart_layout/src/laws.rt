@@ -1,5 +1,5 @@
 //! What holds of the layout of a chart and of its code.
-ghost use Rattle.std.specs.Prelude.{◌≡◌, ◌↔◌, ◌<◌, ◌≤◌, ◌+◌, ◌-◌, ◌*◌, ℕ, List, length};
+ghost use Rattle.std.specs.Prelude.{◌≡◌, ◌↔◌, ◌<◌, ◌≤◌, ◌+◌, ◌-◌, ◌*◌, ℕ, List, length, Some};
 ghost use Rattle.flow_base.specs.declared.bounds.Bounds.{Bounds};
 ghost use Rattle.active_config.specs.Shape.{IsEnd};
 ghost use Rattle.active_config.specs.Tree.{Tree, IsTree, state_count};
@@ -8,6 +8,8 @@ ghost use Rattle.checked_chart.specs.Chart.{Chart, Trans};
 ghost use Rattle.checked_chart.specs.Reached.{ChartPairs};
 ghost use Rattle.checked_chart.specs.Valid.{IsValid, AreTrans};
 ghost use Rattle.sos_rules.specs.Reactions.{RulesRun};
+ghost use Rattle.code_language.specs.Code.{fetch};
+ghost use Rattle.code_language.specs.Instrs.{Unless, Result, Ret};
 ghost use Rattle.code_language.specs.Reactions.{CodeRun};
 ghost use Rattle.chart_procedures.specs.Compiled.{Compiled, ListsCompiled};
 ghost use Rattle.chart_layout.specs.Bodies.{procedures_of, code_of_chart};
@@ -45,6 +47,15 @@ pub fn the_count_of_procedures()
         → reached_total c ≤ count }
     ensures process { (c : Chart) (s : ℕ) → s < state_count c.tree
         → (numbers c).process s ≡ total c - 1 - s }
+{}
+
+/// The results that the code of a valid chart returns and tests are few: each is below 3 + the
+/// number of its states.
+pub fn the_results_of_code_are_few()
+    ensures returned { (c : Chart) (p i r : ℕ) → IsValid c
+        → fetch (procedures_of c) p i ≡ Some (Ret r) → r < 3 + state_count c.tree }
+    ensures tested { (c : Chart) (p i n r : ℕ) → IsValid c
+        → fetch (procedures_of c) p i ≡ Some (Unless n (Result r)) → r < 3 + state_count c.tree }
 {}
 
 /// In the procedures of a valid chart each stands at its number.

@@ -5,8 +5,6 @@ pub mod Parts
 pub mod ListPairs
 pub mod Groups
 pub mod AllProcedures
-pub mod Results
-pub mod ListResults
 pub mod SoundNumbers
 pub mod Spellable
 pub mod Whole

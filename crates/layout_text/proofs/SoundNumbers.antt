@@ -1,5 +1,5 @@
 -- The numbers of sound procedures are numbers of a text, where their results are.
-use Rattle.std.proofs.Common.{◌≡◌, ℕ, suc, ◌+◌, ◌≤◌, Bool, true, false, ◌&&◌, ◌||◌, nat_lt, List, [], ◌∷◌, length}
+use Rattle.std.proofs.Common.{◌≡◌, ℕ, suc, ◌+◌, ◌^◌, ◌≤◌, Bool, true, false, ◌&&◌, ◌||◌, nat_lt, List, [], ◌∷◌, length}
 use Rattle.std.proofs.Common.{Option, Some, None, refl, arith, ltb-true}
 use Rattle.std.specs.List.{AllByRecursion, list_any}
 use Rattle.std.proofs.lemmas.Bool.Decides.{nat_tests}
@@ -14,7 +14,7 @@ use Rattle.code_language.specs.WellFormed.{is_state, is_proc, is_datum}
 use Rattle.code_language.proofs.Accepted.{first_true, second_true}
 use Rattle.code_fields.specs.Spelling.{IsNumber}
 use Rattle.code_lines.specs.Spelling.{CondHasNumbers, HasNote, HasNumbers}
-use Rattle.layout_text.proofs.Results.{CondHasResult, HasResult, HasResults}
+use Rattle.chart_layout.proofs.Results.{TestBelow, ResultBelow, ResultsBelow}
 
 -- few enough of each
 pub record FewKnown (K : Known) : Type 0 where
@@ -48,7 +48,7 @@ module _ (K : Known) (few : FewKnown K) where
   )
 
   -- a condition
-  cond_numbers : (c : Cond) → cond_known K c ≡ true → CondHasResult c → CondHasNumbers c
+  cond_numbers : (c : Cond) → cond_known K c ≡ true → TestBelow (2 ^ 32) c → CondHasNumbers c
   unfolding cond_known
   cond_numbers (On s) h r = state_number s h
   cond_numbers (Bare s) h r = state_number s h
@@ -65,7 +65,7 @@ module _ (K : Known) (few : FewKnown K) where
 
   -- an instruction
   instr_numbers : (behind : ℕ) → behind ≤ INSTR_LIMIT → (x : Instr) → instr_known K x ≡ true
-      → skips_within behind x ≡ true → HasResult x → HasNumbers x
+      → skips_within behind x ≡ true → ResultBelow (2 ^ 32) x → HasNumbers x
   unfolding instr_known skips_within
   instr_numbers behind short (Assign v x) h k r = datum_number v (first_true (is_datum K v) (expr_known K x) h)
   instr_numbers behind short (Emit e) h k r = event_number e h
@@ -92,7 +92,7 @@ module _ (K : Known) (few : FewKnown K) where
   instr_numbers behind short (Ret n) h k r = r
 
   -- the instructions of a procedure
-  instrs_numbers : (p : ℕ) (is : List Instr) → length is ≤ INSTR_LIMIT → AreSound K p 0 is → HasResults is
+  instrs_numbers : (p : ℕ) (is : List Instr) → length is ≤ INSTR_LIMIT → AreSound K p 0 is → ResultsBelow (2 ^ 32) is
       → AllByRecursion HasNumbers is
   instrs_numbers p [] short h r = tt
   instrs_numbers p (x ∷ is) short h r = (
@@ -114,7 +114,7 @@ module _ (K : Known) (few : FewKnown K) where
 
   -- all procedures
   pub procs_numbers : (p : ℕ) (procs : List (List Instr)) → AreProcs K p procs
-      → list_any (λ (js : List Instr). nat_lt INSTR_LIMIT (length js)) procs ≡ false → AllByRecursion HasResults procs
+      → list_any (λ (js : List Instr). nat_lt INSTR_LIMIT (length js)) procs ≡ false → AllByRecursion (ResultsBelow (2 ^ 32)) procs
       → AllByRecursion (AllByRecursion HasNumbers) procs
   procs_numbers p [] h short r = tt
   procs_numbers p (is ∷ procs) h short r =

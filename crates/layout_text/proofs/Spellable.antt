@@ -1,5 +1,5 @@
 -- The code of a valid chart has a text.
-use Rattle.std.proofs.Common.{◌≡◌, ℕ, suc, ◌<◌, ◌≤◌, Bool, true, false, ◌||◌, nat_lt, List, [], ◌∷◌, length, map}
+use Rattle.std.proofs.Common.{◌≡◌, ℕ, suc, ◌+◌, ◌^◌, ◌<◌, ◌≤◌, Bool, true, false, ◌||◌, nat_lt, List, [], ◌∷◌, length, map}
 use Rattle.std.proofs.Common.{Option, Some, None, slice_index_or, refl, sym, subst, arith}
 use Rattle.std.specs.List.{AllByRecursion, list_any}
 use Rattle.std.proofs.lemmas.Bool.Decides.{nat_tests}
@@ -24,7 +24,7 @@ use Rattle.chart_layout.specs.Bodies.{procedures_of, code_of_chart}
 use Rattle.layout_soundness.proofs.Few.{code_few}
 use Rattle.layout_soundness.proofs.Procs.{code_sound}
 use Rattle.layout_soundness.proofs.Tables.{table, starts}
-use Rattle.layout_text.proofs.ListResults.{layout_results}
+use Rattle.chart_layout.proofs.ListResults.{layout_results}
 use Rattle.layout_text.proofs.SoundNumbers.{FewKnown, procs_numbers}
 
 -- ---- parents
@@ -91,13 +91,14 @@ module _ (c : Chart) (valid : IsValid c) where
   unfolding code_of_chart procedures_of
   is_right =
       let procs = (code_of_chart c).procedures.procs in
+      let high : 3 + state_count c.tree ≤ 2 ^ 32 = omega (arith, valid.limits.states) in
       record {
         table = table c valid;
         few = code_few c valid;
         starts = starts c valid;
         sound = no_procs_fault (known_of (code_of_chart c)) 0 procs (code_sound c valid);
         numbers = procs_numbers (known_of (code_of_chart c)) known_few 0 procs (code_sound c valid)
-            (not_many procs (code_few c valid)).1 (layout_results c valid);
+            (not_many procs (code_few c valid)).1 (layout_results c valid (2 ^ 32) high);
       }
 
   -- what is written of it has a text

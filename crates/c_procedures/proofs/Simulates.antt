@@ -892,7 +892,7 @@ module _ (t : Tree) (n : ℕ → ℕ) (num : Numbers t n) (same : length t.comps
     sim (Steps x rest ys a good more) = step x rest ys a good (sim more)
     sim (Returns r rest ys) = returns_at r rest ys
     sim (Skips j rest ys a more) = skips_at j rest ys a (sim more)
-    sim (Forks j x rest mid ys a d e one_way other_way more) = forks_at j x rest mid ys a d e (sim one_way)
+    sim (Forks j further x rest mid ys a d e place one_way other_way more) = forks_at j x rest mid ys a d e (sim one_way)
         (sim other_way) (sim more)
 
   -- ---- functions

@@ -44,8 +44,6 @@ check P c.No m now l = false
 check P (c.Chosen p i) m now l = slice_index_or m.states.chosen p 0 == i
 check P (c.Flag s) m now l = slice_index_or m.states.flags s false
 check P (c.Kept p i) m now l = slice_index_or m.states.kept p 0 == i
-check P c.HomeOn m now l = c_on P.tree P.numbers l.home m.states
-check P c.HomeBare m now l = c_bare P.tree P.numbers l.home m.states
 check P (c.IsEvent e) m now l = is_event e now.event
 check P (c.IsResult x) m now l = l.result == x
 check P (c.Both a b) m now l = check P a m now l && check P b m now l
@@ -54,6 +52,8 @@ check P (c.Not a) m now l = not (check P a m now l)
 -- what `if` tests
 abbrev pub truth_c : CProgram → Test → Memory → Now → Locals → Result Bool Fault
 truth_c P (c.Simple a) m now l = Ok (check P a m now l)
+truth_c P c.HomeOn m now l = Ok (c_on P.tree P.numbers l.home m.states)
+truth_c P c.HomeBare m now l = Ok (c_bare P.tree P.numbers l.home m.states)
 truth_c P (c.Arithmetic e) m now l = P.sums.truth e m
 
 -- one of two ways

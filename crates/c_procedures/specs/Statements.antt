@@ -30,9 +30,6 @@ pub data Check : Type 0 where
   Flag : ℕ → Check
   -- `m->kP == i`
   Kept : ℕ → ℕ → Check
-  -- `on(m, home)` and `bare(m, home)`, two functions that switch over their argument
-  HomeOn : Check
-  HomeBare : Check
   -- `e == E`
   IsEvent : ℕ → Check
   -- `r == i`
@@ -45,6 +42,9 @@ pub data Check : Type 0 where
 -- what `if` tests
 pub data Test : Type 0 where
   Simple : Check → Test
+  -- `on(m, home)` and `bare(m, home)`, two functions that switch over their argument
+  HomeOn : Test
+  HomeBare : Test
   Arithmetic : Expr → Test
 
 -- statements, each with those after it
@@ -76,8 +76,9 @@ pub data Block : Type 0 where
   Call : ℕ → Block → Block
   -- `r = pN(m, E, depth + 1u, m->noted, 0u, r); if (r == BAD) return BAD;`
   Send : ℕ → ℕ → Block → Block
-  -- `if (cursor < base) cursor = base; while ((cursor < m->noted) && bare(m, home)) { PAY cursor++; switch
-  -- (m->note[cursor - 1u]) { case N: r = pN(m, e, depth, m->noted, home, r); break; .. } if (r == BAD) return BAD; }`
+  -- `if (cursor < base) cursor = base; while ((cursor < m->noted) && bare(m, home)) { PAY cursor++;
+  -- r = noted(m, e, depth, m->noted, home, r, m->note[cursor - 1u]); if (r == BAD) return BAD; }`, where `noted` calls
+  -- the procedure that its last argument names
   Play : Block → Block
   -- `if (test) { .. } else { .. } ..`
   If : Test → Block → Block → Block → Block

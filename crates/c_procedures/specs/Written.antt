@@ -40,8 +40,8 @@ last_under n s (Some p) = c.Kept p (n s)
 abbrev pub test_of : Tree → (ℕ → ℕ) → Cond → Test
 test_of t n (i.On s) = c.Simple (on_check t n s)
 test_of t n (i.Bare s) = c.Simple (bare_check t n s)
-test_of t n i.OnHome = c.Simple c.HomeOn
-test_of t n i.BareHome = c.Simple c.HomeBare
+test_of t n i.OnHome = c.HomeOn
+test_of t n i.BareHome = c.HomeBare
 test_of t n (i.Current e) = c.Simple (c.IsEvent e)
 test_of t n (i.Result r) = c.Simple (c.IsResult r)
 test_of t n (i.Test x) = c.Arithmetic x
@@ -131,7 +131,8 @@ pub data Written (t : Tree) (n : ℕ → ℕ) (react : ℕ) : List Instr → Lis
   Returns : (r : ℕ) (rest ys : List Instr) → Written t n react (i.Ret r ∷ rest) ys (c.Return r)
   Skips : (k : ℕ) (rest ys : List Instr) (a : Block) → Written t n react (drop k rest) ys a
       → Written t n react (i.Skip k ∷ rest) ys a
-  Forks : (k : ℕ) (x : Cond) (rest mid ys : List Instr) (a b d : Block) → Written t n react rest mid a
+  Forks : (k j : ℕ) (x : Cond) (rest mid ys : List Instr) (a b d : Block) → mid ≡ drop j (drop k rest)
+      → Written t n react rest mid a
       → Written t n react (drop k rest) mid b → Written t n react mid ys d
       → Written t n react (i.Unless k x ∷ rest) ys (c.If (test_of t n x) a b d)
 

@@ -15,9 +15,8 @@ ghost use Rattle.actions.specs.World.{World};
 ghost use Rattle.actions.specs.Work.{Now};
 ghost use Rattle.c_procedures.specs.Statements.{Block, Memory};
 ghost use Rattle.c_procedures.specs.Meaning.{Sums, call_fn};
-ghost use Rattle.code_language.specs.Instrs.{Instr};
-ghost use Rattle.c_procedures.specs.Written.{AreWritten, Written};
-ghost use Rattle.c_procedures.specs.Writer.{body};
+ghost use Rattle.c_procedures.specs.Written.{AreWritten};
+ghost use Rattle.c_procedures.specs.Writer.{plans_of};
 ghost use Rattle.c_procedures.specs.Runs.{Agree, CallsDo, EndsWith, EndsAsCode, Stuck, Stands};
 ghost use Rattle.c_procedures.specs.Runs.{own_sums, world_of};
 ghost use Rattle.c_procedures.specs.States.{States, Numbers, Shows, is_or, shown, no_fields};
@@ -79,11 +78,9 @@ pub fn functions_do_what_procedures_do()
         fuel) }
 {}
 
-/// What is written for the instructions of a procedure does what they do.
-pub fn bodies_are_written_for_their_instructions()
-    ensures { (t : Tree) (n : ℕ → ℕ) (react : ℕ) (xs : List Instr) (a : Block) → body t n react xs
-        ≡ Some a
-        → Written t n react xs [] a }
+/// The plans of well-formed code are written for its procedures, whatever their jumps are.
+pub fn plans_are_written_for_their_code()
+    ensures { (k : Code) → IsCode k → AreWritten k.tree (λ x. suc x) k.procedures (plans_of k) }
 {}
 
 /// A call of a function from outside, with no notes, ends as the run of code from the first frame

@@ -10,9 +10,9 @@
 mod laws;
 
 pub use laws::{
-    bodies_are_written_for_their_instructions, calls_from_outside_end_as_code,
-    calls_of_well_formed_code_end_as_it, changes_of_fields_are_those_of_marks, code_is_never_stuck,
-    functions_do_what_procedures_do, memory_tells_its_world, one_store_shows_consistent_marks,
+    calls_from_outside_end_as_code, calls_of_well_formed_code_end_as_it,
+    changes_of_fields_are_those_of_marks, code_is_never_stuck, functions_do_what_procedures_do,
+    memory_tells_its_world, one_store_shows_consistent_marks, plans_are_written_for_their_code,
     tests_of_fields_are_those_of_marks, zeros_show_no_marks,
 };
 

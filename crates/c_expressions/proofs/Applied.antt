@@ -11,8 +11,15 @@ use Rattle.actions.specs.declared.sort.ExprSort.TheVariants as kinds
 use Rattle.actions.specs.Sorts.{IsNarrow, binary_sort}
 use Rattle.actions.specs.Values.{HasSort, applied, same_flag}
 use Rattle.actions.proofs.OperatorLemmas.{AreSized}
-use Rattle.c_subset.specs.Trees.{Width, W8, W16, W32, W64, W128, CType, Signed, Truth, Plus, Less, Comparison, IsEqual}
-use Rattle.c_subset.specs.Trees.{IsUnequal, IsBelow, IsAtMost, IsAbove, IsAtLeast, CExpr, Cast, Compare}
+use Rattle.c_subset.specs.declared.trees.Width.{Width}
+use Rattle.c_subset.specs.declared.trees.Width.TheVariants.{W8, W16, W32, W64, W128}
+use Rattle.c_subset.specs.declared.trees.CType.{CType}
+use Rattle.c_subset.specs.declared.trees.CType.TheVariants.{Signed, Truth}
+use Rattle.c_subset.specs.declared.trees.Arithmetic.TheVariants.{Plus, Less}
+use Rattle.c_subset.specs.declared.trees.Comparison.{Comparison}
+use Rattle.c_subset.specs.declared.trees.Comparison.TheVariants.{IsEqual}
+use Rattle.c_subset.specs.Trees.{CExpr, Cast, Compare}
+use Rattle.c_subset.specs.declared.trees.Comparison.TheVariants.{IsUnequal, IsBelow, IsAtMost, IsAbove, IsAtLeast}
 use Rattle.c_subset.specs.Meaning.{Meaning, with_meaning, gives, converted, as_signed, compared, passes, truth, one_if}
 use Rattle.c_subset.specs.Meaning.{Store, Locals, meaning, common}
 use Rattle.c_expressions.specs.Translation.{operator_c, numbers_c, flags_c}

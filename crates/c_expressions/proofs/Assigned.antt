@@ -26,18 +26,22 @@ use Rattle.actions.specs.Values.{Valued, HasSort, value_of, scope_at}
 use Rattle.actions.proofs.NarrowLemmas.{sort_of-narrow}
 use Rattle.c_expressions.specs.Translation.{flat}
 use Rattle.c_expressions.specs.Claims.{ShowsData, ShowsActive}
-use Rattle.c_expressions.proofs.Correct.{ends_as_value, value_has_sort}
+use Rattle.c_expressions.proofs.Correct.{ends_as_value, value_has_sort, locals_up}
 use Rattle.flow_base.specs.declared.fault.Fault.TheVariants.{Overflow as Overflows}
 use Rattle.fixed_point.specs.declared.fitting.Overflow.{Overflow}
-use Rattle.c_subset.specs.Trees.{Width, W64, CType, Signed, Unsigned, CExpr, Local}
+use Rattle.c_subset.specs.Trees.{CExpr, Local}
+use Rattle.c_subset.specs.declared.trees.Width.{Width}
+use Rattle.c_subset.specs.declared.trees.Width.TheVariants.{W64}
+use Rattle.c_subset.specs.declared.trees.CType.{CType}
+use Rattle.c_subset.specs.declared.trees.CType.TheVariants.{Signed, Unsigned}
 use Rattle.c_subset.specs.Meaning.{bits, gives, converted, read_as, Store, Locals, meaning}
 use Rattle.c_subset.specs.Running.{with_local}
 use Rattle.c_expressions.specs.Code.{Goes, Faults, ending}
 use Rattle.c_expressions.specs.Translation.{Flat}
 use Rattle.c_expressions.specs.Storing.{floored_width, out_c, low_bits_c, signed_c, brought_code, brought_local}
 use Rattle.c_expressions.specs.Storing.{stored_c, StoresAs}
-use Rattle.c_expressions.specs.Claims.{Has, EndsAs}
-use Rattle.c_expressions.proofs.Running.{agree-itself, set-there, then-goes, then-ends}
+use Rattle.c_expressions.specs.Claims.{Has, AgreeBelow, EndsAs}
+use Rattle.c_expressions.proofs.Running.{agree-itself, agree-through, agree-set, set-there, then-goes, then-ends}
 use Rattle.c_expressions.proofs.Quotients.{set-goes, local-has, fault_if-ends}
 use Rattle.c_expressions.proofs.Storing.{floored-goes}
 use Rattle.c_expressions.proofs.Fields.{saturates, overflows, IsBrought}
@@ -87,12 +91,13 @@ record Brought (int : Width) (s : Store) (l : Locals) (n : ℕ) (size : ℕ) (sc
     (v : Num) : Type 0 where
   after : Locals
   goes : ending int s l (brought_code v.frac size scale x) ≡ Goes after
+  keeps : AgreeBelow n l after
   there : IsBrought after x.next v size scale
 
 brings : (int : Width) (s : Store) (l : Locals) (n : ℕ) (size : ℕ) (scale : Scale) (x : Flat) (v : Num) → v.frac ≤ 64
     → unsigned_abs v.mantissa ≤ 2 ^ size → size_at scale.frac v.frac size ≤ 100
-    → EndsAs int s n x l (Ok (values.Number v)) → Brought int s l n size scale x v
-brings int s l n size scale x v few small most ends =
+    → n ≤ x.next → EndsAs int s n x l (Ok (values.Number v)) → Brought int s l n size scale x v
+brings int s l n size scale x v few small most up ends =
     let t = Signed (floored_width v.frac size scale.frac) in
     let z = floored v scale.frac in
     record {
@@ -100,6 +105,8 @@ brings int s l n size scale x v few small most ends =
       goes = then-goes int s l ends.0 (with_local ends.0 t x.next z) x.code _ ends.1
           (floored-goes int s ends.0 v x.next size scale.frac x.expr few small most
           (ends.3 ends.0 (agree-itself x.next ends.0)));
+      keeps = agree-through n n l ends.0 (with_local ends.0 t x.next z) (omega arith) ends.2
+          (agree-set n x.next ends.0 t z up);
       there = set-there ends.0 t x.next z;
     }
 
@@ -112,17 +119,17 @@ no_fault n scale mode m e is err = absurd (cc (no_overflow n scale mode m is, ap
 module _ (int : Width) (s : Store) (l : Locals) (n d size : ℕ) (scale : Scale) (x : Flat) (v : Num)
     (most_int : bits int ≤ 64)
     (few : v.frac ≤ 64) (small : unsigned_abs v.mantissa ≤ 2 ^ size) (most : size_at scale.frac v.frac size ≤ 100)
-    (ends : EndsAs int s n x l (Ok (values.Number v))) where
+    (up : n ≤ x.next) (ends : EndsAs int s n x l (Ok (values.Number v))) where
   abbrev w : Width
   w = floored_width v.frac size scale.frac
 
   b : Brought int s l n size scale x v
-  b = brings int s l n size scale x v few small most ends
+  b = brings int s l n size scale x v few small most up ends
 
   stores-saturated : (r : Result ℤ Overflow) → fitted v scale Saturate ≡ r
-      → StoresAs int s l d (stored_c d v.frac size scale Saturate x) r
+      → StoresAs int s n l d (stored_c d v.frac size scale Saturate x) r
   stores-saturated (Ok m) is =
-      (b.after, b.goes, saturates int s b.after x.next v size scale m few small most b.there is)
+      (b.after, b.goes, b.keeps, saturates int s b.after x.next v size scale m few small most b.there is)
   stores-saturated (Err e) is = absurd (no_fault v scale Saturate _ e refl is)
 
   -- the test before a store
@@ -134,10 +141,11 @@ module _ (int : Width) (s : Store) (l : Locals) (n d size : ℕ) (scale : Scale)
       (is_err (fitted v scale Error)) (overflows int s b.after x.next v size scale few small most b.there))
 
   stores-tested : (r : Result ℤ Overflow) → fitted v scale Error ≡ r
-      → StoresAs int s l d (stored_c d v.frac size scale Error x) r
+      → StoresAs int s n l d (stored_c d v.frac size scale Error x) r
   stores-tested (Ok m) is = (
     b.after,
     tests ∙ ap (λ (r : Result ℤ Overflow). cond (is_err r) (Faults (Overflows d)) (Goes b.after)) is,
+    b.keeps,
     subst (λ (z : ℤ). Has int s b.after (Local (Signed w) x.next) z) (kept-own v scale m is)
         (local-has int s b.after (Signed w) x.next (floored v scale.frac) b.there),
   )
@@ -145,7 +153,7 @@ module _ (int : Width) (s : Store) (l : Locals) (n d size : ℕ) (scale : Scale)
       (λ (r : Result ℤ Overflow). cond (is_err r) (Faults (Overflows d)) (Goes b.after)) is
 
   stores-wrapped : (r : Result ℤ Overflow) → fitted v scale Wrap ≡ r
-      → StoresAs int s l d (stored_c d v.frac size scale Wrap x) r
+      → StoresAs int s n l d (stored_c d v.frac size scale Wrap x) r
   stores-wrapped (Err e) is = absurd (no_fault v scale Wrap _ e refl is)
   stores-wrapped (Ok m) is =
       let z = floored v scale.frac in
@@ -159,6 +167,8 @@ module _ (int : Width) (s : Store) (l : Locals) (n d size : ℕ) (scale : Scale)
       let means = local-means int s after (Unsigned W64) k u (set-there b.after (Unsigned W64) k u) in (
         after,
         then-goes int s l b.after after _ _ b.goes sets,
+        agree-through n n l b.after after (omega arith) b.keeps
+            (agree-set n k b.after (Unsigned W64) u (omega (arith, up))),
         at after means scale.signed refl,
       )
     where
@@ -173,7 +183,7 @@ module _ (int : Width) (s : Store) (l : Locals) (n d size : ℕ) (scale : Scale)
           (sym (wrapped-unsigned scale (floored v scale.frac) sign) ∙ kept-wrapped v scale m is) (Unsigned W64, means)
 
   -- the C of each mode
-  stores : (mode : Mode) → StoresAs int s l d (stored_c d v.frac size scale mode x) (fitted v scale mode)
+  stores : (mode : Mode) → StoresAs int s n l d (stored_c d v.frac size scale mode x) (fitted v scale mode)
   stores Saturate = stores-saturated (fitted v scale Saturate) refl
   stores Wrap = stores-wrapped (fitted v scale Wrap) refl
   stores Error = stores-tested (fitted v scale Error) refl
@@ -193,7 +203,7 @@ pub assigns : (int : Width) (tests : ℕ → CExpr) (s : Store) (vals : List Dat
     → sort_of (scope_at vals marks) e ≡ Ok (kinds.Number frac size)
     → assignment_fault (sorts.Number scale) (kinds.Number frac size) ≡ None
     → value_of vals marks e ≡ Ok (values.Number v)
-    → StoresAs int s l d (stored_c d frac size scale mode (flat (scope_at vals marks) tests n e)) (fitted v scale mode)
+    → StoresAs int s n l d (stored_c d frac size scale mode (flat (scope_at vals marks) tests n e)) (fitted v scale mode)
 assigns int tests s vals marks e n d l frac size scale mode v fit show active most_int sort none value =
     let c = scope_at vals marks in
     let x = flat c tests n e in
@@ -204,5 +214,6 @@ assigns int tests s vals marks e n d l frac size scale mode v fit show active mo
     (ends_as_value int tests s vals marks e n l (kinds.Number frac size) fit show active sort) in
     let most : size_at scale.frac frac size ≤ 100 = narrow-there (size_at scale.frac frac size) none in
     let few : v.frac ≤ 64 = omega (arith, has.0, narrow.0) in
-    subst (λ (f : ℕ). StoresAs int s l d (stored_c d f size scale mode x) (fitted v scale mode)) has.0
-    (stores int s l n d size scale x v most_int few has.1 (omega (arith, has.0, most)) ends mode)
+    subst (λ (f : ℕ). StoresAs int s n l d (stored_c d f size scale mode x) (fitted v scale mode)) has.0
+    (stores int s l n d size scale x v most_int few has.1 (omega (arith, has.0, most))
+    (locals_up int tests s vals marks e n l (kinds.Number frac size) fit show active sort) ends mode)

@@ -19,7 +19,9 @@ use Rattle.actions.specs.Exprs.{Expr}
 use Rattle.actions.specs.Sorts.{sort_of, assignment_fault}
 use Rattle.actions.specs.Values.{Valued, HasSort, value_of, scope_at}
 use Rattle.actions.proofs.RangeLemmas.{fitted_is_in}
-use Rattle.c_subset.specs.Trees.{Width, Truth, CExpr, Block, Store as PutField}
+use Rattle.c_subset.specs.Trees.{CExpr, Block, Store as PutField}
+use Rattle.c_subset.specs.declared.trees.Width.{Width}
+use Rattle.c_subset.specs.declared.trees.CType.TheVariants.{Truth}
 use Rattle.c_subset.specs.Meaning.{CValue, Meaning, Object, with_meaning, gives, converted, one_if, Store, Locals}
 use Rattle.c_subset.specs.Running.{Calls, with_value, brought_to, with_field, outcome}
 use Rattle.c_subset.proofs.TypeLemmas.{truth-stays}
@@ -37,7 +39,7 @@ use Rattle.c_expressions.proofs.Writing.{written-goes, written-faults}
 -- ---- the struct
 
 -- a field that is stored as a datum is, among fields that show data
-set-shows : (vals : List Datum) (fields : List Object) (v : ℕ) (d : Datum)
+pub set-shows : (vals : List Datum) (fields : List Object) (v : ℕ) (d : Datum)
     → ((u : ℕ) → u < length vals → slice_get fields u ≡ Some (field_of (datum vals u))) → v < length vals
     → (u : ℕ) → u < length (slice_set vals v d)
     → slice_get (slice_set fields v (field_of d)) u ≡ Some (field_of (datum (slice_set vals v d) u))
@@ -87,18 +89,19 @@ stored-faults int s l v frac size scale Error x f is = then-faults int s l _ _ f
 module _ (int : Width) (calls : Calls) (k : ℕ) (helper : Width → ℕ) (faulted : Fault → Block)
     (after : Fault → Store → Store) (bad : CValue) (s : Store) (divides : Divides calls helper s)
     (returning : Returning int calls k faulted after bad s) (vals : List Datum) (v : ℕ) (show : ShowsData vals s)
-    (there : v < length vals) (rest : Block) (l : Locals) where
+    (there : v < length vals) (rest : Block) (n : ℕ) (l : Locals) where
   -- what the code of an assignment ends as, its statements do
-  stores-assign : (c : Stores) (r : Result ℤ Overflow) → StoresAs int s l v c r
+  stores-assign : (c : Stores) (r : Result ℤ Overflow) → StoresAs int s n l v c r
       → ((m : ℤ) → r ≡ Ok m → converted (field_type (datum vals v).sort) m ≡ gives (field_type (datum vals v).sort) m)
-      → EndsAssigned (λ u m. outcome int calls k rest u m) after bad v s
+      → EndsAssigned (λ u m. outcome int calls k rest u m) after bad v s n l
       (outcome int calls k (assigned_block helper faulted v c rest) s l) (keep vals v r)
   stores-assign c (Ok m) ends takes =
-      let put = put-stores int calls k s ends.0 vals v m c.kept rest show there ends.2 (takes m refl) in (
+      let put = put-stores int calls k s ends.0 vals v m c.kept rest show there ends.3 (takes m refl) in (
         record { type = field_type (datum vals v).sort; value = m },
         ends.0,
         written-goes int calls k helper faulted after bad s divides returning c.code
             (PutField v c.kept rest) l ends.0 ends.1 ∙ put.0,
+        ends.2,
         put.1,
       )
   stores-assign c (Err e) ends takes =
@@ -107,7 +110,7 @@ module _ (int : Width) (calls : Calls) (k : ℕ) (helper : Width → ℕ) (fault
 
   -- a fault of the expression
   faults-assign : (c : Stores) (f : Fault) → ending int s l c.code ≡ Faults f
-      → EndsAssigned (λ u m. outcome int calls k rest u m) after bad v s
+      → EndsAssigned (λ u m. outcome int calls k rest u m) after bad v s n l
       (outcome int calls k (assigned_block helper faulted v c rest) s l) (Err f)
   faults-assign c f is =
       written-faults int calls k helper faulted after bad s divides returning c.code (PutField v c.kept rest) l f is
@@ -118,7 +121,7 @@ pub assigns-data : (int : Width) (tests : ℕ → CExpr) (calls : Calls) (k : �
     (after : Fault → Store → Store) (bad : CValue) (s : Store) (vals : List Datum) (marks : Configuration) (v : ℕ)
     (e : Expr) (sort : ExprSort) (n : ℕ) (rest : Block) (l : Locals)
     → CanAssign int tests calls k helper faulted after bad s vals marks v e sort
-    → EndsAssigned (λ u m. outcome int calls k rest u m) after bad v s
+    → EndsAssigned (λ u m. outcome int calls k rest u m) after bad v s n l
     (outcome int calls k (assigned_block helper faulted v
     (stores_of v (datum vals v).sort (datum vals v).mode sort (flat (scope_at vals marks) tests n e)) rest) s l)
     (assigned_by vals v (value_of vals marks e))
@@ -131,22 +134,22 @@ assigns-data int tests calls k helper faulted after bad s vals marks v e sort n 
     x : Flat
     x = flat (scope_at vals marks) tests n e
 
-    stores : (st : Stores) (r : Result ℤ Overflow) → StoresAs int s l v st r
+    stores : (st : Stores) (r : Result ℤ Overflow) → StoresAs int s n l v st r
         → ((m : ℤ) → r ≡ Ok m → converted (field_type (datum vals v).sort) m ≡ gives (field_type (datum vals v).sort) m)
-        → EndsAssigned (λ u m. outcome int calls k rest u m) after bad v s
+        → EndsAssigned (λ u m. outcome int calls k rest u m) after bad v s n l
         (outcome int calls k (assigned_block helper faulted v st rest) s l) (keep vals v r)
-    stores = stores-assign int calls k helper faulted after bad s c.divides c.returning vals v c.shown c.there rest l
+    stores = stores-assign int calls k helper faulted after bad s c.divides c.returning vals v c.shown c.there rest n l
 
     faults : (st : Stores) (f : Fault) → ending int s l st.code ≡ Faults f
-        → EndsAssigned (λ u m. outcome int calls k rest u m) after bad v s
+        → EndsAssigned (λ u m. outcome int calls k rest u m) after bad v s n l
         (outcome int calls k (assigned_block helper faulted v st rest) s l) (Err f)
-    faults = faults-assign int calls k helper faulted after bad s c.divides c.returning vals v c.shown c.there rest l
+    faults = faults-assign int calls k helper faulted after bad s c.divides c.returning vals v c.shown c.there rest n l
 
     by_sort : (so : Sort) (given : ExprSort) (value : Valued) → (datum vals v).sort ≡ so → assignment_fault so given
         ≡ None
         → sort_of (scope_at vals marks) e ≡ Ok given → value_of vals marks e ≡ value → IfOk value (HasSort given)
         → EndsAs int s n x l value
-        → EndsAssigned (λ u m. outcome int calls k rest u m) after bad v s
+        → EndsAssigned (λ u m. outcome int calls k rest u m) after bad v s n l
         (outcome int calls k (assigned_block helper faulted v (stores_of v so (datum vals v).mode given x) rest) s l)
         (assigned_by vals v value)
     by_sort sorts.Flag kinds.Flag (Err f) is none sorted value has ends = faults
@@ -154,7 +157,7 @@ assigns-data int tests calls k helper faulted after bad s vals marks v e sort n 
     by_sort sorts.Flag kinds.Flag (Ok (values.Number y)) is none sorted value has ends = absurd has
     by_sort sorts.Flag kinds.Flag (Ok (values.Flag b)) is none sorted value has ends =
         stores (record { code = x.code; kept = x.expr }) (Ok (one_if b))
-        (ends.0, ends.1, ends.3 ends.0 (agree-itself x.next ends.0))
+        (ends.0, ends.1, ends.2, ends.3 ends.0 (agree-itself x.next ends.0))
         (λ m same. let own : one_if b ≡ m = cc in
         subst (λ (so : Sort). converted (field_type so) m ≡ gives (field_type so) m) (sym is)
         (subst (λ (z : ℤ). converted Truth z ≡ gives Truth z) own (flag-takes b)))
@@ -168,7 +171,7 @@ assigns-data int tests calls k helper faulted after bad s vals marks v e sort n 
     by_sort (sorts.Number scale) (kinds.Number frac size) (Ok (values.Number y)) is none sorted value has ends =
         let mode = (datum vals v).mode in
         let st = stored_c v frac size scale mode x in
-        subst (λ (so : Sort). EndsAssigned (λ u m. outcome int calls k rest u m) after bad v s
+        subst (λ (so : Sort). EndsAssigned (λ u m. outcome int calls k rest u m) after bad v s n l
         (outcome int calls k (assigned_block helper faulted v st rest) s l) (keep vals v (kept_number y so mode)))
         (sym is)
         (stores st (fitted y scale mode)

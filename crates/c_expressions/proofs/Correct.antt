@@ -27,7 +27,9 @@ use Rattle.actions.proofs.OperatorLemmas.{number_within-is}
 use Rattle.actions.proofs.OperandLemmas.{applied-has_sort, has_flag}
 use Rattle.actions.proofs.NarrowLemmas.{sort_of-narrow}
 use Rattle.actions.proofs.SortLemmas.{literal-has_sort, value-has_sort, datum-there}
-use Rattle.c_subset.specs.Trees.{Width, Signed, Truth, CExpr, Const, Field, Bang}
+use Rattle.c_subset.specs.Trees.{CExpr, Const, Field, Bang}
+use Rattle.c_subset.specs.declared.trees.Width.{Width}
+use Rattle.c_subset.specs.declared.trees.CType.TheVariants.{Signed, Truth}
 use Rattle.c_subset.specs.Meaning.{gives, read, one_if, Store, Locals, meaning}
 use Rattle.c_expressions.specs.Code.{Nothing, Faults, ending}
 use Rattle.c_expressions.specs.Translation.{Flat, flat, operator_flat, operator_c, eager_flat, lazy_flat, quotient_flat}
@@ -468,3 +470,10 @@ pub value_has_sort : (int : Width) (tests : ℕ → CExpr) (s : Store) (vals : L
     → sort_of (scope_at vals marks) e ≡ Ok sort → IfOk (value_of vals marks e) (HasSort sort)
 value_has_sort int tests s vals marks e n l sort fit show active is =
     (correct int tests s vals marks fit show active e n l sort is).sorted
+
+-- and it uses locals from n on
+pub locals_up : (int : Width) (tests : ℕ → CExpr) (s : Store) (vals : List Datum) (marks : Configuration) (e : Expr)
+    (n : ℕ) (l : Locals) (sort : ExprSort) → HaveTheirSorts vals → ShowsData vals s → ShowsActive int tests marks s
+    → sort_of (scope_at vals marks) e ≡ Ok sort → n ≤ (flat (scope_at vals marks) tests n e).next
+locals_up int tests s vals marks e n l sort fit show active is =
+    (correct int tests s vals marks fit show active e n l sort is).up

@@ -1,9 +1,11 @@
 -- && and ||: the right side is evaluated only where the left doesn't decide.
-use Rattle.std.proofs.Common.{◌≡◌, ℕ, ◌≤◌, Bool, true, false, cond, not, Ok, Err, IfOk, refl, ap, ◌∙◌, arith}
+use Rattle.std.proofs.Common.{◌≡◌, ℕ, ◌≤◌, Bool, true, false, cond, not, ◌&&◌, Ok, Err, IfOk, refl, ap, ◌∙◌, arith}
 use Rattle.actions.specs.declared.expr.Value.TheVariants as values
 use Rattle.actions.specs.declared.sort.ExprSort.TheVariants as kinds
 use Rattle.actions.specs.Values.{Valued, HasSort}
-use Rattle.c_subset.specs.Trees.{Width, Signed, Truth, CExpr, Bang, Both, Either, Local}
+use Rattle.c_subset.specs.Trees.{CExpr, Bang, Both, Either, Local}
+use Rattle.c_subset.specs.declared.trees.Width.{Width}
+use Rattle.c_subset.specs.declared.trees.CType.TheVariants.{Signed, Truth}
 use Rattle.c_subset.specs.Meaning.{Meaning, with_meaning, gives, is_true, one_if, truth, Store, Locals, meaning}
 use Rattle.c_subset.specs.Running.{with_local}
 use Rattle.c_expressions.specs.Code.{CCode, Nothing, Then, Set, Divide, FaultIf, If, Ending, Goes, Faults, with_result}
@@ -75,11 +77,18 @@ pub either-decides : (int : Width) (s : Store) (a b : CExpr) → Decides int s t
 either-decides int s a b =
     record { at_once = λ l. either-decided int s l a b; goes_on = λ l. either-goes_on int s l a b }
 
+-- both of two tests hold
+both-hold : (p q : Bool) → (p && q) ≡ true → (p ≡ true) × (q ≡ true)
+both-hold true q is = (refl, is)
+both-hold false q is = absurd cc
+
 -- code that is nothing
 nothing-goes : (int : Width) (s : Store) (l : Locals) (c : CCode) → is_nothing c ≡ true → ending int s l c ≡ Goes l
 unfolding ending
 nothing-goes int s l Nothing is = refl
-nothing-goes int s l (Then a b) is = cc
+nothing-goes int s l (Then a b) is =
+    let both = both-hold (is_nothing a) (is_nothing b) is in
+    then-goes int s l l l a b (nothing-goes int s l a both.0) (nothing-goes int s l b both.1)
 nothing-goes int s l (Set t k e) is = cc
 nothing-goes int s l (Divide w k a b) is = cc
 nothing-goes int s l (FaultIf x e) is = cc

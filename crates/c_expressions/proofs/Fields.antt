@@ -14,7 +14,10 @@ use Rattle.fixed_point.specs.declared.scale.Scale.{Scale}
 use Rattle.fixed_point.specs.declared.fitting.Mode.TheVariants.{Saturate, Error}
 use Rattle.actions.specs.declared.names.Sort.TheVariants as sorts
 use Rattle.actions.specs.Sorts.{size_at}
-use Rattle.c_subset.specs.Trees.{Width, W8, W16, W32, W64, Signed, Unsigned, Local}
+use Rattle.c_subset.specs.Trees.{Local}
+use Rattle.c_subset.specs.declared.trees.Width.{Width}
+use Rattle.c_subset.specs.declared.trees.Width.TheVariants.{W8, W16, W32, W64}
+use Rattle.c_subset.specs.declared.trees.CType.TheVariants.{Signed, Unsigned}
 use Rattle.c_subset.specs.Meaning.{bits, Wrong, gives, converted, fits_signed, one_if, Store, Locals}
 use Rattle.c_expressions.specs.Storing.{floored_width, saturated_c, out_c}
 use Rattle.c_expressions.specs.Claims.{Has, least_width, field_type}

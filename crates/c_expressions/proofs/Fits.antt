@@ -5,7 +5,9 @@ use Rattle.std.proofs.lemmas.Nat.{pow-add, pow_pos}
 use Rattle.std.proofs.lemmas.Int.{ints}
 use Rattle.std.proofs.lemmas.Bool.Decides.{nat_tests}
 use Rattle.fixed_point.proofs.Powers.{power-le}
-use Rattle.c_subset.specs.Trees.{Width, W8, W16, W32, W64, W128, Signed}
+use Rattle.c_subset.specs.declared.trees.Width.{Width}
+use Rattle.c_subset.specs.declared.trees.Width.TheVariants.{W8, W16, W32, W64, W128}
+use Rattle.c_subset.specs.declared.trees.CType.TheVariants.{Signed}
 use Rattle.c_subset.specs.Meaning.{bits, fits_signed, Wrong, gives, as_signed, one_if}
 use Rattle.c_expressions.specs.Translation.{width_for}
 

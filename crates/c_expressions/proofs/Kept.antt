@@ -10,7 +10,10 @@ use Rattle.fixed_point.specs.Scales.{least, greatest, is_in_range, wrapped, by_m
 use Rattle.fixed_point.specs.declared.num.Num.{Num}
 use Rattle.fixed_point.specs.declared.scale.Scale.{Scale}
 use Rattle.fixed_point.specs.declared.fitting.Mode.TheVariants.{Wrap}
-use Rattle.c_subset.specs.Trees.{Width, Unsigned, W64, CExpr}
+use Rattle.c_subset.specs.Trees.{CExpr}
+use Rattle.c_subset.specs.declared.trees.Width.{Width}
+use Rattle.c_subset.specs.declared.trees.CType.TheVariants.{Unsigned}
+use Rattle.c_subset.specs.declared.trees.Width.TheVariants.{W64}
 use Rattle.c_subset.specs.Meaning.{bits, gives, Store, Locals, meaning}
 use Rattle.c_expressions.specs.Storing.{low_bits_c, signed_c}
 use Rattle.c_expressions.specs.Claims.{Has}

@@ -10,8 +10,14 @@ use Rattle.actions.specs.Sorts.{size_at, sum_sort, product_sort, quotient_sort, 
 use Rattle.actions.proofs.MagnitudeLemmas.{size-weaker, shifted-within, scaled-within, product-within, sum-within}
 use Rattle.actions.proofs.MagnitudeLemmas.{difference-within}
 use Rattle.actions.proofs.OperatorLemmas.{AreSized, number_within-is, comparison_sort-is}
-use Rattle.c_subset.specs.Trees.{Width, Signed, Arithmetic, Times, Comparison, IsEqual, IsBelow, IsAtMost, IsAbove}
-use Rattle.c_subset.specs.Trees.{IsAtLeast, CExpr, Cast, Minus}
+use Rattle.c_subset.specs.declared.trees.Width.{Width}
+use Rattle.c_subset.specs.declared.trees.CType.TheVariants.{Signed}
+use Rattle.c_subset.specs.declared.trees.Arithmetic.{Arithmetic}
+use Rattle.c_subset.specs.declared.trees.Arithmetic.TheVariants.{Times}
+use Rattle.c_subset.specs.declared.trees.Comparison.{Comparison}
+use Rattle.c_subset.specs.declared.trees.Comparison.TheVariants.{IsEqual, IsBelow, IsAtMost, IsAbove}
+use Rattle.c_subset.specs.Trees.{CExpr, Cast, Minus}
+use Rattle.c_subset.specs.declared.trees.Comparison.TheVariants.{IsAtLeast}
 use Rattle.c_subset.specs.Meaning.{bits, exact, passes, one_if, Store, Locals}
 use Rattle.c_expressions.specs.Translation.{brought, width_for, sum_width, sum_c, product_c, comparison_width}
 use Rattle.c_expressions.specs.Translation.{comparison_c, quotient_width, dividend_c}

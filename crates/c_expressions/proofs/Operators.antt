@@ -4,7 +4,13 @@ use Rattle.std.proofs.Common.{Bool, true, false, cond, not, Some, refl, sym, ap,
 use Rattle.fixed_point.proofs.Powers.{power-le}
 use Rattle.fixed_point.specs.Numbers.{floor_div}
 use Rattle.actions.proofs.MagnitudeLemmas.{size-weaker, shifted-within, unsigned_abs-neg, floor_div-within}
-use Rattle.c_subset.specs.Trees.{Width, CType, Signed, Arithmetic, Times, Comparison, CExpr, Const, Local, Cast, Minus}
+use Rattle.c_subset.specs.Trees.{CExpr, Const, Local, Cast, Minus}
+use Rattle.c_subset.specs.declared.trees.Width.{Width}
+use Rattle.c_subset.specs.declared.trees.CType.{CType}
+use Rattle.c_subset.specs.declared.trees.CType.TheVariants.{Signed}
+use Rattle.c_subset.specs.declared.trees.Arithmetic.{Arithmetic}
+use Rattle.c_subset.specs.declared.trees.Arithmetic.TheVariants.{Times}
+use Rattle.c_subset.specs.declared.trees.Comparison.{Comparison}
 use Rattle.c_subset.specs.Trees.{Bang, Calc, Compare}
 use Rattle.c_subset.specs.Meaning.{bits, CValue, Meaning, Wrong, with_meaning, gives, converted, as_signed, exact}
 use Rattle.c_subset.specs.Meaning.{calculated, compared, passes, negated, truth, one_if, is_true, read_as, Store}

@@ -14,7 +14,11 @@ use Rattle.actions.specs.Sorts.{size_at, quotient_sort}
 use Rattle.actions.specs.Values.{quotient_value}
 use Rattle.actions.proofs.MagnitudeLemmas.{size-weaker, dividend-within}
 use Rattle.actions.proofs.OperatorLemmas.{AreSized, number_within-is}
-use Rattle.c_subset.specs.Trees.{Width, CType, Signed, IsEqual, CExpr, Const, Local}
+use Rattle.c_subset.specs.Trees.{CExpr, Const, Local}
+use Rattle.c_subset.specs.declared.trees.Width.{Width}
+use Rattle.c_subset.specs.declared.trees.CType.{CType}
+use Rattle.c_subset.specs.declared.trees.CType.TheVariants.{Signed}
+use Rattle.c_subset.specs.declared.trees.Comparison.TheVariants.{IsEqual}
 use Rattle.c_subset.specs.Meaning.{bits, Meaning, with_meaning, gives, converted, passes, one_if, is_true, read_as}
 use Rattle.c_subset.specs.Meaning.{Store, Locals, meaning}
 use Rattle.c_subset.specs.Running.{with_local}

@@ -4,7 +4,9 @@ use Rattle.std.proofs.Common.{subst, arith}
 use Rattle.flow_base.specs.declared.fault.Fault.{Fault}
 use Rattle.actions.specs.declared.expr.Value.{Value}
 use Rattle.actions.specs.Values.{Valued, with_value}
-use Rattle.c_subset.specs.Trees.{Width, CType, CExpr}
+use Rattle.c_subset.specs.Trees.{CExpr}
+use Rattle.c_subset.specs.declared.trees.Width.{Width}
+use Rattle.c_subset.specs.declared.trees.CType.{CType}
 use Rattle.c_subset.specs.Meaning.{Store, Locals}
 use Rattle.c_subset.specs.Running.{same_type, with_local}
 use Rattle.c_subset.proofs.TypeLemmas.{same_type-itself}

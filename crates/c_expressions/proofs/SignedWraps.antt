@@ -9,8 +9,15 @@ use Rattle.std.specs.Int.{int_rem_euclid}
 use Rattle.fixed_point.proofs.Powers.{power-le}
 use Rattle.fixed_point.specs.Scales.{wrapped}
 use Rattle.fixed_point.specs.declared.scale.Scale.{Scale}
-use Rattle.c_subset.specs.Trees.{Width, W8, W16, W32, W64, W128, CType, Signed, Unsigned, Arithmetic, Less, Comparison}
-use Rattle.c_subset.specs.Trees.{IsAtMost, CExpr, Const, Cast, Minus, Calc, Compare}
+use Rattle.c_subset.specs.declared.trees.Width.{Width}
+use Rattle.c_subset.specs.declared.trees.Width.TheVariants.{W8, W16, W32, W64, W128}
+use Rattle.c_subset.specs.declared.trees.CType.{CType}
+use Rattle.c_subset.specs.declared.trees.CType.TheVariants.{Signed, Unsigned}
+use Rattle.c_subset.specs.declared.trees.Arithmetic.{Arithmetic}
+use Rattle.c_subset.specs.declared.trees.Arithmetic.TheVariants.{Less}
+use Rattle.c_subset.specs.declared.trees.Comparison.{Comparison}
+use Rattle.c_subset.specs.Trees.{CExpr, Const, Cast, Minus, Calc, Compare}
+use Rattle.c_subset.specs.declared.trees.Comparison.TheVariants.{IsAtMost}
 use Rattle.c_subset.specs.Meaning.{bits, Meaning, Wrong, with_meaning, gives, converted, fits_signed, exact, calculated}
 use Rattle.c_subset.specs.Meaning.{compared, negated, passes, truth, one_if, promoted, common, common_of, Store, Locals}
 use Rattle.c_subset.specs.Meaning.{meaning}

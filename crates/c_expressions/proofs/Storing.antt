@@ -12,7 +12,11 @@ use Rattle.fixed_point.specs.declared.num.Num.{Num}
 use Rattle.fixed_point.specs.declared.scale.Scale.{Scale}
 use Rattle.actions.specs.Sorts.{size_at, magnitude_bits}
 use Rattle.actions.proofs.MagnitudeLemmas.{size-weaker, scaled-within, floor_div-within}
-use Rattle.c_subset.specs.Trees.{Width, CType, Signed, Truth, IsBelow, IsAbove, CExpr, Const, Either, Choose}
+use Rattle.c_subset.specs.Trees.{CExpr, Const, Either, Choose}
+use Rattle.c_subset.specs.declared.trees.Width.{Width}
+use Rattle.c_subset.specs.declared.trees.CType.{CType}
+use Rattle.c_subset.specs.declared.trees.CType.TheVariants.{Signed, Truth}
+use Rattle.c_subset.specs.declared.trees.Comparison.TheVariants.{IsBelow, IsAbove}
 use Rattle.c_subset.specs.Meaning.{bits, fits_signed, Meaning, with_meaning, gives, as_signed, converted, promoted}
 use Rattle.c_subset.specs.Meaning.{is_true, one_if, Store, Locals, meaning}
 use Rattle.c_expressions.specs.Translation.{brought}

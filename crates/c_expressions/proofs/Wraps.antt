@@ -7,7 +7,12 @@ use Rattle.std.proofs.lemmas.Nat.{pow_pos, pow-add, mul-le, mod-pow-add, mod-mul
 use Rattle.std.specs.Int.{int_rem_euclid}
 use Rattle.fixed_point.specs.Scales.{wrapped}
 use Rattle.fixed_point.specs.declared.scale.Scale.{Scale}
-use Rattle.c_subset.specs.Trees.{Width, W8, W16, W32, W64, W128, CType, Unsigned, BitAnd, CExpr}
+use Rattle.c_subset.specs.Trees.{CExpr}
+use Rattle.c_subset.specs.declared.trees.Width.{Width}
+use Rattle.c_subset.specs.declared.trees.Width.TheVariants.{W8, W16, W32, W64, W128}
+use Rattle.c_subset.specs.declared.trees.CType.{CType}
+use Rattle.c_subset.specs.declared.trees.CType.TheVariants.{Unsigned}
+use Rattle.c_subset.specs.declared.trees.Bitwise.TheVariants.{BitAnd}
 use Rattle.c_subset.specs.Meaning.{bits, CValue, Meaning, with_meaning, gives, converted, combined, combined_in, common}
 use Rattle.c_subset.specs.Meaning.{common_of, promoted, Store, Locals, meaning}
 use Rattle.c_expressions.specs.Storing.{low_bits_c}

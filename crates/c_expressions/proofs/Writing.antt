@@ -3,7 +3,9 @@ use Rattle.std.proofs.Common.{◌≡◌, ℕ, suc, ℤ, Bool, true, false, cond,
 use Rattle.std.proofs.Common.{subst, arith}
 use Rattle.flow_base.specs.declared.fault.Fault.{Fault}
 use Rattle.fixed_point.specs.Numbers.{floor_div}
-use Rattle.c_subset.specs.Trees.{Width, Signed, Block, End, File}
+use Rattle.c_subset.specs.Trees.{Block, End, File}
+use Rattle.c_subset.specs.declared.trees.Width.{Width}
+use Rattle.c_subset.specs.declared.trees.CType.TheVariants.{Signed}
 use Rattle.c_subset.specs.Meaning.{bits, fits_signed, CValue, Meaning, Gives, Wrong, with_meaning, gives, as_signed}
 use Rattle.c_subset.specs.Meaning.{converted, is_true, Store, Locals, meaning}
 use Rattle.c_subset.specs.Running.{Outcome, Falls, Returns, with_value, and_on, with_local, Calls, with_values, called}

@@ -11,13 +11,14 @@ use Rattle.actions.specs.Data.{Datum, datum, assigned, HaveTheirSorts}
 use Rattle.actions.specs.Exprs.{Expr}
 use Rattle.actions.specs.Sorts.{sort_of, assignment_fault}
 use Rattle.actions.specs.Values.{Valued, scope_at}
-use Rattle.c_subset.specs.Trees.{Width, CExpr, Block, Store as PutField}
+use Rattle.c_subset.specs.Trees.{CExpr, Block, Store as PutField}
+use Rattle.c_subset.specs.declared.trees.Width.{Width}
 use Rattle.c_subset.specs.Meaning.{bits, CValue, Store, Locals}
 use Rattle.c_subset.specs.Running.{Calls, Outcome, Returns, with_field}
 use Rattle.c_expressions.specs.Code.{written, Divides, Returning}
 use Rattle.c_expressions.specs.Translation.{Flat}
 use Rattle.c_expressions.specs.Storing.{Stores, stored_c}
-use Rattle.c_expressions.specs.Claims.{ShowsData, ShowsActive}
+use Rattle.c_expressions.specs.Claims.{ShowsData, ShowsActive, AgreeBelow}
 
 -- what is stored of an expression: of a number what the mode keeps of it, and a flag as it is
 abbrev pub stores_of : ℕ → Sort → Mode → ExprSort → Flat → Stores
@@ -34,13 +35,13 @@ abbrev pub assigned_by : List Datum → ℕ → Valued → Result (List Datum) F
 assigned_by vals v (Ok value) = assigned vals v value
 assigned_by vals v (Err x) = Err x
 
--- the statements store a value in the datum's field and go on, and the struct shows the new data; or they return with
--- the fault
-abbrev pub EndsAssigned : (Store → Locals → Outcome) → (Fault → Store → Store) → CValue → ℕ → Store → Outcome
+-- the statements store a value in the datum's field and go on, with the same locals below n, and the struct shows the
+-- new data; or they return with the fault
+abbrev pub EndsAssigned : (Store → Locals → Outcome) → (Fault → Store → Store) → CValue → ℕ → Store → ℕ → Locals → Outcome
     → Result (List Datum) Fault → Type 0
-EndsAssigned go after bad v s o (Ok vals) =
-    (x : CValue) × (l : Locals) × (o ≡ go (with_field s v x) l) × ShowsData vals (with_field s v x)
-EndsAssigned go after bad v s o (Err fault) = o ≡ Returns (after fault s) bad
+EndsAssigned go after bad v s n l o (Ok vals) =
+    (x : CValue) × (m : Locals) × (o ≡ go (with_field s v x) m) × AgreeBelow n l m × ShowsData vals (with_field s v x)
+EndsAssigned go after bad v s n l o (Err fault) = o ≡ Returns (after fault s) bad
 
 -- what the assignment of an expression to a datum needs: the struct shows data of their sorts and which states are
 -- active, int has at most 64 bits, flow_divW is there, what is written for a fault returns, and the datum takes the

@@ -7,7 +7,11 @@ use Rattle.actions.specs.declared.names.Sort.{Sort}
 use Rattle.actions.specs.declared.names.Sort.TheVariants as sorts
 use Rattle.actions.specs.Data.{Datum, datum}
 use Rattle.actions.specs.Values.{Valued}
-use Rattle.c_subset.specs.Trees.{Width, W8, W16, W32, W64, CType, Signed, Unsigned, Truth, CExpr}
+use Rattle.c_subset.specs.Trees.{CExpr}
+use Rattle.c_subset.specs.declared.trees.Width.{Width}
+use Rattle.c_subset.specs.declared.trees.Width.TheVariants.{W8, W16, W32, W64}
+use Rattle.c_subset.specs.declared.trees.CType.{CType}
+use Rattle.c_subset.specs.declared.trees.CType.TheVariants.{Signed, Unsigned, Truth}
 use Rattle.c_subset.specs.Meaning.{Object, Store, Locals, meaning, gives, one_if}
 use Rattle.c_expressions.specs.Code.{ending, Goes, Faults}
 use Rattle.c_expressions.specs.Translation.{Flat}

@@ -2,7 +2,10 @@
 use Rattle.std.specs.Prelude.{◌≡◌, ℕ, ◌∷◌, [], ℤ, if◌then◌else◌}
 use Rattle.flow_base.specs.declared.fault.Fault.{Fault}
 use Rattle.fixed_point.specs.Numbers.{floor_div}
-use Rattle.c_subset.specs.Trees.{Width, CType, Signed, CExpr, Block, End}
+use Rattle.c_subset.specs.Trees.{CExpr, Block, End}
+use Rattle.c_subset.specs.declared.trees.Width.{Width}
+use Rattle.c_subset.specs.declared.trees.CType.{CType}
+use Rattle.c_subset.specs.declared.trees.CType.TheVariants.{Signed}
 use Rattle.c_subset.specs.Trees as c
 use Rattle.c_subset.specs.Meaning.{CValue, Meaning, Gives, Wrong, with_meaning, gives, as_signed, converted, is_true}
 use Rattle.c_subset.specs.Meaning.{Store, Locals, meaning}

@@ -8,11 +8,16 @@ use Rattle.fixed_point.specs.declared.fitting.Overflow.{Overflow}
 use Rattle.flow_base.specs.declared.fault.Fault.TheVariants.{Overflow as Overflows}
 use Rattle.c_subset.specs.Meaning.{Store, Locals}
 use Rattle.c_expressions.specs.Code.{CCode, Then, Set, Divide, FaultIf, ending, Goes, Faults}
-use Rattle.c_expressions.specs.Claims.{Has}
+use Rattle.c_expressions.specs.Claims.{Has, AgreeBelow}
 use Rattle.fixed_point.specs.Scales.{least, greatest}
 use Rattle.actions.specs.Sorts.{size_at, magnitude_bits}
-use Rattle.c_subset.specs.Trees.{Width, Signed, Unsigned, Truth, W64, Less, IsBelow, IsAtMost, IsAbove}
-use Rattle.c_subset.specs.Trees.{CExpr, Const, Local, Cast, Minus, Calc, Compare, Either, Choose, Bits, BitAnd}
+use Rattle.c_subset.specs.declared.trees.Width.{Width}
+use Rattle.c_subset.specs.declared.trees.CType.TheVariants.{Signed, Unsigned, Truth}
+use Rattle.c_subset.specs.declared.trees.Width.TheVariants.{W64}
+use Rattle.c_subset.specs.declared.trees.Arithmetic.TheVariants.{Less}
+use Rattle.c_subset.specs.declared.trees.Comparison.TheVariants.{IsBelow, IsAtMost, IsAbove}
+use Rattle.c_subset.specs.Trees.{CExpr, Const, Local, Cast, Minus, Calc, Compare, Either, Choose, Bits}
+use Rattle.c_subset.specs.declared.trees.Bitwise.TheVariants.{BitAnd}
 use Rattle.c_expressions.specs.Translation.{Flat, width_for, brought}
 
 -- ---- at the datum's fraction
@@ -118,7 +123,9 @@ stored_c v frac size scale Wrap x = record {
 
 -- ---- claims
 
--- the code goes on, and then the field takes what is kept, as it is; or it faults, where the datum overflows
-abbrev pub StoresAs : Width → Store → Locals → ℕ → Stores → Result ℤ Overflow → Type 0
-StoresAs int s l v c (Ok m) = (after : Locals) × (ending int s l c.code ≡ Goes after) × Has int s after c.kept m
-StoresAs int s l v c (Err e) = ending int s l c.code ≡ Faults (Overflows v)
+-- the code goes on, with the same locals below n, and then the field takes what is kept, as it is; or it faults, where
+-- the datum overflows
+abbrev pub StoresAs : Width → Store → ℕ → Locals → ℕ → Stores → Result ℤ Overflow → Type 0
+StoresAs int s n l v c (Ok m) =
+    (after : Locals) × (ending int s l c.code ≡ Goes after) × AgreeBelow n l after × Has int s after c.kept m
+StoresAs int s n l v c (Err e) = ending int s l c.code ≡ Faults (Overflows v)

@@ -14,7 +14,8 @@ ghost use Rattle.actions.specs.Data.{Datum, datum, HaveTheirSorts};
 ghost use Rattle.actions.specs.Exprs.{Expr};
 ghost use Rattle.actions.specs.Sorts.{sort_of, assignment_fault};
 ghost use Rattle.actions.specs.Values.{value_of, scope_at};
-ghost use Rattle.c_subset.specs.Trees.{Width, CExpr, Block, File};
+ghost use Rattle.c_subset.specs.Trees.{CExpr, Block, File};
+ghost use Rattle.c_subset.specs.declared.trees.Width.{Width};
 ghost use Rattle.c_subset.specs.Meaning.{bits, CValue, Store, Locals, converted, gives};
 ghost use Rattle.c_subset.specs.Running.{Calls, Returns, outcome, call};
 ghost use Rattle.c_subset.specs.Helpers.{floor_function};
@@ -48,7 +49,8 @@ pub fn assignments_store_what_is_kept()
         sort_of (scope_at vals marks) e ≡ Ok (kinds.Number frac size) →
         assignment_fault (sorts.Number scale) (kinds.Number frac size) ≡ None →
         value_of vals marks e ≡ Ok (values.Number v) →
-        StoresAs int s l d (stored_c d frac size scale mode (flat (scope_at vals marks) tests n e))
+        StoresAs int s n l d
+        (stored_c d frac size scale mode (flat (scope_at vals marks) tests n e))
         (fitted v scale mode) }
     ensures field { (scale : Scale) (m : ℤ) → IsTrue (is_in_range scale m) →
         converted (field_type (sorts.Number scale)) m ≡ gives (field_type (sorts.Number scale)) m }
@@ -84,7 +86,7 @@ pub fn assignments_change_the_struct()
         (vals : List Datum) (marks : Configuration) (v : ℕ) (e : Expr) (sort : ExprSort) (n : ℕ)
         (rest : Block) (l : Locals) →
         CanAssign int tests calls k helper faulted after bad s vals marks v e sort →
-        EndsAssigned (λ u m. outcome int calls k rest u m) after bad v s
+        EndsAssigned (λ u m. outcome int calls k rest u m) after bad v s n l
         (outcome int calls k (assigned_block helper faulted v
         (stores_of v (datum vals v).sort (datum vals v).mode sort
         (flat (scope_at vals marks) tests n e))

@@ -2,3 +2,4 @@ pub mod TypeLemmas
 pub mod FloorBody
 pub mod FloorCalls
 pub mod Unset
+pub mod Fuel

@@ -1,5 +1,6 @@
 //! What holds of the subset.
-ghost use Rattle.std.specs.Prelude.{◌≡◌, ℕ, suc, pos, negsuc, List, [], ◌∷◌, Some, slice_get, true};
+ghost use Rattle.std.specs.Prelude.{◌≡◌, ◌≢◌, ◌≤◌, ℕ, suc, pos, negsuc, List, [], ◌∷◌, Some};
+ghost use Rattle.std.specs.Prelude.{slice_get, true};
 ghost use Rattle.fixed_point.specs.Numbers.{floor_div};
 ghost use Rattle.c_subset.specs.Trees.{Width, W8, W16, W32, CType, Signed, Unsigned, Plus, Less};
 ghost use Rattle.c_subset.specs.Trees.{Times, Quotient, Remainder, BitAnd};
@@ -8,7 +9,7 @@ ghost use Rattle.c_subset.specs.Trees.{Divide, Bits, Both, StoreAt, Block, End, 
 ghost use Rattle.c_subset.specs.Meaning.{bits, fits_signed, is_true, CValue, Object, Store, Locals};
 ghost use Rattle.c_subset.specs.Meaning.{Wrong, gives, meaning};
 ghost use Rattle.c_subset.specs.Running.{Calls, outcome, call, no_locals, no_values, Returns};
-ghost use Rattle.c_subset.specs.Running.{GoesWrong};
+ghost use Rattle.c_subset.specs.Running.{Starves, GoesWrong};
 ghost use Rattle.c_subset.specs.Helpers.{floor_function};
 
 /// A call of the helper for quotients gives the greatest whole number that is at most the quotient,
@@ -80,4 +81,11 @@ pub fn what_is_undefined_is_wrong()
     ensures no_value_returned { (file : File) (int : Width) (k f : ℕ) (s : Store) (t : CType) →
         slice_get file.functions f ≡ Some (record { result = t; parameters = []; body = End }) →
         call file int (suc k) f [] s ≡ GoesWrong }
+{}
+
+/// More fuel changes nothing: a call that ends with some fuel ends so with any more, and one that
+/// goes wrong does too.
+pub fn more_fuel_changes_nothing()
+    ensures { (file : File) (int : Width) (k j f : ℕ) (xs : List CValue) (s : Store) → k ≤ j →
+        call file int k f xs s ≢ Starves → call file int j f xs s ≡ call file int k f xs s }
 {}

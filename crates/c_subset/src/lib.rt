@@ -5,8 +5,14 @@
 //! in words.
 #![tactic(auto)]
 
+mod building;
 mod laws;
+mod trees;
 
 pub use laws::{
-    nothing_is_read_before_it_is_stored, the_helper_gives_the_floor, what_is_undefined_is_wrong,
+    more_fuel_changes_nothing, nothing_is_read_before_it_is_stored, the_helper_gives_the_floor,
+    what_is_undefined_is_wrong,
+};
+pub use trees::{
+    Arithmetic, Bitwise, CExpr, CType, Case, Comparison, Division, Function, Line, Width,
 };

@@ -8,7 +8,13 @@ use Rattle.std.proofs.lemmas.Nat.{or_lt, and_le_l}
 use Rattle.std.proofs.lemmas.Nat.Bits.{bit_at_and, bit_at_or, bit_at-pow_same, bit_at-pow_other, bit_at_not, bit_at-lt}
 use Rattle.active_config.specs.Tree.{Tree, state_count, parent_of, comp_of}
 use Rattle.active_config.proofs.TableLemmas.{same_or_other}
-use Rattle.c_subset.specs.Trees.{Width, W32, CType, Unsigned, Bitwise, BitAnd, BitOr, CExpr, Const, Field, Bits, Block}
+use Rattle.c_subset.specs.Trees.{CExpr, Const, Field, Bits, Block}
+use Rattle.c_subset.specs.declared.trees.Width.{Width}
+use Rattle.c_subset.specs.declared.trees.Width.TheVariants.{W32}
+use Rattle.c_subset.specs.declared.trees.CType.{CType}
+use Rattle.c_subset.specs.declared.trees.CType.TheVariants.{Unsigned}
+use Rattle.c_subset.specs.declared.trees.Bitwise.{Bitwise}
+use Rattle.c_subset.specs.declared.trees.Bitwise.TheVariants.{BitAnd, BitOr}
 use Rattle.c_subset.specs.Trees.{Store as PutField}
 use Rattle.c_subset.specs.Meaning.{bits, CValue, Meaning, with_meaning, gives, converted, combined, combined_in}
 use Rattle.c_subset.specs.Meaning.{bits_of, Object, read, Store, Locals, meaning}
@@ -34,7 +40,7 @@ same-field (x ∷ fields) zero old o e = refl
 same-field (x ∷ fields) (suc f) old o e = same-field fields f old o e
 
 -- a statement that stores a value of the type of its field
-put-goes : (int : Width) (calls : Calls) (k : ℕ) (s : Store) (l : Locals) (f a : ℕ) (w : Width) (old : Option ℤ)
+pub put-goes : (int : Width) (calls : Calls) (k : ℕ) (s : Store) (l : Locals) (f a : ℕ) (w : Width) (old : Option ℤ)
     (e : CExpr)
     (rest : Block) → slice_get s.fields f ≡ Some (record { type = Unsigned w; value = old })
     → meaning int s l e ≡ gives (Unsigned w) (pos a) → a < 2 ^ bits w
@@ -53,7 +59,8 @@ unfolding meaning
 const-means int s l w a small = own-stays w a small
 
 -- a bit in another field
-kept-bit : (s : Store) (f g k : ℕ) (v : CValue) (b : Bool) → g ≢ f → HasBit s g k b → HasBit (with_field s f v) g k b
+pub kept-bit : (s : Store) (f g k : ℕ) (v : CValue) (b : Bool) → g ≢ f → HasBit s g k b → HasBit
+    (with_field s f v) g k b
 kept-bit s f g k v b ne h = record {
   word = h.word;
   there = other-field s.fields f g (object_of v) ne ∙ h.there;
@@ -66,9 +73,9 @@ kept-bit s f g k v b ne h = record {
 pub chooses : (int : Width) (calls : Calls) (k : ℕ) (t : Tree) (n : ℕ → ℕ) (L : Layout) (st : States) (p i : ℕ)
     (rest : Block)
     (s : Store) (l : Locals) → IsLayout t n L → HoldsStates t L st s → is_or (comp_of t p) ≡ true → p < length st.chosen
-    → i < 2 ^ bits L.numbers → Changes int calls k t L (choose_child p i st) (put_number L (L.chosen p) i rest) rest s l
+    → i < 2 ^ bits L.numbers → Changes int calls k t L (choose_child p i st) (L.chosen p)
+    (put_number L (L.chosen p) i rest) rest s l
 chooses int calls k t n L st p i rest s l layout h or within small = record {
-  field = L.chosen p;
   value = unsigned L.numbers i;
   goes = put-goes int calls k s l (L.chosen p) i L.numbers _ _ rest (h.chosen p or)
       (const-means int s l L.numbers i small) small;
@@ -103,9 +110,9 @@ pub keeps : (int : Width) (calls : Calls) (k : ℕ) (t : Tree) (n : ℕ → ℕ)
     (rest : Block)
     (s : Store) (l : Locals) → IsLayout t n L → HoldsStates t L st s → is_or (comp_of t p) ≡ true → p < length st.kept
     → i < 2 ^ bits L.numbers
-    → Changes int calls k t L (record st { kept = slice_set st.kept p i }) (put_number L (L.kept p) i rest) rest s l
+    → Changes int calls k t L (record st { kept = slice_set st.kept p i }) (L.kept p)
+    (put_number L (L.kept p) i rest) rest s l
 keeps int calls k t n L st p i rest s l layout h or within small = record {
-  field = L.kept p;
   value = unsigned L.numbers i;
   goes = put-goes int calls k s l (L.kept p) i L.numbers _ _ rest (h.kept p or)
       (const-means int s l L.numbers i small) small;
@@ -250,13 +257,12 @@ turned-holds t n L st x new b s layout h lt none within old there turned = recor
 pub turns : (int : Width) (calls : Calls) (k : ℕ) (t : Tree) (n : ℕ → ℕ) (L : Layout) (st : States) (x : ℕ) (b : Bool)
     (rest : Block) (s : Store) (l : Locals) → bits int ≤ 32 → IsLayout t n L → HoldsStates t L st s → x < state_count t
     → or_parent t (parent_of t x) ≡ None → x < length st.flags
-    → Changes int calls k t L (set_flag x b st) (put_bit L x b rest) rest s l
+    → Changes int calls k t L (set_flag x b st) (L.word x) (put_bit L x b rest) rest s l
 turns int calls k t n L st x true rest s l most layout h lt none within =
     let bit = h.flags x lt none in
     let turned = set-turns bit.word (L.bit x) bit.small (layout.bits_are x) in
     let new = bit_or bit.word (2 ^ L.bit x) in
     record {
-      field = L.word x;
       value = unsigned W32 new;
       goes = put-goes int calls k s l (L.word x) new W32 _ _ rest bit.there
           (combined-means int s l BitOr (L.word x) bit.word (2 ^ L.bit x) most bit.there bit.small
@@ -269,7 +275,6 @@ turns int calls k t n L st x false rest s l most layout h lt none within =
     let mask = 2 ^ 32 - 1 - 2 ^ L.bit x in
     let new = bit_and bit.word mask in
     record {
-      field = L.word x;
       value = unsigned W32 new;
       goes = put-goes int calls k s l (L.word x) new W32 _ _ rest bit.there
           (combined-means int s l BitAnd (L.word x) bit.word mask most bit.there bit.small (omega arith)) turned.small;

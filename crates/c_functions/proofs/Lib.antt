@@ -1,3 +1,17 @@
 pub mod Tests
 pub mod Changes
 pub mod Places
+pub mod Noting
+pub mod Words
+pub mod Structs
+pub mod Follows
+pub mod Checked
+pub mod Stepping
+pub mod Selecting
+pub mod Calling
+pub mod Assigns
+pub mod Simulating
+pub mod Functions
+pub mod Codes
+pub mod Starting
+pub mod Running

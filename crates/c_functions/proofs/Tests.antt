@@ -11,8 +11,15 @@ use Rattle.std.proofs.lemmas.Bool.Decides.{nat_tests}
 use Rattle.fixed_point.proofs.Powers.{power-le}
 use Rattle.active_config.specs.Tree.{Tree, state_count, parent_of, comp_of, is_child, children_below, children_of}
 use Rattle.active_config.specs.Marks.{Configuration, mark_count}
-use Rattle.c_subset.specs.Trees.{Width, W8, W16, W32, W64, W128, CType, Signed, Unsigned, BitAnd, Comparison, IsEqual}
-use Rattle.c_subset.specs.Trees.{IsUnequal, CExpr, Const, Field, Bang, Bits, Both}
+use Rattle.c_subset.specs.declared.trees.Width.{Width}
+use Rattle.c_subset.specs.declared.trees.Width.TheVariants.{W8, W16, W32, W64, W128}
+use Rattle.c_subset.specs.declared.trees.CType.{CType}
+use Rattle.c_subset.specs.declared.trees.CType.TheVariants.{Signed, Unsigned}
+use Rattle.c_subset.specs.declared.trees.Bitwise.TheVariants.{BitAnd}
+use Rattle.c_subset.specs.declared.trees.Comparison.{Comparison}
+use Rattle.c_subset.specs.declared.trees.Comparison.TheVariants.{IsEqual}
+use Rattle.c_subset.specs.Trees.{CExpr, Const, Field, Bang, Bits, Both}
+use Rattle.c_subset.specs.declared.trees.Comparison.TheVariants.{IsUnequal}
 use Rattle.c_subset.specs.Meaning.{bits, fits_signed, CValue, Meaning, Wrong, with_meaning, gives, converted, common_of}
 use Rattle.c_subset.specs.Meaning.{common, combined, combined_in, compared, passes, truth, one_if, Object, read, Store}
 use Rattle.c_subset.specs.Meaning.{Locals, meaning}
@@ -64,7 +71,7 @@ shared int w = at (nat_lt (bits w) (bits int)) refl
       stays = own-stays w;
     }
 
-compared-unsigned : (int w : Width) (op : Comparison) (a b : ℕ) → a < 2 ^ bits w → b < 2 ^ bits w
+pub compared-unsigned : (int w : Width) (op : Comparison) (a b : ℕ) → a < 2 ^ bits w → b < 2 ^ bits w
     → compared int op (unsigned w a) (unsigned w b) ≡ truth int (passes op (pos a) (pos b))
 compared-unsigned int w op a b fa fb =
     let c = shared int w in
@@ -76,7 +83,7 @@ compared-unsigned int w op a b fa fb =
 
 -- ---- numbers
 
-equal-numbers : (a b : ℕ) → passes IsEqual (pos a) (pos b) ≡ nat_eq a b
+pub equal-numbers : (a b : ℕ) → passes IsEqual (pos a) (pos b) ≡ nat_eq a b
 equal-numbers a b = grind (arith, ints, nat_tests)
 
 number-has : (int : Width) (s : Store) (l : Locals) (L : Layout) (f a i : ℕ)
@@ -167,7 +174,7 @@ on-has int s l t n L st x most layout holds lt = at (or_parent t (parent_of t x)
         (holds.chosen_small p or) (layout.numbers x lt)
 
 -- both tests hold
-both-has : (int : Width) (s : Store) (l : Locals) (a b : CExpr) (p q : Bool) → Has int s l a (one_if p)
+pub both-has : (int : Width) (s : Store) (l : Locals) (a b : CExpr) (p q : Bool) → Has int s l a (one_if p)
     → Has int s l b (one_if q) → Has int s l (Both a b) (one_if (p && q))
 both-has int s l a b true q ha hb = (both-decides int s a b).goes_on l q ha hb
 both-has int s l a b false q ha hb = (both-decides int s a b).at_once l ha

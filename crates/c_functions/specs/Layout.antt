@@ -1,10 +1,15 @@
 -- Where the states of a chart stand in the struct, and the tests of states as C.
 use Rattle.std.specs.Prelude.{◌≡◌, ℕ, ◌<◌, ◌^◌, pos, Bool, true, false, List, [], ◌∷◌, Option, Some, None}
 use Rattle.std.specs.Prelude.{if◌then◌else◌}
-use Rattle.std.specs.Prelude.{◌+◌, ◌-◌, ◌*◌, ◌/◌, ◌%◌, ◌≢◌, slice_get, slice_index_or}
+use Rattle.std.specs.Prelude.{◌+◌, ◌-◌, ◌/◌, ◌%◌, ◌≢◌, slice_get, slice_index_or, take, count_by}
 use Rattle.std.specs.Int.{bit_at}
 use Rattle.active_config.specs.Tree.{Tree, state_count, parent_of, comp_of, children_of}
-use Rattle.c_subset.specs.Trees.{Width, W16, W32, Unsigned, Truth, BitAnd, BitOr, IsEqual, IsUnequal, CExpr, Const}
+use Rattle.c_subset.specs.Trees.{CExpr, Const}
+use Rattle.c_subset.specs.declared.trees.Width.{Width}
+use Rattle.c_subset.specs.declared.trees.Width.TheVariants.{W16, W32}
+use Rattle.c_subset.specs.declared.trees.CType.TheVariants.{Unsigned, Truth}
+use Rattle.c_subset.specs.declared.trees.Bitwise.TheVariants.{BitAnd, BitOr}
+use Rattle.c_subset.specs.declared.trees.Comparison.TheVariants.{IsEqual, IsUnequal}
 use Rattle.c_subset.specs.Trees.{Field, Bang, Bits, Compare, Both}
 use Rattle.c_subset.specs.Trees.{Block, Store as PutField}
 use Rattle.c_subset.specs.Meaning.{bits, CValue, Object, Store, Locals}
@@ -60,13 +65,22 @@ pub record HoldsStates (t : Tree) (L : Layout) (st : States) (s : Store) : Type 
   pub flags : (x : ℕ) → x < state_count t → or_parent t (parent_of t x) ≡ None
       → HasBit s (L.word x) (L.bit x) (slice_index_or st.flags x false)
 
--- a layout after so many fields, in which the three kinds of fields take turns
-abbrev pub layout_after : ℕ → Layout
-layout_after fields = record {
+-- how many ORs there are
+unfoldable pub or_count : Tree → ℕ
+or_count t = count_by is_or t.comps
+
+-- how many ORs have a number below that of a state
+unfoldable pub or_rank : Tree → ℕ → ℕ
+or_rank t p = count_by is_or (take p t.comps)
+
+-- The layout of a tree after so many fields. For each OR comes the number of its active child, then for each OR that
+-- of the child that it remembers, both in the order of the ORs; then a word for every 32 states.
+abbrev pub layout_after : Tree → ℕ → Layout
+layout_after t fields = record {
   numbers = W16;
-  chosen = λ p. fields + p * 3;
-  kept = λ p. fields + p * 3 + 1;
-  word = λ x. fields + x / 32 * 3 + 2;
+  chosen = λ p. fields + or_rank t p;
+  kept = λ p. fields + or_count t + or_rank t p;
+  word = λ x. fields + or_count t + or_count t + x / 32;
   bit = λ x. x % 32;
 }
 
@@ -122,10 +136,9 @@ put_bit L x true rest =
 put_bit L x false rest =
     PutField (L.word x) (Bits BitAnd (Field (L.word x)) (Const (Unsigned W32) (pos (2 ^ 32 - 1 - 2 ^ L.bit x)))) rest
 
--- the statements go on with another value in one field, and then the struct holds these fields of states
-pub record Changes (int : Width) (calls : Calls) (k : ℕ) (t : Tree) (L : Layout) (st : States) (written rest : Block)
-    (s : Store) (l : Locals) : Type 0 where
-  pub field : ℕ
+-- the statements go on with another value in that field, and then the struct holds these fields of states
+pub record Changes (int : Width) (calls : Calls) (k : ℕ) (t : Tree) (L : Layout) (st : States) (field : ℕ)
+    (written rest : Block) (s : Store) (l : Locals) : Type 0 where
   pub value : CValue
   pub goes : outcome int calls k written s l ≡ outcome int calls k rest (with_field s field value) l
   pub holds : HoldsStates t L st (with_field s field value)

@@ -1,1 +1,6 @@
 pub mod Layout
+pub mod Plans
+pub mod Notes
+pub mod Files
+pub mod Moments
+pub mod Starts

@@ -1,14 +1,31 @@
-//! What holds of the states in the struct.
+//! What holds of the states in the struct, and of the functions of procedures.
 ghost use Rattle.std.specs.Prelude.{◌≡◌, ℕ, ◌<◌, ◌≤◌, ◌^◌, length, slice_set, Some, None, Bool};
-ghost use Rattle.std.specs.Prelude.{true};
+ghost use Rattle.std.specs.Prelude.{true, suc, ◌+◌, ◌*◌, List, []};
 ghost use Rattle.active_config.specs.Tree.{Tree, state_count, parent_of, comp_of};
 ghost use Rattle.active_config.specs.Marks.{Configuration, mark_count};
-ghost use Rattle.c_subset.specs.Trees.{Width, Block};
+ghost use Rattle.c_subset.specs.Trees.{Block, File};
+ghost use Rattle.c_subset.specs.declared.trees.Width.{Width};
 ghost use Rattle.c_subset.specs.Meaning.{bits, one_if, Store, Locals};
-ghost use Rattle.c_subset.specs.Running.{Calls};
+ghost use Rattle.c_subset.specs.Running.{Calls, no_values};
 ghost use Rattle.c_expressions.specs.Claims.{Has, ShowsActive};
 ghost use Rattle.c_procedures.specs.States.{States, Shows, is_or, or_parent, c_on, c_bare, last_by};
 ghost use Rattle.c_procedures.specs.States.{choose_child, set_flag};
+ghost use Rattle.flow_base.specs.declared.bounds.Bounds.{Bounds};
+ghost use Rattle.actions.specs.Runs.{EventWithInputs, Moment};
+ghost use Rattle.actions.specs.World.{World};
+ghost use Rattle.actions.specs.Work.{Now};
+ghost use Rattle.code_language.specs.Code.{Code};
+ghost use Rattle.code_language.specs.Machine.{run};
+ghost use Rattle.code_language.specs.Reactions.{first_frame, program_of, CodeRun};
+ghost use Rattle.code_language.specs.WellFormed.{IsCode};
+ghost use Rattle.code_costs.specs.Ahead.{IsOver};
+ghost use Rattle.code_costs.specs.Moments.{HasStateNames, IsMoment};
+ghost use Rattle.c_procedures.specs.Statements.{Memory, Block as Plan};
+ghost use Rattle.c_procedures.specs.Runs.{Stands};
+ghost use Rattle.c_procedures.specs.Written.{AreWritten};
+ghost use Rattle.c_functions.specs.Files.{Represents, shape_of, functions_c};
+ghost use Rattle.c_functions.specs.Moments.{HasSmallResults, BeginsWith, EndsAsCode};
+ghost use Rattle.c_functions.specs.Starts.{file_of, HasShape, AllGiven, RunsOn};
 ghost use Rattle.c_functions.specs.Layout.{Layout, IsLayout, HoldsStates, Changes, on_c, bare_c};
 ghost use Rattle.c_functions.specs.Layout.{last_c, put_number, put_bit, layout_after};
 
@@ -41,24 +58,56 @@ pub fn changes_of_states_change_the_struct()
         (st : States) (p i : ℕ) (rest : Block) (s : Store) (l : Locals) → IsLayout t n L →
         HoldsStates t L st s →
         is_or (comp_of t p) ≡ true → p < length st.chosen → i < 2 ^ bits L.numbers →
-        Changes int calls k t L (choose_child p i st) (put_number L (L.chosen p) i rest) rest s l }
+        Changes int calls k t L (choose_child p i st) (L.chosen p)
+        (put_number L (L.chosen p) i rest) rest s l }
     ensures keeps { (int : Width) (calls : Calls) (k : ℕ) (t : Tree) (n : ℕ → ℕ) (L : Layout)
         (st : States) (p i : ℕ) (rest : Block) (s : Store) (l : Locals) → IsLayout t n L →
         HoldsStates t L st s →
         is_or (comp_of t p) ≡ true → p < length st.kept → i < 2 ^ bits L.numbers →
-        Changes int calls k t L (record st { kept = slice_set st.kept p i })
+        Changes int calls k t L (record st { kept = slice_set st.kept p i }) (L.kept p)
         (put_number L (L.kept p) i rest)
         rest s l }
     ensures turns { (int : Width) (calls : Calls) (k : ℕ) (t : Tree) (n : ℕ → ℕ) (L : Layout)
         (st : States) (x : ℕ) (b : Bool) (rest : Block) (s : Store) (l : Locals) → bits int ≤ 32
         → IsLayout t n L →
         HoldsStates t L st s → x < state_count t → or_parent t (parent_of t x) ≡ None →
-        x < length st.flags → Changes int calls k t L (set_flag x b st)
+        x < length st.flags → Changes int calls k t L (set_flag x b st) (L.word x)
         (put_bit L x b rest) rest s l }
 {}
 
 /// There is such a layout, for numbers of children of 16 bits, after any number of fields.
 pub fn states_have_places()
     ensures { (t : Tree) (n : ℕ → ℕ) (fields : ℕ) → ((x : ℕ) → x < state_count t → n x < 2 ^ 16) →
-        IsLayout t n (layout_after fields) }
+        IsLayout t n (layout_after t fields) }
+{}
+
+/// The function of a procedure of well-formed code, called from outside in a struct that shows a
+/// world, returns within twice the fuel of the run and three more, where int has at most 32 bits:
+/// it is never wrong. Twice, because a noted procedure is called through one more function. The
+/// call leaves a struct that shows the moment to which the run leads, and returns a result below
+/// BAD, or BAD where the moment has a fault.
+pub fn functions_end_as_code()
+    ensures { (k : Code) (b : Bounds) (bodies : ℕ → Plan) (file : File) (int : Width)
+        (fuel p : ℕ) (now : Now) (m : Memory) (w : World) (s : Store) → IsCode k →
+        HasStateNames k → HasSmallResults k → AreWritten k.tree (λ x. suc x) k.procedures bodies →
+        BeginsWith file (functions_c (shape_of k b) bodies) → bits int ≤ 32 →
+        IsMoment k b (first_frame p w now) →
+        IsOver (run (program_of k b) fuel (first_frame p w now)) →
+        Stands k.tree (λ x. suc x) m w → Represents (shape_of k b) None m s → m.notes ≡ [] →
+        EndsAsCode k b file int (2 * fuel + 3) p now (first_frame p w now) s }
+{}
+
+/// The file of well-formed code runs as the code: from every struct of its type, whatever it holds,
+/// the start and then each reaction return, and tell whether there was a fault, where int has at
+/// most 32 bits. After each call the struct shows the moment of the code's run: active states,
+/// remembered children, data, outputs, used steps and the fault. A struct without values is such a
+/// struct.
+pub fn files_run_as_code()
+    ensures runs { (k : Code) (b : Bounds) (bodies : ℕ → Plan) (int : Width) (s : Store)
+        (events : List EventWithInputs) (moments : List Moment) → IsCode k → HasStateNames k →
+        HasSmallResults k → AreWritten k.tree (λ x. suc x) k.procedures bodies → bits int ≤ 32 →
+        HasShape (shape_of k b) s → AllGiven k.names events → CodeRun k b events moments →
+        RunsOn (shape_of k b) (file_of k b bodies) int s events moments }
+    ensures unset { (k : Code) (b : Bounds) (bodies : ℕ → Plan) →
+        HasShape (shape_of k b) (no_values (file_of k b bodies)) }
 {}

@@ -1,0 +1,207 @@
+-- The struct shows memory after each change of one part.
+use Rattle.std.proofs.Common.{◌≡◌, ◌≢◌, ℕ, ◌+◌, ◌-◌, ◌^◌, ◌<◌, ◌≤◌, pos, List, [], ◌∷◌, ◌++◌, length}
+use Rattle.std.proofs.Common.{Option}
+use Rattle.std.proofs.Common.{slice_set, sym, ◌∙◌, subst, arith}
+use Rattle.flow_base.specs.declared.fault.Fault.{Fault}
+use Rattle.actions.specs.Data.{Datum}
+use Rattle.c_subset.specs.declared.trees.Width.TheVariants.{W32}
+use Rattle.c_subset.specs.Meaning.{CValue, Object, Store}
+use Rattle.c_subset.specs.Running.{object_of, with_field, with_element}
+use Rattle.c_expressions.specs.Claims.{ShowsData}
+use Rattle.c_procedures.specs.States.{States}
+use Rattle.c_procedures.specs.Statements.{Memory}
+use Rattle.c_procedures.specs.Meaning.{front}
+use Rattle.c_functions.specs.Layout.{HoldsStates}
+use Rattle.c_functions.specs.Plans.{Shape, layout, used_field, outs_field, noted_field, fault_field, fault_datum_field}
+use Rattle.c_functions.specs.Plans.{fault_number, fault_datum, out_row, note_row}
+use Rattle.c_functions.specs.Files.{HasWord, Represents}
+use Rattle.c_functions.proofs.Tests.{unsigned}
+use Rattle.c_functions.proofs.Words.{set-other, word-kept, word-put, row-pushed, row-other, row-front, row-empty}
+use Rattle.c_functions.proofs.Words.{length-push, front-length}
+
+-- where another array changes, and one field before those of states
+states-kept : (K : Shape) (st : States) (s : Store) (f : ℕ) (v : CValue) (rows : List (List Object))
+    → f < length K.names.vars + 5 → HoldsStates K.tree (layout K) st s
+    → HoldsStates K.tree (layout K) st (record { fields = slice_set s.fields f (object_of v); rows = rows })
+states-kept K st s f v rows lt h = record {
+  chosen = λ p or. set-other s.fields f ((layout K).chosen p) (object_of v) (λ e. absurd (omega (arith, lt, e)))
+      ∙ h.chosen p or;
+  chosen_small = h.chosen_small;
+  kept = λ p or. set-other s.fields f ((layout K).kept p) (object_of v) (λ e. absurd (omega (arith, lt, e)))
+      ∙ h.kept p or;
+  kept_small = h.kept_small;
+  flags = λ x within none.
+      let bit = h.flags x within none in record {
+        word = bit.word;
+        there = set-other s.fields f ((layout K).word x) (object_of v) (λ e. absurd (omega (arith, lt, e))) ∙ bit.there;
+        small = bit.small;
+        bit_is = bit.bit_is;
+      };
+}
+
+data-kept : (K : Shape) (vals : List Datum) (s : Store) (f : ℕ) (v : CValue) → length vals ≤ f → ShowsData vals s
+    → ShowsData vals (with_field s f v)
+data-kept K vals s f v above h =
+    λ u lt. set-other s.fields f u (object_of v) (λ e. absurd (omega (arith, lt, above, e))) ∙ h u lt
+
+module _ (K : Shape) (x : Option Fault) (m : Memory) (s : Store) (h : Represents K x m s)
+    (long : length m.vals ≡ length K.names.vars) where
+  -- a step more is used
+  pub used-put : (a : ℕ) → a < 2 ^ 32
+      → Represents K x (record m { used = a }) (with_field s (used_field K) (unsigned W32 a))
+  used-put a small = record {
+    states = states-kept K m.states s (used_field K) (unsigned W32 a) s.rows (omega arith) h.states;
+    vals = data-kept K m.vals s (used_field K) (unsigned W32 a) (omega (arith, long)) h.vals;
+    used = word-put s.fields (used_field K) _ a h.used small;
+    outs = word-kept s.fields (used_field K) (outs_field K) _ _ (λ e. absurd (omega (arith, e))) h.outs;
+    noted = word-kept s.fields (used_field K) (noted_field K) _ _ (λ e. absurd (omega (arith, e))) h.noted;
+    fault_is = word-kept s.fields (used_field K) (fault_field K) _ _ (λ e. absurd (omega (arith, e))) h.fault_is;
+    datum_is = word-kept s.fields (used_field K) (fault_datum_field K) _ _ (λ e. absurd (omega (arith, e))) h.datum_is;
+    out = h.out;
+    note = h.note;
+  }
+
+  -- an event is put out
+  pub out-put : (e : ℕ) → length m.outputs < K.bounds.steps → length m.outputs + 1 < 2 ^ 32
+      → Represents K x (record m { outputs = m.outputs ++ e ∷ [] })
+      (with_field (with_element s out_row (pos (length m.outputs)) (unsigned W32 e)) (outs_field K)
+      (unsigned W32 (length m.outputs + 1)))
+  out-put e room small = record {
+    states = states-kept K m.states s (outs_field K) (unsigned W32 (length m.outputs + 1)) _ (omega arith) h.states;
+    vals = data-kept K m.vals s (outs_field K) (unsigned W32 (length m.outputs + 1)) (omega (arith, long)) h.vals;
+    used = word-kept s.fields (outs_field K) (used_field K) _ _ (λ e. absurd (omega (arith, e))) h.used;
+    outs = subst (λ (n : ℕ). HasWord
+        (slice_set s.fields (outs_field K) (object_of (unsigned W32 (length m.outputs + 1)))) (outs_field K) n)
+        (sym (length-push m.outputs e)) (word-put s.fields (outs_field K) _ (length m.outputs + 1) h.outs small);
+    noted = word-kept s.fields (outs_field K) (noted_field K) _ _ (λ e. absurd (omega (arith, e))) h.noted;
+    fault_is = word-kept s.fields (outs_field K) (fault_field K) _ _ (λ e. absurd (omega (arith, e))) h.fault_is;
+    datum_is = word-kept s.fields (outs_field K) (fault_datum_field K) _ _ (λ e. absurd (omega (arith, e))) h.datum_is;
+    out = row-pushed s.rows out_row K.bounds.steps e m.outputs h.out room;
+    note = row-other s.rows note_row out_row K.notes m.notes _ (λ e. absurd (omega (arith, e))) h.note;
+  }
+
+  -- a note is pushed
+  pub note-put : (p : ℕ) → length m.notes < K.notes → length m.notes + 1 < 2 ^ 32
+      → Represents K x (record m { notes = m.notes ++ p ∷ [] })
+      (with_field (with_element s note_row (pos (length m.notes)) (unsigned W32 p)) (noted_field K)
+      (unsigned W32 (length m.notes + 1)))
+  note-put p room small = record {
+    states = states-kept K m.states s (noted_field K) (unsigned W32 (length m.notes + 1)) _ (omega arith) h.states;
+    vals = data-kept K m.vals s (noted_field K) (unsigned W32 (length m.notes + 1)) (omega (arith, long)) h.vals;
+    used = word-kept s.fields (noted_field K) (used_field K) _ _ (λ e. absurd (omega (arith, e))) h.used;
+    outs = word-kept s.fields (noted_field K) (outs_field K) _ _ (λ e. absurd (omega (arith, e))) h.outs;
+    noted = subst (λ (n : ℕ). HasWord
+        (slice_set s.fields (noted_field K) (object_of (unsigned W32 (length m.notes + 1)))) (noted_field K) n)
+        (sym (length-push m.notes p)) (word-put s.fields (noted_field K) _ (length m.notes + 1) h.noted small);
+    fault_is = word-kept s.fields (noted_field K) (fault_field K) _ _ (λ e. absurd (omega (arith, e))) h.fault_is;
+    datum_is = word-kept s.fields (noted_field K) (fault_datum_field K) _ _ (λ e. absurd (omega (arith, e))) h.datum_is;
+    out = row-other s.rows out_row note_row K.bounds.steps m.outputs _ (λ e. absurd (omega (arith, e))) h.out;
+    note = row-pushed s.rows note_row K.notes p m.notes h.note room;
+  }
+
+  -- the last note is dropped
+  pub note-drop : Represents K x (record m { notes = front m.notes })
+      (with_field s (noted_field K) (unsigned W32 (length m.notes - 1)))
+  note-drop = record {
+    states = states-kept K m.states s (noted_field K) (unsigned W32 (length m.notes - 1)) s.rows (omega arith) h.states;
+    vals = data-kept K m.vals s (noted_field K) (unsigned W32 (length m.notes - 1)) (omega (arith, long)) h.vals;
+    used = word-kept s.fields (noted_field K) (used_field K) _ _ (λ e. absurd (omega (arith, e))) h.used;
+    outs = word-kept s.fields (noted_field K) (outs_field K) _ _ (λ e. absurd (omega (arith, e))) h.outs;
+    noted = subst (λ (n : ℕ). HasWord
+        (slice_set s.fields (noted_field K) (object_of (unsigned W32 (length m.notes - 1)))) (noted_field K) n)
+        (sym (front-length m.notes))
+        (word-put s.fields (noted_field K) _ (length m.notes - 1) h.noted (omega (arith, h.noted.small)));
+    fault_is = word-kept s.fields (noted_field K) (fault_field K) _ _ (λ e. absurd (omega (arith, e))) h.fault_is;
+    datum_is = word-kept s.fields (noted_field K) (fault_datum_field K) _ _ (λ e. absurd (omega (arith, e))) h.datum_is;
+    out = h.out;
+    note = row-front s.rows note_row K.notes m.notes h.note;
+  }
+
+  -- nothing is put out yet
+  pub out-clear : Represents K x (record m { outputs = [] }) (with_field s (outs_field K) (unsigned W32 0))
+  out-clear = record {
+    states = states-kept K m.states s (outs_field K) (unsigned W32 0) s.rows (omega arith) h.states;
+    vals = data-kept K m.vals s (outs_field K) (unsigned W32 0) (omega (arith, long)) h.vals;
+    used = word-kept s.fields (outs_field K) (used_field K) _ _ (λ e. absurd (omega (arith, e))) h.used;
+    outs = word-put s.fields (outs_field K) _ 0 h.outs (omega arith);
+    noted = word-kept s.fields (outs_field K) (noted_field K) _ _ (λ e. absurd (omega (arith, e))) h.noted;
+    fault_is = word-kept s.fields (outs_field K) (fault_field K) _ _ (λ e. absurd (omega (arith, e))) h.fault_is;
+    datum_is = word-kept s.fields (outs_field K) (fault_datum_field K) _ _ (λ e. absurd (omega (arith, e))) h.datum_is;
+    out = row-empty s.rows out_row K.bounds.steps m.outputs h.out;
+    note = h.note;
+  }
+
+  -- there are no notes
+  pub note-clear : Represents K x (record m { notes = [] }) (with_field s (noted_field K) (unsigned W32 0))
+  note-clear = record {
+    states = states-kept K m.states s (noted_field K) (unsigned W32 0) s.rows (omega arith) h.states;
+    vals = data-kept K m.vals s (noted_field K) (unsigned W32 0) (omega (arith, long)) h.vals;
+    used = word-kept s.fields (noted_field K) (used_field K) _ _ (λ e. absurd (omega (arith, e))) h.used;
+    outs = word-kept s.fields (noted_field K) (outs_field K) _ _ (λ e. absurd (omega (arith, e))) h.outs;
+    noted = word-put s.fields (noted_field K) _ 0 h.noted (omega arith);
+    fault_is = word-kept s.fields (noted_field K) (fault_field K) _ _ (λ e. absurd (omega (arith, e))) h.fault_is;
+    datum_is = word-kept s.fields (noted_field K) (fault_datum_field K) _ _ (λ e. absurd (omega (arith, e))) h.datum_is;
+    out = h.out;
+    note = row-empty s.rows note_row K.notes m.notes h.note;
+  }
+
+  -- a datum is stored
+  pub vals-put : (vals : List Datum) (v : ℕ) (a : CValue) → v < length K.names.vars
+      → ShowsData vals (with_field s v a) → Represents K x (record m { vals = vals }) (with_field s v a)
+  vals-put vals v a lt show = record {
+    states = states-kept K m.states s v a s.rows (omega (arith, lt)) h.states;
+    vals = show;
+    used = word-kept s.fields v (used_field K) _ _ (λ e. absurd (omega (arith, lt, e))) h.used;
+    outs = word-kept s.fields v (outs_field K) _ _ (λ e. absurd (omega (arith, lt, e))) h.outs;
+    noted = word-kept s.fields v (noted_field K) _ _ (λ e. absurd (omega (arith, lt, e))) h.noted;
+    fault_is = word-kept s.fields v (fault_field K) _ _ (λ e. absurd (omega (arith, lt, e))) h.fault_is;
+    datum_is = word-kept s.fields v (fault_datum_field K) _ _ (λ e. absurd (omega (arith, lt, e))) h.datum_is;
+    out = h.out;
+    note = h.note;
+  }
+
+  -- a field of states changes
+  pub states-put : (st : States) (f : ℕ) (a : CValue) → length K.names.vars + 5 ≤ f
+      → HoldsStates K.tree (layout K) st (with_field s f a)
+      → Represents K x (record m { states = st }) (with_field s f a)
+  states-put st f a above holds = record {
+    states = holds;
+    vals = data-kept K m.vals s f a (omega (arith, long, above)) h.vals;
+    used = word-kept s.fields f (used_field K) _ _ (λ e. absurd (omega (arith, above, e))) h.used;
+    outs = word-kept s.fields f (outs_field K) _ _ (λ e. absurd (omega (arith, above, e))) h.outs;
+    noted = word-kept s.fields f (noted_field K) _ _ (λ e. absurd (omega (arith, above, e))) h.noted;
+    fault_is = word-kept s.fields f (fault_field K) _ _ (λ e. absurd (omega (arith, above, e))) h.fault_is;
+    datum_is = word-kept s.fields f (fault_datum_field K) _ _ (λ e. absurd (omega (arith, above, e))) h.datum_is;
+    out = h.out;
+    note = h.note;
+  }
+
+  -- a fault, then its datum
+  pub fault-told : (y : Option Fault) → fault_number y < 2 ^ 32 → fault_datum y < 2 ^ 32
+      → Represents K y m (with_field (with_field s (fault_field K) (unsigned W32 (fault_number y)))
+      (fault_datum_field K)
+      (unsigned W32 (fault_datum y)))
+  fault-told y small_number small_datum =
+      let f = fault_field K in
+      let g = fault_datum_field K in
+      let a = unsigned W32 (fault_number y) in
+      let b = unsigned W32 (fault_datum y) in
+      let far : g ≢ f = λ e. absurd (omega (arith, e)) in
+      let one = slice_set s.fields f (object_of a) in
+      record {
+        states = states-kept K m.states (with_field s f a) g b s.rows (omega arith)
+            (states-kept K m.states s f a s.rows (omega arith) h.states);
+        vals = data-kept K m.vals (with_field s f a) g b (omega (arith, long))
+            (data-kept K m.vals s f a (omega (arith, long)) h.vals);
+        used = word-kept one g (used_field K) _ _ (λ e. absurd (omega (arith, e)))
+            (word-kept s.fields f (used_field K) _ _ (λ e. absurd (omega (arith, e))) h.used);
+        outs = word-kept one g (outs_field K) _ _ (λ e. absurd (omega (arith, e)))
+            (word-kept s.fields f (outs_field K) _ _ (λ e. absurd (omega (arith, e))) h.outs);
+        noted = word-kept one g (noted_field K) _ _ (λ e. absurd (omega (arith, e)))
+            (word-kept s.fields f (noted_field K) _ _ (λ e. absurd (omega (arith, e))) h.noted);
+        fault_is = word-kept one g f _ _ (λ e. absurd (omega (arith, e)))
+            (word-put s.fields f _ (fault_number y) h.fault_is small_number);
+        datum_is = word-put one g _ (fault_datum y) (word-kept s.fields f g _ _ far h.datum_is) small_datum;
+        out = h.out;
+        note = h.note;
+      }

@@ -1,0 +1,108 @@
+-- The functions of a file, and when its struct shows the memory of a plan.
+use Rattle.std.specs.Prelude.{◌≡◌, ℕ, suc, ◌^◌, ◌<◌, pos, List, [], ◌∷◌, ◌++◌, length, map, slice_get}
+use Rattle.std.specs.Prelude.{Option, Some, if◌then◌else◌}
+use Rattle.std.specs.List.{range_with_len}
+use Rattle.flow_base.specs.declared.bounds.Bounds.{Bounds}
+use Rattle.flow_base.specs.declared.fault.Fault.{Fault}
+use Rattle.active_config.specs.Tree.{state_count}
+use Rattle.code_costs.specs.Room.{most_frames}
+use Rattle.code_language.specs.Code.{Code}
+use Rattle.c_subset.specs.Trees.{CExpr, Const, Compare, Local, Block}
+use Rattle.c_subset.specs.declared.trees.Width.TheVariants.{W8, W16, W32, W64, W128}
+use Rattle.c_subset.specs.declared.trees.CType.TheVariants.{Truth}
+use Rattle.c_subset.specs.declared.trees.Comparison.TheVariants.{IsEqual}
+use Rattle.c_subset.specs.Trees.{Function}
+use Rattle.c_subset.specs.Trees as c
+use Rattle.c_subset.specs.Meaning.{Object, Store}
+use Rattle.c_subset.specs.Helpers.{floor_function}
+use Rattle.c_expressions.specs.Claims.{ShowsData}
+use Rattle.c_procedures.specs.Statements.{Memory}
+use Rattle.c_procedures.specs.Statements as plan
+use Rattle.c_functions.specs.Layout.{HoldsStates, on_c, bare_c}
+use Rattle.c_functions.specs.Notes.{noted_in}
+use Rattle.c_functions.specs.Plans.{Shape, layout, word, number, plays, plan_c, used_field, outs_field, noted_field}
+use Rattle.c_functions.specs.Plans.{event_local, depth_local, base_local, home_local, result_local, cases_of}
+use Rattle.c_functions.specs.Plans.{fault_field, fault_datum_field, fault_number, fault_datum, out_row, note_row}
+
+-- the shape of code: a state's number as a child is one more than its own, and note[] has room for as many frames as
+-- an event has at most, of the procedures that the code notes
+abbrev pub shape_of : Code → Bounds → Shape
+shape_of k b = record {
+  tree = k.tree;
+  numbers = λ x. suc x;
+  names = k.names;
+  bounds = b;
+  procs = length k.procedures.procs;
+  noted = noted_in k.procedures.procs;
+  notes = most_frames k b;
+}
+
+-- ---- functions
+
+-- the function of a procedure: event, depth, base, home and last result are its parameters; the cursor is a local of it
+-- where its plan plays, and is 0 at first
+abbrev pub procedure_c : Shape → plan.Block → Function
+procedure_c K body = record {
+  result = word;
+  parameters = word ∷ word ∷ word ∷ word ∷ word ∷ [];
+  body = if plays body then c.Set word 5 (number 0) (plan_c K body) else plan_c K body;
+}
+
+-- the test of the first of these states that the parameter names
+abbrev pub home_body : (ℕ → CExpr) → List ℕ → Block
+home_body test [] = c.Return (Const Truth (pos 0))
+home_body test (x ∷ xs) =
+    c.If (Compare IsEqual (Local word 0) (number x)) (c.Return (test x)) c.End (home_body test xs)
+
+-- whether a test holds of the state that is the parameter
+abbrev pub home_function : Shape → (ℕ → CExpr) → Function
+home_function K test = record {
+  result = Truth;
+  parameters = word ∷ [];
+  body = home_body test (range_with_len 0 (state_count K.tree));
+}
+
+-- the function that calls a noted procedure: the first five parameters are that procedure's, and the last names it
+abbrev pub noted_c : Shape → Function
+noted_c K = record {
+  result = word;
+  parameters = word ∷ word ∷ word ∷ word ∷ word ∷ word ∷ [];
+  body = c.Select word 4 (Local word 5) (cases_of K.noted)
+      (event_local ∷ depth_local ∷ base_local ∷ home_local ∷ result_local ∷ []) (c.Return result_local);
+}
+
+-- the functions before those of the start and of a reaction
+unfoldable pub functions_c : Shape → (ℕ → plan.Block) → List Function
+functions_c K bodies =
+    map (λ p. procedure_c K (bodies p)) (range_with_len 0 K.procs)
+    ++ home_function K (on_c K.tree (layout K) K.numbers) ∷ home_function K (bare_c K.tree (layout K) K.numbers)
+    ∷ noted_c K ∷ floor_function W8 ∷ floor_function W16 ∷ floor_function W32 ∷ floor_function W64
+    ∷ floor_function W128 ∷ []
+
+-- ---- the struct shows memory
+
+-- a field with a number
+pub record HasWord (fields : List Object) (field n : ℕ) : Type 0 where
+  pub there : slice_get fields field ≡ Some (record { type = word; value = Some (pos n) })
+  pub small : n < 2 ^ 32
+
+-- an array of that size, whose first entries are these numbers
+pub record HasRow (rows : List (List Object)) (a size : ℕ) (xs : List ℕ) : Type 0 where
+  pub row : List Object
+  pub there : slice_get rows a ≡ Some row
+  pub sized : length row ≡ size
+  pub typed : (i : ℕ) (o : Object) → slice_get row i ≡ Some o → o.type ≡ word
+  pub shown : (i x : ℕ) → slice_get xs i ≡ Some x
+      → slice_get row i ≡ Some (record { type = word; value = Some (pos x) })
+
+-- the struct shows the memory of a plan, and a fault or none
+pub record Represents (K : Shape) (fault : Option Fault) (m : Memory) (s : Store) : Type 0 where
+  pub states : HoldsStates K.tree (layout K) m.states s
+  pub vals : ShowsData m.vals s
+  pub used : HasWord s.fields (used_field K) m.used
+  pub outs : HasWord s.fields (outs_field K) (length m.outputs)
+  pub noted : HasWord s.fields (noted_field K) (length m.notes)
+  pub fault_is : HasWord s.fields (fault_field K) (fault_number fault)
+  pub datum_is : HasWord s.fields (fault_datum_field K) (fault_datum fault)
+  pub out : HasRow s.rows out_row K.bounds.steps m.outputs
+  pub note : HasRow s.rows note_row K.notes m.notes

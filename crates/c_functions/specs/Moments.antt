@@ -1,0 +1,61 @@
+-- When the struct shows a moment of a run of code, and when a call of a procedure's function ends as code.
+use Rattle.std.specs.Prelude.{◌≡◌, ◌<◌, ℕ, ◌++◌, pos, List, [], ◌∷◌, Option, Some, None}
+use Rattle.flow_base.specs.declared.bounds.Bounds.{Bounds}
+use Rattle.flow_base.specs.declared.fault.Fault.{Fault}
+use Rattle.actions.specs.Runs.{Moment}
+use Rattle.actions.specs.Work.{Now}
+use Rattle.code_language.specs.Code.{Code, fetch}
+use Rattle.code_language.specs.Instrs.{Unless, Result, Ret}
+use Rattle.code_language.specs.Machine.{Machine}
+use Rattle.code_language.specs.Reactions.{Leads, program_of}
+use Rattle.c_subset.specs.Trees.{Function, File}
+use Rattle.c_subset.specs.declared.trees.Width.{Width}
+use Rattle.c_subset.specs.Meaning.{CValue, Store}
+use Rattle.c_subset.specs.Running.{Returns, call}
+use Rattle.c_procedures.specs.Statements.{Memory}
+use Rattle.c_procedures.specs.Runs.{Stands}
+use Rattle.c_functions.specs.Plans.{Shape, event_number, word, bad}
+use Rattle.c_functions.specs.Files.{Represents, shape_of}
+
+-- the results of code, and those that it tests, are below the number that tells a fault
+pub record HasSmallResults (k : Code) : Type 0 where
+  pub returned : (p i r : ℕ) → fetch k.procedures p i ≡ Some (Ret r) → r < bad
+  pub tested : (p i j r : ℕ) → fetch k.procedures p i ≡ Some (Unless j (Result r)) → r < bad
+
+-- a file begins with these functions
+pub record BeginsWith (file : File) (functions : List Function) : Type 0 where
+  pub later : List Function
+  pub is : file.functions ≡ functions ++ later
+
+-- the struct shows a moment: some memory stands for its world, and the struct shows that memory and the fault
+pub record ShowsMoment (K : Shape) (moment : Moment) (s : Store) : Type 0 where
+  pub memory : Memory
+  pub stands : Stands K.tree K.numbers memory moment.world
+  pub represents : Represents K moment.fault memory s
+
+-- what is returned tells whether there was a fault
+abbrev pub TellsFault : Option Fault → ℕ → Type 0
+TellsFault None r = r < bad
+TellsFault (Some x) r = r ≡ bad
+
+-- a number as a word
+abbrev pub word_of : ℕ → CValue
+word_of n = record { type = word; value = pos n }
+
+-- the arguments of a procedure's function: event, depth, base, home and last result
+abbrev pub arguments_c : ℕ → ℕ → ℕ → ℕ → ℕ → List CValue
+arguments_c e d b h r =
+    word_of e ∷ word_of d ∷ word_of b ∷ word_of h ∷ word_of r ∷ []
+
+-- code leads to a moment, and the call of the procedure's function returns, tells whether there was a fault, and leaves
+-- a struct that shows the moment
+pub record EndsAsCode (k : Code) (b : Bounds) (file : File) (int : Width) (fuel p : ℕ) (now : Now) (start : Machine)
+    (s : Store) : Type 0 where
+  pub moment : Moment
+  pub leads : Leads (program_of k b) start moment
+  pub after : Store
+  pub result : ℕ
+  pub gives : call file int fuel p (arguments_c (event_number k.names now.event) now.depth 0 0 0) s
+      ≡ Returns after (word_of result)
+  pub shows : ShowsMoment (shape_of k b) moment after
+  pub tells : TellsFault moment.fault result

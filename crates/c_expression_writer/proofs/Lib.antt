@@ -1,0 +1,9 @@
+pub mod LocalLemmas
+pub mod SortLemmas
+pub mod LeafLemmas
+pub mod Composed
+pub mod Steps
+pub mod StoreLemmas
+pub mod RankLemmas
+pub mod NoteLemmas
+pub mod ChildLemmas

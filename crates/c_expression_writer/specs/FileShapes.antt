@@ -1,0 +1,18 @@
+-- What a file is written for, as contracts see it.
+use Rattle.std.specs.Prelude.{suc}
+use Rattle.flow_base.specs.Lists.{items_of}
+use Rattle.actions.specs.Names.{names_of}
+use Rattle.c_functions.specs.Plans.{Shape}
+use Rattle.c_expression_writer.specs.declared.file_shape.FileShape.{FileShape}
+
+-- the shape that the code keeps: a state's number as a child is one more than its own
+abbrev pub shape_seen : FileShape → Shape
+shape_seen s = record {
+  tree = s.tree.now;
+  numbers = λ x. suc x;
+  names = names_of s.names.now;
+  bounds = s.bounds;
+  procs = s.procs;
+  noted = items_of s.noted;
+  notes = s.notes;
+}

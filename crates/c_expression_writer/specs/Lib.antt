@@ -1,0 +1,4 @@
+pub mod Parts
+pub mod FileShapes
+pub mod Locals
+pub mod Written

@@ -1,0 +1,28 @@
+//! The C of expressions and assignments, as lines.
+#![tactic(auto)]
+
+mod arithmetic;
+mod assignments;
+mod decisions;
+mod ends;
+mod expressions;
+mod file_shape;
+mod leaves;
+mod lines;
+mod locals;
+mod notes;
+mod operand;
+mod operators;
+mod precision;
+mod quotients;
+mod ranks;
+mod sorts;
+mod state_tests;
+mod wraps;
+
+pub use arithmetic::power_of_two;
+pub use assignments::write_assign;
+pub use expressions::write_test;
+pub use file_shape::FileShape;
+pub use lines::{number, put, write_fault};
+pub use quotients::helper;

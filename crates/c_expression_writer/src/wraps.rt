@@ -1,0 +1,61 @@
+//! Numbers modulo a power of two.
+ghost use Rattle.std.specs.Prelude.{◌≡◌, ◌-◌, ◌≤◌, ◌^◌, pos, IfOk};
+ghost use Rattle.c_subset.specs.Lines.{expr_of};
+ghost use Rattle.c_subset.specs.Trees as c;
+ghost use Rattle.c_expressions.specs.Storing as spec;
+
+use crate::arithmetic::power_of_two;
+use c_subset::{Arithmetic, Bitwise, CExpr, CType, Comparison, Width};
+use fixed_point::Scale;
+use flow_base::Memory;
+use std::alloc::Global;
+
+/// A word of 64 bits.
+const WORD: CType = CType::Unsigned(Width::W64);
+
+/// A number of 64 bits with a sign.
+const SIGNED_WORD: CType = CType::Signed(Width::W64);
+
+/// A word with so many low bits set.
+fn mask(bits: u32) -> CExpr
+    requires { bits ≤ 64 }
+    ensures { expr_of result ≡ c.Const (CType.Unsigned Width.W64) (pos (2 ^ bits - 1)) }
+{
+    let set = power_of_two(bits) - 1;
+    CExpr::Const(WORD, set)
+}
+
+/// The low bits of a number, as many as the scale has.
+pub(crate) fn low_bits(alloc: Global, scale: Scale, number: CExpr) -> Result<CExpr, Memory>
+    ensures { IfOk result (λ made. expr_of made ≡ spec.low_bits_c scale (expr_of number)) }
+{
+    let word = CExpr::cast(alloc, WORD, number)?;
+    CExpr::bits(alloc, Bitwise::BitAnd, word, mask(u32::from(scale.width)))
+}
+
+/// The number below 0 that has the low bits of a local.
+fn negative(alloc: Global, scale: Scale, local: u32) -> Result<CExpr, Memory>
+    ensures { IfOk result (λ made. expr_of made
+        ≡ c.Calc Arithmetic.Less (c.Minus (c.Cast (CType.Signed Width.W64)
+        (c.Calc Arithmetic.Less (c.Const (CType.Unsigned Width.W64) (pos (2 ^ scale.width - 1)))
+        (c.Local (CType.Unsigned Width.W64) local))))
+        (c.Const (CType.Signed Width.W64) (pos 1))) }
+{
+    let mask = mask(u32::from(scale.width));
+    let rest = CExpr::calc(alloc, Arithmetic::Less, mask, CExpr::Local(WORD, local))?;
+    let rest = CExpr::cast(alloc, SIGNED_WORD, rest)?;
+    let minus = CExpr::minus(alloc, rest)?;
+    CExpr::calc(alloc, Arithmetic::Less, minus, CExpr::Const(SIGNED_WORD, 1))
+}
+
+/// The number of a signed scale that has the low bits of a local: from the half on it is below 0.
+pub(crate) fn signed(alloc: Global, scale: Scale, local: u32) -> Result<CExpr, Memory>
+    ensures { IfOk result (λ made. expr_of made
+        ≡ spec.signed_c scale (c.Local (CType.Unsigned Width.W64) local)) }
+{
+    let half = mask(u32::from(scale.width) - 1);
+    let test = CExpr::compare(alloc, Comparison::IsAtMost, CExpr::Local(WORD, local), half)?;
+    let same = CExpr::cast(alloc, SIGNED_WORD, CExpr::Local(WORD, local))?;
+    let negative = negative(alloc, scale, local)?;
+    CExpr::choose(alloc, SIGNED_WORD, test, same, negative)
+}

@@ -1,0 +1,10 @@
+pub mod Ending
+pub mod Changed
+pub mod FineLemmas
+pub mod PlaceLemmas
+pub mod PartLemmas
+pub mod LineLemmas
+pub mod NextLemmas
+pub mod ProcedureLemmas
+pub mod StoreLemmas
+pub mod CodeLemmas

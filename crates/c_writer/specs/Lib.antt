@@ -1,0 +1,10 @@
+pub mod Appending
+pub mod Pieces
+pub mod Calls
+pub mod Fine
+pub mod Changes
+pub mod Instructions
+pub mod Parts
+pub mod Homes
+pub mod Starting
+pub mod Functions

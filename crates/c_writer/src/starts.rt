@@ -1,0 +1,165 @@
+//! The functions of the start and of a reaction.
+ghost use Rattle.std.specs.Prelude.{◌≡◌, ◌≤◌, ◌<◌, ◌+◌, ◌^◌, ◌++◌, length, map, replicate};
+ghost use Rattle.std.specs.Prelude.{IfOk, OnOk};
+ghost use Rattle.flow_base.specs.Lists.{items_of};
+ghost use Rattle.actions.specs.declared.event.Event.TheVariants as events;
+ghost use Rattle.c_subset.specs.Lines.{Appends, IsFunction, expr_of, lines_in, lines_of};
+ghost use Rattle.c_expressions.specs.Claims as claims;
+ghost use Rattle.c_functions.specs.Plans as spec;
+ghost use Rattle.c_functions.specs.Starts as starts;
+ghost use Rattle.c_expression_writer.specs.FileShapes.{shape_seen};
+ghost use Rattle.c_writer.specs.Starting.{clear_counts, nothing_of, value_of};
+
+use crate::calls::{BAD, five};
+use crate::helpers::one_word;
+use crate::pieces::{WORD, local, put_return, put_store};
+use actions::{Sort, Var};
+use c_expression_writer::{FileShape, number, put};
+use c_subset::{CExpr, CType, Comparison, Function, Line, Width};
+use flow_base::{List, Memory};
+use std::alloc::Global;
+
+// ---- the fields
+
+/// The least width that holds so many bits.
+fn least_width(bits: u32) -> Width
+    ensures { result ≡ claims.least_width bits }
+{
+    if bits <= 8 {
+        Width::W8
+    } else if bits <= 16 {
+        Width::W16
+    } else if bits <= 32 {
+        Width::W32
+    } else {
+        Width::W64
+    }
+}
+
+/// The type of the field of a datum.
+fn field_type(sort: Sort) -> CType
+    ensures { result ≡ claims.field_type sort }
+{
+    match sort {
+        Sort::Flag => CType::Truth,
+        Sort::Number(scale) => {
+            if scale.signed {
+                CType::Signed(least_width(u32::from(scale.width)))
+            } else {
+                CType::Unsigned(least_width(u32::from(scale.width)))
+            }
+        }
+    }
+}
+
+/// Appends that each datum has its first value.
+#[tactic(auto, unfolding(c_subset::specs::Lines::lines_of))]
+fn put_data(lines: &mut List<Line>, vars: &[Var]) -> Result<(), Memory>
+    requires { length vars.now ≤ 1024 }
+    ensures { OnOk result (Appends (items_of lines.old) (items_of lines.new)
+        (starts.store_all 0 (map value_of vars.now))) }
+{
+    for (place, var) in vars.iter().enumerate() {
+        let value = CExpr::Const(field_type(var.sort), var.init);
+        put(lines, Line::Store(place as u32, value))?;
+    }
+    Ok(())
+}
+
+/// Appends that so many fields from a number on are 0.
+fn put_zeros(lines: &mut List<Line>, first: u32, count: u32, kind: CType) -> Result<(), Memory>
+    requires { first + count < 2 ^ 32 }
+    ensures { OnOk result (Appends (items_of lines.old) (items_of lines.new)
+        (starts.store_all first (replicate count (nothing_of kind)))) }
+{
+    for place in 0..count {
+        put_store(lines, first + place, CExpr::Const(kind, 0))?;
+    }
+    Ok(())
+}
+
+/// Appends that each field has its first value.
+fn put_fields(shape: &FileShape<'_>, lines: &mut List<Line>) -> Result<(), Memory>
+    ensures { OnOk result (Appends (items_of lines.old) (items_of lines.new)
+        (starts.store_all 0 (starts.first_values (shape_seen shape.now)))) }
+{
+    let ors = shape.ors();
+    let states = shape.tree.len();
+    let vars = shape.names.vars.items();
+    let used = shape.used_field();
+    let after = used + 5;
+    put_data(lines, vars)?;
+    put_zeros(lines, used, 5, WORD)?;
+    put_zeros(lines, after, ors + ors, CType::Unsigned(Width::W16))?;
+    put_zeros(lines, after + ors + ors, (states + 31) / 32, WORD)
+}
+
+// ---- the calls
+
+/// Appends a call of a procedure for an event, which returns whether there was no fault.
+#[tactic(auto, unfolding(c_subset::specs::Lines::lines_of))]
+fn put_outside(
+    alloc: Global,
+    lines: &mut List<Line>,
+    procedure: u32,
+    event: CExpr,
+) -> Result<(), Memory>
+    ensures { OnOk result (lines_in (items_of lines.new) ≡ lines_in (items_of lines.old)
+        ++ lines_of (starts.outside_c procedure (expr_of event))) }
+{
+    let arguments = five(alloc, event, number(0), number(0), number(0), number(0))?;
+    put(lines, Line::Call(WORD, 4, procedure, arguments))?;
+    let fine = CExpr::compare(alloc, Comparison::IsUnequal, local(4), number(BAD))?;
+    put_return(lines, fine)
+}
+
+/// Appends that no step is used, nothing is put out and there are no notes.
+fn put_clear_counts(shape: &FileShape<'_>, lines: &mut List<Line>) -> Result<(), Memory>
+    ensures { OnOk result (Appends (items_of lines.old) (items_of lines.new)
+        (clear_counts (shape_seen shape.now))) }
+{
+    put_store(lines, shape.used_field(), number(0))?;
+    put_store(lines, shape.outs_field(), number(0))?;
+    put_store(lines, shape.noted_field(), number(0))
+}
+
+/// The number of the event of the start.
+fn start_event(shape: &FileShape<'_>) -> u32
+    requires { length (shape_seen shape.now).names.events ≤ 1024 }
+    ensures { result ≡ spec.event_number (shape_seen shape.now).names
+        events.Start }
+{
+    shape.names.events.items().len() as u32 + 1
+}
+
+/// The function of the start, where `start` is its procedure.
+pub fn start_function(alloc: Global, shape: &FileShape<'_>, start: u32) -> Result<Function, Memory>
+    requires { length (shape_seen shape.now).names.events ≤ 1024 }
+    ensures { IfOk result (λ function.
+        IsFunction function (starts.start_c (shape_seen shape.now) start)) }
+{
+    let mut lines = List::of(Vec::new(alloc));
+    put_fields(shape, &mut lines)?;
+    put_outside(alloc, &mut lines, start, number(start_event(shape)))?;
+    Ok(Function {
+        result: CType::Truth,
+        parameters: List::of(Vec::new(alloc)),
+        lines,
+    })
+}
+
+/// The function of a reaction, where `react` is its procedure.
+pub fn react_function(alloc: Global, shape: &FileShape<'_>, react: u32) -> Result<Function, Memory>
+    ensures { IfOk result (λ function.
+        IsFunction function (starts.react_c (shape_seen shape.now) react)) }
+{
+    let parameters = one_word(alloc)?;
+    let mut lines = List::of(Vec::new(alloc));
+    put_clear_counts(shape, &mut lines)?;
+    put_outside(alloc, &mut lines, react, local(0))?;
+    Ok(Function {
+        result: CType::Truth,
+        parameters,
+        lines,
+    })
+}

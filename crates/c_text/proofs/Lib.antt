@@ -1,0 +1,12 @@
+pub mod LoopLemmas
+pub mod LabelLemmas
+pub mod RankLemmas
+pub mod DepthLemmas
+pub mod LocalLemmas
+pub mod LocalNames
+pub mod MemberNames
+pub mod FunctionNames
+pub mod KeywordLemmas
+pub mod HiddenNames
+pub mod TypeLemmas
+pub mod HeadLemmas

@@ -1,0 +1,222 @@
+-- How functions are written.
+use Rattle.std.specs.Prelude.{ℕ, ◌+◌, ◌==◌, ◌&&◌, ◌||◌, Bool, true, false, not, List, [], ◌∷◌, ◌++◌, length, drop}
+use Rattle.std.specs.Prelude.{replicate, codes, if◌then◌else◌, Option, Some, None}
+use Rattle.std.specs.List.{list_any}
+use Rattle.c_subset.specs.Trees.{CExpr, Const, Field, Element, Local, Cast, Minus, Bang, Calc, Divide, Bits, Compare}
+use Rattle.c_subset.specs.Trees.{Both, Either, Choose}
+use Rattle.c_subset.specs.declared.trees.Case.{Case}
+use Rattle.c_subset.specs.declared.trees.Width.TheVariants.{W32}
+use Rattle.c_subset.specs.declared.trees.CType.{CType}
+use Rattle.c_subset.specs.declared.trees.CType.TheVariants.{Signed, Unsigned, Truth}
+use Rattle.c_subset.specs.Running.{same_type}
+use Rattle.c_subset.specs.Lines.{Line, Set, Store, StoreAt, Call, Select, If, Else, While, Close, Return}
+use Rattle.c_text.specs.declared.kinds.Kind.{Kind}
+use Rattle.c_text.specs.declared.kinds.Kind.TheVariants.{Procedure, Home, Noted, Floor, Outside}
+use Rattle.c_text.specs.declared.locals.LocalName.{LocalName}
+use Rattle.c_text.specs.Labels.{Labels, function_kind, function_label, takes_struct, local_label}
+use Rattle.c_text.specs.Types.{type_text}
+use Rattle.c_text.specs.Statements.{comma, lines_text}
+
+-- ---- heads
+
+-- the result of a function, by what it is for
+abbrev pub result_type : Kind → CType
+result_type Procedure = Unsigned W32
+result_type Home = Truth
+result_type Noted = Unsigned W32
+result_type (Floor w) = Signed w
+result_type Outside = Truth
+
+-- the parameters of a function: five words of a procedure, a state, the same five and a procedure, two numbers, none
+-- of the start, the event of a reaction
+abbrev pub parameter_types : Labels → ℕ → Kind → List CType
+parameter_types L f Procedure = replicate 5 (Unsigned W32)
+parameter_types L f Home = replicate 1 (Unsigned W32)
+parameter_types L f Noted = replicate 6 (Unsigned W32)
+parameter_types L f (Floor w) = replicate 2 (Signed w)
+parameter_types L f Outside = replicate (if f == L.procs + 8 then 0 else 1) (Unsigned W32)
+
+-- all but what is called from outside is static
+abbrev pub linkage_text : Kind → List ℕ
+linkage_text Procedure = codes "static "
+linkage_text Home = codes "static "
+linkage_text Noted = codes "static "
+linkage_text (Floor w) = codes "static "
+linkage_text Outside = []
+
+-- the struct as a parameter
+abbrev pub struct_parameter : Labels → Kind → List ℕ
+struct_parameter L kind = if takes_struct kind then L.chart ++ codes "_chart *m" else []
+
+-- T x
+abbrev pub local_text : Kind → CType → ℕ → List ℕ
+local_text kind t k = type_text t ++ (32 ∷ local_label kind t k)
+
+-- a parameter
+unfoldable pub parameter_text : Kind → ℕ → CType → List ℕ
+parameter_text kind k t = comma kind k ++ local_text kind t k
+
+-- the parameters from number k on
+abbrev pub parameters_text : Kind → ℕ → List CType → List ℕ
+parameters_text kind k [] = []
+parameters_text kind k (t ∷ ts) = parameter_text kind k t ++ parameters_text kind (k + 1) ts
+
+-- (CHART_chart *m, T x, ..)
+unfoldable pub list_text : Labels → Kind → List CType → List ℕ
+list_text L kind ts = codes "(" ++ (struct_parameter L kind ++ (parameters_text kind 0 ts ++ codes ")"))
+
+-- static T f(CHART_chart *m, T x, ..)
+unfoldable pub head_text : Labels → ℕ → CType → List CType → List ℕ
+head_text L f result ts =
+    linkage_text (function_kind L f) ++ (type_text result ++ (32 ∷ (function_label L f
+    ++ list_text L (function_kind L f) ts)))
+
+-- the declaration of the function with that number
+abbrev pub prototype_text : Labels → ℕ → List ℕ
+prototype_text L f =
+    head_text L f (result_type (function_kind L f)) (parameter_types L f (function_kind L f)) ++ (codes ";" ++ 10 ∷ [])
+
+-- ---- the locals that are declared
+
+-- the same local
+abbrev pub same_local : LocalName → LocalName → Bool
+same_local x y = (x.number == y.number) && same_type x.of y.of
+
+-- there are cases; a `switch` without any sets nothing and has no arguments
+abbrev pub has_cases : List Case → Bool
+has_cases [] = false
+has_cases (c ∷ cases) = true
+
+-- the local that a line sets
+abbrev pub local_set : Line → Option LocalName
+local_set (Set t k e) = Some (record { of = t; number = k })
+local_set (Store f e) = None
+local_set (StoreAt a i e) = None
+local_set (Call t k f args) = Some (record { of = t; number = k })
+local_set (Select t k e cases args) = if has_cases cases then Some (record { of = t; number = k }) else None
+local_set (If e) = None
+local_set Else = None
+local_set (While e) = None
+local_set Close = None
+local_set (Return e) = None
+
+-- one more local, where it isn't there
+abbrev pub with_local : List LocalName → Option LocalName → List LocalName
+with_local seen None = seen
+with_local seen (Some x) = if list_any (same_local x) seen then seen else seen ++ x ∷ []
+
+-- the locals, then those that lines set, in the order in which they are set first
+abbrev pub with_locals : List LocalName → List Line → List LocalName
+with_locals seen [] = seen
+with_locals seen (x ∷ xs) = with_locals (with_local seen (local_set x)) xs
+
+-- the parameters from number k on
+abbrev pub parameters_from : ℕ → List CType → List LocalName
+parameters_from k [] = []
+parameters_from k (t ∷ ts) = record { of = t; number = k } ∷ parameters_from (k + 1) ts
+
+-- the locals that the lines of a function set, without its parameters
+unfoldable pub locals_set : List CType → List Line → List LocalName
+locals_set ts xs = drop (length ts) (with_locals (parameters_from 0 ts) xs)
+
+-- T x;
+unfoldable pub declaration_text : Kind → LocalName → List ℕ
+declaration_text kind x = codes "    " ++ (local_text kind x.of x.number ++ (codes ";" ++ 10 ∷ []))
+
+-- the declarations of locals
+abbrev pub declarations_text : Kind → List LocalName → List ℕ
+declarations_text kind [] = []
+declarations_text kind (x ∷ xs) = declaration_text kind x ++ declarations_text kind xs
+
+-- ---- what is used
+
+-- an expression reads a local
+abbrev pub reads : LocalName → CExpr → Bool
+reads x (Const t z) = false
+reads x (Field f) = false
+reads x (Element a e) = reads x e
+reads x (Local t k) = same_local x (record { of = t; number = k })
+reads x (Cast t e) = reads x e
+reads x (Minus e) = reads x e
+reads x (Bang e) = reads x e
+reads x (Calc op a b) = reads x a || reads x b
+reads x (Divide op a b) = reads x a || reads x b
+reads x (Bits op a b) = reads x a || reads x b
+reads x (Compare op a b) = reads x a || reads x b
+reads x (Both a b) = reads x a || reads x b
+reads x (Either a b) = reads x a || reads x b
+reads x (Choose t e a b) = reads x e || (reads x a || reads x b)
+
+-- a line reads it; the arguments stand in the cases
+abbrev pub line_reads : LocalName → Line → Bool
+line_reads x (Set t k e) = reads x e
+line_reads x (Store f e) = reads x e
+line_reads x (StoreAt a i e) = reads x i || reads x e
+line_reads x (Call t k f args) = list_any (reads x) args
+line_reads x (Select t k e cases args) = reads x e || (has_cases cases && list_any (reads x) args)
+line_reads x (If e) = reads x e
+line_reads x Else = false
+line_reads x (While e) = reads x e
+line_reads x Close = false
+line_reads x (Return e) = reads x e
+
+-- an expression reads the struct
+abbrev pub reads_struct : CExpr → Bool
+reads_struct (Const t z) = false
+reads_struct (Field f) = true
+reads_struct (Element a e) = true
+reads_struct (Local t k) = false
+reads_struct (Cast t e) = reads_struct e
+reads_struct (Minus e) = reads_struct e
+reads_struct (Bang e) = reads_struct e
+reads_struct (Calc op a b) = reads_struct a || reads_struct b
+reads_struct (Divide op a b) = reads_struct a || reads_struct b
+reads_struct (Bits op a b) = reads_struct a || reads_struct b
+reads_struct (Compare op a b) = reads_struct a || reads_struct b
+reads_struct (Both a b) = reads_struct a || reads_struct b
+reads_struct (Either a b) = reads_struct a || reads_struct b
+reads_struct (Choose t e a b) = reads_struct e || (reads_struct a || reads_struct b)
+
+-- a call of a function has the struct as an argument
+abbrev pub passes_struct : Labels → ℕ → Bool
+passes_struct L f = takes_struct (function_kind L f)
+
+-- a line uses the struct
+abbrev pub line_uses_struct : Labels → Line → Bool
+line_uses_struct L (Set t k e) = reads_struct e
+line_uses_struct L (Store f e) = true
+line_uses_struct L (StoreAt a i e) = true
+line_uses_struct L (Call t k f args) = passes_struct L f || list_any reads_struct args
+line_uses_struct L (Select t k e cases args) =
+    reads_struct e || (list_any (λ (c : Case). passes_struct L c.function) cases
+    || (has_cases cases && list_any reads_struct args))
+line_uses_struct L (If e) = reads_struct e
+line_uses_struct L Else = false
+line_uses_struct L (While e) = reads_struct e
+line_uses_struct L Close = false
+line_uses_struct L (Return e) = reads_struct e
+
+-- (void)x; where no line reads the local, so that a compiler doesn't warn of it
+unfoldable pub unread_line : Kind → List Line → LocalName → List ℕ
+unread_line kind lines x =
+    if list_any (line_reads x) lines then []
+    else codes "    (void)" ++ (local_label kind x.of x.number ++ (codes ";" ++ 10 ∷ []))
+
+-- the same for each of these locals
+abbrev pub unread_text : Kind → List Line → List LocalName → List ℕ
+unread_text kind lines [] = []
+unread_text kind lines (x ∷ xs) = unread_line kind lines x ++ unread_text kind lines xs
+
+-- (void)m; where no line uses the struct
+abbrev pub unused_text : Labels → Kind → List Line → List ℕ
+unused_text L kind lines =
+    if takes_struct kind && not (list_any (line_uses_struct L) lines) then codes "    (void)m;" ++ 10 ∷ [] else []
+
+-- ---- a function
+
+-- The function with that number
+unfoldable pub function_text : Labels → ℕ → CType → List CType → List Line → List ℕ
+function_text L f result ts lines = let kind = function_kind L f in
+    head_text L f result ts ++ (10 ∷ 123 ∷ 10 ∷ (declarations_text kind (locals_set ts lines)
+    ++ (unread_text kind lines (parameters_from 0 ts)
+    ++ (unused_text L kind lines ++ (lines_text L kind result 1 lines ++ (codes "}" ++ 10 ∷ []))))))

@@ -1,0 +1,6 @@
+pub mod Labels
+pub mod Types
+pub mod Expressions
+pub mod Statements
+pub mod Functions
+pub mod Distinct

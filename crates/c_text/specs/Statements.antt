@@ -1,0 +1,112 @@
+-- How statements are written, a line for each.
+use Rattle.std.specs.Prelude.{ℕ, zero, suc, ◌+◌, ◌-◌, nat_lt, ◌||◌, List, [], ◌∷◌, ◌++◌, codes, decimal, if◌then◌else◌}
+use Rattle.c_subset.specs.Trees.{CExpr}
+use Rattle.c_subset.specs.declared.trees.Case.{Case}
+use Rattle.c_subset.specs.declared.trees.CType.{CType}
+use Rattle.c_subset.specs.declared.trees.Width.TheVariants.{W32}
+use Rattle.c_subset.specs.declared.trees.CType.TheVariants.{Signed, Unsigned}
+use Rattle.c_subset.specs.Lines.{Line, Set, Store, StoreAt, Call, Select, If, Else, While, Close, Return}
+use Rattle.c_text.specs.declared.kinds.Kind.{Kind}
+use Rattle.c_text.specs.declared.kinds.Kind.TheVariants.{Procedure, Home, Noted, Floor, Outside}
+use Rattle.c_text.specs.Labels.{Labels, type_of_field, field_label, row_label, function_label, function_kind}
+use Rattle.c_text.specs.Labels.{takes_struct, local_label}
+use Rattle.c_text.specs.Expressions.{bare, brought, is_truth}
+
+-- four blanks for each depth
+abbrev pub indent : ℕ → List ℕ
+indent zero = []
+indent (suc d) = codes "    " ++ indent d
+
+-- a comma after an argument before, which is the struct or one with a number below
+abbrev pub comma : Kind → ℕ → List ℕ
+comma kind k = if takes_struct kind || nat_lt 0 k then codes ", " else []
+
+-- the struct as an argument
+abbrev pub struct_argument : Kind → List ℕ
+struct_argument kind = if takes_struct kind then codes "m" else []
+
+-- the depth after a line
+abbrev pub depth_after : ℕ → Line → ℕ
+depth_after d (Set t k e) = d
+depth_after d (Store f e) = d
+depth_after d (StoreAt a i e) = d
+depth_after d (Call t k f args) = d
+depth_after d (Select t k e cases args) = d
+depth_after d (If e) = d + 1
+depth_after d Else = d
+depth_after d (While e) = d + 1
+depth_after d Close = d - 1
+depth_after d (Return e) = d
+
+-- default: break; }
+unfoldable pub default_text : ℕ → List ℕ
+default_text d =
+    indent d ++ (codes "default:" ++ 10 ∷ (indent (d + 1) ++ (codes "break;" ++ 10 ∷ (indent d ++ (codes "}"
+    ++ 10 ∷ [])))))
+
+module _ (L : Labels) (kind : Kind) where
+  -- what is stored in an object of that type; a truth value needs no parentheses
+  unfoldable pub stored : CType → CExpr → List ℕ
+  stored t e = if is_truth t then bare L kind e else brought L kind t e
+
+  -- an argument of a function: those of a division are brought to its type, all others are words
+  abbrev pub passed : Kind → CExpr → List ℕ
+  passed Procedure e = bare L kind e
+  passed Home e = bare L kind e
+  passed Noted e = bare L kind e
+  passed (Floor w) e = brought L kind (Signed w) e
+  passed Outside e = bare L kind e
+
+  -- an argument after those before it
+  unfoldable pub argument_text : Kind → ℕ → CExpr → List ℕ
+  argument_text callee k e = comma callee k ++ passed callee e
+
+  -- the arguments from number k on
+  abbrev pub arguments_text : Kind → ℕ → List CExpr → List ℕ
+  arguments_text callee k [] = []
+  arguments_text callee k (e ∷ es) = argument_text callee k e ++ arguments_text callee (k + 1) es
+
+  -- x = f(m, e, ..);
+  unfoldable pub call_text : ℕ → CType → ℕ → ℕ → List CExpr → List ℕ
+  call_text d t k f args =
+      indent d ++ (local_label kind t k ++ (codes " = " ++ (function_label L f ++ (codes "("
+      ++ (struct_argument (function_kind L f) ++ (arguments_text (function_kind L f) 0 args
+      ++ (codes ");" ++ 10 ∷ [])))))))
+
+  -- case C: x = f(m, e, ..); break;
+  unfoldable pub case_text : ℕ → CType → ℕ → List CExpr → Case → List ℕ
+  case_text d t k args c =
+      indent d ++ (codes "case " ++ (decimal c.label ++ (codes "u:" ++ 10 ∷ (call_text (d + 1) t k c.function args
+      ++ (indent (d + 1) ++ (codes "break;" ++ 10 ∷ []))))))
+
+  abbrev pub cases_text : ℕ → CType → ℕ → List CExpr → List Case → List ℕ
+  cases_text d t k args [] = []
+  cases_text d t k args (c ∷ cases) = case_text d t k args c ++ cases_text d t k args cases
+
+  -- if (e) { and the like
+  unfoldable pub opening_text : ℕ → List ℕ → CExpr → List ℕ
+  opening_text d word e = indent d ++ (word ++ (bare L kind e ++ (codes ") {" ++ 10 ∷ [])))
+
+  -- A line at a depth, in a function with that result
+  unfoldable pub line_text : CType → ℕ → Line → List ℕ
+  line_text result d (Set t k e) =
+      indent d ++ (local_label kind t k ++ (codes " = " ++ (stored t e ++ (codes ";" ++ 10 ∷ []))))
+  line_text result d (Store f e) =
+      indent d ++ (codes "m->" ++ (field_label L f ++ (codes " = " ++ (stored (type_of_field L f) e
+      ++ (codes ";" ++ 10 ∷ [])))))
+  line_text result d (StoreAt a i e) =
+      indent d ++ (codes "m->" ++ (row_label a ++ (codes "[" ++ (bare L kind i ++ (codes "] = "
+      ++ (stored (Unsigned W32) e ++ (codes ";" ++ 10 ∷ [])))))))
+  line_text result d (Call t k f args) = call_text d t k f args
+  line_text result d (Select t k e cases args) =
+      opening_text d (codes "switch (") e ++ (cases_text d t k args cases ++ default_text d)
+  line_text result d (If e) = opening_text d (codes "if (") e
+  line_text result d Else = indent (d - 1) ++ (codes "} else {" ++ 10 ∷ [])
+  line_text result d (While e) = opening_text d (codes "while (") e
+  line_text result d Close = indent (d - 1) ++ (codes "}" ++ 10 ∷ [])
+  line_text result d (Return e) = indent d ++ (codes "return " ++ (stored result e ++ (codes ";" ++ 10 ∷ [])))
+
+  -- lines from a depth on
+  abbrev pub lines_text : CType → ℕ → List Line → List ℕ
+  lines_text result d [] = []
+  lines_text result d (x ∷ xs) = line_text result d x ++ lines_text result (depth_after d x) xs

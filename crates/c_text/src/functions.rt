@@ -1,0 +1,388 @@
+//! Functions, printed.
+ghost use Rattle.std.specs.Prelude.{◌≡◌, ◌++◌, ◌∷◌, [], codes, string_bytes, OnOk, IfOk};
+ghost use Rattle.std.specs.List.{list_any};
+ghost use Rattle.flow_base.specs.Lists.{items_of};
+ghost use Rattle.c_subset.specs.Lines.{line_of, lines_in};
+ghost use Rattle.c_text.specs.Functions as spec;
+ghost use Rattle.c_text.specs.Labels.{labels_of, local_label};
+ghost use Rattle.c_text.specs.Types.{type_text};
+
+use crate::kinds::{Kind, function_kind, print_function_label, takes_struct};
+use crate::labels::Labels;
+use crate::locals::{LocalName, print_local_label};
+use crate::reading::{any_line_reads, any_line_uses_struct, has_cases, is_same_local};
+use crate::statements::{comma, local_of, print_lines};
+use crate::types::print_type;
+use c_subset::{CType, Function, Line, Width};
+use std::alloc::{AllocError, Global};
+
+/// `uint32_t`
+const WORD: CType = CType::Unsigned(Width::W32);
+
+/// The type of what a function gives.
+fn result_type(kind: Kind) -> CType
+    ensures { result ≡ spec.result_type kind }
+{
+    match kind {
+        Kind::Procedure | Kind::Noted => WORD,
+        Kind::Home | Kind::Outside => CType::Truth,
+        Kind::Floor(width) => CType::Signed(width),
+    }
+}
+
+/// What stands before the type of a function.
+fn linkage_word(kind: Kind) -> &'static str
+    ensures { result.now ≡ spec.linkage_text kind }
+{
+    match kind {
+        Kind::Procedure | Kind::Home | Kind::Noted | Kind::Floor(_) => "static ",
+        Kind::Outside => "",
+    }
+}
+
+/// Appends the declaration of a function, by its number, with a newline. This project's choice.
+pub fn print_prototype(out: &mut String, labels: &Labels<'_>, number: u32) -> Result<(), AllocError>
+    ensures { OnOk result (string_bytes out.new ≡ string_bytes out.old
+        ++ spec.prototype_text (labels_of labels.now) number) }
+{
+    let kind = function_kind(labels, number);
+    match kind {
+        Kind::Procedure => print_declared(out, labels, number, kind, &[WORD; 5]),
+        Kind::Home => print_declared(out, labels, number, kind, &[WORD]),
+        Kind::Noted => print_declared(out, labels, number, kind, &[WORD; 6]),
+        Kind::Floor(width) => {
+            print_declared(out, labels, number, kind, &[CType::Signed(width); 2])
+        }
+        Kind::Outside => {
+            if u64::from(number) == u64::from(labels.procs) + 8 {
+                print_declared(out, labels, number, kind, &[])
+            } else {
+                print_declared(out, labels, number, kind, &[WORD])
+            }
+        }
+    }
+}
+
+/// Appends the declaration of a function of that kind with these parameters.
+fn print_declared(
+    out: &mut String,
+    labels: &Labels<'_>,
+    number: u32,
+    kind: Kind,
+    parameters: &[CType],
+) -> Result<(), AllocError>
+    ensures { OnOk result (string_bytes out.new ≡ string_bytes out.old
+        ++ (spec.head_text (labels_of labels.now) number (spec.result_type kind) parameters.now
+        ++ (codes ";" ++ 10 ∷ []))) }
+{
+    print_head(out, labels, number, result_type(kind), parameters)?;
+    out.push_str(";\n")
+}
+
+/// Appends the head of a function.
+#[tactic(auto, unfolding(crate::specs::Functions::head_text))]
+fn print_head(
+    out: &mut String,
+    labels: &Labels<'_>,
+    number: u32,
+    gives: CType,
+    parameters: &[CType],
+) -> Result<(), AllocError>
+    ensures { OnOk result (string_bytes out.new ≡ string_bytes out.old
+        ++ spec.head_text (labels_of labels.now) number gives parameters.now) }
+{
+    let kind = function_kind(labels, number);
+    out.push_str(linkage_word(kind))?;
+    print_type(out, gives)?;
+    out.push_str(" ")?;
+    print_function_label(out, labels, number)?;
+    print_list(out, labels, kind, parameters)
+}
+
+/// Appends the list of parameters.
+#[tactic(auto, unfolding(crate::specs::Functions::list_text))]
+fn print_list(
+    out: &mut String,
+    labels: &Labels<'_>,
+    kind: Kind,
+    parameters: &[CType],
+) -> Result<(), AllocError>
+    ensures { OnOk result (string_bytes out.new ≡ string_bytes out.old
+        ++ spec.list_text (labels_of labels.now) kind parameters.now) }
+{
+    out.push_str("(")?;
+    print_struct_parameter(out, labels, kind)?;
+    print_parameters(out, kind, parameters)?;
+    out.push_str(")")
+}
+
+/// Appends the struct as a parameter, where there is one.
+fn print_struct_parameter(
+    out: &mut String,
+    labels: &Labels<'_>,
+    kind: Kind,
+) -> Result<(), AllocError>
+    ensures { OnOk result (string_bytes out.new ≡ string_bytes out.old
+        ++ spec.struct_parameter (labels_of labels.now) kind) }
+{
+    if takes_struct(kind) {
+        out.push_str(labels.chart)?;
+        out.push_str("_chart *m")
+    } else {
+        Ok(())
+    }
+}
+
+/// Appends the parameters.
+fn print_parameters(out: &mut String, kind: Kind, parameters: &[CType]) -> Result<(), AllocError>
+    ensures { OnOk result (string_bytes out.new ≡ string_bytes out.old
+        ++ spec.parameters_text kind 0 parameters.now) }
+{
+    for (number, of) in parameters.iter().enumerate() {
+        print_parameter(out, kind, number, *of)?;
+    }
+    Ok(())
+}
+
+/// Appends a parameter.
+#[tactic(auto, unfolding(crate::specs::Functions::parameter_text))]
+fn print_parameter(out: &mut String, kind: Kind, number: usize, of: CType) -> Result<(), AllocError>
+    ensures { OnOk result
+        (string_bytes out.new ≡ string_bytes out.old ++ spec.parameter_text kind number of) }
+{
+    out.push_str(comma(kind, number))?;
+    print_typed(out, kind, LocalName { of, number })
+}
+
+/// Appends the type and the name of a local.
+fn print_typed(out: &mut String, kind: Kind, local: LocalName) -> Result<(), AllocError>
+    ensures { OnOk result (string_bytes out.new
+        ≡ string_bytes out.old ++ spec.local_text kind local.of local.number) }
+{
+    print_type(out, local.of)?;
+    out.push_str(" ")?;
+    print_local_label(out, kind, local)
+}
+
+/// The local that a line sets, if it sets one.
+fn local_set(line: &Line) -> Option<LocalName>
+    ensures { result ≡ spec.local_set (line_of line.now) }
+{
+    match line {
+        Line::Set(of, number, _) | Line::Call(of, number, _, _) => Some(local_of(*of, *number)),
+        Line::Select(of, number, _, cases, _) => {
+            if has_cases(cases.items()) {
+                Some(local_of(*of, *number))
+            } else {
+                None
+            }
+        }
+        Line::Store(..)
+        | Line::StoreAt(..)
+        | Line::If(_)
+        | Line::Else
+        | Line::While(_)
+        | Line::Close
+        | Line::Return(_) => None,
+    }
+}
+
+/// Whether the local is one of these.
+fn is_among(seen: &[LocalName], local: LocalName) -> bool
+    ensures { result ≡ list_any (spec.same_local local) seen.now }
+{
+    for other in seen {
+        if is_same_local(local, *other) {
+            return true;
+        }
+    }
+    false
+}
+
+/// Adds the locals that lines set to those that are there.
+fn add_locals(seen: &mut Vec<LocalName>, lines: &[Line]) -> Result<(), AllocError>
+    ensures { OnOk result (seen.new.items ≡ spec.with_locals seen.old.items (lines_in lines.now)) }
+{
+    for line in lines {
+        add_local(seen, local_set(line))?;
+    }
+    Ok(())
+}
+
+/// Adds a local, where it isn't there.
+fn add_local(seen: &mut Vec<LocalName>, local: Option<LocalName>) -> Result<(), AllocError>
+    ensures { OnOk result (seen.new.items ≡ spec.with_local seen.old.items local) }
+{
+    match local {
+        Some(local) => {
+            if is_among(seen, local) {
+                Ok(())
+            } else {
+                seen.push(local)?;
+                Ok(())
+            }
+        }
+        None => Ok(()),
+    }
+}
+
+/// The parameters.
+fn parameters_of(alloc: Global, types: &[CType]) -> Result<Vec<LocalName>, AllocError>
+    ensures { IfOk result (λ locals. locals.items ≡ spec.parameters_from 0 types.now) }
+{
+    let mut locals = Vec::new(alloc);
+    for (number, of) in types.iter().enumerate() {
+        locals.push(LocalName { of: *of, number })?;
+    }
+    Ok(locals)
+}
+
+/// Appends the declarations of locals.
+fn print_declarations(out: &mut String, kind: Kind, locals: &[LocalName]) -> Result<(), AllocError>
+    ensures { OnOk result (string_bytes out.new ≡ string_bytes out.old
+        ++ spec.declarations_text kind locals.now) }
+{
+    for local in locals {
+        print_declaration(out, kind, *local)?;
+    }
+    Ok(())
+}
+
+/// Appends the declaration of a local.
+#[tactic(auto, unfolding(crate::specs::Functions::declaration_text))]
+fn print_declaration(out: &mut String, kind: Kind, local: LocalName) -> Result<(), AllocError>
+    ensures { OnOk result
+        (string_bytes out.new ≡ string_bytes out.old ++ spec.declaration_text kind local) }
+{
+    out.push_str("    ")?;
+    print_typed(out, kind, local)?;
+    out.push_str(";\n")
+}
+
+/// Appends a use of each of these locals that no line reads.
+fn print_unread(
+    out: &mut String,
+    kind: Kind,
+    locals: &[LocalName],
+    lines: &[Line],
+) -> Result<(), AllocError>
+    ensures { OnOk result (string_bytes out.new ≡ string_bytes out.old
+        ++ spec.unread_text kind (lines_in lines.now) locals.now) }
+{
+    for local in locals {
+        print_unread_line(out, kind, *local, lines)?;
+    }
+    Ok(())
+}
+
+/// Appends a use of a local that no line reads.
+#[tactic(auto, unfolding(crate::specs::Functions::unread_line))]
+fn print_unread_line(
+    out: &mut String,
+    kind: Kind,
+    local: LocalName,
+    lines: &[Line],
+) -> Result<(), AllocError>
+    ensures { OnOk result (string_bytes out.new ≡ string_bytes out.old
+        ++ spec.unread_line kind (lines_in lines.now) local) }
+{
+    if any_line_reads(local, lines) {
+        Ok(())
+    } else {
+        out.push_str("    (void)")?;
+        print_local_label(out, kind, local)?;
+        out.push_str(";\n")
+    }
+}
+
+/// Appends a use of the struct, where no line uses it.
+fn print_unused(
+    out: &mut String,
+    labels: &Labels<'_>,
+    kind: Kind,
+    lines: &[Line],
+) -> Result<(), AllocError>
+    ensures { OnOk result (string_bytes out.new ≡ string_bytes out.old
+        ++ spec.unused_text (labels_of labels.now) kind (lines_in lines.now)) }
+{
+    if takes_struct(kind) && !any_line_uses_struct(labels, lines) {
+        out.push_str("    (void)m;\n")
+    } else {
+        Ok(())
+    }
+}
+
+/// Appends what stands in a body before its lines: declarations, and uses of what isn't used.
+fn print_opening_lines(
+    alloc: Global,
+    out: &mut String,
+    labels: &Labels<'_>,
+    kind: Kind,
+    types: &[CType],
+    lines: &[Line],
+) -> Result<(), AllocError>
+    ensures { OnOk result (string_bytes out.new ≡ string_bytes out.old
+        ++ (spec.declarations_text kind (spec.locals_set types.now (lines_in lines.now))
+        ++ (spec.unread_text kind (lines_in lines.now) (spec.parameters_from 0 types.now)
+        ++ spec.unused_text (labels_of labels.now) kind (lines_in lines.now)))) }
+{
+    print_locals_set(alloc, out, kind, types, lines)?;
+    print_unread_parameters(alloc, out, kind, types, lines)?;
+    print_unused(out, labels, kind, lines)
+}
+
+/// Appends the declarations of the locals that lines set, without parameters of these types.
+#[tactic(auto, unfolding(crate::specs::Functions::locals_set))]
+fn print_locals_set(
+    alloc: Global,
+    out: &mut String,
+    kind: Kind,
+    types: &[CType],
+    lines: &[Line],
+) -> Result<(), AllocError>
+    ensures { OnOk result (string_bytes out.new ≡ string_bytes out.old
+        ++ spec.declarations_text kind (spec.locals_set types.now (lines_in lines.now))) }
+{
+    let mut locals = parameters_of(alloc, types)?;
+    add_locals(&mut locals, lines)?;
+    print_declarations(out, kind, &locals[types.len()..])
+}
+
+/// Appends a use of each parameter that no line reads.
+fn print_unread_parameters(
+    alloc: Global,
+    out: &mut String,
+    kind: Kind,
+    types: &[CType],
+    lines: &[Line],
+) -> Result<(), AllocError>
+    ensures { OnOk result (string_bytes out.new ≡ string_bytes out.old
+        ++ spec.unread_text kind (lines_in lines.now) (spec.parameters_from 0 types.now)) }
+{
+    let locals = parameters_of(alloc, types)?;
+    print_unread(out, kind, &locals, lines)
+}
+
+/// Appends the function with that number, from its lines. How it is spelled is this project's
+/// choice.
+#[tactic(auto, unfolding(crate::specs::Functions::function_text))]
+pub fn print_function(
+    alloc: Global,
+    out: &mut String,
+    labels: &Labels<'_>,
+    number: u32,
+    function: &Function,
+) -> Result<(), AllocError>
+    ensures { OnOk result (string_bytes out.new ≡ string_bytes out.old
+        ++ spec.function_text (labels_of labels.now) number function.now.result
+        (items_of function.now.parameters) (lines_in (items_of function.now.lines))) }
+{
+    let kind = function_kind(labels, number);
+    let types = function.parameters.items();
+    let lines = function.lines.items();
+    print_head(out, labels, number, function.result, types)?;
+    out.push_str("\n{\n")?;
+    print_opening_lines(alloc, out, labels, kind, types, lines)?;
+    print_lines(out, labels, kind, function.result, lines)?;
+    out.push_str("}\n")
+}

@@ -2,7 +2,8 @@
 //!
 //! Read `specs/Drafts.antt`, what a draft and the code of a procedure are as contracts see them,
 //! and `specs/Numberings.antt`, what a numbering keeps. Each call says what it appends, in the
-//! words of `chart_procedures` and `chart_layout`.
+//! words of `chart_procedures` and `chart_layout`. `reached::reached` gives the junctions of a list
+//! in the order of their procedures.
 #![tactic(auto)]
 
 mod blocks;
@@ -11,7 +12,7 @@ mod draft;
 mod numbering;
 mod offsets;
 mod parts;
-mod reached;
+pub mod reached;
 mod searches;
 mod sizes;
 mod tables;
@@ -22,3 +23,4 @@ pub use draft::{
 };
 pub use numbering::{Numbering, number};
 pub use searches::append_list;
+pub use sizes::below_count;

@@ -50,8 +50,9 @@ fn meet_all(found: &mut List<u32>, list: &[Trans]) -> Result<(), Memory>
     Ok(())
 }
 
-/// The junctions that are reached from a list of a chart, breadth first.
-pub(crate) fn reached(alloc: Global, chart: &Chart, list: &[Trans]) -> Result<List<u32>, Memory>
+/// The junctions that are reached from a list of a chart, breadth first. `Memory` only where memory
+/// was refused.
+pub fn reached(alloc: Global, chart: &Chart, list: &[Trans]) -> Result<List<u32>, Memory>
     requires { AreTrans (chart_of chart.now) (list_seen list.now) }
     ensures reached { IfOk result (λ found. items_of found
         ≡ spec.reached (chart_of chart.now) (list_seen list.now)) }

@@ -34,8 +34,8 @@ pub(crate) fn parts_size(list: &[Trans]) -> u32
     size
 }
 
-/// How many states are strictly below a state.
-pub(crate) fn below_count(shape: &Shape, state: u32) -> u32
+/// How many states are strictly below a state. It takes no memory.
+pub fn below_count(shape: &Shape, state: u32) -> u32
     requires tree { trees.IsTree shape.now }
     requires state { state < state_count shape.now }
     ensures { result ≡ ends.below_count shape.now state }

@@ -1,0 +1,5 @@
+pub mod KeyLemmas
+pub mod Turns
+pub mod Within
+pub mod TextLemmas
+pub mod PlainLemmas

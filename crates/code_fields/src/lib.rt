@@ -20,4 +20,7 @@ pub use expressions::expr_of;
 pub use kinds::comp_of;
 pub use laws::{data_have_one_line, events_have_one_line, expressions_have_one_text};
 pub use numbers::{behind, number_behind, number_of};
-pub use printer::{comp_word, print_event, print_expr, print_name, print_number, print_var};
+pub use printer::{
+    comp_word, print_event, print_expr, print_name, print_number, print_signed, print_sort,
+    print_var, var_kind_word,
+};

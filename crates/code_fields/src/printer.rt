@@ -23,7 +23,7 @@ pub fn print_number(out: &mut String, words: &str, number: u64) -> Result<(), Al
 }
 
 /// Appends words and a whole number.
-fn print_signed(out: &mut String, words: &str, number: i128) -> Result<(), AllocError>
+pub fn print_signed(out: &mut String, words: &str, number: i128) -> Result<(), AllocError>
     ensures { OnOk result
         (string_bytes out.new ≡ string_bytes out.old ++ (words.now ++ signed_decimal number)) }
 {
@@ -56,7 +56,7 @@ pub fn comp_word(comp: Comp) -> &'static str
 }
 
 /// The word for who sets a datum.
-fn var_kind_word(kind: VarKind) -> &'static str
+pub fn var_kind_word(kind: VarKind) -> &'static str
     ensures { result.now ≡ spec.var_kind_word kind }
 {
     match kind {
@@ -99,7 +99,7 @@ fn mode_in(sort: Sort, mode: Mode) -> &'static str
 }
 
 /// Appends the word for what values a datum has.
-fn print_sort(out: &mut String, sort: Sort) -> Result<(), AllocError>
+pub fn print_sort(out: &mut String, sort: Sort) -> Result<(), AllocError>
     ensures { OnOk result
         (string_bytes out.new ≡ string_bytes out.old ++ spec.sort_word sort) }
 {

@@ -1,0 +1,8 @@
+use Rattle.std.proofs.Common.{◌≡◌, ◌++◌, flat_map}
+use Rattle.std.specs.Prelude.{string_bytes}
+use Rattle.c_header.specs.Paths.{letter_text}
+use Rattle.c_header.proofs.paths.print_doubled.Given as goal
+
+-- the letters so far are printed
+abbrev pub invariant-loop-letter : goal.invariant-loop-letter
+invariant-loop-letter l = string_bytes l.out ≡ string_bytes l.fn.out ++ flat_map letter_text l.yielded

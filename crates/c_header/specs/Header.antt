@@ -1,0 +1,176 @@
+-- The header of a chart's C.
+use Rattle.std.specs.Prelude.{ℕ, ◌+◌, ◌==◌, List, [], ◌∷◌, ◌++◌, length, codes, decimal, Some, None, if◌then◌else◌}
+use Rattle.flow_base.specs.declared.bounds.Bounds.{Bounds}
+use Rattle.flow_base.specs.declared.fault.Fault.TheVariants as faults
+use Rattle.active_config.specs.Tree.{state_count}
+use Rattle.actions.specs.declared.names.EventDecl.{EventDecl}
+use Rattle.actions.specs.declared.names.EventKind.{EventKind}
+use Rattle.actions.specs.declared.names.EventKind.TheVariants as event_kinds
+use Rattle.c_functions.specs.Layout.{on_c}
+use Rattle.c_functions.specs.Plans.{Shape, layout, used_field, fault_number, start_function, react_function}
+use Rattle.c_text.specs.declared.kinds.Kind.TheVariants.{Outside}
+use Rattle.c_text.specs.Labels.{Labels, labels_for}
+use Rattle.c_text.specs.Expressions.{bare}
+use Rattle.c_text.specs.Functions.{prototype_text}
+use Rattle.c_header.specs.declared.states.About.{About}
+use Rattle.c_header.specs.declared.states.About.TheVariants.{Active, Remembered, Bits, Test}
+use Rattle.c_header.specs.declared.paths.Form.TheVariants.{Words, Label}
+use Rattle.c_header.specs.Paths.{path_text}
+use Rattle.c_header.specs.Fields.{texts_below, data_text, counters_text, active_field, last_field, for_or, bits_line}
+
+-- a text with the chart's name in it
+abbrev pub named_text : List ℕ → List ℕ → List ℕ → List ℕ
+named_text front chart back = front ++ (chart ++ back)
+
+-- ---- the beginning
+
+-- what an engineer has to know
+unfoldable pub usage_text : List ℕ → List ℕ
+usage_text chart =
+    codes "   All memory is one struct, which the caller owns. Before each event store the inputs\n"
+    ++ (codes "   (in_..). After it read the outputs (out_..), the events that were put out (out[0] to\n"
+    ++ (codes "   out[outs - 1]) and which states are active. Each call returns whether it ended\n"
+    ++ (codes "   without a fault. After a fault, which fault and fault_datum tell, the run is over:\n"
+    ++ (named_text (codes "   the next call is ") chart
+    (codes "_start. An input has to lie in the range of its type, which\n")
+    ++ (codes "   stands beside it. Local data (loc_..) may be read. All other fields belong to the\n"
+    ++ codes "   chart alone. */\n")))))
+
+-- the header is read once, and int has 32 bits
+unfoldable pub needs_text : List ℕ → List ℕ
+needs_text chart =
+    named_text (codes "#ifndef ") chart (codes "_H\n")
+    ++ (named_text (codes "#define ") chart (codes "_H\n\n")
+    ++ (codes "#include <limits.h>\n#include <stdbool.h>\n#include <stdint.h>\n\n"
+    ++ codes "#if UINT_MAX != 4294967295u\n#error \"int must have 32 bits\"\n#endif\n\n"))
+
+-- ---- numbers
+
+-- #define CHARTprefixNAME NUMBERu
+unfoldable pub define_line : List ℕ → List ℕ → List ℕ → ℕ → List ℕ
+define_line chart prefix name number =
+    codes "#define " ++ (chart ++ (prefix ++ (name ++ (32 ∷ (decimal number ++ codes "u\n")))))
+
+-- the number of an event, but for local ones
+abbrev pub event_line : List ℕ → ℕ → List ℕ → EventKind → List ℕ
+event_line chart number name event_kinds.Input = define_line chart (codes "_E_") name number
+event_line chart number name event_kinds.Local = []
+event_line chart number name event_kinds.Output = define_line chart (codes "_E_") name number
+
+-- events from a number on
+abbrev pub event_lines : List ℕ → ℕ → List EventDecl → List ℕ
+event_lines chart number [] = []
+event_lines chart number (e ∷ rest) = event_line chart number e.name e.kind ++ event_lines chart (number + 1) rest
+
+-- the number of a reaction without an event
+abbrev pub tick_line : List ℕ → List EventDecl → List ℕ
+tick_line chart es = define_line chart (codes "_") (codes "TICK") (length es)
+
+-- the events, and a reaction without one
+unfoldable pub events_text : List ℕ → List EventDecl → List ℕ
+events_text chart es =
+    named_text (codes "/* The events: those that ") chart (codes "_react takes, and those that are put out. */\n")
+    ++ (event_lines chart 0 es ++ tick_line chart es)
+
+-- the faults
+unfoldable pub faults_text : List ℕ → List ℕ
+faults_text chart =
+    codes "\n/* The faults. */\n"
+    ++ (define_line chart (codes "_FAULT_") (codes "NONE") (fault_number None)
+    ++ (define_line chart (codes "_FAULT_") (codes "DEPTH") (fault_number (Some faults.Depth))
+    ++ (define_line chart (codes "_FAULT_") (codes "STEPS") (fault_number (Some faults.Steps))
+    ++ (define_line chart (codes "_FAULT_") (codes "OVERFLOW") (fault_number (Some (faults.Overflow 0)))
+    ++ define_line chart (codes "_FAULT_") (codes "ZERO") (fault_number (Some faults.Zero))))))
+
+-- the bounds
+unfoldable pub bounds_text : List ℕ → Bounds → List ℕ
+bounds_text chart bounds =
+    codes "\n/* The bounds of an event: how deep sends nest, and how many steps it takes. */\n"
+    ++ (define_line chart (codes "_") (codes "DEPTH") bounds.depth
+    ++ (define_line chart (codes "_") (codes "STEPS") bounds.steps ++ codes "\n"))
+
+-- ---- states
+
+-- /* Whether A/B is active. */
+unfoldable pub test_comment : Shape → ℕ → List ℕ
+test_comment K x = codes "/* Whether " ++ (path_text Words K.tree K.names x ++ codes " is active. */\n")
+
+-- static inline bool CHART_in_A_B(const CHART_chart *m)
+unfoldable pub test_head : List ℕ → Shape → ℕ → List ℕ
+test_head chart K x =
+    named_text (codes "static inline bool ") chart (codes "_in_")
+    ++ (path_text Label K.tree K.names x ++ named_text (codes "(const ") chart (codes "_chart *m)\n"))
+
+-- { return TEST; }
+unfoldable pub test_body : Labels → Shape → ℕ → List ℕ
+test_body L K x =
+    codes "{\n    return " ++ (bare L Outside (on_c K.tree (layout K) K.numbers x) ++ codes ";\n}\n\n")
+
+-- the test whether a state is active
+unfoldable pub test_text : List ℕ → Labels → Shape → ℕ → List ℕ
+test_text chart L K x = test_comment K x ++ (test_head chart K x ++ test_body L K x)
+
+-- what is written about a state
+abbrev pub state_text : List ℕ → Labels → Shape → About → ℕ → List ℕ
+state_text chart L K Active x = for_or K x (active_field chart L K x)
+state_text chart L K Remembered x = for_or K x (last_field chart L K x)
+state_text chart L K Bits x = bits_line L K x
+state_text chart L K Test x = if x == 0 then [] else test_text chart L K x
+
+-- the same of all states
+unfoldable pub states_text : List ℕ → Labels → Shape → About → List ℕ
+states_text chart L K about = texts_below (state_text chart L K about) (state_count K.tree)
+
+-- ---- the struct and the calls
+
+-- the arrays
+unfoldable pub rows_text : Shape → List ℕ
+rows_text K =
+    codes "    uint32_t out[" ++ (decimal K.bounds.steps
+    ++ (codes "]; /* the events that the last event put out */\n    uint32_t note["
+    ++ (decimal K.notes ++ codes "]; /* what is to be done before the event goes on */\n")))
+
+-- the fields of data, and those after them
+unfoldable pub values_fields : Labels → Shape → List ℕ
+values_fields L K = data_text L 0 K.names.vars ++ counters_text L (used_field K)
+
+-- the fields of states
+unfoldable pub states_fields : List ℕ → Labels → Shape → List ℕ
+states_fields chart L K =
+    states_text chart L K Active ++ (states_text chart L K Remembered ++ states_text chart L K Bits)
+
+-- the struct
+unfoldable pub struct_text : List ℕ → Labels → Shape → List ℕ
+struct_text chart L K =
+    codes "typedef struct {\n" ++ (values_fields L K
+    ++ (states_fields chart L K ++ (rows_text K ++ named_text (codes "} ") chart (codes "_chart;\n\n"))))
+
+-- the call that begins a run
+unfoldable pub start_text : Labels → Shape → List ℕ
+start_text L K = codes "/* Begins a run. */\n" ++ prototype_text L (start_function K)
+
+-- the call for an event
+unfoldable pub react_text : List ℕ → Labels → Shape → List ℕ
+react_text chart L K =
+    named_text (codes "\n/* Takes an event: ") chart (codes "_TICK or one of the input events. */\n")
+    ++ (prototype_text L (react_function K) ++ codes "\n")
+
+-- ---- the whole
+
+-- what stands before the struct
+unfoldable pub front_text : List ℕ → Shape → List ℕ
+front_text chart K =
+    named_text (codes "/* The C of the chart ") chart (codes ", written by chart_to_c. Do not edit.\n\n")
+    ++ (usage_text chart
+    ++ (needs_text chart ++ (events_text chart K.names.events ++ (faults_text chart ++ bounds_text chart K.bounds))))
+
+-- what stands from the struct on
+unfoldable pub back_text : List ℕ → Labels → Shape → List ℕ
+back_text chart L K =
+    struct_text chart L K
+    ++ (start_text L K ++ (react_text chart L K ++ (states_text chart L K Test ++ codes "#endif\n")))
+
+-- the header of a chart of that name
+unfoldable pub header_text : List ℕ → Shape → List ℕ
+header_text chart K =
+    front_text chart K ++ back_text chart (labels_for chart K.names K.tree K.procs) K

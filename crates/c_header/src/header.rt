@@ -1,0 +1,196 @@
+//! The header, printed.
+ghost use Rattle.std.specs.Prelude.{◌≡◌, ◌++◌, string_bytes, OnOk};
+ghost use Rattle.c_expression_writer.specs.FileShapes.{shape_seen};
+ghost use Rattle.c_text.specs.Labels.{labels_of};
+ghost use Rattle.c_header.specs.Header as spec;
+
+use crate::fields::{print_counters, print_data, print_rows};
+use crate::numbers::{print_bounds, print_events, print_faults};
+use crate::states::{About, print_states};
+use crate::words::print_named;
+use c_expression_writer::FileShape;
+use c_text::{Labels, print_prototype};
+use std::alloc::{AllocError, Global};
+
+/// Appends the header of the C of a chart of that name.
+///
+/// The text is this project's choice (`specs/Header.antt`). On an error a part of it was appended.
+#[tactic(auto, unfolding(crate::specs::Header::header_text))]
+pub fn print_header(
+    alloc: Global,
+    out: &mut String,
+    chart: &str,
+    shape: &FileShape<'_>,
+) -> Result<(), AllocError>
+    ensures { OnOk result (string_bytes out.new
+        ≡ string_bytes out.old ++ spec.header_text chart.now (shape_seen shape.now)) }
+{
+    let labels = Labels::make(chart, shape.names, shape.tree, shape.procs);
+    print_front(out, chart, shape)?;
+    print_back(alloc, out, chart, &labels, shape)
+}
+
+/// Appends what stands before the struct.
+#[tactic(auto, unfolding(crate::specs::Header::front_text))]
+fn print_front(out: &mut String, chart: &str, shape: &FileShape<'_>) -> Result<(), AllocError>
+    ensures { OnOk result (string_bytes out.new
+        ≡ string_bytes out.old ++ spec.front_text chart.now (shape_seen shape.now)) }
+{
+    print_named(
+        out,
+        "/* The C of the chart ",
+        chart,
+        ", written by chart_to_c. Do not edit.\n\n",
+    )?;
+    print_usage(out, chart)?;
+    print_needs(out, chart)?;
+    print_events(out, chart, shape.names.events.items())?;
+    print_faults(out, chart)?;
+    print_bounds(out, chart, shape.bounds)
+}
+
+/// Appends what an engineer has to know.
+#[tactic(auto, unfolding(crate::specs::Header::usage_text))]
+fn print_usage(out: &mut String, chart: &str) -> Result<(), AllocError>
+    ensures { OnOk result
+        (string_bytes out.new ≡ string_bytes out.old ++ spec.usage_text chart.now) }
+{
+    out.push_str(
+        "   All memory is one struct, which the caller owns. Before each event store the inputs\n",
+    )?;
+    out.push_str(
+        "   (in_..). After it read the outputs (out_..), the events that were put out (out[0] to\n",
+    )?;
+    out.push_str(
+        "   out[outs - 1]) and which states are active. Each call returns whether it ended\n",
+    )?;
+    out.push_str(
+        "   without a fault. After a fault, which fault and fault_datum tell, the run is over:\n",
+    )?;
+    print_named(
+        out,
+        "   the next call is ",
+        chart,
+        "_start. An input has to lie in the range of its type, which\n",
+    )?;
+    out.push_str(
+        "   stands beside it. Local data (loc_..) may be read. All other fields belong to the\n",
+    )?;
+    out.push_str("   chart alone. */\n")
+}
+
+/// Appends what the header needs, and that it is read once.
+#[tactic(auto, unfolding(crate::specs::Header::needs_text))]
+fn print_needs(out: &mut String, chart: &str) -> Result<(), AllocError>
+    ensures { OnOk result
+        (string_bytes out.new ≡ string_bytes out.old ++ spec.needs_text chart.now) }
+{
+    print_named(out, "#ifndef ", chart, "_H\n")?;
+    print_named(out, "#define ", chart, "_H\n\n")?;
+    out.push_str("#include <limits.h>\n#include <stdbool.h>\n#include <stdint.h>\n\n")?;
+    out.push_str("#if UINT_MAX != 4294967295u\n#error \"int must have 32 bits\"\n#endif\n\n")
+}
+
+/// Appends what stands from the struct on.
+#[tactic(auto, unfolding(crate::specs::Header::back_text))]
+fn print_back(
+    alloc: Global,
+    out: &mut String,
+    chart: &str,
+    labels: &Labels<'_>,
+    shape: &FileShape<'_>,
+) -> Result<(), AllocError>
+    ensures { OnOk result (string_bytes out.new ≡ string_bytes out.old
+        ++ spec.back_text chart.now (labels_of labels.now) (shape_seen shape.now)) }
+{
+    print_struct(alloc, out, chart, labels, shape)?;
+    print_start(out, labels, shape)?;
+    print_react(out, chart, labels, shape)?;
+    print_states(alloc, out, chart, labels, shape, About::Test)?;
+    out.push_str("#endif\n")
+}
+
+/// Appends the struct.
+#[tactic(auto, unfolding(crate::specs::Header::struct_text))]
+fn print_struct(
+    alloc: Global,
+    out: &mut String,
+    chart: &str,
+    labels: &Labels<'_>,
+    shape: &FileShape<'_>,
+) -> Result<(), AllocError>
+    ensures { OnOk result (string_bytes out.new ≡ string_bytes out.old
+        ++ spec.struct_text chart.now (labels_of labels.now) (shape_seen shape.now)) }
+{
+    out.push_str("typedef struct {\n")?;
+    print_values_fields(out, labels, shape)?;
+    print_states_fields(alloc, out, chart, labels, shape)?;
+    print_rows(out, shape)?;
+    print_named(out, "} ", chart, "_chart;\n\n")
+}
+
+/// Appends the fields of data, and those after them.
+#[tactic(auto, unfolding(crate::specs::Header::values_fields))]
+fn print_values_fields(
+    out: &mut String,
+    labels: &Labels<'_>,
+    shape: &FileShape<'_>,
+) -> Result<(), AllocError>
+    ensures { OnOk result (string_bytes out.new ≡ string_bytes out.old
+        ++ spec.values_fields (labels_of labels.now) (shape_seen shape.now)) }
+{
+    print_data(out, labels, shape.names.vars.items())?;
+    print_counters(out, labels, shape.used_field())
+}
+
+/// Appends the fields of states.
+#[tactic(auto, unfolding(crate::specs::Header::states_fields))]
+fn print_states_fields(
+    alloc: Global,
+    out: &mut String,
+    chart: &str,
+    labels: &Labels<'_>,
+    shape: &FileShape<'_>,
+) -> Result<(), AllocError>
+    ensures { OnOk result (string_bytes out.new ≡ string_bytes out.old
+        ++ spec.states_fields chart.now (labels_of labels.now) (shape_seen shape.now)) }
+{
+    print_states(alloc, out, chart, labels, shape, About::Active)?;
+    print_states(alloc, out, chart, labels, shape, About::Remembered)?;
+    print_states(alloc, out, chart, labels, shape, About::Bits)
+}
+
+/// Appends the call that begins a run.
+#[tactic(auto, unfolding(crate::specs::Header::start_text))]
+fn print_start(
+    out: &mut String,
+    labels: &Labels<'_>,
+    shape: &FileShape<'_>,
+) -> Result<(), AllocError>
+    ensures { OnOk result (string_bytes out.new ≡ string_bytes out.old
+        ++ spec.start_text (labels_of labels.now) (shape_seen shape.now)) }
+{
+    out.push_str("/* Begins a run. */\n")?;
+    print_prototype(out, labels, shape.procs + 8)
+}
+
+/// Appends the call for an event.
+#[tactic(auto, unfolding(crate::specs::Header::react_text))]
+fn print_react(
+    out: &mut String,
+    chart: &str,
+    labels: &Labels<'_>,
+    shape: &FileShape<'_>,
+) -> Result<(), AllocError>
+    ensures { OnOk result (string_bytes out.new ≡ string_bytes out.old
+        ++ spec.react_text chart.now (labels_of labels.now) (shape_seen shape.now)) }
+{
+    print_named(
+        out,
+        "\n/* Takes an event: ",
+        chart,
+        "_TICK or one of the input events. */\n",
+    )?;
+    print_prototype(out, labels, shape.procs + 9)?;
+    out.push_str("\n")
+}

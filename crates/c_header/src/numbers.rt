@@ -1,0 +1,93 @@
+//! The numbers of events, faults and bounds, printed.
+ghost use Rattle.std.specs.Prelude.{◌≡◌, ◌++◌, string_bytes, OnOk};
+ghost use Rattle.c_header.specs.Header as spec;
+
+use crate::words::{print_define, print_named};
+use actions::{EventDecl, EventKind};
+use flow_base::Bounds;
+use std::alloc::AllocError;
+
+/// Appends the events, and a reaction without one.
+#[tactic(auto, unfolding(crate::specs::Header::events_text))]
+pub(crate) fn print_events(
+    out: &mut String,
+    chart: &str,
+    events: &[EventDecl],
+) -> Result<(), AllocError>
+    ensures { OnOk result (string_bytes out.new
+        ≡ string_bytes out.old ++ spec.events_text chart.now events.now) }
+{
+    print_named(
+        out,
+        "/* The events: those that ",
+        chart,
+        "_react takes, and those that are put out. */\n",
+    )?;
+    print_event_lines(out, chart, events)?;
+    print_tick(out, chart, events)
+}
+
+/// Appends the number of a reaction without an event.
+fn print_tick(out: &mut String, chart: &str, events: &[EventDecl]) -> Result<(), AllocError>
+    ensures { OnOk result (string_bytes out.new
+        ≡ string_bytes out.old ++ spec.tick_line chart.now events.now) }
+{
+    print_define(out, chart, "_", "TICK", events.len() as u64)
+}
+
+/// Appends the numbers of events that come from outside or are put out.
+fn print_event_lines(out: &mut String, chart: &str, events: &[EventDecl]) -> Result<(), AllocError>
+    ensures { OnOk result (string_bytes out.new
+        ≡ string_bytes out.old ++ spec.event_lines chart.now 0 events.now) }
+{
+    for (number, event) in events.iter().enumerate() {
+        print_event(out, chart, number, event)?;
+    }
+    Ok(())
+}
+
+/// Appends the number of an event, but for a local one.
+fn print_event(
+    out: &mut String,
+    chart: &str,
+    number: usize,
+    event: &EventDecl,
+) -> Result<(), AllocError>
+    ensures { OnOk result (string_bytes out.new ≡ string_bytes out.old
+        ++ spec.event_line chart.now number event.now.name event.now.kind) }
+{
+    match event.kind {
+        EventKind::Input | EventKind::Output => {
+            print_define(out, chart, "_E_", event.name.text(), number as u64)
+        }
+        EventKind::Local => Ok(()),
+    }
+}
+
+/// Appends the numbers of faults.
+#[tactic(auto, unfolding(crate::specs::Header::faults_text))]
+pub(crate) fn print_faults(out: &mut String, chart: &str) -> Result<(), AllocError>
+    ensures { OnOk result
+        (string_bytes out.new ≡ string_bytes out.old ++ spec.faults_text chart.now) }
+{
+    out.push_str("\n/* The faults. */\n")?;
+    print_define(out, chart, "_FAULT_", "NONE", 0)?;
+    print_define(out, chart, "_FAULT_", "DEPTH", 1)?;
+    print_define(out, chart, "_FAULT_", "STEPS", 2)?;
+    print_define(out, chart, "_FAULT_", "OVERFLOW", 3)?;
+    print_define(out, chart, "_FAULT_", "ZERO", 4)
+}
+
+/// Appends the bounds.
+#[tactic(auto, unfolding(crate::specs::Header::bounds_text))]
+pub(crate) fn print_bounds(out: &mut String, chart: &str, bounds: Bounds) -> Result<(), AllocError>
+    ensures { OnOk result
+        (string_bytes out.new ≡ string_bytes out.old ++ spec.bounds_text chart.now bounds) }
+{
+    out.push_str(
+        "\n/* The bounds of an event: how deep sends nest, and how many steps it takes. */\n",
+    )?;
+    print_define(out, chart, "_", "DEPTH", u64::from(bounds.depth))?;
+    print_define(out, chart, "_", "STEPS", u64::from(bounds.steps))?;
+    out.push_str("\n")
+}

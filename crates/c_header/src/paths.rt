@@ -1,0 +1,117 @@
+//! The names of states, printed.
+ghost use Rattle.std.specs.Prelude.{◌≡◌, ◌<◌, ◌++◌, ◌∷◌, [], length, string_bytes, OnOk};
+ghost use Rattle.active_config.specs.Tree.{IsTree, state_count};
+ghost use Rattle.actions.specs.Names.{names_of};
+ghost use Rattle.c_header.specs.Paths as spec;
+
+use actions::Names;
+use active_config::Shape;
+use std::alloc::AllocError;
+
+/// How the path of a state is written.
+#[derive(Clone, Copy, Debug, PartialEq, Eq)]
+pub enum Form {
+    /// In words: `/` stands between the names.
+    Words,
+    /// As a part of a name of C: `_` stands between the names, and two for each `_` of a name.
+    Label,
+}
+
+/// Appends the path of a state: nothing for the root.
+pub(crate) fn print_path(
+    out: &mut String,
+    form: Form,
+    tree: &Shape,
+    names: &Names,
+    state: u32,
+) -> Result<(), AllocError>
+    requires tree { IsTree tree.now }
+    requires state { state < state_count tree.now }
+    requires named { length (names_of names.now).states ≡ state_count tree.now }
+    ensures { OnOk result (string_bytes out.new ≡ string_bytes out.old
+        ++ spec.path_text form tree.now (names_of names.now) state) }
+{
+    let Some(parent) = tree.parent(state) else {
+        return Ok(());
+    };
+    if parent == 0 {
+        print_part(out, form, name_of(names, state))
+    } else {
+        print_path(out, form, tree, names, parent)?;
+        out.push_str(separator(form))?;
+        print_part(out, form, name_of(names, state))
+    }
+}
+
+/// The name of a state.
+pub(crate) fn name_of(names: &Names, state: u32) -> &str
+    requires { state < length (names_of names.now).states }
+    ensures { result.now ≡ spec.state_name (names_of names.now) state }
+{
+    names.states.items()[state as usize].text()
+}
+
+/// What stands between the names of a path.
+fn separator(form: Form) -> &'static str
+    ensures { result.now ≡ spec.separator form ∷ [] }
+{
+    match form {
+        Form::Words => "/",
+        Form::Label => "_",
+    }
+}
+
+/// Appends a name of a path.
+fn print_part(out: &mut String, form: Form, name: &str) -> Result<(), AllocError>
+    ensures { OnOk result
+        (string_bytes out.new ≡ string_bytes out.old ++ spec.part_text form name.now) }
+{
+    match form {
+        Form::Words => out.push_str(name),
+        Form::Label => print_doubled(out, name),
+    }
+}
+
+/// Appends a name with each `_` doubled.
+#[tactic(auto, unfolding(crate::specs::Paths::doubled))]
+fn print_doubled(out: &mut String, name: &str) -> Result<(), AllocError>
+    ensures { OnOk result (string_bytes out.new ≡ string_bytes out.old ++ spec.doubled name.now) }
+{
+    for letter in name.chars() {
+        print_letter(out, letter)?;
+    }
+    Ok(())
+}
+
+/// Appends a letter of a name.
+fn print_letter(out: &mut String, letter: char) -> Result<(), AllocError>
+    ensures { OnOk result
+        (string_bytes out.new ≡ string_bytes out.old ++ spec.letter_text letter) }
+{
+    if letter == '_' {
+        out.push_str("__")
+    } else {
+        out.push(letter)
+    }
+}
+
+/// Appends a state in words: the root is the chart.
+pub(crate) fn print_place(
+    out: &mut String,
+    chart: &str,
+    tree: &Shape,
+    names: &Names,
+    state: u32,
+) -> Result<(), AllocError>
+    requires tree { IsTree tree.now }
+    requires state { state < state_count tree.now }
+    requires named { length (names_of names.now).states ≡ state_count tree.now }
+    ensures { OnOk result (string_bytes out.new ≡ string_bytes out.old
+        ++ spec.place_text chart.now tree.now (names_of names.now) state) }
+{
+    if state == 0 {
+        out.push_str(chart)
+    } else {
+        print_path(out, Form::Words, tree, names, state)
+    }
+}

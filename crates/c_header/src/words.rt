@@ -1,0 +1,39 @@
+//! Words with the chart's name, printed.
+ghost use Rattle.std.specs.Prelude.{◌≡◌, ◌++◌, string_bytes, OnOk};
+ghost use Rattle.c_header.specs.Header as spec;
+
+use code_fields::print_number;
+use std::alloc::AllocError;
+
+/// Appends words, the chart's name, and other words.
+pub(crate) fn print_named(
+    out: &mut String,
+    front: &str,
+    chart: &str,
+    back: &str,
+) -> Result<(), AllocError>
+    ensures { OnOk result (string_bytes out.new
+        ≡ string_bytes out.old ++ spec.named_text front.now chart.now back.now) }
+{
+    out.push_str(front)?;
+    out.push_str(chart)?;
+    out.push_str(back)
+}
+
+/// Appends the definition of a number.
+#[tactic(auto, unfolding(crate::specs::Header::define_line))]
+pub(crate) fn print_define(
+    out: &mut String,
+    chart: &str,
+    prefix: &str,
+    name: &str,
+    number: u64,
+) -> Result<(), AllocError>
+    ensures { OnOk result (string_bytes out.new
+        ≡ string_bytes out.old ++ spec.define_line chart.now prefix.now name.now number) }
+{
+    print_named(out, "#define ", chart, prefix)?;
+    out.push_str(name)?;
+    print_number(out, " ", number)?;
+    out.push_str("u\n")
+}

@@ -1,0 +1,9 @@
+pub mod MarkLemmas
+pub mod AskLemmas
+pub mod FunctionLemmas
+pub mod PassLemmas
+pub mod CommentLemmas
+pub mod PrintLemmas
+pub mod SourceLemmas
+pub mod CodeLemmas
+pub mod OneCode

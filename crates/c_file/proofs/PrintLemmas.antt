@@ -1,0 +1,20 @@
+-- Texts that are printed one after the other.
+use Rattle.std.proofs.Common.{◌≡◌, ℕ, List, [], ◌++◌, ap, ◌∙◌, append_assoc}
+
+-- two texts
+pub two_printed : (old first second now later : List ℕ)
+    → now ≡ old ++ first → later ≡ now ++ second → later ≡ old ++ (first ++ second)
+two_printed old first second now later one two =
+    two ∙ ap (λ (t : List ℕ). t ++ second) one ∙ append_assoc old first second
+
+-- four texts
+pub four_printed : (old first second third fourth one two three four : List ℕ)
+    → one ≡ old ++ first → two ≡ one ++ second → three ≡ two ++ third → four ≡ three ++ fourth
+    → four ≡ old ++ (first ++ (second ++ (third ++ fourth)))
+four_printed old first second third fourth one two three four a b c d =
+    two_printed old first (second ++ (third ++ fourth)) one four a
+    (two_printed one second (third ++ fourth) two four b (two_printed two third fourth three four c d))
+
+-- a text where nothing was before
+pub first_printed : (old text now : List ℕ) → old ≡ [] → now ≡ old ++ text → now ≡ text
+first_printed old text now none is = is ∙ ap (λ (t : List ℕ). t ++ text) none

@@ -1,0 +1,46 @@
+-- The text of a source is that for the code of a chart.
+use Rattle.std.proofs.Common.{◌≡◌, ℕ, List, length, ap, ◌∙◌}
+use Rattle.flow_base.specs.declared.bounds.Bounds.{Bounds}
+use Rattle.active_config.specs.Tree.{Tree}
+use Rattle.actions.specs.Names.{Names}
+use Rattle.checked_chart.specs.Chart.{Chart}
+use Rattle.code_language.specs.Code.{Code}
+use Rattle.chart_parts.specs.Parts.{parts_of}
+use Rattle.c_procedures.specs.Writer.{plans_of}
+use Rattle.c_functions.specs.Plans.{Shape}
+use Rattle.c_functions.specs.Files.{shape_of}
+use Rattle.c_functions.specs.Starts.{file_of}
+use Rattle.c_text.specs.Labels.{Labels, labels_for}
+use Rattle.c_expression_writer.specs.declared.file_shape.FileShape.{FileShape}
+use Rattle.c_expression_writer.specs.FileShapes.{shape_seen}
+use Rattle.c_file.specs.Comments.{comments_for}
+use Rattle.c_file.specs.Source.{source_text}
+use Rattle.c_file.specs.Files.{chart_name, source_for}
+
+module _ (c : Chart) (b : Bounds) (origins : List ℕ) (k : Code) (shape : FileShape)
+    (shape_is : shape_seen shape ≡ shape_of k b) where
+  -- names are made of what the chart declares, and of how many procedures the code has
+  labels_are : (labels : Labels) (name : List ℕ) (names : Names) (t : Tree)
+      → labels ≡ labels_for name names t shape.procs → name ≡ chart_name c → names ≡ c.names → t ≡ c.tree
+      → labels ≡ labels_for (chart_name c) c.names c.tree (length k.procedures.procs)
+  labels_are labels name names t are name_is names_is tree_is =
+      are
+      ∙ ap (λ (x : List ℕ). labels_for x names t shape.procs) name_is
+      ∙ ap (λ (x : Names). labels_for (chart_name c) x t shape.procs) names_is
+      ∙ ap (λ (x : Tree). labels_for (chart_name c) c.names x shape.procs) tree_is
+      ∙ ap (λ (K : Shape). labels_for (chart_name c) c.names c.tree K.procs) shape_is
+
+  -- a text of these names and comments, and of the functions of the file under the bounds of the shape
+  pub source_is : (text : List ℕ) (labels : Labels) (said : List (List ℕ)) (name : List ℕ) (names : Names) (t : Tree)
+      → labels ≡ labels_for name names t shape.procs → name ≡ chart_name c → names ≡ c.names → t ≡ c.tree
+      → said ≡ comments_for c.tree c.names (parts_of c) origins
+      → text ≡ source_text labels said (file_of k shape.bounds (plans_of k)).functions
+      → text ≡ source_for c b k origins
+  source_is text labels said name names t are name_is names_is tree_is said_is is =
+      is
+      ∙ ap (λ (L : Labels). source_text L said (file_of k shape.bounds (plans_of k)).functions)
+      (labels_are labels name names t are name_is names_is tree_is)
+      ∙ ap (λ (xs : List (List ℕ)). source_text (labels_for (chart_name c) c.names c.tree
+      (length k.procedures.procs)) xs (file_of k shape.bounds (plans_of k)).functions) said_is
+      ∙ ap (λ (K : Shape). source_text (labels_for (chart_name c) c.names c.tree (length k.procedures.procs))
+      (comments_for c.tree c.names (parts_of c) origins) (file_of k K.bounds (plans_of k)).functions) shape_is

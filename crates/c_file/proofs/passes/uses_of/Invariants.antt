@@ -1,0 +1,7 @@
+use Rattle.c_file.specs.Made.{functions_of}
+use Rattle.c_file.proofs.PassLemmas.{Passing}
+use Rattle.c_file.proofs.passes.uses_of.Given as goal
+
+-- the functions before the number are known
+abbrev pub invariant-loop-number : goal.invariant-loop-number
+invariant-loop-number l = Passing (functions_of l.made) l.count l.number l.uses

@@ -1,0 +1,78 @@
+-- Which functions of a file are called, and which need a type of 128 bits.
+use Rattle.std.specs.Prelude.{ℕ, ◌==◌, ◌||◌, Bool, true, false, List}
+use Rattle.std.specs.List.{list_any}
+use Rattle.c_subset.specs.Trees.{CExpr, Const, Field, Element, Local, Cast, Minus, Bang, Calc, Divide, Bits, Compare}
+use Rattle.c_subset.specs.Trees.{Both, Either, Choose, Function}
+use Rattle.c_subset.specs.declared.trees.Case.{Case}
+use Rattle.c_subset.specs.declared.trees.Width.{Width}
+use Rattle.c_subset.specs.declared.trees.Width.TheVariants.{W8, W16, W32, W64, W128}
+use Rattle.c_subset.specs.declared.trees.CType.{CType}
+use Rattle.c_subset.specs.declared.trees.CType.TheVariants.{Signed, Unsigned, Truth}
+use Rattle.c_subset.specs.Lines.{Line, Set, Store, StoreAt, Call, Select, If, Else, While, Close, Return, lines_of}
+
+-- ---- calls
+
+-- a line calls the function with that number
+abbrev pub line_calls : ℕ → Line → Bool
+line_calls f (Set t k e) = false
+line_calls f (Store g e) = false
+line_calls f (StoreAt a i e) = false
+line_calls f (Call t k g args) = g == f
+line_calls f (Select t k e cases args) = list_any (λ (c : Case). c.function == f) cases
+line_calls f (If e) = false
+line_calls f Else = false
+line_calls f (While e) = false
+line_calls f Close = false
+line_calls f (Return e) = false
+
+-- some line of one of the functions calls it
+unfoldable pub is_called : List Function → ℕ → Bool
+is_called functions f = list_any (λ (g : Function). list_any (line_calls f) (lines_of g.body)) functions
+
+-- ---- types of 128 bits
+
+abbrev pub is_wide_width : Width → Bool
+is_wide_width W8 = false
+is_wide_width W16 = false
+is_wide_width W32 = false
+is_wide_width W64 = false
+is_wide_width W128 = true
+
+abbrev pub is_wide_type : CType → Bool
+is_wide_type (Signed w) = is_wide_width w
+is_wide_type (Unsigned w) = is_wide_width w
+is_wide_type Truth = false
+
+-- an expression names such a type
+abbrev pub is_wide_expr : CExpr → Bool
+is_wide_expr (Const t z) = is_wide_type t
+is_wide_expr (Field f) = false
+is_wide_expr (Element a e) = is_wide_expr e
+is_wide_expr (Local t k) = is_wide_type t
+is_wide_expr (Cast t e) = is_wide_type t || is_wide_expr e
+is_wide_expr (Minus e) = is_wide_expr e
+is_wide_expr (Bang e) = is_wide_expr e
+is_wide_expr (Calc op a b) = is_wide_expr a || is_wide_expr b
+is_wide_expr (Divide op a b) = is_wide_expr a || is_wide_expr b
+is_wide_expr (Bits op a b) = is_wide_expr a || is_wide_expr b
+is_wide_expr (Compare op a b) = is_wide_expr a || is_wide_expr b
+is_wide_expr (Both a b) = is_wide_expr a || is_wide_expr b
+is_wide_expr (Either a b) = is_wide_expr a || is_wide_expr b
+is_wide_expr (Choose t e a b) = is_wide_type t || (is_wide_expr e || (is_wide_expr a || is_wide_expr b))
+
+-- a line names one
+abbrev pub is_wide_line : Line → Bool
+is_wide_line (Set t k e) = is_wide_type t || is_wide_expr e
+is_wide_line (Store f e) = is_wide_expr e
+is_wide_line (StoreAt a i e) = is_wide_expr i || is_wide_expr e
+is_wide_line (Call t k f args) = is_wide_type t || list_any is_wide_expr args
+is_wide_line (Select t k e cases args) = is_wide_type t || (is_wide_expr e || list_any is_wide_expr args)
+is_wide_line (If e) = is_wide_expr e
+is_wide_line Else = false
+is_wide_line (While e) = is_wide_expr e
+is_wide_line Close = false
+is_wide_line (Return e) = is_wide_expr e
+
+-- a line of the function names one; so does each function that calls one with such parameters
+abbrev pub is_wide : Function → Bool
+is_wide g = list_any is_wide_line (lines_of g.body)

@@ -1,0 +1,98 @@
+//! The two files of a chart.
+ghost use Rattle.std.specs.Prelude.{◌≡◌, IfOk, string_bytes};
+ghost use Rattle.checked_chart.specs.Kept.{chart_of};
+ghost use Rattle.code_language.specs.Code.{code_of};
+ghost use Rattle.c_file.specs.Files.{IsCodeFor, IsHeader, IsSource, chart_name, source_for};
+
+use crate::made::Made;
+use crate::printing::print_source;
+use crate::said::Said;
+use c_expression_writer::FileShape;
+use c_header::print_header;
+use c_runs::files_run_as_charts;
+use c_text::Labels;
+use chart_compile::compile;
+use checked_chart::Chart;
+use code_shrink::{Shrunk, shrink_with_origins};
+use flow_base::{Bounds, Memory};
+use std::alloc::Global;
+
+/// The smaller code of a chart, with the numbers that its procedures had.
+fn shrunk_code(alloc: Global, chart: &Chart) -> Result<Shrunk, Memory>
+    ensures { IfOk result
+        (λ shrunk. IsCodeFor (chart_of chart.now) (code_of shrunk.code) shrunk.origins.items) }
+{
+    let code = compile(alloc, chart)?;
+    shrink_with_origins(alloc, &code)
+}
+
+/// The name of a chart.
+fn name_of(chart: &Chart) -> &str
+    ensures { result.now ≡ chart_name (chart_of chart.now) }
+{
+    let root = chart.root();
+    chart.names().states.items()[root as usize].text()
+}
+
+/// The header of a chart's C under these bounds.
+///
+/// `Memory` only where memory was refused.
+///
+/// Source: this project's choice.
+pub fn header(alloc: Global, chart: &Chart, bounds: Bounds) -> Result<String, Memory>
+    ensures { IfOk result
+        (λ text. IsHeader (chart_of chart.now) bounds (string_bytes text)) }
+{
+    let shrunk = shrunk_code(alloc, chart)?;
+    let shape = FileShape::make(alloc, chart.names(), chart.shape(), &shrunk.code, bounds)?;
+    let mut text = String::new(alloc);
+    match print_header(alloc, &mut text, name_of(chart), &shape) {
+        Ok(()) => Ok(text),
+        Err(_) => Err(Memory),
+    }
+}
+
+/// The source for the smaller code of a chart.
+fn source_of(
+    alloc: Global,
+    chart: &Chart,
+    shrunk: &Shrunk,
+    bounds: Bounds,
+) -> Result<String, Memory>
+    requires code { IsCodeFor (chart_of chart.now) (code_of shrunk.now.code)
+        shrunk.now.origins.items }
+    ensures { IfOk result (λ text. string_bytes text ≡ source_for (chart_of chart.now) bounds
+        (code_of shrunk.now.code) shrunk.now.origins.items) }
+{
+    let shape = FileShape::make(alloc, chart.names(), chart.shape(), &shrunk.code, bounds)?;
+    let name = name_of(chart);
+    let made = Made {
+        name,
+        labels: Labels::make(name, chart.names(), chart.shape(), shape.procs),
+        said: Said::make(alloc, chart, &shrunk.origins)?,
+        shape,
+        code: &shrunk.code,
+    };
+    let mut text = String::new(alloc);
+    print_source(alloc, &mut text, &made)?;
+    Ok(text)
+}
+
+/// The source of a chart's C under these bounds: what the header declares, and the functions that
+/// it needs. Each function is made, printed and dropped before the next one, so that no more than
+/// the text, the code and one function are in memory at once.
+///
+/// `Memory` only where memory was refused.
+///
+/// Source: this project's choice.
+pub fn source(alloc: Global, chart: &Chart, bounds: Bounds) -> Result<String, Memory>
+    ensures { IfOk result
+        (λ text. IsSource (chart_of chart.now) bounds (string_bytes text)) }
+{
+    files_run_as_charts();
+    // Only the proof reads the shape: the chart is valid.
+    let _ = chart.shape();
+    let shrunk = shrunk_code(alloc, chart)?;
+    let text = source_of(alloc, chart, &shrunk, bounds)?;
+    Ok(text)
+}

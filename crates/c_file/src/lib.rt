@@ -1,0 +1,18 @@
+//! The C of a chart: its header and its source.
+//!
+//! Read `specs/Files.antt`, what the two texts are; `specs/Source.antt`, what a source consists of;
+//! `specs/Uses.antt`, which functions are called; and `specs/Comments.antt`, what is said of each
+//! procedure. The public calls are `header` and `source`.
+#![tactic(auto)]
+
+mod comments;
+mod file;
+mod laws;
+mod made;
+mod passes;
+mod printing;
+mod said;
+mod uses;
+
+pub use file::{header, source};
+pub use laws::the_smaller_code_of_a_chart_is_one;

@@ -1,0 +1,50 @@
+//! What a source is made from.
+use crate::said::Said;
+use c_expression_writer::FileShape;
+use c_subset::Function;
+use c_text::Labels;
+use c_writer::function;
+use code_language::Code;
+use flow_base::Memory;
+use std::alloc::Global;
+
+/// What a source is made from. Its functions are made one at a time.
+#[derive(Drop)]
+pub(crate) struct Made<'a> {
+    /// The name of the chart.
+    pub name: &'a str,
+    /// What names in the file are made of.
+    pub labels: Labels<'a>,
+    /// What the procedures do.
+    pub said: Said<'a>,
+    /// What the C is written for.
+    pub shape: FileShape<'a>,
+    /// The code.
+    pub code: &'a Code,
+}
+
+impl Made<'_> {
+    ghost use Rattle.std.specs.Prelude.{◌≡◌, ◌<◌, IfOk, Some, length, slice_get};
+    ghost use Rattle.c_subset.specs.Trees as c;
+    ghost use Rattle.c_subset.specs.Lines.{IsFunction};
+    ghost use Rattle.c_file.specs.Made.{IsMade, functions_of};
+
+    /// How many functions there are: those of procedures, and ten others.
+    pub fn count(&self) -> u32
+        requires is { IsMade self.now }
+        ensures { result ≡ length (functions_of self.now) }
+    {
+        self.shape.procs + 10
+    }
+
+    /// The function of that number.
+    #[tactic(auto, unfolding(crate::specs::Made::functions_of))]
+    pub fn function(&self, alloc: Global, number: u32) -> Result<Function, Memory>
+        requires is { IsMade self.now }
+        requires within { number < length (functions_of self.now) }
+        ensures { IfOk result (λ function. (g : c.Function) →
+            slice_get (functions_of self.now) number ≡ Some g → IsFunction function g) }
+    {
+        function(alloc, &self.shape, self.code, number)
+    }
+}

@@ -1,0 +1,225 @@
+//! A source, printed.
+ghost use Rattle.std.specs.Prelude.{◌≡◌, ◌<◌, ◌++◌, ◌&&◌, OnOk, Some, false, length, map};
+ghost use Rattle.std.specs.Prelude.{slice_get, slice_index_or, string_bytes};
+ghost use Rattle.c_subset.specs.Trees as c;
+ghost use Rattle.c_text.specs.Labels.{labels_of};
+ghost use Rattle.c_file.specs.Comments.{said_of};
+ghost use Rattle.c_file.specs.Made.{AreUses, IsMade, functions_of};
+ghost use Rattle.c_file.specs.Source as spec;
+ghost use Rattle.c_file.specs.Uses.{is_wide};
+
+use crate::comments::print_comment;
+use crate::made::Made;
+use crate::passes::{Uses, uses_of};
+use c_text::{Kind, function_kind, print_function, print_prototype};
+use flow_base::Memory;
+use std::alloc::{AllocError, Global};
+
+/// Whether a function is called from outside.
+fn is_outside(kind: Kind) -> bool
+    ensures { result ≡ spec.is_outside kind }
+{
+    match kind {
+        Kind::Procedure | Kind::Home | Kind::Noted | Kind::Floor(_) => false,
+        Kind::Outside => true,
+    }
+}
+
+/// Whether a function is written.
+#[tactic(auto, unfolding(crate::specs::Source::is_written))]
+fn is_written(made: &Made<'_>, uses: &Uses, number: u32) -> bool
+    requires is { IsMade made.now }
+    requires uses { AreUses (functions_of made.now) uses.now }
+    requires within { number < length (functions_of made.now) }
+    ensures { result
+        ≡ spec.is_written (labels_of made.now.labels) (functions_of made.now) number }
+{
+    is_outside(function_kind(&made.labels, number)) || uses.called[number as usize]
+}
+
+/// Whether a function is written and names a type of 128 bits.
+fn is_wide(made: &Made<'_>, uses: &Uses, number: u32) -> bool
+    requires is { IsMade made.now }
+    requires uses { AreUses (functions_of made.now) uses.now }
+    requires within { number < length (functions_of made.now) }
+    ensures { result ≡ (spec.is_written (labels_of made.now.labels) (functions_of made.now) number
+        && slice_index_or (map is_wide (functions_of made.now)) number false) }
+{
+    is_written(made, uses, number) && uses.wide[number as usize]
+}
+
+/// Whether a function that is written names a type of 128 bits.
+fn any_wide(made: &Made<'_>, uses: &Uses) -> bool
+    requires is { IsMade made.now }
+    requires uses { AreUses (functions_of made.now) uses.now }
+    ensures { result ≡ spec.any_wide (labels_of made.now.labels) (functions_of made.now) 0
+        (functions_of made.now) }
+{
+    for number in 0..made.count() {
+        if is_wide(made, uses, number) {
+            return true;
+        }
+    }
+    false
+}
+
+/// Appends words and the name of the chart.
+fn print_named(out: &mut String, words: &str, chart: &str) -> Result<(), AllocError>
+    ensures { OnOk result
+        (string_bytes out.new ≡ string_bytes out.old ++ (words.now ++ chart.now)) }
+{
+    out.push_str(words)?;
+    out.push_str(chart)
+}
+
+/// Appends the comment that says what the file is, and the header of the chart.
+#[tactic(auto, unfolding(crate::specs::Source::opening_text))]
+fn print_opening(out: &mut String, chart: &str) -> Result<(), AllocError>
+    ensures { OnOk result
+        (string_bytes out.new ≡ string_bytes out.old ++ spec.opening_text chart.now) }
+{
+    print_named(out, "/* The C of the chart ", chart)?;
+    print_named(out, ", written by chart_to_c. Do not edit. ", chart)?;
+    print_named(out, ".h says how it is used. */\n#include \"", chart)?;
+    out.push_str(".h\"\n\n")?;
+    Ok(())
+}
+
+/// Appends the types of 128 bits, where one is named.
+fn print_wide(out: &mut String, wide: bool) -> Result<(), AllocError>
+    ensures { OnOk result
+        (string_bytes out.new ≡ string_bytes out.old ++ spec.wide_text wide) }
+{
+    if wide {
+        out.push_str("__extension__ typedef __int128 flow_int128;\n")?;
+        out.push_str("__extension__ typedef unsigned __int128 flow_uint128;\n\n")?;
+    }
+    Ok(())
+}
+
+/// Appends the declaration of a function that is called.
+#[tactic(auto, unfolding(crate::specs::Source::declared_text))]
+fn print_declaration(
+    out: &mut String,
+    made: &Made<'_>,
+    uses: &Uses,
+    number: u32,
+) -> Result<(), AllocError>
+    requires is { IsMade made.now }
+    requires uses { AreUses (functions_of made.now) uses.now }
+    requires within { number < length (functions_of made.now) }
+    ensures { OnOk result (string_bytes out.new ≡ string_bytes out.old
+        ++ spec.declared_text (labels_of made.now.labels) (functions_of made.now) number) }
+{
+    if uses.called[number as usize] {
+        print_prototype(out, &made.labels, number)
+    } else {
+        Ok(())
+    }
+}
+
+/// Appends the declarations of the functions that are called.
+fn print_declarations(out: &mut String, made: &Made<'_>, uses: &Uses) -> Result<(), AllocError>
+    requires is { IsMade made.now }
+    requires uses { AreUses (functions_of made.now) uses.now }
+    ensures { OnOk result (string_bytes out.new ≡ string_bytes out.old
+        ++ spec.declarations_text (labels_of made.now.labels) (functions_of made.now) 0
+        (functions_of made.now)) }
+{
+    for number in 0..made.count() {
+        print_declaration(out, made, uses, number)?;
+    }
+    Ok(())
+}
+
+/// Appends a function under its comment: it is made, and dropped.
+fn print_commented(
+    alloc: Global,
+    out: &mut String,
+    made: &Made<'_>,
+    number: u32,
+) -> Result<(), Memory>
+    requires is { IsMade made.now }
+    requires within { number < length (functions_of made.now) }
+    ensures { OnOk result ((g : c.Function) → slice_get (functions_of made.now) number ≡ Some g
+        → string_bytes out.new ≡ string_bytes out.old ++ spec.commented_text
+        (labels_of made.now.labels) (said_of made.now.said) number g) }
+{
+    let function = made.function(alloc, number)?;
+    let Ok(()) = print_comment(out, &made.said, number) else {
+        return Err(Memory);
+    };
+    match print_function(alloc, out, &made.labels, number, &function) {
+        Ok(()) => Ok(()),
+        Err(_) => Err(Memory),
+    }
+}
+
+/// Appends a function where it is written.
+#[tactic(auto, unfolding(crate::specs::Source::written_text))]
+fn print_written(
+    alloc: Global,
+    out: &mut String,
+    made: &Made<'_>,
+    uses: &Uses,
+    number: u32,
+) -> Result<(), Memory>
+    requires is { IsMade made.now }
+    requires uses { AreUses (functions_of made.now) uses.now }
+    requires within { number < length (functions_of made.now) }
+    ensures { OnOk result ((g : c.Function) → slice_get (functions_of made.now) number ≡ Some g
+        → string_bytes out.new ≡ string_bytes out.old ++ spec.written_text
+        (labels_of made.now.labels) (said_of made.now.said) (functions_of made.now) number g) }
+{
+    if is_written(made, uses, number) {
+        print_commented(alloc, out, made, number)
+    } else {
+        Ok(())
+    }
+}
+
+/// Appends the functions that are written.
+fn print_functions(
+    alloc: Global,
+    out: &mut String,
+    made: &Made<'_>,
+    uses: &Uses,
+) -> Result<(), Memory>
+    requires is { IsMade made.now }
+    requires uses { AreUses (functions_of made.now) uses.now }
+    ensures { OnOk result (string_bytes out.new ≡ string_bytes out.old
+        ++ spec.functions_text (labels_of made.now.labels) (said_of made.now.said)
+        (functions_of made.now) 0 (functions_of made.now)) }
+{
+    for number in 0..made.count() {
+        print_written(alloc, out, made, uses, number)?;
+    }
+    Ok(())
+}
+
+/// Appends what stands before the functions.
+fn print_front(out: &mut String, made: &Made<'_>, uses: &Uses) -> Result<(), AllocError>
+    requires is { IsMade made.now }
+    requires uses { AreUses (functions_of made.now) uses.now }
+    ensures { OnOk result (string_bytes out.new ≡ string_bytes out.old
+        ++ spec.front_text (labels_of made.now.labels) (functions_of made.now)) }
+{
+    print_opening(out, made.name)?;
+    print_wide(out, any_wide(made, uses))?;
+    print_declarations(out, made, uses)
+}
+
+/// Appends a source. Each function is made twice: to see what it uses, and to print it.
+pub(crate) fn print_source(alloc: Global, out: &mut String, made: &Made<'_>) -> Result<(), Memory>
+    requires is { IsMade made.now }
+    ensures { OnOk result (string_bytes out.new ≡ string_bytes out.old
+        ++ spec.source_text (labels_of made.now.labels) (said_of made.now.said)
+        (functions_of made.now)) }
+{
+    let uses = uses_of(alloc, made)?;
+    let Ok(()) = print_front(out, made, &uses) else {
+        return Err(Memory);
+    };
+    print_functions(alloc, out, made, &uses)?;
+    Ok(())
+}

@@ -1,13 +1,14 @@
 -- The parse of any words answers what they ask for.
 use Rattle.std.proofs.Common.{◌≡◌, ℕ, Bool, true, false, refl, sym, subst, List, [], ◌∷◌, Option, Some, None, codes}
+use Rattle.std.specs.List.{find}
 use Rattle.std.specs.Str.{bytes_eq}
 use Rattle.std.proofs.lemmas.Slice.Eq.{bytes_eq-Decides}
 use Rattle.clap.specs.Kinds.{Kinds}
-use Rattle.clap.specs.Faults.{fault_of, level_fault}
-use Rattle.clap.specs.Simple.{rows_at, subcommand_of}
-use Rattle.clap.specs.Walk.{Row, idle, nothing_held, subcommand_met}
+use Rattle.clap.specs.Faults.{fault_of, is_simple_and_free, level_fault}
+use Rattle.clap.specs.Simple.{Shape, built, is_simple, label_of, rows_at, subcommand_of}
+use Rattle.clap.specs.Walk.{Row, answers_to, idle, nothing_held, subcommand_met}
 use Rattle.command_words.specs.Numbers.{Text}
-use Rattle.command_words.specs.Commands.{RunBounds, Command, Check, Fmt, Rules, Compile, Exec, Run, Upgrade, Bound, Shrink, Net}
+use Rattle.command_words.specs.Commands.{RunBounds, Command, Check, Fmt, Rules, Compile, Exec, Run, Upgrade, Bound, Shrink}
 use Rattle.command_words.specs.Commands.{Selftest}
 use Rattle.command_words.specs.Reading.{nothing, read_words}
 use Rattle.command_words.specs.Words.{command_of_texts, file_command, run_command, net_command, number_command}
@@ -18,7 +19,26 @@ use Rattle.command_words.proofs.LeafRules.{Leaf, shape_of_leaf}
 use Rattle.command_words.proofs.Leaves.{file_leaf, run_leaf, number_leaf}
 use Rattle.command_words.proofs.LeafAnswers.{Answers, level_agrees, file_answers, run_answers, net_answers}
 use Rattle.command_words.proofs.LeafAnswers.{number_answers}
-use Rattle.command_words.proofs.ProgramWalk.{names, enters, no_words_fail, unknown_fails}
+use Rattle.command_words.proofs.ProgramWalk as walk
+
+-- all that clap promises of its faults holds for the program
+pub is_free : is_simple_and_free program_app ≡ true
+is_free = refl
+
+-- all that clap promises of what it matches holds for the program
+pub is_plain : is_simple program_app ≡ true
+is_plain = refl
+
+-- the commands as they are built
+abbrev subs : List Shape
+subs = (built program_app).subs
+
+-- the parse enters the command that the first word names
+enters : (n : Text) (S : Shape) (rest : List Text) → subcommand_met (walk.names (codes "flowc") subs) idle n ≡ Some n
+    → find (λ s. answers_to n (label_of s)) subs ≡ Some S
+    → (fault_of program_app (n ∷ rest) ≡ level_fault S [] nothing_held rest false [])
+    × (subcommand_of program_app (n ∷ rest) ≡ Some (rows_at S rest))
+enters n S rest met found = walk.enters (codes "flowc") subs n S rest met found
 
 -- the parse of these words answers what they ask for
 abbrev pub Agreed : List Text → Type 0
@@ -159,7 +179,7 @@ selftest_agreed rest u =
 
 -- for all words
 pub agreed : (words : List Text) → AreUtf8 words → Agreed words
-agreed [] u = λ e. absurd (no_words_fail e)
+agreed [] u = λ e. absurd (walk.no_words_fail (codes "flowc") subs e)
 agreed (name ∷ rest) u =
     check (bytes_eq (codes "check") name) refl
   where
@@ -171,11 +191,11 @@ agreed (name ∷ rest) u =
         → bytes_eq (codes "selftest") name ≡ false → Agreed (name ∷ rest)
     none a b c d e f g h i j k =
         let undefined : command_of_texts (name ∷ rest) ≡ None = rw (a, b, c, d, e, f, g, h, i, j, k) refl in
-        let unmet : subcommand_met names idle name ≡ None = rw (a, b, c, d, e, f, g, h, i, j, k) refl in
+        let unmet : subcommand_met (walk.names (codes "flowc") subs) idle name ≡ None = rw (a, b, c, d, e, f, g, h, i, j, k) refl in
         subst
         (λ (o : Option Command). Answers o (fault_of program_app (name ∷ rest))
         (command_found (subcommand_of program_app (name ∷ rest))))
-        (sym undefined) (λ z. absurd (unknown_fails name rest u unmet z))
+        (sym undefined) (λ z. absurd (walk.unknown_fails (codes "flowc") subs name rest u unmet z))
 
     named : (n : Text) → bytes_eq n name ≡ true → Agreed (n ∷ rest) → Agreed (name ∷ rest)
     named n e a = subst (λ (x : Text). Agreed (x ∷ rest)) ((bytes_eq-Decides n name).0 e) a

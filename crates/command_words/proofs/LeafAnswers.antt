@@ -50,7 +50,7 @@ level_agrees L words u =
 -- ---- what the rows stand for
 
 -- the text of an argument
-first_is : (id : Text) (q : ValueParser) (rows : List Row) (o : Option Text)
+pub first_is : (id : Text) (q : ValueParser) (rows : List Row) (o : Option Text)
     → find (has id) rows ≡ option_map (row id q) o → first_of id rows ≡ o
 first_is id q rows o e = ap (option_and_then (λ (r : Row). slice_get r.values 0)) e ∙ go o
   where
@@ -81,19 +81,26 @@ bound_in bound usual (Some v) e fits =
     let ends = in_range 1 (limit_of bound) v (fits v refl) in
     ap₂ (λ (a b : Bool). a && b) ends.0 ends.1
 
+-- the numbers of the options
+pub numbers_are : (two : Bool) (p : ValueParser) (rows : List Row) (given : Given) → Holds two p rows given
+    → (number_at (codes "depth") rows ≡ option_map number_of given.depth)
+    × (number_at (codes "steps") rows ≡ option_map number_of given.steps)
+numbers_are two p rows given h =
+    let low : 32 ≤ NUMBER_LIMIT = omega arith in
+    let high : 50000 ≤ NUMBER_LIMIT = omega arith in (
+      number_is (codes "depth") 1 (limit_of Depth) rows given.depth h.depth
+          (λ v e. small_number 32 v low (h.depth_fits v e)),
+      number_is (codes "steps") 1 (limit_of Steps) rows given.steps h.steps
+          (λ v e. small_number 50000 v high (h.steps_fits v e)),
+    )
+
 -- the bounds of a run
-bounds_are : (two : Bool) (p : ValueParser) (rows : List Row) (given : Given) → Holds two p rows given
+pub bounds_are : (two : Bool) (p : ValueParser) (rows : List Row) (given : Given) → Holds two p rows given
     → bounds_found rows ≡ Some (bounds_of given)
 bounds_are two p rows given h =
-    let low : 32 ≤ NUMBER_LIMIT = omega arith in
-    let high : 50000 ≤ NUMBER_LIMIT = omega arith in
-    let depth =
-    number_is (codes "depth") 1 (limit_of Depth) rows given.depth h.depth
-    (λ v e. small_number 32 v low (h.depth_fits v e)) in
-    let steps =
-    number_is (codes "steps") 1 (limit_of Steps) rows given.steps h.steps
-    (λ v e. small_number 50000 v high (h.steps_fits v e)) in
-    ap₂ (λ (d s : Option ℕ). bounds_with (unwrap_or d usual_bounds.depth) (unwrap_or s usual_bounds.steps)) depth steps
+    let numbers = numbers_are two p rows given h in
+    ap₂ (λ (d s : Option ℕ). bounds_with (unwrap_or d usual_bounds.depth) (unwrap_or s usual_bounds.steps)) numbers.0
+    numbers.1
     ∙ ap₂ (λ (a b : Bool). cond (a && b) (Some (bounds_of given)) None)
     (bound_in Depth usual_bounds.depth given.depth refl h.depth_fits)
     (bound_in Steps usual_bounds.steps given.steps refl h.steps_fits)
@@ -102,15 +109,9 @@ bounds_are two p rows given h =
 net_bounds_are : (two : Bool) (p : ValueParser) (rows : List Row) (given : Given) → Holds two p rows given
     → net_bounds_found rows ≡ cond (nat_le (net_bounds_of given).steps NET_STEP_LIMIT) (Some (net_bounds_of given)) None
 net_bounds_are two p rows given h =
-    let low : 32 ≤ NUMBER_LIMIT = omega arith in
-    let high : 50000 ≤ NUMBER_LIMIT = omega arith in
-    let depth =
-    number_is (codes "depth") 1 (limit_of Depth) rows given.depth h.depth
-    (λ v e. small_number 32 v low (h.depth_fits v e)) in
-    let steps =
-    number_is (codes "steps") 1 (limit_of Steps) rows given.steps h.steps
-    (λ v e. small_number 50000 v high (h.steps_fits v e)) in
-    ap₂ (λ (d s : Option ℕ). net_bounds_with (unwrap_or d usual_bounds.depth) (unwrap_or s NET_STEP_LIMIT)) depth steps
+    let numbers = numbers_are two p rows given h in
+    ap₂ (λ (d s : Option ℕ). net_bounds_with (unwrap_or d usual_bounds.depth) (unwrap_or s NET_STEP_LIMIT)) numbers.0
+    numbers.1
     ∙ ap₂ (λ (a b : Bool). cond (nat_le (net_bounds_of given).steps NET_STEP_LIMIT)
     (cond (a && b) (Some (net_bounds_of given)) None) None)
     (bound_in Depth usual_bounds.depth given.depth refl h.depth_fits)
@@ -119,7 +120,7 @@ net_bounds_are two p rows given h =
 -- ---- what each command answers
 
 -- the parse answers the command where there is one; where there is none it fails, or nothing is found
-abbrev pub Answers : Option Command → Kinds → Option Command → Type 0
+abbrev pub Answers : {C : Type 0} → Option C → Kinds → Option C → Type 0
 Answers None kinds found = kinds ≡ [] → found ≡ None
 Answers (Some command) kinds found = (kinds ≡ []) × (found ≡ Some command)
 

@@ -51,7 +51,7 @@ module _ (id : Text) (long : Option Text) (index : Option ℕ) (parser : ValuePa
   more_rows rows rest e = ap (λ (r : List Row). fold with_default r rest) (same_rows rows) ∙ e
 
 -- no arguments have no fault of defaults
-no_defaults : (rows : List Row) → defaults_fault rows [] ≡ []
+pub no_defaults : (rows : List Row) → defaults_fault rows [] ≡ []
 unfolding defaults_fault
 no_defaults rows = refl
 
@@ -102,6 +102,14 @@ number_leaf name = record {
 
 -- ---- two files and bounds
 
+-- the options by the tests of their names
+pub options_are : (b c : Bool)
+    → cond (b || false) (Some (bound_rule Depth)) (cond (c || false) (Some (bound_rule Steps)) None)
+    ≡ option_map bound_rule (cond b (Some Depth) (cond c (Some Steps) None))
+options_are true c = refl
+options_are false true = refl
+options_are false false = refl
+
 -- the arguments of a run
 abbrev run_rules : List Rule
 run_rules = first_rule parsers.String ∷ second_rule ∷ bound_rule Depth ∷ bound_rule Steps ∷ []
@@ -132,13 +140,6 @@ two_leaf = record {
   wants = λ rows. wanted (not (is_given (codes "first") rows)) (not (is_given (codes "second") rows));
 }
   where
-    options_are : (b c : Bool)
-        → cond (b || false) (Some (bound_rule Depth)) (cond (c || false) (Some (bound_rule Steps)) None)
-        ≡ option_map bound_rule (cond b (Some Depth) (cond c (Some Steps) None))
-    options_are true c = refl
-    options_are false true = refl
-    options_are false false = refl
-
     known : (bound : Bound) → arg_by_id run_rules (name_of bound) ≡ Some (bound_rule bound)
     known Depth = refl
     known Steps = refl

@@ -11,6 +11,7 @@ pub mod ValueSteps
 pub mod LeafClaims
 pub mod Leaves
 pub mod LeafAnswers
+pub mod ParseLemmas
 pub mod ProgramWalk
 pub mod Agreement
 pub mod Worked

@@ -42,10 +42,10 @@ run_app name =
 abbrev pub number_app : Text → App
 number_app name = with_rule (new_app name) (number_rule (codes "first"))
 
--- a program without a help option and a help command, whose first word names a command
-abbrev pub bare_app : App
-bare_app = record (new_app (codes "flowc")) {
-  top = record (new_app (codes "flowc")).top {
+-- a program of that name without a help option and a help command, whose first word names a command
+abbrev pub bare_app : Text → App
+bare_app name = record (new_app name) {
+  top = record (new_app name).top {
     no_binary_name = true;
     disable_help_flag = true;
     disable_help_subcommand = true;
@@ -55,14 +55,14 @@ bare_app = record (new_app (codes "flowc")) {
 
 -- the program with the first of its commands
 abbrev pub first_app : App
-first_app = fold with_subcommand bare_app (
+first_app = fold with_subcommand (bare_app (codes "flowc")) (
     (file_app (codes "check")).top ∷ (file_app (codes "fmt")).top ∷ (run_app (codes "rules")).top
     ∷ (file_app (codes "compile")).top ∷ []
     )
 
 -- the program with its commands
 abbrev pub program_app : App
-program_app = fold with_subcommand bare_app (
+program_app = fold with_subcommand (bare_app (codes "flowc")) (
     (file_app (codes "check")).top ∷ (file_app (codes "fmt")).top ∷ (run_app (codes "rules")).top
     ∷ (file_app (codes "compile")).top ∷ (run_app (codes "exec")).top ∷ (run_app (codes "run")).top
     ∷ (file_app (codes "upgrade")).top ∷ (file_app (codes "bounds")).top ∷ (file_app (codes "shrink")).top

@@ -25,7 +25,7 @@ net_bounds_of given = record {
 }
 
 -- a command of exactly one file
-abbrev pub with_one : (Text → Command) → List Text → Option Command
+abbrev pub with_one : {C : Type 0} → (Text → C) → List Text → Option C
 with_one command [] = None
 with_one command (first ∷ []) = Some (command first)
 with_one command (first ∷ second ∷ rest) = None

@@ -18,7 +18,7 @@ pub(crate) fn files_in<'a>(given: &ArgMatches<'a>) -> Option<(&'a str, &'a str)>
 
 /// The bounds of a run, the usual ones where no option sets them. The parser has refused numbers
 /// out of their range.
-pub(crate) fn bounds_in(given: &ArgMatches<'_>) -> Option<Bounds>
+pub fn bounds_in(given: &ArgMatches<'_>) -> Option<Bounds>
     ensures { option_map bounds_seen result ≡ bounds_found (rows_of (found_of given.now)) }
 {
     let usual = Bounds::usual();
@@ -41,15 +41,15 @@ pub(crate) fn net_bounds_in(given: &ArgMatches<'_>) -> Option<Bounds>
 }
 
 /// The text of an argument.
-pub(crate) fn text_in<'a>(given: &ArgMatches<'a>, id: &str) -> Option<&'a str>
+pub fn text_in<'a>(given: &ArgMatches<'a>, id: &str) -> Option<&'a str>
     ensures { option_map (λ text. text.now) result
         ≡ first_of id.now (rows_of (found_of given.now)) }
 {
     given.get_str(id)
 }
 
-/// The number of an argument.
-pub(crate) fn number_in(given: &ArgMatches<'_>, id: &str) -> Option<u32>
+/// The number of 32 bits of an argument.
+pub fn number_in(given: &ArgMatches<'_>, id: &str) -> Option<u32>
     ensures { result ≡ number_at id.now (rows_of (found_of given.now)) }
 {
     given.get_one::<u32>(id)

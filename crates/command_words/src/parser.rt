@@ -28,14 +28,14 @@ pub(crate) fn program<'a>(alloc: Global) -> Result<Command<'a>, AllocError>
 fn first_commands<'a>(alloc: Global) -> Result<Command<'a>, AllocError>
     ensures { IfOk result (λ parser. app_of parser ≡ first_app) }
 {
-    let parser = with_command(bare(alloc), with_file(alloc, "check"))?;
+    let parser = with_command(bare(alloc, "flowc"), with_file(alloc, "check"))?;
     let parser = with_command(parser, with_file(alloc, "fmt"))?;
     let parser = with_command(parser, with_run(alloc, "rules"))?;
     with_command(parser, with_file(alloc, "compile"))
 }
 
 /// The parser with one more command, where there was memory for it.
-fn with_command<'a>(
+pub fn with_command<'a>(
     parser: Command<'a>,
     command: Result<Command<'a>, AllocError>,
 ) -> Result<Command<'a>, AllocError>
@@ -45,19 +45,20 @@ fn with_command<'a>(
     parser.subcommand(command?)
 }
 
-/// A program that has no help and no version, and wants a command.
-fn bare<'a>(alloc: Global) -> Command<'a>
-    ensures { app_of result ≡ bare_app }
+/// The parser of a program of that name that has no help and no version, and wants a command. It
+/// has no command yet.
+pub fn bare<'a>(alloc: Global, name: &'a str) -> Command<'a>
+    ensures { app_of result ≡ bare_app name.entry.now }
 {
-    Command::new(alloc, "flowc")
+    Command::new(alloc, name)
         .no_binary_name(true)
         .disable_help_flag(true)
         .disable_help_subcommand(true)
         .subcommand_required(true)
 }
 
-/// A command of one file.
-fn with_file<'a>(alloc: Global, name: &'a str) -> Result<Command<'a>, AllocError>
+/// A command of one file, whose id is `first`.
+pub fn with_file<'a>(alloc: Global, name: &'a str) -> Result<Command<'a>, AllocError>
     ensures { IfOk result (Builds (file_app name.entry.now)) }
 {
     Command::new(alloc, name).arg(file(alloc, "first"))
@@ -98,10 +99,10 @@ fn file<'a>(alloc: Global, id: &'a str) -> Arg<'a>
     Arg::new(alloc, id).required(true)
 }
 
-/// The option `--NAME V`, where V is a number from 1 to `most`.
+/// The option `--NAME V`, where V is a number from 1 to `most`. Its id is the name.
 ///
 /// clap's parser of `u32` would take `-0`, which isn't a number here.
-fn bound<'a>(alloc: Global, name: &'a str, most: u32) -> Arg<'a>
+pub fn bound<'a>(alloc: Global, name: &'a str, most: u32) -> Arg<'a>
     ensures rule { rule_of result ≡ option_rule name.entry.now most }
     ensures local { result.global ≡ false }
 {

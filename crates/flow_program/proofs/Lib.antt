@@ -1,5 +1,3 @@
-pub mod FrontLemmas
-pub mod LineLemmas
 pub mod ChartTextLemmas
 pub mod UsageLemmas
 pub mod OthersLemmas

@@ -1,5 +1,5 @@
 -- The answer of the program: what it writes and how it ends, for all words, files and faults.
-use Rattle.std.specs.Prelude.{◌≡◌, ◌⊎◌, ℕ, List, [], Option, Some, None}
+use Rattle.std.specs.Prelude.{◌≡◌, ◌⊎◌, ℕ, [], Option, Some, None}
 use Rattle.std.specs.Io.KnownBytes.{append_known}
 use Rattle.flow_base.specs.Causes.{Stands}
 use Rattle.flow_base.specs.declared.bounds.Bounds.{Bounds}
@@ -8,7 +8,6 @@ use Rattle.command_words.specs.Commands.{RunBounds, Command, Check, Fmt, Rules, 
 use Rattle.command_words.specs.Commands.{Selftest}
 use Rattle.command_words.specs.Commands.{files_named}
 use Rattle.commands.specs.Call.{Output, Call, OthersStay}
-use Rattle.commands.specs.Writing.{WroteFront}
 use Rattle.commands.specs.Bounds.{BoundsEnds}
 use Rattle.commands.specs.Check.{CheckEnds}
 use Rattle.commands.specs.Rules.{RulesEnds}
@@ -20,22 +19,12 @@ use Rattle.commands.specs.NetCommand.{NetEnds, NetOthersStay}
 use Rattle.commands.specs.Run.{RunEnds}
 use Rattle.selftest_command.specs.Selftest.{SelftestEnds}
 use Rattle.selftest_command.specs.declared.command.SelftestEnd.{SelftestEnd}
+use Rattle.program_answers.specs.Endings.{EndsAs, EndsAtOnce}
+use Rattle.program_answers.specs.Lines.{LineStands}
 use Rattle.flow_program.specs.declared.ending.Ending.{Ending}
 use Rattle.flow_program.specs.declared.ending.Ending.TheVariants as endings
 use Rattle.flow_program.specs.Ending.{of_text, of_rules, of_exec, of_run, of_upgrade, of_net, of_selftest, status_of, line_of}
 use Rattle.flow_program.specs.Fmt.{FmtEnds}
-
--- the call ends at once: nothing is read, and nothing is written
-pub record EndsAtOnce (call : Call) (end ending : Ending) : Type 0 where
-  pub is_that : ending ≡ end
-  pub sources : call.sources_after ≡ call.sources_before
-  pub output : call.output_after ≡ call.output_before
-
--- the command ends so, and the call accordingly
-pub record EndsAs {E : Type 0} (ending_of : E → Ending) (CommandEnds : E → Type 0) (ending : Ending) : Type 0 where
-  pub end : E
-  pub ends : CommandEnds end
-  pub ending_is : ending ≡ ending_of end
 
 -- a run ends so under the bounds of these numbers
 pub record Under {E : Type 0} (given : RunBounds) (EndsUnder : Bounds → E → Type 0) (end : E) : Type 0 where
@@ -89,11 +78,6 @@ OthersKeep (Some (Selftest number)) call = OthersStay (files_named (Selftest num
 -- how a call ends, and when: as the command does, or memory runs out before the words are read
 abbrev pub CallEnds : Option Command → Call → Ending → Type 0
 CallEnds command call ending = Ends command call ending ⊎ EndsAtOnce call endings.Memory ending
-
--- the line stands on standard error, or a write of it failed, and a proper prefix of it does
-abbrev pub LineStands : Output → Output → List ℕ → Type 0
-LineStands before after line =
-    (after.holds ≡ append_known before.holds line) ⊎ WroteFront before after line
 
 -- the answer: the call ends in one way, which fixes its status and its line on standard error, all of which stands
 -- there where no write of it fails; other files than those of the command keep what they have left

@@ -3,8 +3,6 @@ use Rattle.std.specs.Prelude.{ℕ, List, [], ◌++◌, codes, decimal}
 use Rattle.flow_base.specs.declared.status.Status.{Status}
 use Rattle.flow_base.specs.declared.status.Status.TheVariants as statuses
 use Rattle.token_grammar.specs.declared.token.Span.{Span}
-use Rattle.chart_tree.specs.declared.fault.FormKind.{FormKind}
-use Rattle.chart_tree.specs.Form.{form_number, form_name}
 use Rattle.code_text.specs.Form.{fault_text}
 use Rattle.code_text.specs.declared.fault.CodeTextFault.{CodeTextFault}
 use Rattle.event_file.specs.Faults.{line_fault_number, line_fault_name}
@@ -31,6 +29,7 @@ use Rattle.net_text.specs.declared.fault.NetFault.TheVariants.{BadRoute}
 use Rattle.selftest_command.specs.declared.command.SelftestEnd.{SelftestEnd}
 use Rattle.selftest_command.specs.declared.command.SelftestEnd.TheVariants as cases
 use Rattle.commands.specs.declared.refusal.Refusal.{Refusal}
+use Rattle.program_answers.specs.Lines.{kind_text, refusal_line}
 use Rattle.flow_program.specs.declared.ending.Ending.{Ending}
 use Rattle.flow_program.specs.declared.ending.Ending.TheVariants as endings
 
@@ -146,10 +145,6 @@ status_of endings.Read = statuses.Read
 status_of endings.Write = statuses.Write
 status_of endings.Memory = statuses.Memory
 
--- a place in a chart text
-abbrev pub place_text : Span → List ℕ
-place_text at = codes "chart " ++ decimal at.line ++ codes ":" ++ decimal at.column
-
 -- a place in a text
 abbrev pub spot_text : Span → List ℕ
 spot_text at = decimal at.line ++ codes ":" ++ decimal at.column
@@ -157,10 +152,6 @@ spot_text at = decimal at.line ++ codes ":" ++ decimal at.column
 -- a place in the text of a chart of a net
 abbrev pub named_place_text : List ℕ → Span → List ℕ
 named_place_text name at = codes "chart " ++ name ++ codes " " ++ spot_text at
-
--- number and name of a kind of fault of a chart text
-abbrev pub kind_text : FormKind → List ℕ
-kind_text kind = codes ": " ++ decimal (form_number kind) ++ codes " " ++ form_name kind
 
 -- number and name of a fault of an event line
 abbrev pub event_fault_text : LineFault → List ℕ
@@ -173,7 +164,7 @@ stop_text step word route = codes "run " ++ decimal step ++ codes ": " ++ word +
 -- the line on standard error, none where the answer is whole
 abbrev pub line_of : Ending → List ℕ
 line_of endings.Done = []
-line_of (endings.Chart refusal) = place_text refusal.at ++ kind_text refusal.kind ++ codes "\n"
+line_of (endings.Chart refusal) = refusal_line refusal
 line_of (endings.Code fault) = fault_text fault ++ codes "\n"
 line_of (endings.Net fault) = net_faults.fault_text fault ++ codes "\n"
 line_of (endings.NetChart name refusal) = named_place_text name refusal.at ++ kind_text refusal.kind ++ codes "\n"

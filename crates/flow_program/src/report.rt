@@ -3,31 +3,19 @@ ghost use Rattle.std.specs.Prelude.{◌≡◌, ◌++◌, OnOk, OnErr, codes, dec
 ghost use Rattle.std.specs.Io.KnownBytes.{append_known};
 ghost use Rattle.flow_base.specs.Bytes.{AppendsProperFront};
 ghost use Rattle.flow_base.specs.Causes.{HasCause};
-ghost use Rattle.flow_program.specs.Ending.{place_text, kind_text, event_fault_text, line_of};
-ghost use Rattle.flow_program.specs.Ending.{named_place_text, spot_text, stop_text};
+ghost use Rattle.flow_program.specs.Ending.{event_fault_text, line_of, named_place_text};
+ghost use Rattle.flow_program.specs.Ending.{spot_text, stop_text};
 
 use crate::ending::Ending;
-use chart_tree::FormKind;
 use event_file::LineFault;
 use flow_base::{Failed, Sink, write_all};
-use itoa::Buffer;
+use program_answers::{write_kind, write_number, write_refusal};
 use token_grammar::Span;
 
 /// The line for words that ask for no command.
 const USAGE: &str = "usage: flowc check CHART, fmt CHART, rules CHART EVENTS, compile CHART, \
     exec CODE EVENTS, run CHART EVENTS, upgrade CODE, bounds CHART, shrink CODE, \
     net NET SCHEDULE, selftest N; --depth D, --steps S\n";
-
-/// Writes a number.
-fn write_number<E: Sink>(err: &mut E, number: u64) -> Result<(), Failed>
-    ensures ok { OnOk result (E.wrote err.new ≡ append_known (E.wrote err.old) (decimal number)) }
-    ensures failed { OnErr result
-        (AppendsProperFront (E.wrote err.old) (E.wrote err.new) (decimal number)) }
-    ensures cause { HasCause (E.faults err.old) (E.faults err.new) result }
-{
-    let mut buffer = Buffer::new();
-    write_all(err, buffer.format(number).as_bytes())
-}
 
 /// Writes a text, and ends the line.
 fn write_line<E: Sink>(err: &mut E, text: &str) -> Result<(), Failed>
@@ -39,32 +27,6 @@ fn write_line<E: Sink>(err: &mut E, text: &str) -> Result<(), Failed>
 {
     write_all(err, text.as_bytes())?;
     write_all(err, b"\n")
-}
-
-/// Writes the place of a fault of a chart text.
-fn write_place<E: Sink>(err: &mut E, at: Span) -> Result<(), Failed>
-    ensures ok { OnOk result (E.wrote err.new ≡ append_known (E.wrote err.old) (place_text at)) }
-    ensures failed { OnErr result
-        (AppendsProperFront (E.wrote err.old) (E.wrote err.new) (place_text at)) }
-    ensures cause { HasCause (E.faults err.old) (E.faults err.new) result }
-{
-    write_all(err, b"chart ")?;
-    write_number(err, u64::from(at.line))?;
-    write_all(err, b":")?;
-    write_number(err, u64::from(at.column))
-}
-
-/// Writes number and name of a kind of fault of a chart text.
-fn write_kind<E: Sink>(err: &mut E, kind: FormKind) -> Result<(), Failed>
-    ensures ok { OnOk result (E.wrote err.new ≡ append_known (E.wrote err.old) (kind_text kind)) }
-    ensures failed { OnErr result
-        (AppendsProperFront (E.wrote err.old) (E.wrote err.new) (kind_text kind)) }
-    ensures cause { HasCause (E.faults err.old) (E.faults err.new) result }
-{
-    write_all(err, b": ")?;
-    write_number(err, u64::from(kind.number()))?;
-    write_all(err, b" ")?;
-    write_all(err, kind.name().as_bytes())
 }
 
 /// Writes what stands before the fault of an event line or of a run: a word, and the number of the
@@ -145,11 +107,7 @@ pub fn report<E: Sink>(err: &mut E, ending: &Ending) -> Result<(), Failed>
 {
     match ending {
         Ending::Done => Ok(()),
-        Ending::Chart(refusal) => {
-            write_place(err, refusal.at)?;
-            write_kind(err, refusal.kind)?;
-            write_all(err, b"\n")
-        }
+        Ending::Chart(refusal) => write_refusal(err, *refusal),
         Ending::Code(fault) => write_line(err, fault.text().as_str()),
         Ending::Net(fault) => write_line(err, fault.text().as_str()),
         Ending::NetChart(chart, refusal) => {

@@ -1,18 +1,9 @@
-use Rattle.std.proofs.Common.{◌≡◌, Bool, true, false, refl, sym, codes, List, None}
-use Rattle.std.specs.Str.{bytes_eq}
-use Rattle.std.proofs.lemmas.Slice.Eq.{bytes_eq-Decides}
+use Rattle.std.proofs.Common.{◌≡◌, refl, sym, codes, List, None}
 use Rattle.clap.specs.Words.{Row, found_of, rows_of}
 use Rattle.command_words.specs.Numbers.{Text}
 use Rattle.command_words.specs.Found.{found_named}
+use Rattle.command_words.proofs.ParseLemmas.{differs}
 use Rattle.command_words.proofs.words.named.Goals as goal
-
--- a text that is another isn't equal by the test
-differs : (a b : Text) → (b ≡ a → ⊥) → bytes_eq a b ≡ false
-differs a b bad = go (bytes_eq a b) refl
-  where
-    go : (t : Bool) → bytes_eq a b ≡ t → t ≡ false
-    go true e = absurd (bad (sym ((bytes_eq-Decides a b).0 e)))
-    go false e = refl
 
 -- no command has this name
 no_command : (name : Text) (rows : List Row) → (name ≡ codes "check" → ⊥) → (name ≡ codes "fmt" → ⊥)

@@ -1,42 +1,10 @@
 use Rattle.std.proofs.Common.{◌++◌, sym, codes, decimal, append_assoc}
 use Rattle.std.proofs.lemmas.Result.{on_ok_weaker, on_err_weaker}
 use Rattle.flow_program.specs.declared.ending.Ending.TheVariants as endings
-use Rattle.flow_program.specs.Ending.{place_text, kind_text, event_fault_text, line_of, named_place_text}
-use Rattle.flow_program.proofs.FrontLemmas.{front_first, front_after, front_as, written_after, written_as, at_exit}
+use Rattle.program_answers.specs.Lines.{kind_text}
+use Rattle.flow_program.specs.Ending.{event_fault_text, line_of, named_place_text}
+use Rattle.program_answers.proofs.FrontLemmas.{front_first, front_after, front_as, written_after, written_as, at_exit}
 use Rattle.flow_program.proofs.report.report.Goals as goal
-
--- ---- a chart that is refused
-
--- the place isn't written
-pub returns-in_err-write_place-in-Chart-clause-failed : goal.returns-in_err-write_place-in-Chart-clause-failed
-returns-in_err-write_place-in-Chart-clause-failed g c =
-    let place = place_text c.in-Chart.refusal.at in
-    let kind = kind_text c.in-Chart.refusal.kind in
-    rw c.in-Chart.is
-    (at_exit c.from_residual.result
-    (front_first _ _ (place ++ kind) (codes "\n")
-    (front_first _ _ place kind c.in_err-write_place-in-Chart.ensures.failed)))
-
--- the kind isn't written
-pub returns-in_err-write_kind-in-Chart-clause-failed : goal.returns-in_err-write_kind-in-Chart-clause-failed
-returns-in_err-write_kind-in-Chart-clause-failed g c =
-    let place = place_text c.in-Chart.refusal.at in
-    let kind = kind_text c.in-Chart.refusal.kind in
-    rw c.in-Chart.is
-    (at_exit c.from_residual-in_err-write_kind-in-Chart.result
-    (front_first _ _ (place ++ kind) (codes "\n")
-    (front_after _ _ _ place kind c.in_ok-write_place-in-Chart.ensures.ok c.in_err-write_kind-in-Chart.ensures.failed)))
-
--- the end of the line isn't written
-pub returns-in_ok-write_kind-in-Chart-clause-failed : goal.returns-in_ok-write_kind-in-Chart-clause-failed
-returns-in_ok-write_kind-in-Chart-clause-failed g c =
-    let place = place_text c.in-Chart.refusal.at in
-    let kind = kind_text c.in-Chart.refusal.kind in
-    rw c.in-Chart.is
-    (on_err_weaker c.write_all.result
-    (front_after _ _ _ (place ++ kind) (codes "\n")
-    (written_after _ _ _ place kind c.in_ok-write_place-in-Chart.ensures.ok c.in_ok-write_kind-in-Chart.ensures.ok))
-    c.write_all.ensures.failed)
 
 -- ---- a chart of a net that is refused
 
@@ -47,7 +15,7 @@ returns-in_err-write_named_place-in-NetChart-clause-failed g c =
     let place = named_place_text c.name.result.now c.in-NetChart.refusal.at in
     let kind = kind_text c.in-NetChart.refusal.kind in
     rw (c.in-NetChart.is, ← c.name.ensures)
-    (at_exit c.from_residual-in_err-write_named_place-in-NetChart.result
+    (at_exit c.from_residual.result
     (front_first _ _ (place ++ kind) (codes "\n")
     (front_first _ _ place kind c.in_err-write_named_place-in-NetChart.ensures.failed)))
 
@@ -68,11 +36,11 @@ returns-in_ok-write_kind-in-NetChart-clause-failed g c =
     let place = named_place_text c.name.result.now c.in-NetChart.refusal.at in
     let kind = kind_text c.in-NetChart.refusal.kind in
     rw (c.in-NetChart.is, ← c.name.ensures)
-    (on_err_weaker c.write_all-in-NetChart.result
+    (on_err_weaker c.write_all.result
     (front_after _ _ _ (place ++ kind) (codes "\n")
     (written_after _ _ _ place kind c.in_ok-write_named_place-in-NetChart.ensures.ok
     c.in_ok-write_kind-in-NetChart.ensures.ok))
-    c.write_all-in-NetChart.ensures.failed)
+    c.write_all.ensures.failed)
 
 -- ---- an event line that is refused
 

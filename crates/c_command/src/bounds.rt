@@ -1,0 +1,29 @@
+//! The bounds of the C of a chart.
+ghost use Rattle.std.specs.Prelude.{IfOk};
+ghost use Rattle.checked_chart.specs.Kept.{chart_of};
+ghost use Rattle.c_words.specs.Seen.{asked_seen};
+ghost use Rattle.c_command.specs.Bounds.{IsBoundsFor};
+
+use bound_prove::bounds_of;
+use checked_chart::Chart;
+use flow_base::{Bounds, Memory};
+use std::alloc::Global;
+
+/// The bounds that are asked for; where none are, those that no event of the chart overruns, if a
+/// certificate gives such bounds, and else the usual ones. Fails only where memory does.
+///
+/// This project's choice.
+pub fn bounds_for(alloc: Global, chart: &Chart, asked: Option<Bounds>) -> Result<Bounds, Memory>
+    ensures { IfOk result (λ bounds. IsBoundsFor (asked_seen asked) (chart_of chart.now) bounds) }
+{
+    if let Some(bounds) = asked {
+        return Ok(bounds);
+    }
+    match bounds_of(alloc, chart)? {
+        Some(need) => Ok(Bounds {
+            depth: need.depth,
+            steps: need.steps,
+        }),
+        None => Ok(Bounds::usual()),
+    }
+}

@@ -1,0 +1,2 @@
+pub mod UsageLemmas
+pub mod OthersLemmas

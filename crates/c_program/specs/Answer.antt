@@ -1,0 +1,43 @@
+-- The answer of the program: what it writes and how it ends, for all words, files and faults.
+use Rattle.std.specs.Prelude.{◌≡◌, ◌⊎◌, [], Option, Some, None}
+use Rattle.std.specs.Io.KnownBytes.{append_known}
+use Rattle.flow_base.specs.Causes.{Stands}
+use Rattle.flow_base.specs.declared.status.Status.{Status}
+use Rattle.commands.specs.Call.{Output, Call, OthersStay}
+use Rattle.program_answers.specs.Endings.{EndsAs, EndsAtOnce}
+use Rattle.program_answers.specs.Lines.{LineStands}
+use Rattle.c_words.specs.Commands.{Command, Header, Source, files_named}
+use Rattle.c_command.specs.Texts.{HeaderEnds, SourceEnds}
+use Rattle.c_program.specs.declared.ending.Ending.{Ending}
+use Rattle.c_program.specs.declared.ending.Ending.TheVariants as endings
+use Rattle.c_program.specs.Ending.{of_text, status_of, line_of}
+
+-- how a command ends, and when; words that ask for none are Usage
+abbrev pub Ends : Option Command → Call → Ending → Type 0
+Ends None call ending = EndsAtOnce call endings.Usage ending
+Ends (Some (Header first asked)) call ending = EndsAs of_text (HeaderEnds asked call first) ending
+Ends (Some (Source first asked)) call ending = EndsAs of_text (SourceEnds asked call first) ending
+
+-- files that the words don't name keep what they have left
+abbrev pub OthersKeep : Option Command → Call → Type 0
+OthersKeep None call = OthersStay [] call.sources_before call.sources_after
+OthersKeep (Some (Header first asked)) call =
+    OthersStay (files_named (Header first asked)) call.sources_before call.sources_after
+OthersKeep (Some (Source first asked)) call =
+    OthersStay (files_named (Source first asked)) call.sources_before call.sources_after
+
+-- how a call ends, and when: as the command does, or memory runs out before the words are read
+abbrev pub CallEnds : Option Command → Call → Ending → Type 0
+CallEnds command call ending = Ends command call ending ⊎ EndsAtOnce call endings.Memory ending
+
+-- the answer: the call ends in one way, which fixes its status and its line on standard error, all of which stands
+-- there where no write of it fails; other files than that of the command keep what they have left
+pub record Answer (command : Option Command) (call : Call) (errors_before errors_after : Output)
+    (status : Status) : Type 0 where
+  pub ending : Ending
+  pub ends : CallEnds command call ending
+  pub others : OthersKeep command call
+  pub answered : status ≡ status_of ending
+  pub line : Stands errors_before.faults errors_after.faults
+      → errors_after.holds ≡ append_known errors_before.holds (line_of ending)
+  pub written : LineStands errors_before errors_after (line_of ending)

@@ -1,0 +1,4 @@
+pub mod TextLeaf
+pub mod TextAnswers
+pub mod Agreement
+pub mod Worked

@@ -1,0 +1,5 @@
+pub mod Commands
+pub mod Words
+pub mod Seen
+pub mod Parser
+pub mod Found

@@ -1,7 +1,9 @@
 #!/usr/bin/env python3
-"""Compares `flowc rules` and `flowc exec` on the generated case 0 with a switch in C, Boost.Statechart and Qt SCXML.
+"""Compares `flowc rules`, `flowc exec` and the C of `chart_to_c` on the generated case 0 with a switch in C, Boost.Statechart and Qt SCXML.
 
-    bench/compare.py [BIN] [--functions]    BIN is a built program; without it, crates/flowc/out/flowc after `rt run` there
+    bench/compare.py [BIN [CHART_TO_C]] [--functions]
+
+BIN and CHART_TO_C are built programs; without them, crates/flowc/out/flowc and crates/chart_to_c/out/chart_to_c after `rt run` there.
 
 All of them run the 20,000 events and must write the same trace, byte for byte, before anything is measured; a difference is an
 error. Instructions are counted by valgrind's tool callgrind over the first 5,000 events, less those of a run without events.
@@ -19,12 +21,16 @@ import tempfile
 
 import generated
 import measuring
-from machines import boost_statechart, qt_scxml, switch_in_c
+from machines import boost_statechart, chart_c, qt_scxml, switch_in_c
 from measuring import HERE, LONGEST, shown, write
 
-BUILT = os.path.join(HERE, '..', 'crates', 'flowc', 'out', 'flowc')
+CRATES = os.path.join(HERE, '..', 'crates')
+BUILT = os.path.join(CRATES, 'flowc', 'out', 'flowc')
+CHART_TO_C = os.path.join(CRATES, 'chart_to_c', 'out', 'chart_to_c')
 MACHINES = os.path.join(HERE, 'machines')
 COUNTED, TIMES, RUNS, SHOWN = 5_000, 10, 5, 24
+# The functions of the C of a chart, which gcc may have split.
+OF_CHART = re.compile(r'(G_react|p[0-9]+|noted|is_on|is_bare|flow_div[0-9]+)([.].*)?')
 
 OTHERS = {'C switch': 'C', 'Boost.Statechart': 'Boost', 'Qt SCXML, C++': 'Qt, C++', 'Qt SCXML, ECMAScript': 'Qt, ECMA'}
 
@@ -48,6 +54,18 @@ def build_switch(regions, folder):
     write(folder, 'switch.c', switch_in_c.source(regions))
     output(['gcc', '-O2', '-I', MACHINES, 'switch.c', '-o', 'switch'], folder)
     return ['./switch']
+
+
+def build_chart(regions, folder, chart_to_c):
+    """The C of the chart, with the driver that the other programs have."""
+    need('gcc')
+    if not os.access(chart_to_c, os.X_OK):
+        raise Skipped('%s is not there' % chart_to_c)
+    for word, name in (('header', 'G.h'), ('source', 'G.c')):
+        write(folder, name, output([chart_to_c, word, '0.chart'], folder).decode())
+    write(folder, 'chart.c', chart_c.source(regions))
+    output(['gcc', '-std=c99', '-O2', '-I', MACHINES, 'chart.c', 'G.c', '-o', 'chart'], folder)
+    return ['./chart']
 
 
 def build_silent(folder):
@@ -145,7 +163,7 @@ def times(programs, folder):
     return {name: (least[name, 'many'] - least[name, 'none']) / (TIMES * generated.EVENTS) for name in programs}
 
 
-def all_programs(program, folder):
+def all_programs(program, chart_to_c, folder):
     """The programs, each with the words that begin its command; those that can't be built are named and left out."""
     regions = generated.regions(0)
     code = output([program, 'compile', '0.chart'], folder).decode()
@@ -153,6 +171,7 @@ def all_programs(program, folder):
     write(folder, 'silent.code', silent_code(code))
     programs = {'rules': [program, 'rules', '0.chart'], 'exec': [program, 'exec', 'code']}
     builds = {
+        'C of the chart': lambda *given: build_chart(*given, chart_to_c),
         'C switch': build_switch,
         'Boost.Statechart': build_boost,
         'Qt SCXML, C++': lambda *given: build_qt(*given, qt_scxml.Cpp),
@@ -202,28 +221,36 @@ def print_functions(name, functions):
         print('%10.1f  %s' % (count, function))
 
 
-def main(program, is_by_function):
+def add_reactions(functions):
+    """Adds what the functions of the C of the chart take of its program, where that was counted."""
+    counts = functions.get('C of the chart')
+    if counts:
+        functions['C of the chart, react'] = {name: count for name, count in counts.items() if OF_CHART.fullmatch(name)}
+
+
+def main(program, chart_to_c, is_by_function):
     """Compares all programs that can be built with `rules` and `exec` of the program."""
     with tempfile.TemporaryDirectory() as folder:
         prepare(folder)
-        programs = all_programs(program, folder)
+        programs = all_programs(program, chart_to_c, folder)
         compare_traces(programs, folder)
         measured = dict(programs)
         measured['exec, no machine'] = [program, 'exec', 'silent.code']
         if 'C switch' in programs:
             measured['C, no machine'] = build_silent(folder)
         functions = {name: instructions(words, folder) for name, words in measured.items()}
+        add_reactions(functions)
         seconds = times(measured, folder)
-        print_rows({name: (functions[name] and sum(functions[name].values()), seconds[name]) for name in measured})
+        print_rows({name: (counts and sum(counts.values()), seconds.get(name)) for name, counts in functions.items()})
         for name in ('exec', 'rules') if is_by_function and functions['exec'] else ():
             print_functions(name, functions[name])
 
 
 if __name__ == '__main__':
     given = [word for word in sys.argv[1:] if word != '--functions']
-    if len(given) > 1 or any(word.startswith('-') for word in given):
+    if len(given) > 2 or any(word.startswith('-') for word in given):
         sys.exit(__doc__)
-    chosen = os.path.abspath(given[0] if given else BUILT)
+    chosen, chart_to_c = map(os.path.abspath, (given + [BUILT, CHART_TO_C][len(given):])[:2])
     if not os.access(chosen, os.X_OK):
         sys.exit('%s is not there: build it by `rt run` in crates/flowc' % chosen)
-    main(chosen, '--functions' in sys.argv)
+    main(chosen, chart_to_c, '--functions' in sys.argv)

@@ -1,13 +1,13 @@
 #!/usr/bin/env python3
-r"""Provokes each answer of a built program, and says which answers there are.
+r"""Provokes each answer of a built `flowc` and of a built `chart_to_c`, and says which answers there are.
 
-    python3 checks/answers.py --against PROGRAM < checks/answer_table.txt
-    python3 checks/answers.py --against PROGRAM --large < checks/answer_table.txt
+    python3 checks/answers.py --against PROGRAM [--chart-to-c CHART_TO_C] [--large] < checks/answer_table.txt
 
 A block of the table has files, lists of words, and the whole answer to each of these lists: the status, what is written on
 standard output and on standard error, and which of the files are opened. The form of a table is that of tables.py. Parts:
 
-    words WORD ..           A run with these words. '' is the empty word, and a TEXT stands for the bytes of a word.
+    words WORD ..           A run of PROGRAM with these words. '' is the empty word, and a TEXT stands for the bytes of a word.
+    c_words WORD ..         A run of CHART_TO_C with these words; where none is named it is left out.
     file NAME TEXT          The file has these bytes.
     more NAME N TEXT        The file goes on with TEXT, N times.
     sample NAME PATH        The file is that of the repository.
@@ -18,8 +18,8 @@ standard output and on standard error, and which of the files are opened. The fo
     link NAME TARGET        A symbolic link.
     out DEVICE, error DEVICE   Where standard output or standard error goes: `full` is a device without room, `closed` is no
                             file, `input` is open for reading alone, and `gone` is a pipe that nobody reads any more.
-    memory N                The process may have N bytes of memory. Where the program can't even begin with so much, as one
-                            that was built with a sanitizer, the block is passed over, and that is said.
+    memory N                The process may have N bytes of memory. Where a program can't even begin with so much, as one
+                            that was built with a sanitizer, its runs are left out, and that is said.
     large                   The block takes over a second or much memory, and is run with `--large` alone.
 
 An answer has the lines `status N`, `error TEXT` for each line of standard error, `out TEXT` for each line of standard output,
@@ -34,7 +34,7 @@ it of each call.
                 output; of an event file or a schedule the trace of the lines before.
     status 2    The words ask for no command. Nothing is on standard output.
     status 3    The run has a fault, or a queue of a net is full or empty, which the last line of the trace has too; `selftest`
-                writes its line.
+                writes its line. `chart_to_c` has no such answer.
     status 4    A file couldn't be read. A front of the answer was written: nothing by a command that has no
                 event file or schedule.
     status 5    Standard output couldn't be written. A front of the answer was written, and not all of it.
@@ -47,13 +47,14 @@ import select
 import struct
 import sys
 import tempfile
+from typing import NamedTuple
 
 import chart_syntax as syntax
 import code_acceptance as ca
 import code_machine as cm
 import event_files as ev
 import tables
-from programs import Ended, ended, status_text
+from programs import Ended, ended, parser, status_text
 
 HERE = os.path.dirname(os.path.abspath(__file__))
 ROOT = os.path.dirname(HERE)
@@ -63,6 +64,7 @@ TRACED = (*WITH_TRACE, 'net')
 WITH_CHART = ('check', 'fmt', 'rules', 'compile', 'run', 'bounds')
 WITH_CODE = ('exec', 'upgrade', 'shrink')
 COMMANDS = (*WITH_CHART, *WITH_CODE, 'selftest')
+C_COMMANDS = ('header', 'source')       # those of chart_to_c, which have a chart too
 
 # ---- which answers there are
 
@@ -83,7 +85,8 @@ QUEUE_LINE = re.compile('run (0|[1-9][0-9]*): ((?:full|empty) (?:0|[1-9][0-9]*))
 NET_START = re.compile('0 [A-Za-z][A-Za-z0-9_]* 0 start ')
 USAGE = ('usage: flowc check CHART, fmt CHART, rules CHART EVENTS, compile CHART, exec CODE EVENTS, run CHART EVENTS, '
          'upgrade CODE, bounds CHART, shrink CODE, net NET SCHEDULE, selftest N; --depth D, --steps S\n')
-LINES = {0: '', 2: USAGE, 4: 'read fault\n', 5: 'write fault\n', 6: 'out of memory\n'}
+C_USAGE = 'usage: chart_to_c header CHART, source CHART; --depth D, --steps S\n'
+LINES = {0: '', 4: 'read fault\n', 5: 'write fault\n', 6: 'out of memory\n'}
 
 
 def ends_ok(command, out):
@@ -97,8 +100,8 @@ def refusal_problem(command, out, error):
     is_of_events = EVENT_LINE.fullmatch(error) or command == 'net' and BAD_STEP_LINE.fullmatch(error)
     if command in TRACED and is_of_events:
         return None if ends_ok(command, out) else 'an event file is refused after something else than the trace of the lines before'
-    known = (command in WITH_CHART and CHART_LINE.fullmatch(error) or command in WITH_CODE and CODE_LINE.fullmatch(error)
-             or command == 'net' and NET_LINE.fullmatch(error))
+    known = (command in (*WITH_CHART, *C_COMMANDS) and CHART_LINE.fullmatch(error)
+             or command in WITH_CODE and CODE_LINE.fullmatch(error) or command == 'net' and NET_LINE.fullmatch(error))
     if not known:
         return 'status 1 has a line on standard error that tells no refusal'
     return 'a refused text leaves something on standard output' if out else None
@@ -120,12 +123,13 @@ def chart_fault(error):
     return int(found[1].split(' ')[0]) if found else None
 
 
-def problem(command, answer):
-    """Why this is no answer of the command, or none. `command` is None where the words ask for none."""
+def problem(command, answer, usage=USAGE):
+    """Why this is no answer of the command, or none. `command` is None where the words ask for none; `usage` is the usage line of
+    the program."""
     out, error, status, timed_out = answer
     if timed_out or status not in range(7):
         return '%s is that of no answer' % status_text(answer)
-    if status in LINES and error != LINES[status]:
+    if error != {**LINES, 2: usage}.get(status, error):
         return 'status %d has another line on standard error than its own' % status
     if (command is None) != (status == 2) and status != 6:
         return 'the usage line and status 2 belong to the words that ask for no command'
@@ -272,18 +276,33 @@ def lines_of(word, text):
     return ['%s %s' % (word, line) for line in shown] + (['unended ' + rest] if rest else [])
 
 
+class Program(NamedTuple):
+    """A built program: where it is, its commands, and its usage line."""
+    path: str
+    commands: tuple
+    usage: str
+
+
+def flowc(path):
+    return Program(os.path.abspath(path), (*COMMANDS, 'net'), USAGE)
+
+
+def chart_to_c(path):
+    return Program(os.path.abspath(path), C_COMMANDS, C_USAGE)
+
+
 def answer(program, words, files, devices, memory):
     """The lines of the answer of a run."""
     command = os.fsdecode(words[0]) if words else ''
-    files.prepare(program, command)
+    files.prepare(program.path, command)
     opened = Opened(files.folder)
-    got = call(program, words, files.folder, devices, memory)
+    got = call(program.path, words, files.folder, devices, memory)
     names = opened.names()
     lines = [status_text(got)] + lines_of('error', got.error) + lines_of('out', got.out)
     found = None
     if not devices:
-        asked = command if command in (*COMMANDS, 'net') and got.status != 2 else None
-        found = problem(asked, got)
+        asked = command if command in program.commands and got.status != 2 else None
+        found = problem(asked, got, program.usage)
     return lines + ['opens ' + (' '.join(names) or 'none')] + (['problem: ' + found] if found else [])
 
 
@@ -294,17 +313,18 @@ def code_texts():
         return {block.name: texts.code(block) for block in tables.blocks(table)}
 
 
-def begins(program, memory):
+def begins(program, memory, usage=USAGE):
     """Whether the program can begin with so much memory."""
     with tempfile.TemporaryDirectory() as folder:
-        return call(program, [], folder, memory=memory) == Ended('', USAGE, 2)
+        return call(program, [], folder, memory=memory) == Ended('', usage, 2)
 
 
 class Table:
     """Runs the blocks of the table, and counts them, their runs, those that are left out, and the answers that are wrong."""
 
-    def __init__(self, program, large):
-        self.program, self.large = os.path.abspath(program), large
+    def __init__(self, programs, large):
+        """`programs` has the program for the words of each kind that is run."""
+        self.programs, self.large = programs, large
         self.blocks = self.runs = self.left = self.wrong = 0
         self.codes = code_texts()
 
@@ -312,36 +332,51 @@ class Table:
         """Runs a block, and writes where an answer differs from the one worked out by hand."""
         memory = block.values('memory')
         memory = int(memory[0]) if memory else None
-        if any(word == 'large' for word, _ in block.parts) and not self.large:
-            self.left += 1
-            return
-        if memory is not None and not begins(self.program, memory):
-            print('block %s: passed over, since the program takes more memory to begin' % block.name)
-            self.left += 1
-            return
-        self.blocks += 1
+        runs = [(word, rest) for word, rest in block.parts if word in ('words', 'c_words')]
+        kept = {word for word, _ in runs if self.is_run(block, word, memory)}
+        self.left += sum(word not in kept for word, _ in runs)
+        self.blocks += bool(kept)
         devices = {number: block.values(word)[0] for word, number in (('out', 1), ('error', 2)) if block.values(word)}
         with tempfile.TemporaryDirectory(dir='/dev/shm' if os.path.isdir('/dev/shm') else None) as folder:
-            files = Files(block, folder, self.codes)
-            for rest in block.values('words'):
-                self.runs += 1
-                got = answer(self.program, words_of(rest), files, devices, memory)
-                if got != block.expected:
-                    self.wrong += 1
-                    print('block %s: words %s' % (block.name, rest))
-                    print(''.join('  by hand   %s\n' % line for line in block.expected if line not in got)
-                          + ''.join('  answered  %s\n' % line for line in got if line not in block.expected), end='')
+            files = Files(block, folder, self.codes) if kept else None
+            for word, rest in runs:
+                if word in kept:
+                    self.compare(block, word, rest, answer(self.programs[word], words_of(rest), files, devices, memory))
+
+    def is_run(self, block, word, memory):
+        """Whether the words of this kind are run of a block, and says where there is too little memory for that."""
+        if word not in self.programs or not self.large and any(part == 'large' for part, _ in block.parts):
+            return False
+        program = self.programs[word]
+        if memory is None or begins(program.path, memory, program.usage):
+            return True
+        print('block %s: %s passed over, since the program takes more memory to begin' % (block.name, word))
+        return False
+
+    def compare(self, block, word, rest, got):
+        """Counts a run, and writes where its answer differs."""
+        self.runs += 1
+        if got != block.expected:
+            self.wrong += 1
+            print('block %s: %s %s' % (block.name, word, rest))
+            print(''.join('  by hand   %s\n' % line for line in block.expected if line not in got)
+                  + ''.join('  answered  %s\n' % line for line in got if line not in block.expected), end='')
 
 
 def main(words):
-    large = '--large' in words
-    words = [word for word in words if word != '--large']
-    if len(words) != 2 or words[0] != '--against':
-        sys.exit(__doc__)
-    table = Table(words[1], large)
+    """Answers the table, and gives the status."""
+    reader = parser(__doc__)
+    reader.add_argument('--against', metavar='PROGRAM', required=True)
+    reader.add_argument('--chart-to-c', metavar='CHART_TO_C')
+    reader.add_argument('--large', action='store_true')
+    options = reader.parse_args(words)
+    programs = {'words': flowc(options.against)}
+    if options.chart_to_c is not None:
+        programs['c_words'] = chart_to_c(options.chart_to_c)
+    table = Table(programs, options.large)
     for block in tables.blocks(sys.stdin.buffer):
         table.block(block)
-    print('%d blocks, %d runs, %d of them differ; %d blocks left out' % (table.blocks, table.runs, table.wrong, table.left))
+    print('%d blocks, %d runs, %d of them differ; %d runs left out' % (table.blocks, table.runs, table.wrong, table.left))
     return 1 if table.wrong else 0
 
 

@@ -4,8 +4,8 @@ r"""The subset of C that docs/C_SUBSET.md defines, read and run by the words of 
     python3 checks/c_subset.py [--int W] [--fuel N] FILE DEED ..
     python3 checks/c_subset.py --table [--check] < checks/c_table.txt
 
-FILE is a file of C in the grammar of the page. Anything else is refused, with the line. The deeds are done one after the other, with
-one struct, in which nothing has a value at first. They are
+FILE is a source of C in the grammar of the page, with its header beside it. Anything else is refused, with the line. The deeds are
+done one after the other, with one struct, in which nothing has a value at first. They are
 
     f(1, -2)      calls the function, with m where it has that parameter, and writes `f(1, -2) = 7`
     f=3           gives the field a value of its type; so does a[2]=3 with an element
@@ -17,14 +17,15 @@ N ends it with `without fuel`, and one that needs too many calls and turns with 
 deed is refused.
 
 Where the page leaves something open, this is how it is read here
-    Spelling: an operand is a local, `m->f`, `m->a[e]`, a constant `(T)C`, or stands in parentheses, which may stand around any
-    operand. Comments `/* .. */`, spaces and line feeds may stand between words. There is no backslash and no `??` in a file.
-    The file begins with `#include <stdint.h>` and `#include <stdbool.h>`, of which the first alone does where `bool` isn't used,
-    and then `__extension__ typedef __int128 flow_wide;` where it is. The struct has a name, at least one member, and each array has
-    at least one element. Two functions, two members and two locals of a function have different names, no local has the name of a
-    function, and none of them is a word of C or begins with `_`. A prototype is the head of its function with `;`.
-    Constants: C is 0 or has no 0 in front; it is followed by `u` where T has no sign, and may be so where T is `bool`. Without `u` it
-    is below 2^63, with it below 2^64. A negative one has no `u`, may stand in parentheses, and -2^63 is `(-9223372036854775807 - 1)`.
+    Spelling: an operand is a local, `m->f`, `m->a[e]`, a constant, or stands in parentheses, which may stand around any operand. A
+    cast of an operand is one too. Comments `/* .. */`, spaces and line feeds may stand between words. There is no backslash and no `??`.
+    The header stands where the source includes it, and the source need not have one. The first lines include `<stdint.h>`,
+    `<stdbool.h>` where `bool`, `true` or `false` is used, and `<limits.h>` where UINT_MAX is. The struct has at least one member, and
+    each array at least one element. Two functions, two members and two locals of a function have different names, no local has the
+    name of a function, and none of them is a word of C or begins with `_`. A prototype is the head of its function with `;`.
+    Constants: C is 0 or has no 0 in front. `(T)C` is followed by `u` where T has no sign, and may be so where T is `bool`. Without `u`
+    it is below 2^63, with it below 2^64. A negative one has no `u`, and -2^63 is `(-9223372036854775807 - 1)`. C alone is one of
+    `int`, and Cu one of the unsigned type with so many bits.
     Labels: labels are written as C, with or without `u`. Where the type of e is known, no two labels are the same in its
     promoted type. A label after the one that equals the value isn't brought to the type.
     Fuel: each test of a `while` takes a turn, also the one that finds 0.
@@ -35,11 +36,12 @@ A table has the form of tables.py, in blocks, with the parts
     struct MEMBERS    the members of the struct, on one line; `int8_t f;` where nothing is said
     function TEXT     a function on one line; the prototypes are made of these
     line TEXT         a line of the file; such lines stand for the whole file, and then there is no struct and no function
-    wide              the file has the line that names flow_wide
+    wide              the file has the lines that name the types of 128 bits
     do DEED           a deed
     e EXPRESSION      an expression over the struct, whose value and type are the answer
 
 The answer is what is written."""
+import os
 import re
 import sys
 from collections import namedtuple
@@ -51,12 +53,19 @@ USUAL_INT, USUAL_FUEL = 32, 100000
 MOST_WORK = 20000000                # calls and turns of one run
 DEEPEST = 1000000                   # calls of Python in one another
 OPENING = ['#include <stdint.h>', '#include <stdbool.h>']
-WIDE_LINE = '__extension__ typedef __int128 flow_wide;'
+WIDE = {'flow_int128': '__extension__ typedef __int128 flow_int128;',
+        'flow_uint128': '__extension__ typedef unsigned __int128 flow_uint128;'}
+# the lines of a header and a source that begin with `#`
+INCLUDE = re.compile('#include <(limits|stdbool|stdint)[.]h>')
+OWN_HEADER = re.compile('#include "([A-Za-z0-9_]+)[.]h"')
+DEFINITION = re.compile('#define ([A-Za-z][A-Za-z0-9_]*) (0|[1-9][0-9]*)u')
+GUARD = re.compile('#(?:ifndef|define) ([A-Za-z][A-Za-z0-9_]*_H)')
+INT_TEST = ['#if UINT_MAX != 4294967295u', '#error "int must have 32 bits"', '#endif']
 
 Type = namedtuple('Type', 'kind bits')                       # the kind is 'signed', 'unsigned' or 'bool'
 Value = namedtuple('Value', 'number type')
 BOOL = Type('bool', 1)
-TYPES = {'bool': BOOL, 'flow_wide': Type('signed', 128)}
+TYPES = {'bool': BOOL, 'flow_int128': Type('signed', 128), 'flow_uint128': Type('unsigned', 128)}
 TYPES.update(('int%d_t' % bits, Type('signed', bits)) for bits in (8, 16, 32, 64))
 TYPES.update(('uint%d_t' % bits, Type('unsigned', bits)) for bits in (8, 16, 32, 64))
 NAMES = {each: name for name, each in TYPES.items()}
@@ -70,7 +79,7 @@ Cast = namedtuple('Cast', 'type part')
 Negative = namedtuple('Negative', 'part')
 Not = namedtuple('Not', 'part')
 Binary = namedtuple('Binary', 'mark left right')
-Choice = namedtuple('Choice', 'test type yes no')
+Choice = namedtuple('Choice', 'test type yes no')             # the type is that of both arms
 
 # statements, each with its line
 SetLocal = namedtuple('SetLocal', 'line local value')
@@ -83,8 +92,9 @@ While = namedtuple('While', 'line test body')
 Return = namedtuple('Return', 'line value')
 
 # A function: its head as it is written, its parameters as names in their order, and the types of its locals, parameters among them.
-Function = namedtuple('Function', 'head type name with_m parameters locals body')
-File = namedtuple('File', 'fields arrays functions')         # the types of fields, types and lengths of arrays, functions by name
+Function = namedtuple('Function', 'head type name with_m parameters locals body is_inline')
+# A file: the types of its fields, the types and lengths of its arrays, its functions by name, and the numbers that it defines.
+File = namedtuple('File', 'fields arrays functions constants')
 
 
 class Refused(Exception):
@@ -92,7 +102,7 @@ class Refused(Exception):
 
     def __init__(self, line, reason):
         super().__init__(line, reason)
-        self.text = 'refused in line %d: %s' % (line, reason) if line else 'refused: ' + reason
+        self.text = 'refused in line %s: %s' % (line, reason) if line else 'refused: ' + reason
 
 
 class Wrong(Exception):
@@ -184,39 +194,85 @@ def known_type(e, file, locals_, widths):
 
 TOKEN = re.compile(r'''
     (?P<space>[ \n]+|/\*.*?\*/)
-  | (?P<include>\#include\ <[a-z]+\.h>(?=\n))
+  | (?P<directive>\#[^\n]*)
   | (?P<name>[A-Za-z_][A-Za-z_0-9]*)
   | (?P<number>(?:0|[1-9][0-9]*)u?(?![A-Za-z_0-9.]))
   | (?P<mark>->|\+\+|--|<<|>>|<=|>=|==|!=|&&|\|\||//|[-+*/%&|<>=!?:;,(){}\[\]])''', re.S | re.X)
-Token = namedtuple('Token', 'kind text line')
+Token = namedtuple('Token', 'kind text line')                # a line of a header has its name before its number
 KEYWORDS = set('''auto break case char const continue default do double else enum extern float for goto if inline int long register
     restrict return short signed sizeof static struct switch typedef union unsigned void volatile while true false m'''.split())
 MARKS = '+ - * / % & | == != < <= > >= && ||'.split()
 
 
-def tokens(text):
-    """The words of a file, without spaces and comments, and with an empty one at the end."""
-    found, place, line = [], 0, 1
+def tokens(text, headers, name=''):
+    """The words of a text, without spaces and comments, and with those of the headers of the same program in their place."""
+    found, place, number = [], 0, 1
     for strange in ('\\', '??'):
         if strange in text:
             raise Refused(text[:text.index(strange)].count('\n') + 1, 'no word has ' + strange)
     while place < len(text):
-        match = TOKEN.match(text, place)
+        match, line = TOKEN.match(text, place), '%s:%d' % (name, number) if name else number
         if match is None:
             raise Refused(line, 'no word begins with %r' % text[place:place + 8])
-        if match.lastgroup != 'space':
+        included = OWN_HEADER.fullmatch(match[0])
+        if included and included[1] + '.h' in headers and not name:
+            found += tokens(headers[included[1] + '.h'], {}, included[1] + '.h')
+        elif match.lastgroup != 'space':
             found.append(Token(match.lastgroup, match[0], line))
-        line += match[0].count('\n')
+        number += match[0].count('\n')
         place = match.end()
-    return found + [Token('end', 'the end', line)]
+    return found
+
+
+class Directives:
+    """What the lines that begin with `#` say."""
+
+    def __init__(self, lines, int_bits):
+        self.included, self.constants, self.int_bits, self.open = set(), {}, int_bits, None
+        lines, line = list(lines), None
+        while lines:
+            line = lines.pop(0)
+            if [each.text for each in [line] + lines[:2]] == INT_TEST:
+                self.test_int(line.line)
+                del lines[:2]
+            else:
+                self.directive(line)
+        if self.open:
+            raise Refused(line.line, '#endif is missing')
+
+    def test_int(self, line):
+        if 'limits' not in self.included:
+            raise Refused(line, 'UINT_MAX is of limits.h')
+        if self.int_bits != 32:
+            raise Refused(line, 'int must have 32 bits')
+
+    def directive(self, token):
+        text, line = token.text, token.line
+        if INCLUDE.fullmatch(text):
+            self.included.add(INCLUDE.fullmatch(text)[1])
+        elif GUARD.fullmatch(text) and text.startswith('#ifndef') and not self.open:
+            self.open = GUARD.fullmatch(text)[1]
+        elif text == '#define %s' % self.open:
+            pass
+        elif text == '#endif' and self.open:
+            self.open = None
+        elif DEFINITION.fullmatch(text) and DEFINITION.fullmatch(text)[1] not in self.constants:
+            name, number = DEFINITION.fullmatch(text).groups()
+            self.constants[name] = int(number)
+        else:
+            raise Refused(line, 'no line is `%s`' % text)
 
 
 class Reader:
     """Reads a file in the grammar of the page."""
 
-    def __init__(self, text, int_bits):
-        self.tokens, self.place, self.widths = tokens(text), 0, Widths(int_bits)
-        self.types, self.file, self.struct = {}, File({}, {}, {}), None
+    def __init__(self, text, int_bits, headers=()):
+        words = tokens(text, headers or {})
+        directives = Directives([each for each in words if each.kind == 'directive'], int_bits)
+        last = words[-1].line if words else 1
+        self.tokens = [each for each in words if each.kind != 'directive'] + [Token('end', 'the end', last)]
+        self.place, self.widths, self.included = 0, Widths(int_bits), directives.included
+        self.types, self.file, self.struct = {}, File({}, {}, {}, directives.constants), None
         self.prototypes, self.locals, self.with_m = {}, {}, False
 
     # -- single words
@@ -280,40 +336,54 @@ class Reader:
     # -- the file
 
     def whole_file(self):
-        self.opening()
+        """The header and the source: types, the struct, prototypes, and functions with the inline ones of the header before."""
+        if 'stdint' not in self.included:
+            self.refuse('a file includes stdint.h')
+        self.types = set(TYPES) - set(WIDE) - (set() if 'stdbool' in self.included else {'bool'})
+        self.wide_types()
         self.members()
-        while self.ahead('static'):
-            head = self.head()
-            if not self.take(';'):
-                self.function(head)
-            elif self.file.functions:
-                self.refuse('prototypes stand before all functions')
-            elif head.name in self.prototypes:
-                self.refuse('a function has one prototype')
+        while self.tokens[self.place].kind != 'end':
+            if self.take('static inline'):
+                self.inline_function()
+            elif self.tokens[self.place].text == '__extension__':
+                self.wide_types()
             else:
-                self.prototypes[head.name] = head
-        if self.tokens[self.place].kind != 'end':
-            self.refuse('a function is wanted, not `%s`' % self.tokens[self.place].text)
+                self.prototype_or_function()
         for name in self.prototypes:
             if name not in self.file.functions:
                 self.refuse('there is no function `%s`' % name)
         return self.file
 
-    def opening(self):
-        """The lines in front of the struct."""
-        included = []
-        while self.tokens[self.place].kind == 'include':
-            included.append(self.next('include', 'a header'))
-        if included not in (OPENING, OPENING[:1]):
-            self.refuse('a file begins with ' + ' and '.join(OPENING))
-        self.types = set(TYPES) - {'flow_wide'} - ({'bool'} if len(included) == 1 else set())
-        if self.take('__extension__ typedef __int128 flow_wide ;'):
-            self.types.add('flow_wide')
+    def wide_types(self):
+        """The lines that name the types of 128 bits."""
+        for name, line in WIDE.items():
+            if name not in self.types and self.take(line.replace(';', ' ;')):
+                self.types.add(name)
+
+    def prototype_or_function(self):
+        head = self.head()
+        if not self.take(';'):
+            self.function(head)
+        elif self.file.functions and not all(each.is_inline for each in self.file.functions.values()):
+            self.refuse('prototypes stand before all functions')
+        elif head.name in self.prototypes:
+            self.refuse('a function has one prototype')
+        else:
+            self.prototypes[head.name] = head
+
+    def inline_function(self):
+        """`T f(const S *m) { return e; }`, which changes nothing."""
+        type_ = self.type()
+        name = self.new_name({**self.file.functions, **self.prototypes}, 'function')
+        self.want('( const %s * m ) { return' % self.struct)
+        self.locals, self.with_m = {}, True
+        body = [self.return_(self.line())]
+        self.want('}')
+        self.file.functions[name] = Function([], type_, name, True, [], {}, body, True)
 
     def members(self):
-        self.want('struct')
-        self.struct = self.new_name((), 'struct')
-        self.want('{')
+        """The struct, whose name stands after its members, and before the first use of it."""
+        self.want('typedef struct {')
         while not self.take('}'):
             type_ = self.type()
             name = self.new_name({**self.file.fields, **self.file.arrays}, 'member')
@@ -323,6 +393,7 @@ class Reader:
             else:
                 self.file.fields[name] = type_
             self.want(';')
+        self.struct = self.new_name((), 'struct')
         self.want(';')
         if not self.file.fields and not self.file.arrays:
             self.refuse('the struct has no member')
@@ -330,11 +401,13 @@ class Reader:
     def head(self):
         """A function without its body."""
         begin = self.place
-        self.want('static')
+        self.take('static')
+        if not self.type_ahead():
+            self.refuse('a function is wanted, not `%s`' % self.tokens[self.place].text)
         type_ = self.type()
         name = self.new_name(self.file.functions, 'function')
         self.want('(')
-        with_m, parameters = self.take('struct %s * m' % self.struct), {}
+        with_m, parameters = self.take('%s * m' % self.struct), {}
         while not self.ahead(')'):
             if with_m or parameters:
                 self.want(',')
@@ -343,7 +416,8 @@ class Reader:
         if not with_m and not parameters:
             self.refuse('a function has a parameter')
         self.want(')')
-        return Function([each.text for each in self.tokens[begin:self.place]], type_, name, with_m, list(parameters), parameters, [])
+        return Function([each.text for each in self.tokens[begin:self.place]], type_, name, with_m,
+                        list(parameters), parameters, [], False)
 
     def function(self, head):
         if head.name not in self.prototypes or self.prototypes[head.name].head != head.head:
@@ -354,11 +428,21 @@ class Reader:
             type_ = self.type()
             self.locals[self.new_name(self.locals, 'local')] = type_
             self.want(';')
+        while self.ahead('(', 'void', ')'):
+            self.unread(head)
         for name in self.locals:
             if name in self.prototypes:
                 self.refuse('the local `%s` has the name of a function' % name)
         body = self.statements()
         self.file.functions[head.name] = head._replace(locals=self.locals, body=body)
+
+    def unread(self, head):
+        """`(void)x;` for a parameter, which does nothing."""
+        self.want('( void )')
+        name = self.next('name', 'a parameter')
+        if name not in head.parameters and not (name == 'm' and head.with_m):
+            self.refuse('there is no parameter `%s`' % name)
+        self.want(';')
 
     # -- statements
 
@@ -378,7 +462,8 @@ class Reader:
             return self.store(line)
         local = self.local()
         self.want('=')
-        if self.tokens[self.place].kind == 'name' and self.tokens[self.place + 1].text == '(':
+        is_name = self.tokens[self.place].kind == 'name' and self.tokens[self.place].text not in ('INT64_C', 'UINT64_C')
+        if is_name and self.tokens[self.place + 1].text == '(':
             return self.call(line, local)
         value = self.expression()
         self.want(';')
@@ -482,22 +567,24 @@ class Reader:
             return e
         if not is_operand:
             self.refuse('parentheses stand around an operand that is not a single word')
+        if mark == '?':
+            return self.choice_after(e)
         self.place += 1
-        if mark != '?':
-            return Binary(mark, e, self.operand())
-        type_, yes = self.arm()
-        self.want(':')
-        other, no = self.arm()
-        if other != type_:
-            self.refuse('the types after ? and : differ')
-        return Choice(e, type_, yes, no)
+        e = Binary(mark, e, self.operand())
+        while mark in ('&&', '||') and self.take(mark):
+            e = Binary(mark, e, self.operand())
+        return e
 
-    def arm(self):
-        """A type and the operand that is brought to it."""
-        self.want('(')
-        type_ = self.type()
-        self.want(')')
-        return type_, self.operand()
+    def choice_after(self, test):
+        """The arms after a test, which have the same type."""
+        self.want('?')
+        yes = self.operand()
+        self.want(':')
+        no = self.operand()
+        types = [known_type(each, self.file, self.locals, self.widths) for each in (yes, no)]
+        if types[0] != types[1]:
+            self.refuse('the types after ? and : differ')
+        return Choice(test, types[0], yes, no)
 
     def operand(self):
         e, is_operand = self.part()
@@ -512,14 +599,63 @@ class Reader:
         if self.take('!'):
             return Not(self.operand()), False
         if self.take('('):
-            if self.type_ahead():
-                return self.cast()
-            e = self.expression()
-            self.want(')')
-            return e, True
+            return (self.cast() if self.type_ahead() else self.inside()), True
         if self.take('m ->'):
             return self.member_value(), True
-        return Local(self.local()), True
+        return self.word_value(), True
+
+    def inside(self):
+        """What stands in parentheses, of which the first is passed. Three constants have no parentheses around their parts."""
+        e = self.expression_or_sum()
+        self.want(')')
+        return e
+
+    def expression_or_sum(self):
+        """An expression, or `-C - 1`, or `C * INT64_C(2^62) + INT64_C(C)`."""
+        begin = self.place
+        if self.take('-'):
+            e = Negative(self.operand())
+            if isinstance(e.part, (Constant, Cast, Binary)) and self.ahead('-', '1', ')'):
+                self.place += 1
+                return Binary('-', e, self.word_value())
+            self.place = begin
+        e = self.expression()
+        if isinstance(e, Binary) and e.mark == '*' and isinstance(e.right, Constant) and e.right.number == 2 ** 62 \
+                and self.ahead('+', 'INT64_C'):
+            self.place += 1
+            return Binary('+', e, self.word_value())
+        return e
+
+    def word_value(self):
+        """A local, or a constant without a cast."""
+        token = self.tokens[self.place]
+        if token.kind == 'number':
+            return self.plain_constant()
+        for word, bits in (('true', 1), ('false', 0)):
+            if self.ahead(word) and 'bool' in self.types:
+                self.place += 1
+                return Constant(self.widths.int, bits)
+        for word, kind in (('INT64_C', 'signed'), ('UINT64_C', 'unsigned')):
+            if self.take(word + ' ('):
+                return Constant(Type(kind, 64), self.digits_of_64(Type(kind, 64)))
+        return Local(self.local())
+
+    def digits_of_64(self, type_):
+        """The digits in `INT64_C(C)` or `UINT64_C(C)`, of which the first parenthesis is passed."""
+        text = self.next('number', 'a constant')
+        if text.endswith('u') or not holds(type_, int(text)):
+            self.refuse('a constant is too large for 64 bits, or has `u`')
+        self.want(')')
+        return int(text)
+
+    def plain_constant(self):
+        """A constant of `int`, or with `u` of the unsigned type with so many bits."""
+        has_u = self.tokens[self.place].text.endswith('u')
+        number = self.digits(None)
+        type_ = Type('unsigned', self.widths.int.bits) if has_u else self.widths.int
+        if not holds(type_, number):
+            self.refuse('a constant is too large for its type')
+        return Constant(type_, number)
 
     def member_value(self):
         name = self.member()
@@ -534,21 +670,18 @@ class Reader:
         type_ = self.type()
         self.want(')')
         if self.number_ahead():
-            return Constant(type_, self.number(type_)), True
-        return Cast(type_, self.operand()), False
+            return Constant(type_, self.number(type_))
+        return Cast(type_, self.operand())
 
     def number_ahead(self):
-        kinds = [each.kind for each in self.tokens[self.place:self.place + 3]]
-        return kinds[0] == 'number' or (self.ahead('-') and kinds[1] == 'number') or (self.ahead('(', '-') and kinds[2] == 'number')
+        kinds = [each.kind for each in self.tokens[self.place:self.place + 2]]
+        return (kinds[0] == 'number' or (self.ahead('-') and kinds[1] == 'number')
+                or self.ahead('(', '-', '9223372036854775807', '-', '1', ')'))
 
     def number(self, type_):
         """A whole number as a constant of this type, or as a label."""
         if self.take('( - 9223372036854775807 - 1 )'):
             return -2 ** 63
-        if self.take('( -'):
-            number = -self.digits('signed')
-            self.want(')')
-            return number
         if self.take('-'):
             return -self.digits('signed')
         return self.digits(type_ and type_.kind)
@@ -565,9 +698,18 @@ class Reader:
         return number
 
 
-def read(text, int_bits=USUAL_INT):
-    """The file of a text, a character for each byte."""
-    return Reader(text, int_bits).whole_file()
+def read(text, int_bits=USUAL_INT, headers=()):
+    """The file of a text, a character for each byte, with the texts of the headers that it may include, by their names."""
+    return Reader(text, int_bits, headers).whole_file()
+
+
+def read_file(path, int_bits=USUAL_INT):
+    """The file of a source, with the headers that stand beside it."""
+    texts, folder = {}, os.path.dirname(path)
+    for name in [os.path.basename(path)] + [each for each in os.listdir(folder or '.') if each.endswith('.h')]:
+        with open(os.path.join(folder, name), 'rb') as file:
+            texts[name] = file.read().decode('latin-1')
+    return read(texts.pop(os.path.basename(path)), int_bits, texts)
 
 
 def read_expression(text, file, types, int_bits):
@@ -845,8 +987,8 @@ def text_of(block):
     if lines:
         return ''.join(line + '\n' for line in lines)
     functions = block.values('function')
-    lines = OPENING + ([WIDE_LINE] if block.values('wide') else [])
-    lines.append('struct s { %s };' % ' '.join(block.values('struct') or ['int8_t f;']))
+    lines = OPENING + (list(WIDE.values()) if block.values('wide') else [])
+    lines.append('typedef struct { %s } s_chart;' % ' '.join(block.values('struct') or ['int8_t f;']))
     lines += [each[:each.index('{')] + ';' for each in functions] + functions
     return ''.join(line + '\n' for line in lines)
 
@@ -864,7 +1006,7 @@ def answer_lines(block):
     lines = []
     try:
         run = Run(read(text_of(block), int_bits), int_bits)
-        types = set(TYPES) if block.values('wide') else set(TYPES) - {'flow_wide'}
+        types = set(TYPES) if block.values('wide') else set(TYPES) - set(WIDE)
         for word, rest in block.parts:
             if word == 'do':
                 lines += run.deed(rest, fuel)
@@ -880,8 +1022,7 @@ def answer_lines(block):
 def do_deeds(options):
     """Does the deeds that the words ask for, and gives the status."""
     try:
-        with open(options.file, 'rb') as file:
-            run = Run(read(file.read().decode('latin-1'), options.int), options.int)
+        run = Run(read_file(options.file, options.int), options.int)
         for deed in options.deeds:
             sys.stdout.writelines(line + '\n' for line in run.deed(deed, options.fuel))
     except ENDINGS as wrong:

@@ -2,8 +2,9 @@
 r"""Lets memory, files and streams of a built program fail, one call after another, and checks each answer.
 
     python3 checks/failing_devices.py --against PROGRAM [--part PART] [--most N] [--selftest]
+    python3 checks/failing_devices.py --chart-to-c PROGRAM [--part PART] [--most N]
 
-PART is one of these; all are tried where none is named:
+PROGRAM is a built `flowc`, or a built `chart_to_c`. PART is one of these; all are tried where none is named:
 
     calls       Each request for memory, each open, each read and each write of a command fails in turn; and all from one on;
                 and reads and writes move few bytes. For this a library is compiled by `cc` and loaded before the C library,
@@ -35,7 +36,7 @@ import tempfile
 import threading
 import time
 from collections import Counter
-from typing import NamedTuple
+from typing import Callable, NamedTuple
 
 import answers
 from programs import Ended, parser, status_text
@@ -165,6 +166,9 @@ NET_CHARTS = {
 }
 '''}
 STEPS = b'ev a GO\ntake 0\ntake 1\n# both answer\nev b IN x=0\ntake 2\ntake 3\nev a GO\ntake 0\ntake 2\n'
+# A chart whose sends nest without end, and one with a value of more than 62 bits.
+NO_BOUNDS = b'chart C { event local L; local n : int8; default -> A; state A { during { n = n + 1; send L; } } }'
+WIDE = b'chart C { input x : int64; local n : int64 wrap; default -> A; state A { during { n = n * 7 + x; } } }'
 START_WITH_A_FAULT = NET_CHARTS['b'].replace(b'default', b'entry { v = v / x; } default')
 
 
@@ -203,6 +207,19 @@ def scenes(program, with_selftest):
     made += [most_frames(), *net_scenes(), most_net()]
     if with_selftest:
         made.append(Scene('selftest', ['selftest', '0'], {}))
+    return made
+
+
+def c_scenes():
+    """Commands of `chart_to_c`: whole answers with and without options, refusals, no file, and words without a command."""
+    pump, motor, craft = (sample('examples/%s/%s.chart' % (name, name)) for name in ('pump', 'motor', 'spacecraft'))
+    made = [Scene('words', ['source', 'c', 'c'], {})]
+    for command in answers.C_COMMANDS:
+        made += [Scene('%s%s' % (command, name), [command, *options, 'c'], files) for name, options, files in (
+            (' of no file', (), {}), ('', (), {'c': pump}), (' refused', (), {'c': pump[:-20]}),
+            (' refused for its names', (), {'c': pump.replace(b'Running', b'Rinning', 1)}), (' of the motor', (), {'c': motor}),
+            (' with the greatest bounds', greatest_bounds(command), {'c': motor}), (' of the spacecraft', (), {'c': craft}),
+            (' of a chart without bounds', (), {'c': NO_BOUNDS}), (' of wide numbers', (), {'c': WIDE}))]
     return made
 
 
@@ -319,8 +336,9 @@ class Judge:
 
     ALLOWED = {'memory': (4, 6), 'open': (4,), 'read': (4,), 'write': (5,)}
 
-    def __init__(self):
-        self.counts, self.wrong = Counter(), 0
+    def __init__(self, usage):
+        """`usage` is the usage line of the program."""
+        self.usage, self.counts, self.wrong = usage, Counter(), 0
 
     def tell(self, name, why, answer):
         self.wrong += 1
@@ -334,7 +352,8 @@ class Judge:
         """Whether an answer is allowed. `fault` is the word of what may fail, or none where the answer must be right."""
         right = place.right
         self.count(part, answer, right)
-        why = None if line_fails else answers.problem(place.scene.words[0] if right.status != 2 else None, answer)
+        asked = place.scene.words[0] if right.status != 2 else None
+        why = None if line_fails else answers.problem(asked, answer, self.usage)
         if why is None and answer != right:
             why = self.line_problem(right, answer) if line_fails else self.fault_problem(right, answer, fault)
         if why:
@@ -376,9 +395,12 @@ def chosen(count, most, share=1):
 
 
 class Trial(NamedTuple):
-    """What a part is given: the program, the scenes, the judge of the answers, and how many calls of a kind are tried, or 0."""
+    """What a part is given: the program, its commands that write a trace, the scenes, what makes more scenes for the stack, the
+    judge of the answers, and how many calls of a kind are tried, or 0."""
     program: str
+    traced: tuple
     scenes: list
+    deep: Callable
     judge: Judge
     most: int
 
@@ -488,22 +510,21 @@ def small_pieces(trial, library, place):
 
 # ---- memory
 
-def least_memory(program):
+def least_memory(program, usage):
     """The least number of bytes, by steps of 64 KiB, with which the program begins, or none."""
     low, high = 0, 1 << 14
-    with tempfile.TemporaryDirectory() as folder:
-        while high - low > 1:
-            middle = (low + high) // 2
-            if answers.call(program, [], folder, memory=middle << 16) == Ended('', answers.USAGE, 2):
-                high = middle
-            else:
-                low = middle
+    while high - low > 1:
+        middle = (low + high) // 2
+        if answers.begins(program, middle << 16, usage):
+            high = middle
+        else:
+            low = middle
     return high << 16 if high < 1 << 14 else None
 
 
 def little_memory(trial):
     """The scenes with more and more memory, until it is enough."""
-    least = least_memory(trial.program)
+    least = least_memory(trial.program, trial.judge.usage)
     if least is None:
         print('memory: passed over, since the program takes over a GiB to begin')
         return
@@ -565,13 +586,20 @@ def left_output(place, size):
     return running.ended(taken)
 
 
+def long_outputs(trial):
+    """Scenes that write far more than a pipe has room for."""
+    if not trial.traced:
+        return [scene for scene in trial.scenes if scene.name == 'source of the spacecraft']
+    return [with_trace(trial.program, command, SMALL_CHART, b'tick\n' * 20000) for command in trial.traced]
+
+
 def failing_streams(trial):
     """Standard output and standard error fail in all ways."""
     for place in trial.places():
         failing_devices(trial, place)
         cut_outputs(trial, place)
-    for command in answers.TRACED:
-        place = Place(trial.program, with_trace(trial.program, command, SMALL_CHART, b'tick\n' * 20000))
+    for scene in long_outputs(trial):
+        place = Place(trial.program, scene)
         for size in (0, 1, 20, 512, 4096, 100000):
             answer = left_output(place, size)
             trial.judge.check(place, 'the reader goes after %d bytes' % size, 'a reader that goes away', answer, 'write')
@@ -642,7 +670,7 @@ def pipes_cut_short(trial, scenes):
 def line_by_line(trial):
     """Each line of a trace must be there before the next line of the event file is given."""
     door = sample('examples/compiled/door.chart'), sample('examples/compiled/door.events')
-    scenes = [(with_trace(trial.program, command, *door), 1) for command in answers.TRACED] + [(small_net('', {}), 3)]
+    scenes = [(with_trace(trial.program, command, *door), 1) for command in trial.traced] + [(small_net('', {}), 3)]
     for scene, starts in scenes:
         place = Place(trial.program, scene)
         lines = [line for line in scene.files['e'].splitlines(keepends=True) if not is_skipped(line)]
@@ -661,7 +689,7 @@ def line_by_line(trial):
 
 def nothing_is_read_first(trial):
     """Where the first line can't be written, no byte of the event file may be taken."""
-    for command in answers.TRACED:
+    for command in trial.traced:
         place = Place(trial.program, with_trace(trial.program, command, SMALL_CHART, b''))
         pipe = os.open(place.make_pipe('e'), os.O_RDWR | os.O_NONBLOCK)
         os.write(pipe, b'tick\n')
@@ -692,7 +720,7 @@ def changing_files(trial):
     lines = 30000
     changes = {'cut': lambda path: os.truncate(path, 60001), 'emptied': lambda path: os.truncate(path, 0),
                'removed': os.unlink, 'replaced': lambda path: os.rename(path + '2', path), 'lengthened': lengthen}
-    for command in answers.TRACED:
+    for command in trial.traced:
         scene = with_trace(trial.program, command, SMALL_CHART, b'tick\n' * lines)
         longest = Place(trial.program, with_trace(trial.program, command, SMALL_CHART, b'tick\n' * (lines + ADDED_LINES))).right
         for name, change in changes.items():
@@ -730,10 +758,12 @@ def few_files(trial):
 
 def failing_files(trial):
     """Files that are pipes, or that change, and too few that may be open."""
-    pipes_cut_short(trial, [scene for scene in trial.scenes if len(scene.files) >= 2 or scene.name == 'check'])
-    line_by_line(trial)
-    nothing_is_read_first(trial)
-    changing_files(trial)
+    ended_early = ('check', *answers.C_COMMANDS)
+    pipes_cut_short(trial, [scene for scene in trial.scenes if len(scene.files) >= 2 or scene.name in ended_early])
+    if trial.traced:
+        line_by_line(trial)
+        nothing_is_read_first(trial)
+        changing_files(trial)
     few_files(trial)
 
 
@@ -745,23 +775,37 @@ def most_frames():
                  {'c': answers.code_texts()['height_200'], 'e': b'tick\n'})
 
 
-def deep_scenes(program):
-    """Charts whose parts stand as deep in each other, and lead as far to each other, as they may."""
+def deep_charts():
+    """Charts by name whose parts stand as deep in each other, and lead as far to each other, as they may."""
     number = b'(' * 64 + b'1' + b')' * 64
     nest = b'chart C { local n : int8; ' + b'default -> S; state S { ' * 15 + b'entry { n = ' + number + b'; }' + b' }' * 16
     chain = b'chart C { default -> A; state A { outer -> @j0; } %s junction j4000 { -> A; } }' % b' '.join(
         b'junction j%d { [false] -> A; -> @j%d; }' % (at, at + 1) for at in range(4000))
-    sends = b'chart C { event local L; local n : int8; default -> A; state A { during { n = n + 1; send L; } } }'
-    made = []
-    for name, chart in (('deep states', nest), ('a long chain', chain), ('nested sends', sends)):
-        made += [Scene('%s of %s' % (command, name), [command, 'c'], {'c': chart}) for command in ('fmt', 'compile')]
+    return ('deep states', nest), ('a long chain', chain), ('nested sends', NO_BOUNDS)
+
+
+def many_texts():
+    """Refused texts by name that have something very often."""
+    front = b'chart C { default -> A; state A { during { n = '
+    return (('parentheses', front + b'(' * 1000000), ('signs', front + b'- ' * 500000), ('braces', b'{' * 1000000),
+            ('states', b'chart C { ' + b'state A { ' * 99999), ('comments', b'chart C { ' + b'//\n' * 300000))
+
+
+def chart_scenes(whole, refused):
+    """The deep charts with the commands of `whole`, and the refused texts with those of `refused`."""
+    made = [Scene('%s of %s' % (command, name), [command, 'c'], {'c': text})
+            for name, text in deep_charts() for command in whole]
+    return made + [Scene('%s of many %s' % (command, name), [command, 'c'], {'c': text})
+                   for name, text in many_texts() for command in refused]
+
+
+def deep_scenes(program):
+    """What takes much of the stack."""
+    made = chart_scenes(('fmt', 'compile'), ('check', 'fmt'))
+    for name, chart in deep_charts():
         for command in answers.TRACED:
             scene = with_trace(program, command, chart, b'tick\ntick\n', greatest_bounds(command))
             made.append(scene._replace(name='%s of %s' % (command, name)))
-    front = b'chart C { default -> A; state A { during { n = '
-    for name, text in (('parentheses', front + b'(' * 1000000), ('signs', front + b'- ' * 500000), ('braces', b'{' * 1000000),
-                       ('states', b'chart C { ' + b'state A { ' * 99999), ('comments', b'chart C { ' + b'//\n' * 300000)):
-        made += [Scene('%s of many %s' % (command, name), [command, 'c'], {'c': text}) for command in ('check', 'fmt')]
     head = answers.code_texts()['lamp'].split(b'unless')[0]
     for name, text in (('operators', head + b'unless 7 expr' + b' !' * 999999), ('fields', head + b'1 ' * 999999 + b'\n')):
         made.append(Scene('upgrade of many ' + name, ['upgrade', 'c'], {'c': text}))
@@ -770,7 +814,7 @@ def deep_scenes(program):
 
 def small_stack(trial):
     """The least stack with which each scene has its right answer; less ends the process by a signal of the system."""
-    for scene in trial.scenes + deep_scenes(trial.program):
+    for scene in trial.scenes + trial.deep():
         place = Place(trial.program, scene)
         low, high = 0, 8 << 10
         while high - low > 8:
@@ -786,23 +830,35 @@ PARTS = {'calls': failing_calls, 'memory': little_memory, 'streams': failing_str
          'stack': small_stack}
 
 
+def trial_of(options):
+    """The trial that the words ask for."""
+    if options.chart_to_c is not None:
+        program = answers.chart_to_c(options.chart_to_c)
+        return Trial(program.path, (), c_scenes(), lambda: chart_scenes(answers.C_COMMANDS, answers.C_COMMANDS),
+                     Judge(program.usage), options.most)
+    program = answers.flowc(options.against)
+    return Trial(program.path, answers.TRACED, scenes(program.path, options.selftest), lambda: deep_scenes(program.path),
+                 Judge(program.usage), options.most)
+
+
 def main(words):
     """Tries the parts that the words ask for, and gives the status."""
     reader = parser(__doc__)
-    reader.add_argument('--against', metavar='PROGRAM', required=True)
+    tried = reader.add_mutually_exclusive_group(required=True)
+    tried.add_argument('--against', metavar='PROGRAM')
+    tried.add_argument('--chart-to-c', metavar='PROGRAM')
     reader.add_argument('--part', choices=PARTS)
     reader.add_argument('--most', type=int, default=400)
     reader.add_argument('--selftest', action='store_true')
     options = reader.parse_args(words)
     if options.most < 0:
         reader.error('--most is a number from 0 on')
-    program, judge = os.path.abspath(options.against), Judge()
-    trial = Trial(program, scenes(program, options.selftest), judge, options.most)
+    trial = trial_of(options)
     for name, part in PARTS.items():
         if options.part in (None, name):
             part(trial)
-    judge.print_counts()
-    return 1 if judge.wrong else 0
+    trial.judge.print_counts()
+    return 1 if trial.judge.wrong else 0
 
 
 if __name__ == '__main__':

@@ -14,7 +14,7 @@ import sys
 ROOT = os.path.dirname(os.path.dirname(os.path.abspath(__file__)))
 OF_A_CRATE = re.compile(r'[a-z_]+/(?:src|specs|proofs|must-fail)(?:/[\w+.-]+)*/?')
 OF_THE_REPOSITORY = re.compile(r'(?:crates/[a-z_]+|checks|docs|examples|bench)(?:/[\w+.-]+)+/?')
-MADE = ('crates/flowc/out',)        # what `rt ci` makes
+MADE = ('crates/flowc/out', 'crates/chart_to_c/out')        # what `rt ci` makes
 
 
 def content(path):

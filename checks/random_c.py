@@ -86,15 +86,23 @@ def constant_text(number, kind):
     return '%d%s' % (number, 'u' if kind == 'unsigned' and number >= 0 else '')
 
 
+def constant(number, type_):
+    """A constant: without a cast where it has none in the C of a chart."""
+    plain = {'int32_t': '%d', 'uint32_t': '%du', 'int64_t': 'INT64_C(%d)', 'uint64_t': 'UINT64_C(%d)'}.get(c.NAMES[type_])
+    if plain and number >= 0 and c.holds(type_, number):
+        return plain % number
+    return '(%s)%s' % (c.NAMES[type_], constant_text(number, type_.kind))
+
+
 def operand(e):
     text = expression(e)
-    return text if isinstance(e, (c.Constant, c.Local, c.Field, c.Element)) else '(%s)' % text
+    return text if isinstance(e, (c.Constant, c.Local, c.Field, c.Element, c.Cast)) else '(%s)' % text
 
 
 def expression(e):
     """The text of an expression."""
     if isinstance(e, c.Constant):
-        return '(%s)%s' % (c.NAMES[e.type], constant_text(e.number, e.type.kind))
+        return constant(e.number, e.type)
     if isinstance(e, c.Local):
         return e.name
     if isinstance(e, c.Field):
@@ -102,12 +110,19 @@ def expression(e):
     if isinstance(e, c.Element):
         return 'm->%s[%s]' % (e.array, expression(e.index))
     if isinstance(e, c.Cast):
-        return '(%s)%s' % (c.NAMES[e.type], operand(e.part))
+        part = '(%s)' % expression(e.part) if isinstance(e.part, c.Constant) else operand(e.part)
+        return '(%s)%s' % (c.NAMES[e.type], part)
     if isinstance(e, c.Choice):
-        return '%s ? (%s)%s : (%s)%s' % (operand(e.test), c.NAMES[e.type], operand(e.yes), c.NAMES[e.type], operand(e.no))
+        return '%s ? %s : %s' % (operand(e.test), operand(e.yes), operand(e.no))
     if isinstance(e, c.Binary):
-        return '%s %s %s' % (operand(e.left), e.mark, operand(e.right))
+        is_chain = e.mark in ('&&', '||') and isinstance(e.left, c.Binary) and e.left.mark == e.mark
+        return '%s %s %s' % ((expression if is_chain else operand)(e.left), e.mark, operand(e.right))
     return ('-' if isinstance(e, c.Negative) else '!') + operand(e.part)
+
+
+def choice(test, type_, yes, no):
+    """A choice between two expressions, each of which is brought to the type."""
+    return c.Choice(test, type_, c.Cast(type_, yes), c.Cast(type_, no))
 
 
 def call_text(s):
@@ -147,17 +162,17 @@ def lines_of(statements, indent):
 
 
 def head_of(function, struct):
-    parameters = ['struct %s *m' % struct] * function.with_m
+    parameters = ['%s *m' % struct] * function.with_m
     parameters += ['%s %s' % (c.NAMES[function.locals[name]], name) for name in function.parameters]
     return 'static %s %s(%s)' % (c.NAMES[function.type], function.name, ', '.join(parameters))
 
 
 def declarations(file, struct):
     """The struct and the prototypes. The last member isn't an array, since a sanitizer doesn't look at the end of that."""
-    yield 'struct %s {' % struct
+    yield 'typedef struct {'
     yield from ('    %s %s[%d];' % (c.NAMES[type_], name, count) for name, (type_, count) in file.arrays.items())
     yield from ('    %s %s;' % (c.NAMES[type_], name) for name, type_ in file.fields.items())
-    yield '};'
+    yield '} %s;' % struct
     yield from (head_of(function, struct) + ';' for function in file.functions.values())
 
 
@@ -198,8 +213,8 @@ class Random(random.Random):
         return self.random() < share
 
     def type(self, wide):
-        names = [name for name in c.TYPES if name != 'flow_wide']
-        return c.TYPES['flow_wide' if wide and self.chance(0.2) else self.choice(names)]
+        names = [name for name in c.TYPES if name not in c.WIDE]
+        return c.TYPES['flow_int128' if wide and self.chance(0.2) else self.choice(names)]
 
     def number(self, type_):
         """A number of a type: a small one, one near its ends, or any."""
@@ -260,7 +275,7 @@ class Maker:
             return c.Not(self.expression(depth - 1))
         if way < 0.41:
             type_ = self.rng.type(self.wide)
-            return c.Choice(self.expression(depth - 1), type_, self.expression(depth - 1), self.expression(depth - 1))
+            return choice(self.expression(depth - 1), type_, self.expression(depth - 1), self.expression(depth - 1))
         return self.binary(self.rng.choice(WAYS), depth)
 
     def binary(self, mark, depth):
@@ -311,7 +326,7 @@ class FileMaker:
 
     def __init__(self, rng, number):
         self.rng, self.number, self.wide = rng, number, rng.chance(0.3)
-        self.file = c.File({}, {}, {})
+        self.file = c.File({}, {}, {}, {})
         self.maker = Maker(rng, self.file, self.wide)
         self.struct = 's%d' % number
         self.function = None
@@ -331,8 +346,8 @@ class FileMaker:
 
     def value_function(self, name):
         """A function that returns the value of an expression, in a type that holds most of them."""
-        type_ = c.TYPES['flow_wide' if self.wide else self.rng.choice(['int64_t', 'int64_t', 'uint64_t'])]
-        self.function = c.Function([], type_, name, True, [], {'x0': type_}, [])
+        type_ = c.TYPES['flow_int128' if self.wide else self.rng.choice(['int64_t', 'int64_t', 'uint64_t'])]
+        self.function = c.Function([], type_, name, True, [], {'x0': type_}, [], False)
         self.maker.names = []
         environments = [Environment(self.struct_of(0), c.Frame(self.function, FUEL - 1)) for _ in range(2)]
         others = [each for each in self.file.functions if each.startswith('v')]
@@ -370,8 +385,8 @@ class FileMaker:
         quotient = c.Binary('/', a, b)
         test = c.Binary('&&', c.Binary('!=', c.Binary('%', a, b), zero),
                         c.Binary('!=', c.Binary('<', a, zero), c.Binary('<', b, zero)))
-        e = c.Choice(test, type_, c.Binary('-', quotient, c.Constant(type_, 1)), quotient)
-        self.file.functions[name] = c.Function([], type_, name, False, ['a', 'b'], {'a': type_, 'b': type_}, [c.Return(1, e)])
+        e = choice(test, type_, c.Binary('-', quotient, c.Constant(type_, 1)), quotient)
+        self.file.functions[name] = c.Function([], type_, name, False, ['a', 'b'], {'a': type_, 'b': type_}, [c.Return(1, e)], False)
 
     def struct_of(self, share):
         """A run whose members have values, but for a share of them."""
@@ -384,7 +399,7 @@ class FileMaker:
 
     def make_function(self, name):
         locals_ = {'x%d' % each: self.rng.type(self.wide) for each in range(self.rng.randint(0, 3))}
-        self.function = c.Function([], self.rng.type(self.wide), name, True, list(locals_), locals_, [])
+        self.function = c.Function([], self.rng.type(self.wide), name, True, list(locals_), locals_, [], False)
         self.maker.names = list(locals_)
         for each in range(len(locals_), len(locals_) + self.rng.randint(1, 3)):
             locals_['x%d' % each] = self.rng.type(self.wide)
@@ -516,7 +531,7 @@ class FileMaker:
 
 def stored_c(run, number, opaque):
     """The lines of C that give a struct the values of a run."""
-    yield 'struct s%d m;' % number
+    yield 's%d m;' % number
     yield 'memset(&m, 0xa5, sizeof m);'
     for name, value in run.fields.items():
         if value is not None:
@@ -574,7 +589,7 @@ def called_c(rng, number, run, opaque, met):
 
 
 def opening(wide):
-    return c.OPENING + ([c.WIDE_LINE] if wide else [])
+    return c.OPENING + (list(c.WIDE.values()) if wide else [])
 
 
 def wrong_text(made, text):
@@ -660,7 +675,7 @@ class Comparison:
         for number in range(EXPRESSIONS):
             run, e, rule = wrong_expression(rng)
             struct = 's%d' % number
-            function = c.Function([], c.BOOL, 'w%d' % number, True, [], {}, [c.Return(1, e)])
+            function = c.Function([], c.BOOL, 'w%d' % number, True, [], {}, [c.Return(1, e)], False)
             run.file.functions[function.name] = function
             texts += file_lines(run.file, struct)
             drivers += ['static void case%d(void) {' % number, *stored_c(run, number, True), '(void)w%d(&m);' % number, '}']

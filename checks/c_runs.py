@@ -1,0 +1,150 @@
+#!/usr/bin/env python3
+"""Runs the C that a built `chart_to_c` writes of charts by the words of docs/C_SUBSET.md alone, and compares the traces.
+
+    python3 checks/c_runs.py --against CHART_TO_C CHART ..
+    python3 checks/c_runs.py --against CHART_TO_C --random N [--seed S] [--first M] [--keep FOLDER]
+
+c_subset.py reads the header and the source and runs them. It refuses what isn't in the grammar of the page, and stops at what has no
+rule there. The event file is read and the trace is written by chart_rules.py, with the states and the values of the struct. The first
+form runs charts over the event files that stand beside them, and compares with the traces there. The second form makes N random
+charts with event files and bounds as random_compiled.py does, without the changes that a chart would be refused for, and compares with
+what chart_rules.py writes of the chart; a chart and its events follow from the seed and its number.
+
+The program ends with status 1 where anything differs and where there is no chart. The files of a random chart that differs are kept in
+FOLDER, which is `differences` where nothing is said. A chart takes about half a second."""
+import os
+import random
+import sys
+import tempfile
+from fractions import Fraction
+
+import c_subset
+import chart_rules as rules
+import random_charts
+from c_subset import ENDINGS, Run, ending
+from chart_c import Failed, Kept, field_of, make_c, state_name
+from chart_check import check_chart
+from programs import Ended, differences, keep_files, parser
+from random_compiled import USUAL_BOUNDS, bounds_of
+
+FUEL = 100000
+FAULTS = {1: 'depth', 2: 'steps', 3: 'overflow', 4: 'zero'}
+
+
+class Machine:
+    """The C of a chart and its struct, in the form of the rules of chart_rules.py: what it shows is the world."""
+
+    def __init__(self, chart, file):
+        self.chart, self.name, self.file, self.run = chart, chart.root.name, file, Run(file)
+        self.active, self.values, self.outputs = set(), {}, []
+
+    def met(self, case):
+        """Counts nothing."""
+
+    def start(self):
+        return self.result('start')
+
+    def react(self, event, inputs):
+        """One event, which is None for a tick, with the values that are given to inputs."""
+        for datum, value in inputs.items():
+            mantissa = int(value) if datum.scale is None else int(value * 2 ** datum.scale.fraction)
+            self.run.store(field_of(datum), None, mantissa)
+        name = '%s_TICK' % self.name if event is None else '%s_E_%s' % (self.name, event.name)
+        return self.result('react', self.file.constants[name])
+
+    def result(self, call, *arguments):
+        """Calls the start or a reaction, takes what the struct shows, and gives the result of the trace."""
+        is_ok = self.called(call, *arguments)
+        self.active = {state for state in self.chart.states if state.parent and self.called('in_' + state_name(state))}
+        self.values = {datum: self.value(datum) for datum in self.chart.data}
+        self.outputs = [self.chart.events[each] for each in self.run.elements['out'][:self.run.fields['outs']]]
+        if is_ok:
+            return 'ok'
+        fault = FAULTS[self.run.fields['fault']]
+        return 'overflow ' + self.chart.data[self.run.fields['fault_datum']].name if fault == 'overflow' else fault
+
+    def called(self, call, *arguments):
+        return self.run.called('%s_%s' % (self.name, call), list(arguments), FUEL).number
+
+    def value(self, datum):
+        mantissa = self.run.fields[field_of(datum)]
+        return bool(mantissa) if datum.scale is None else Fraction(mantissa, 2 ** datum.scale.fraction)
+
+
+def run_c(program, text, events, options=()):
+    """The answer of the C of a chart text to an event file, as that of `flowc rules`."""
+    with tempfile.TemporaryDirectory() as folder:
+        source, _ = make_c(program, text, folder, options)
+        try:
+            file = c_subset.read_file(os.path.join(folder, source))
+            return rules.run_events(Machine(check_chart(text), file), events.encode('latin-1'))
+        except ENDINGS as wrong:
+            return Ended('', ending(wrong) + '\n', None)
+
+
+def compared(name, program, text, events, expected, options=()):
+    """Lines that tell what is wrong of a chart."""
+    try:
+        return differences(name, expected, run_c(program, text, events, options))
+    except Failed as failed:
+        return ['%s: %s' % (name, failed)]
+
+
+def random_case(seed, number):
+    """An accepted random chart, with an event file and bounds; None where the chart isn't accepted."""
+    choices = random.Random('c %s %d' % (seed, number))
+    made = random_charts.Maker(choices, True).chart()
+    text = random_charts.Writer(choices).chart(made)
+    try:
+        chart = check_chart(text)
+    except rules.Fault:
+        return None
+    return text, random_charts.event_file(choices, chart), bounds_of(choices)
+
+
+def words_for(bounds):
+    """The options of bounds, and none where they are the usual ones."""
+    return [] if bounds == USUAL_BOUNDS else ['--depth', str(bounds[0]), '--steps', str(bounds[1])]
+
+
+def compare_random(options):
+    """Compares random charts, and gives how many there were and the lines that tell what is wrong."""
+    seen, wrong, number = 0, [], options.first
+    while seen < options.random:
+        case = random_case(options.seed, number)
+        if case is not None:
+            seen += 1
+            text, events, bounds = case
+            expected = rules.run_rules(text, events.encode('latin-1'), *bounds)
+            lines = compared('chart %d' % number, options.against, text, events, expected, words_for(bounds))
+            if lines:
+                contents = {'chart': text.encode('latin-1'), 'events': events.encode('latin-1')}
+                keep_files(options.keep, 'c %s %d %d %d' % (options.seed, number, *bounds), contents)
+                print('\n'.join(lines), flush=True)
+            wrong += lines
+        number += 1
+    return seen, wrong
+
+
+def main(words):
+    """Does what the words ask for, and gives the status."""
+    reader = parser(__doc__)
+    reader.add_argument('--against', metavar='CHART_TO_C', required=True)
+    reader.add_argument('--random', metavar='N', type=int, default=0)
+    reader.add_argument('--seed', default='1')
+    reader.add_argument('--first', metavar='M', type=int, default=0)
+    reader.add_argument('--keep', metavar='FOLDER', default='differences')
+    reader.add_argument('charts', metavar='CHART', nargs='*')
+    options = reader.parse_args(words)
+    options.against = os.path.abspath(options.against)
+    seen, wrong = compare_random(options)
+    for case in map(Kept, options.charts):
+        lines = compared(case.name, options.against, *case.texts())
+        print(''.join(line + '\n' for line in lines), end='', flush=True)
+        seen, wrong = seen + 1, wrong + lines
+    print('%d charts%s' % (seen, '' if wrong or not seen else ', with the traces that are expected'))
+    return 1 if wrong or not seen else 0
+
+
+if __name__ == '__main__':
+    sys.exit(rules.with_deep_calls(lambda: main(sys.argv[1:])))

@@ -58,7 +58,6 @@ WIDE = {'flow_int128': '__extension__ typedef __int128 flow_int128;',
 # the lines of a header and a source that begin with `#`
 INCLUDE = re.compile('#include <(limits|stdbool|stdint)[.]h>')
 OWN_HEADER = re.compile('#include "([A-Za-z0-9_]+)[.]h"')
-DEFINITION = re.compile('#define ([A-Za-z][A-Za-z0-9_]*) (0|[1-9][0-9]*)u')
 GUARD = re.compile('#(?:ifndef|define) ([A-Za-z][A-Za-z0-9_]*_H)')
 INT_TEST = ['#if UINT_MAX != 4294967295u', '#error "int must have 32 bits"', '#endif']
 
@@ -228,7 +227,7 @@ class Directives:
     """What the lines that begin with `#` say."""
 
     def __init__(self, lines, int_bits):
-        self.included, self.constants, self.int_bits, self.open = set(), {}, int_bits, None
+        self.included, self.int_bits, self.open = set(), int_bits, None
         lines, line = list(lines), None
         while lines:
             line = lines.pop(0)
@@ -256,9 +255,6 @@ class Directives:
             pass
         elif text == '#endif' and self.open:
             self.open = None
-        elif DEFINITION.fullmatch(text) and DEFINITION.fullmatch(text)[1] not in self.constants:
-            name, number = DEFINITION.fullmatch(text).groups()
-            self.constants[name] = int(number)
         else:
             raise Refused(line, 'no line is `%s`' % text)
 
@@ -272,7 +268,7 @@ class Reader:
         last = words[-1].line if words else 1
         self.tokens = [each for each in words if each.kind != 'directive'] + [Token('end', 'the end', last)]
         self.place, self.widths, self.included = 0, Widths(int_bits), directives.included
-        self.types, self.file, self.struct = {}, File({}, {}, {}, directives.constants), None
+        self.types, self.file, self.struct = {}, File({}, {}, {}, {}), None
         self.prototypes, self.locals, self.with_m = {}, {}, False
 
     # -- single words
@@ -341,6 +337,7 @@ class Reader:
             self.refuse('a file includes stdint.h')
         self.types = set(TYPES) - set(WIDE) - (set() if 'stdbool' in self.included else {'bool'})
         self.wide_types()
+        self.constants()
         self.members()
         while self.tokens[self.place].kind != 'end':
             if self.take('static inline'):
@@ -353,6 +350,17 @@ class Reader:
             if name not in self.file.functions:
                 self.refuse('there is no function `%s`' % name)
         return self.file
+
+    def constants(self):
+        """The numbers that the header names, which are constants of type int."""
+        while self.take('enum {'):
+            name = self.new_name(self.file.constants, 'number')
+            self.want('=')
+            text = self.next('number', 'a number')
+            if text.endswith('u') or int(text) >= 2 ** 31:
+                self.refuse('`%s` is no number of type int' % text)
+            self.file.constants[name] = int(text)
+            self.want('} ;')
 
     def wide_types(self):
         """The lines that name the types of 128 bits."""

@@ -36,20 +36,24 @@ usage_text chart =
     ++ (codes "   stands beside it. Local data (loc_..) may be read. All other fields belong to the\n"
     ++ codes "   chart alone. */\n")))))
 
--- the header is read once, and int has 32 bits
+-- the header is read once; the only name that is replaced begins as no other name does
+unfoldable pub guard_text : List ℕ → List ℕ
+guard_text chart =
+    named_text (codes "#ifndef FLOW_") chart (codes "_H\n") ++ named_text (codes "#define FLOW_") chart (codes "_H\n\n")
+
+-- what the header needs, and that int has 32 bits
 unfoldable pub needs_text : List ℕ → List ℕ
 needs_text chart =
-    named_text (codes "#ifndef ") chart (codes "_H\n")
-    ++ (named_text (codes "#define ") chart (codes "_H\n\n")
+    guard_text chart
     ++ (codes "#include <limits.h>\n#include <stdbool.h>\n#include <stdint.h>\n\n"
-    ++ codes "#if UINT_MAX != 4294967295u\n#error \"int must have 32 bits\"\n#endif\n\n"))
+    ++ codes "#if UINT_MAX != 4294967295u\n#error \"int must have 32 bits\"\n#endif\n\n")
 
 -- ---- numbers
 
--- #define CHARTprefixNAME NUMBERu
+-- enum { CHARTprefixNAME = NUMBER }; which no field of the struct can meet, since fields have names of their own (6.2.3 p1)
 unfoldable pub define_line : List ℕ → List ℕ → List ℕ → ℕ → List ℕ
 define_line chart prefix name number =
-    codes "#define " ++ (chart ++ (prefix ++ (name ++ (32 ∷ (decimal number ++ codes "u\n")))))
+    codes "enum { " ++ (chart ++ (prefix ++ (name ++ (codes " = " ++ (decimal number ++ codes " };\n")))))
 
 -- the number of an event, but for local ones
 abbrev pub event_line : List ℕ → ℕ → List ℕ → EventKind → List ℕ

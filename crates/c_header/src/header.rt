@@ -79,14 +79,23 @@ fn print_usage(out: &mut String, chart: &str) -> Result<(), AllocError>
     out.push_str("   chart alone. */\n")
 }
 
-/// Appends what the header needs, and that it is read once.
+/// Appends the lines by which the header is read once.
+#[tactic(auto, unfolding(crate::specs::Header::guard_text))]
+fn print_guard(out: &mut String, chart: &str) -> Result<(), AllocError>
+    ensures { OnOk result
+        (string_bytes out.new ≡ string_bytes out.old ++ spec.guard_text chart.now) }
+{
+    print_named(out, "#ifndef FLOW_", chart, "_H\n")?;
+    print_named(out, "#define FLOW_", chart, "_H\n\n")
+}
+
+/// Appends what the header needs, after the lines by which it is read once.
 #[tactic(auto, unfolding(crate::specs::Header::needs_text))]
 fn print_needs(out: &mut String, chart: &str) -> Result<(), AllocError>
     ensures { OnOk result
         (string_bytes out.new ≡ string_bytes out.old ++ spec.needs_text chart.now) }
 {
-    print_named(out, "#ifndef ", chart, "_H\n")?;
-    print_named(out, "#define ", chart, "_H\n\n")?;
+    print_guard(out, chart)?;
     out.push_str("#include <limits.h>\n#include <stdbool.h>\n#include <stdint.h>\n\n")?;
     out.push_str("#if UINT_MAX != 4294967295u\n#error \"int must have 32 bits\"\n#endif\n\n")
 }

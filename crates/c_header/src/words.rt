@@ -32,8 +32,8 @@ pub(crate) fn print_define(
     ensures { OnOk result (string_bytes out.new
         ≡ string_bytes out.old ++ spec.define_line chart.now prefix.now name.now number) }
 {
-    print_named(out, "#define ", chart, prefix)?;
+    print_named(out, "enum { ", chart, prefix)?;
     out.push_str(name)?;
-    print_number(out, " ", number)?;
-    out.push_str("u\n")
+    print_number(out, " = ", number)?;
+    out.push_str(" };\n")
 }

@@ -1,4 +1,5 @@
-pub mod MarkLemmas
+pub mod CallLemmas
+pub mod ReachLemmas
 pub mod AskLemmas
 pub mod FunctionLemmas
 pub mod PassLemmas
@@ -7,3 +8,4 @@ pub mod PrintLemmas
 pub mod SourceLemmas
 pub mod CodeLemmas
 pub mod OneCode
+pub mod OneText

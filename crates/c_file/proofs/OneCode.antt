@@ -14,7 +14,7 @@ use Rattle.code_shrink.specs.Origins.{kept_from}
 use Rattle.c_file.specs.Files.{IsCodeFor}
 
 -- two truth values, each of which gives the other
-same_truth : (x y : Bool) → (x ≡ true → y ≡ true) → (y ≡ true → x ≡ true) → x ≡ y
+pub same_truth : (x y : Bool) → (x ≡ true → y ≡ true) → (y ≡ true → x ≡ true) → x ≡ y
 same_truth true y f g = sym (f refl)
 same_truth false true f g = g refl
 same_truth false false f g = refl

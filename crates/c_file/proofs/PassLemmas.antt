@@ -1,80 +1,103 @@
 -- The first pass over the functions of a file.
-use Rattle.std.proofs.Common.{◌≡◌, ◌+◌, ◌<◌, ◌≤◌, ℕ, ◌||◌, Bool, false, List, [], ◌∷◌, ◌++◌, length, map}
-use Rattle.std.proofs.Common.{drop, replicate}
-use Rattle.std.proofs.Common.{slice_get, Some, get_or, refl, sym, ap, ◌∙◌, subst, append_assoc, arith}
-use Rattle.std.specs.List.{list_any}
-use Rattle.std.proofs.lemmas.List.{at_drop_more, at_drop_all, append-nil, length-replicate, get_or-replicate}
+use Rattle.std.proofs.Common.{◌≡◌, ◌+◌, ◌<◌, ◌≤◌, ℕ, Bool, false, List, [], ◌∷◌, ◌++◌, length, map, drop}
+use Rattle.std.proofs.Common.{slice_get, slice_index_or, Some, get_or, refl, sym, ap, ◌∙◌, subst, arith, below_more}
+use Rattle.std.proofs.Common.{length-append}
+use Rattle.std.proofs.lemmas.List.{at_drop_more, get_or_append_left, get_or_push}
 use Rattle.std.proofs.lemmas.Option.{slice_get-get_or}
 use Rattle.c_subset.specs.Trees.{Function}
 use Rattle.c_subset.specs.Lines.{lines_of}
+use Rattle.c_text.specs.Labels.{Labels}
+use Rattle.c_file.specs.declared.calls.FunctionCall.{FunctionCall}
 use Rattle.c_file.specs.declared.passes.Uses.{Uses}
-use Rattle.c_file.specs.Uses.{line_calls, is_called, is_wide}
-use Rattle.c_file.specs.Made.{HasUses, AreUses}
-use Rattle.c_file.proofs.MarkLemmas.{Marking, marking_starts, marking_goes_on, marking_ends}
+use Rattle.c_file.specs.Calls.{calls_in, calls_from}
+use Rattle.c_file.specs.Reached.{outside_of, AreOutside, AreReached, Closes}
+use Rattle.c_file.specs.Uses.{is_wide}
+use Rattle.c_file.specs.Made.{HasUses, AreCalls}
+use Rattle.c_file.proofs.CallLemmas.{more_added, all_added}
 use Rattle.c_file.proofs.FunctionLemmas.{no_function}
+use Rattle.c_file.proofs.ReachLemmas.{reached_ends}
 
--- what functions call, the first and the others call
-called_next : (g : Function) (gs : List Function) (f : ℕ)
-    → is_called (g ∷ gs) f ≡ (list_any (line_calls f) (lines_of g.body) || is_called gs f)
-unfolding is_called
-called_next g gs f = refl
+-- ---- flags of functions that are called from outside
 
--- no functions call none
-none_called : (f : ℕ) → is_called [] f ≡ false
-unfolding is_called
-none_called f = refl
-
--- what is known of the functions before a number, with what is to come, is what is known of all
-pub record Passing (functions : List Function) (count number : ℕ) (uses : Uses) : Type 0 where
-  pub called : Marking (replicate count false) uses.called.items (is_called (drop number functions))
-      (is_called functions)
-  pub wide : uses.wide.items ++ map is_wide (drop number functions) ≡ map is_wide functions
-
-pub passing_starts : (functions : List Function) (count : ℕ) (uses : Uses)
-    → uses.called.items ≡ replicate count false → uses.wide.items ≡ [] → Passing functions count 0 uses
-passing_starts functions count uses called wide = record {
-  called =
-      subst (λ (now : List Bool). Marking (replicate count false) now (is_called functions) (is_called functions))
-      (sym called) (marking_starts (replicate count false) (is_called functions));
-  wide = ap (λ (now : List Bool). now ++ map is_wide functions) wide;
+-- before the first function
+pub outside_none : (L : Labels) (flags : List Bool) → flags ≡ [] → AreOutside L 0 flags
+outside_none L flags none = record {
+  size = ap length none;
+  each = λ f lt. absurd (omega (arith, lt));
 }
 
-pub passing_goes_on : (functions : List Function) (count number : ℕ) (old new : Uses)
-    → number < length functions → Passing functions count number old
-    → ((g : Function) → slice_get functions number ≡ Some g → HasUses g old new)
-    → Passing functions count (number + 1) new
-passing_goes_on functions count number old new within so_far adds =
+-- one function more
+pub outside_more : (L : Labels) (n : ℕ) (flags new : List Bool) → AreOutside L n flags
+    → new ≡ flags ++ outside_of L n ∷ [] → AreOutside L (n + 1) new
+outside_more L n flags new so_far is = record {
+  size =
+      (let last = length-append flags (outside_of L n ∷ []) in
+      omega (arith, ap length is, last, so_far.size));
+  each =
+      below_more (λ (f : ℕ). slice_index_or new f false ≡ outside_of L f) n
+      (λ f lt.
+      ap (λ (fs : List Bool). slice_index_or fs f false) is
+      ∙ get_or_append_left flags (outside_of L n ∷ []) false f (omega (arith, lt, so_far.size)) ∙ so_far.each f lt)
+      (ap (λ (fs : List Bool). slice_index_or fs n false) is
+      ∙ get_or_push flags (outside_of L n) false n so_far.size);
+}
+
+-- after the last function
+pub outside_ends : (L : Labels) (n count : ℕ) (flags : List Bool) → n ≡ count → AreOutside L n flags
+    → AreOutside L count flags
+outside_ends L n count flags all so_far = subst (λ (m : ℕ). AreOutside L m flags) all so_far
+
+-- ---- calls, and types of 128 bits
+
+-- what is known of the functions before a number, with what is to come, is what is known of all
+pub record Passing (functions : List Function) (number : ℕ) (start now : Uses) : Type 0 where
+  pub reached : now.reached.items ≡ start.reached.items
+  pub calls : now.calls.items ++ calls_from number (drop number functions)
+      ≡ start.calls.items ++ calls_from 0 functions
+  pub wide : now.wide.items ++ map is_wide (drop number functions) ≡ start.wide.items ++ map is_wide functions
+
+pub passing_starts : (functions : List Function) (uses : Uses) → Passing functions 0 uses uses
+passing_starts functions uses = record { reached = refl; calls = refl; wide = refl }
+
+pub passing_goes_on : (functions : List Function) (number : ℕ) (start old new : Uses)
+    → number < length functions → Passing functions number start old
+    → ((g : Function) → slice_get functions number ≡ Some g → HasUses number g old new)
+    → Passing functions (number + 1) start new
+passing_goes_on functions number start old new within so_far adds =
     let g = get_or functions number no_function in
     let has = adds g (slice_get-get_or functions number no_function within) in
     record {
-      called =
-          marking_goes_on _ _ _ _ _ _ _ so_far.called has.called
-          (λ f. at_drop_more (λ gs. is_called gs f) functions number no_function within
-          ∙ called_next g (drop (number + 1) functions) f);
+      reached = has.reached ∙ so_far.reached;
+      calls =
+          more_added old.calls.items (calls_in number (lines_of g.body))
+          (calls_from (number + 1) (drop (number + 1) functions)) (calls_from number (drop number functions)) _ _
+          (at_drop_more (calls_from number) functions number no_function within) has.calls so_far.calls;
       wide =
-          ap (λ (now : List Bool). now ++ map is_wide (drop (number + 1) functions)) has.wide
-          ∙ append_assoc old.wide.items (is_wide g ∷ []) (map is_wide (drop (number + 1) functions))
-          ∙ ap (λ (rest : List Bool). old.wide.items ++ rest)
-          (sym (at_drop_more (λ gs. map is_wide gs) functions number no_function within))
-          ∙ so_far.wide;
+          more_added old.wide.items (is_wide g ∷ []) (map is_wide (drop (number + 1) functions))
+          (map is_wide (drop number functions)) _ _
+          (at_drop_more (λ gs. map is_wide gs) functions number no_function within) has.wide so_far.wide;
     }
 
-pub passing_ends : (functions : List Function) (count number : ℕ) (uses : Uses)
-    → length functions ≤ number → count ≡ length functions → Passing functions count number uses
-    → AreUses functions uses
-passing_ends functions count number uses past all so_far =
-    let marks =
-    marking_ends _ _ _ _ so_far.called
-    (λ f. at_drop_all (λ gs. is_called gs f) functions number past ∙ none_called f) in
-    record {
-      size = marks.size ∙ length-replicate count false ∙ all;
-      called = λ f within.
-          marks.each f (omega (arith, within, all, length-replicate count false))
-          ∙ ap (λ (b : Bool). b || is_called functions f)
-          (get_or-replicate count f false false (omega (arith, within, all)));
-      wide =
-          sym (append-nil uses.wide.items)
-          ∙ ap (λ (rest : List Bool). uses.wide.items ++ rest)
-          (sym (at_drop_all (λ gs. map is_wide gs) functions number past))
-          ∙ so_far.wide;
-    }
+pub passing_ends : (functions : List Function) (number : ℕ) (start uses : Uses)
+    → length functions ≤ number → Passing functions number start uses → AreCalls functions start uses
+passing_ends functions number start uses past so_far = record {
+  reached = so_far.reached;
+  calls = all_added (calls_from number) functions number _ _ past refl so_far.calls;
+  wide = all_added (map is_wide) functions number _ _ past refl so_far.wide;
+}
+
+-- in the end it is known which functions are reached
+pub uses_reached : (L : Labels) (functions : List Function) (start all : Uses) (flags : List Bool)
+    → AreCalls functions start all → AreOutside L (length functions) start.reached.items → start.calls.items ≡ []
+    → Closes all.calls.items all.reached.items flags → AreReached L functions flags
+uses_reached L functions start all flags adds out no_calls closes =
+    reached_ends L functions all.reached.items flags
+    (subst (λ (fs : List Bool). AreOutside L (length functions) fs) (sym adds.reached) out)
+    (subst (λ (cs : List FunctionCall). Closes cs all.reached.items flags)
+    (adds.calls ∙ ap (λ (cs : List FunctionCall). cs ++ calls_from 0 functions) no_calls) closes)
+
+-- and which name a type of 128 bits
+pub uses_wide : (functions : List Function) (start all : Uses) → AreCalls functions start all → start.wide.items ≡ []
+    → all.wide.items ≡ map is_wide functions
+uses_wide functions start all adds no_wide =
+    adds.wide ∙ ap (λ (ws : List Bool). ws ++ map is_wide functions) no_wide

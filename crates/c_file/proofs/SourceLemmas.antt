@@ -1,5 +1,5 @@
 -- The text of a source is that for the code of a chart.
-use Rattle.std.proofs.Common.{◌≡◌, ℕ, List, length, ap, ◌∙◌}
+use Rattle.std.proofs.Common.{◌≡◌, ℕ, List, length, ap, ◌∙◌, subst}
 use Rattle.flow_base.specs.declared.bounds.Bounds.{Bounds}
 use Rattle.active_config.specs.Tree.{Tree}
 use Rattle.actions.specs.Names.{Names}
@@ -14,8 +14,8 @@ use Rattle.c_text.specs.Labels.{Labels, labels_for}
 use Rattle.c_expression_writer.specs.declared.file_shape.FileShape.{FileShape}
 use Rattle.c_expression_writer.specs.FileShapes.{shape_seen}
 use Rattle.c_file.specs.Comments.{comments_for}
-use Rattle.c_file.specs.Source.{source_text}
-use Rattle.c_file.specs.Files.{chart_name, source_for}
+use Rattle.c_file.specs.Source.{IsSourceText}
+use Rattle.c_file.specs.Files.{chart_name, IsSourceFor}
 
 module _ (c : Chart) (b : Bounds) (origins : List ℕ) (k : Code) (shape : FileShape)
     (shape_is : shape_seen shape ≡ shape_of k b) where
@@ -34,13 +34,12 @@ module _ (c : Chart) (b : Bounds) (origins : List ℕ) (k : Code) (shape : FileS
   pub source_is : (text : List ℕ) (labels : Labels) (said : List (List ℕ)) (name : List ℕ) (names : Names) (t : Tree)
       → labels ≡ labels_for name names t shape.procs → name ≡ chart_name c → names ≡ c.names → t ≡ c.tree
       → said ≡ comments_for c.tree c.names (parts_of c) origins
-      → text ≡ source_text labels said (file_of k shape.bounds (plans_of k)).functions
-      → text ≡ source_for c b k origins
+      → IsSourceText labels said (file_of k shape.bounds (plans_of k)).functions text
+      → IsSourceFor c b k origins text
   source_is text labels said name names t are name_is names_is tree_is said_is is =
-      is
-      ∙ ap (λ (L : Labels). source_text L said (file_of k shape.bounds (plans_of k)).functions)
-      (labels_are labels name names t are name_is names_is tree_is)
-      ∙ ap (λ (xs : List (List ℕ)). source_text (labels_for (chart_name c) c.names c.tree
-      (length k.procedures.procs)) xs (file_of k shape.bounds (plans_of k)).functions) said_is
-      ∙ ap (λ (K : Shape). source_text (labels_for (chart_name c) c.names c.tree (length k.procedures.procs))
-      (comments_for c.tree c.names (parts_of c) origins) (file_of k K.bounds (plans_of k)).functions) shape_is
+      subst (λ (K : Shape). IsSourceText (labels_for (chart_name c) c.names c.tree (length k.procedures.procs))
+      (comments_for c.tree c.names (parts_of c) origins) (file_of k K.bounds (plans_of k)).functions text) shape_is
+      (subst (λ (xs : List (List ℕ)). IsSourceText (labels_for (chart_name c) c.names c.tree
+      (length k.procedures.procs)) xs (file_of k shape.bounds (plans_of k)).functions text) said_is
+      (subst (λ (L : Labels). IsSourceText L said (file_of k shape.bounds (plans_of k)).functions text)
+      (labels_are labels name names t are name_is names_is tree_is) is))

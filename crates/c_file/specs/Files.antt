@@ -14,7 +14,7 @@ use Rattle.c_runs.specs.Claims.{RunsAsRules}
 use Rattle.c_text.specs.Labels.{labels_for}
 use Rattle.c_header.specs.Header.{header_text}
 use Rattle.c_file.specs.Comments.{comments_for}
-use Rattle.c_file.specs.Source.{source_text}
+use Rattle.c_file.specs.Source.{IsSourceText}
 
 -- the name of a chart is that of its root
 abbrev pub chart_name : Chart → List ℕ
@@ -25,11 +25,12 @@ pub record IsCodeFor (c : Chart) (k : Code) (origins : List ℕ) : Type 0 where
   pub shrunk : IsShrunk (code_of_chart c) k
   pub numbers : HadNumbers (code_of_chart c).procedures k.procedures origins
 
--- the source for code of a chart: each procedure stands under words for the part of the chart that it is of
-abbrev pub source_for : Chart → Bounds → Code → List ℕ → List ℕ
-source_for c b k origins =
-    source_text (labels_for (chart_name c) c.names c.tree (length k.procedures.procs))
-    (comments_for c.tree c.names (parts_of c) origins) (file_of k b (plans_of k)).functions
+-- The text is the source for code of a chart: the functions that are reached, each procedure under words for the part
+-- of the chart that it is of
+abbrev pub IsSourceFor : Chart → Bounds → Code → List ℕ → List ℕ → Type 0
+IsSourceFor c b k origins text =
+    IsSourceText (labels_for (chart_name c) c.names c.tree (length k.procedures.procs))
+    (comments_for c.tree c.names (parts_of c) origins) (file_of k b (plans_of k)).functions text
 
 -- The text is that of the header of a chart under these bounds: of the struct and the calls of the file of its smaller
 -- code
@@ -39,11 +40,11 @@ pub record IsHeader (c : Chart) (b : Bounds) (text : List ℕ) : Type 0 where
   pub is_code : IsCodeFor c code origins
   pub is_text : text ≡ header_text (chart_name c) (shape_of code b)
 
--- The text is that of the source of a chart under these bounds: of the functions of the file of its smaller code, which
--- runs as the rules say
+-- The text is that of the source of a chart under these bounds: of those functions of the file of its smaller code that
+-- are reached; that file runs as the rules say
 pub record IsSource (c : Chart) (b : Bounds) (text : List ℕ) : Type 0 where
   pub code : Code
   pub origins : List ℕ
   pub is_code : IsCodeFor c code origins
-  pub is_text : text ≡ source_for c b code origins
+  pub is_text : IsSourceFor c b code origins text
   pub runs : RunsAsRules c code (plans_of code)

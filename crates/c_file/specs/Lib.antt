@@ -1,5 +1,6 @@
-pub mod Marks
+pub mod Calls
 pub mod Uses
+pub mod Reached
 pub mod Source
 pub mod Comments
 pub mod Made

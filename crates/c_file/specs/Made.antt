@@ -1,19 +1,19 @@
 -- What a source is made from, and what is known of the functions of its file.
-use Rattle.std.specs.Prelude.{◌≡◌, ◌<◌, ℕ, false, List, [], ◌∷◌, ◌++◌, length, map, slice_index_or}
-use Rattle.std.specs.List.{list_any}
+use Rattle.std.specs.Prelude.{◌≡◌, ℕ, List, [], ◌∷◌, ◌++◌, map}
 use Rattle.code_language.specs.Code.{code_of}
 use Rattle.c_subset.specs.Trees.{Function}
 use Rattle.c_subset.specs.Lines.{lines_of}
 use Rattle.c_procedures.specs.Writer.{plans_of}
 use Rattle.c_functions.specs.Starts.{file_of}
-use Rattle.c_text.specs.Labels.{labels_of}
+use Rattle.c_text.specs.Labels.{Labels, labels_of}
 use Rattle.c_expression_writer.specs.FileShapes.{shape_seen}
 use Rattle.c_writer.specs.Functions.{IsShapeOf}
 use Rattle.c_file.specs.declared.made.Made.{Made}
 use Rattle.c_file.specs.declared.passes.Uses.{Uses}
 use Rattle.c_file.specs.Comments.{AreOfChart}
-use Rattle.c_file.specs.Marks.{Marks}
-use Rattle.c_file.specs.Uses.{line_calls, is_called, is_wide}
+use Rattle.c_file.specs.Calls.{calls_in, calls_from}
+use Rattle.c_file.specs.Reached.{AreReached}
+use Rattle.c_file.specs.Uses.{is_wide}
 
 -- the name is that in the names of the file, the parts of procedures are those of the chart, the shape is the code's
 pub record IsMade (made : Made) : Type 0 where
@@ -25,13 +25,19 @@ pub record IsMade (made : Made) : Type 0 where
 unfoldable pub functions_of : Made → List Function
 functions_of made = (file_of (code_of made.code.now) made.shape.bounds (plans_of (code_of made.code.now))).functions
 
--- one more function: what it calls is marked, and whether it names a type of 128 bits is noted
-pub record HasUses (g : Function) (old new : Uses) : Type 0 where
-  pub called : Marks old.called.items new.called.items (λ f. list_any (line_calls f) (lines_of g.body))
+-- one more function, which has that number: its calls, and whether it names a type of 128 bits
+pub record HasUses (f : ℕ) (g : Function) (old new : Uses) : Type 0 where
+  pub reached : new.reached.items ≡ old.reached.items
+  pub calls : new.calls.items ≡ old.calls.items ++ calls_in f (lines_of g.body)
   pub wide : new.wide.items ≡ old.wide.items ++ is_wide g ∷ []
 
--- of each function, whether one of them calls it, and whether it names a type of 128 bits
-pub record AreUses (functions : List Function) (uses : Uses) : Type 0 where
-  pub size : length uses.called.items ≡ length functions
-  pub called : (f : ℕ) → f < length functions → slice_index_or uses.called.items f false ≡ is_called functions f
+-- the calls of functions, and which of them name a type of 128 bits
+pub record AreCalls (functions : List Function) (start uses : Uses) : Type 0 where
+  pub reached : uses.reached.items ≡ start.reached.items
+  pub calls : uses.calls.items ≡ start.calls.items ++ calls_from 0 functions
+  pub wide : uses.wide.items ≡ start.wide.items ++ map is_wide functions
+
+-- which functions are reached, and which name a type of 128 bits
+pub record AreUses (L : Labels) (functions : List Function) (uses : Uses) : Type 0 where
+  pub reached : AreReached L functions uses.reached.items
   pub wide : uses.wide.items ≡ map is_wide functions

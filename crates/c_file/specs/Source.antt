@@ -1,32 +1,23 @@
 -- The text of a source: what is written of a file, and in which order.
-use Rattle.std.specs.Prelude.{ℕ, ◌+◌, ◌-◌, ◌||◌, ◌&&◌, Bool, true, false, List, [], ◌∷◌, ◌++◌, length, codes}
+use Rattle.std.specs.Prelude.{◌≡◌, ℕ, ◌+◌, ◌-◌, ◌||◌, ◌&&◌, not, Bool, true, false, List, [], ◌∷◌, ◌++◌, length, codes}
 use Rattle.std.specs.Prelude.{slice_index_or, if◌then◌else◌}
 use Rattle.c_subset.specs.Trees.{Function}
 use Rattle.c_subset.specs.Lines.{lines_of}
-use Rattle.c_text.specs.declared.kinds.Kind.{Kind}
-use Rattle.c_text.specs.declared.kinds.Kind.TheVariants.{Procedure, Home, Noted, Floor, Outside}
-use Rattle.c_text.specs.Labels.{Labels, function_kind}
+use Rattle.c_text.specs.Labels.{Labels}
 use Rattle.c_text.specs.Functions.{prototype_text, function_text}
-use Rattle.c_file.specs.Uses.{is_called, is_wide}
+use Rattle.c_file.specs.Reached.{outside_of, AreReached}
+use Rattle.c_file.specs.Uses.{is_wide}
 
 -- ---- what is written
 
--- a function that is called from outside
-abbrev pub is_outside : Kind → Bool
-is_outside Procedure = false
-is_outside Home = false
-is_outside Noted = false
-is_outside (Floor w) = false
-is_outside Outside = true
-
--- a function is written where it is called from outside, or by one of the functions
-unfoldable pub is_written : Labels → List Function → ℕ → Bool
-is_written L functions f = is_outside (function_kind L f) || is_called functions f
+-- a function is written where it is reached; written has a flag for each function
+abbrev pub is_written : List Bool → ℕ → Bool
+is_written written f = slice_index_or written f false
 
 -- one of the functions that are written, from number f on, names a type of 128 bits
-abbrev pub any_wide : Labels → List Function → ℕ → List Function → Bool
-any_wide L functions f [] = false
-any_wide L functions f (g ∷ gs) = (is_written L functions f && is_wide g) || any_wide L functions (f + 1) gs
+abbrev pub any_wide : List Bool → ℕ → List Function → Bool
+any_wide written f [] = false
+any_wide written f (g ∷ gs) = (is_written written f && is_wide g) || any_wide written (f + 1) gs
 
 -- ---- comments
 
@@ -64,33 +55,38 @@ wide_text true =
 wide_text false = []
 
 -- the declaration of a function that is written; the header has those that are called from outside
-unfoldable pub declared_text : Labels → List Function → ℕ → List ℕ
-declared_text L functions f = if is_called functions f then prototype_text L f else []
+unfoldable pub declared_text : Labels → List Bool → ℕ → List ℕ
+declared_text L written f = if is_written written f && not (outside_of L f) then prototype_text L f else []
 
 -- those of the functions from number f on
-abbrev pub declarations_text : Labels → List Function → ℕ → List Function → List ℕ
-declarations_text L functions f [] = []
-declarations_text L functions f (g ∷ gs) = declared_text L functions f ++ declarations_text L functions (f + 1) gs
+abbrev pub declarations_text : Labels → List Bool → ℕ → List Function → List ℕ
+declarations_text L written f [] = []
+declarations_text L written f (g ∷ gs) = declared_text L written f ++ declarations_text L written (f + 1) gs
 
 -- a function under its comment
 abbrev pub commented_text : Labels → List (List ℕ) → ℕ → Function → List ℕ
 commented_text L said f g = comment_text said f ++ function_text L f g.result g.parameters (lines_of g.body)
 
 -- the same, where the function is written
-unfoldable pub written_text : Labels → List (List ℕ) → List Function → ℕ → Function → List ℕ
-written_text L said functions f g = if is_written L functions f then commented_text L said f g else []
+unfoldable pub written_text : Labels → List (List ℕ) → List Bool → ℕ → Function → List ℕ
+written_text L said written f g = if is_written written f then commented_text L said f g else []
 
 -- those from number f on
-abbrev pub functions_text : Labels → List (List ℕ) → List Function → ℕ → List Function → List ℕ
-functions_text L said functions f [] = []
-functions_text L said functions f (g ∷ gs) =
-    written_text L said functions f g ++ functions_text L said functions (f + 1) gs
+abbrev pub functions_text : Labels → List (List ℕ) → List Bool → ℕ → List Function → List ℕ
+functions_text L said written f [] = []
+functions_text L said written f (g ∷ gs) = written_text L said written f g ++ functions_text L said written (f + 1) gs
 
 -- what stands before the functions
-abbrev pub front_text : Labels → List Function → List ℕ
-front_text L functions =
-    opening_text L.chart ++ (wide_text (any_wide L functions 0 functions) ++ declarations_text L functions 0 functions)
+abbrev pub front_text : Labels → List Function → List Bool → List ℕ
+front_text L functions written =
+    opening_text L.chart ++ (wide_text (any_wide written 0 functions) ++ declarations_text L written 0 functions)
 
--- The source of these functions, of which those of procedures do what is said
-unfoldable pub source_text : Labels → List (List ℕ) → List Function → List ℕ
-source_text L said functions = front_text L functions ++ functions_text L said functions 0 functions
+-- the source of those of the functions that are written
+unfoldable pub source_text : Labels → List (List ℕ) → List Function → List Bool → List ℕ
+source_text L said functions written = front_text L functions written ++ functions_text L said written 0 functions
+
+-- The text is the source of the functions that are reached, of which those of procedures do what is said
+pub record IsSourceText (L : Labels) (said : List (List ℕ)) (functions : List Function) (text : List ℕ) : Type 0 where
+  pub written : List Bool
+  pub reached : AreReached L functions written
+  pub is_text : text ≡ source_text L said functions written

@@ -1,35 +1,13 @@
--- Which functions of a file are called, and which need a type of 128 bits.
-use Rattle.std.specs.Prelude.{ℕ, ◌==◌, ◌||◌, Bool, true, false, List}
+-- Which functions of a file need a type of 128 bits.
+use Rattle.std.specs.Prelude.{◌||◌, Bool, true, false}
 use Rattle.std.specs.List.{list_any}
 use Rattle.c_subset.specs.Trees.{CExpr, Const, Field, Element, Local, Cast, Minus, Bang, Calc, Divide, Bits, Compare}
 use Rattle.c_subset.specs.Trees.{Both, Either, Choose, Function}
-use Rattle.c_subset.specs.declared.trees.Case.{Case}
 use Rattle.c_subset.specs.declared.trees.Width.{Width}
 use Rattle.c_subset.specs.declared.trees.Width.TheVariants.{W8, W16, W32, W64, W128}
 use Rattle.c_subset.specs.declared.trees.CType.{CType}
 use Rattle.c_subset.specs.declared.trees.CType.TheVariants.{Signed, Unsigned, Truth}
 use Rattle.c_subset.specs.Lines.{Line, Set, Store, StoreAt, Call, Select, If, Else, While, Close, Return, lines_of}
-
--- ---- calls
-
--- a line calls the function with that number
-abbrev pub line_calls : ℕ → Line → Bool
-line_calls f (Set t k e) = false
-line_calls f (Store g e) = false
-line_calls f (StoreAt a i e) = false
-line_calls f (Call t k g args) = g == f
-line_calls f (Select t k e cases args) = list_any (λ (c : Case). c.function == f) cases
-line_calls f (If e) = false
-line_calls f Else = false
-line_calls f (While e) = false
-line_calls f Close = false
-line_calls f (Return e) = false
-
--- some line of one of the functions calls it
-unfoldable pub is_called : List Function → ℕ → Bool
-is_called functions f = list_any (λ (g : Function). list_any (line_calls f) (lines_of g.body)) functions
-
--- ---- types of 128 bits
 
 abbrev pub is_wide_width : Width → Bool
 is_wide_width W8 = false

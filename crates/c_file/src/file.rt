@@ -2,10 +2,10 @@
 ghost use Rattle.std.specs.Prelude.{◌≡◌, IfOk, string_bytes};
 ghost use Rattle.checked_chart.specs.Kept.{chart_of};
 ghost use Rattle.code_language.specs.Code.{code_of};
-ghost use Rattle.c_file.specs.Files.{IsCodeFor, IsHeader, IsSource, chart_name, source_for};
+ghost use Rattle.c_file.specs.Files.{IsCodeFor, IsHeader, IsSource, IsSourceFor, chart_name};
 
 use crate::made::Made;
-use crate::printing::print_source;
+use crate::printing::printed_source;
 use crate::said::Said;
 use c_expression_writer::FileShape;
 use c_header::print_header;
@@ -61,8 +61,8 @@ fn source_of(
 ) -> Result<String, Memory>
     requires code { IsCodeFor (chart_of chart.now) (code_of shrunk.now.code)
         shrunk.now.origins.items }
-    ensures { IfOk result (λ text. string_bytes text ≡ source_for (chart_of chart.now) bounds
-        (code_of shrunk.now.code) shrunk.now.origins.items) }
+    ensures { IfOk result (λ text. IsSourceFor (chart_of chart.now) bounds
+        (code_of shrunk.now.code) shrunk.now.origins.items (string_bytes text)) }
 {
     let shape = FileShape::make(alloc, chart.names(), chart.shape(), &shrunk.code, bounds)?;
     let name = name_of(chart);
@@ -73,14 +73,14 @@ fn source_of(
         shape,
         code: &shrunk.code,
     };
-    let mut text = String::new(alloc);
-    print_source(alloc, &mut text, &made)?;
+    let text = printed_source(alloc, &made)?;
     Ok(text)
 }
 
 /// The source of a chart's C under these bounds: what the header declares, and the functions that
 /// it needs. Each function is made, printed and dropped before the next one, so that no more than
-/// the text, the code and one function are in memory at once.
+/// the text, the code, one function and the numbers of functions that call each other are in memory
+/// at once.
 ///
 /// `Memory` only where memory was refused.
 ///

@@ -1,10 +1,11 @@
 //! The C of a chart: its header and its source.
 //!
 //! Read `specs/Files.antt`, what the two texts are; `specs/Source.antt`, what a source consists of;
-//! `specs/Uses.antt`, which functions are called; and `specs/Comments.antt`, what is said of each
-//! procedure. The public calls are `header` and `source`.
+//! `specs/Reached.antt`, which functions are written; and `specs/Comments.antt`, what is said of
+//! each procedure. The public calls are `header` and `source`.
 #![tactic(auto)]
 
+mod calls;
 mod comments;
 mod file;
 mod laws;
@@ -15,4 +16,4 @@ mod said;
 mod uses;
 
 pub use file::{header, source};
-pub use laws::the_smaller_code_of_a_chart_is_one;
+pub use laws::{the_smaller_code_of_a_chart_is_one, the_source_for_code_is_one};

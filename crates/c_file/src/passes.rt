@@ -1,53 +1,92 @@
 //! What is known of the functions of a file before they are written.
 ghost use Rattle.std.specs.Prelude.{◌≡◌, ◌<◌, IfOk, OnOk, Some, length, slice_get};
 ghost use Rattle.c_subset.specs.Trees as c;
-ghost use Rattle.c_file.specs.Made.{AreUses, HasUses, IsMade, functions_of};
+ghost use Rattle.c_text.specs.Labels.{labels_of};
+ghost use Rattle.c_file.specs.Made.{AreCalls, AreUses, HasUses, IsMade, functions_of};
+ghost use Rattle.c_file.specs.Reached as spec;
 
+use crate::calls::{FunctionCall, add_lines, close};
 use crate::made::Made;
-use crate::uses::{are_wide, mark_lines};
+use crate::uses::are_wide;
+use c_text::{Kind, function_kind};
 use flow_base::Memory;
 use std::alloc::Global;
 
-/// What is known of each function.
+/// What is known of the functions.
 #[derive(Debug, Drop)]
 pub(crate) struct Uses {
-    /// Whether one of the functions calls it.
-    pub called: Vec<bool>,
-    /// Whether its lines name a type of 128 bits.
+    /// Of each function whether it is called from outside, or by one that is reached.
+    pub reached: Vec<bool>,
+    /// The calls of all functions, also of those that are not reached.
+    pub calls: Vec<FunctionCall>,
+    /// Of each function whether its lines name a type of 128 bits.
     pub wide: Vec<bool>,
 }
 
-/// Adds what a function uses: it is made, and dropped.
+/// Whether a function is called from outside.
+pub(crate) fn is_outside(kind: Kind) -> bool
+    ensures { result ≡ spec.is_outside kind }
+{
+    match kind {
+        Kind::Procedure | Kind::Home | Kind::Noted | Kind::Floor(_) => false,
+        Kind::Outside => true,
+    }
+}
+
+/// Of each function whether it is called from outside.
+fn outside_flags(alloc: Global, made: &Made<'_>) -> Result<Vec<bool>, Memory>
+    requires is { IsMade made.now }
+    ensures { IfOk result (λ flags. spec.AreOutside (labels_of made.now.labels)
+        (length (functions_of made.now)) flags.items) }
+{
+    let mut flags = Vec::new(alloc);
+    for number in 0..made.count() {
+        let Ok(()) = flags.push(is_outside(function_kind(&made.labels, number))) else {
+            return Err(Memory);
+        };
+    }
+    Ok(flags)
+}
+
+/// Adds what is known of a function: it is made, and dropped.
 fn add_uses(alloc: Global, made: &Made<'_>, uses: &mut Uses, number: u32) -> Result<(), Memory>
     requires is { IsMade made.now }
     requires within { number < length (functions_of made.now) }
     ensures { OnOk result ((g : c.Function) → slice_get (functions_of made.now) number ≡ Some g
-        → HasUses g uses.old uses.new) }
+        → HasUses number g uses.old uses.new) }
 {
     let function = made.function(alloc, number)?;
     let lines = function.lines.items();
-    mark_lines(&mut uses.called, lines);
+    add_lines(&mut uses.calls, number, lines)?;
     match uses.wide.push(are_wide(lines)) {
         Ok(()) => Ok(()),
         Err(_) => Err(Memory),
     }
 }
 
+/// Adds what is known of each function.
+fn add_all_uses(alloc: Global, made: &Made<'_>, uses: &mut Uses) -> Result<(), Memory>
+    requires is { IsMade made.now }
+    ensures { OnOk result (AreCalls (functions_of made.now) uses.old uses.new) }
+{
+    for number in 0..made.count() {
+        add_uses(alloc, made, uses, number)?;
+    }
+    Ok(())
+}
+
 /// What is known of the functions of a file. `Memory` only where memory was refused.
 pub(crate) fn uses_of(alloc: Global, made: &Made<'_>) -> Result<Uses, Memory>
     requires is { IsMade made.now }
-    ensures { IfOk result (λ uses. AreUses (functions_of made.now) uses) }
+    ensures { IfOk result
+        (λ uses. AreUses (labels_of made.now.labels) (functions_of made.now) uses) }
 {
-    let count = made.count();
-    let Ok(called) = vec![in alloc; false; count as usize] else {
-        return Err(Memory);
-    };
     let mut uses = Uses {
-        called,
+        reached: outside_flags(alloc, made)?,
+        calls: Vec::new(alloc),
         wide: Vec::new(alloc),
     };
-    for number in 0..count {
-        add_uses(alloc, made, &mut uses, number)?;
-    }
+    add_all_uses(alloc, made, &mut uses)?;
+    close(&mut uses.reached, &uses.calls);
     Ok(uses)
 }

@@ -1,5 +1,5 @@
 //! A source, printed.
-ghost use Rattle.std.specs.Prelude.{◌≡◌, ◌<◌, ◌++◌, ◌&&◌, OnOk, Some, false, length, map};
+ghost use Rattle.std.specs.Prelude.{◌≡◌, ◌<◌, ◌++◌, ◌&&◌, IfOk, OnOk, Some, false, length, map};
 ghost use Rattle.std.specs.Prelude.{slice_get, slice_index_or, string_bytes};
 ghost use Rattle.c_subset.specs.Trees as c;
 ghost use Rattle.c_text.specs.Labels.{labels_of};
@@ -10,39 +10,27 @@ ghost use Rattle.c_file.specs.Uses.{is_wide};
 
 use crate::comments::print_comment;
 use crate::made::Made;
-use crate::passes::{Uses, uses_of};
-use c_text::{Kind, function_kind, print_function, print_prototype};
+use crate::passes::{Uses, is_outside, uses_of};
+use c_text::{function_kind, print_function, print_prototype};
 use flow_base::Memory;
 use std::alloc::{AllocError, Global};
 
-/// Whether a function is called from outside.
-fn is_outside(kind: Kind) -> bool
-    ensures { result ≡ spec.is_outside kind }
-{
-    match kind {
-        Kind::Procedure | Kind::Home | Kind::Noted | Kind::Floor(_) => false,
-        Kind::Outside => true,
-    }
-}
-
 /// Whether a function is written.
-#[tactic(auto, unfolding(crate::specs::Source::is_written))]
 fn is_written(made: &Made<'_>, uses: &Uses, number: u32) -> bool
     requires is { IsMade made.now }
-    requires uses { AreUses (functions_of made.now) uses.now }
+    requires uses { AreUses (labels_of made.now.labels) (functions_of made.now) uses.now }
     requires within { number < length (functions_of made.now) }
-    ensures { result
-        ≡ spec.is_written (labels_of made.now.labels) (functions_of made.now) number }
+    ensures { result ≡ spec.is_written uses.now.reached.items number }
 {
-    is_outside(function_kind(&made.labels, number)) || uses.called[number as usize]
+    uses.reached[number as usize]
 }
 
 /// Whether a function is written and names a type of 128 bits.
 fn is_wide(made: &Made<'_>, uses: &Uses, number: u32) -> bool
     requires is { IsMade made.now }
-    requires uses { AreUses (functions_of made.now) uses.now }
+    requires uses { AreUses (labels_of made.now.labels) (functions_of made.now) uses.now }
     requires within { number < length (functions_of made.now) }
-    ensures { result ≡ (spec.is_written (labels_of made.now.labels) (functions_of made.now) number
+    ensures { result ≡ (spec.is_written uses.now.reached.items number
         && slice_index_or (map is_wide (functions_of made.now)) number false) }
 {
     is_written(made, uses, number) && uses.wide[number as usize]
@@ -51,9 +39,8 @@ fn is_wide(made: &Made<'_>, uses: &Uses, number: u32) -> bool
 /// Whether a function that is written names a type of 128 bits.
 fn any_wide(made: &Made<'_>, uses: &Uses) -> bool
     requires is { IsMade made.now }
-    requires uses { AreUses (functions_of made.now) uses.now }
-    ensures { result ≡ spec.any_wide (labels_of made.now.labels) (functions_of made.now) 0
-        (functions_of made.now) }
+    requires uses { AreUses (labels_of made.now.labels) (functions_of made.now) uses.now }
+    ensures { result ≡ spec.any_wide uses.now.reached.items 0 (functions_of made.now) }
 {
     for number in 0..made.count() {
         if is_wide(made, uses, number) {
@@ -97,7 +84,7 @@ fn print_wide(out: &mut String, wide: bool) -> Result<(), AllocError>
     Ok(())
 }
 
-/// Appends the declaration of a function that is called.
+/// Appends the declaration of a function that is written and isn't called from outside.
 #[tactic(auto, unfolding(crate::specs::Source::declared_text))]
 fn print_declaration(
     out: &mut String,
@@ -106,24 +93,24 @@ fn print_declaration(
     number: u32,
 ) -> Result<(), AllocError>
     requires is { IsMade made.now }
-    requires uses { AreUses (functions_of made.now) uses.now }
+    requires uses { AreUses (labels_of made.now.labels) (functions_of made.now) uses.now }
     requires within { number < length (functions_of made.now) }
     ensures { OnOk result (string_bytes out.new ≡ string_bytes out.old
-        ++ spec.declared_text (labels_of made.now.labels) (functions_of made.now) number) }
+        ++ spec.declared_text (labels_of made.now.labels) uses.now.reached.items number) }
 {
-    if uses.called[number as usize] {
+    if is_written(made, uses, number) && !is_outside(function_kind(&made.labels, number)) {
         print_prototype(out, &made.labels, number)
     } else {
         Ok(())
     }
 }
 
-/// Appends the declarations of the functions that are called.
+/// Appends the declarations of the functions that are written and aren't called from outside.
 fn print_declarations(out: &mut String, made: &Made<'_>, uses: &Uses) -> Result<(), AllocError>
     requires is { IsMade made.now }
-    requires uses { AreUses (functions_of made.now) uses.now }
+    requires uses { AreUses (labels_of made.now.labels) (functions_of made.now) uses.now }
     ensures { OnOk result (string_bytes out.new ≡ string_bytes out.old
-        ++ spec.declarations_text (labels_of made.now.labels) (functions_of made.now) 0
+        ++ spec.declarations_text (labels_of made.now.labels) uses.now.reached.items 0
         (functions_of made.now)) }
 {
     for number in 0..made.count() {
@@ -165,11 +152,11 @@ fn print_written(
     number: u32,
 ) -> Result<(), Memory>
     requires is { IsMade made.now }
-    requires uses { AreUses (functions_of made.now) uses.now }
+    requires uses { AreUses (labels_of made.now.labels) (functions_of made.now) uses.now }
     requires within { number < length (functions_of made.now) }
     ensures { OnOk result ((g : c.Function) → slice_get (functions_of made.now) number ≡ Some g
         → string_bytes out.new ≡ string_bytes out.old ++ spec.written_text
-        (labels_of made.now.labels) (said_of made.now.said) (functions_of made.now) number g) }
+        (labels_of made.now.labels) (said_of made.now.said) uses.now.reached.items number g) }
 {
     if is_written(made, uses, number) {
         print_commented(alloc, out, made, number)
@@ -186,10 +173,10 @@ fn print_functions(
     uses: &Uses,
 ) -> Result<(), Memory>
     requires is { IsMade made.now }
-    requires uses { AreUses (functions_of made.now) uses.now }
+    requires uses { AreUses (labels_of made.now.labels) (functions_of made.now) uses.now }
     ensures { OnOk result (string_bytes out.new ≡ string_bytes out.old
         ++ spec.functions_text (labels_of made.now.labels) (said_of made.now.said)
-        (functions_of made.now) 0 (functions_of made.now)) }
+        uses.now.reached.items 0 (functions_of made.now)) }
 {
     for number in 0..made.count() {
         print_written(alloc, out, made, uses, number)?;
@@ -200,26 +187,39 @@ fn print_functions(
 /// Appends what stands before the functions.
 fn print_front(out: &mut String, made: &Made<'_>, uses: &Uses) -> Result<(), AllocError>
     requires is { IsMade made.now }
-    requires uses { AreUses (functions_of made.now) uses.now }
+    requires uses { AreUses (labels_of made.now.labels) (functions_of made.now) uses.now }
     ensures { OnOk result (string_bytes out.new ≡ string_bytes out.old
-        ++ spec.front_text (labels_of made.now.labels) (functions_of made.now)) }
+        ++ spec.front_text (labels_of made.now.labels) (functions_of made.now)
+        uses.now.reached.items) }
 {
     print_opening(out, made.name)?;
     print_wide(out, any_wide(made, uses))?;
     print_declarations(out, made, uses)
 }
 
-/// Appends a source. Each function is made twice: to see what it uses, and to print it.
-pub(crate) fn print_source(alloc: Global, out: &mut String, made: &Made<'_>) -> Result<(), Memory>
+/// Appends a source of the functions that are written.
+fn print_source(alloc: Global, out: &mut String, made: &Made<'_>, uses: &Uses) -> Result<(), Memory>
     requires is { IsMade made.now }
+    requires uses { AreUses (labels_of made.now.labels) (functions_of made.now) uses.now }
     ensures { OnOk result (string_bytes out.new ≡ string_bytes out.old
         ++ spec.source_text (labels_of made.now.labels) (said_of made.now.said)
-        (functions_of made.now)) }
+        (functions_of made.now) uses.now.reached.items) }
 {
-    let uses = uses_of(alloc, made)?;
-    let Ok(()) = print_front(out, made, &uses) else {
+    let Ok(()) = print_front(out, made, uses) else {
         return Err(Memory);
     };
-    print_functions(alloc, out, made, &uses)?;
+    print_functions(alloc, out, made, uses)?;
     Ok(())
+}
+
+/// A source. Each function is made twice: to see what it uses, and to print it.
+pub(crate) fn printed_source(alloc: Global, made: &Made<'_>) -> Result<String, Memory>
+    requires is { IsMade made.now }
+    ensures { IfOk result (λ text. spec.IsSourceText (labels_of made.now.labels)
+        (said_of made.now.said) (functions_of made.now) (string_bytes text)) }
+{
+    let uses = uses_of(alloc, made)?;
+    let mut text = String::new(alloc);
+    print_source(alloc, &mut text, made, &uses)?;
+    Ok(text)
 }

@@ -1,58 +1,10 @@
-//! What the functions of a file need: the functions that they call, and types of 128 bits.
-ghost use Rattle.std.specs.Prelude.{◌≡◌, ◌==◌, map};
+//! Whether the functions of a file need a type of 128 bits.
+ghost use Rattle.std.specs.Prelude.{◌≡◌, map};
 ghost use Rattle.std.specs.List.{list_any};
 ghost use Rattle.c_subset.specs.Lines.{expr_of, line_of, lines_in};
-ghost use Rattle.c_file.specs.Marks.{Marks};
 ghost use Rattle.c_file.specs.Uses as spec;
 
-use c_subset::{CExpr, CType, Case, Line, Width};
-
-/// Notes that a function is called, where there is one with that number.
-fn mark(called: &mut Vec<bool>, function: u32)
-    ensures { Marks called.old.items called.new.items (λ f. function == f) }
-{
-    if (function as usize) < called.len() {
-        called[function as usize] = true;
-    }
-}
-
-/// Notes the functions that cases call.
-fn mark_cases(called: &mut Vec<bool>, cases: &[Case])
-    ensures { Marks called.old.items called.new.items
-        (λ f. list_any (λ (c : Case). c.function == f) cases.now) }
-{
-    for case in cases {
-        mark(called, case.function);
-    }
-}
-
-/// Notes the functions that a line calls.
-fn mark_line(called: &mut Vec<bool>, line: &Line)
-    ensures { Marks called.old.items called.new.items (λ f. spec.line_calls f (line_of line.now)) }
-{
-    match line {
-        Line::Call(_, _, function, _) => mark(called, *function),
-        Line::Select(_, _, _, cases, _) => mark_cases(called, cases.items()),
-        Line::Set(_, _, _)
-        | Line::Store(_, _)
-        | Line::StoreAt(_, _, _)
-        | Line::If(_)
-        | Line::Else
-        | Line::While(_)
-        | Line::Close
-        | Line::Return(_) => {}
-    }
-}
-
-/// Notes the functions that lines call.
-pub(crate) fn mark_lines(called: &mut Vec<bool>, lines: &[Line])
-    ensures { Marks called.old.items called.new.items
-        (λ f. list_any (spec.line_calls f) (lines_in lines.now)) }
-{
-    for line in lines {
-        mark_line(called, line);
-    }
-}
+use c_subset::{CExpr, CType, Line, Width};
 
 /// Whether a type has 128 bits.
 fn is_wide_type(of: CType) -> bool

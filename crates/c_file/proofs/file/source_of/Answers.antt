@@ -6,7 +6,6 @@ use Rattle.c_text.specs.Labels.{labels_of}
 use Rattle.c_file.specs.Comments.{said_of, comments_for}
 use Rattle.c_file.specs.Made.{functions_of}
 use Rattle.c_file.proofs.CodeLemmas.{same_names, same_tree}
-use Rattle.c_file.proofs.PrintLemmas.{first_printed}
 use Rattle.c_file.proofs.SourceLemmas.{source_is}
 use Rattle.c_file.proofs.file.source_of.Goals as goal
 
@@ -25,4 +24,4 @@ returns c =
     (c.in_ok-make.ensures.said
     ∙ ap (λ (xs : List ℕ). comments_for (chart_of c.args.chart.now).tree (chart_of c.args.chart.now).names
     (parts_of (chart_of c.args.chart.now)) xs) c.deref.ensures.value)
-    (first_printed _ _ _ c.new-text.ensures.bytes c.in_ok-print_source.ensures)
+    c.in_ok-text.ensures

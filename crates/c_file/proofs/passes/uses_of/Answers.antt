@@ -1,17 +1,24 @@
-use Rattle.std.proofs.Common.{arith}
-use Rattle.c_file.proofs.PassLemmas.{passing_starts, passing_goes_on, passing_ends}
+use Rattle.std.proofs.Common.{◌≡◌, length, sym, subst, arith}
+use Rattle.std.proofs.lemmas.List.{with_items_is}
+use Rattle.c_text.specs.Labels.{labels_of}
+use Rattle.c_file.specs.Made.{functions_of}
+use Rattle.c_file.specs.Reached.{AreReached, Closes}
+use Rattle.c_file.proofs.PassLemmas.{uses_reached, uses_wide}
 use Rattle.c_file.proofs.passes.uses_of.Goals as goal
-
-pub loop-number-init : goal.loop-number-init
-loop-number-init c =
-    passing_starts _ _ (record { called = c.in-Ok.called; wide = c.new.result })
-    (c.in-Ok.ensures.items_if_clones_equal (λ y h. h))
-    c.new.ensures.items
-
-pub loop-number-preserved : goal.loop-number-preserved
-loop-number-preserved c =
-    passing_goes_on _ _ _ _ _ (omega (arith, c.count-count.ensures)) c.loop-number.invariant c.in_ok-add_uses.ensures
 
 pub returns : goal.returns
 returns c =
-    passing_ends _ _ _ _ (omega (arith, c.count-count.ensures)) c.count-count.ensures c.loop-number.invariant
+    let all = c.add_all_uses.new.uses in
+    let flags = c.close.new.flags in
+    let size : length flags ≡ all.reached.len = omega (arith, c.close.ensures.size, c.deref_mut.ensures.len) in
+    let closes =
+    subst (λ cs. Closes cs all.reached.items flags) c.deref.ensures.value
+    (subst (λ bs. Closes c.deref.result.now bs flags) c.deref_mut.ensures.value c.close.ensures) in
+    record {
+      reached =
+          subst (λ fs. AreReached (labels_of c.args.made.now.labels) (functions_of c.args.made.now) fs)
+          (sym (with_items_is all.reached flags size))
+          (uses_reached (labels_of c.args.made.now.labels) (functions_of c.args.made.now) _ all flags
+          c.in_ok-add_all_uses.ensures c.in_ok-outside_flags.ensures c.new.ensures.items closes);
+      wide = uses_wide (functions_of c.args.made.now) _ all c.in_ok-add_all_uses.ensures c.new-2.ensures.items;
+    }

@@ -1,3 +1,4 @@
 pub mod Trace
 pub mod TraceParts
 pub mod Pieces
+pub mod LineEnds

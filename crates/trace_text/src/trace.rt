@@ -6,11 +6,12 @@ ghost use Rattle.flow_base.specs.Causes.{HasCause};
 ghost use Rattle.actions.specs.Engines.{IsFaultOf};
 ghost use Rattle.actions.specs.Names.{names_of};
 ghost use Rattle.actions.specs.World.{Fits};
+ghost use Rattle.trace_text.specs.LineEnds.{IsEndOf, end_word};
 ghost use Rattle.trace_text.specs.Pieces.{Puts};
 ghost use Rattle.trace_text.specs.Trace as spec;
 
 use crate::pieces::Pieces;
-use crate::trace_parts::{event_word, put_data, put_full_route, put_outputs, put_result};
+use crate::trace_parts::{LineEnd, event_word, put_data, put_end, put_outputs};
 use crate::trace_states::put_states;
 use actions::{Event, Names, View};
 use flow_base::{Failed, Fault, Sink};
@@ -87,8 +88,7 @@ pub fn put_trace<O: Sink>(
         pieces.old pieces.new
         (spec.trace_line view.now.shape.now (names_of view.now.names.now) (spec.world_of view.now) index event fault) }
 {
-    put_front(index, event, view, pieces, out);
-    put_result(view.names, fault, pieces, out);
+    put_line(index, event, view, LineEnd::Ran(fault), pieces, out);
 }
 
 /// Puts the line of a trace for the start or an event whose outputs found a route full: as
@@ -109,8 +109,29 @@ pub fn put_full<O: Sink>(
         (spec.line_with view.now.shape.now (names_of view.now.names.now) (spec.world_of view.now) index event
         (spec.full_word route)) }
 {
+    put_line(index, event, view, LineEnd::Full(route), pieces, out);
+}
+
+/// Puts a line, however it ends.
+fn put_line<O: Sink>(
+    index: u64,
+    event: Event,
+    view: &View<'_>,
+    end: LineEnd,
+    pieces: &mut Pieces,
+    out: &mut O,
+)
+    requires fits { Fits view.now.shape.now (names_of view.now.names.now) (spec.world_of view.now) }
+    requires few { length (names_of view.now.names.now).vars < 2 ^ 32 }
+    requires event { spec.IsEventOf (names_of view.now.names.now) event }
+    requires end { IsEndOf (names_of view.now.names.now) end }
+    ensures { Puts (O.wrote out.old) (O.wrote out.new) (O.faults out.old) (O.faults out.new)
+        pieces.old pieces.new
+        (spec.line_with view.now.shape.now (names_of view.now.names.now) (spec.world_of view.now) index event
+        (end_word (names_of view.now.names.now) end)) }
+{
     put_front(index, event, view, pieces, out);
-    put_full_route(route, pieces, out);
+    put_end(view.names, end, pieces, out);
 }
 
 /// Puts the line up to its result.

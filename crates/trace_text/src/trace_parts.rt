@@ -15,6 +15,7 @@ ghost use Rattle.fixed_point.specs.Text.{sign_of};
 ghost use Rattle.actions.specs.Engines.{IsFaultOf};
 ghost use Rattle.actions.specs.Names.{names_of};
 ghost use Rattle.actions.specs.World.{of_data, of_names};
+ghost use Rattle.trace_text.specs.LineEnds.{IsEndOf, end_word};
 ghost use Rattle.trace_text.specs.Pieces.{Puts};
 ghost use Rattle.trace_text.specs.Trace as spec;
 ghost use Rattle.trace_text.specs.TraceParts.{item, CanBeWritten};
@@ -185,13 +186,29 @@ pub(crate) fn put_outputs<O: Sink>(names: &Names, outputs: &[u32], pieces: &mut 
     }
 }
 
+/// How a line ends.
+#[derive(Clone, Copy)]
+pub(crate) enum LineEnd {
+    /// With the fault of the start or of the event, or with none.
+    Ran(Option<Fault>),
+    /// With the route of that number, which what was put out found full.
+    Full(u32),
+}
+
+/// Puts how a line ends.
+pub(crate) fn put_end<O: Sink>(names: &Names, end: LineEnd, pieces: &mut Pieces, out: &mut O)
+    requires { IsEndOf (names_of names.now) end }
+    ensures { Puts (O.wrote out.old) (O.wrote out.new) (O.faults out.old) (O.faults out.new)
+        pieces.old pieces.new (end_word (names_of names.now) end ++ codes "\n") }
+{
+    match end {
+        LineEnd::Ran(fault) => put_result(names, fault, pieces, out),
+        LineEnd::Full(route) => put_full_route(route, pieces, out),
+    }
+}
+
 /// Puts how an event ended, which ends the line.
-pub(crate) fn put_result<O: Sink>(
-    names: &Names,
-    fault: Option<Fault>,
-    pieces: &mut Pieces,
-    out: &mut O,
-)
+fn put_result<O: Sink>(names: &Names, fault: Option<Fault>, pieces: &mut Pieces, out: &mut O)
     requires { IsFaultOf (names_of names.now) fault }
     ensures { Puts (O.wrote out.old) (O.wrote out.new) (O.faults out.old) (O.faults out.new)
         pieces.old pieces.new (spec.result_word (names_of names.now) fault ++ codes "\n") }
@@ -210,7 +227,7 @@ pub(crate) fn put_result<O: Sink>(
 }
 
 /// Puts that a route was full, which ends the line.
-pub(crate) fn put_full_route<O: Sink>(route: u32, pieces: &mut Pieces, out: &mut O)
+fn put_full_route<O: Sink>(route: u32, pieces: &mut Pieces, out: &mut O)
     ensures { Puts (O.wrote out.old) (O.wrote out.new) (O.faults out.old) (O.faults out.new)
         pieces.old pieces.new (spec.full_word route ++ codes "\n") }
 {

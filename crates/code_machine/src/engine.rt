@@ -60,7 +60,7 @@ fn number_of(event: Event) -> u32
     match event {
         Event::Start => 0,
         Event::Tick => 1,
-        Event::Named(e) => e + 2,
+        Event::Named(number) => number + 2,
     }
 }
 

@@ -20,16 +20,16 @@ use std::alloc::Global;
 /// certificate gives none.
 pub fn bound_chart<I: Inputs, O: Sink>(
     alloc: Global,
-    first: &str,
+    chart_file: &str,
     inputs: &mut I,
     out: &mut O,
 ) -> TextEnd<Refusal>
     ensures ends { BoundsEnds (call_of I.Inputs O.Sink inputs.old inputs.new out.old out.new)
-        first.now result }
-    ensures others { OthersStay (first.now ∷ [])
+        chart_file.now result }
+    ensures others { OthersStay (chart_file.now ∷ [])
         (sources_of I.Inputs inputs.old) (sources_of I.Inputs inputs.new) }
 {
-    let line = read_need(alloc, inputs, first);
+    let line = read_need(alloc, inputs, chart_file);
     write_made(line, out)
 }
 
@@ -37,12 +37,13 @@ pub fn bound_chart<I: Inputs, O: Sink>(
 fn read_need<I: Inputs>(
     alloc: Global,
     inputs: &mut I,
-    name: &str,
+    chart_file: &str,
 ) -> Result<String, FileEnd<Refusal>>
     ensures { FileGives CHART_TEXT_LIMIT (λ text line. HasNeed text (string_bytes line))
-        RefusesAccepted (sources_of I.Inputs inputs.old) (sources_of I.Inputs inputs.new) name.now result }
+        RefusesAccepted (sources_of I.Inputs inputs.old) (sources_of I.Inputs inputs.new)
+        chart_file.now result }
 {
-    let chart = read_accepted(alloc, inputs, name)?;
+    let chart = read_accepted(alloc, inputs, chart_file)?;
     match line_of_need(alloc, &chart) {
         Ok(line) => Ok(line),
         Err(Memory) => Err(FileEnd::Memory),

@@ -21,16 +21,16 @@ use std::alloc::Global;
 /// Writes the line of the counts of the accepted chart that the file holds.
 pub fn check_chart<I: Inputs, O: Sink>(
     alloc: Global,
-    first: &str,
+    chart_file: &str,
     inputs: &mut I,
     out: &mut O,
 ) -> TextEnd<Refusal>
     ensures ends { CheckEnds (call_of I.Inputs O.Sink inputs.old inputs.new out.old out.new)
-        first.now result }
-    ensures others { OthersStay (first.now ∷ [])
+        chart_file.now result }
+    ensures others { OthersStay (chart_file.now ∷ [])
         (sources_of I.Inputs inputs.old) (sources_of I.Inputs inputs.new) }
 {
-    let line = read_counts(alloc, inputs, first);
+    let line = read_counts(alloc, inputs, chart_file);
     write_made(line, out)
 }
 
@@ -38,12 +38,13 @@ pub fn check_chart<I: Inputs, O: Sink>(
 fn read_counts<I: Inputs>(
     alloc: Global,
     inputs: &mut I,
-    name: &str,
+    chart_file: &str,
 ) -> Result<String, FileEnd<Refusal>>
     ensures { FileGives CHART_TEXT_LIMIT (λ text line. HasCounts text (string_bytes line))
-        RefusesAccepted (sources_of I.Inputs inputs.old) (sources_of I.Inputs inputs.new) name.now result }
+        RefusesAccepted (sources_of I.Inputs inputs.old) (sources_of I.Inputs inputs.new)
+        chart_file.now result }
 {
-    let checked = read_checked(alloc, inputs, name)?;
+    let checked = read_checked(alloc, inputs, chart_file)?;
     match counts_line(alloc, &checked.chart, checked.pairs) {
         Ok(line) => Ok(line),
         Err(Memory) => Err(FileEnd::Memory),

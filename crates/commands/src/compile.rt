@@ -20,16 +20,16 @@ use std::alloc::Global;
 /// Compiles the accepted chart that the file holds, and writes the text of its code in format 2.
 pub fn compile_chart<I: Inputs, O: Sink>(
     alloc: Global,
-    first: &str,
+    chart_file: &str,
     inputs: &mut I,
     out: &mut O,
 ) -> TextEnd<Refusal>
     ensures ends { CompileEnds (call_of I.Inputs O.Sink inputs.old inputs.new out.old out.new)
-        first.now result }
-    ensures others { OthersStay (first.now ∷ [])
+        chart_file.now result }
+    ensures others { OthersStay (chart_file.now ∷ [])
         (sources_of I.Inputs inputs.old) (sources_of I.Inputs inputs.new) }
 {
-    let text = read_compiled(alloc, inputs, first);
+    let text = read_compiled(alloc, inputs, chart_file);
     write_made(text, out)
 }
 
@@ -37,12 +37,13 @@ pub fn compile_chart<I: Inputs, O: Sink>(
 fn read_compiled<I: Inputs>(
     alloc: Global,
     inputs: &mut I,
-    name: &str,
+    chart_file: &str,
 ) -> Result<String, FileEnd<Refusal>>
     ensures { FileGives CHART_TEXT_LIMIT (λ text compiled. Compiles text (string_bytes compiled))
-        RefusesAccepted (sources_of I.Inputs inputs.old) (sources_of I.Inputs inputs.new) name.now result }
+        RefusesAccepted (sources_of I.Inputs inputs.old) (sources_of I.Inputs inputs.new)
+        chart_file.now result }
 {
-    let chart = read_accepted(alloc, inputs, name)?;
+    let chart = read_accepted(alloc, inputs, chart_file)?;
     match compiled_text(alloc, &chart) {
         Ok(text) => Ok(text),
         Err(Memory) => Err(FileEnd::Memory),

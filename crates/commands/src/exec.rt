@@ -27,22 +27,22 @@ pub enum ExecEnd {
 /// and writes the trace. All memory is taken before the first byte of the trace is written.
 pub fn exec_code<I: Inputs, O: Sink>(
     alloc: Global,
-    first: &str,
-    second: &str,
+    code_file: &str,
+    event_file: &str,
     bounds: Bounds,
     inputs: &mut I,
     out: &mut O,
 ) -> ExecEnd
     ensures ends { ExecEnds bounds (call_of I.Inputs O.Sink inputs.old inputs.new out.old out.new)
-        first.now second.now result }
-    ensures others { OthersStay (first.now ∷ second.now ∷ [])
+        code_file.now event_file.now result }
+    ensures others { OthersStay (code_file.now ∷ event_file.now ∷ [])
         (sources_of I.Inputs inputs.old) (sources_of I.Inputs inputs.new) }
 {
-    let code = match read_code_file(alloc, inputs, first) {
+    let code = match read_code_file(alloc, inputs, code_file) {
         Ok(code) => code,
         Err(end) => return ExecEnd::NoCode(end),
     };
-    ExecEnd::Ran(run_code(alloc, code, bounds, second, inputs, out))
+    ExecEnd::Ran(run_code(alloc, code, bounds, event_file, inputs, out))
 }
 
 /// Runs code on the machine, with these bounds, over the events of the file of that name, and
@@ -51,16 +51,16 @@ pub fn run_code<I: Inputs, O: Sink>(
     alloc: Global,
     code: Code,
     bounds: Bounds,
-    second: &str,
+    event_file: &str,
     inputs: &mut I,
     out: &mut O,
 ) -> TraceEnd
     ensures { TraceEnds (by_code (code_of code) bounds)
-        (call_of I.Inputs O.Sink inputs.old inputs.new out.old out.new) second.now result }
+        (call_of I.Inputs O.Sink inputs.old inputs.new out.old out.new) event_file.now result }
 {
     let _ = code.raw();
     let Ok(mut machine) = Machine::make(alloc, code, bounds) else {
         return TraceEnd::Memory;
     };
-    trace(alloc, &mut machine, second, inputs, out)
+    trace(alloc, &mut machine, event_file, inputs, out)
 }

@@ -72,18 +72,18 @@ pub enum NetCommandEnd {
 /// trace is written.
 pub fn run_net<I: Inputs, O: Sink>(
     alloc: Global,
-    first: &str,
-    second: &str,
+    net_file: &str,
+    schedule_file: &str,
     bounds: Bounds,
     inputs: &mut I,
     out: &mut O,
 ) -> NetCommandEnd
     ensures ends { NetEnds bounds (call_of I.Inputs O.Sink inputs.old inputs.new out.old out.new)
-        first.now second.now result }
+        net_file.now schedule_file.now result }
     ensures others { NetOthersStay (call_of I.Inputs O.Sink inputs.old inputs.new out.old out.new)
-        first.now second.now }
+        net_file.now schedule_file.now }
 {
-    let net = match read_net_file(alloc, inputs, first) {
+    let net = match read_net_file(alloc, inputs, net_file) {
         Ok(net) => net,
         Err(end) => return NetCommandEnd::NoNet(end),
     };
@@ -96,5 +96,5 @@ pub fn run_net<I: Inputs, O: Sink>(
     if let Some(line) = bad_route(net.charts.items(), &files, net.routes.items()) {
         return NetCommandEnd::NoRoute(line);
     }
-    NetCommandEnd::Ran(run_schedule(alloc, &net, &files, bounds, second, inputs, out))
+    NetCommandEnd::Ran(run_schedule(alloc, &net, &files, bounds, schedule_file, inputs, out))
 }

@@ -58,15 +58,15 @@ pub(crate) fn read_charts<I: Inputs>(
 fn take_file<I: Inputs>(
     alloc: Global,
     inputs: &mut I,
-    name: &str,
+    chart_file: &str,
     files: &mut Vec<ReadFile>,
 ) -> Result<(), FileEnd<Refusal>>
-    ensures { FileTaken (sources_of I.Inputs inputs.old) (sources_of I.Inputs inputs.new) name.now
-        files.old.items files.new.items result }
+    ensures { FileTaken (sources_of I.Inputs inputs.old) (sources_of I.Inputs inputs.new)
+        chart_file.now files.old.items files.new.items result }
 {
-    match chart_of_file(files, name) {
+    match chart_of_file(files, chart_file) {
         Some(_) => Ok(()),
-        None => add_file(alloc, inputs, name, files),
+        None => add_file(alloc, inputs, chart_file, files),
     }
 }
 
@@ -74,13 +74,13 @@ fn take_file<I: Inputs>(
 fn add_file<I: Inputs>(
     alloc: Global,
     inputs: &mut I,
-    name: &str,
+    chart_file: &str,
     files: &mut Vec<ReadFile>,
 ) -> Result<(), FileEnd<Refusal>>
-    ensures { FileAdded (sources_of I.Inputs inputs.old) (sources_of I.Inputs inputs.new) name.now
-        files.old.items files.new.items result }
+    ensures { FileAdded (sources_of I.Inputs inputs.old) (sources_of I.Inputs inputs.new)
+        chart_file.now files.old.items files.new.items result }
 {
-    let file = read_file(alloc, inputs, name)?;
+    let file = read_file(alloc, inputs, chart_file)?;
     let Ok(()) = files.push(file) else {
         return Err(FileEnd::Memory);
     };
@@ -91,12 +91,13 @@ fn add_file<I: Inputs>(
 fn read_file<I: Inputs>(
     alloc: Global,
     inputs: &mut I,
-    name: &str,
+    chart_file: &str,
 ) -> Result<ReadFile, FileEnd<Refusal>>
-    ensures { FileRead (sources_of I.Inputs inputs.old) (sources_of I.Inputs inputs.new) name.now result }
+    ensures { FileRead (sources_of I.Inputs inputs.old) (sources_of I.Inputs inputs.new)
+        chart_file.now result }
 {
-    let chart = read_accepted(alloc, inputs, name)?;
-    match copy_text(alloc, name) {
+    let chart = read_accepted(alloc, inputs, chart_file)?;
+    match copy_text(alloc, chart_file) {
         Ok(file) => Ok(ReadFile { file, chart }),
         Err(Memory) => Err(FileEnd::Memory),
     }
@@ -113,26 +114,28 @@ pub(crate) fn copy_text(alloc: Global, text: &str) -> Result<Text, Memory>
 }
 
 /// The chart of the file of that name, if the file was read.
-pub(crate) fn chart_of_file<'a>(files: &'a [ReadFile], name: &str) -> Option<&'a Chart>
-    ensures { option_map (λ chart. chart_of chart.now) result ≡ spec.chart_in files.now name.now }
+pub(crate) fn chart_of_file<'a>(files: &'a [ReadFile], chart_file: &str) -> Option<&'a Chart>
+    ensures { option_map (λ chart. chart_of chart.now) result
+        ≡ spec.chart_in files.now chart_file.now }
 {
-    let place = place_of_file(files, name)?;
+    let place = place_of_file(files, chart_file)?;
     Some(&files[place].chart)
 }
 
 /// The place of the file of that name.
-fn place_of_file(files: &[ReadFile], name: &str) -> Option<usize>
-    ensures place { result ≡ position (λ (f : ReadFileShown). bytes_eq f.file name.now) files.now }
+fn place_of_file(files: &[ReadFile], chart_file: &str) -> Option<usize>
+    ensures place { result
+        ≡ position (λ (f : ReadFileShown). bytes_eq f.file chart_file.now) files.now }
     ensures within { IfSome result (λ n. n < length files.now) }
 {
-    files.iter().position(|file| is_named(file, name))
+    files.iter().position(|file| is_named(file, chart_file))
 }
 
 /// Whether a file has that name.
-fn is_named(file: &ReadFile, name: &str) -> bool
-    ensures { result ≡ bytes_eq file.now.file name.now }
+fn is_named(file: &ReadFile, chart_file: &str) -> bool
+    ensures { result ≡ bytes_eq file.now.file chart_file.now }
 {
-    file.file.text() == name
+    file.file.text() == chart_file
 }
 
 /// The chart of that number, if its file was read.

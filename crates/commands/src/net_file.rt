@@ -15,13 +15,19 @@ use std::alloc::Global;
 pub(crate) fn read_net_file<I: Inputs>(
     alloc: Global,
     inputs: &mut I,
-    name: &str,
+    net_file: &str,
 ) -> Result<NetText, FileEnd<NetFault>>
     ensures given { FileGives NET_TEXT_LIMIT (λ text net. SaysNet text (net_text_of net)) RefusesNet
-        (sources_of I.Inputs inputs.old) (sources_of I.Inputs inputs.new) name.now result }
+        (sources_of I.Inputs inputs.old) (sources_of I.Inputs inputs.new) net_file.now result }
     ensures within { IfOk result (λ net. IsNetText (net_text_of net)) }
 {
-    let text = read_text(alloc, inputs, name, NET_TEXT_LIMIT, NetFault::TextTooLong)?;
+    let text = read_text(
+        alloc,
+        inputs,
+        net_file,
+        NET_TEXT_LIMIT,
+        NetFault::TextTooLong,
+    )?;
     match read_net(alloc, &text) {
         Ok(net) => Ok(net),
         Err(NetFault::Memory) => Err(FileEnd::Memory),

@@ -27,22 +27,22 @@ pub enum RulesEnd {
 /// and writes the trace.
 pub fn run_chart<I: Inputs, O: Sink>(
     alloc: Global,
-    first: &str,
-    second: &str,
+    chart_file: &str,
+    event_file: &str,
     bounds: Bounds,
     inputs: &mut I,
     out: &mut O,
 ) -> RulesEnd
     ensures ends { RulesEnds bounds (call_of I.Inputs O.Sink inputs.old inputs.new out.old out.new)
-        first.now second.now result }
-    ensures others { OthersStay (first.now ∷ second.now ∷ [])
+        chart_file.now event_file.now result }
+    ensures others { OthersStay (chart_file.now ∷ event_file.now ∷ [])
         (sources_of I.Inputs inputs.old) (sources_of I.Inputs inputs.new) }
 {
-    let chart = match read_accepted(alloc, inputs, first) {
+    let chart = match read_accepted(alloc, inputs, chart_file) {
         Ok(chart) => chart,
         Err(end) => return RulesEnd::NoChart(end),
     };
-    RulesEnd::Ran(run_rules(alloc, chart, bounds, second, inputs, out))
+    RulesEnd::Ran(run_rules(alloc, chart, bounds, event_file, inputs, out))
 }
 
 /// Runs the chart by the rules, with these bounds, over the events of the file of that name, and
@@ -51,16 +51,16 @@ fn run_rules<I: Inputs, O: Sink>(
     alloc: Global,
     chart: Chart,
     bounds: Bounds,
-    second: &str,
+    event_file: &str,
     inputs: &mut I,
     out: &mut O,
 ) -> TraceEnd
     ensures { TraceEnds (by_rules (chart_of chart) bounds)
-        (call_of I.Inputs O.Sink inputs.old inputs.new out.old out.new) second.now result }
+        (call_of I.Inputs O.Sink inputs.old inputs.new out.old out.new) event_file.now result }
 {
     let _ = chart.names();
     let Ok(mut rules) = Rules::make(alloc, chart, bounds) else {
         return TraceEnd::Memory;
     };
-    trace(alloc, &mut rules, second, inputs, out)
+    trace(alloc, &mut rules, event_file, inputs, out)
 }

@@ -33,22 +33,22 @@ pub enum RunEnd {
 /// memory is taken before the first byte of the trace is written.
 pub fn run_compiled<I: Inputs, O: Sink>(
     alloc: Global,
-    first: &str,
-    second: &str,
+    chart_file: &str,
+    event_file: &str,
     bounds: Bounds,
     inputs: &mut I,
     out: &mut O,
 ) -> RunEnd
     ensures ends { RunEnds bounds (call_of I.Inputs O.Sink inputs.old inputs.new out.old out.new)
-        first.now second.now result }
-    ensures others { OthersStay (first.now ∷ second.now ∷ [])
+        chart_file.now event_file.now result }
+    ensures others { OthersStay (chart_file.now ∷ event_file.now ∷ [])
         (sources_of I.Inputs inputs.old) (sources_of I.Inputs inputs.new) }
 {
-    let chart = match read_accepted(alloc, inputs, first) {
+    let chart = match read_accepted(alloc, inputs, chart_file) {
         Ok(chart) => chart,
         Err(end) => return RunEnd::NoChart(end),
     };
-    RunEnd::Ran(run_printed(alloc, &chart, bounds, second, inputs, out))
+    RunEnd::Ran(run_printed(alloc, &chart, bounds, event_file, inputs, out))
 }
 
 /// Runs the printed code of a chart, with these bounds, over the events of the file of that name,
@@ -57,19 +57,19 @@ pub fn run_printed<I: Inputs, O: Sink>(
     alloc: Global,
     chart: &Chart,
     bounds: Bounds,
-    second: &str,
+    event_file: &str,
     inputs: &mut I,
     out: &mut O,
 ) -> TraceEnd
     ensures { TraceEnds (by_compiled (chart_of chart.now) bounds)
-        (call_of I.Inputs O.Sink inputs.old inputs.new out.old out.new) second.now result }
+        (call_of I.Inputs O.Sink inputs.old inputs.new out.old out.new) event_file.now result }
 {
     // What a `Chart` keeps tells that it is valid.
     let _shape = chart.shape();
     let Ok(code) = printed(alloc, chart) else {
         return TraceEnd::Memory;
     };
-    run_code(alloc, code, bounds, second, inputs, out)
+    run_code(alloc, code, bounds, event_file, inputs, out)
 }
 
 /// The code of a chart, printed and read again.

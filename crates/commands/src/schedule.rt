@@ -57,7 +57,7 @@ pub(crate) fn run_schedule<I: Inputs, O: Sink>(
     net: &NetText,
     files: &[ReadFile],
     bounds: Bounds,
-    second: &str,
+    schedule_file: &str,
     inputs: &mut I,
     out: &mut O,
 ) -> ScheduleEnd
@@ -67,7 +67,7 @@ pub(crate) fn run_schedule<I: Inputs, O: Sink>(
         (net_text_of net.now).routes ≡ None }
     ensures { spec.ScheduleEnds (net_by_rules bounds (loaded_in files.now (net_text_of net.now).charts)
         (routes_in (loaded_in files.now (net_text_of net.now).charts) (net_text_of net.now).routes))
-        (call_of I.Inputs O.Sink inputs.old inputs.new out.old out.new) second.now result }
+        (call_of I.Inputs O.Sink inputs.old inputs.new out.old out.new) schedule_file.now result }
 {
     let Ok(mut machines) = net_of_machines(alloc, net, files, bounds) else {
         return ScheduleEnd::Memory;
@@ -75,7 +75,7 @@ pub(crate) fn run_schedule<I: Inputs, O: Sink>(
     let Ok(mut lines) = LineReader::make(alloc) else {
         return ScheduleEnd::Memory;
     };
-    let answer = net_drive(&mut machines, inputs, second, &mut lines, out);
+    let answer = net_drive(&mut machines, inputs, schedule_file, &mut lines, out);
     end_of(net.charts.items(), files, answer)
 }
 

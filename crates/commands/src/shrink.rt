@@ -19,16 +19,16 @@ use std::alloc::Global;
 /// in either format.
 pub fn shrink_code<I: Inputs, O: Sink>(
     alloc: Global,
-    first: &str,
+    code_file: &str,
     inputs: &mut I,
     out: &mut O,
 ) -> TextEnd<CodeTextFault>
     ensures ends { ShrinkEnds (call_of I.Inputs O.Sink inputs.old inputs.new out.old out.new)
-        first.now result }
-    ensures others { OthersStay (first.now ∷ [])
+        code_file.now result }
+    ensures others { OthersStay (code_file.now ∷ [])
         (sources_of I.Inputs inputs.old) (sources_of I.Inputs inputs.new) }
 {
-    let shrunk = read_shrunk(alloc, inputs, first);
+    let shrunk = read_shrunk(alloc, inputs, code_file);
     write_made(shrunk, out)
 }
 
@@ -37,12 +37,13 @@ pub fn shrink_code<I: Inputs, O: Sink>(
 fn read_shrunk<I: Inputs>(
     alloc: Global,
     inputs: &mut I,
-    name: &str,
+    code_file: &str,
 ) -> Result<String, FileEnd<CodeTextFault>>
     ensures { FileGives TEXT_LIMIT (λ text shrunk. HasShrunkText text (string_bytes shrunk))
-        RefusesCode (sources_of I.Inputs inputs.old) (sources_of I.Inputs inputs.new) name.now result }
+        RefusesCode (sources_of I.Inputs inputs.old) (sources_of I.Inputs inputs.new)
+        code_file.now result }
 {
-    let code = read_code_file(alloc, inputs, name)?;
+    let code = read_code_file(alloc, inputs, code_file)?;
     match shrunk_text(alloc, &code) {
         Ok(text) => Ok(text),
         Err(Memory) => Err(FileEnd::Memory),

@@ -42,7 +42,7 @@ pub enum TraceEnd {
 pub fn trace<G: Engine, I: Inputs, O: Sink>(
     alloc: Global,
     engine: &mut G,
-    second: &str,
+    event_file: &str,
     inputs: &mut I,
     out: &mut O,
 ) -> TraceEnd
@@ -51,7 +51,7 @@ pub fn trace<G: Engine, I: Inputs, O: Sink>(
     requires few_data { length (G.declared (G.program engine.old)).vars < 2 ^ 32 }
     requires short { spec.HasShortNames (G.declared (G.program engine.old)) }
     ensures { spec.TraceEnds (spec.behaviour_of G.Engine (G.program engine.old))
-        (call_of I.Inputs O.Sink inputs.old inputs.new out.old out.new) second.now result }
+        (call_of I.Inputs O.Sink inputs.old inputs.new out.old out.new) event_file.now result }
 {
     let Ok(mut lines) = LineReader::make(alloc) else {
         return TraceEnd::Memory;
@@ -59,7 +59,7 @@ pub fn trace<G: Engine, I: Inputs, O: Sink>(
     let Ok(mut vals) = InputVals::make(alloc, engine.view().names) else {
         return TraceEnd::Memory;
     };
-    let answer = drive(engine, inputs, second, &mut lines, &mut vals, out);
+    let answer = drive(engine, inputs, event_file, &mut lines, &mut vals, out);
     end_of(engine.view().names, answer)
 }
 

@@ -16,16 +16,16 @@ use std::alloc::Global;
 /// Writes the text of format 2 of the code that the file holds in either format.
 pub fn upgrade_code<I: Inputs, O: Sink>(
     alloc: Global,
-    first: &str,
+    code_file: &str,
     inputs: &mut I,
     out: &mut O,
 ) -> TextEnd<CodeTextFault>
     ensures ends { UpgradeEnds (call_of I.Inputs O.Sink inputs.old inputs.new out.old out.new)
-        first.now result }
-    ensures others { OthersStay (first.now ∷ [])
+        code_file.now result }
+    ensures others { OthersStay (code_file.now ∷ [])
         (sources_of I.Inputs inputs.old) (sources_of I.Inputs inputs.new) }
 {
-    let upgraded = read_upgraded(alloc, inputs, first);
+    let upgraded = read_upgraded(alloc, inputs, code_file);
     write_made(upgraded, out)
 }
 
@@ -33,12 +33,13 @@ pub fn upgrade_code<I: Inputs, O: Sink>(
 fn read_upgraded<I: Inputs>(
     alloc: Global,
     inputs: &mut I,
-    name: &str,
+    code_file: &str,
 ) -> Result<String, FileEnd<CodeTextFault>>
     ensures { FileGives TEXT_LIMIT (λ text upgraded. IsUpgraded text (string_bytes upgraded))
-        RefusesCode (sources_of I.Inputs inputs.old) (sources_of I.Inputs inputs.new) name.now result }
+        RefusesCode (sources_of I.Inputs inputs.old) (sources_of I.Inputs inputs.new)
+        code_file.now result }
 {
-    let code = read_code_file(alloc, inputs, name)?;
+    let code = read_code_file(alloc, inputs, code_file)?;
     match print_code(alloc, &code) {
         Ok(text) => Ok(text),
         Err(Memory) => Err(FileEnd::Memory),

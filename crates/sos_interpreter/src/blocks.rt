@@ -86,21 +86,21 @@ fn statement(
     ensures fits { FitsChart (chart_of chart.now) world.new }
 {
     match stmt {
-        Stmt::Assign(v, e) => {
-            world.assign(chart, *v, e)?;
+        Stmt::Assign(datum, expr) => {
+            world.assign(chart, *datum, expr)?;
             Ok(End::Done)
         }
-        Stmt::Emit(e) => {
+        Stmt::Emit(event) => {
             world.pay(chart, bounds)?;
-            world.put_out(chart, *e)?;
+            world.put_out(chart, *event)?;
             Ok(End::Done)
         }
-        Stmt::Send(e) => {
-            send(alloc, chart, bounds, world, *e, None, now)?;
+        Stmt::Send(event) => {
+            send(alloc, chart, bounds, world, *event, None, now)?;
             Ok(alive(chart, world, life))
         }
-        Stmt::SendTo(e, s) => {
-            send(alloc, chart, bounds, world, *e, Some(*s), now)?;
+        Stmt::SendTo(event, state) => {
+            send(alloc, chart, bounds, world, *event, Some(*state), now)?;
             Ok(alive(chart, world, life))
         }
     }
@@ -127,14 +127,14 @@ fn send(
     chart: &Chart,
     bounds: Bounds,
     world: &mut LiveWorld,
-    e: u32,
+    event: u32,
     to: Option<u32>,
     now: Now,
 ) -> Result<(), Halt>
     requires fits { FitsChart (chart_of chart.now) world.old }
     requires to { IfSome to (λ s. IsState (chart_of chart.now) s) }
     ensures gives { Gives (λ _. tt)
-        (λ n. (upto (chart_of chart.now) bounds n).send e to (now_of now) world.old)
+        (λ n. (upto (chart_of chart.now) bounds n).send event to (now_of now) world.old)
         result world.new }
     ensures fits { FitsChart (chart_of chart.now) world.new }
 {
@@ -143,7 +143,7 @@ fn send(
     }
     world.pay(chart, bounds)?;
     let deeper = Now {
-        event: Event::Named(e),
+        event: Event::Named(event),
         depth: now.depth + 1,
     };
     match to {
@@ -151,11 +151,11 @@ fn send(
             process(alloc, chart, bounds, world, chart.root(), deeper)?;
             Ok(())
         }
-        Some(s) => {
-            if !world.on(chart, s) {
+        Some(state) => {
+            if !world.on(chart, state) {
                 return Ok(());
             }
-            process(alloc, chart, bounds, world, s, deeper)?;
+            process(alloc, chart, bounds, world, state, deeper)?;
             Ok(())
         }
     }

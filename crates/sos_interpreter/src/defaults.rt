@@ -23,19 +23,19 @@ pub(crate) fn defaults(
     chart: &Chart,
     bounds: Bounds,
     world: &mut LiveWorld,
-    s: u32,
+    state: u32,
     now: Now,
 ) -> Result<(), Halt>
     requires fits { FitsChart (chart_of chart.now) world.old }
-    requires state { IsState (chart_of chart.now) s }
+    requires state { IsState (chart_of chart.now) state }
     ensures gives { Gives (λ _. tt)
-        (λ n. (upto (chart_of chart.now) bounds n).defaults s (now_of now) world.old)
+        (λ n. (upto (chart_of chart.now) bounds n).defaults state (now_of now) world.old)
         result world.new }
     ensures fits { FitsChart (chart_of chart.now) world.new }
 {
-    match world.remembered(chart, s) {
-        Some(x) => enter(alloc, chart, bounds, world, x, x, now),
-        None => default_search(alloc, chart, bounds, world, s, now),
+    match world.remembered(chart, state) {
+        Some(child) => enter(alloc, chart, bounds, world, child, child, now),
+        None => default_search(alloc, chart, bounds, world, state, now),
     }
 }
 
@@ -46,13 +46,13 @@ fn default_search(
     chart: &Chart,
     bounds: Bounds,
     world: &mut LiveWorld,
-    s: u32,
+    state: u32,
     now: Now,
 ) -> Result<(), Halt>
     requires fits { FitsChart (chart_of chart.now) world.old }
-    requires state { IsState (chart_of chart.now) s }
+    requires state { IsState (chart_of chart.now) state }
     ensures gives { Gives (λ _. tt)
-        (λ n. moves.default_search (chart_of chart.now) (upto (chart_of chart.now) bounds n) s
+        (λ n. moves.default_search (chart_of chart.now) (upto (chart_of chart.now) bounds n) state
         (now_of now) world.old)
         result world.new }
     ensures fits { FitsChart (chart_of chart.now) world.new }
@@ -62,13 +62,15 @@ fn default_search(
         chart,
         bounds,
         world,
-        Life::Bare(s),
-        chart.list(s, ListKind::Default),
+        Life::Bare(state),
+        chart.list(state, ListKind::Default),
         now,
     )? {
-        Found::Fire(d, actions) => match play(alloc, chart, bounds, world, s, &actions, now)? {
+        Found::Fire(target, actions) => match play(
+            alloc, chart, bounds, world, state, &actions, now,
+        )? {
             End::Cut => Ok(()),
-            End::Done => enter_child(alloc, chart, bounds, world, s, d, now),
+            End::Done => enter_child(alloc, chart, bounds, world, state, target, now),
         },
         Found::DeadEnd => Ok(()),
         Found::No => Ok(()),

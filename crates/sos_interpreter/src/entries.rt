@@ -18,40 +18,40 @@ use checked_chart::{BlockKind, Chart};
 use flow_base::Bounds;
 use std::alloc::Global;
 
-/// Enters a state, on the path to d.
+/// Enters a state, on the path to `target`.
 #[cycle(rules)]
 pub(crate) fn enter(
     alloc: Global,
     chart: &Chart,
     bounds: Bounds,
     world: &mut LiveWorld,
-    s: u32,
-    d: u32,
+    state: u32,
+    target: u32,
     now: Now,
 ) -> Result<(), Halt>
     requires fits { FitsChart (chart_of chart.now) world.old }
-    requires state { IsState (chart_of chart.now) s }
-    requires to { IsState (chart_of chart.now) d }
+    requires state { IsState (chart_of chart.now) state }
+    requires to { IsState (chart_of chart.now) target }
     ensures gives { Gives (λ _. tt)
-        (λ n. (upto (chart_of chart.now) bounds n).enter s d (now_of now) world.old)
+        (λ n. (upto (chart_of chart.now) bounds n).enter state target (now_of now) world.old)
         result world.new }
     ensures fits { FitsChart (chart_of chart.now) world.new }
 {
-    if !world.can_mark(chart, s) {
+    if !world.can_mark(chart, state) {
         return Ok(());
     }
-    world.enter(chart, s);
+    world.enter(chart, state);
     match run_block(
         alloc,
         chart,
         bounds,
         world,
-        Life::Bare(s),
-        chart.block(s, BlockKind::Entry),
+        Life::Bare(state),
+        chart.block(state, BlockKind::Entry),
         now,
     )? {
         End::Cut => Ok(()),
-        End::Done => enter_inside(alloc, chart, bounds, world, s, d, now),
+        End::Done => enter_inside(alloc, chart, bounds, world, state, target, now),
     }
 }
 
@@ -62,23 +62,23 @@ fn enter_inside(
     chart: &Chart,
     bounds: Bounds,
     world: &mut LiveWorld,
-    s: u32,
-    d: u32,
+    state: u32,
+    target: u32,
     now: Now,
 ) -> Result<(), Halt>
     requires fits { FitsChart (chart_of chart.now) world.old }
-    requires state { IsState (chart_of chart.now) s }
-    requires to { IsState (chart_of chart.now) d }
+    requires state { IsState (chart_of chart.now) state }
+    requires to { IsState (chart_of chart.now) target }
     ensures gives { Gives (λ _. tt)
-        (λ n. moves.enter_inside (chart_of chart.now) (upto (chart_of chart.now) bounds n) s d
-        (now_of now) (comp_of (chart_of chart.now).tree s) world.old)
+        (λ n. moves.enter_inside (chart_of chart.now) (upto (chart_of chart.now) bounds n)
+        state target (now_of now) (comp_of (chart_of chart.now).tree state) world.old)
         result world.new }
     ensures fits { FitsChart (chart_of chart.now) world.new }
 {
-    match chart.comp(s) {
+    match chart.comp(state) {
         Comp::Leaf => Ok(()),
-        Comp::Or => enter_toward(alloc, chart, bounds, world, s, d, now),
-        Comp::And => enter_all(alloc, chart, bounds, world, s, d, now),
+        Comp::Or => enter_toward(alloc, chart, bounds, world, state, target, now),
+        Comp::And => enter_all(alloc, chart, bounds, world, state, target, now),
     }
 }
 
@@ -89,75 +89,83 @@ fn enter_all(
     chart: &Chart,
     bounds: Bounds,
     world: &mut LiveWorld,
-    s: u32,
-    d: u32,
+    state: u32,
+    target: u32,
     now: Now,
 ) -> Result<(), Halt>
     requires fits { FitsChart (chart_of chart.now) world.old }
-    requires state { IsState (chart_of chart.now) s }
-    requires to { IsState (chart_of chart.now) d }
+    requires state { IsState (chart_of chart.now) state }
+    requires to { IsState (chart_of chart.now) target }
     ensures gives { Gives (λ _. tt)
         (λ n. (upto (chart_of chart.now) bounds n).enter_each
-        (children_of (chart_of chart.now).tree s) d (now_of now) world.old)
+        (children_of (chart_of chart.now).tree state) target (now_of now) world.old)
         result world.new }
     ensures fits { FitsChart (chart_of chart.now) world.new }
 {
-    let mut next = chart.first_child(s);
-    while let Some(x) = next {
-        enter(alloc, chart, bounds, world, x, chart.path_in(x, d), now)?;
-        next = chart.next_sibling(x);
+    let mut next = chart.first_child(state);
+    while let Some(child) = next {
+        enter(
+            alloc,
+            chart,
+            bounds,
+            world,
+            child,
+            chart.path_in(child, target),
+            now,
+        )?;
+        next = chart.next_sibling(child);
     }
     Ok(())
 }
 
-/// Enters by default where the path ends, else the child towards d.
+/// Enters by default where the path ends, else the child towards `target`.
 #[cycle(rules)]
 pub(crate) fn enter_toward(
     alloc: Global,
     chart: &Chart,
     bounds: Bounds,
     world: &mut LiveWorld,
-    s: u32,
-    d: u32,
+    state: u32,
+    target: u32,
     now: Now,
 ) -> Result<(), Halt>
     requires fits { FitsChart (chart_of chart.now) world.old }
-    requires state { IsState (chart_of chart.now) s }
-    requires to { IsState (chart_of chart.now) d }
+    requires state { IsState (chart_of chart.now) state }
+    requires to { IsState (chart_of chart.now) target }
     ensures gives { Gives (λ _. tt)
-        (λ n. moves.enter_toward (chart_of chart.now) (upto (chart_of chart.now) bounds n) s d
-        (now_of now) world.old)
+        (λ n. moves.enter_toward (chart_of chart.now) (upto (chart_of chart.now) bounds n)
+        state target (now_of now) world.old)
         result world.new }
     ensures fits { FitsChart (chart_of chart.now) world.new }
 {
-    if s == d {
-        return defaults(alloc, chart, bounds, world, s, now);
+    if state == target {
+        return defaults(alloc, chart, bounds, world, state, now);
     }
-    enter_child(alloc, chart, bounds, world, s, d, now)
+    enter_child(alloc, chart, bounds, world, state, target, now)
 }
 
-/// Enters the child towards d.
+/// Enters the child towards `target`.
 #[cycle(rules)]
 pub(crate) fn enter_child(
     alloc: Global,
     chart: &Chart,
     bounds: Bounds,
     world: &mut LiveWorld,
-    s: u32,
-    d: u32,
+    state: u32,
+    target: u32,
     now: Now,
 ) -> Result<(), Halt>
     requires fits { FitsChart (chart_of chart.now) world.old }
-    requires state { IsState (chart_of chart.now) s }
-    requires to { IsState (chart_of chart.now) d }
+    requires state { IsState (chart_of chart.now) state }
+    requires to { IsState (chart_of chart.now) target }
     ensures gives { Gives (λ _. tt)
-        (λ n. work.if_some (homes.child_toward (chart_of chart.now).tree s d) work.nothing
-        (λ x. (upto (chart_of chart.now) bounds n).enter x d (now_of now)) world.old)
+        (λ n. work.if_some (homes.child_toward (chart_of chart.now).tree state target) work.nothing
+        (λ x. (upto (chart_of chart.now) bounds n).enter x target (now_of now)) world.old)
         result world.new }
     ensures fits { FitsChart (chart_of chart.now) world.new }
 {
-    match chart.child_toward(s, d) {
+    match chart.child_toward(state, target) {
         None => Ok(()),
-        Some(x) => enter(alloc, chart, bounds, world, x, d, now),
+        Some(child) => enter(alloc, chart, bounds, world, child, target, now),
     }
 }

@@ -23,21 +23,21 @@ fn exit(
     chart: &Chart,
     bounds: Bounds,
     world: &mut LiveWorld,
-    s: u32,
+    state: u32,
     now: Now,
 ) -> Result<(), Halt>
     requires fits { FitsChart (chart_of chart.now) world.old }
-    requires state { IsState (chart_of chart.now) s }
+    requires state { IsState (chart_of chart.now) state }
     ensures gives { Gives (λ _. tt)
-        (λ n. (upto (chart_of chart.now) bounds n).exit s (now_of now) world.old)
+        (λ n. (upto (chart_of chart.now) bounds n).exit state (now_of now) world.old)
         result world.new }
     ensures fits { FitsChart (chart_of chart.now) world.new }
 {
-    if !world.on(chart, s) {
+    if !world.on(chart, state) {
         return Ok(());
     }
-    exit_children(alloc, chart, bounds, world, s, now)?;
-    if !world.bare(chart, s) {
+    exit_children(alloc, chart, bounds, world, state, now)?;
+    if !world.bare(chart, state) {
         return Ok(());
     }
     match run_block(
@@ -45,14 +45,14 @@ fn exit(
         chart,
         bounds,
         world,
-        Life::Bare(s),
-        chart.block(s, BlockKind::Exit),
+        Life::Bare(state),
+        chart.block(state, BlockKind::Exit),
         now,
     )? {
         End::Cut => Ok(()),
         End::Done => {
-            if world.bare(chart, s) {
-                world.clear(chart, s);
+            if world.bare(chart, state) {
+                world.clear(chart, state);
             }
             Ok(())
         }
@@ -66,21 +66,21 @@ fn exit_children(
     chart: &Chart,
     bounds: Bounds,
     world: &mut LiveWorld,
-    s: u32,
+    state: u32,
     now: Now,
 ) -> Result<(), Halt>
     requires fits { FitsChart (chart_of chart.now) world.old }
-    requires state { IsState (chart_of chart.now) s }
+    requires state { IsState (chart_of chart.now) state }
     ensures gives { Gives (λ _. tt)
-        (λ n. moves.exit_children (chart_of chart.now) (upto (chart_of chart.now) bounds n) s
-        (now_of now) (comp_of (chart_of chart.now).tree s) world.old)
+        (λ n. moves.exit_children (chart_of chart.now) (upto (chart_of chart.now) bounds n) state
+        (now_of now) (comp_of (chart_of chart.now).tree state) world.old)
         result world.new }
     ensures fits { FitsChart (chart_of chart.now) world.new }
 {
-    match chart.comp(s) {
+    match chart.comp(state) {
         Comp::Leaf => Ok(()),
-        Comp::Or => exit_active(alloc, chart, bounds, world, s, now),
-        Comp::And => exit_all(alloc, chart, bounds, world, s, now),
+        Comp::Or => exit_active(alloc, chart, bounds, world, state, now),
+        Comp::And => exit_all(alloc, chart, bounds, world, state, now),
     }
 }
 
@@ -91,22 +91,22 @@ fn exit_all(
     chart: &Chart,
     bounds: Bounds,
     world: &mut LiveWorld,
-    s: u32,
+    state: u32,
     now: Now,
 ) -> Result<(), Halt>
     requires fits { FitsChart (chart_of chart.now) world.old }
-    requires state { IsState (chart_of chart.now) s }
+    requires state { IsState (chart_of chart.now) state }
     ensures gives { Gives (λ _. tt)
         (λ n. (upto (chart_of chart.now) bounds n).exit_each
-        (reverse (children_of (chart_of chart.now).tree s))
+        (reverse (children_of (chart_of chart.now).tree state))
         (now_of now) world.old)
         result world.new }
     ensures fits { FitsChart (chart_of chart.now) world.new }
 {
-    let mut next = chart.last_child(s);
-    while let Some(x) = next {
-        exit(alloc, chart, bounds, world, x, now)?;
-        next = chart.prev_sibling(x);
+    let mut next = chart.last_child(state);
+    while let Some(child) = next {
+        exit(alloc, chart, bounds, world, child, now)?;
+        next = chart.prev_sibling(child);
     }
     Ok(())
 }
@@ -118,19 +118,19 @@ pub(crate) fn exit_active(
     chart: &Chart,
     bounds: Bounds,
     world: &mut LiveWorld,
-    s: u32,
+    state: u32,
     now: Now,
 ) -> Result<(), Halt>
     requires fits { FitsChart (chart_of chart.now) world.old }
-    requires state { IsState (chart_of chart.now) s }
+    requires state { IsState (chart_of chart.now) state }
     ensures gives { Gives (λ _. tt)
-        (λ n. moves.exit_active (chart_of chart.now) (upto (chart_of chart.now) bounds n) s
+        (λ n. moves.exit_active (chart_of chart.now) (upto (chart_of chart.now) bounds n) state
         (now_of now) world.old)
         result world.new }
     ensures fits { FitsChart (chart_of chart.now) world.new }
 {
-    match world.active_child(chart, s) {
+    match world.active_child(chart, state) {
         None => Ok(()),
-        Some(x) => exit(alloc, chart, bounds, world, x, now),
+        Some(child) => exit(alloc, chart, bounds, world, child, now),
     }
 }

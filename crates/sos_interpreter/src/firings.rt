@@ -24,16 +24,16 @@ pub(crate) fn play(
     chart: &Chart,
     bounds: Bounds,
     world: &mut LiveWorld,
-    s: u32,
+    state: u32,
     actions: &[&[Stmt]],
     now: Now,
 ) -> Result<End, Halt>
     requires fits { FitsChart (chart_of chart.now) world.old }
-    requires state { IsState (chart_of chart.now) s }
+    requires state { IsState (chart_of chart.now) state }
     requires actions { AreActions (chart_of chart.now) (map (λ a. block_seen a.now) actions.now) }
     ensures gives { Gives (λ e. end_of e)
-        (λ n. (upto (chart_of chart.now) bounds n).play s (map (λ a. block_seen a.now) actions.now)
-        (now_of now) world.old)
+        (λ n. (upto (chart_of chart.now) bounds n).play state
+        (map (λ a. block_seen a.now) actions.now) (now_of now) world.old)
         result world.new }
     ensures fits { FitsChart (chart_of chart.now) world.new }
 {
@@ -42,7 +42,7 @@ pub(crate) fn play(
             continue;
         }
         world.pay(chart, bounds)?;
-        match run_block(alloc, chart, bounds, world, Life::Bare(s), action, now)? {
+        match run_block(alloc, chart, bounds, world, Life::Bare(state), action, now)? {
             End::Cut => return Ok(End::Cut),
             End::Done => {}
         }
@@ -57,32 +57,32 @@ pub(crate) fn take(
     chart: &Chart,
     bounds: Bounds,
     world: &mut LiveWorld,
-    s: u32,
-    d: u32,
+    state: u32,
+    target: u32,
     actions: &[&[Stmt]],
     now: Now,
 ) -> Result<(), Halt>
     requires fits { FitsChart (chart_of chart.now) world.old }
-    requires state { IsState (chart_of chart.now) s }
-    requires to { IsState (chart_of chart.now) d }
+    requires state { IsState (chart_of chart.now) state }
+    requires to { IsState (chart_of chart.now) target }
     requires actions { AreActions (chart_of chart.now) (map (λ a. block_seen a.now) actions.now) }
     ensures gives { Gives (λ _. tt)
-        (λ n. (upto (chart_of chart.now) bounds n).take s d
+        (λ n. (upto (chart_of chart.now) bounds n).take state target
         (map (λ a. block_seen a.now) actions.now) (now_of now) world.old)
         result world.new }
     ensures fits { FitsChart (chart_of chart.now) world.new }
 {
-    exit_active(alloc, chart, bounds, world, s, now)?;
-    if !world.bare(chart, s) {
+    exit_active(alloc, chart, bounds, world, state, now)?;
+    if !world.bare(chart, state) {
         return Ok(());
     }
-    match play(alloc, chart, bounds, world, s, actions, now)? {
+    match play(alloc, chart, bounds, world, state, actions, now)? {
         End::Cut => Ok(()),
         End::Done => {
-            if !world.bare(chart, s) {
+            if !world.bare(chart, state) {
                 return Ok(());
             }
-            enter_toward(alloc, chart, bounds, world, s, d, now)
+            enter_toward(alloc, chart, bounds, world, state, target, now)
         }
     }
 }

@@ -34,13 +34,13 @@ pub(crate) fn process(
     chart: &Chart,
     bounds: Bounds,
     world: &mut LiveWorld,
-    s: u32,
+    state: u32,
     now: Now,
 ) -> Result<Went, Halt>
     requires fits { FitsChart (chart_of chart.now) world.old }
-    requires state { IsState (chart_of chart.now) s }
+    requires state { IsState (chart_of chart.now) state }
     ensures gives { Gives (λ r. went_of r)
-        (λ n. (upto (chart_of chart.now) bounds n).process s (now_of now) world.old)
+        (λ n. (upto (chart_of chart.now) bounds n).process state (now_of now) world.old)
         result world.new }
     ensures fits { FitsChart (chart_of chart.now) world.new }
 {
@@ -49,18 +49,18 @@ pub(crate) fn process(
         chart,
         bounds,
         world,
-        Life::On(s),
-        chart.list(s, ListKind::Outer),
+        Life::On(state),
+        chart.list(state, ListKind::Outer),
         now,
     )? {
-        Found::Fire(d, actions) => {
-            let home = chart.home(s, ListKind::Outer, d);
-            take(alloc, chart, bounds, world, home, d, &actions, now)?;
+        Found::Fire(target, actions) => {
+            let home = chart.home(state, ListKind::Outer, target);
+            take(alloc, chart, bounds, world, home, target, &actions, now)?;
             Ok(Went::Out(home))
         }
         Found::Stop => Ok(Went::Stay),
-        Found::DeadEnd => go_on_inside(alloc, chart, bounds, world, s, now),
-        Found::No => go_on_inside(alloc, chart, bounds, world, s, now),
+        Found::DeadEnd => go_on_inside(alloc, chart, bounds, world, state, now),
+        Found::No => go_on_inside(alloc, chart, bounds, world, state, now),
     }
 }
 
@@ -71,14 +71,14 @@ fn go_on_inside(
     chart: &Chart,
     bounds: Bounds,
     world: &mut LiveWorld,
-    s: u32,
+    state: u32,
     now: Now,
 ) -> Result<Went, Halt>
     requires fits { FitsChart (chart_of chart.now) world.old }
-    requires state { IsState (chart_of chart.now) s }
+    requires state { IsState (chart_of chart.now) state }
     ensures gives { Gives (λ r. went_of r)
-        (λ n. processing.go_on_inside (chart_of chart.now) (upto (chart_of chart.now) bounds n) s
-        (now_of now) world.old)
+        (λ n. processing.go_on_inside (chart_of chart.now) (upto (chart_of chart.now) bounds n)
+        state (now_of now) world.old)
         result world.new }
     ensures fits { FitsChart (chart_of chart.now) world.new }
 {
@@ -87,8 +87,8 @@ fn go_on_inside(
         chart,
         bounds,
         world,
-        Life::On(s),
-        chart.block(s, BlockKind::During),
+        Life::On(state),
+        chart.block(state, BlockKind::During),
         now,
     )? {
         End::Cut => Ok(Went::Stay),
@@ -97,17 +97,17 @@ fn go_on_inside(
             chart,
             bounds,
             world,
-            Life::On(s),
-            chart.list(s, ListKind::Inner),
+            Life::On(state),
+            chart.list(state, ListKind::Inner),
             now,
         )? {
-            Found::Fire(d, actions) => {
-                take(alloc, chart, bounds, world, s, d, &actions, now)?;
+            Found::Fire(target, actions) => {
+                take(alloc, chart, bounds, world, state, target, &actions, now)?;
                 Ok(Went::Stay)
             }
             Found::Stop => Ok(Went::Stay),
-            Found::DeadEnd => process_children(alloc, chart, bounds, world, s, now),
-            Found::No => process_children(alloc, chart, bounds, world, s, now),
+            Found::DeadEnd => process_children(alloc, chart, bounds, world, state, now),
+            Found::No => process_children(alloc, chart, bounds, world, state, now),
         },
     }
 }
@@ -119,35 +119,35 @@ fn process_children(
     chart: &Chart,
     bounds: Bounds,
     world: &mut LiveWorld,
-    s: u32,
+    state: u32,
     now: Now,
 ) -> Result<Went, Halt>
     requires fits { FitsChart (chart_of chart.now) world.old }
-    requires state { IsState (chart_of chart.now) s }
+    requires state { IsState (chart_of chart.now) state }
     ensures gives { Gives (λ r. went_of r)
         (λ n. processing.process_children (chart_of chart.now) (upto (chart_of chart.now) bounds n)
-        s (now_of now) (comp_of (chart_of chart.now).tree s) world.old)
+        state (now_of now) (comp_of (chart_of chart.now).tree state) world.old)
         result world.new }
     ensures fits { FitsChart (chart_of chart.now) world.new }
 {
-    match chart.comp(s) {
+    match chart.comp(state) {
         Comp::Leaf => Ok(Went::Stay),
-        Comp::Or => match world.active_child(chart, s) {
+        Comp::Or => match world.active_child(chart, state) {
             None => Ok(Went::Stay),
-            Some(x) => match process(alloc, chart, bounds, world, x, now)? {
+            Some(child) => match process(alloc, chart, bounds, world, child, now)? {
                 Went::Stay => Ok(Went::Stay),
-                Went::Out(home) => Ok(out_of(s, home)),
+                Went::Out(home) => Ok(out_of(state, home)),
             },
         },
-        Comp::And => process_all(alloc, chart, bounds, world, s, now),
+        Comp::And => process_all(alloc, chart, bounds, world, state, now),
     }
 }
 
 /// How processing of an OR ends where a firing left its child: one whose home is the OR ends there.
-fn out_of(s: u32, home: u32) -> Went
-    ensures { went_of result ≡ went_from s home }
+fn out_of(state: u32, home: u32) -> Went
+    ensures { went_of result ≡ went_from state home }
 {
-    if home == s {
+    if home == state {
         Went::Stay
     } else {
         Went::Out(home)
@@ -161,24 +161,24 @@ fn process_all(
     chart: &Chart,
     bounds: Bounds,
     world: &mut LiveWorld,
-    s: u32,
+    state: u32,
     now: Now,
 ) -> Result<Went, Halt>
     requires fits { FitsChart (chart_of chart.now) world.old }
-    requires state { IsState (chart_of chart.now) s }
+    requires state { IsState (chart_of chart.now) state }
     ensures gives { Gives (λ r. went_of r)
         (λ n. (upto (chart_of chart.now) bounds n).process_each
-        (children_of (chart_of chart.now).tree s) (now_of now) world.old)
+        (children_of (chart_of chart.now).tree state) (now_of now) world.old)
         result world.new }
     ensures fits { FitsChart (chart_of chart.now) world.new }
 {
-    let mut next = chart.first_child(s);
-    while let Some(x) = next {
-        next = chart.next_sibling(x);
-        if !world.on(chart, x) {
+    let mut next = chart.first_child(state);
+    while let Some(child) = next {
+        next = chart.next_sibling(child);
+        if !world.on(chart, child) {
             continue;
         }
-        match process(alloc, chart, bounds, world, x, now)? {
+        match process(alloc, chart, bounds, world, child, now)? {
             Went::Stay => {}
             Went::Out(home) => return Ok(Went::Out(home)),
         }

@@ -68,20 +68,20 @@ pub(crate) fn search<'a>(
                 None => return Ok(Found::No),
                 Some(place) => rest = place.rest,
             },
-            Some((t, others)) => {
-                if enabled(chart, world, t, now)? {
-                    match run_block(alloc, chart, bounds, world, life, t.cond.items(), now)? {
+            Some((first, others)) => {
+                if enabled(chart, world, first, now)? {
+                    match run_block(alloc, chart, bounds, world, life, first.cond.items(), now)? {
                         End::Cut => return Ok(Found::Stop),
                         End::Done => {}
                     }
-                    match t.dest {
-                        Dest::State(d) => {
-                            let actions = actions_on(alloc, &places, t.act.items())?;
-                            return Ok(Found::Fire(d, actions));
+                    match first.dest {
+                        Dest::State(target) => {
+                            let actions = actions_on(alloc, &places, first.act.items())?;
+                            return Ok(Found::Fire(target, actions));
                         }
-                        Dest::Junction(j) => {
+                        Dest::Junction(junction) => {
                             world.pay(chart, bounds)?;
-                            let next = chart.junction(j);
+                            let next = chart.junction(junction);
                             if next.is_empty() {
                                 return Ok(Found::DeadEnd);
                             }
@@ -89,7 +89,7 @@ pub(crate) fn search<'a>(
                                 &mut places,
                                 Place {
                                     rest: others,
-                                    action: t.act.items(),
+                                    action: first.act.items(),
                                 },
                             )?;
                             rest = next;
@@ -104,17 +104,17 @@ pub(crate) fn search<'a>(
 }
 
 /// Whether a transition's event is the current one, and its guard holds.
-fn enabled(chart: &Chart, world: &LiveWorld, t: &Trans, now: Now) -> Result<bool, Halt>
+fn enabled(chart: &Chart, world: &LiveWorld, transition: &Trans, now: Now) -> Result<bool, Halt>
     requires fits { FitsChart (chart_of chart.now) world.now }
-    requires trans { IsTrans (chart_of chart.now) (trans_seen t.now) }
-    ensures does { Does (λ b. b) (searches.is_enabled (trans_seen t.now) (now_of now) world.now)
-        result world.now }
+    requires trans { IsTrans (chart_of chart.now) (trans_seen transition.now) }
+    ensures does { Does (λ b. b)
+        (searches.is_enabled (trans_seen transition.now) (now_of now) world.now) result world.now }
     ensures memory { result ≢ Err halts.Memory }
 {
-    if !event_fits(t.event, now.event) {
+    if !event_fits(transition.event, now.event) {
         return Ok(false);
     }
-    match &t.guard {
+    match &transition.guard {
         None => Ok(true),
         Some(guard) => world.is_true(chart, guard),
     }
@@ -126,10 +126,10 @@ fn event_fits(trigger: Option<u32>, event: Event) -> bool
 {
     match trigger {
         None => true,
-        Some(e) => match event {
+        Some(wanted) => match event {
             Event::Start => false,
             Event::Tick => false,
-            Event::Named(x) => x == e,
+            Event::Named(number) => number == wanted,
         },
     }
 }

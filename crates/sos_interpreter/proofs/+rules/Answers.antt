@@ -166,7 +166,7 @@ blocks::send-returns-in_ok-process-in-None-clause-gives t c =
 pub blocks::send-returns-then-not-on-clause-gives : goal.blocks::send-returns-then-not-on-clause-gives
 blocks::send-returns-then-not-on-clause-gives t c =
     let deep : nat_le c.args.bounds.depth c.args.now.depth ≡ false = grind (arith, nat_tests) in
-    let off : is_on c.in-Some.s c.pay.new.self.marks ≡ false = cc in
+    let off : is_on c.in-Some.state c.pay.new.self.marks ≡ false = cc in
     send_off _ _ _ deep c.in_ok-pay.ensures.does (ap (λ o. receives o c.pay.new.self) c.in-Some.is ∙ off)
 
 pub blocks::send-returns-in_err-process-in-Some-clause-gives :
@@ -176,7 +176,7 @@ blocks::send-returns-in_err-process-in-Some-clause-gives t c =
     c.in_err-process-in-Some.ensures.gives
     (λ x h.
     let deep : nat_le c.args.bounds.depth c.args.now.depth ≡ false = grind (arith, nat_tests) in
-    let on : is_on c.in-Some.s c.pay.new.self.marks ≡ true = cc in
+    let on : is_on c.in-Some.state c.pay.new.self.marks ≡ true = cc in
     send_on_fault _ _ _ deep c.in_ok-pay.ensures.does (ap (λ o. receives o c.pay.new.self) c.in-Some.is ∙ on)
     (ap receiver (sym c.in-Some.is)) (omega arith) h)
 
@@ -184,7 +184,7 @@ pub blocks::send-returns-in_ok-process-in-Some-clause-gives :
     goal.blocks::send-returns-in_ok-process-in-Some-clause-gives
 blocks::send-returns-in_ok-process-in-Some-clause-gives t c =
     let deep : nat_le c.args.bounds.depth c.args.now.depth ≡ false = grind (arith, nat_tests) in
-    let on : is_on c.in-Some.s c.pay.new.self.marks ≡ true = cc in
+    let on : is_on c.in-Some.state c.pay.new.self.marks ≡ true = cc in
     send_on _ _ _ deep c.in_ok-pay.ensures.does (ap (λ o. receives o c.pay.new.self) c.in-Some.is ∙ on)
     (ap receiver (sym c.in-Some.is)) (omega arith) c.in_ok-process-in-Some.ensures.gives
 
@@ -327,20 +327,20 @@ searches::search-returns-in-State-clause-gives t c =
 
 pub exits::exit-returns-then-not-on-clause-gives : goal.exits::exit-returns-then-not-on-clause-gives
 exits::exit-returns-then-not-on-clause-gives t c =
-    let off : is_on c.args.s c.args.world.now.marks ≡ false = cc in
+    let off : is_on c.args.state c.args.world.now.marks ≡ false = cc in
     exit_off _ _ _ off
 
 pub exits::exit-returns-in_err-exit_children-clause-gives : goal.exits::exit-returns-in_err-exit_children-clause-gives
 exits::exit-returns-in_err-exit_children-clause-gives t c =
     failed_through nothing_of _ _ _ _ c.from_residual.ensures.1 c.in_err-exit_children.ensures.gives (λ x h.
-    let on : is_on c.args.s c.args.world.now.marks ≡ true = cc in
+    let on : is_on c.args.state c.args.world.now.marks ≡ true = cc in
     exit_children_fault _ _ _ on h)
 
 pub exits::exit-returns-then-not-bare-clause-gives : goal.exits::exit-returns-then-not-bare-clause-gives
 exits::exit-returns-then-not-bare-clause-gives t c =
     let chart = chart_of c.args.chart.now in
-    let on : is_on c.args.s c.args.world.now.marks ≡ true = cc in
-    let bare : is_bare chart.tree c.args.s c.exit_children.new.world.marks ≡ false = cc in
+    let on : is_on c.args.state c.args.world.now.marks ≡ true = cc in
+    let bare : is_bare chart.tree c.args.state c.exit_children.new.world.marks ≡ false = cc in
     exit_not_bare _ _ _ on c.in_ok-exit_children.ensures.gives bare
 
 pub exits::exit-returns-in_err-run_block-clause-gives : goal.exits::exit-returns-in_err-run_block-clause-gives
@@ -348,24 +348,24 @@ exits::exit-returns-in_err-run_block-clause-gives t c =
     let chart = chart_of c.args.chart.now in
     failed_through end_of _ _ _ _ c.from_residual-in_err-run_block.ensures.1 c.in_err-run_block.ensures.gives
     (λ x h.
-    let on : is_on c.args.s c.args.world.now.marks ≡ true = cc in
-    let bare : is_bare chart.tree c.args.s c.exit_children.new.world.marks ≡ true = cc in
+    let on : is_on c.args.state c.args.world.now.marks ≡ true = cc in
+    let bare : is_bare chart.tree c.args.state c.exit_children.new.world.marks ≡ true = cc in
     exit_block_fault _ _ _ c.block.ensures.block on c.in_ok-exit_children.ensures.gives bare h)
 
 pub exits::exit-returns-in-Cut-clause-gives : goal.exits::exit-returns-in-Cut-clause-gives
 exits::exit-returns-in-Cut-clause-gives t c =
     let chart = chart_of c.args.chart.now in
-    let on : is_on c.args.s c.args.world.now.marks ≡ true = cc in
-    let bare : is_bare chart.tree c.args.s c.exit_children.new.world.marks ≡ true = cc in
+    let on : is_on c.args.state c.args.world.now.marks ≡ true = cc in
+    let bare : is_bare chart.tree c.args.state c.exit_children.new.world.marks ≡ true = cc in
     exit_cut _ _ _ c.block.ensures.block on c.in_ok-exit_children.ensures.gives bare
     (ended_as end_of c.in-Cut.is c.in_ok-run_block.ensures.gives)
 
 pub exits::exit-returns-else-bare-clause-gives : goal.exits::exit-returns-else-bare-clause-gives
 exits::exit-returns-else-bare-clause-gives t c =
     let chart = chart_of c.args.chart.now in
-    let on : is_on c.args.s c.args.world.now.marks ≡ true = cc in
-    let bare : is_bare chart.tree c.args.s c.exit_children.new.world.marks ≡ true = cc in
-    let off : is_bare chart.tree c.args.s c.run_block.new.world.marks ≡ false = cc in
+    let on : is_on c.args.state c.args.world.now.marks ≡ true = cc in
+    let bare : is_bare chart.tree c.args.state c.exit_children.new.world.marks ≡ true = cc in
+    let off : is_bare chart.tree c.args.state c.run_block.new.world.marks ≡ false = cc in
     exit_kept _ _ _ c.block.ensures.block on c.in_ok-exit_children.ensures.gives bare
     (ended_as end_of c.in-Done.is c.in_ok-run_block.ensures.gives) off
 
@@ -373,31 +373,31 @@ pub exits::exit-returns-then-bare-clause-gives : goal.exits::exit-returns-then-b
 exits::exit-returns-then-bare-clause-gives t c =
     let chart = chart_of c.args.chart.now in
     let now = now_of c.args.now in
-    let on : is_on c.args.s c.args.world.now.marks ≡ true = cc in
-    let bare : is_bare chart.tree c.args.s c.exit_children.new.world.marks ≡ true = cc in
-    let off : is_bare chart.tree c.args.s c.run_block.new.world.marks ≡ true = cc in
-    subst (λ v. Settled (λ n. (upto chart c.args.bounds n).exit c.args.s now c.args.world.now) (Ended tt v))
+    let on : is_on c.args.state c.args.world.now.marks ≡ true = cc in
+    let bare : is_bare chart.tree c.args.state c.exit_children.new.world.marks ≡ true = cc in
+    let off : is_bare chart.tree c.args.state c.run_block.new.world.marks ≡ true = cc in
+    subst (λ v. Settled (λ n. (upto chart c.args.bounds n).exit c.args.state now c.args.world.now) (Ended tt v))
     (sym c.clear.ensures.cleared) (exit_left _ _ _ c.block.ensures.block on c.in_ok-exit_children.ensures.gives bare
     (ended_as end_of c.in-Done.is c.in_ok-run_block.ensures.gives) off)
 
 pub exits::exit_children-returns-in-Leaf-clause-gives : goal.exits::exit_children-returns-in-Leaf-clause-gives
 exits::exit_children-returns-in-Leaf-clause-gives t c =
-    exit_children_leaf _ _ _ c.args.s c.in-Leaf.ensures
+    exit_children_leaf _ _ _ c.args.state c.in-Leaf.ensures
 
 pub exits::exit_children-returns-in-Or-clause-gives : goal.exits::exit_children-returns-in-Or-clause-gives
 exits::exit_children-returns-in-Or-clause-gives t c =
     passed _ _ _ c.exit_active.ensures.gives
-    (λ q h. exit_children_or _ _ _ c.args.s c.args.world.now c.in-Or.ensures h)
+    (λ q h. exit_children_or _ _ _ c.args.state c.args.world.now c.in-Or.ensures h)
 
 pub exits::exit_children-returns-in-And-clause-gives : goal.exits::exit_children-returns-in-And-clause-gives
 exits::exit_children-returns-in-And-clause-gives t c =
-    passed _ _ _ c.exit_all.ensures.gives (λ q h. exit_children_and _ _ _ c.args.s c.in-And.ensures refl h)
+    passed _ _ _ c.exit_all.ensures.gives (λ q h. exit_children_and _ _ _ c.args.state c.in-And.ensures refl h)
 
 pub exits::exit_all-loop-next-init : goal.exits::exit_all-loop-next-init
 exits::exit_all-loop-next-init t c = record {
   goes = exit_turns_begin _ _ _ _ c.last_child-next.ensures.child;
   stands =
-      stands_last (chart_of c.args.chart.now).tree c.last_child-next.ensures.tree c.args.s _
+      stands_last (chart_of c.args.chart.now).tree c.last_child-next.ensures.tree c.args.state _
       c.last_child-next.ensures.child;
   fits = c.requires.fits;
 }
@@ -408,7 +408,8 @@ exits::exit_all-returns-in_err-exit-clause-gives t c =
     (λ x h. exit_turn_fault _ _ _ _ c.loop-next.invariant.goes c.in-Some.is c.loop-next.invariant.stands h)
 
 pub exits::exit_all-prev_sibling-next-requires : goal.exits::exit_all-prev_sibling-next-requires
-exits::exit_all-prev_sibling-next-requires t c = (c.loop-next.invariant.stands.child c.in-Some.x c.in-Some.is).within
+exits::exit_all-prev_sibling-next-requires t c =
+    (c.loop-next.invariant.stands.child c.in-Some.child c.in-Some.is).within
 
 pub exits::exit_all-loop-next-preserved : goal.exits::exit_all-loop-next-preserved
 exits::exit_all-loop-next-preserved t c =
@@ -418,7 +419,7 @@ exits::exit_all-loop-next-preserved t c =
           exit_turn _ _ _ _ c.loop-next.invariant.goes c.in-Some.is c.loop-next.invariant.stands
           c.prev_sibling-next.ensures.sibling c.in_ok-exit.ensures.gives;
       stands =
-          stands_prev chart.tree c.prev_sibling-next.ensures.tree c.args.s c.in-Some.x _ _ c.in-Some.is
+          stands_prev chart.tree c.prev_sibling-next.ensures.tree c.args.state c.in-Some.child _ _ c.in-Some.is
           c.loop-next.invariant.stands c.prev_sibling-next.ensures.sibling;
       fits = c.exit.ensures.fits;
     }
@@ -429,76 +430,76 @@ exits::exit_all-returns-clause-gives t c =
 
 pub exits::exit_all-exit-requires : goal.exits::exit_all-exit-requires
 exits::exit_all-exit-requires t c =
-    let child = c.loop-next.invariant.stands.child c.in-Some.x c.in-Some.is in
+    let child = c.loop-next.invariant.stands.child c.in-Some.child c.in-Some.is in
     (omega (arith, child.above, child.within, c.decreases), (c.loop-next.invariant.fits, child.within))
 
 pub exits::exit_active-returns-in-None-clause-gives : goal.exits::exit_active-returns-in-None-clause-gives
 exits::exit_active-returns-in-None-clause-gives t c =
-    exit_active_none _ _ _ c.args.s c.in-None.ensures.child
+    exit_active_none _ _ _ c.args.state c.in-None.ensures.child
 
 pub exits::exit_active-returns-in-Some-clause-gives : goal.exits::exit_active-returns-in-Some-clause-gives
 exits::exit_active-returns-in-Some-clause-gives t c =
-    passed _ _ _ c.exit.ensures.gives (λ q h. exit_active_one _ _ _ c.args.s c.in-Some.ensures.child h)
+    passed _ _ _ c.exit.ensures.gives (λ q h. exit_active_one _ _ _ c.args.state c.in-Some.ensures.child h)
 
 -- ---- entering
 
 pub entries::enter-returns-then-not-can_mark-clause-gives : goal.entries::enter-returns-then-not-can_mark-clause-gives
 entries::enter-returns-then-not-can_mark-clause-gives t c =
     let chart = chart_of c.args.chart.now in
-    let can : can_mark chart.tree c.args.s c.args.world.now.marks ≡ false = cc in
+    let can : can_mark chart.tree c.args.state c.args.world.now.marks ≡ false = cc in
     enter_no _ _ _ can
 
 pub entries::enter-returns-in_err-run_block-clause-gives : goal.entries::enter-returns-in_err-run_block-clause-gives
 entries::enter-returns-in_err-run_block-clause-gives t c =
     let chart = chart_of c.args.chart.now in
     failed_through end_of _ _ _ _ c.from_residual.ensures.1 c.in_err-run_block.ensures.gives (λ x h.
-    let can : can_mark chart.tree c.args.s c.args.world.now.marks ≡ true = cc in
-    enter_fault _ _ _ c.args.d c.args.world.now c.block.ensures.block can c.enter.ensures.entered h)
+    let can : can_mark chart.tree c.args.state c.args.world.now.marks ≡ true = cc in
+    enter_fault _ _ _ c.args.target c.args.world.now c.block.ensures.block can c.enter.ensures.entered h)
 
 pub entries::enter-returns-in-Cut-clause-gives : goal.entries::enter-returns-in-Cut-clause-gives
 entries::enter-returns-in-Cut-clause-gives t c =
     let chart = chart_of c.args.chart.now in
-    let can : can_mark chart.tree c.args.s c.args.world.now.marks ≡ true = cc in
-    enter_cut _ _ _ c.args.d c.args.world.now c.block.ensures.block can c.enter.ensures.entered
+    let can : can_mark chart.tree c.args.state c.args.world.now.marks ≡ true = cc in
+    enter_cut _ _ _ c.args.target c.args.world.now c.block.ensures.block can c.enter.ensures.entered
     (ended_as end_of c.in-Cut.is c.in_ok-run_block.ensures.gives)
 
 pub entries::enter-returns-in-Done-clause-gives : goal.entries::enter-returns-in-Done-clause-gives
 entries::enter-returns-in-Done-clause-gives t c =
     let chart = chart_of c.args.chart.now in
     passed _ _ _ c.enter_inside.ensures.gives (λ q h.
-    let can : can_mark chart.tree c.args.s c.args.world.now.marks ≡ true = cc in
-    enter_done _ _ _ c.args.d c.args.world.now c.block.ensures.block can c.enter.ensures.entered
+    let can : can_mark chart.tree c.args.state c.args.world.now.marks ≡ true = cc in
+    enter_done _ _ _ c.args.target c.args.world.now c.block.ensures.block can c.enter.ensures.entered
     (ended_as end_of c.in-Done.is c.in_ok-run_block.ensures.gives) h)
 
 pub entries::enter_inside-returns-in-Leaf-clause-gives : goal.entries::enter_inside-returns-in-Leaf-clause-gives
 entries::enter_inside-returns-in-Leaf-clause-gives t c =
-    inside_leaf _ _ _ c.args.s c.args.d c.in-Leaf.ensures
+    inside_leaf _ _ _ c.args.state c.args.target c.in-Leaf.ensures
 
 pub entries::enter_inside-returns-in-Or-clause-gives : goal.entries::enter_inside-returns-in-Or-clause-gives
 entries::enter_inside-returns-in-Or-clause-gives t c =
     passed _ _ _ c.enter_toward.ensures.gives
-    (λ q h. inside_or _ _ _ c.args.s c.args.d c.args.world.now c.in-Or.ensures h)
+    (λ q h. inside_or _ _ _ c.args.state c.args.target c.args.world.now c.in-Or.ensures h)
 
 pub entries::enter_inside-returns-in-And-clause-gives : goal.entries::enter_inside-returns-in-And-clause-gives
 entries::enter_inside-returns-in-And-clause-gives t c =
-    passed _ _ _ c.enter_all.ensures.gives (λ q h. inside_each _ _ _ c.args.s c.in-And.ensures refl h)
+    passed _ _ _ c.enter_all.ensures.gives (λ q h. inside_each _ _ _ c.args.state c.in-And.ensures refl h)
 
 pub entries::enter_all-loop-next-init : goal.entries::enter_all-loop-next-init
 entries::enter_all-loop-next-init t c = record {
   goes = enter_turns_begin _ _ _ _ c.first_child-next.ensures.child;
   stands =
-      stands_first (chart_of c.args.chart.now).tree c.first_child-next.ensures.tree c.args.s _
+      stands_first (chart_of c.args.chart.now).tree c.first_child-next.ensures.tree c.args.state _
       c.first_child-next.ensures.child;
   fits = c.requires.fits;
 }
 
 pub entries::enter_all-path_in-requires-clause-child : goal.entries::enter_all-path_in-requires-clause-child
 entries::enter_all-path_in-requires-clause-child t c =
-    (c.loop-next.invariant.stands.child c.in-Some.x c.in-Some.is).within
+    (c.loop-next.invariant.stands.child c.in-Some.child c.in-Some.is).within
 
 pub entries::enter_all-enter-requires : goal.entries::enter_all-enter-requires
 entries::enter_all-enter-requires t c =
-    let child = c.loop-next.invariant.stands.child c.in-Some.x c.in-Some.is in (
+    let child = c.loop-next.invariant.stands.child c.in-Some.child c.in-Some.is in (
       omega (arith, child.above, child.within, c.decreases),
       (c.loop-next.invariant.fits, (child.within, c.path_in.ensures.within)),
     )
@@ -510,12 +511,13 @@ entries::enter_all-returns-in_err-enter-clause-gives t c =
     c.loop-next.invariant.stands c.path_in.ensures.path h)
 
 pub entries::enter_all-next_sibling-next-requires : goal.entries::enter_all-next_sibling-next-requires
-entries::enter_all-next_sibling-next-requires t c = (c.loop-next.invariant.stands.child c.in-Some.x c.in-Some.is).within
+entries::enter_all-next_sibling-next-requires t c =
+    (c.loop-next.invariant.stands.child c.in-Some.child c.in-Some.is).within
 
 pub entries::enter_all-loop-next-smaller : goal.entries::enter_all-loop-next-smaller
 entries::enter_all-loop-next-smaller t c =
-    ahead_falls (chart_of c.args.chart.now).tree c.in-Some.x _ _ c.in-Some.is
-    (c.loop-next.invariant.stands.child c.in-Some.x c.in-Some.is).within c.next_sibling-next.ensures.after
+    ahead_falls (chart_of c.args.chart.now).tree c.in-Some.child _ _ c.in-Some.is
+    (c.loop-next.invariant.stands.child c.in-Some.child c.in-Some.is).within c.next_sibling-next.ensures.after
 
 pub entries::enter_all-loop-next-preserved : goal.entries::enter_all-loop-next-preserved
 entries::enter_all-loop-next-preserved t c =
@@ -526,7 +528,7 @@ entries::enter_all-loop-next-preserved t c =
           c.loop-next.invariant.goes c.in-Some.is c.loop-next.invariant.stands c.path_in.ensures.path
           c.next_sibling-next.ensures.sibling c.in_ok-enter.ensures.gives;
       stands =
-          stands_next chart.tree c.next_sibling-next.ensures.tree c.args.s c.in-Some.x _ _ c.in-Some.is
+          stands_next chart.tree c.next_sibling-next.ensures.tree c.args.state c.in-Some.child _ _ c.in-Some.is
           c.loop-next.invariant.stands c.next_sibling-next.ensures.sibling;
       fits = c.enter.ensures.fits;
     }
@@ -535,29 +537,31 @@ pub entries::enter_all-returns-clause-gives : goal.entries::enter_all-returns-cl
 entries::enter_all-returns-clause-gives t c =
     enter_turns_end _ _ _ _ c.loop-next.invariant.goes c.in_default.is
 
-pub entries::enter_toward-returns-then-s-d-clause-gives : goal.entries::enter_toward-returns-then-s-d-clause-gives
-entries::enter_toward-returns-then-s-d-clause-gives t c =
+pub entries::enter_toward-returns-then-state-target-clause-gives :
+    goal.entries::enter_toward-returns-then-state-target-clause-gives
+entries::enter_toward-returns-then-state-target-clause-gives t c =
     passed _ _ _ c.defaults.ensures.gives (λ q h.
-    let sd : (c.args.s == c.args.d) ≡ true = grind (arith, nat_tests) in
-    settled_true (c.args.s == c.args.d)
-    (λ n. (upto (chart_of c.args.chart.now) c.args.bounds n).defaults c.args.s (now_of c.args.now)) _ c.args.world.now q
-    sd h)
+    let sd : (c.args.state == c.args.target) ≡ true = grind (arith, nat_tests) in
+    settled_true (c.args.state == c.args.target)
+    (λ n. (upto (chart_of c.args.chart.now) c.args.bounds n).defaults c.args.state (now_of c.args.now)) _
+    c.args.world.now q sd h)
 
 pub entries::enter_toward-returns-clause-gives : goal.entries::enter_toward-returns-clause-gives
 entries::enter_toward-returns-clause-gives t c =
     let chart = chart_of c.args.chart.now in
     passed _ _ _ c.enter_child.ensures.gives (λ q h.
-    let sd : (c.args.s == c.args.d) ≡ false = grind (arith, nat_tests) in
-    settled_false (c.args.s == c.args.d) _ (λ n. if_some (child_toward chart.tree c.args.s c.args.d) nothing
-    (λ x. (upto chart c.args.bounds n).enter x c.args.d (now_of c.args.now))) c.args.world.now q sd h)
+    let sd : (c.args.state == c.args.target) ≡ false = grind (arith, nat_tests) in
+    settled_false (c.args.state == c.args.target) _
+    (λ n. if_some (child_toward chart.tree c.args.state c.args.target) nothing
+    (λ x. (upto chart c.args.bounds n).enter x c.args.target (now_of c.args.now))) c.args.world.now q sd h)
 
 pub entries::enter_child-returns-in-None-clause-gives : goal.entries::enter_child-returns-in-None-clause-gives
 entries::enter_child-returns-in-None-clause-gives t c =
-    toward_none _ _ _ c.args.s c.args.d c.in-None.ensures.child
+    toward_none _ _ _ c.args.state c.args.target c.in-None.ensures.child
 
 pub entries::enter_child-returns-in-Some-clause-gives : goal.entries::enter_child-returns-in-Some-clause-gives
 entries::enter_child-returns-in-Some-clause-gives t c =
-    passed _ _ _ c.enter.ensures.gives (λ q h. toward_one _ _ _ c.args.s c.in-Some.ensures.child h)
+    passed _ _ _ c.enter.ensures.gives (λ q h. toward_one _ _ _ c.args.state c.in-Some.ensures.child h)
 
 -- ---- entering by default
 
@@ -569,43 +573,45 @@ pub defaults::defaults-returns-in-None-clause-gives : goal.defaults::defaults-re
 defaults::defaults-returns-in-None-clause-gives t c =
     passed _ _ _ c.default_search.ensures.gives (λ q h. defaults_search _ _ _ c.in-None.ensures.child h)
 
-pub defaults::default_search-returns-in_err-d-clause-gives : goal.defaults::default_search-returns-in_err-d-clause-gives
-defaults::default_search-returns-in_err-d-clause-gives t c =
-    failed_through found_of _ _ _ _ c.from_residual.ensures.1 c.in_err-d.ensures.gives (λ x h. default_fault _ _ _
+pub defaults::default_search-returns-in_err-target-clause-gives :
+    goal.defaults::default_search-returns-in_err-target-clause-gives
+defaults::default_search-returns-in_err-target-clause-gives t c =
+    failed_through found_of _ _ _ _ c.from_residual.ensures.1 c.in_err-target.ensures.gives (λ x h. default_fault _ _ _
     c.list.ensures.list h)
 
 pub defaults::default_search-returns-in-DeadEnd-clause-gives :
     goal.defaults::default_search-returns-in-DeadEnd-clause-gives
 defaults::default_search-returns-in-DeadEnd-clause-gives t c =
-    default_after _ _ _ c.list.ensures.list (ended_as found_of c.in-DeadEnd.is c.in_ok-d.ensures.gives)
+    default_after _ _ _ c.list.ensures.list (ended_as found_of c.in-DeadEnd.is c.in_ok-target.ensures.gives)
     (settled_now _)
 
 pub defaults::default_search-returns-in-No-clause-gives : goal.defaults::default_search-returns-in-No-clause-gives
 defaults::default_search-returns-in-No-clause-gives t c =
-    default_after _ _ _ c.list.ensures.list (ended_as found_of c.in-No.is c.in_ok-d.ensures.gives) (settled_now _)
+    default_after _ _ _ c.list.ensures.list (ended_as found_of c.in-No.is c.in_ok-target.ensures.gives) (settled_now _)
 
 pub defaults::default_search-returns-clause-gives : goal.defaults::default_search-returns-clause-gives
 defaults::default_search-returns-clause-gives t c =
-    default_after _ _ _ c.list.ensures.list (ended_as found_of c.in-Stop.is c.in_ok-d.ensures.gives) (settled_now _)
+    default_after _ _ _ c.list.ensures.list (ended_as found_of c.in-Stop.is c.in_ok-target.ensures.gives)
+    (settled_now _)
 
 pub defaults::default_search-returns-in_err-play-in-Fire-clause-gives :
     goal.defaults::default_search-returns-in_err-play-in-Fire-clause-gives
 defaults::default_search-returns-in_err-play-in-Fire-clause-gives t c =
     failed_through end_of _ _ _ _ c.from_residual-in_err-play-in-Fire.ensures.1 c.in_err-play-in-Fire.ensures.gives
-    (λ x h. default_after _ _ _ c.list.ensures.list (ended_as found_of c.in-Fire.is c.in_ok-d.ensures.gives)
-    (fired_fault _ _ _ c.in-Fire.d (ap (map (λ a. block_seen a.now)) c.deref.ensures.value) h))
+    (λ x h. default_after _ _ _ c.list.ensures.list (ended_as found_of c.in-Fire.is c.in_ok-target.ensures.gives)
+    (fired_fault _ _ _ c.in-Fire.target (ap (map (λ a. block_seen a.now)) c.deref.ensures.value) h))
 
 pub defaults::default_search-returns-in-Cut-clause-gives : goal.defaults::default_search-returns-in-Cut-clause-gives
 defaults::default_search-returns-in-Cut-clause-gives t c =
-    default_after _ _ _ c.list.ensures.list (ended_as found_of c.in-Fire.is c.in_ok-d.ensures.gives)
-    (fired_cut _ _ _ c.in-Fire.d (ap (map (λ a. block_seen a.now)) c.deref.ensures.value)
+    default_after _ _ _ c.list.ensures.list (ended_as found_of c.in-Fire.is c.in_ok-target.ensures.gives)
+    (fired_cut _ _ _ c.in-Fire.target (ap (map (λ a. block_seen a.now)) c.deref.ensures.value)
     (ended_as end_of c.in-Cut.is c.in_ok-play-in-Fire.ensures.gives))
 
 pub defaults::default_search-returns-in-Fire-clause-gives : goal.defaults::default_search-returns-in-Fire-clause-gives
 defaults::default_search-returns-in-Fire-clause-gives t c =
     passed _ _ _ c.enter_child.ensures.gives
-    (λ q h. default_after _ _ _ c.list.ensures.list (ended_as found_of c.in-Fire.is c.in_ok-d.ensures.gives)
-    (fired_done _ _ _ c.in-Fire.d (ap (map (λ a. block_seen a.now)) c.deref.ensures.value)
+    (λ q h. default_after _ _ _ c.list.ensures.list (ended_as found_of c.in-Fire.is c.in_ok-target.ensures.gives)
+    (fired_done _ _ _ c.in-Fire.target (ap (map (λ a. block_seen a.now)) c.deref.ensures.value)
     (ended_as end_of c.in-Done.is c.in_ok-play-in-Fire.ensures.gives) h))
 
 -- ---- firings
@@ -681,27 +687,27 @@ firings::take-returns-in_err-exit_active-clause-gives t c =
 pub firings::take-returns-then-not-bare-clause-gives : goal.firings::take-returns-then-not-bare-clause-gives
 firings::take-returns-then-not-bare-clause-gives t c =
     let chart = chart_of c.args.chart.now in
-    let bare : is_bare chart.tree c.args.s c.exit_active.new.world.marks ≡ false = cc in
+    let bare : is_bare chart.tree c.args.state c.exit_active.new.world.marks ≡ false = cc in
     take_not_bare _ _ _ c.in_ok-exit_active.ensures.gives bare
 
 pub firings::take-returns-in_err-play-clause-gives : goal.firings::take-returns-in_err-play-clause-gives
 firings::take-returns-in_err-play-clause-gives t c =
     let chart = chart_of c.args.chart.now in
     failed_through end_of _ _ _ _ c.from_residual-in_err-play.ensures.1 c.in_err-play.ensures.gives (λ x h.
-    let bare : is_bare chart.tree c.args.s c.exit_active.new.world.marks ≡ true = cc in
+    let bare : is_bare chart.tree c.args.state c.exit_active.new.world.marks ≡ true = cc in
     take_play_fault _ _ _ c.in_ok-exit_active.ensures.gives bare h)
 
 pub firings::take-returns-in-Cut-clause-gives : goal.firings::take-returns-in-Cut-clause-gives
 firings::take-returns-in-Cut-clause-gives t c =
     let chart = chart_of c.args.chart.now in
-    let bare : is_bare chart.tree c.args.s c.exit_active.new.world.marks ≡ true = cc in
+    let bare : is_bare chart.tree c.args.state c.exit_active.new.world.marks ≡ true = cc in
     take_cut _ _ _ c.in_ok-exit_active.ensures.gives bare (ended_as end_of c.in-Cut.is c.in_ok-play.ensures.gives)
 
 pub firings::take-returns-then-not-bare-2-clause-gives : goal.firings::take-returns-then-not-bare-2-clause-gives
 firings::take-returns-then-not-bare-2-clause-gives t c =
     let chart = chart_of c.args.chart.now in
-    let bare : is_bare chart.tree c.args.s c.exit_active.new.world.marks ≡ true = cc in
-    let off : is_bare chart.tree c.args.s c.play.new.world.marks ≡ false = cc in
+    let bare : is_bare chart.tree c.args.state c.exit_active.new.world.marks ≡ true = cc in
+    let off : is_bare chart.tree c.args.state c.play.new.world.marks ≡ false = cc in
     take_left _ _ _ c.in_ok-exit_active.ensures.gives bare
     (ended_as end_of c.in-Done.is c.in_ok-play.ensures.gives) off
 
@@ -709,44 +715,46 @@ pub firings::take-returns-else-not-bare-2-clause-gives : goal.firings::take-retu
 firings::take-returns-else-not-bare-2-clause-gives t c =
     let chart = chart_of c.args.chart.now in
     passed _ _ _ c.enter_toward.ensures.gives (λ q h.
-    let bare : is_bare chart.tree c.args.s c.exit_active.new.world.marks ≡ true = cc in
-    let off : is_bare chart.tree c.args.s c.play.new.world.marks ≡ true = cc in
+    let bare : is_bare chart.tree c.args.state c.exit_active.new.world.marks ≡ true = cc in
+    let off : is_bare chart.tree c.args.state c.play.new.world.marks ≡ true = cc in
     take_enters _ _ _ c.in_ok-exit_active.ensures.gives bare
     (ended_as end_of c.in-Done.is c.in_ok-play.ensures.gives) off h)
 
 -- ---- processing
 
-pub processing::process-returns-in_err-d-clause-gives : goal.processing::process-returns-in_err-d-clause-gives
-processing::process-returns-in_err-d-clause-gives t c =
-    failed_through found_of _ _ _ _ c.from_residual.ensures.1 c.in_err-d.ensures.gives (λ x h. process_fault _ _ _
+pub processing::process-returns-in_err-target-clause-gives : goal.processing::process-returns-in_err-target-clause-gives
+processing::process-returns-in_err-target-clause-gives t c =
+    failed_through found_of _ _ _ _ c.from_residual.ensures.1 c.in_err-target.ensures.gives (λ x h. process_fault _ _ _
     c.list.ensures.list h)
 
 pub processing::process-returns-in-Stop-clause-gives : goal.processing::process-returns-in-Stop-clause-gives
 processing::process-returns-in-Stop-clause-gives t c =
-    process_after _ _ _ c.list.ensures.list (ended_as found_of c.in-Stop.is c.in_ok-d.ensures.gives) (settled_now _)
+    process_after _ _ _ c.list.ensures.list (ended_as found_of c.in-Stop.is c.in_ok-target.ensures.gives)
+    (settled_now _)
 
 pub processing::process-returns-in-DeadEnd-clause-gives : goal.processing::process-returns-in-DeadEnd-clause-gives
 processing::process-returns-in-DeadEnd-clause-gives t c =
     passed _ _ _ c.go_on_inside.ensures.gives (λ q h. process_after _ _ _ c.list.ensures.list
-    (ended_as found_of c.in-DeadEnd.is c.in_ok-d.ensures.gives) h)
+    (ended_as found_of c.in-DeadEnd.is c.in_ok-target.ensures.gives) h)
 
 pub processing::process-returns-in-No-clause-gives : goal.processing::process-returns-in-No-clause-gives
 processing::process-returns-in-No-clause-gives t c =
     passed _ _ _ c.go_on_inside-in-No.ensures.gives (λ q h. process_after _ _ _ c.list.ensures.list
-    (ended_as found_of c.in-No.is c.in_ok-d.ensures.gives) h)
+    (ended_as found_of c.in-No.is c.in_ok-target.ensures.gives) h)
 
 pub processing::process-returns-in_err-take-in-Fire-clause-gives :
     goal.processing::process-returns-in_err-take-in-Fire-clause-gives
 processing::process-returns-in_err-take-in-Fire-clause-gives t c =
     failed_through nothing_of _ _ _ _ c.from_residual-in_err-take-in-Fire.ensures.1 c.in_err-take-in-Fire.ensures.gives
-    (λ x h. process_after _ _ _ c.list.ensures.list (ended_as found_of c.in-Fire.is c.in_ok-d.ensures.gives)
-    (outer_fault _ _ _ c.args.s c.home-home.ensures.home (ap (map (λ a. block_seen a.now)) c.deref.ensures.value) h))
+    (λ x h. process_after _ _ _ c.list.ensures.list (ended_as found_of c.in-Fire.is c.in_ok-target.ensures.gives)
+    (outer_fault _ _ _ c.args.state c.home-home.ensures.home (ap (map (λ a. block_seen a.now)) c.deref.ensures.value)
+    h))
 
 pub processing::process-returns-in_ok-take-in-Fire-clause-gives :
     goal.processing::process-returns-in_ok-take-in-Fire-clause-gives
 processing::process-returns-in_ok-take-in-Fire-clause-gives t c =
-    process_after _ _ _ c.list.ensures.list (ended_as found_of c.in-Fire.is c.in_ok-d.ensures.gives)
-    (outer_taken _ _ _ c.args.s c.home-home.ensures.home (ap (map (λ a. block_seen a.now)) c.deref.ensures.value)
+    process_after _ _ _ c.list.ensures.list (ended_as found_of c.in-Fire.is c.in_ok-target.ensures.gives)
+    (outer_taken _ _ _ c.args.state c.home-home.ensures.home (ap (map (λ a. block_seen a.now)) c.deref.ensures.value)
     c.in_ok-take-in-Fire.ensures.gives)
 
 pub processing::go_on_inside-returns-in_err-run_block-clause-gives :
@@ -759,30 +767,31 @@ pub processing::go_on_inside-returns-in-Cut-clause-gives : goal.processing::go_o
 processing::go_on_inside-returns-in-Cut-clause-gives t c =
     during_cut _ _ _ c.block.ensures.block (ended_as end_of c.in-Cut.is c.in_ok-run_block.ensures.gives)
 
-pub processing::go_on_inside-returns-in_err-d-in-Done-clause-gives :
-    goal.processing::go_on_inside-returns-in_err-d-in-Done-clause-gives
-processing::go_on_inside-returns-in_err-d-in-Done-clause-gives t c =
-    failed_through found_of _ _ _ _ c.from_residual-in_err-d-in-Done.ensures.1 c.in_err-d-in-Done.ensures.gives
+pub processing::go_on_inside-returns-in_err-target-in-Done-clause-gives :
+    goal.processing::go_on_inside-returns-in_err-target-in-Done-clause-gives
+processing::go_on_inside-returns-in_err-target-in-Done-clause-gives t c =
+    failed_through found_of _ _ _ _ c.from_residual-in_err-target-in-Done.ensures.1
+    c.in_err-target-in-Done.ensures.gives
     (λ x h. inner_fault _ _ _ c.block.ensures.block (ended_as end_of c.in-Done.is c.in_ok-run_block.ensures.gives)
     c.list.ensures.list h)
 
 pub processing::go_on_inside-returns-in-Stop-clause-gives : goal.processing::go_on_inside-returns-in-Stop-clause-gives
 processing::go_on_inside-returns-in-Stop-clause-gives t c =
     inner_after _ _ _ c.block.ensures.block (ended_as end_of c.in-Done.is c.in_ok-run_block.ensures.gives)
-    c.list.ensures.list (ended_as found_of c.in-Stop.is c.in_ok-d-in-Done.ensures.gives) (settled_now _)
+    c.list.ensures.list (ended_as found_of c.in-Stop.is c.in_ok-target-in-Done.ensures.gives) (settled_now _)
 
 pub processing::go_on_inside-returns-in-DeadEnd-clause-gives :
     goal.processing::go_on_inside-returns-in-DeadEnd-clause-gives
 processing::go_on_inside-returns-in-DeadEnd-clause-gives t c =
     passed _ _ _ c.process_children.ensures.gives (λ q h. inner_after _ _ _ c.block.ensures.block
     (ended_as end_of c.in-Done.is c.in_ok-run_block.ensures.gives) c.list.ensures.list
-    (ended_as found_of c.in-DeadEnd.is c.in_ok-d-in-Done.ensures.gives) h)
+    (ended_as found_of c.in-DeadEnd.is c.in_ok-target-in-Done.ensures.gives) h)
 
 pub processing::go_on_inside-returns-in-No-clause-gives : goal.processing::go_on_inside-returns-in-No-clause-gives
 processing::go_on_inside-returns-in-No-clause-gives t c =
     passed _ _ _ c.process_children-in-No.ensures.gives (λ q h. inner_after _ _ _ c.block.ensures.block
     (ended_as end_of c.in-Done.is c.in_ok-run_block.ensures.gives) c.list.ensures.list
-    (ended_as found_of c.in-No.is c.in_ok-d-in-Done.ensures.gives) h)
+    (ended_as found_of c.in-No.is c.in_ok-target-in-Done.ensures.gives) h)
 
 pub processing::go_on_inside-returns-in_err-take-in-Fire-clause-gives :
     goal.processing::go_on_inside-returns-in_err-take-in-Fire-clause-gives
@@ -790,7 +799,7 @@ processing::go_on_inside-returns-in_err-take-in-Fire-clause-gives t c =
     failed_through nothing_of _ _ _ _ c.from_residual-in_err-take-in-Fire.ensures.1 c.in_err-take-in-Fire.ensures.gives
     (λ x h. inner_after _ _ _ c.block.ensures.block (ended_as end_of c.in-Done.is c.in_ok-run_block.ensures.gives)
     c.list.ensures.list
-    (ended_as found_of c.in-Fire.is c.in_ok-d-in-Done.ensures.gives)
+    (ended_as found_of c.in-Fire.is c.in_ok-target-in-Done.ensures.gives)
     (inner_take_fault _ _ _ (ap (map (λ a. block_seen a.now)) c.deref.ensures.value) h))
 
 pub processing::go_on_inside-returns-in_ok-take-in-Fire-clause-gives :
@@ -798,81 +807,81 @@ pub processing::go_on_inside-returns-in_ok-take-in-Fire-clause-gives :
 processing::go_on_inside-returns-in_ok-take-in-Fire-clause-gives t c =
     inner_after _ _ _ c.block.ensures.block (ended_as end_of c.in-Done.is c.in_ok-run_block.ensures.gives)
     c.list.ensures.list
-    (ended_as found_of c.in-Fire.is c.in_ok-d-in-Done.ensures.gives)
+    (ended_as found_of c.in-Fire.is c.in_ok-target-in-Done.ensures.gives)
     (inner_taken _ _ _ (ap (map (λ a. block_seen a.now)) c.deref.ensures.value) c.in_ok-take-in-Fire.ensures.gives)
 
 pub processing::process_children-returns-in-Leaf-clause-gives :
     goal.processing::process_children-returns-in-Leaf-clause-gives
 processing::process_children-returns-in-Leaf-clause-gives t c =
-    kids_leaf _ _ _ c.args.s c.in-Leaf.ensures
+    kids_leaf _ _ _ c.args.state c.in-Leaf.ensures
 
 pub processing::process_children-returns-in-None-clause-gives :
     goal.processing::process_children-returns-in-None-clause-gives
 processing::process_children-returns-in-None-clause-gives t c =
-    kids_none _ _ _ c.args.s c.in-Or.ensures c.in-None.ensures.child
+    kids_none _ _ _ c.args.state c.in-Or.ensures c.in-None.ensures.child
 
 pub processing::process_children-returns-in_err-process-in-Some-clause-gives :
     goal.processing::process_children-returns-in_err-process-in-Some-clause-gives
 processing::process_children-returns-in_err-process-in-Some-clause-gives t c =
     failed_through went_of _ _ _ _ c.from_residual.ensures.1 c.in_err-process-in-Some.ensures.gives
-    (λ x h. kids_fault _ _ _ c.args.s c.in-Or.ensures c.in-Some.ensures.child h)
+    (λ x h. kids_fault _ _ _ c.args.state c.in-Or.ensures c.in-Some.ensures.child h)
 
 pub processing::process_children-returns-in-Stay-clause-gives :
     goal.processing::process_children-returns-in-Stay-clause-gives
 processing::process_children-returns-in-Stay-clause-gives t c =
-    kids_one _ _ _ c.args.s c.in-Or.ensures c.in-Some.ensures.child
+    kids_one _ _ _ c.args.state c.in-Or.ensures c.in-Some.ensures.child
     (ended_as went_of c.in-Stay.is c.in_ok-process-in-Some.ensures.gives) refl
 
 pub processing::process_children-returns-in-Out-clause-gives :
     goal.processing::process_children-returns-in-Out-clause-gives
 processing::process_children-returns-in-Out-clause-gives t c =
-    kids_out _ _ _ c.args.s c.out_of.ensures c.in-Or.ensures c.in-Some.ensures.child
+    kids_out _ _ _ c.args.state c.out_of.ensures c.in-Or.ensures c.in-Some.ensures.child
     (ended_as went_of c.in-Out.is c.in_ok-process-in-Some.ensures.gives)
 
 pub processing::process_children-returns-in-And-clause-gives :
     goal.processing::process_children-returns-in-And-clause-gives
 processing::process_children-returns-in-And-clause-gives t c =
-    passed _ _ _ c.process_all.ensures.gives (λ q h. kids_each _ _ _ c.args.s c.in-And.ensures refl h)
+    passed _ _ _ c.process_all.ensures.gives (λ q h. kids_each _ _ _ c.args.state c.in-And.ensures refl h)
 
 pub processing::process_all-loop-next-init : goal.processing::process_all-loop-next-init
 processing::process_all-loop-next-init t c = record {
   goes = each_turns_begin _ _ _ _ c.first_child-next.ensures.child;
   stands =
-      stands_first (chart_of c.args.chart.now).tree c.first_child-next.ensures.tree c.args.s _
+      stands_first (chart_of c.args.chart.now).tree c.first_child-next.ensures.tree c.args.state _
       c.first_child-next.ensures.child;
   fits = c.requires.fits;
 }
 
 pub processing::process_all-on-requires-clause-state : goal.processing::process_all-on-requires-clause-state
 processing::process_all-on-requires-clause-state t c =
-    (c.loop-next.invariant.stands.child c.in-Some.x c.in-Some.is).within
+    (c.loop-next.invariant.stands.child c.in-Some.child c.in-Some.is).within
 
 pub processing::process_all-process-requires : goal.processing::process_all-process-requires
 processing::process_all-process-requires t c =
-    let child = c.loop-next.invariant.stands.child c.in-Some.x c.in-Some.is in
+    let child = c.loop-next.invariant.stands.child c.in-Some.child c.in-Some.is in
     (omega (arith, child.above, child.within, c.decreases), (c.loop-next.invariant.fits, child.within))
 
 pub processing::process_all-returns-in_err-process-clause-gives :
     goal.processing::process_all-returns-in_err-process-clause-gives
 processing::process_all-returns-in_err-process-clause-gives t c =
     failed_through went_of _ _ _ _ c.from_residual.ensures.1 c.in_err-process.ensures.gives (λ x h.
-    let on : is_on c.in-Some.x c.loop-next.world.marks ≡ true = cc in
+    let on : is_on c.in-Some.child c.loop-next.world.marks ≡ true = cc in
     each_turn_fault _ _ _ _ c.loop-next.invariant.goes c.in-Some.is c.loop-next.invariant.stands on h)
 
 pub processing::process_all-returns-in-Out-clause-gives : goal.processing::process_all-returns-in-Out-clause-gives
 processing::process_all-returns-in-Out-clause-gives t c =
-    let on : is_on c.in-Some.x c.loop-next.world.marks ≡ true = cc in
+    let on : is_on c.in-Some.child c.loop-next.world.marks ≡ true = cc in
     each_turn_out _ _ _ _ c.loop-next.invariant.goes c.in-Some.is c.loop-next.invariant.stands on
     (ended_as went_of c.in-Out.is c.in_ok-process.ensures.gives)
 
 pub processing::process_all-next_sibling-next-requires : goal.processing::process_all-next_sibling-next-requires
 processing::process_all-next_sibling-next-requires t c =
-    (c.loop-next.invariant.stands.child c.in-Some.x c.in-Some.is).within
+    (c.loop-next.invariant.stands.child c.in-Some.child c.in-Some.is).within
 
 pub processing::process_all-loop-next-smaller : goal.processing::process_all-loop-next-smaller
 processing::process_all-loop-next-smaller t c =
-    ahead_falls (chart_of c.args.chart.now).tree c.in-Some.x _ _ c.in-Some.is
-    (c.loop-next.invariant.stands.child c.in-Some.x c.in-Some.is).within c.next_sibling-next.ensures.after
+    ahead_falls (chart_of c.args.chart.now).tree c.in-Some.child _ _ c.in-Some.is
+    (c.loop-next.invariant.stands.child c.in-Some.child c.in-Some.is).within c.next_sibling-next.ensures.after
 
 pub processing::process_all-returns-clause-gives : goal.processing::process_all-returns-clause-gives
 processing::process_all-returns-clause-gives t c =
@@ -882,13 +891,13 @@ pub processing::process_all-loop-next-preserved-then-not-on :
     goal.processing::process_all-loop-next-preserved-then-not-on
 processing::process_all-loop-next-preserved-then-not-on t c =
     let chart = chart_of c.args.chart.now in
-    let off : is_on c.in-Some.x c.loop-next.world.marks ≡ false = cc in
+    let off : is_on c.in-Some.child c.loop-next.world.marks ≡ false = cc in
     record {
       goes =
           each_turn_off _ _ _ _ c.loop-next.invariant.goes c.in-Some.is c.loop-next.invariant.stands
           c.next_sibling-next.ensures.sibling off;
       stands =
-          stands_next chart.tree c.next_sibling-next.ensures.tree c.args.s c.in-Some.x _ _ c.in-Some.is
+          stands_next chart.tree c.next_sibling-next.ensures.tree c.args.state c.in-Some.child _ _ c.in-Some.is
           c.loop-next.invariant.stands c.next_sibling-next.ensures.sibling;
       fits = c.loop-next.invariant.fits;
     }
@@ -896,18 +905,18 @@ processing::process_all-loop-next-preserved-then-not-on t c =
 pub processing::process_all-loop-next-preserved : goal.processing::process_all-loop-next-preserved
 processing::process_all-loop-next-preserved t c =
     let chart = chart_of c.args.chart.now in
-    let on : is_on c.in-Some.x c.loop-next.world.marks ≡ true = cc in
+    let on : is_on c.in-Some.child c.loop-next.world.marks ≡ true = cc in
     record {
       goes =
           each_turn _ _ _ _ c.loop-next.invariant.goes c.in-Some.is c.loop-next.invariant.stands on
           c.next_sibling-next.ensures.sibling (ended_as went_of c.in-Stay.is c.in_ok-process.ensures.gives);
       stands =
-          stands_next chart.tree c.next_sibling-next.ensures.tree c.args.s c.in-Some.x _ _ c.in-Some.is
+          stands_next chart.tree c.next_sibling-next.ensures.tree c.args.state c.in-Some.child _ _ c.in-Some.is
           c.loop-next.invariant.stands c.next_sibling-next.ensures.sibling;
       fits = c.process.ensures.fits;
     }
 
 pub processing::process_all-loop-next-smaller-then-not-on : goal.processing::process_all-loop-next-smaller-then-not-on
 processing::process_all-loop-next-smaller-then-not-on t c =
-    ahead_falls (chart_of c.args.chart.now).tree c.in-Some.x _ _ c.in-Some.is
-    (c.loop-next.invariant.stands.child c.in-Some.x c.in-Some.is).within c.next_sibling-next.ensures.after
+    ahead_falls (chart_of c.args.chart.now).tree c.in-Some.child _ _ c.in-Some.is
+    (c.loop-next.invariant.stands.child c.in-Some.child c.in-Some.is).within c.next_sibling-next.ensures.after

@@ -28,37 +28,37 @@ abbrev pub decreases-searches::search : goal.decreases-searches::search
 decreases-searches::search l = measure_of l.chart.now l.bounds l.now (λ _. 3)
 
 abbrev pub decreases-exits::exit : goal.decreases-exits::exit
-decreases-exits::exit l = measure_of l.chart.now l.bounds l.now (λ n. 3 * (n - l.s) + 6)
+decreases-exits::exit l = measure_of l.chart.now l.bounds l.now (λ n. 3 * (n - l.state) + 6)
 
 abbrev pub decreases-exits::exit_children : goal.decreases-exits::exit_children
-decreases-exits::exit_children l = measure_of l.chart.now l.bounds l.now (λ n. 3 * (n - l.s) + 5)
+decreases-exits::exit_children l = measure_of l.chart.now l.bounds l.now (λ n. 3 * (n - l.state) + 5)
 
 abbrev pub decreases-exits::exit_all : goal.decreases-exits::exit_all
-decreases-exits::exit_all l = measure_of l.chart.now l.bounds l.now (λ n. 3 * (n - l.s) + 4)
+decreases-exits::exit_all l = measure_of l.chart.now l.bounds l.now (λ n. 3 * (n - l.state) + 4)
 
 abbrev pub decreases-exits::exit_active : goal.decreases-exits::exit_active
-decreases-exits::exit_active l = measure_of l.chart.now l.bounds l.now (λ n. 3 * (n - l.s) + 4)
+decreases-exits::exit_active l = measure_of l.chart.now l.bounds l.now (λ n. 3 * (n - l.state) + 4)
 
 abbrev pub decreases-entries::enter : goal.decreases-entries::enter
-decreases-entries::enter l = measure_of l.chart.now l.bounds l.now (λ n. 6 * (n - l.s) + 9)
+decreases-entries::enter l = measure_of l.chart.now l.bounds l.now (λ n. 6 * (n - l.state) + 9)
 
 abbrev pub decreases-entries::enter_inside : goal.decreases-entries::enter_inside
-decreases-entries::enter_inside l = measure_of l.chart.now l.bounds l.now (λ n. 6 * (n - l.s) + 8)
+decreases-entries::enter_inside l = measure_of l.chart.now l.bounds l.now (λ n. 6 * (n - l.state) + 8)
 
 abbrev pub decreases-entries::enter_all : goal.decreases-entries::enter_all
-decreases-entries::enter_all l = measure_of l.chart.now l.bounds l.now (λ n. 6 * (n - l.s) + 7)
+decreases-entries::enter_all l = measure_of l.chart.now l.bounds l.now (λ n. 6 * (n - l.state) + 7)
 
 abbrev pub decreases-entries::enter_toward : goal.decreases-entries::enter_toward
-decreases-entries::enter_toward l = measure_of l.chart.now l.bounds l.now (λ n. 6 * (n - l.s) + 7)
+decreases-entries::enter_toward l = measure_of l.chart.now l.bounds l.now (λ n. 6 * (n - l.state) + 7)
 
 abbrev pub decreases-entries::enter_child : goal.decreases-entries::enter_child
-decreases-entries::enter_child l = measure_of l.chart.now l.bounds l.now (λ n. 6 * (n - l.s) + 4)
+decreases-entries::enter_child l = measure_of l.chart.now l.bounds l.now (λ n. 6 * (n - l.state) + 4)
 
 abbrev pub decreases-defaults::defaults : goal.decreases-defaults::defaults
-decreases-defaults::defaults l = measure_of l.chart.now l.bounds l.now (λ n. 6 * (n - l.s) + 6)
+decreases-defaults::defaults l = measure_of l.chart.now l.bounds l.now (λ n. 6 * (n - l.state) + 6)
 
 abbrev pub decreases-defaults::default_search : goal.decreases-defaults::default_search
-decreases-defaults::default_search l = measure_of l.chart.now l.bounds l.now (λ n. 6 * (n - l.s) + 5)
+decreases-defaults::default_search l = measure_of l.chart.now l.bounds l.now (λ n. 6 * (n - l.state) + 5)
 
 abbrev pub decreases-firings::play : goal.decreases-firings::play
 decreases-firings::play l = measure_of l.chart.now l.bounds l.now (λ _. 3)
@@ -67,16 +67,16 @@ abbrev pub decreases-firings::take : goal.decreases-firings::take
 decreases-firings::take l = measure_of l.chart.now l.bounds l.now (λ n. 6 * n + 10)
 
 abbrev pub decreases-processing::process : goal.decreases-processing::process
-decreases-processing::process l = measure_of l.chart.now l.bounds l.now (λ n. 6 * n + 4 * (n - l.s) + 14)
+decreases-processing::process l = measure_of l.chart.now l.bounds l.now (λ n. 6 * n + 4 * (n - l.state) + 14)
 
 abbrev pub decreases-processing::go_on_inside : goal.decreases-processing::go_on_inside
-decreases-processing::go_on_inside l = measure_of l.chart.now l.bounds l.now (λ n. 6 * n + 4 * (n - l.s) + 13)
+decreases-processing::go_on_inside l = measure_of l.chart.now l.bounds l.now (λ n. 6 * n + 4 * (n - l.state) + 13)
 
 abbrev pub decreases-processing::process_children : goal.decreases-processing::process_children
-decreases-processing::process_children l = measure_of l.chart.now l.bounds l.now (λ n. 6 * n + 4 * (n - l.s) + 12)
+decreases-processing::process_children l = measure_of l.chart.now l.bounds l.now (λ n. 6 * n + 4 * (n - l.state) + 12)
 
 abbrev pub decreases-processing::process_all : goal.decreases-processing::process_all
-decreases-processing::process_all l = measure_of l.chart.now l.bounds l.now (λ n. 6 * n + 4 * (n - l.s) + 11)
+decreases-processing::process_all l = measure_of l.chart.now l.bounds l.now (λ n. 6 * n + 4 * (n - l.state) + 11)
 
 -- ---- loops
 
@@ -107,10 +107,10 @@ decreases-searches::search-loop-places l =
 abbrev pub invariant-exits::exit_all-loop-next : goal.invariant-exits::exit_all-loop-next
 invariant-exits::exit_all-loop-next l = record {
   goes : Continues (λ n. (upto (chart_of l.chart) l.bounds n).exit_each
-      (children_back_from (chart_of l.chart).tree l.s l.next) (now_of l.now) l.world)
-      (λ n. (upto (chart_of l.chart) l.bounds n).exit_each (reverse (children_of (chart_of l.chart).tree l.s))
+      (children_back_from (chart_of l.chart).tree l.state l.next) (now_of l.now) l.world)
+      (λ n. (upto (chart_of l.chart) l.bounds n).exit_each (reverse (children_of (chart_of l.chart).tree l.state))
       (now_of l.now) l.fn.world);
-  stands : Stands (chart_of l.chart).tree l.s l.next;
+  stands : Stands (chart_of l.chart).tree l.state l.next;
   fits : FitsChart (chart_of l.chart) l.world;
 }
 
@@ -120,10 +120,10 @@ decreases-exits::exit_all-loop-next l = behind l.next
 abbrev pub invariant-entries::enter_all-loop-next : goal.invariant-entries::enter_all-loop-next
 invariant-entries::enter_all-loop-next l = record {
   goes : Continues (λ n. (upto (chart_of l.chart) l.bounds n).enter_each
-      (children_from (chart_of l.chart).tree l.s l.next) l.d (now_of l.now) l.world)
-      (λ n. (upto (chart_of l.chart) l.bounds n).enter_each (children_of (chart_of l.chart).tree l.s) l.d (now_of l.now)
-      l.fn.world);
-  stands : Stands (chart_of l.chart).tree l.s l.next;
+      (children_from (chart_of l.chart).tree l.state l.next) l.target (now_of l.now) l.world)
+      (λ n. (upto (chart_of l.chart) l.bounds n).enter_each (children_of (chart_of l.chart).tree l.state) l.target
+      (now_of l.now) l.fn.world);
+  stands : Stands (chart_of l.chart).tree l.state l.next;
   fits : FitsChart (chart_of l.chart) l.world;
 }
 
@@ -132,9 +132,9 @@ decreases-entries::enter_all-loop-next l = ahead (chart_of l.chart).tree l.next
 
 abbrev pub invariant-firings::play-loop-action : goal.invariant-firings::play-loop-action
 invariant-firings::play-loop-action l = record {
-  goes : Continues (λ n. (upto (chart_of l.chart) l.bounds n).play l.s
+  goes : Continues (λ n. (upto (chart_of l.chart) l.bounds n).play l.state
       (map (λ a. block_seen a.now) (drop l.action-index l.actions)) (now_of l.now) l.world)
-      (λ n. (upto (chart_of l.chart) l.bounds n).play l.s (map (λ a. block_seen a.now) l.actions) (now_of l.now)
+      (λ n. (upto (chart_of l.chart) l.bounds n).play l.state (map (λ a. block_seen a.now) l.actions) (now_of l.now)
       l.fn.world);
   fits : FitsChart (chart_of l.chart) l.world;
 }
@@ -142,10 +142,10 @@ invariant-firings::play-loop-action l = record {
 abbrev pub invariant-processing::process_all-loop-next : goal.invariant-processing::process_all-loop-next
 invariant-processing::process_all-loop-next l = record {
   goes : Continues (λ n. (upto (chart_of l.chart) l.bounds n).process_each
-      (children_from (chart_of l.chart).tree l.s l.next) (now_of l.now) l.world)
-      (λ n. (upto (chart_of l.chart) l.bounds n).process_each (children_of (chart_of l.chart).tree l.s) (now_of l.now)
-      l.fn.world);
-  stands : Stands (chart_of l.chart).tree l.s l.next;
+      (children_from (chart_of l.chart).tree l.state l.next) (now_of l.now) l.world)
+      (λ n. (upto (chart_of l.chart) l.bounds n).process_each (children_of (chart_of l.chart).tree l.state)
+      (now_of l.now) l.fn.world);
+  stands : Stands (chart_of l.chart).tree l.state l.next;
   fits : FitsChart (chart_of l.chart) l.world;
 }
 

@@ -10,9 +10,11 @@ pub returns-clause-ends : goal.returns-clause-ends
 returns-clause-ends g c =
     text_ends CHART_TEXT_LIMIT HasNeed RefusesAccepted
     (call_of g.I.Inputs g.O.Sink c.args.inputs.now c.read_need-line.new.inputs c.args.out.now c.write_made.new.out)
-    c.args.first.now c.read_need-line.result c.write_made.result c.read_need-line.ensures c.write_made.ensures
+    c.args.chart_file.now c.read_need-line.result c.write_made.result c.read_need-line.ensures c.write_made.ensures
 
 pub returns-clause-others : goal.returns-clause-others
 returns-clause-others g c =
-    one_named (sources_of g.I.Inputs c.args.inputs.now) (sources_of g.I.Inputs c.read_need-line.new.inputs) c.args.first.now
-    (others_kept CHART_TEXT_LIMIT _ RefusesAccepted _ _ c.args.first.now c.read_need-line.result c.read_need-line.ensures)
+    one_named (sources_of g.I.Inputs c.args.inputs.now) (sources_of g.I.Inputs c.read_need-line.new.inputs)
+    c.args.chart_file.now
+    (others_kept CHART_TEXT_LIMIT _ RefusesAccepted _ _ c.args.chart_file.now c.read_need-line.result
+    c.read_need-line.ensures)

@@ -29,4 +29,5 @@ returns-in-Ok g c =
 pub returns : goal.returns
 returns g c =
     let given = c.in_ok-chart.ensures in
-    ran_out_after CHART_TEXT_LIMIT RefusesAccepted _ _ c.args.name.now given.text given.read given.means.read.spells.short
+    ran_out_after CHART_TEXT_LIMIT RefusesAccepted _ _ c.args.chart_file.now given.text given.read
+    given.means.read.spells.short

@@ -9,13 +9,14 @@ use Rattle.commands.proofs.exec.exec_code.Goals as goal
 pub returns-clause-ends : goal.returns-clause-ends
 returns-clause-ends g c =
     file_ran IsCodeText runs_by_code
-    (call_of g.I.Inputs g.O.Sink c.args.inputs.now c.run_code.new.inputs c.args.out.now c.run_code.new.out) c.args.first.now c.args.second.now
+    (call_of g.I.Inputs g.O.Sink c.args.inputs.now c.run_code.new.inputs c.args.out.now c.run_code.new.out)
+    c.args.code_file.now c.args.event_file.now
     (sources_of g.I.Inputs c.read_code_file.new.inputs) c.in-Ok.code c.args.bounds c.run_code.result
     c.in-Ok.ensures c.run_code.ensures
 
 pub returns-clause-others : goal.returns-clause-others
 returns-clause-others g c =
     both_of_two (sources_of g.I.Inputs c.args.inputs.now) (sources_of g.I.Inputs c.read_code_file.new.inputs)
-    (sources_of g.I.Inputs c.run_code.new.inputs) c.args.first.now c.args.second.now c.in-Ok.ensures.read.others
+    (sources_of g.I.Inputs c.run_code.new.inputs) c.args.code_file.now c.args.event_file.now c.in-Ok.ensures.read.others
     (trace_others _ (call_of g.I.Inputs g.O.Sink c.read_code_file.new.inputs c.run_code.new.inputs c.args.out.now c.run_code.new.out)
-    c.args.second.now c.run_code.result c.run_code.ensures)
+    c.args.event_file.now c.run_code.result c.run_code.ensures)

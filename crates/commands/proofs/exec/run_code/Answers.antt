@@ -18,5 +18,6 @@ pub returns : goal.returns
 returns g c =
     subst
     (λ (p : Program). TraceEnds (by_code p.code p.bounds)
-    (call_of g.I.Inputs g.O.Sink c.args.inputs.now c.trace.new.inputs c.args.out.now c.trace.new.out) c.args.second.now c.trace.result)
+    (call_of g.I.Inputs g.O.Sink c.args.inputs.now c.trace.new.inputs c.args.out.now c.trace.new.out)
+    c.args.event_file.now c.trace.result)
     c.in-Ok.ensures.program c.trace.ensures

@@ -18,7 +18,7 @@ pub returns-in-Err-clause-others : goal.returns-in-Err-clause-others
 returns-in-Err-clause-others g c =
     no_net_others (call_of g.I.Inputs g.O.Sink c.args.inputs.now c.read_net_file.new.inputs c.args.out.now
     c.args.out.now)
-    c.args.first.now c.args.second.now c.in-Err.end c.in-Err.ensures.given
+    c.args.net_file.now c.args.schedule_file.now c.in-Err.end c.in-Err.ensures.given
 
 -- nothing comes of the file of a chart
 pub returns-in-Err-read_charts-clause-ends : goal.returns-in-Err-read_charts-clause-ends
@@ -55,7 +55,7 @@ returns-in-Err-read_charts-clause-others g c =
     c.in-Err-read_charts.unread.end)
     c.items.ensures c.in-Err-read_charts.ensures in
     net_others (call_of g.I.Inputs g.O.Sink c.args.inputs.now c.read_charts.new.inputs c.args.out.now c.args.out.now)
-    c.args.first.now c.args.second.now net between after (record {
+    c.args.net_file.now c.args.schedule_file.now net between after (record {
       text = given.text;
       read = given.read;
       means =
@@ -76,7 +76,7 @@ returns-in-Some-clause-others g c =
     (loaded_in c.in-Ok-read_charts.files.items charts))
     c.items.ensures c.in-Ok-read_charts.ensures.0 in
     net_others (call_of g.I.Inputs g.O.Sink c.args.inputs.now c.read_charts.new.inputs c.args.out.now c.args.out.now)
-    c.args.first.now c.args.second.now net between after (record {
+    c.args.net_file.now c.args.schedule_file.now net between after (record {
       text = given.text;
       read = given.read;
       means =
@@ -100,7 +100,7 @@ returns-clause-ends g c =
     let reads =
     subst (λ (charts : List NetChart). ReadsCharts [] between middle charts (loaded_in files charts))
     c.items.ensures c.in-Ok-read_charts.ensures.0 in
-    let read : NetRead (sources_of g.I.Inputs c.args.inputs.now) middle c.args.first.now net loaded =
+    let read : NetRead (sources_of g.I.Inputs c.args.inputs.now) middle c.args.net_file.now net loaded =
     record {
       between = between;
       net_read = record { text = given.text; read = given.read; means = given.means };
@@ -108,7 +108,7 @@ returns-clause-ends g c =
     } in
     let traces =
     subst (λ (fs : List ReadFile). ScheduleEnds (net_by_rules c.args.bounds (loaded_in fs net.charts)
-    (routes_in (loaded_in fs net.charts) net.routes)) later c.args.second.now c.run_schedule.result)
+    (routes_in (loaded_in fs net.charts) net.routes)) later c.args.schedule_file.now c.run_schedule.result)
     c.deref-2.ensures.value c.run_schedule.ensures in
     record {
       net = net;
@@ -120,8 +120,8 @@ returns-clause-ends g c =
           c.deref.ensures.value c.items-2.ensures c.items-3.ensures c.bad_route.ensures c.in_default.is;
       traces = traces;
       ended = λ e.
-          all_ended (net_by_rules c.args.bounds loaded (routes_in loaded net.routes)) call c.args.first.now
-          c.args.second.now net
+          all_ended (net_by_rules c.args.bounds loaded (routes_in loaded net.routes)) call c.args.net_file.now
+          c.args.schedule_file.now net
           loaded middle c.run_schedule.result read traces e;
     }
 
@@ -138,7 +138,7 @@ returns-clause-others g c =
     c.items.ensures c.in-Ok-read_charts.ensures.0 in
     net_others (call_of g.I.Inputs g.O.Sink c.args.inputs.now c.run_schedule.new.inputs c.args.out.now
     c.run_schedule.new.out)
-    c.args.first.now c.args.second.now net between middle (record {
+    c.args.net_file.now c.args.schedule_file.now net between middle (record {
       text = given.text;
       read = given.read;
       means =
@@ -148,4 +148,4 @@ returns-clause-others g c =
     (schedule_others _
     (call_of g.I.Inputs g.O.Sink c.read_charts.new.inputs c.run_schedule.new.inputs c.args.out.now
     c.run_schedule.new.out)
-    c.args.second.now c.run_schedule.result c.run_schedule.ensures)
+    c.args.schedule_file.now c.run_schedule.result c.run_schedule.ensures)

@@ -8,7 +8,7 @@ use Rattle.commands.specs.declared.net_charts.ReadFile.{ReadFile}
 -- no file has that name
 pub returns-in_err-place : goal.returns-in_err-place
 returns-in_err-place c =
-    let p : ReadFile → Bool = λ f. bytes_eq f.file c.args.name.now in
+    let p : ReadFile → Bool = λ f. bytes_eq f.file c.args.chart_file.now in
     rw c.from_residual.ensures
     (ap (option_map (λ (f : ReadFile). chart_of f.chart)) (sym (unfound p c.args.files.now
     c.in_err-place.ensures.place)))
@@ -16,7 +16,7 @@ returns-in_err-place c =
 -- the first file of that name
 pub returns : goal.returns
 returns c =
-    let p : ReadFile → Bool = λ f. bytes_eq f.file c.args.name.now in
+    let p : ReadFile → Bool = λ f. bytes_eq f.file c.args.chart_file.now in
     let found =
     found_at p c.args.files.now c.in_ok-place.place c.index-files-place.result c.in_ok-place.ensures.place
     c.in_ok-place.ensures.within c.index-files-place.is in

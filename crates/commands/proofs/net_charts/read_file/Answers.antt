@@ -7,5 +7,5 @@ use Rattle.commands.proofs.net_charts.read_file.Goals as goal
 pub returns-in-Err : goal.returns-in-Err
 returns-in-Err g c =
     let given = c.in_ok-chart.ensures in
-    ran_out_after CHART_TEXT_LIMIT RefusesAccepted _ _ c.args.name.now given.text given.read
+    ran_out_after CHART_TEXT_LIMIT RefusesAccepted _ _ c.args.chart_file.now given.text given.read
     given.means.read.spells.short

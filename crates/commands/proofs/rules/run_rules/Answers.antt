@@ -18,5 +18,6 @@ pub returns : goal.returns
 returns g c =
     subst
     (λ (engine : EngineState). TraceEnds (by_rules (chart_of engine.chart) engine.bounds)
-    (call_of g.I.Inputs g.O.Sink c.args.inputs.now c.trace.new.inputs c.args.out.now c.trace.new.out) c.args.second.now c.trace.result)
+    (call_of g.I.Inputs g.O.Sink c.args.inputs.now c.trace.new.inputs c.args.out.now c.trace.new.out)
+    c.args.event_file.now c.trace.result)
     c.in-Ok.ensures c.trace.ensures

@@ -12,14 +12,16 @@ returns-clause-ends g c =
     let given = c.in-Ok.ensures in
     file_ran IsAccepted by_compiled
     (call_of g.I.Inputs g.O.Sink c.args.inputs.now c.run_printed.new.inputs c.args.out.now c.run_printed.new.out)
-    c.args.first.now c.args.second.now (sources_of g.I.Inputs c.read_accepted.new.inputs) (chart_of c.in-Ok.chart)
+    c.args.chart_file.now c.args.event_file.now (sources_of g.I.Inputs c.read_accepted.new.inputs)
+    (chart_of c.in-Ok.chart)
     c.args.bounds c.run_printed.result (record { text = given.text; read = given.read; means = given.means })
     c.run_printed.ensures
 
 pub returns-clause-others : goal.returns-clause-others
 returns-clause-others g c =
     both_of_two (sources_of g.I.Inputs c.args.inputs.now) (sources_of g.I.Inputs c.read_accepted.new.inputs)
-    (sources_of g.I.Inputs c.run_printed.new.inputs) c.args.first.now c.args.second.now c.in-Ok.ensures.read.others
+    (sources_of g.I.Inputs c.run_printed.new.inputs) c.args.chart_file.now c.args.event_file.now
+    c.in-Ok.ensures.read.others
     (trace_others _
     (call_of g.I.Inputs g.O.Sink c.read_accepted.new.inputs c.run_printed.new.inputs c.args.out.now c.run_printed.new.out)
-    c.args.second.now c.run_printed.result c.run_printed.ensures)
+    c.args.event_file.now c.run_printed.result c.run_printed.ensures)

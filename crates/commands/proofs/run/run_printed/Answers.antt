@@ -11,7 +11,7 @@ use Rattle.commands.proofs.run.run_printed.Goals as goal
 pub returns : goal.returns
 returns g c =
     let call = call_of g.I.Inputs g.O.Sink c.args.inputs.now c.run_code.new.inputs c.args.out.now c.run_code.new.out in
-    traced_to_rules (chart_of c.args.chart.now) c.shape-shape.ensures.valid c.args.bounds call c.args.second.now
+    traced_to_rules (chart_of c.args.chart.now) c.shape-shape.ensures.valid c.args.bounds call c.args.event_file.now
     c.run_code.result
-    (subst (λ (k : Code). TraceEnds (by_code k c.args.bounds) call c.args.second.now c.run_code.result)
+    (subst (λ (k : Code). TraceEnds (by_code k c.args.bounds) call c.args.event_file.now c.run_code.result)
     c.in-Ok.ensures c.run_code.ensures)

@@ -24,7 +24,7 @@ returns g c =
     let is = c.in-Ok.ensures in
     let call = call_of g.I.Inputs g.O.Sink c.args.inputs.now c.net_drive-answer.new.inputs c.args.out.now
     c.net_drive-answer.new.out in
-    let seen = seen_of call c.args.second.now in
+    let seen = seen_of call c.args.schedule_file.now in
     let answer = c.net_drive-answer.result in
     Driven (record {
       answer = answer;

@@ -24,4 +24,4 @@ returns-in-Ok g c =
 pub returns : goal.returns
 returns g c =
     let given = c.in_ok-code.ensures in
-    ran_out_after TEXT_LIMIT RefusesCode _ _ c.args.name.now given.text given.read given.means.short
+    ran_out_after TEXT_LIMIT RefusesCode _ _ c.args.code_file.now given.text given.read given.means.short

@@ -10,9 +10,12 @@ pub returns-clause-ends : goal.returns-clause-ends
 returns-clause-ends g c =
     text_ends TEXT_LIMIT IsUpgraded RefusesCode
     (call_of g.I.Inputs g.O.Sink c.args.inputs.now c.read_upgraded-upgraded.new.inputs c.args.out.now c.write_made.new.out)
-    c.args.first.now c.read_upgraded-upgraded.result c.write_made.result c.read_upgraded-upgraded.ensures c.write_made.ensures
+    c.args.code_file.now c.read_upgraded-upgraded.result c.write_made.result c.read_upgraded-upgraded.ensures
+    c.write_made.ensures
 
 pub returns-clause-others : goal.returns-clause-others
 returns-clause-others g c =
-    one_named (sources_of g.I.Inputs c.args.inputs.now) (sources_of g.I.Inputs c.read_upgraded-upgraded.new.inputs) c.args.first.now
-    (others_kept TEXT_LIMIT _ RefusesCode _ _ c.args.first.now c.read_upgraded-upgraded.result c.read_upgraded-upgraded.ensures)
+    one_named (sources_of g.I.Inputs c.args.inputs.now) (sources_of g.I.Inputs c.read_upgraded-upgraded.new.inputs)
+    c.args.code_file.now
+    (others_kept TEXT_LIMIT _ RefusesCode _ _ c.args.code_file.now c.read_upgraded-upgraded.result
+    c.read_upgraded-upgraded.ensures)

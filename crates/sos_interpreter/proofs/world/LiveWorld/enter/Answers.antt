@@ -11,9 +11,9 @@ use Rattle.sos_interpreter.proofs.world.LiveWorld.enter.Goals as goal
 
 pub keep-requires-clause-or : goal.keep-requires-clause-or
 keep-requires-clause-or c =
-    subst (λ (t : Tree). IsSomeAnd (parent_of t c.args.s) (λ p. comp_of t p ≡ Or))
+    subst (λ (t : Tree). IsSomeAnd (parent_of t c.args.state) (λ p. comp_of t p ≡ Or))
     (sym c.shape-then-is_remembered.ensures.shape)
-    (remembering_or (chart_of c.args.chart.now) c.args.s (sym c.is_remembered.ensures ∙ c.if-is_remembered.true))
+    (remembering_or (chart_of c.args.chart.now) c.args.state (sym c.is_remembered.ensures ∙ c.if-is_remembered.true))
 
 pub returns-then-is_remembered-clause-entered : goal.returns-then-is_remembered-clause-entered
 unfolding keep_in
@@ -21,13 +21,13 @@ returns-then-is_remembered-clause-entered c =
     let chart = chart_of c.args.chart.now in
     let marks =
     c.keep.ensures.kept
-    ∙ ap (λ (t : Tree). with_last t c.args.s c.mark.new.self) c.shape-then-is_remembered.ensures.shape
-    ∙ ap (λ (m : Configuration). with_last chart.tree c.args.s m) c.mark.ensures.marked in
+    ∙ ap (λ (t : Tree). with_last t c.args.state c.mark.new.self) c.shape-then-is_remembered.ensures.shape
+    ∙ ap (λ (m : Configuration). with_last chart.tree c.args.state m) c.mark.ensures.marked in
     ap (λ (m : Configuration).
     record { marks = m; vals = c.self.inside.vals; outputs = c.self.inside.outputs.items; used = c.self.inside.used })
     marks
-    ∙ ap (λ (w : World). keep_in chart.tree c.args.s (set_mark c.args.s true w)) c.self.view_is
-    ∙ sym (entered_kept chart c.args.s c.args.self.now (sym c.is_remembered.ensures ∙ c.if-is_remembered.true))
+    ∙ ap (λ (w : World). keep_in chart.tree c.args.state (set_mark c.args.state true w)) c.self.view_is
+    ∙ sym (entered_kept chart c.args.state c.args.self.now (sym c.is_remembered.ensures ∙ c.if-is_remembered.true))
 
 pub returns-else-is_remembered-clause-entered : goal.returns-else-is_remembered-clause-entered
 returns-else-is_remembered-clause-entered c =
@@ -35,5 +35,5 @@ returns-else-is_remembered-clause-entered c =
     ap (λ (m : Configuration).
     record { marks = m; vals = c.self.inside.vals; outputs = c.self.inside.outputs.items; used = c.self.inside.used })
     c.mark.ensures.marked
-    ∙ ap (λ (w : World). set_mark c.args.s true w) c.self.view_is
-    ∙ sym (entered_plain chart c.args.s c.args.self.now (sym c.is_remembered.ensures ∙ c.if-is_remembered.false))
+    ∙ ap (λ (w : World). set_mark c.args.state true w) c.self.view_is
+    ∙ sym (entered_plain chart c.args.state c.args.self.now (sym c.is_remembered.ensures ∙ c.if-is_remembered.false))

@@ -32,7 +32,9 @@ pub(crate) fn numbers_of(alloc: Global, live: &[bool]) -> Result<Vec<u32>, Memor
 
 /// The new number of a procedure. One past the last procedure, which no code names, gets the last
 /// number.
-pub(crate) fn number_at(numbers: &[u32], proc: u32) -> u32
+///
+/// Source: this project's choice.
+pub fn number_at(numbers: &[u32], proc: u32) -> u32
     requires { 0 < length numbers.now }
     ensures { result ≡ number_by numbers.now proc }
 {

@@ -20,7 +20,7 @@ ghost use Rattle.code_shrink.specs.Ways.{way_of};
 
 use crate::kept::{count_from, is_kept, kept_within};
 use crate::places::Way;
-use crate::renamed::{copy_cond, renamed};
+use crate::renamed::{copy_cond, renamed_instr};
 use code_language::Instr;
 use flow_base::Memory;
 use std::alloc::Global;
@@ -44,8 +44,8 @@ fn recounted(
     match way {
         Way::Skips(over) => Ok(Instr::Skip(kept_within(counts, over))),
         Way::Tests(over) => tested(alloc, instr, kept_within(counts, over), numbers),
-        Way::On => renamed(alloc, instr, numbers),
-        Way::Returns => renamed(alloc, instr, numbers),
+        Way::On => renamed_instr(alloc, instr, numbers),
+        Way::Returns => renamed_instr(alloc, instr, numbers),
     }
 }
 
@@ -57,7 +57,7 @@ fn tested(alloc: Global, instr: &Instr, over: u32, numbers: &[u32]) -> Result<In
 {
     match instr {
         Instr::Unless(_, cond) => Ok(Instr::Unless(over, copy_cond(alloc, cond)?)),
-        _ => renamed(alloc, instr, numbers),
+        _ => renamed_instr(alloc, instr, numbers),
     }
 }
 

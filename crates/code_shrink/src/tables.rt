@@ -17,8 +17,10 @@ fn copy_text(alloc: Global, text: &Text) -> Result<Text, Memory>
     }
 }
 
-/// A list of equal states.
-pub(crate) fn copy_states(alloc: Global, states: &[RawState]) -> Result<List<RawState>, Memory>
+/// A list of equal states. `Memory` only where memory was refused.
+///
+/// Source: this project's choice.
+pub fn copy_states(alloc: Global, states: &[RawState]) -> Result<List<RawState>, Memory>
     ensures { IfOk result (λ copies. items_of copies ≡ states.now) }
 {
     let mut copies = List::of(Vec::new(alloc));
@@ -32,8 +34,10 @@ pub(crate) fn copy_states(alloc: Global, states: &[RawState]) -> Result<List<Raw
     Ok(copies)
 }
 
-/// A list of equal data.
-pub(crate) fn copy_vars(alloc: Global, vars: &[Var]) -> Result<List<Var>, Memory>
+/// A list of equal data. `Memory` only where memory was refused.
+///
+/// Source: this project's choice.
+pub fn copy_vars(alloc: Global, vars: &[Var]) -> Result<List<Var>, Memory>
     ensures { IfOk result (λ copies. items_of copies ≡ vars.now) }
 {
     let mut copies = List::of(Vec::new(alloc));
@@ -49,8 +53,10 @@ pub(crate) fn copy_vars(alloc: Global, vars: &[Var]) -> Result<List<Var>, Memory
     Ok(copies)
 }
 
-/// A list of equal events.
-pub(crate) fn copy_events(alloc: Global, events: &[EventDecl]) -> Result<List<EventDecl>, Memory>
+/// A list of equal events. `Memory` only where memory was refused.
+///
+/// Source: this project's choice.
+pub fn copy_events(alloc: Global, events: &[EventDecl]) -> Result<List<EventDecl>, Memory>
     ensures { IfOk result (λ copies. items_of copies ≡ events.now) }
 {
     let mut copies = List::of(Vec::new(alloc));

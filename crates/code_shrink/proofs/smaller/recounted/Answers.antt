@@ -19,12 +19,12 @@ returns-in-Tests c slides kept way counts =
 -- what goes on
 pub returns-in-On : goal.returns-in-On
 returns-in-On c slides kept way counts =
-    subst (λ (x : Instr). IfOk c.renamed.result (λ (made : Written). instr_of made ≡ x))
-    (on_as (number_by c.args.numbers.now) slides kept (instr_of c.args.instr.now) (way ∙ c.in-On.is)) c.renamed.ensures
+    subst (λ (x : Instr). IfOk c.renamed_instr.result (λ (made : Written). instr_of made ≡ x))
+    (on_as (number_by c.args.numbers.now) slides kept (instr_of c.args.instr.now) (way ∙ c.in-On.is)) c.renamed_instr.ensures
 
 -- what returns
 pub returns-in-Returns : goal.returns-in-Returns
 returns-in-Returns c slides kept way counts =
-    subst (λ (x : Instr). IfOk c.renamed-in-Returns.result (λ (made : Written). instr_of made ≡ x))
+    subst (λ (x : Instr). IfOk c.renamed_instr-in-Returns.result (λ (made : Written). instr_of made ≡ x))
     (return_as (number_by c.args.numbers.now) slides kept (instr_of c.args.instr.now) (way ∙ c.in-Returns.is))
-    c.renamed-in-Returns.ensures
+    c.renamed_instr-in-Returns.ensures

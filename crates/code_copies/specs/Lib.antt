@@ -1,0 +1,8 @@
+pub mod Facts
+pub mod Rooted
+pub mod Follows
+pub mod Made
+pub mod SameRuns
+pub mod Asking
+pub mod Found
+pub mod Tested

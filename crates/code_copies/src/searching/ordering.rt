@@ -1,0 +1,69 @@
+//! Copies in the order of their procedures.
+use crate::plan::{Place, ProcedureCopy};
+use crate::searching::lists::number_of;
+use flow_base::Memory;
+use std::alloc::Global;
+
+/// A copy that was found, under the number that it had then.
+#[derive(Debug, Drop)]
+pub(crate) struct FoundCopy {
+    /// The number.
+    pub number: u32,
+    /// The copy.
+    pub copy: ProcedureCopy,
+}
+
+/// For each number that a copy had the one that it has in the list.
+pub(crate) fn ranks_of(alloc: Global, copies: &[FoundCopy]) -> Result<Vec<u32>, Memory> {
+    let Ok(mut ranks) = vec![in alloc; 0; copies.len()] else {
+        return Err(Memory);
+    };
+    for (rank, found) in copies.iter().enumerate() {
+        if let Some(slot) = ranks.get_mut(found.number as usize) {
+            *slot = number_of(rank);
+        }
+    }
+    Ok(ranks)
+}
+
+/// The number that a copy has, by the one that it had.
+pub(crate) fn rank_at(ranks: &[u32], number: u32) -> u32 {
+    ranks.get(number as usize).copied().unwrap_or(0)
+}
+
+/// Gives the copies that places name the numbers that they have.
+fn rename(places: &mut [Option<Place>], ranks: &[u32]) {
+    for slot in places {
+        if let Some(place) = slot {
+            place.copy = rank_at(ranks, place.copy);
+            if let Some(note) = place.note {
+                place.note = Some(rank_at(ranks, note));
+            }
+        }
+    }
+}
+
+/// The copies alone, with the numbers that they have.
+pub(crate) fn renamed(
+    alloc: Global,
+    found: Vec<FoundCopy>,
+    ranks: &[u32],
+) -> Result<Vec<ProcedureCopy>, Memory> {
+    let mut copies = Vec::new(alloc);
+    for each in found {
+        let mut copy = each.copy;
+        rename(&mut copy.places, ranks);
+        let Ok(()) = copies.push(copy) else {
+            return Err(Memory);
+        };
+    }
+    Ok(copies)
+}
+
+/// Puts the copies in the order of their procedures, those of one procedure as they are.
+pub(crate) fn sort(copies: &mut Vec<FoundCopy>) -> Result<(), Memory> {
+    match copies.sort_by_key(|found| found.copy.key.proc) {
+        Ok(()) => Ok(()),
+        Err(_) => Err(Memory),
+    }
+}

@@ -1,0 +1,9 @@
+pub mod ResultLemmas
+pub mod Places
+pub mod Lockstep
+pub mod CheckLemmas
+pub mod MadeLemmas
+pub mod RawLemmas
+pub mod Measured
+pub mod Sound
+pub mod Whole

@@ -1,0 +1,4 @@
+pub mod Results
+pub mod Folded
+pub mod Found
+pub mod Checked

@@ -1,0 +1,5 @@
+pub mod MergedFollows
+pub mod MergedSound
+pub mod MergedMeasured
+pub mod MergedResults
+pub mod MergedWhole

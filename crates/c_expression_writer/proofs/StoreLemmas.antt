@@ -1,6 +1,6 @@
 -- What is appended for an assignment, piece by piece.
 use Rattle.std.proofs.lemmas.Bool.Decides.{nat_tests}
-use Rattle.std.proofs.Common.{◌≡◌, ℕ, true, false, nat_le, pos, ◌^◌, ◌*◌, arith, ◌+◌, ◌-◌, ◌<◌, ◌≤◌, List, [], ◌∷◌, ◌++◌, length, get_or, refl, sym, ap, subst, ◌∙◌, append_assoc, if◌then◌else◌}
+use Rattle.std.proofs.Common.{◌≡◌, ℕ, Bool, true, false, nat_le, pos, ◌^◌, ◌*◌, arith, ◌+◌, ◌-◌, ◌<◌, ◌≤◌, List, [], ◌∷◌, ◌++◌, length, get_or, refl, sym, ap, subst, ◌∙◌, append_assoc, if◌then◌else◌}
 use Rattle.std.proofs.lemmas.List.{get_or-map}
 use Rattle.flow_base.specs.declared.fault.Fault.{Fault}
 use Rattle.flow_base.specs.declared.fault.Fault.TheVariants.{Overflow as Overflows}
@@ -26,8 +26,9 @@ use Rattle.c_subset.specs.declared.trees.Width.TheVariants.{W64}
 use Rattle.c_subset.specs.declared.trees.CType.{CType}
 use Rattle.c_subset.specs.declared.trees.CType.TheVariants.{Signed, Unsigned}
 use Rattle.c_expressions.specs.Assigning.{assigned_block, stores_of}
-use Rattle.c_expressions.specs.Code.{Nothing, Divide, FaultIf, written}
-use Rattle.c_expressions.specs.Storing.{Stores, stored_c, floored_code, floored_width, saturated_c, out_c, low_bits_c, signed_c}
+use Rattle.c_expressions.specs.Code.{Nothing, Set, Divide, FaultIf, written}
+use Rattle.c_expressions.specs.Storing.{Stores, stored_c, floored_code, floored_width, saturated_c, out_c, low_bits_c}
+use Rattle.c_expressions.specs.Storing.{rest_c, signed_c}
 use Rattle.c_expressions.specs.Translation.{Flat, brought}
 use Rattle.c_functions.specs.Plans.{Shape, layout, helper, faulted, declared_at, first_free, expression_c, assign_c}
 use Rattle.c_functions.specs.Layout.{on_c}
@@ -108,11 +109,23 @@ module _ (K : Shape) (o0 o1 o2 : List Line) (v frac size t : ℕ) (scale : Scale
   check s w rest = written (helper K) (faulted K) (FaultIf (Overflows v) (out_c scale s w (Local (Signed w) x.next)))
       (c.Store v (Local (Signed w) x.next) rest)
 
-  abbrev pub wrap : ℕ → Width → Block → Block
-  wrap s w rest = c.Set (Unsigned W64) (x.next + 1) (low_bits_c scale (Local (Signed w) x.next))
-      (c.Store v (if scale.signed then signed_c scale (Local (Unsigned W64) (x.next + 1)) else Local (Unsigned W64)
-      (x.next + 1))
-      rest)
+  abbrev pub low : CExpr
+  low = Local (Unsigned W64) (x.next + 1)
+
+  abbrev pub more : CExpr
+  more = Local (Unsigned W64) (x.next + 2)
+
+  abbrev pub wrap_low : ℕ → Width → Block → Block
+  wrap_low s w rest = c.Set (Unsigned W64) (x.next + 1) (low_bits_c scale (Local (Signed w) x.next)) (c.Store v low rest)
+
+  abbrev pub wrap_signed : ℕ → Width → Block → Block
+  wrap_signed s w rest = c.Set (Unsigned W64) (x.next + 1) (low_bits_c scale (Local (Signed w) x.next))
+      (c.Set (Unsigned W64) (x.next + 2) (rest_c scale low) (c.Store v (signed_c scale low more) rest))
+
+  abbrev pub wrap : Bool → ℕ → Width → Block → Block
+  wrap b s w rest = c.Set (Unsigned W64) (x.next + 1) (low_bits_c scale (Local (Signed w) x.next))
+      (written (helper K) (faulted K) (if b then Set (Unsigned W64) (x.next + 2) (rest_c scale low) else Nothing)
+      (c.Store v (if b then signed_c scale low more else low) rest))
 
   -- the same at the size and the width that the fraction of the scale gives
   placed : (piece : ℕ → Width → Block → Block) (s : ℕ) (w : Width) → t ≡ scale.frac → s ≡ size_at t frac size
@@ -139,13 +152,28 @@ module _ (K : Shape) (o0 o1 o2 : List Line) (v frac size t : ℕ) (scale : Scale
   check_stored s w mode m et es ew p q =
       rw m (appends_then o0 o1 o2 _ _ (subst Floored et p) (placed check s w et es ew q))
 
-  -- the number that differs by a multiple is stored
-  pub wrap_stored : (s : ℕ) (w : Width) (mode : Mode) → mode ≡ Wrap → t ≡ scale.frac → s ≡ size_at t frac size
-      → w ≡ floored_width frac size t → Floored t → Appends o1 o2 (wrap s w)
+  wrap_stored : (s : ℕ) (w : Width) (mode : Mode) → mode ≡ Wrap → t ≡ scale.frac → s ≡ size_at t frac size
+      → w ≡ floored_width frac size t → Floored t → Appends o1 o2 (wrap scale.signed s w)
       → Appends o0 o2 (assigned_block (helper K) (faulted K) v (stored_c v frac size scale mode (seen x)))
   unfolding written
   wrap_stored s w mode m et es ew p q =
-      rw m (appends_then o0 o1 o2 _ _ (subst Floored et p) (placed wrap s w et es ew q))
+      rw m (appends_then o0 o1 o2 _ _ (subst Floored et p) (placed (wrap scale.signed) s w et es ew q))
+
+  -- the number that differs by a multiple is stored in a datum with a sign
+  pub signed_stored : (s : ℕ) (w : Width) (mode : Mode) → mode ≡ Wrap → scale.signed ≡ true → t ≡ scale.frac
+      → s ≡ size_at t frac size → w ≡ floored_width frac size t → Floored t → Appends o1 o2 (wrap_signed s w)
+      → Appends o0 o2 (assigned_block (helper K) (faulted K) v (stored_c v frac size scale mode (seen x)))
+  unfolding written
+  signed_stored s w mode m sign et es ew p q =
+      wrap_stored s w mode m et es ew p (subst (λ (b : Bool). Appends o1 o2 (wrap b s w)) (sym sign) q)
+
+  -- and in one without
+  pub low_stored : (s : ℕ) (w : Width) (mode : Mode) → mode ≡ Wrap → scale.signed ≡ false → t ≡ scale.frac
+      → s ≡ size_at t frac size → w ≡ floored_width frac size t → Floored t → Appends o1 o2 (wrap_low s w)
+      → Appends o0 o2 (assigned_block (helper K) (faulted K) v (stored_c v frac size scale mode (seen x)))
+  unfolding written
+  low_stored s w mode m sign et es ew p q =
+      wrap_stored s w mode m et es ew p (subst (λ (b : Bool). Appends o1 o2 (wrap b s w)) (sym sign) q)
 
 -- ---- an operand
 
@@ -213,9 +241,9 @@ assigned_result K o0 o1 o2 v e x operand lt is written own =
     (sym (declared_is K.names v x lt is))
     (assigned_written K o0 o1 o2 v x.sort x.mode (sort_at K e) (flat_at K first_free e) operand written own)
 
--- two more numbers after the locals of an expression
+-- three more numbers after the locals of an expression
 pub assigned_room : (K : Shape) (o0 o1 : List Line) (n : ℕ) (e : Expr) (x : Operand)
-    → IsWritten K o0 o1 (flat_at K n e) (sort_at K e) x → n + 2 * operator_count e + 1 < 2 ^ 32 → x.next + 1 < 2 ^ 32
+    → IsWritten K o0 o1 (flat_at K n e) (sort_at K e) x → n + 2 * operator_count e + 2 < 2 ^ 32 → x.next + 2 < 2 ^ 32
 assigned_room K o0 o1 n e x is room =
     let at = is.next ∙ flat_next (scope_of K.names) (on_c K.tree (layout K) K.numbers) n e in
     let few = locals_few e in omega (arith, at, few, room)

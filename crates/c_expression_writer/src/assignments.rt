@@ -1,12 +1,12 @@
 //! Assignments.
-ghost use Rattle.std.specs.Prelude.{◌≡◌, ◌+◌, ◌≤◌, ◌<◌, ◌^◌, length, OnOk, IfOk, IsOk};
-ghost use Rattle.std.specs.Prelude.{if◌then◌else◌};
+ghost use Rattle.std.specs.Prelude.{◌≡◌, ◌+◌, ◌≤◌, ◌<◌, ◌^◌, ◌++◌, ◌∷◌, [], length, OnOk, IsOk};
 ghost use Rattle.flow_base.specs.Lists.{items_of};
 ghost use Rattle.actions.specs.Sorts.{IsNarrow, scope_of, sort_of};
 ghost use Rattle.actions.specs.Trees as trees;
 ghost use Rattle.checked_chart.specs.declared.limits.TheConstants.{OPERATOR_LIMIT};
 ghost use Rattle.checked_chart.specs.Expressions.{operator_count};
-ghost use Rattle.c_subset.specs.Lines.{Appends, expr_of};
+ghost use Rattle.c_subset.specs.Lines as lines;
+ghost use Rattle.c_subset.specs.Lines.{Appends, expr_of, lines_in};
 ghost use Rattle.c_subset.specs.Trees as c;
 ghost use Rattle.c_expressions.specs.Assigning.{assigned_block, stores_of};
 ghost use Rattle.c_expressions.specs.Code as code;
@@ -23,7 +23,7 @@ use crate::lines::{put, put_fault_if};
 use crate::operand::Operand;
 use crate::precision::{Precision, floored_width, precision_of, size_at};
 use crate::quotients::put_division;
-use crate::wraps::{low_bits, signed};
+use crate::wraps::{low_bits, rest_of, signed};
 use actions::{Expr, Sort};
 use c_subset::{CExpr, CType, Line, Width};
 use fixed_point::{Mode, Scale};
@@ -91,36 +91,54 @@ fn store_checked(
     put(out, Line::Store(datum, value(of)))
 }
 
-/// The number of a scale that has the low bits of a local.
-fn wrapped(alloc: Global, scale: Scale, local: u32) -> Result<CExpr, Memory>
-    ensures { IfOk result (λ made. expr_of made ≡ (if scale.signed
-        then spec.signed_c scale (c.Local (CType.Unsigned Width.W64) local)
-        else c.Local (CType.Unsigned Width.W64) local)) }
-{
-    if scale.signed {
-        signed(alloc, scale, local)
-    } else {
-        Ok(CExpr::Local(CType::Unsigned(Width::W64), local))
-    }
-}
-
-/// Appends that a datum takes the number in range that differs by a multiple of `2^width`.
-#[tactic(auto, using(std::proofs::Common::append_assoc), unfolding(c_subset::specs::Lines::lines_of, c_expressions::specs::Code::written))]
-fn store_wrapped(alloc: Global, out: &mut List<Line>, datum: u32, of: Brought) -> Result<(), Memory>
+/// Appends that a local has the low bits of a number.
+fn put_low(alloc: Global, out: &mut List<Line>, of: Brought) -> Result<(), Memory>
     requires { of.local + 1 < 2 ^ 32 }
-    ensures { OnOk result (Appends (items_of out.old) (items_of out.new) (λ rest.
-        c.Set (CType.Unsigned Width.W64) (of.local + 1)
-        (spec.low_bits_c of.scale (c.Local (CType.Signed of.width) of.local))
-        (c.Store datum (if of.scale.signed
-        then spec.signed_c of.scale (c.Local (CType.Unsigned Width.W64) (of.local + 1))
-        else c.Local (CType.Unsigned Width.W64) (of.local + 1)) rest))) }
+    ensures { OnOk result (lines_in (items_of out.new) ≡ lines_in (items_of out.old)
+        ++ lines.Set (CType.Unsigned Width.W64) (of.local + 1)
+        (spec.low_bits_c of.scale (c.Local (CType.Signed of.width) of.local)) ∷ []) }
 {
     let low = low_bits(alloc, of.scale, value(of))?;
     put(
         out,
         Line::Set(CType::Unsigned(Width::W64), of.local + 1, low),
+    )
+}
+
+/// Appends that a datum without a sign takes the low bits of a number.
+#[tactic(auto, using(std::proofs::Common::append_assoc), unfolding(c_subset::specs::Lines::lines_of))]
+fn store_low(alloc: Global, out: &mut List<Line>, datum: u32, of: Brought) -> Result<(), Memory>
+    requires { of.local + 1 < 2 ^ 32 }
+    ensures { OnOk result (Appends (items_of out.old) (items_of out.new) (λ rest.
+        c.Set (CType.Unsigned Width.W64) (of.local + 1)
+        (spec.low_bits_c of.scale (c.Local (CType.Signed of.width) of.local))
+        (c.Store datum (c.Local (CType.Unsigned Width.W64) (of.local + 1)) rest))) }
+{
+    put_low(alloc, out, of)?;
+    let kept = CExpr::Local(CType::Unsigned(Width::W64), of.local + 1);
+    put(out, Line::Store(datum, kept))
+}
+
+/// Appends that a datum with a sign takes the number in range that differs by a multiple of
+/// `2^width`.
+#[tactic(auto, using(std::proofs::Common::append_assoc), unfolding(c_subset::specs::Lines::lines_of))]
+fn store_signed(alloc: Global, out: &mut List<Line>, datum: u32, of: Brought) -> Result<(), Memory>
+    requires { of.local + 2 < 2 ^ 32 }
+    ensures { OnOk result (Appends (items_of out.old) (items_of out.new) (λ rest.
+        c.Set (CType.Unsigned Width.W64) (of.local + 1)
+        (spec.low_bits_c of.scale (c.Local (CType.Signed of.width) of.local))
+        (c.Set (CType.Unsigned Width.W64) (of.local + 2)
+        (spec.rest_c of.scale (c.Local (CType.Unsigned Width.W64) (of.local + 1)))
+        (c.Store datum (spec.signed_c of.scale (c.Local (CType.Unsigned Width.W64) (of.local + 1))
+        (c.Local (CType.Unsigned Width.W64) (of.local + 2))) rest)))) }
+{
+    put_low(alloc, out, of)?;
+    let rest = rest_of(alloc, of.scale, of.local + 1)?;
+    put(
+        out,
+        Line::Set(CType::Unsigned(Width::W64), of.local + 2, rest),
     )?;
-    let kept = wrapped(alloc, of.scale, of.local + 1)?;
+    let kept = signed(alloc, of.scale, of.local + 1, of.local + 2)?;
     put(out, Line::Store(datum, kept))
 }
 
@@ -144,7 +162,7 @@ fn store_number(
     from: Precision,
     number: Operand,
 ) -> Result<(), Memory>
-    requires { number.next + 1 < 2 ^ 32 }
+    requires { number.next + 2 < 2 ^ 32 }
     ensures { OnOk result (Appends (items_of out.old) (items_of out.new)
         (assigned_block (plans.helper (shape_seen shape.now)) (plans.faulted (shape_seen shape.now))
         to.datum (spec.stored_c to.datum from.frac from.size to.scale to.mode (seen number)))) }
@@ -159,7 +177,8 @@ fn store_number(
     put_floored(alloc, shape, out, from, frac, number.next, number.expr)?;
     match to.mode {
         Mode::Saturate => store_saturated(alloc, out, to.datum, of),
-        Mode::Wrap => store_wrapped(alloc, out, to.datum, of),
+        Mode::Wrap if to.scale.signed => store_signed(alloc, out, to.datum, of),
+        Mode::Wrap => store_low(alloc, out, to.datum, of),
         Mode::Error => store_checked(alloc, shape, out, to.datum, of),
     }
 }
@@ -176,7 +195,7 @@ fn store_operand(
     operand: Operand,
 ) -> Result<(), Memory>
     requires narrow { IsNarrow operand.sort }
-    requires room { operand.next + 1 < 2 ^ 32 }
+    requires room { operand.next + 2 < 2 ^ 32 }
     ensures { OnOk result (Appends (items_of out.old) (items_of out.new)
         (assigned_block (plans.helper (shape_seen shape.now)) (plans.faulted (shape_seen shape.now))
         datum (stores_of datum sort mode operand.sort (seen operand)))) }

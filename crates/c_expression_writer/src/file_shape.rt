@@ -23,7 +23,10 @@ pub struct FileShape<'a> {
     pub procs: u32,
     /// The procedures that are noted, in ascending order.
     pub noted: List<u32>,
-    /// How many entries `note[]` has.
+    /// The height for which `note[]` has room.
+    pub height: u32,
+    /// How many entries `note[]` has: enough for a chain of calls of that height for an event and
+    /// for each of its steps.
     pub notes: u64,
     /// How many ORs there are.
     ors: u32,
@@ -40,17 +43,21 @@ impl<'a> FileShape<'a> {
     ghost use Rattle.c_functions.specs.Files.{shape_of};
     ghost use Rattle.c_expression_writer.specs.FileShapes.{shape_seen};
 
-    /// The shape of code: its tree and its names are handed over beside it.
+    /// The shape of code, with room in `note[]` for a height: its tree and its names are handed over
+    /// beside it. What is proved of runs of the file is so where the code is no higher than that.
     pub fn make(
         alloc: Global,
         names: &'a Names,
         tree: &'a Shape,
         code: &Code,
+        height: u32,
         bounds: Bounds,
     ) -> Result<FileShape<'a>, Memory>
         requires names { names_of names.now ≡ (code_of code.now).names }
         requires tree { tree.now ≡ (code_of code.now).tree }
-        ensures { IfOk result (λ shape. shape_seen shape ≡ shape_of (code_of code.now) bounds) }
+        ensures shape { IfOk result
+            (λ shape. shape_seen shape ≡ shape_of (code_of code.now) height bounds) }
+        ensures height { IfOk result (λ shape. shape.height ≡ height) }
     {
         let procs = code.raw().procs.items();
         let noted = noted_in(alloc, procs)?;
@@ -61,7 +68,8 @@ impl<'a> FileShape<'a> {
             bounds,
             procs: procs.len() as u32,
             noted,
-            notes: (u64::from(bounds.steps) + 1) * (u64::from(code.height()) + 1),
+            height,
+            notes: (u64::from(bounds.steps) + 1) * (u64::from(height) + 1),
             ors,
             ranks,
         })

@@ -66,44 +66,46 @@ impl FileShape<'_> {
     }
 
     /// A test, and that the bit of a state isn't set.
-    fn unless_bit(&self, alloc: Global, state: u32, test: CExpr) -> Result<CExpr, Memory>
+    fn and_unset(&self, alloc: Global, test: CExpr, state: u32) -> Result<CExpr, Memory>
         requires { state < state_count (shape_seen self.now).tree }
         ensures { IfOk result (λ made. expr_of made
-            ≡ c.Both (c.Bang (spec.bit_test (layout (shape_seen self.now)) state)) (expr_of test)) }
+            ≡ c.Both (expr_of test) (c.Bang (spec.bit_test (layout (shape_seen self.now)) state))) }
     {
         let bit = self.bit_test(alloc, state)?;
         let unset = CExpr::bang(alloc, bit)?;
-        CExpr::both(alloc, unset, test)
+        CExpr::both(alloc, test, unset)
     }
 
-    /// The test that no bit of a child of a state is set.
-    fn no_bits(&self, alloc: Global, state: u32) -> Result<CExpr, Memory>
+    /// The test that a state is active and the bit of none of its children is set.
+    fn on_and_no_bits(&self, alloc: Global, state: u32) -> Result<CExpr, Memory>
         requires { state < state_count (shape_seen self.now).tree }
-        ensures { IfOk result (λ test. expr_of test ≡ spec.no_bits (layout (shape_seen self.now))
+        ensures { IfOk result (λ test. expr_of test ≡ spec.and_no_bits
+            (layout (shape_seen self.now)) (spec.on_c (shape_seen self.now).tree
+            (layout (shape_seen self.now)) (λ x. suc x) state)
             (children_of (shape_seen self.now).tree state)) }
     {
         // Only the proof reads the number of states: they are those of a tree.
         let _ = self.tree.len();
-        let mut test = CExpr::Const(CType::Truth, 1);
-        let mut next = self.tree.last_child(state);
+        let mut test = self.on_test(alloc, state)?;
+        let mut next = self.tree.first_child(state);
         while let Some(child) = next {
-            test = self.unless_bit(alloc, child, test)?;
-            next = self.tree.prev_sibling(child);
+            test = self.and_unset(alloc, test, child)?;
+            next = self.tree.next_sibling(child);
         }
         Ok(test)
     }
 
-    /// The test that no child of a state is active.
-    fn childless_test(&self, alloc: Global, state: u32) -> Result<CExpr, Memory>
+    /// The test that a state is active and the number of its active child is 0.
+    fn on_and_no_number(&self, alloc: Global, state: u32) -> Result<CExpr, Memory>
         requires { state < state_count (shape_seen self.now).tree }
-        ensures { IfOk result (λ test. expr_of test ≡ spec.childless_c (shape_seen self.now).tree
-            (layout (shape_seen self.now)) state
-            (states.is_or (comp_of (shape_seen self.now).tree state))) }
+        ensures { IfOk result (λ test. expr_of test ≡ c.Both (spec.on_c (shape_seen self.now).tree
+            (layout (shape_seen self.now)) (λ x. suc x) state)
+            (spec.number_test (layout (shape_seen self.now))
+            ((layout (shape_seen self.now)).chosen state) 0)) }
     {
-        match self.tree.comp(state) {
-            Comp::Or => self.number_test(alloc, self.chosen_field(state), 0),
-            Comp::Leaf | Comp::And => self.no_bits(alloc, state),
-        }
+        let on = self.on_test(alloc, state)?;
+        let childless = self.number_test(alloc, self.chosen_field(state), 0)?;
+        CExpr::both(alloc, on, childless)
     }
 
     /// The test that a state is active and none of its children is.
@@ -113,9 +115,10 @@ impl FileShape<'_> {
         ensures { IfOk result (λ test. expr_of test ≡ spec.bare_c (shape_seen self.now).tree
             (layout (shape_seen self.now)) (λ x. suc x) state) }
     {
-        let on = self.on_test(alloc, state)?;
-        let childless = self.childless_test(alloc, state)?;
-        CExpr::both(alloc, on, childless)
+        match self.tree.comp(state) {
+            Comp::Or => self.on_and_no_number(alloc, state),
+            Comp::Leaf | Comp::And => self.on_and_no_bits(alloc, state),
+        }
     }
 
     /// The test that an OR remembers a state.

@@ -33,29 +33,37 @@ pub(crate) fn low_bits(alloc: Global, scale: Scale, number: CExpr) -> Result<CEx
     CExpr::bits(alloc, Bitwise::BitAnd, word, mask(u32::from(scale.width)))
 }
 
-/// The number below 0 that has the low bits of a local.
-fn negative(alloc: Global, scale: Scale, local: u32) -> Result<CExpr, Memory>
+/// What the mask is more than the low bits that a local has.
+pub(crate) fn rest_of(alloc: Global, scale: Scale, low: u32) -> Result<CExpr, Memory>
     ensures { IfOk result (λ made. expr_of made
-        ≡ c.Calc Arithmetic.Less (c.Minus (c.Cast (CType.Signed Width.W64)
-        (c.Calc Arithmetic.Less (c.Const (CType.Unsigned Width.W64) (pos (2 ^ scale.width - 1)))
-        (c.Local (CType.Unsigned Width.W64) local))))
-        (c.Const (CType.Signed Width.W64) (pos 1))) }
+        ≡ spec.rest_c scale (c.Local (CType.Unsigned Width.W64) low)) }
 {
     let mask = mask(u32::from(scale.width));
-    let rest = CExpr::calc(alloc, Arithmetic::Less, mask, CExpr::Local(WORD, local))?;
-    let rest = CExpr::cast(alloc, SIGNED_WORD, rest)?;
-    let minus = CExpr::minus(alloc, rest)?;
+    CExpr::calc(alloc, Arithmetic::Less, mask, CExpr::Local(WORD, low))
+}
+
+/// The number below 0 whose low bits are so much less than the mask as a local has.
+fn negative(alloc: Global, rest: u32) -> Result<CExpr, Memory>
+    ensures { IfOk result (λ made. expr_of made
+        ≡ c.Calc Arithmetic.Less (c.Minus (c.Cast (CType.Signed Width.W64)
+        (c.Local (CType.Unsigned Width.W64) rest)))
+        (c.Const (CType.Signed Width.W64) (pos 1))) }
+{
+    let cast = CExpr::cast(alloc, SIGNED_WORD, CExpr::Local(WORD, rest))?;
+    let minus = CExpr::minus(alloc, cast)?;
     CExpr::calc(alloc, Arithmetic::Less, minus, CExpr::Const(SIGNED_WORD, 1))
 }
 
-/// The number of a signed scale that has the low bits of a local: from the half on it is below 0.
-pub(crate) fn signed(alloc: Global, scale: Scale, local: u32) -> Result<CExpr, Memory>
+/// The number of a signed scale that has the low bits of a local, where another one has what the
+/// mask is more: from the half on it is below 0.
+pub(crate) fn signed(alloc: Global, scale: Scale, low: u32, rest: u32) -> Result<CExpr, Memory>
     ensures { IfOk result (λ made. expr_of made
-        ≡ spec.signed_c scale (c.Local (CType.Unsigned Width.W64) local)) }
+        ≡ spec.signed_c scale (c.Local (CType.Unsigned Width.W64) low)
+        (c.Local (CType.Unsigned Width.W64) rest)) }
 {
     let half = mask(u32::from(scale.width) - 1);
-    let test = CExpr::compare(alloc, Comparison::IsAtMost, CExpr::Local(WORD, local), half)?;
-    let same = CExpr::cast(alloc, SIGNED_WORD, CExpr::Local(WORD, local))?;
-    let negative = negative(alloc, scale, local)?;
+    let test = CExpr::compare(alloc, Comparison::IsAtMost, CExpr::Local(WORD, low), half)?;
+    let same = CExpr::cast(alloc, SIGNED_WORD, CExpr::Local(WORD, low))?;
+    let negative = negative(alloc, rest)?;
     CExpr::choose(alloc, SIGNED_WORD, test, same, negative)
 }

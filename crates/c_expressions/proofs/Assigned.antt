@@ -36,16 +36,18 @@ use Rattle.c_subset.specs.declared.trees.CType.{CType}
 use Rattle.c_subset.specs.declared.trees.CType.TheVariants.{Signed, Unsigned}
 use Rattle.c_subset.specs.Meaning.{bits, gives, converted, read_as, Store, Locals, meaning}
 use Rattle.c_subset.specs.Running.{with_local}
-use Rattle.c_expressions.specs.Code.{Goes, Faults, ending}
+use Rattle.c_expressions.specs.Code.{Nothing, Set, Goes, Faults, ending}
 use Rattle.c_expressions.specs.Translation.{Flat}
-use Rattle.c_expressions.specs.Storing.{floored_width, out_c, low_bits_c, signed_c, brought_code, brought_local}
-use Rattle.c_expressions.specs.Storing.{stored_c, StoresAs}
+use Rattle.c_expressions.specs.Storing.{floored_width, out_c, low_bits_c, rest_c, signed_c, brought_code}
+use Rattle.c_expressions.specs.Storing.{brought_local, low_local, rest_local, stored_c, StoresAs}
 use Rattle.c_expressions.specs.Claims.{Has, AgreeBelow, EndsAs}
 use Rattle.c_expressions.proofs.Running.{agree-itself, agree-through, agree-set, set-there, then-goes, then-ends}
 use Rattle.c_expressions.proofs.Quotients.{set-goes, local-has, fault_if-ends}
 use Rattle.c_expressions.proofs.Storing.{floored-goes}
 use Rattle.c_expressions.proofs.Fields.{saturates, overflows, IsBrought}
 use Rattle.c_expressions.proofs.Wraps.{lifted, low_bits-is, wrapped-unsigned}
+use Rattle.c_expressions.proofs.Deciding.{nothing-goes}
+use Rattle.c_expressions.proofs.SignedWraps.{rest_of, unsigned-at, rest-fits, rest-means, has-low}
 use Rattle.c_expressions.proofs.Kept.{kept-wrapped, wraps-signed}
 
 -- low bits are as they are in uint64_t
@@ -164,23 +166,52 @@ module _ (int : Width) (s : Store) (l : Locals) (n d size : ℕ) (scale : Scale)
       let sets = set-goes int s b.after k (Unsigned W64) (low_bits_c scale (Local (Signed w) x.next)) u u
       (Unsigned W64, low_bits-is int s b.after scale (Local (Signed w) x.next) z most_int has)
       (low-stays z scale.width scale.bits_within) in
-      let means = local-means int s after (Unsigned W64) k u (set-there b.after (Unsigned W64) k u) in (
-        after,
-        then-goes int s l b.after after _ _ b.goes sets,
-        agree-through n n l b.after after (omega arith) b.keeps
-            (agree-set n k b.after (Unsigned W64) u (omega (arith, up))),
-        at after means scale.signed refl,
-      )
+      let keeps = agree-through n n l b.after after (omega arith) b.keeps
+      (agree-set n k b.after (Unsigned W64) u (omega (arith, up))) in
+      let r = at after keeps (set-there b.after (Unsigned W64) k u) scale.signed refl in
+      (r.0, then-goes int s l b.after r.0 _ _ b.goes (then-goes int s b.after after r.0 _ _ sets r.1), r.2, r.3)
     where
       low : CExpr
-      low = Local (Unsigned W64) (x.next + 1)
+      low = low_local x
 
-      at : (after : Locals) → meaning int s after low ≡ gives (Unsigned W64)
-          (int_rem_euclid (floored v scale.frac) (pos (2 ^ scale.width)))
-          → (c : Bool) → scale.signed ≡ c → Has int s after (cond c (signed_c scale low) low) m
-      at after means true sign = wraps-signed int s after v scale low m most_int sign means is
-      at after means false sign = subst (λ (y : ℤ). Has int s after low y)
-          (sym (wrapped-unsigned scale (floored v scale.frac) sign) ∙ kept-wrapped v scale m is) (Unsigned W64, means)
+      -- after the low bits are set
+      at : (after : Locals) → AgreeBelow n l after
+          → after (Unsigned W64) (x.next + 1) ≡ Some (int_rem_euclid (floored v scale.frac) (pos (2 ^ scale.width)))
+          → (c : Bool) → scale.signed ≡ c
+          → (last : Locals) × (ending int s after
+          (cond c (Set (Unsigned W64) (x.next + 2) (rest_c scale low)) Nothing) ≡ Goes last)
+          × AgreeBelow n l last × Has int s last (cond c (signed_c scale low (rest_local x)) low) m
+      at after keeps there true sign =
+          let h = has-low scale (floored v scale.frac) in
+          let k = x.next + 1 in
+          let j = x.next + 2 in
+          let rest = pos (rest_of scale h.low) in
+          let u = there ∙ ap Some h.is in
+          let last = with_local after (Unsigned W64) j rest in
+          let sets = set-goes int s after j (Unsigned W64) (rest_c scale low) rest rest (
+            Unsigned W64,
+            rest-means int s after scale low h.low most_int h.below
+                (local-means int s after (Unsigned W64) k (pos h.low) u),
+          )
+          (unsigned-at (rest_of scale h.low) (rest-fits scale h.low)) in
+          let agrees = agree-set j j after (Unsigned W64) rest (omega arith) in (
+            last,
+            sets,
+            agree-through n n l after last (omega arith) keeps
+                (agree-set n j after (Unsigned W64) rest (omega (arith, up))),
+            wraps-signed int s last v scale low (rest_local x) m h most_int sign
+                (local-means int s last (Unsigned W64) k (pos h.low)
+                (agrees (Unsigned W64) k (omega arith) ∙ u))
+                (local-means int s last (Unsigned W64) j rest (set-there after (Unsigned W64) j rest)) is,
+          )
+      at after keeps there false sign = (
+        after,
+        nothing-goes int s after Nothing refl,
+        keeps,
+        subst (λ (y : ℤ). Has int s after low y)
+            (sym (wrapped-unsigned scale (floored v scale.frac) sign) ∙ kept-wrapped v scale m is)
+            (local-has int s after (Unsigned W64) (x.next + 1) _ there),
+      )
 
   -- the C of each mode
   stores : (mode : Mode) → StoresAs int s n l d (stored_c d v.frac size scale mode x) (fitted v scale mode)

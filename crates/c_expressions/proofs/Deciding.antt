@@ -83,7 +83,7 @@ both-hold true q is = (refl, is)
 both-hold false q is = absurd cc
 
 -- code that is nothing
-nothing-goes : (int : Width) (s : Store) (l : Locals) (c : CCode) → is_nothing c ≡ true → ending int s l c ≡ Goes l
+pub nothing-goes : (int : Width) (s : Store) (l : Locals) (c : CCode) → is_nothing c ≡ true → ending int s l c ≡ Goes l
 unfolding ending
 nothing-goes int s l Nothing is = refl
 nothing-goes int s l (Then a b) is =

@@ -18,7 +18,7 @@ use Rattle.c_subset.specs.Meaning.{bits, gives, Store, Locals, meaning}
 use Rattle.c_expressions.specs.Storing.{low_bits_c, signed_c}
 use Rattle.c_expressions.specs.Claims.{Has}
 use Rattle.c_expressions.proofs.Wraps.{low_bits-is, wrapped-unsigned}
-use Rattle.c_expressions.proofs.SignedWraps.{wrapped-signed}
+use Rattle.c_expressions.proofs.SignedWraps.{rest_of, HasLow, wrapped-signed}
 
 -- a number in a range of n wraps to itself
 stays-in : (low high z : ℤ) (n : ℕ) → 0 < n → low +ℤ pos n ≡ high +ℤ pos 1 → (int_le low z && int_le z high) ≡ true
@@ -71,11 +71,12 @@ wraps-unsigned int s l n scale x m most sign has is =
     (sym (wrapped-unsigned scale (floored n scale.frac) sign) ∙ kept-wrapped n scale m is)
     (Unsigned W64, low_bits-is int s l scale x (floored n scale.frac) most has)
 
--- the number of a signed scale with these low bits, which x gives
-pub wraps-signed : (int : Width) (s : Store) (l : Locals) (n : Num) (scale : Scale) (x : CExpr) (m : ℤ) → bits int ≤ 64
-    → scale.signed ≡ true → meaning int s l x ≡ gives (Unsigned W64)
-    (int_rem_euclid (floored n scale.frac) (pos (2 ^ scale.width)))
-    → fitted n scale Wrap ≡ Ok m → Has int s l (signed_c scale x) m
-wraps-signed int s l n scale x m most sign low is =
-    subst (λ (z : ℤ). Has int s l (signed_c scale x) z) (kept-wrapped n scale m is)
-    (wrapped-signed int s l scale x (floored n scale.frac) most sign low)
+-- the number of a signed scale with these low bits, which x gives, where y gives what the mask is more
+pub wraps-signed : (int : Width) (s : Store) (l : Locals) (n : Num) (scale : Scale) (x y : CExpr) (m : ℤ)
+    (h : HasLow scale (floored n scale.frac)) → bits int ≤ 64
+    → scale.signed ≡ true → meaning int s l x ≡ gives (Unsigned W64) (pos h.low)
+    → meaning int s l y ≡ gives (Unsigned W64) (pos (rest_of scale h.low))
+    → fitted n scale Wrap ≡ Ok m → Has int s l (signed_c scale x y) m
+wraps-signed int s l n scale x y m h most sign low rest is =
+    subst (λ (z : ℤ). Has int s l (signed_c scale x y) z) (kept-wrapped n scale m is)
+    (wrapped-signed int s l scale x y (floored n scale.frac) h most sign low rest)

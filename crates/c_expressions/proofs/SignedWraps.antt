@@ -21,7 +21,7 @@ use Rattle.c_subset.specs.declared.trees.Comparison.TheVariants.{IsAtMost}
 use Rattle.c_subset.specs.Meaning.{bits, Meaning, Wrong, with_meaning, gives, converted, fits_signed, exact, calculated}
 use Rattle.c_subset.specs.Meaning.{compared, negated, passes, truth, one_if, promoted, common, common_of, Store, Locals}
 use Rattle.c_subset.specs.Meaning.{meaning}
-use Rattle.c_expressions.specs.Storing.{signed_c}
+use Rattle.c_expressions.specs.Storing.{rest_c, signed_c}
 use Rattle.c_expressions.specs.Claims.{Has}
 use Rattle.c_expressions.proofs.Wraps.{lifted, common_unsigned}
 use Rattle.c_expressions.proofs.Storing.{choose-has}
@@ -66,7 +66,7 @@ common_signed : (int : Width) → bits int ≤ 64 → common int (Signed W64) (S
 common_signed int most = ap (λ (t : CType). common_of t t) (stays_signed int most)
 
 -- a natural number below 2 ^ 64 is one of uint64_t
-unsigned-at : (n : ℕ) → n < 2 ^ 64 → converted (Unsigned W64) (pos n) ≡ gives (Unsigned W64) (pos n)
+pub unsigned-at : (n : ℕ) → n < 2 ^ 64 → converted (Unsigned W64) (pos n) ≡ gives (Unsigned W64) (pos n)
 unsigned-at n below = ap (λ (x : ℕ). gives (Unsigned W64) (pos x)) (mod-eq_of_lt below)
 
 -- a whole number in range is one of int64_t
@@ -92,7 +92,7 @@ halfway-high m h some high =
     ap (λ (x : ℕ). x % (h * 2)) same ∙ mod-mul-add (q + 1) (h * 2) (m % (h * 2) - h) (omega arith)
 
 -- what the C computes of the low bits r of a number, below 2 * h
-abbrev from_low : ℕ → ℕ → ℤ
+abbrev pub from_low : ℕ → ℕ → ℤ
 from_low h r = cond (int_le (pos r) (pos (h - 1))) (pos r) (neg_ℤ (pos (h * 2 - 1 - r)) -ℤ pos 1)
 
 -- is the number that wraps to a range of two halves h
@@ -166,10 +166,11 @@ unfolding meaning
 minus-means int s l t e x z is to = ap (λ (m : Meaning). with_meaning m (negated int)) is ∙ to
 
 -- the C of the halves
-signed-has : (int : Width) (s : Store) (l : Locals) (scale : Scale) (e : CExpr) (r : ℕ) → bits int ≤ 64
+signed-has : (int : Width) (s : Store) (l : Locals) (scale : Scale) (e g : CExpr) (r : ℕ) → bits int ≤ 64
     → r < 2 ^ (scale.width - 1) * 2 → meaning int s l e ≡ gives (Unsigned W64) (pos r)
-    → Has int s l (signed_c scale e) (from_low (2 ^ (scale.width - 1)) r)
-signed-has int s l scale e r most below is =
+    → meaning int s l g ≡ gives (Unsigned W64) (pos (2 ^ (scale.width - 1) * 2 - 1 - r))
+    → Has int s l (signed_c scale e g) (from_low (2 ^ (scale.width - 1)) r)
+signed-has int s l scale e g r most below is rest_is =
     choose-has int s l W64 _ _ _ (int_le (pos r) (pos (h - 1))) (pos r) (neg_ℤ (pos (h * 2 - 1 - r)) -ℤ pos 1)
     (in_type (int_le (pos r) (pos (h - 1))) refl)
     (compare-means int s l (Unsigned W64) IsAtMost e _ (pos r) (pos (h - 1)) is
@@ -190,11 +191,6 @@ signed-has int s l scale e r most below is =
     r_fits : r < 2 ^ 64
     r_fits = omega (arith, below, h_fits)
 
-    all : 2 ^ scale.width ≡ h * 2
-    all = let some = scale.some_bits in
-        let w : scale.width ≡ suc (scale.width - 1) = omega arith in
-        ap (λ (x : ℕ). 2 ^ x) w ∙ pow-suc 2 (scale.width - 1)
-
     in_type : (b : Bool) → int_le (pos r) (pos (h - 1)) ≡ b
         → fits_signed 64 (cond b (pos r) (neg_ℤ (pos (h * 2 - 1 - r)) -ℤ pos 1)) ≡ true
     in_type true low =
@@ -214,22 +210,8 @@ signed-has int s l scale e r most below is =
     rest : ℕ
     rest = h * 2 - 1 - r
 
-    rest_means : meaning int s l (Calc Less (Const (Unsigned W64) (pos (2 ^ scale.width - 1))) e) ≡ gives (Unsigned W64)
-        (pos rest)
-    rest_means =
-        let top : converted (Unsigned W64) (pos (2 ^ scale.width - 1)) ≡ gives (Unsigned W64)
-        (pos (2 ^ scale.width - 1)) =
-        unsigned-at (2 ^ scale.width - 1) (omega (arith, all, h_fits, h_some)) in
-        let less : exact Less (pos (2 ^ scale.width - 1)) (pos r) ≡ pos rest = omega (arith, ints, all, below) in
-        calc-means int s l (Unsigned W64) Less _ e (pos (2 ^ scale.width - 1)) (pos r) (pos rest)
-        (const-means int s l (Unsigned W64) _ top) is
-        (calc-at int (Unsigned W64) Less (pos (2 ^ scale.width - 1)) (pos r) (pos rest) (common_unsigned int most) top
-        (unsigned-at r r_fits)
-        (ap (λ (z : ℤ). converted (Unsigned W64) z) less ∙ unsigned-at rest (omega (arith, h_fits))))
-
     higher : int_le (pos r) (pos (h - 1)) ≡ false → Has int s l
-        (Calc Less (Minus (Cast (Signed W64) (Calc Less (Const (Unsigned W64) (pos (2 ^ scale.width - 1))) e)))
-        (Const (Signed W64) (pos 1)))
+        (Calc Less (Minus (Cast (Signed W64) g)) (Const (Signed W64) (pos 1)))
         (neg_ℤ (pos rest) -ℤ pos 1)
     higher high =
         let big : h ≤ r = grind (arith, nat_tests, ints) in
@@ -240,7 +222,7 @@ signed-has int s l scale e r most below is =
           Signed W64,
           calc-means int s l (Signed W64) Less _ _ (neg_ℤ (pos rest)) (pos 1) (neg_ℤ (pos rest) -ℤ pos 1)
               (minus-means int s l (Signed W64) _ (pos rest) (neg_ℤ (pos rest))
-              (cast-means int s l (Signed W64) (Unsigned W64) _ (pos rest) rest_means (signed-at (pos rest) fits))
+              (cast-means int s l (Signed W64) (Unsigned W64) _ (pos rest) rest_is (signed-at (pos rest) fits))
               (negate-at int (Signed W64) (pos rest) (neg_ℤ (pos rest)) (stays_signed int most)
               (signed-at (pos rest) fits) (signed-at (neg_ℤ (pos rest)) fits')))
               (const-means int s l (Signed W64) (pos 1) refl)
@@ -249,22 +231,77 @@ signed-has int s l scale e r most below is =
               (signed-at (neg_ℤ (pos rest)) fits') refl (signed-at (neg_ℤ (pos rest) -ℤ pos 1) fits'')),
         )
 
--- of a signed scale it is what wrapping keeps, where e gives the low bits of z
-pub wrapped-signed : (int : Width) (s : Store) (l : Locals) (scale : Scale) (e : CExpr) (z : ℤ) → bits int ≤ 64
-    → scale.signed ≡ true → meaning int s l e ≡ gives (Unsigned W64) (int_rem_euclid z (pos (2 ^ scale.width)))
-    → Has int s l (signed_c scale e) (wrapped scale z)
-wrapped-signed int s l scale e z most signed is =
-    let h = 2 ^ (scale.width - 1) in
+-- half of the numbers of a scale
+abbrev half : Scale → ℕ
+half scale = 2 ^ (scale.width - 1)
+
+half-fits : (scale : Scale) → half scale ≤ 2 ^ 63
+half-fits scale = let bound = scale.bits_within in power-le (scale.width - 1) 63 (omega (arith, bound))
+
+both-halves : (scale : Scale) → 2 ^ scale.width ≡ half scale * 2
+both-halves scale =
     let some = scale.some_bits in
     let w : scale.width ≡ suc (scale.width - 1) = omega arith in
-    let all : 2 ^ scale.width ≡ h * 2 = ap (λ (x : ℕ). 2 ^ x) w ∙ pow-suc 2 (scale.width - 1) in
+    ap (λ (x : ℕ). 2 ^ x) w ∙ pow-suc 2 (scale.width - 1)
+
+-- what the mask is more than low bits r
+abbrev pub rest_of : Scale → ℕ → ℕ
+rest_of scale r = half scale * 2 - 1 - r
+
+pub rest-fits : (scale : Scale) (r : ℕ) → rest_of scale r < 2 ^ 64
+rest-fits scale r =
+    let fits = half-fits scale in
+    let some = pow_pos (scale.width - 1) in
+    omega (arith, fits, some)
+
+-- MASK - u, where u gives the low bits
+pub rest-means : (int : Width) (s : Store) (l : Locals) (scale : Scale) (e : CExpr) (r : ℕ) → bits int ≤ 64
+    → r < half scale * 2 → meaning int s l e ≡ gives (Unsigned W64) (pos r)
+    → meaning int s l (rest_c scale e) ≡ gives (Unsigned W64) (pos (rest_of scale r))
+rest-means int s l scale e r most below is =
+    let fits = half-fits scale in
+    let some = pow_pos (scale.width - 1) in
+    let all = both-halves scale in
+    let r_fits : r < 2 ^ 64 = omega (arith, below, fits) in
+    let top : converted (Unsigned W64) (pos (2 ^ scale.width - 1)) ≡ gives (Unsigned W64) (pos (2 ^ scale.width - 1)) =
+    unsigned-at (2 ^ scale.width - 1) (omega (arith, all, fits, some)) in
+    let less : exact Less (pos (2 ^ scale.width - 1)) (pos r) ≡ pos (rest_of scale r) =
+    omega (arith, ints, all, below) in
+    calc-means int s l (Unsigned W64) Less _ e (pos (2 ^ scale.width - 1)) (pos r) (pos (rest_of scale r))
+    (const-means int s l (Unsigned W64) _ top) is
+    (calc-at int (Unsigned W64) Less (pos (2 ^ scale.width - 1)) (pos r) (pos (rest_of scale r))
+    (common_unsigned int most) top (unsigned-at r r_fits)
+    (ap (λ (z : ℤ). converted (Unsigned W64) z) less ∙ unsigned-at (rest_of scale r) (rest-fits scale r)))
+
+-- the low bits of a number
+pub record HasLow (scale : Scale) (z : ℤ) : Type 0 where
+  pub low : ℕ
+  pub is : int_rem_euclid z (pos (2 ^ scale.width)) ≡ pos low
+  pub below : low < half scale * 2
+  pub wraps_to : scale.signed ≡ true → wrapped scale z ≡ from_low (half scale) low
+
+pub has-low : (scale : Scale) (z : ℤ) → HasLow scale z
+has-low scale z =
+    let h = half scale in
+    let all = both-halves scale in
     let halves = wraps z h (pow_pos (scale.width - 1)) in
-    let low : meaning int s l e ≡ gives (Unsigned W64) (pos halves.0) =
-    is ∙ ap (λ (n : ℕ). gives (Unsigned W64) (int_rem_euclid z (pos n))) all ∙ ap (gives (Unsigned W64)) halves.1 in
-    let by_sign : wrapped scale z ≡ neg_ℤ (pos h) +ℤ int_rem_euclid (z -ℤ neg_ℤ (pos h)) (pos (2 ^ scale.width)) =
-    ap (λ (b : Bool). cond b (neg_ℤ (pos h)) (pos 0) +ℤ int_rem_euclid (z -ℤ cond b (neg_ℤ (pos h)) (pos 0))
-    (pos (2 ^ scale.width))) signed in
-    let value : wrapped scale z ≡ from_low h halves.0 =
-    by_sign ∙ ap (λ (n : ℕ). neg_ℤ (pos h) +ℤ int_rem_euclid (z -ℤ neg_ℤ (pos h)) (pos n)) all ∙ halves.3 in
-    subst (λ (y : ℤ). Has int s l (signed_c scale e) y) (sym value)
-    (signed-has int s l scale e halves.0 most halves.2 low)
+    record {
+      low = halves.0;
+      is = ap (λ (n : ℕ). int_rem_euclid z (pos n)) all ∙ halves.1;
+      below = halves.2;
+      wraps_to = λ signed.
+          let by_sign : wrapped scale z
+          ≡ neg_ℤ (pos h) +ℤ int_rem_euclid (z -ℤ neg_ℤ (pos h)) (pos (2 ^ scale.width)) =
+          ap (λ (b : Bool). cond b (neg_ℤ (pos h)) (pos 0) +ℤ int_rem_euclid (z -ℤ cond b (neg_ℤ (pos h)) (pos 0))
+          (pos (2 ^ scale.width))) signed in
+          by_sign ∙ ap (λ (n : ℕ). neg_ℤ (pos h) +ℤ int_rem_euclid (z -ℤ neg_ℤ (pos h)) (pos n)) all ∙ halves.3;
+    }
+
+-- of a signed scale it is what wrapping keeps, where e gives the low bits of z, and g what the mask is more
+pub wrapped-signed : (int : Width) (s : Store) (l : Locals) (scale : Scale) (e g : CExpr) (z : ℤ) (h : HasLow scale z)
+    → bits int ≤ 64 → scale.signed ≡ true → meaning int s l e ≡ gives (Unsigned W64) (pos h.low)
+    → meaning int s l g ≡ gives (Unsigned W64) (pos (rest_of scale h.low))
+    → Has int s l (signed_c scale e g) (wrapped scale z)
+wrapped-signed int s l scale e g z h most signed low rest =
+    subst (λ (y : ℤ). Has int s l (signed_c scale e g) y) (sym (h.wraps_to signed))
+    (signed-has int s l scale e g h.low most h.below low rest)

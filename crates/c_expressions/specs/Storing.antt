@@ -7,7 +7,7 @@ use Rattle.fixed_point.specs.declared.fitting.Mode.TheVariants.{Saturate, Wrap, 
 use Rattle.fixed_point.specs.declared.fitting.Overflow.{Overflow}
 use Rattle.flow_base.specs.declared.fault.Fault.TheVariants.{Overflow as Overflows}
 use Rattle.c_subset.specs.Meaning.{Store, Locals}
-use Rattle.c_expressions.specs.Code.{CCode, Then, Set, Divide, FaultIf, ending, Goes, Faults}
+use Rattle.c_expressions.specs.Code.{CCode, Nothing, Then, Set, Divide, FaultIf, ending, Goes, Faults}
 use Rattle.c_expressions.specs.Claims.{Has, AgreeBelow}
 use Rattle.fixed_point.specs.Scales.{least, greatest}
 use Rattle.actions.specs.Sorts.{size_at, magnitude_bits}
@@ -77,14 +77,17 @@ out_c scale size w x =
 abbrev pub low_bits_c : Scale → CExpr → CExpr
 low_bits_c scale x = Bits BitAnd (Cast (Unsigned W64) x) (Const (Unsigned W64) (pos (2 ^ scale.width - 1)))
 
--- the number of a signed scale whose low bits are u, an unsigned number below 2 ^ width: u itself, or for the upper
--- half -(MASK - u) - 1, which no step takes out of int64_t
-abbrev pub signed_c : Scale → CExpr → CExpr
-signed_c scale u =
+-- MASK - u
+abbrev pub rest_c : Scale → CExpr → CExpr
+rest_c scale u = Calc Less (Const (Unsigned W64) (pos (2 ^ scale.width - 1))) u
+
+-- the number of a signed scale whose low bits are u, an unsigned number below 2 ^ width, where rest is MASK - u: u
+-- itself, or for the upper half -rest - 1, which no step takes out of int64_t
+abbrev pub signed_c : Scale → CExpr → CExpr → CExpr
+signed_c scale u rest =
     Choose (Signed W64) (Compare IsAtMost u (Const (Unsigned W64) (pos (2 ^ (scale.width - 1) - 1))))
     (Cast (Signed W64) u)
-    (Calc Less (Minus (Cast (Signed W64) (Calc Less (Const (Unsigned W64) (pos (2 ^ scale.width - 1))) u)))
-    (Const (Signed W64) (pos 1)))
+    (Calc Less (Minus (Cast (Signed W64) rest)) (Const (Signed W64) (pos 1)))
 
 -- ---- an assignment of a number
 
@@ -102,6 +105,20 @@ abbrev pub brought_code : ℕ → ℕ → Scale → Flat → CCode
 brought_code frac size scale x =
     Then x.code (floored_code x.next frac size scale.frac x.expr)
 
+-- the local after that, which has its low bits
+abbrev pub low_local : Flat → CExpr
+low_local x = Local (Unsigned W64) (x.next + 1)
+
+-- the local after both, which has MASK less the low bits where the datum is signed
+abbrev pub rest_local : Flat → CExpr
+rest_local x = Local (Unsigned W64) (x.next + 2)
+
+-- the code of the low bits, and of what the mask is more than they
+abbrev pub low_code : ℕ → ℕ → Scale → Flat → CCode
+low_code frac size scale x =
+    Then (Set (Unsigned W64) (x.next + 1) (low_bits_c scale (brought_local frac size scale x)))
+    (if scale.signed then Set (Unsigned W64) (x.next + 2) (rest_c scale (low_local x)) else Nothing)
+
 -- The C that stores a number of that fraction and size in datum v, by the mode of the datum
 abbrev pub stored_c : ℕ → ℕ → ℕ → Scale → Mode → Flat → Stores
 stored_c v frac size scale Saturate x = record {
@@ -116,9 +133,8 @@ stored_c v frac size scale Error x = record {
   kept = brought_local frac size scale x;
 }
 stored_c v frac size scale Wrap x = record {
-  code = Then (brought_code frac size scale x)
-      (Set (Unsigned W64) (x.next + 1) (low_bits_c scale (brought_local frac size scale x)));
-  kept = if scale.signed then signed_c scale (Local (Unsigned W64) (x.next + 1)) else Local (Unsigned W64) (x.next + 1);
+  code = Then (brought_code frac size scale x) (low_code frac size scale x);
+  kept = if scale.signed then signed_c scale (low_local x) (rest_local x) else low_local x;
 }
 
 -- ---- claims

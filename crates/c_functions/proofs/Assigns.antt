@@ -52,7 +52,7 @@ use Rattle.c_expressions.proofs.Correct.{ends_as_value, value_has_sort}
 use Rattle.c_expressions.proofs.Running.{agree-itself, agree-less}
 use Rattle.c_expressions.proofs.Writing.{written-goes, written-faults}
 use Rattle.c_procedures.specs.States.{States, c_on}
-use Rattle.c_procedures.specs.Statements.{Memory, Locals as Inner, Out, Failed}
+use Rattle.c_procedures.specs.Statements.{Memory, Locals as Inner, Out}
 use Rattle.c_procedures.specs.Statements as plan
 use Rattle.c_procedures.specs.Meaning as p
 use Rattle.c_procedures.specs.Meaning.{exec}

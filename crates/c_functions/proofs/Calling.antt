@@ -38,7 +38,7 @@ use Rattle.c_functions.proofs.Tests.{both-has}
 use Rattle.c_functions.proofs.Words.{below-is, number-means, local-means, field-means, plus-means, less-means}
 use Rattle.c_functions.proofs.Words.{compare-has}
 use Rattle.c_functions.proofs.Words.{values-given, got, set-goes, if-goes}
-use Rattle.c_functions.proofs.Follows.{IsFit, IsAt, Ends, EndsCall, Follows, ends-on, program_c}
+use Rattle.c_functions.proofs.Follows.{IsFit, HasRoomFor, IsAt, Ends, EndsCall, Follows, ends-on, program_c}
 use Rattle.c_functions.proofs.Follows.{pay-ends}
 use Rattle.c_functions.proofs.Noting.{IsIn}
 use Rattle.c_functions.proofs.Follows.{push-ends, pop-ends}
@@ -66,7 +66,7 @@ turn-on false x m call (Some q) now v l go = at (call q now (length v.notes) l.h
 
 module _ (K : Shape) (int : Width) (fit : IsFit K int) (bodies : ℕ → plan.Block) (call : p.Calls) (turns_left : ℕ)
     (calls : Calls) (k : ℕ) (c0 u0 : ℕ) (p0 : Bool) (now : Now) (h : ℕ → ℕ) (most : ℕ) (low : (q : ℕ) → h q ≤ most)
-    (room : K.notes ≡ suc K.bounds.steps * suc most) (has : HasCalls K h most call calls)
+    (room : HasRoomFor K most) (has : HasCalls K h most call calls)
     (event_small : event_number K.names now.event < 2 ^ 17) (depth_small : now.depth ≤ K.bounds.depth) where
   abbrev X : plan.Block → Memory → Inner → Out
   X a m l = exec (program_c K bodies) call turns_left now a m l
@@ -137,7 +137,7 @@ module _ (K : Shape) (int : Width) (fit : IsFit K int) (bodies : ℕ → plan.Bl
       let used = at.fine.used in
       let more = more-room m.used K.bounds.steps most used in
       push-ends K int fit bodies call turns_left calls k c0 u0 p0 now R c0 b (plan.Call q (plan.Pop rest))
-      (noted b refl) (omega (arith, space, more, room)) m l s loc at
+      (noted b refl) (omega (arith, space, more, room.enough)) (omega (arith, space, more, room.few)) m l s loc at
       (λ s' at'. call-ends R (c0 + 1) q (plan.Pop rest) lt (omega arith)
       (pop-ends K int fit bodies call turns_left calls k c0 u0 p0 now R c0 rest go)
       (record m { notes = m.notes ++ b ∷ [] }) l s' loc at' (omega (arith, space)))

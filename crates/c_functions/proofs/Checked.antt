@@ -7,7 +7,7 @@ use Rattle.active_config.specs.Tree.{state_count, parent_of, comp_of, children_o
 use Rattle.actions.specs.declared.event.Event.{Event}
 use Rattle.actions.specs.declared.event.Event.TheVariants as events
 use Rattle.actions.specs.Work.{Now, is_event}
-use Rattle.c_subset.specs.Trees.{CExpr, Both, Bang}
+use Rattle.c_subset.specs.Trees.{CExpr, Both}
 use Rattle.c_subset.specs.declared.trees.Width.{Width}
 use Rattle.c_subset.specs.declared.trees.Comparison.TheVariants.{IsEqual}
 use Rattle.c_subset.specs.Meaning.{one_if, Store, Locals}
@@ -20,10 +20,10 @@ use Rattle.c_procedures.specs.Statements.{Memory, Locals as Inner, Check}
 use Rattle.c_procedures.specs.Statements as plan
 use Rattle.c_procedures.specs.Meaning as p
 use Rattle.c_procedures.specs.Meaning.{check}
-use Rattle.c_procedures.specs.Written.{no_flag, on_under, on_check, childless_check, bare_check, last_under, takes_if}
-use Rattle.c_procedures.specs.Written.{takes_check}
+use Rattle.c_procedures.specs.Written.{and_no_flag, on_under, on_check, and_childless, bare_check, last_under}
+use Rattle.c_procedures.specs.Written.{takes_if, takes_check}
 use Rattle.c_procedures.proofs.Checks.{on_test, bare_test}
-use Rattle.c_functions.specs.Layout.{bit_test, on_c, on_by_c, bare_c, no_bits, childless_c}
+use Rattle.c_functions.specs.Layout.{on_c, on_by_c, bare_c, and_no_bits, and_childless_c}
 use Rattle.c_functions.specs.Plans.{Shape, layout, check_c, event_number, event_local, result_local, number}
 use Rattle.c_functions.specs.Plans.{bad}
 use Rattle.c_functions.proofs.Tests.{equal-numbers, on-has, bare-has, last-has}
@@ -40,21 +40,21 @@ pub on_is_c : (K : Shape) (s : ℕ) → check_c K (on_check K.tree K.numbers s) 
 unfolding on_c
 on_is_c K s = on_same K s (or_parent K.tree (parent_of K.tree s))
 
-flags_same : (K : Shape) (xs : List ℕ) → check_c K (no_flag xs) ≡ no_bits (layout K) xs
-flags_same K [] = refl
-flags_same K (x ∷ xs) = ap (λ (e : CExpr). Both (Bang (bit_test (layout K) x)) e) (flags_same K xs)
+flags_same : (K : Shape) (a : Check) (xs : List ℕ)
+    → check_c K (and_no_flag a xs) ≡ and_no_bits (layout K) (check_c K a) xs
+flags_same K a [] = refl
+flags_same K a (x ∷ xs) = flags_same K (plan.Both a (plan.Not (plan.Flag x))) xs
 
-childless_same : (K : Shape) (s : ℕ) (b : Bool) → check_c K (childless_check K.tree s b)
-    ≡ childless_c K.tree (layout K) s b
-childless_same K s true = refl
-childless_same K s false = flags_same K (children_of K.tree s)
+childless_same : (K : Shape) (s : ℕ) (a : Check) (b : Bool) → check_c K (and_childless K.tree s a b)
+    ≡ and_childless_c K.tree (layout K) s (check_c K a) b
+childless_same K s a true = refl
+childless_same K s a false = flags_same K a (children_of K.tree s)
 
 pub bare_is_c : (K : Shape) (s : ℕ) → check_c K (bare_check K.tree K.numbers s) ≡ bare_c K.tree (layout K) K.numbers s
 unfolding bare_c
 bare_is_c K s =
-    ap (λ (e : CExpr). Both e (check_c K (childless_check K.tree s (is_or (comp_of K.tree s))))) (on_is_c K s)
-    ∙ ap (λ (e : CExpr). Both (on_c K.tree (layout K) K.numbers s) e)
-    (childless_same K s (is_or (comp_of K.tree s)))
+    childless_same K s (on_check K.tree K.numbers s) (is_or (comp_of K.tree s))
+    ∙ ap (λ (e : CExpr). and_childless_c K.tree (layout K) s e (is_or (comp_of K.tree s))) (on_is_c K s)
 
 -- a number that is no event of the chart is none
 apart : (a b : ℕ) → b < a → nat_eq a b ≡ false

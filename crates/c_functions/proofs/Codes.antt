@@ -51,7 +51,7 @@ use Rattle.c_procedures.proofs.Starting.{suc_numbers}
 use Rattle.c_functions.specs.Plans.{event_number, bad}
 use Rattle.c_functions.specs.Files.{Represents, shape_of, functions_c}
 use Rattle.c_functions.specs.Moments.{HasSmallResults, BeginsWith, TellsFault, EndsAsCode}
-use Rattle.c_functions.proofs.Follows.{IsFit, IsFine, EndsCall, program_c}
+use Rattle.c_functions.proofs.Follows.{IsFit, HasRoomFor, IsFine, EndsCall, program_c}
 use Rattle.c_functions.proofs.Assigns.{long-of}
 use Rattle.c_functions.proofs.Calling.{more-room}
 use Rattle.c_functions.proofs.Stepping.{five}
@@ -101,32 +101,48 @@ few-procs k is = at (nat_lt PROC_LIMIT (length k.procedures.procs)) refl is.few
 
 -- ---- what the shape of code is
 
+-- a greater height has more room
+more-height : (n most h : ℕ) → most ≤ h → suc n * suc most ≤ suc n * suc h
+more-height n most h le = grind arith
+
 frames-are : (n most : ℕ) → (n + 1) * (most + 1) ≡ suc n * suc most
 frames-are n most =
     let a : n + 1 ≡ suc n = omega arith in
     let b : most + 1 ≡ suc most = omega arith in
     ap (λ (x : ℕ). x * (most + 1)) a ∙ ap (λ (x : ℕ). suc n * x) b
 
-pub fits : (k : Code) (b : Bounds) (int : Width) → IsCode k → HasStateNames k → bits int ≤ 32 → IsFit (shape_of k b) int
-fits k b int is named most =
+-- where note[] has room for a height that is the code's or more, it has room for the calls of code
+room-for : (k : Code) (h : ℕ) (b : Bounds) → IsCode k → greatest (heights k.procedures.procs) ≤ h
+    → HasRoomFor (shape_of k h b) (greatest (heights k.procedures.procs))
+room-for k h b is le =
+    let most = greatest (heights k.procedures.procs) in
+    let low = code-low k is in
+    let limit : HEIGHT_LIMIT ≡ 200 = refl in
+    let s : STEP_LIMIT ≡ 50000 = refl in
+    let steps : b.steps ≤ 50000 = omega (arith, b.steps_limit, s) in
+    let high : most ≤ 200 = omega (arith, low, limit) in
+    let given : suc b.steps * suc most ≤ suc b.steps * suc h = more-height b.steps most h le in
+    let more : suc b.steps * suc most ≤ suc 50000 * suc most = more-room b.steps 50000 most steps in
+    let same : (b.steps + 1) * (h + 1) ≡ suc b.steps * suc h = frames-are b.steps h in
+    record {
+      enough = omega (arith, given, same);
+      few = omega (arith, more, high);
+    }
+
+pub fits : (k : Code) (h : ℕ) (b : Bounds) (int : Width) → IsCode k → HasStateNames k → bits int ≤ 32
+    → IsFit (shape_of k h b) int
+fits k h b int is named most =
     let states = is.table.states in
     let vars = is.table.vars in
     let events = is.table.events in
     let procs = few-procs k is in
-    let low = code-low k is in
     let a : STATE_LIMIT ≡ 1024 = refl in
     let v : VARIABLE_LIMIT ≡ 1024 = refl in
     let e : EVENT_LIMIT ≡ 1024 = refl in
     let p : PROC_LIMIT ≡ 262144 = refl in
-    let h : HEIGHT_LIMIT ≡ 200 = refl in
     let s : STEP_LIMIT ≡ 50000 = refl in
     let d : DEPTH_LIMIT ≡ 32 = refl in
     let steps : b.steps ≤ 50000 = omega (arith, b.steps_limit, s) in
-    let most_height = greatest (heights k.procedures.procs) in
-    let high : most_height ≤ 200 = omega (arith, low, h) in
-    let more : suc b.steps * suc most_height ≤ suc 50000 * suc most_height =
-    more-room b.steps 50000 most_height steps in
-    let same : (b.steps + 1) * (most_height + 1) ≡ suc b.steps * suc most_height = frames-are b.steps most_height in
     record {
       most = most;
       numbers = λ x lt. omega (arith, lt, states, a);
@@ -139,7 +155,6 @@ fits k b int is named most =
       noted = λ q is. noted-below k.procedures.procs q is;
       steps = omega (arith, steps);
       depth = omega (arith, b.depth_limit, d);
-      notes = omega (arith, more, same, high);
     }
 
 -- each instruction of a sound procedure
@@ -153,9 +168,9 @@ sound-got K p behind (y ∷ xs) zero x h e =
     (h.0.known, h.0.typed, h.0.keeps)
 sound-got K p behind (y ∷ xs) (suc j) x h e = sound-got K p behind xs j x h.1 e
 
-module _ (k : Code) (b : Bounds) (is : IsCode k) (small : HasSmallResults k) where
+module _ (k : Code) (h : ℕ) (b : Bounds) (is : IsCode k) (small : HasSmallResults k) where
   are-good : (q : ℕ) → q < length k.procedures.procs
-      → AreGood (shape_of k b) (slice_index (heights k.procedures.procs)) (slice_index (heights k.procedures.procs) q)
+      → AreGood (shape_of k h b) (slice_index (heights k.procedures.procs)) (slice_index (heights k.procedures.procs) q)
       (instructions k.procedures q)
   unfolding instructions fetch
   are-good q lt j x e =
@@ -181,10 +196,10 @@ none-got [] zero q e h = absurd cc
 none-got [] (suc j) q e h = absurd cc
 none-got (x ∷ xs) j q e h = absurd cc
 
-fine-of : (k : Code) (b : Bounds) (m : Memory) (w : World) → IsWorld k b w → Stands k.tree (λ x. suc x) m w → m.notes
-    ≡ []
-    → IsFine (shape_of k b) m
-fine-of k b m w world st notes =
+fine-of : (k : Code) (h : ℕ) (b : Bounds) (m : Memory) (w : World) → IsWorld k b w
+    → Stands k.tree (λ x. suc x) m w → m.notes ≡ []
+    → IsFine (shape_of k h b) m
+fine-of k h b m w world st notes =
     let declared = ap of_data st.vals ∙ world.fits.declared in
     let o = ap length st.outputs in
     let u = st.used in
@@ -208,13 +223,13 @@ event-small k (events.Named e) is few = omega (arith, few, is)
 
 -- ---- a call from outside
 
-module _ (k : Code) (b : Bounds) (file : File) (int : Width) (fuel p : ℕ) (now : Now) (start : Machine) (s : Store)
-    (c0 u0 : ℕ) where
+module _ (k : Code) (h : ℕ) (b : Bounds) (file : File) (int : Width) (fuel p : ℕ) (now : Now) (start : Machine)
+    (s : Store) (c0 u0 : ℕ) where
   -- the plan ends as code, and C as the plan
   joined : (o : Out) (o' : Outcome) → runs.EndsAsCode (program_of k b) (λ x. suc x) start o
-      → EndsCall (shape_of k b) c0 u0 o o'
+      → EndsCall (shape_of k h b) c0 u0 o o'
       → call file int fuel p (five (event_number k.names now.event) now.depth 0 0 0) s ≡ o'
-      → EndsAsCode k b file int fuel p now start s
+      → EndsAsCode k h b file int fuel p now start s
   joined (Fell m l) o' code c e = absurd code
   joined (Left m r) o' code c e = record {
     moment = code.moment;
@@ -225,7 +240,7 @@ module _ (k : Code) (b : Bounds) (file : File) (int : Width) (fuel p : ℕ) (now
     shows = record {
       memory = m;
       stands = code.ends.stands;
-      represents = subst (λ (x : Option Fault). Represents (shape_of k b) x m c.0) (sym code.ends.fault) c.2.shows;
+      represents = subst (λ (x : Option Fault). Represents (shape_of k h b) x m c.0) (sym code.ends.fault) c.2.shows;
     };
     tells = subst (λ (x : Option Fault). TellsFault x r) (sym code.ends.fault) c.2.result_is;
   }
@@ -238,7 +253,7 @@ module _ (k : Code) (b : Bounds) (file : File) (int : Width) (fuel p : ℕ) (now
     shows = record {
       memory = m;
       stands = code.ends.stands;
-      represents = subst (λ (x : Option Fault). Represents (shape_of k b) x m c.0) (sym code.ends.fault) c.2;
+      represents = subst (λ (x : Option Fault). Represents (shape_of k h b) x m c.0) (sym code.ends.fault) c.2;
     };
     tells = subst (λ (x : Option Fault). TellsFault x bad) (sym code.ends.fault) refl;
   }
@@ -246,40 +261,40 @@ module _ (k : Code) (b : Bounds) (file : File) (int : Width) (fuel p : ℕ) (now
   joined Wrong o' code c e = absurd code
 
 -- the function of a procedure ends as a run from the procedure's first frame
-pub ends-as-code : (k : Code) (b : Bounds) (bodies : ℕ → plan.Block) (file : File) (int : Width) (fuel p : ℕ)
-    (now : Now)
-    (m : Memory) (w : World) (s : Store) → IsCode k → HasStateNames k → HasSmallResults k
-    → AreWritten k.tree (λ x. suc x) k.procedures bodies → BeginsWith file (functions_c (shape_of k b) bodies)
+pub ends-as-code : (k : Code) (h : ℕ) (b : Bounds) (bodies : ℕ → plan.Block) (file : File) (int : Width) (fuel p : ℕ)
+    (now : Now) (m : Memory) (w : World) (s : Store) → IsCode k → HasStateNames k → HasSmallResults k
+    → greatest (heights k.procedures.procs) ≤ h → AreWritten k.tree (λ x. suc x) k.procedures bodies
+    → BeginsWith file (functions_c (shape_of k h b) bodies)
     → bits int ≤ 32 → IsMoment k b (first_frame p w now)
     → IsOver (run (program_of k b) fuel (first_frame p w now)) → Stands k.tree (λ x. suc x) m w
-    → Represents (shape_of k b) None m s → m.notes ≡ []
-    → EndsAsCode k b file int (2 * fuel + 3) p now (first_frame p w now) s
-ends-as-code k b bodies file int fuel p now m w s is named small written begins_with most moment over stands shows
+    → Represents (shape_of k h b) None m s → m.notes ≡ []
+    → EndsAsCode k h b file int (2 * fuel + 3) p now (first_frame p w now) s
+ends-as-code k h b bodies file int fuel p now m w s is named small low written begins_with most moment over stands shows
     none =
-    let K = shape_of k b in
-    let fit = fits k b int is named most in
+    let K = shape_of k h b in
+    let fit = fits k h b int is named most in
     let parts = code_parts k is in
-    let h = slice_index (heights k.procedures.procs) in
+    let each = slice_index (heights k.procedures.procs) in
     let most_height = greatest (heights k.procedures.procs) in
     let high = are_heights (known_of k) k.procedures parts.procs in
     let few = is.table.tree.some in
     let height = high.bound p in
     let empty : length m.notes ≡ 0 = ap length none in
     let spread : suc m.used * suc most_height ≡ m.used * suc most_height + suc most_height = grind arith in
-    joined k b file int (2 * fuel + 3) p now (first_frame p w now) s (length m.notes) m.used
+    joined k h b file int (2 * fuel + 3) p now (first_frame p w now) s (length m.notes) m.used
     (call_fn (program_c K bodies) (suc fuel) p now 0 0 0 m)
     (call file int (2 * fuel + 3) p (five (event_number k.names now.event) now.depth 0 0 0) s)
     (ends_as_code k (λ x. suc x) b fuel (first_frame p w now) _ is moment over
     (called_outside k.tree (λ x. suc x) k.procedures b (suc_numbers k.tree) is.table.tree.same_length
     (program_c K bodies).sums (own_agrees k.tree (λ x. suc x) (suc_numbers k.tree)) bodies written (suc fuel) p now m w
     stands none))
-    (follow K int fit bodies file begins_with h most_height high.bound (frames-are b.steps most_height) k.procedures
+    (follow K int fit bodies file begins_with each most_height high.bound (room-for k h b is low) k.procedures
     parts.react (λ x q lt up. let less = parent_lt k.tree (state_count k.tree) is.table.tree.pre_order x q lt up in
-    omega (arith, less, lt)) written.each (are-good k b is small) (suc fuel)
+    omega (arith, less, lt)) written.each (are-good k h b is small) (suc fuel)
     (2 * fuel + 3) (omega arith) p 0 0 0 now m s (record {
       proc = moment.frames.0.proc;
       shows = shows;
-      fine = fine-of k b m w moment.world stands none;
+      fine = fine-of k h b m w moment.world stands none;
       base_le = omega arith;
       home_is = few;
       result_is = omega arith;

@@ -1,5 +1,5 @@
 -- When the C of a plan ends as the plan does, and statements that do.
-use Rattle.std.proofs.Common.{◌≡◌, ℕ, ◌+◌, ◌-◌, ◌%◌, ◌^◌, ◌<◌, ◌≤◌, nat_le, pos, Bool}
+use Rattle.std.proofs.Common.{◌≡◌, ℕ, suc, ◌+◌, ◌*◌, ◌-◌, ◌%◌, ◌^◌, ◌<◌, ◌≤◌, nat_le, pos, Bool}
 use Rattle.std.proofs.Common.{true, false, cond}
 use Rattle.std.proofs.Common.{[], ◌∷◌, ◌++◌, length, Some, None, slice_get, slice_set}
 use Rattle.std.proofs.Common.{refl, sym, ap, ◌∙◌, subst, arith, mod-lt, mod-eq_of_lt, length-set, ⊎_elim}
@@ -57,7 +57,11 @@ pub record IsFit (K : Shape) (int : Width) : Type 0 where
   pub noted : (q : ℕ) → IsIn K.noted q → q < K.procs
   pub steps : K.bounds.steps < 2 ^ 16
   pub depth : K.bounds.depth < 2 ^ 16
-  pub notes : K.notes < 2 ^ 31
+
+-- note[] has room for the calls that are open at most in an event, where procedures have at most that height
+pub record HasRoomFor (K : Shape) (most : ℕ) : Type 0 where
+  pub enough : suc K.bounds.steps * suc most ≤ K.notes
+  pub few : suc K.bounds.steps * suc most < 2 ^ 31
 
 -- memory of a run: data of their sorts as declared, outputs that were paid, notes that are those of the shape
 pub record IsFine (K : Shape) (m : Memory) : Type 0 where
@@ -383,15 +387,16 @@ module _ (K : Shape) (int : Width) (fit : IsFit K int) (bodies : ℕ → plan.Bl
 
   -- a note is pushed
   pub push-ends : (R : Memory → Inner → Store → Locals → Type 0) (c q : ℕ) (rest : plan.Block) → IsIn K.noted q
-      → c < K.notes → (m : Memory) (l : Inner) (s : Store) (loc : Locals) → At c m l s loc
+      → c < K.notes → c < 2 ^ 31 → (m : Memory) (l : Inner) (s : Store) (loc : Locals) → At c m l s loc
       → ((s' : Store) → At (c + 1) (record m { notes = m.notes ++ q ∷ [] }) l s' loc
       → EndsIn R (X rest (record m { notes = m.notes ++ q ∷ [] }) l) (Y (plan_c K rest) s' loc))
       → EndsIn R (X (plan.Push q rest) m l) (Y (plan_c K (plan.Push q rest)) s loc)
   unfolding exec plan_c
-  push-ends R c q rest is room m l s loc h go =
+  push-ends R c q rest is room low m l s loc h go =
       let n = length m.notes in
       let lt = fit.noted q is in
       let few : n < K.notes = omega (arith, h.notes, room) in
+      let small : n < 2 ^ 31 = omega (arith, h.notes, low) in
       let one = with_element s note_row (pos n) (unsigned W32 q) in
       let two = with_field one (noted_field K) (unsigned W32 (n + 1)) in
       subst (λ (o : Outcome). EndsIn R (X rest (record m { notes = m.notes ++ q ∷ [] }) l) o)
@@ -400,15 +405,15 @@ module _ (K : Shape) (int : Width) (fit : IsFit K int) (bodies : ℕ → plan.Bl
       (field-means int fit.most s loc (noted_field K) n h.shows.noted)
       (number-means int fit.most s loc q (omega (arith, lt, fit.procs)))
       ∙ put-word int fit.most calls k (plan_c K rest) one loc (noted_field K) n _ _
-      (record { there = h.shows.noted.there; small = h.shows.noted.small }) (omega (arith, few, fit.notes))
-      (plus-means int fit.most one loc (Field (noted_field K)) (number 1) n 1 (omega (arith, few, fit.notes))
+      (record { there = h.shows.noted.there; small = h.shows.noted.small }) (omega (arith, small))
+      (plus-means int fit.most one loc (Field (noted_field K)) (number 1) n 1 (omega (arith, small))
       (omega arith)
-      (omega (arith, few, fit.notes))
+      (omega (arith, small))
       (field-means int fit.most one loc (noted_field K) n
       (record { there = h.shows.noted.there; small = h.shows.noted.small }))
       (number-means int fit.most one loc 1 (omega arith)))))
       (go two (at-memory K c0 u0 p0 now c (c + 1) m _ l s two loc h
-      (note-put K None m s h.shows h.fine.long q few (omega (arith, few, fit.notes)))
+      (note-put K None m s h.shows h.fine.long q few (omega (arith, small)))
       (record {
         chosen = h.fine.chosen;
         flags = h.fine.flags;

@@ -1,5 +1,5 @@
 -- The functions of a file do what the plans of procedures do.
-use Rattle.std.proofs.Common.{◌≡◌, ℕ, zero, suc, ◌+◌, ◌*◌, ◌^◌, ◌<◌, ◌≤◌, nat_eq, pos, Bool, true, false, cond}
+use Rattle.std.proofs.Common.{◌≡◌, ℕ, zero, suc, ◌+◌, ◌^◌, ◌<◌, ◌≤◌, nat_eq, pos, Bool, true, false, cond}
 use Rattle.std.proofs.Common.{List, [], ◌∷◌, ◌++◌, length, map, Option, Some, None, slice_get, refl, sym, ap, ◌∙◌}
 use Rattle.std.proofs.Common.{subst, arith}
 use Rattle.std.proofs.lemmas.Bool.Decides.{nat_tests}
@@ -35,7 +35,7 @@ use Rattle.c_functions.proofs.Tests.{unsigned, own-stays, equal-numbers, on-has,
 use Rattle.c_functions.proofs.Places.{is-layout}
 use Rattle.c_functions.proofs.Words.{number-means, local-means, compare-has, argument-goes, arguments-end, set-goes}
 use Rattle.c_functions.proofs.Words.{if-goes}
-use Rattle.c_functions.proofs.Follows.{IsFit, IsFine, IsAt, Ends, EndsCall, program_c}
+use Rattle.c_functions.proofs.Follows.{IsFit, HasRoomFor, IsFine, IsAt, Ends, EndsCall, program_c}
 use Rattle.c_functions.proofs.Stepping.{five, ProceduresFollow, HasCalls}
 use Rattle.c_functions.proofs.Selecting.{notes-follow}
 use Rattle.c_functions.proofs.Simulating.{AreGood, sim}
@@ -190,7 +190,7 @@ module _ (K : Shape) (int : Width) (fit : IsFit K int) where
 
 module _ (K : Shape) (int : Width) (fit : IsFit K int) (bodies : ℕ → plan.Block) (file : File)
     (begins_with : BeginsWith file (functions_c K bodies)) (h : ℕ → ℕ) (most : ℕ) (low : (q : ℕ) → h q ≤ most)
-    (room : K.notes ≡ suc K.bounds.steps * suc most) (k : Procedures) (react_there : k.react < K.procs)
+    (room : HasRoomFor K most) (k : Procedures) (react_there : k.react < K.procs)
     (parents : (s q : ℕ) → s < state_count K.tree → parent_of K.tree s ≡ Some q → q < state_count K.tree)
     (written : (q : ℕ) → Written K.tree K.numbers k.react (instructions k q) [] (bodies q))
     (good : (q : ℕ) → q < K.procs → AreGood K h (h q) (instructions k q)) where

@@ -30,7 +30,7 @@ use Rattle.c_procedures.proofs.Showing.{or_parent_is}
 use Rattle.c_functions.specs.Notes.{has_note}
 use Rattle.c_functions.specs.Plans.{Shape, event_number, bad, number, check_c, plays, plan_c, result_local}
 use Rattle.c_functions.proofs.Words.{number-means, local-means, return-gives}
-use Rattle.c_functions.proofs.Follows.{IsFit, IsAt, HasLeft, Follows, program_c, pay-ends, choose-ends}
+use Rattle.c_functions.proofs.Follows.{IsFit, HasRoomFor, IsAt, HasLeft, Follows, program_c, pay-ends, choose-ends}
 use Rattle.c_functions.proofs.Follows.{keep-ends}
 use Rattle.c_functions.proofs.Follows.{mark-ends, put-ends}
 use Rattle.c_functions.proofs.Checked.{on-tells, bare-tells, takes-tells, last-tells, event-tells, result-tells}
@@ -115,7 +115,7 @@ plays-after t n react (i.Ret r) a e = e
 
 module _ (K : Shape) (int : Width) (fit : IsFit K int) (bodies : ℕ → plan.Block) (call : p.Calls) (turns_left : ℕ)
     (calls : Calls) (k : ℕ) (c0 u0 : ℕ) (p0 : Bool) (now : Now) (h : ℕ → ℕ) (most : ℕ) (low : (q : ℕ) → h q ≤ most)
-    (room : K.notes ≡ suc K.bounds.steps * suc most) (has : HasCalls K h most call calls)
+    (room : HasRoomFor K most) (has : HasCalls K h most call calls)
     (event_small : event_number K.names now.event < 2 ^ 17) (depth_small : now.depth ≤ K.bounds.depth)
     (fuel : turns_left < k) (react : ℕ) (react_there : react < K.procs)
     (parents : (s q : ℕ) → s < state_count K.tree → parent_of K.tree s ≡ Some q → q < state_count K.tree)

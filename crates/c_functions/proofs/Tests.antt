@@ -26,11 +26,10 @@ use Rattle.c_subset.specs.Meaning.{Locals, meaning}
 use Rattle.c_expressions.specs.Claims.{Has, ShowsActive}
 use Rattle.c_expressions.proofs.Operators.{bang-has}
 use Rattle.c_expressions.proofs.Deciding.{both-decides}
-use Rattle.c_expressions.proofs.Storing.{flag-const}
 use Rattle.c_procedures.specs.States.{States, Shows, is_or, or_parent, on_by, c_on, c_bare, childless_by, last_by}
 use Rattle.c_procedures.proofs.Showing.{on_is, or_parent_is}
-use Rattle.c_functions.specs.Layout.{Layout, HasBit, IsLayout, HoldsStates, number_test, bit_test, on_by_c, no_bits}
-use Rattle.c_functions.specs.Layout.{childless_c, bare_c, on_c, last_c}
+use Rattle.c_functions.specs.Layout.{Layout, HasBit, IsLayout, HoldsStates, number_test, bit_test, on_by_c}
+use Rattle.c_functions.specs.Layout.{and_no_bits, and_childless_c, bare_c, on_c, last_c}
 
 abbrev pub unsigned : Width → ℕ → CValue
 unsigned w a = record { type = Unsigned w; value = pos a }
@@ -184,21 +183,28 @@ abbrev AreBits : Layout → States → Store → List ℕ → Type 0
 AreBits L st s [] = Unit {0}
 AreBits L st s (x ∷ xs) = HasBit s (L.word x) (L.bit x) (slice_index_or st.flags x false) × AreBits L st s xs
 
-none-has : (int : Width) (s : Store) (l : Locals) (L : Layout) (st : States) (xs : List ℕ) → bits int ≤ 32
-    → ((x : ℕ) → L.bit x < 32) → AreBits L st s xs
-    → Has int s l (no_bits L xs) (one_if (not (list_any (λ x. slice_index_or st.flags x false) xs)))
-none-has int s l L st [] most small are = flag-const int s l true
-none-has int s l L st (x ∷ xs) most small are =
+-- a test, and that no bit of some states is set
+none-has : (int : Width) (s : Store) (l : Locals) (L : Layout) (st : States) (e : CExpr) (p : Bool) (xs : List ℕ)
+    → bits int ≤ 32 → ((x : ℕ) → L.bit x < 32) → AreBits L st s xs → Has int s l e (one_if p)
+    → Has int s l (and_no_bits L e xs) (one_if (p && not (list_any (λ x. slice_index_or st.flags x false) xs)))
+none-has int s l L st e p [] most small are has =
+    subst (λ (c : Bool). Has int s l e (one_if c)) (at p) has
+  where
+    at : (p : Bool) → p ≡ (p && true)
+    at true = refl
+    at false = refl
+none-has int s l L st e p (x ∷ xs) most small are has =
     let b = slice_index_or st.flags x false in
     let any = list_any (λ x. slice_index_or st.flags x false) xs in
-    subst (λ (c : Bool). Has int s l (no_bits L (x ∷ xs)) (one_if c)) (neither b any)
-    (both-has int s l (Bang (bit_test L x)) (no_bits L xs) (not b) (not any)
-    (bang-has int s l (bit_test L x) b (bit-has int s l L x b most (small x) are.0))
-    (none-has int s l L st xs most small are.1))
+    subst (λ (c : Bool). Has int s l (and_no_bits L e (x ∷ xs)) (one_if c)) (neither p b any)
+    (none-has int s l L st (Both e (Bang (bit_test L x))) (p && not b) xs most small are.1
+    (both-has int s l e (Bang (bit_test L x)) p (not b) has
+    (bang-has int s l (bit_test L x) b (bit-has int s l L x b most (small x) are.0))))
   where
-    neither : (b c : Bool) → (not b && not c) ≡ not (b || c)
-    neither true c = refl
-    neither false c = refl
+    neither : (p b c : Bool) → ((p && not b) && not c) ≡ (p && not (b || c))
+    neither true true c = refl
+    neither true false c = refl
+    neither false b c = refl
 
 -- a child of a state
 child-is : (t : Tree) (s x : ℕ) → is_child t s x ≡ true → parent_of t x ≡ Some s
@@ -227,17 +233,19 @@ child-bits t L st s p from (suc len) holds not_or within =
       rest,
     )
 
+-- a test, and that no child of a state is active
 childless-has : (int : Width) (s : Store) (l : Locals) (t : Tree) (n : ℕ → ℕ) (L : Layout) (st : States) (x : ℕ)
-    (b : Bool)
-    → bits int ≤ 32 → IsLayout t n L → HoldsStates t L st s → is_or (comp_of t x) ≡ b
-    → Has int s l (childless_c t L x b) (one_if (childless_by t x st b))
+    (e : CExpr) (p b : Bool)
+    → bits int ≤ 32 → IsLayout t n L → HoldsStates t L st s → is_or (comp_of t x) ≡ b → Has int s l e (one_if p)
+    → Has int s l (and_childless_c t L x e b) (one_if (p && childless_by t x st b))
 unfolding children_of children_below
-childless-has int s l t n L st x true most layout holds is =
-    number-has int s l L (L.chosen x) (slice_index_or st.chosen x 0) 0 (holds.chosen x is) (holds.chosen_small x is)
-    (pow_pos (bits L.numbers))
-childless-has int s l t n L st x false most layout holds is =
-    none-has int s l L st (filter (is_child t x) (range_with_len 0 (state_count t))) most layout.bits_are
-    (child-bits t L st s x 0 (state_count t) holds is (omega arith))
+childless-has int s l t n L st x e p true most layout holds is has =
+    both-has int s l e (number_test L (L.chosen x) 0) p (nat_eq (slice_index_or st.chosen x 0) 0) has
+    (number-has int s l L (L.chosen x) (slice_index_or st.chosen x 0) 0 (holds.chosen x is) (holds.chosen_small x is)
+    (pow_pos (bits L.numbers)))
+childless-has int s l t n L st x e p false most layout holds is has =
+    none-has int s l L st e p (filter (is_child t x) (range_with_len 0 (state_count t))) most layout.bits_are
+    (child-bits t L st s x 0 (state_count t) holds is (omega arith)) has
 
 -- a state is active and none of its children is
 pub bare-has : (int : Width) (s : Store) (l : Locals) (t : Tree) (n : ℕ → ℕ) (L : Layout) (st : States) (x : ℕ)
@@ -245,10 +253,8 @@ pub bare-has : (int : Width) (s : Store) (l : Locals) (t : Tree) (n : ℕ → �
     → Has int s l (bare_c t L n x) (one_if (c_bare t n x st))
 unfolding bare_c c_bare
 bare-has int s l t n L st x most layout holds lt =
-    both-has int s l (on_c t L n x) (childless_c t L x (is_or (comp_of t x))) (c_on t n x st)
-    (childless_by t x st (is_or (comp_of t x)))
+    childless-has int s l t n L st x (on_c t L n x) (c_on t n x st) (is_or (comp_of t x)) most layout holds refl
     (on-has int s l t n L st x most layout holds lt)
-    (childless-has int s l t n L st x (is_or (comp_of t x)) most layout holds refl)
 
 -- it is remembered
 pub last-has : (int : Width) (s : Store) (l : Locals) (t : Tree) (n : ℕ → ℕ) (L : Layout) (st : States) (p x : ℕ)

@@ -1,11 +1,10 @@
 -- The functions of a file, and when its struct shows the memory of a plan.
-use Rattle.std.specs.Prelude.{◌≡◌, ℕ, suc, ◌^◌, ◌<◌, pos, List, [], ◌∷◌, ◌++◌, length, map, slice_get}
+use Rattle.std.specs.Prelude.{◌≡◌, ℕ, suc, ◌+◌, ◌*◌, ◌^◌, ◌<◌, pos, List, [], ◌∷◌, ◌++◌, length, map, slice_get}
 use Rattle.std.specs.Prelude.{Option, Some, if◌then◌else◌}
 use Rattle.std.specs.List.{range_with_len}
 use Rattle.flow_base.specs.declared.bounds.Bounds.{Bounds}
 use Rattle.flow_base.specs.declared.fault.Fault.{Fault}
 use Rattle.active_config.specs.Tree.{state_count}
-use Rattle.code_costs.specs.Room.{most_frames}
 use Rattle.code_language.specs.Code.{Code}
 use Rattle.c_subset.specs.Trees.{CExpr, Const, Compare, Local, Block}
 use Rattle.c_subset.specs.declared.trees.Width.TheVariants.{W8, W16, W32, W64, W128}
@@ -24,17 +23,17 @@ use Rattle.c_functions.specs.Plans.{Shape, layout, word, number, plays, plan_c, 
 use Rattle.c_functions.specs.Plans.{event_local, depth_local, base_local, home_local, result_local, cases_of}
 use Rattle.c_functions.specs.Plans.{fault_field, fault_datum_field, fault_number, fault_datum, out_row, note_row}
 
--- the shape of code: a state's number as a child is one more than its own, and note[] has room for as many frames as
--- an event has at most, of the procedures that the code notes
-abbrev pub shape_of : Code → Bounds → Shape
-shape_of k b = record {
+-- The shape of code: a state's number as a child is one more than its own, and the procedures that the code notes may
+-- stand in note[]. That has room for a chain of calls of a given height for an event and for each of its steps.
+abbrev pub shape_of : Code → ℕ → Bounds → Shape
+shape_of k h b = record {
   tree = k.tree;
   numbers = λ x. suc x;
   names = k.names;
   bounds = b;
   procs = length k.procedures.procs;
   noted = noted_in k.procedures.procs;
-  notes = most_frames k b;
+  notes = (b.steps + 1) * (h + 1);
 }
 
 -- ---- functions

@@ -105,19 +105,20 @@ on_by_c L n x (Some p) = number_test L (L.chosen p) (n x)
 unfoldable pub on_c : Tree → Layout → (ℕ → ℕ) → ℕ → CExpr
 on_c t L n x = on_by_c L n x (or_parent t (parent_of t x))
 
--- no bit of these states is set
-abbrev pub no_bits : Layout → List ℕ → CExpr
-no_bits L [] = Const Truth (pos 1)
-no_bits L (x ∷ xs) = Both (Bang (bit_test L x)) (no_bits L xs)
+-- e && !x && !y: a test holds, and no bit of these states is set. The first operand of each && is the one before it,
+-- which is written without parentheses.
+abbrev pub and_no_bits : Layout → CExpr → List ℕ → CExpr
+and_no_bits L e [] = e
+and_no_bits L e (x ∷ xs) = and_no_bits L (Both e (Bang (bit_test L x))) xs
 
--- no child of a state is active: the number of an OR is 0, and else no bit of a child is set
-abbrev pub childless_c : Tree → Layout → ℕ → Bool → CExpr
-childless_c t L x true = number_test L (L.chosen x) 0
-childless_c t L x false = no_bits L (children_of t x)
+-- a test holds, and no child of a state is active: the number of an OR is 0, and else no bit of a child is set
+abbrev pub and_childless_c : Tree → Layout → ℕ → CExpr → Bool → CExpr
+and_childless_c t L x e true = Both e (number_test L (L.chosen x) 0)
+and_childless_c t L x e false = and_no_bits L e (children_of t x)
 
 -- a state is active and none of its children is
 unfoldable pub bare_c : Tree → Layout → (ℕ → ℕ) → ℕ → CExpr
-bare_c t L n x = Both (on_c t L n x) (childless_c t L x (is_or (comp_of t x)))
+bare_c t L n x = and_childless_c t L x (on_c t L n x) (is_or (comp_of t x))
 
 -- an OR remembers a state
 abbrev pub last_c : Layout → (ℕ → ℕ) → ℕ → ℕ → CExpr

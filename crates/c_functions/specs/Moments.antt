@@ -49,13 +49,13 @@ arguments_c e d b h r =
 
 -- code leads to a moment, and the call of the procedure's function returns, tells whether there was a fault, and leaves
 -- a struct that shows the moment
-pub record EndsAsCode (k : Code) (b : Bounds) (file : File) (int : Width) (fuel p : ℕ) (now : Now) (start : Machine)
-    (s : Store) : Type 0 where
+pub record EndsAsCode (k : Code) (h : ℕ) (b : Bounds) (file : File) (int : Width) (fuel p : ℕ) (now : Now)
+    (start : Machine) (s : Store) : Type 0 where
   pub moment : Moment
   pub leads : Leads (program_of k b) start moment
   pub after : Store
   pub result : ℕ
   pub gives : call file int fuel p (arguments_c (event_number k.names now.event) now.depth 0 0 0) s
       ≡ Returns after (word_of result)
-  pub shows : ShowsMoment (shape_of k b) moment after
+  pub shows : ShowsMoment (shape_of k h b) moment after
   pub tells : TellsFault moment.fault result

@@ -43,44 +43,51 @@ pub record Shape : Type 0 where
 
 -- ---- where things stand
 
--- the fields: one for each datum; the steps used; how many entries of out[] and note[] are in use; the fault and its
--- datum; then those of states
+-- the first fields are those of data, one for each; then comes that of the steps used
 abbrev pub used_field : Shape → ℕ
 used_field K = length K.names.vars
 
+-- that of how many entries of out[] are in use
 abbrev pub outs_field : Shape → ℕ
 outs_field K = length K.names.vars + 1
 
+-- that of how many entries of note[] are in use
 abbrev pub noted_field : Shape → ℕ
 noted_field K = length K.names.vars + 2
 
+-- that of the fault
 abbrev pub fault_field : Shape → ℕ
 fault_field K = length K.names.vars + 3
 
+-- that of the fault's datum
 abbrev pub fault_datum_field : Shape → ℕ
 fault_datum_field K = length K.names.vars + 4
 
+-- and then those of states
 abbrev pub layout : Shape → Layout
 layout K = layout_after K.tree (length K.names.vars + 5)
 
--- the arrays out[] and note[]
+-- the array out[]
 abbrev pub out_row : ℕ
 out_row = 0
 
+-- the array note[]
 abbrev pub note_row : ℕ
 note_row = 1
 
--- the functions: one for each procedure; whether a state is active, and whether none of its children is, too; that
--- which calls noted procedures; flow_divW for each width; the start and the reaction
+-- the first functions are those of procedures, one for each; then comes that which tells whether a state is active
 abbrev pub on_function : Shape → ℕ
 on_function K = K.procs
 
+-- that which tells whether a state is active and none of its children is
 abbrev pub bare_function : Shape → ℕ
 bare_function K = K.procs + 1
 
+-- that which calls noted procedures
 abbrev pub noted_function : Shape → ℕ
 noted_function K = K.procs + 2
 
+-- the widths in ascending order
 abbrev pub width_place : Width → ℕ
 width_place W8 = 0
 width_place W16 = 1
@@ -88,12 +95,15 @@ width_place W32 = 2
 width_place W64 = 3
 width_place W128 = 4
 
+-- flow_divW for each width
 abbrev pub helper : Shape → Width → ℕ
 helper K w = K.procs + 3 + width_place w
 
+-- the start
 abbrev pub start_function : Shape → ℕ
 start_function K = K.procs + 8
 
+-- the reaction
 abbrev pub react_function : Shape → ℕ
 react_function K = K.procs + 9
 
@@ -103,32 +113,39 @@ react_function K = K.procs + 9
 abbrev pub word : CType
 word = Unsigned W32
 
+-- a constant of that type
 abbrev pub number : ℕ → CExpr
 number i = Const word (pos i)
 
--- the locals of a procedure: its parameters, the cursor where it plays, and what a function of the home gave;
--- expressions use those with higher numbers
+-- the first parameter of a procedure: the event
 abbrev pub event_local : CExpr
 event_local = Local word 0
 
+-- the second one: how deep the event was sent
 abbrev pub depth_local : CExpr
 depth_local = Local word 1
 
+-- the third one: the first entry of note[] that it may play
 abbrev pub base_local : CExpr
 base_local = Local word 2
 
+-- the fourth one: the home
 abbrev pub home_local : CExpr
 home_local = Local word 3
 
+-- the last one: the result of the last call
 abbrev pub result_local : CExpr
 result_local = Local word 4
 
+-- a local of a procedure that plays: the entry of note[] that it plays next
 abbrev pub cursor_local : CExpr
 cursor_local = Local word 5
 
+-- what a function of the home gave
 abbrev pub tested_local : CExpr
 tested_local = Local Truth 6
 
+-- expressions use locals from this number on
 abbrev pub first_free : ℕ
 first_free = 7
 
@@ -138,7 +155,7 @@ event_number n (events.Named e) = e
 event_number n events.Tick = length n.events
 event_number n events.Start = length n.events + 1
 
--- a fault as a number, and the number of its datum; 0 is none
+-- a fault as a number; 0 is none
 abbrev pub fault_number : Option Fault → ℕ
 fault_number None = 0
 fault_number (Some faults.Depth) = 1
@@ -146,6 +163,7 @@ fault_number (Some faults.Steps) = 2
 fault_number (Some (faults.Overflow v)) = 3
 fault_number (Some faults.Zero) = 4
 
+-- the number of the datum of a fault, 0 where it has none
 abbrev pub fault_datum : Option Fault → ℕ
 fault_datum None = 0
 fault_datum (Some faults.Depth) = 0
@@ -159,10 +177,11 @@ bad = 4294967295
 
 -- ---- pieces of statements
 
--- m->f = m->f + 1u; and m->f = m->f - 1u;
+-- m->f = m->f + 1u;
 abbrev pub count_up : ℕ → Block → Block
 count_up f rest = c.Store f (Calc Plus (Field f) (number 1)) rest
 
+-- m->f = m->f - 1u;
 abbrev pub count_down : ℕ → Block → Block
 count_down f rest = c.Store f (Calc Less (Field f) (number 1)) rest
 

@@ -75,13 +75,13 @@ react_c K p = record {
       (c.Store (noted_field K) (number 0) (outside_c p (Local word 0))));
 }
 
--- the file of code
-abbrev pub file_of : Code → Bounds → (ℕ → plan.Block) → File
-file_of k b bodies = record {
-  fields = map (λ (x : CValue). x.type) (first_values (shape_of k b));
-  rows = record { type = word; size = b.steps } ∷ record { type = word; size = (shape_of k b).notes } ∷ [];
-  functions = functions_c (shape_of k b) bodies
-      ++ start_c (shape_of k b) k.procedures.start ∷ react_c (shape_of k b) k.procedures.react ∷ [];
+-- the file of code, with room in note[] for that height
+abbrev pub file_of : Code → ℕ → Bounds → (ℕ → plan.Block) → File
+file_of k h b bodies = record {
+  fields = map (λ (x : CValue). x.type) (first_values (shape_of k h b));
+  rows = record { type = word; size = b.steps } ∷ record { type = word; size = (shape_of k h b).notes } ∷ [];
+  functions = functions_c (shape_of k h b) bodies
+      ++ start_c (shape_of k h b) k.procedures.start ∷ react_c (shape_of k h b) k.procedures.react ∷ [];
 }
 
 -- ---- runs

@@ -16,6 +16,7 @@ ghost use Rattle.actions.specs.World.{World};
 ghost use Rattle.actions.specs.Work.{Now};
 ghost use Rattle.code_language.specs.Code.{Code};
 ghost use Rattle.code_language.specs.Machine.{run};
+ghost use Rattle.code_language.specs.Measures.{greatest, heights};
 ghost use Rattle.code_language.specs.Reactions.{first_frame, program_of, CodeRun};
 ghost use Rattle.code_language.specs.WellFormed.{IsCode};
 ghost use Rattle.code_costs.specs.Ahead.{IsOver};
@@ -85,29 +86,32 @@ pub fn states_have_places()
 /// world, returns within twice the fuel of the run and three more, where int has at most 32 bits:
 /// it is never wrong. Twice, because a noted procedure is called through one more function. The
 /// call leaves a struct that shows the moment to which the run leads, and returns a result below
-/// BAD, or BAD where the moment has a fault.
+/// BAD, or BAD where the moment has a fault. So it is where note[] has room for the height of the
+/// code or for more.
 pub fn functions_end_as_code()
-    ensures { (k : Code) (b : Bounds) (bodies : ℕ → Plan) (file : File) (int : Width)
+    ensures { (k : Code) (h : ℕ) (b : Bounds) (bodies : ℕ → Plan) (file : File) (int : Width)
         (fuel p : ℕ) (now : Now) (m : Memory) (w : World) (s : Store) → IsCode k →
-        HasStateNames k → HasSmallResults k → AreWritten k.tree (λ x. suc x) k.procedures bodies →
-        BeginsWith file (functions_c (shape_of k b) bodies) → bits int ≤ 32 →
+        HasStateNames k → HasSmallResults k → greatest (heights k.procedures.procs) ≤ h →
+        AreWritten k.tree (λ x. suc x) k.procedures bodies →
+        BeginsWith file (functions_c (shape_of k h b) bodies) → bits int ≤ 32 →
         IsMoment k b (first_frame p w now) →
         IsOver (run (program_of k b) fuel (first_frame p w now)) →
-        Stands k.tree (λ x. suc x) m w → Represents (shape_of k b) None m s → m.notes ≡ [] →
-        EndsAsCode k b file int (2 * fuel + 3) p now (first_frame p w now) s }
+        Stands k.tree (λ x. suc x) m w → Represents (shape_of k h b) None m s → m.notes ≡ [] →
+        EndsAsCode k h b file int (2 * fuel + 3) p now (first_frame p w now) s }
 {}
 
 /// The file of well-formed code runs as the code: from every struct of its type, whatever it holds,
 /// the start and then each reaction return, and tell whether there was a fault, where int has at
 /// most 32 bits. After each call the struct shows the moment of the code's run: active states,
-/// remembered children, data, outputs, used steps and the fault. A struct without values is such a
-/// struct.
+/// remembered children, data, outputs, used steps and the fault. So it is where note[] has room for
+/// the height of the code or for more. A struct without values is such a struct.
 pub fn files_run_as_code()
-    ensures runs { (k : Code) (b : Bounds) (bodies : ℕ → Plan) (int : Width) (s : Store)
+    ensures runs { (k : Code) (h : ℕ) (b : Bounds) (bodies : ℕ → Plan) (int : Width) (s : Store)
         (events : List EventWithInputs) (moments : List Moment) → IsCode k → HasStateNames k →
         HasSmallResults k → AreWritten k.tree (λ x. suc x) k.procedures bodies → bits int ≤ 32 →
-        HasShape (shape_of k b) s → AllGiven k.names events → CodeRun k b events moments →
-        RunsOn (shape_of k b) (file_of k b bodies) int s events moments }
-    ensures unset { (k : Code) (b : Bounds) (bodies : ℕ → Plan) →
-        HasShape (shape_of k b) (no_values (file_of k b bodies)) }
+        greatest (heights k.procedures.procs) ≤ h → HasShape (shape_of k h b) s →
+        AllGiven k.names events → CodeRun k b events moments →
+        RunsOn (shape_of k h b) (file_of k h b bodies) int s events moments }
+    ensures unset { (k : Code) (h : ℕ) (b : Bounds) (bodies : ℕ → Plan) →
+        HasShape (shape_of k h b) (no_values (file_of k h b bodies)) }
 {}

@@ -7,22 +7,29 @@ use Rattle.active_config.specs.Tree.{parent_of, comp_of, children_of}
 use Rattle.actions.specs.Work.{Now}
 use Rattle.c_procedures.specs.States.{is_or, or_parent, c_on, on_by, c_bare, childless_by, c_last, last_by, c_takes}
 use Rattle.c_procedures.specs.States.{c_set, c_unset, c_mark, c_clear}
-use Rattle.c_procedures.specs.Statements.{Memory, Locals, Out, Fell, End}
+use Rattle.c_procedures.specs.Statements.{Memory, Locals, Check, Out, Fell, End, Both, Not, Flag}
 use Rattle.c_procedures.specs.Meaning.{CProgram, Calls, check, exec, branch, and_on, with_states}
-use Rattle.c_procedures.specs.Written.{no_flag, on_under, on_check, childless_check, bare_check, last_under, takes_if}
+use Rattle.c_procedures.specs.Written.{and_no_flag, on_under, on_check, and_childless, bare_check, last_under, takes_if}
 use Rattle.c_procedures.specs.Written.{takes_check, set_block, unset_block}
 
 module _ (P : CProgram) (m : Memory) (now : Now) (l : Locals) where
-  no_flag_is : (xs : List ℕ) → check P (no_flag xs) m now l ≡ not
-      (list_any (λ x. slice_index_or m.states.flags x false) xs)
-  no_flag_is [] = refl
-  no_flag_is (x ∷ xs) = at (slice_index_or m.states.flags x false) (no_flag_is xs)
+  -- a test and the flags after it
+  and_no_flag_is : (a : Check) (xs : List ℕ) → check P (and_no_flag a xs) m now l
+      ≡ (check P a m now l && not (list_any (λ x. slice_index_or m.states.flags x false) xs))
+  and_no_flag_is a [] = at (check P a m now l)
     where
-      at : (b : Bool) → check P (no_flag xs) m now l ≡ not (list_any (λ x. slice_index_or m.states.flags x false) xs)
-          → (not b && check P (no_flag xs) m now l) ≡ not
-          (b || list_any (λ x. slice_index_or m.states.flags x false) xs)
-      at true e = refl
-      at false e = e
+      at : (b : Bool) → b ≡ (b && true)
+      at true = refl
+      at false = refl
+  and_no_flag_is a (x ∷ xs) =
+      and_no_flag_is (Both a (Not (Flag x))) xs
+      ∙ at (check P a m now l) (slice_index_or m.states.flags x false)
+      (list_any (λ x. slice_index_or m.states.flags x false) xs)
+    where
+      at : (b c any : Bool) → ((b && not c) && not any) ≡ (b && not (c || any))
+      at true true any = refl
+      at true false any = refl
+      at false c any = refl
 
   on_under_is : (s : ℕ) (o : Option ℕ) → check P (on_under P.numbers s o) m now l ≡ on_by P.numbers m.states s o
   on_under_is s None = refl
@@ -32,15 +39,17 @@ module _ (P : CProgram) (m : Memory) (now : Now) (l : Locals) where
   unfolding c_on
   on_test s = on_under_is s (or_parent P.tree (parent_of P.tree s))
 
-  childless_test : (s : ℕ) (b : Bool) → check P (childless_check P.tree s b) m now l ≡ childless_by P.tree s m.states b
-  childless_test s true = refl
-  childless_test s false = no_flag_is (children_of P.tree s)
+  -- a test and the children after it
+  childless_test : (s : ℕ) (a : Check) (b : Bool) → check P (and_childless P.tree s a b) m now l
+      ≡ (check P a m now l && childless_by P.tree s m.states b)
+  childless_test s a true = refl
+  childless_test s a false = and_no_flag_is a (children_of P.tree s)
 
   pub bare_test : (s : ℕ) → check P (bare_check P.tree P.numbers s) m now l ≡ c_bare P.tree P.numbers s m.states
   unfolding c_bare
   bare_test s =
-      ap (λ b. b && check P (childless_check P.tree s (is_or (comp_of P.tree s))) m now l) (on_test s)
-      ∙ ap (λ b. c_on P.tree P.numbers s m.states && b) (childless_test s (is_or (comp_of P.tree s)))
+      childless_test s (on_check P.tree P.numbers s) (is_or (comp_of P.tree s))
+      ∙ ap (λ b. b && childless_by P.tree s m.states (is_or (comp_of P.tree s))) (on_test s)
 
   last_under_is : (s : ℕ) (o : Option ℕ) → check P (last_under P.numbers s o) m now l ≡ last_by P.numbers m.states s o
   last_under_is s None = refl

@@ -26,7 +26,7 @@ pub data Check : Type 0 where
   No : Check
   -- `m->cP == i`
   Chosen : ℕ → ℕ → Check
-  -- `(m->aK & BIT) == BIT`
+  -- `(m->aK & BIT) != 0`
   Flag : ℕ → Check
   -- `m->kP == i`
   Kept : ℕ → ℕ → Check

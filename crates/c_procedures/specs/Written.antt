@@ -8,10 +8,10 @@ use Rattle.c_procedures.specs.States.{is_or, or_parent}
 use Rattle.c_procedures.specs.Statements.{Check, Test, Block}
 use Rattle.c_procedures.specs.Statements as c
 
--- no flag of these is set
-abbrev pub no_flag : List ℕ → Check
-no_flag [] = c.Yes
-no_flag (x ∷ xs) = c.Both (c.Not (c.Flag x)) (no_flag xs)
+-- a test holds, and no flag of these is set, one after the other
+abbrev pub and_no_flag : Check → List ℕ → Check
+and_no_flag a [] = a
+and_no_flag a (x ∷ xs) = and_no_flag (c.Both a (c.Not (c.Flag x))) xs
 
 -- a state is active, by its parent where that is an OR
 abbrev pub on_under : (ℕ → ℕ) → ℕ → Option ℕ → Check
@@ -22,14 +22,14 @@ on_under n s (Some p) = c.Chosen p (n s)
 abbrev pub on_check : Tree → (ℕ → ℕ) → ℕ → Check
 on_check t n s = on_under n s (or_parent t (parent_of t s))
 
--- no child of a state is active
-abbrev pub childless_check : Tree → ℕ → Bool → Check
-childless_check t s true = c.Chosen s 0
-childless_check t s false = no_flag (children_of t s)
+-- a test holds, and no child of a state is active
+abbrev pub and_childless : Tree → ℕ → Check → Bool → Check
+and_childless t s a true = c.Both a (c.Chosen s 0)
+and_childless t s a false = and_no_flag a (children_of t s)
 
 -- a state is bare
 abbrev pub bare_check : Tree → (ℕ → ℕ) → ℕ → Check
-bare_check t n s = c.Both (on_check t n s) (childless_check t s (is_or (comp_of t s)))
+bare_check t n s = and_childless t s (on_check t n s) (is_or (comp_of t s))
 
 -- a state is remembered
 abbrev pub last_under : (ℕ → ℕ) → ℕ → Option ℕ → Check
@@ -52,15 +52,17 @@ abbrev pub takes_if : Tree → (ℕ → ℕ) → ℕ → Bool → Check
 takes_if t n p true = bare_check t n p
 takes_if t n p false = on_check t n p
 
+-- and the same where the state may have no parent, which is always taken
 abbrev pub takes_check : Tree → (ℕ → ℕ) → Option ℕ → Check
 takes_check t n None = c.Yes
 takes_check t n (Some p) = takes_if t n p (is_or (comp_of t p))
 
--- a state becomes active or inactive
+-- a state becomes active
 abbrev pub set_block : (ℕ → ℕ) → ℕ → Option ℕ → Block
 set_block n s None = c.Mark s true c.End
 set_block n s (Some p) = c.Choose p (n s) c.End
 
+-- a state becomes inactive
 abbrev pub unset_block : ℕ → Option ℕ → Block
 unset_block s None = c.Mark s false c.End
 unset_block s (Some p) = c.Choose p 0 c.End

@@ -1,12 +1,13 @@
 -- The C of a chart runs as the chart.
-use Rattle.std.proofs.Common.{◌≡◌, ◌≤◌, ◌+◌, length, refl, sym, ap, ◌∙◌, subst, arith}
+use Rattle.std.proofs.Common.{◌≡◌, ℕ, ◌≤◌, ◌+◌, length, refl, sym, ap, ◌∙◌, subst, arith}
 use Rattle.active_config.specs.Tree.{Tree, state_count}
 use Rattle.actions.specs.Names.{Names}
 use Rattle.checked_chart.specs.Chart.{Chart}
 use Rattle.checked_chart.specs.Valid.{IsValid}
 use Rattle.code_language.specs.Code.{Code}
 use Rattle.code_language.specs.Instrs.{Unless, Result, Ret}
-use Rattle.code_shrink.specs.Shrunk.{IsShrunk}
+use Rattle.code_language.specs.Measures.{greatest, heights}
+use Rattle.code_copies.specs.SameRuns.{HasSameRuns}
 use Rattle.chart_layout.specs.Bodies.{code_of_chart}
 use Rattle.chart_layout.proofs.ListResults.{results_below}
 use Rattle.chart_layout.proofs.Whole.{code_runs}
@@ -27,26 +28,28 @@ names-same : (c : Chart) → (code_of_chart c).names ≡ c.names
 unfolding code_of_chart
 names-same c = refl
 
--- the results of smaller code are those of the chart's code, which are few
-small-results : (c : Chart) (k : Code) → IsValid c → IsShrunk (code_of_chart c) k → HasSmallResults k
+-- the results of code that keeps those of the chart's code are few
+small-results : (c : Chart) (k : Code) → IsValid c → HasSameRuns (code_of_chart c) k → HasSmallResults k
 unfolding code_of_chart
-small-results c k valid shrunk =
+small-results c k valid same =
     let few : 3 + state_count c.tree ≤ bad = omega (arith, valid.limits.states) in
     record {
       returned = λ p i r e.
-          let w = shrunk.results.returned p i r e in
+          let w = same.results.returned p i r e in
           results_below c valid bad few w.proc w.place (Ret r) w.stands;
       tested = λ p i j r e.
-          let w = shrunk.results.tested p i j r e in
+          let w = same.results.tested p i j r e in
           results_below c valid bad few w.1.proc w.1.place (Unless w.0 (Result r)) w.1.stands;
     }
 
-pub runs-as-rules : (c : Chart) (k : Code) → IsValid c → IsShrunk (code_of_chart c) k → RunsAsRules c k (plans_of k)
-runs-as-rules c k valid shrunk b int s events moments most shape all run =
-    let names : k.names ≡ c.names = shrunk.names ∙ names-same c in
-    let tree : k.tree ≡ c.tree = shrunk.tree ∙ tree-same c in
-    runs-on k b (plans_of k) int shrunk.well_formed
+-- the C of code with the same runs, with room for its height or more, runs as the rules say
+pub runs-as-rules : (c : Chart) (k : Code) (h : ℕ) → IsValid c → HasSameRuns (code_of_chart c) k
+    → greatest (heights k.procedures.procs) ≤ h → RunsAsRules c k h (plans_of k)
+runs-as-rules c k h valid same low b int s events moments most shape all run =
+    let names : k.names ≡ c.names = same.names ∙ names-same c in
+    let tree : k.tree ≡ c.tree = same.tree ∙ tree-same c in
+    runs-on k h b (plans_of k) int same.well_formed
     (ap (λ (n : Names). length n.states) names ∙ valid.state_names ∙ ap (λ (t : Tree). state_count t) (sym tree))
-    (small-results c k valid shrunk) (plans_are k shrunk.well_formed) most s events moments shape
+    (small-results c k valid same) low (plans_are k same.well_formed) most s events moments shape
     (subst (λ (n : Names). AllGiven n events) (sym names) all)
-    ((shrunk.runs b events moments).0 ((code_runs c valid b events moments).0 run))
+    ((same.runs b events moments).0 ((code_runs c valid b events moments).0 run))

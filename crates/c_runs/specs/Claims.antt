@@ -11,9 +11,11 @@ use Rattle.c_procedures.specs.Statements.{Block}
 use Rattle.c_functions.specs.Files.{shape_of}
 use Rattle.c_functions.specs.Starts.{file_of, HasShape, AllGiven, RunsOn}
 
--- The C of code runs as the rules say: for all bounds, events with inputs and widths of int up to 32 bits, from every
--- struct of its type the start and the reactions show the moments of the rules, and no call goes wrong.
-abbrev pub RunsAsRules : Chart → Code → (ℕ → Block) → Type 0
-RunsAsRules c k bodies = (b : Bounds) (int : Width) (s : Store) (events : List EventWithInputs) (moments : List Moment)
-    → bits int ≤ 32 → HasShape (shape_of k b) s → AllGiven c.names events → RulesRun c b events moments
-    → RunsOn (shape_of k b) (file_of k b bodies) int s events moments
+-- The C of code with room in note[] for a height runs as the rules say: for all bounds, events with inputs and widths
+-- of int up to 32 bits, from every struct of its type the start and the reactions show the moments of the rules, and no
+-- call goes wrong.
+abbrev pub RunsAsRules : Chart → Code → ℕ → (ℕ → Block) → Type 0
+RunsAsRules c k h bodies =
+    (b : Bounds) (int : Width) (s : Store) (events : List EventWithInputs) (moments : List Moment)
+    → bits int ≤ 32 → HasShape (shape_of k h b) s → AllGiven c.names events → RulesRun c b events moments
+    → RunsOn (shape_of k h b) (file_of k h b bodies) int s events moments

@@ -178,7 +178,7 @@ fn put_begin(shape: &FileShape<'_>, lines: &mut List<Line>) -> Result<(), Memory
 }
 
 /// Appends what is written for an instruction; nothing for a jump or a return.
-#[tactic(auto, unfolding(code_language::specs::WellFormed::instr_known, c_procedures::specs::Written::straight, c_functions::specs::Plans::plan_c))]
+#[tactic(auto, unfolding(code_language::specs::WellFormed::instr_known))]
 pub(crate) fn put_straight(
     alloc: Global,
     shape: &FileShape<'_>,

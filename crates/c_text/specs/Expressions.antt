@@ -20,19 +20,23 @@ use Rattle.c_text.specs.Types.{cast_text, constant_text}
 
 -- ---- operators
 
+-- the word of a sum, a difference or a product
 abbrev pub arithmetic_word : Arithmetic → List ℕ
 arithmetic_word Plus = codes " + "
 arithmetic_word Less = codes " - "
 arithmetic_word Times = codes " * "
 
+-- the word of a division
 abbrev pub division_word : Division → List ℕ
 division_word Quotient = codes " / "
 division_word Remainder = codes " % "
 
+-- the word of an operator on bits
 abbrev pub bitwise_word : Bitwise → List ℕ
 bitwise_word BitAnd = codes " & "
 bitwise_word BitOr = codes " | "
 
+-- the word of a comparison
 abbrev pub comparison_word : Comparison → List ℕ
 comparison_word IsEqual = codes " == "
 comparison_word IsUnequal = codes " != "

@@ -15,7 +15,7 @@ use Rattle.c_text.specs.declared.kinds.Kind.TheVariants.{Procedure, Home, Noted,
 use Rattle.c_text.specs.declared.locals.LocalName.{LocalName}
 use Rattle.c_text.specs.Labels.{Labels, function_kind, function_label, takes_struct, local_label}
 use Rattle.c_text.specs.Types.{type_text}
-use Rattle.c_text.specs.Statements.{comma, lines_text}
+use Rattle.c_text.specs.Statements.{has_cases, comma, lines_text}
 
 -- ---- heads
 
@@ -82,11 +82,6 @@ prototype_text L f =
 abbrev pub same_local : LocalName → LocalName → Bool
 same_local x y = (x.number == y.number) && same_type x.of y.of
 
--- there are cases; a `switch` without any sets nothing and has no arguments
-abbrev pub has_cases : List Case → Bool
-has_cases [] = false
-has_cases (c ∷ cases) = true
-
 -- the local that a line sets
 abbrev pub local_set : Line → Option LocalName
 local_set (Set t k e) = Some (record { of = t; number = k })
@@ -147,13 +142,13 @@ reads x (Both a b) = reads x a || reads x b
 reads x (Either a b) = reads x a || reads x b
 reads x (Choose t e a b) = reads x e || (reads x a || reads x b)
 
--- a line reads it; the arguments stand in the cases
+-- a line reads it; a `switch` without cases isn't written
 abbrev pub line_reads : LocalName → Line → Bool
 line_reads x (Set t k e) = reads x e
 line_reads x (Store f e) = reads x e
 line_reads x (StoreAt a i e) = reads x i || reads x e
 line_reads x (Call t k f args) = list_any (reads x) args
-line_reads x (Select t k e cases args) = reads x e || (has_cases cases && list_any (reads x) args)
+line_reads x (Select t k e cases args) = has_cases cases && (reads x e || list_any (reads x) args)
 line_reads x (If e) = reads x e
 line_reads x Else = false
 line_reads x (While e) = reads x e
@@ -188,8 +183,8 @@ line_uses_struct L (Store f e) = true
 line_uses_struct L (StoreAt a i e) = true
 line_uses_struct L (Call t k f args) = passes_struct L f || list_any reads_struct args
 line_uses_struct L (Select t k e cases args) =
-    reads_struct e || (list_any (λ (c : Case). passes_struct L c.function) cases
-    || (has_cases cases && list_any reads_struct args))
+    has_cases cases
+    && (reads_struct e || (list_any (λ (c : Case). passes_struct L c.function) cases || list_any reads_struct args))
 line_uses_struct L (If e) = reads_struct e
 line_uses_struct L Else = false
 line_uses_struct L (While e) = reads_struct e

@@ -1,5 +1,6 @@
 -- How statements are written, a line for each.
-use Rattle.std.specs.Prelude.{ℕ, zero, suc, ◌+◌, ◌-◌, nat_lt, ◌||◌, List, [], ◌∷◌, ◌++◌, codes, decimal, if◌then◌else◌}
+use Rattle.std.specs.Prelude.{ℕ, zero, suc, ◌+◌, ◌-◌, nat_lt, ◌||◌, Bool, true, false, List, [], ◌∷◌, ◌++◌, codes}
+use Rattle.std.specs.Prelude.{decimal, if◌then◌else◌}
 use Rattle.c_subset.specs.Trees.{CExpr}
 use Rattle.c_subset.specs.declared.trees.Case.{Case}
 use Rattle.c_subset.specs.declared.trees.CType.{CType}
@@ -24,6 +25,11 @@ comma kind k = if takes_struct kind || nat_lt 0 k then codes ", " else []
 -- the struct as an argument
 abbrev pub struct_argument : Kind → List ℕ
 struct_argument kind = if takes_struct kind then codes "m" else []
+
+-- there are cases; a `switch` without any does nothing, and isn't written
+abbrev pub has_cases : List Case → Bool
+has_cases [] = false
+has_cases (c ∷ cases) = true
 
 -- the depth after a line
 abbrev pub depth_after : ℕ → Line → ℕ
@@ -79,6 +85,7 @@ module _ (L : Labels) (kind : Kind) where
       indent d ++ (codes "case " ++ (decimal c.label ++ (codes "u:" ++ 10 ∷ (call_text (d + 1) t k c.function args
       ++ (indent (d + 1) ++ (codes "break;" ++ 10 ∷ []))))))
 
+  -- cases, one after the other
   abbrev pub cases_text : ℕ → CType → ℕ → List CExpr → List Case → List ℕ
   cases_text d t k args [] = []
   cases_text d t k args (c ∷ cases) = case_text d t k args c ++ cases_text d t k args cases
@@ -86,6 +93,13 @@ module _ (L : Labels) (kind : Kind) where
   -- if (e) { and the like
   unfoldable pub opening_text : ℕ → List ℕ → CExpr → List ℕ
   opening_text d word e = indent d ++ (word ++ (bare L kind e ++ (codes ") {" ++ 10 ∷ [])))
+
+  -- switch (e) { case C: .. default: break; }
+  unfoldable pub switch_text : ℕ → CType → ℕ → CExpr → List Case → List CExpr → List ℕ
+  switch_text d t k e cases args =
+      if has_cases cases
+      then opening_text d (codes "switch (") e ++ (cases_text d t k args cases ++ default_text d)
+      else []
 
   -- A line at a depth, in a function with that result
   unfoldable pub line_text : CType → ℕ → Line → List ℕ
@@ -98,8 +112,7 @@ module _ (L : Labels) (kind : Kind) where
       indent d ++ (codes "m->" ++ (row_label a ++ (codes "[" ++ (bare L kind i ++ (codes "] = "
       ++ (stored (Unsigned W32) e ++ (codes ";" ++ 10 ∷ [])))))))
   line_text result d (Call t k f args) = call_text d t k f args
-  line_text result d (Select t k e cases args) =
-      opening_text d (codes "switch (") e ++ (cases_text d t k args cases ++ default_text d)
+  line_text result d (Select t k e cases args) = switch_text d t k e cases args
   line_text result d (If e) = opening_text d (codes "if (") e
   line_text result d Else = indent (d - 1) ++ (codes "} else {" ++ 10 ∷ [])
   line_text result d (While e) = opening_text d (codes "while (") e

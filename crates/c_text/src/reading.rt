@@ -5,6 +5,7 @@ ghost use Rattle.c_subset.specs.declared.trees.Case.{Case};
 ghost use Rattle.c_subset.specs.Lines.{expr_of, exprs_of, line_of, lines_in};
 ghost use Rattle.c_text.specs.Functions as spec;
 ghost use Rattle.c_text.specs.Labels.{labels_of};
+ghost use Rattle.c_text.specs.Statements.{has_cases};
 
 use crate::kinds::{function_kind, takes_struct};
 use crate::labels::Labels;
@@ -20,9 +21,9 @@ pub fn is_same_local(left: LocalName, right: LocalName) -> bool
     left.number == right.number && is_same(left.of, right.of)
 }
 
-/// Whether there are cases. A `switch` without any sets nothing and has no arguments.
+/// Whether there are cases. A `switch` without any does nothing, and isn't written.
 pub fn has_cases(cases: &[Case]) -> bool
-    ensures { result ≡ spec.has_cases cases.now }
+    ensures { result ≡ has_cases cases.now }
 {
     !cases.is_empty()
 }
@@ -75,7 +76,7 @@ fn line_reads(local: LocalName, line: &Line) -> bool
         Line::StoreAt(_, index, expr) => reads(local, index) || reads(local, expr),
         Line::Call(_, _, _, args) => any_reads(local, args.items()),
         Line::Select(_, _, expr, cases, args) => {
-            reads(local, expr) || (has_cases(cases.items()) && any_reads(local, args.items()))
+            has_cases(cases.items()) && (reads(local, expr) || any_reads(local, args.items()))
         }
         Line::Else | Line::Close => false,
     }
@@ -158,9 +159,10 @@ fn line_uses_struct(labels: &Labels<'_>, line: &Line) -> bool
             passes_struct(labels, *function) || any_reads_struct(args.items())
         }
         Line::Select(_, _, expr, cases, args) => {
-            reads_struct(expr)
-                || any_passes_struct(labels, cases.items())
-                || (has_cases(cases.items()) && any_reads_struct(args.items()))
+            has_cases(cases.items())
+                && (reads_struct(expr)
+                    || any_passes_struct(labels, cases.items())
+                    || any_reads_struct(args.items()))
         }
         Line::Else | Line::Close => false,
     }

@@ -10,6 +10,7 @@ use crate::kinds::{Kind, function_kind, print_function_label, takes_struct};
 use crate::labels::Labels;
 use crate::locals::{LocalName, print_local_label};
 use crate::numbers::print_number;
+use crate::reading::has_cases;
 use crate::types::is_truth;
 use c_subset::{CExpr, CType, Case, Line, Width};
 use std::alloc::AllocError;
@@ -243,6 +244,31 @@ fn print_opening(
     out.push_str(") {\n")
 }
 
+/// Appends a `switch`, where it has cases.
+#[tactic(auto, unfolding(crate::specs::Statements::switch_text))]
+fn print_switch(
+    out: &mut String,
+    labels: &Labels<'_>,
+    kind: Kind,
+    depth: usize,
+    local: LocalName,
+    expr: &CExpr,
+    cases: &[Case],
+    args: &[CExpr],
+) -> Result<(), AllocError>
+    requires { depth < usize.MAX }
+    ensures { OnOk result (string_bytes out.new ≡ string_bytes out.old
+        ++ spec.switch_text (labels_of labels.now) kind depth local.of local.number
+        (expr_of expr.now) cases.now (exprs_of args.now)) }
+{
+    if !has_cases(cases) {
+        return Ok(());
+    }
+    print_opening(out, labels, kind, depth, "switch (", expr)?;
+    print_cases(out, labels, kind, depth, local, cases, args)?;
+    print_default(out, depth)
+}
+
 /// Appends a blank depth and words.
 fn print_words(out: &mut String, depth: usize, words: &str) -> Result<(), AllocError>
     ensures { OnOk result
@@ -286,9 +312,8 @@ fn print_line(
         }
         Line::Select(of, number, expr, cases, args) => {
             let local = local_of(*of, *number);
-            print_opening(out, labels, kind, depth, "switch (", expr)?;
-            print_cases(out, labels, kind, depth, local, cases.items(), args.items())?;
-            print_default(out, depth)
+            let cases = cases.items();
+            print_switch(out, labels, kind, depth, local, expr, cases, args.items())
         }
         Line::If(expr) => print_opening(out, labels, kind, depth, "if (", expr),
         Line::Else => print_words(out, depth.saturating_sub(1), "} else {\n"),

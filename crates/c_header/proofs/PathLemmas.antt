@@ -11,7 +11,7 @@ use Rattle.c_header.specs.declared.paths.Form.{Form}
 use Rattle.c_header.specs.Paths.{state_name, separator, part_text, path_text}
 
 -- the states of a path: those above the state but the root, the highest first, and the state
-abbrev steps : Tree → ℕ → List ℕ
+abbrev pub steps : Tree → ℕ → List ℕ
 steps t s = drop 1 (reverse (s ∷ ancestors t s))
 
 -- the first of more than one item is dropped
@@ -30,11 +30,11 @@ joined_last b (z ∷ w ∷ xs) y x =
 
 module _ (t : Tree) (tree : IsTree t) where
   -- the root's path has no states
-  steps-root : steps t 0 ≡ []
+  pub steps-root : steps t 0 ≡ []
   steps-root = ap (λ (above : List ℕ). drop 1 (reverse (0 ∷ above))) (ancestors-root t 0 tree.pre_order.root)
 
   -- the path of a child goes on after that of its parent
-  steps-child : (s p : ℕ) → parent_of t s ≡ Some p → steps t s ≡ steps t p ++ s ∷ []
+  pub steps-child : (s p : ℕ) → parent_of t s ≡ Some p → steps t s ≡ steps t p ++ s ∷ []
   steps-child s p e =
       let up : List ℕ = reverse (p ∷ ancestors t p) in
       let size : length up ≡ length (ancestors t p) + 1 = length-reverse (p ∷ ancestors t p) ∙ omega arith in

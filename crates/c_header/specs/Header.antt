@@ -36,7 +36,7 @@ usage_text chart =
     ++ (codes "   stands beside it. Local data (loc_..) may be read. All other fields belong to the\n"
     ++ codes "   chart alone. */\n")))))
 
--- the header is read once; the only name that is replaced begins as no other name does
+-- the header is read once; the name that is replaced is that of nothing else (Scope)
 unfoldable pub guard_text : List ℕ → List ℕ
 guard_text chart =
     named_text (codes "#ifndef FLOW_") chart (codes "_H\n") ++ named_text (codes "#define FLOW_") chart (codes "_H\n\n")
@@ -50,7 +50,7 @@ needs_text chart =
 
 -- ---- numbers
 
--- enum { CHARTprefixNAME = NUMBER }; which no field of the struct can meet, since fields have names of their own (6.2.3 p1)
+-- enum { CHARTprefixNAME = NUMBER }; which no field of the struct can meet: fields have names of their own (6.2.3 p1)
 unfoldable pub define_line : List ℕ → List ℕ → List ℕ → ℕ → List ℕ
 define_line chart prefix name number =
     codes "enum { " ++ (chart ++ (prefix ++ (name ++ (codes " = " ++ (decimal number ++ codes " };\n")))))

@@ -1,3 +1,5 @@
 pub mod Paths
 pub mod Fields
 pub mod Header
+pub mod Scope
+pub mod Struct

@@ -2,11 +2,14 @@
 //! comment on each field, the two calls, and a test of each state.
 //!
 //! Read `specs/Header.antt`, and what it uses: `specs/Fields.antt`, the fields of the struct, and
-//! `specs/Paths.antt`, the names of states. The public call is `print_header`.
+//! `specs/Paths.antt`, the names of states. Laws say more of that text: `specs/Struct.antt`, that
+//! it declares the struct of the file, and `specs/Scope.antt`, that no two names at file scope are
+//! the same. The public call is `print_header`.
 #![tactic(auto)]
 
 mod fields;
 mod header;
+mod laws;
 mod numbers;
 mod paths;
 mod ranges;
@@ -14,3 +17,7 @@ mod states;
 mod words;
 
 pub use header::print_header;
+pub use laws::{
+    names_of_the_header_are_distinct, no_name_of_the_header_is_a_keyword,
+    the_header_declares_the_struct, the_name_that_is_replaced_is_no_other,
+};

@@ -1,0 +1,53 @@
+-- That a text declares a struct: its fields and arrays, in their order, with their types and sizes.
+use Rattle.std.specs.Prelude.{◌≡◌, ℕ, List, [], ◌∷◌, ◌++◌, length, map, codes, decimal}
+use Rattle.c_subset.specs.Trees.{Row}
+use Rattle.c_subset.specs.declared.trees.CType.{CType}
+use Rattle.c_subset.specs.Meaning.{CValue}
+use Rattle.c_functions.specs.Plans.{Shape, word}
+use Rattle.c_functions.specs.Starts.{first_values}
+use Rattle.c_text.specs.Labels.{Labels, field_labels, row_labels}
+use Rattle.c_text.specs.Types.{type_text}
+
+-- the types of the fields of the struct of a file (c_functions/specs/Starts.antt: file_of)
+abbrev pub struct_fields : Shape → List CType
+struct_fields K = map (λ (x : CValue). x.type) (first_values K)
+
+-- the types and sizes of its arrays
+abbrev pub struct_rows : Shape → List Row
+struct_rows K = record { type = word; size = K.bounds.steps } ∷ record { type = word; size = K.notes } ∷ []
+
+-- T DECLARATOR; /* COMMENT */
+unfoldable pub member_text : CType → List ℕ → List ℕ → List ℕ
+member_text t declarator comment =
+    codes "    " ++ (type_text t ++ (32 ∷ (declarator ++ (codes "; /* " ++ (comment ++ codes " */\n")))))
+
+-- fields of these types and names, with comments
+abbrev pub members_text : List CType → List (List ℕ) → List (List ℕ) → List ℕ
+members_text [] names comments = []
+members_text (t ∷ ts) [] comments = []
+members_text (t ∷ ts) (name ∷ names) [] = []
+members_text (t ∷ ts) (name ∷ names) (comment ∷ comments) =
+    member_text t name comment ++ members_text ts names comments
+
+-- NAME[SIZE]
+abbrev pub array_declarator : List ℕ → ℕ → List ℕ
+array_declarator name size = name ++ (codes "[" ++ (decimal size ++ codes "]"))
+
+-- arrays of these types, sizes and names, with comments
+abbrev pub arrays_text : List Row → List (List ℕ) → List (List ℕ) → List ℕ
+arrays_text [] names comments = []
+arrays_text (row ∷ rows) [] comments = []
+arrays_text (row ∷ rows) (name ∷ names) [] = []
+arrays_text (row ∷ rows) (name ∷ names) (comment ∷ comments) =
+    member_text row.type (array_declarator name row.size) comment ++ arrays_text rows names comments
+
+-- The text declares a struct of these fields and arrays, with a name and a comment for each
+pub record DeclaresStruct (L : Labels) (fields : List CType) (rows : List Row) (text : List ℕ) : Type 0 where
+  pub comments : List (List ℕ)
+  pub row_comments : List (List ℕ)
+  pub names_size : length (field_labels L) ≡ length fields
+  pub comments_size : length comments ≡ length fields
+  pub row_names_size : length row_labels ≡ length rows
+  pub row_comments_size : length row_comments ≡ length rows
+  pub is_text : text ≡ codes "typedef struct {\n" ++ (members_text fields (field_labels L) comments
+      ++ (arrays_text rows row_labels row_comments ++ (codes "} " ++ (L.chart ++ codes "_chart;\n\n"))))

@@ -1,0 +1,50 @@
+//! What the names of a header promise, for all charts at once.
+ghost use Rattle.std.specs.Prelude.{◌≡◌, ◌≢◌, ◌<◌, ◌^◌, ◌++◌, ℕ, List, [], length, false};
+ghost use Rattle.std.specs.Prelude.{slice_index_or};
+ghost use Rattle.active_config.specs.Tree.{Tree, IsTree, state_count};
+ghost use Rattle.actions.specs.Names.{Names};
+ghost use Rattle.c_subset.specs.declared.trees.CType.{CType};
+ghost use Rattle.c_functions.specs.Plans.{Shape};
+ghost use Rattle.c_text.specs.declared.kinds.Kind.{Kind};
+ghost use Rattle.c_text.specs.Distinct.{AreDistinct, is_keyword};
+ghost use Rattle.c_text.specs.Labels.{Labels, labels_for, row_labels, field_labels, local_label};
+ghost use Rattle.c_header.specs.declared.paths.Form.TheVariants.{Label};
+ghost use Rattle.c_header.specs.Header.{struct_text};
+ghost use Rattle.c_header.specs.Paths.{path_text};
+ghost use Rattle.c_header.specs.Scope.{HasNamedTree, guard_label, scope_labels};
+ghost use Rattle.c_header.specs.Struct.{DeclaresStruct, struct_fields, struct_rows};
+
+/// Different states of a chart have different names in C; and all names that its header and its
+/// source give at file scope are pairwise different, and different from the name that the header's
+/// first lines define.
+pub fn names_of_the_header_are_distinct()
+    ensures states { (t : Tree) (n : Names) (s u : ℕ) → HasNamedTree t n
+        → s < state_count t → u < state_count t
+        → path_text Label t n s ≡ path_text Label t n u → s ≡ u }
+    ensures scope { (chart : List ℕ) (K : Shape) → HasNamedTree K.tree K.names → K.procs < 2 ^ 32
+        → AreDistinct (scope_labels chart K) }
+{}
+
+/// None of these names is a keyword of C99.
+pub fn no_name_of_the_header_is_a_keyword()
+    ensures { (chart : List ℕ) (K : Shape) (i : ℕ)
+        → is_keyword (slice_index_or (scope_labels chart K) i []) ≡ false }
+{}
+
+/// The name that the header's first lines define, which C replaces wherever it stands, is that of
+/// no array, field or local.
+pub fn the_name_that_is_replaced_is_no_other()
+    ensures members { (chart : List ℕ) (L : Labels) (i : ℕ)
+        → i < length (row_labels ++ field_labels L)
+        → slice_index_or (row_labels ++ field_labels L) i [] ≢ guard_label chart }
+    ensures locals { (chart : List ℕ) (kind : Kind) (t : CType) (k : ℕ)
+        → local_label kind t k ≢ guard_label chart }
+{}
+
+/// The header declares the struct of the file: with its fields and arrays in their order, of their
+/// types and sizes.
+pub fn the_header_declares_the_struct()
+    ensures { (chart : List ℕ) (K : Shape) → IsTree K.tree
+        → DeclaresStruct (labels_for chart K.names K.tree K.procs) (struct_fields K) (struct_rows K)
+        (struct_text chart (labels_for chart K.names K.tree K.procs) K) }
+{}

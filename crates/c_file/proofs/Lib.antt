@@ -4,8 +4,10 @@ pub mod AskLemmas
 pub mod FunctionLemmas
 pub mod PassLemmas
 pub mod CommentLemmas
+pub mod CopyLemmas
 pub mod PrintLemmas
 pub mod SourceLemmas
 pub mod CodeLemmas
+pub mod StructLemmas
 pub mod OneCode
 pub mod OneText

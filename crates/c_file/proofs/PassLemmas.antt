@@ -10,7 +10,8 @@ use Rattle.c_text.specs.Labels.{Labels}
 use Rattle.c_file.specs.declared.calls.FunctionCall.{FunctionCall}
 use Rattle.c_file.specs.declared.passes.Uses.{Uses}
 use Rattle.c_file.specs.Calls.{calls_in, calls_from}
-use Rattle.c_file.specs.Reached.{outside_of, AreOutside, AreReached, Closes}
+use Rattle.c_file.specs.Reached.{outside_of, AreOutside, AreReached}
+use Rattle.c_file.specs.Closing.{Closes}
 use Rattle.c_file.specs.Uses.{is_wide}
 use Rattle.c_file.specs.Made.{HasUses, AreCalls}
 use Rattle.c_file.proofs.CallLemmas.{more_added, all_added}

@@ -1,5 +1,5 @@
 -- Passes over the calls of a file set the flags of exactly those functions that are reached.
-use Rattle.std.proofs.Common.{◌≡◌, ℕ, zero, suc, ◌+◌, ◌<◌, ◌≤◌, ◌⊎◌, ⊎_elim, ◌&&◌, ◌||◌, not, Bool, true, false, List, []}
+use Rattle.std.proofs.Common.{◌≡◌, ℕ, zero, suc, ◌+◌, ◌<◌, ◌≤◌, ⊎_elim, ◌&&◌, ◌||◌, not, Bool, true, false, List, []}
 use Rattle.std.proofs.Common.{◌∷◌, length, drop, Some, slice_get, slice_index_or, slice_set, if◌then◌else◌, get_or, refl}
 use Rattle.std.proofs.Common.{sym, ap, ◌∙◌, subst, arith}
 use Rattle.std.proofs.lemmas.List.{at_drop_more, at_drop_all}
@@ -10,7 +10,8 @@ use Rattle.code_shrink.proofs.Marking.{set_size, still_set, was_set}
 use Rattle.c_file.specs.Calls.{calls_from}
 use Rattle.c_file.specs.declared.calls.FunctionCall.{FunctionCall}
 use Rattle.c_file.specs.Reached.{IsReached, ReachedFromOutside, ReachedByCall, IsFlagged, outside_of, AreOutside}
-use Rattle.c_file.specs.Reached.{AreReached, is_new, followed, passed, finds_new, Closes}
+use Rattle.c_file.specs.Reached.{AreReached}
+use Rattle.c_file.specs.Closing.{is_new, followed, passed, finds_new, Closes}
 
 -- ---- truth values
 

@@ -15,15 +15,17 @@ use Rattle.c_file.specs.Calls.{calls_in, calls_from}
 use Rattle.c_file.specs.Reached.{AreReached}
 use Rattle.c_file.specs.Uses.{is_wide}
 
--- the name is that in the names of the file, the parts of procedures are those of the chart, the shape is the code's
+-- the name is that in the names of the file, the parts and the tags of procedures are those of the chart, and the shape
+-- is that of the code
 pub record IsMade (made : Made) : Type 0 where
   pub named : (labels_of made.labels).chart ≡ made.name.now
   pub parts : AreOfChart made.said
-  pub shape : IsShapeOf (shape_seen made.shape) (code_of made.code.now)
+  pub shape : IsShapeOf (shape_seen made.shape) (code_of made.code.now) made.shape.height
 
 -- the functions of the file
 unfoldable pub functions_of : Made → List Function
-functions_of made = (file_of (code_of made.code.now) made.shape.bounds (plans_of (code_of made.code.now))).functions
+functions_of made =
+    (file_of (code_of made.code.now) made.shape.height made.shape.bounds (plans_of (code_of made.code.now))).functions
 
 -- one more function, which has that number: its calls, and whether it names a type of 128 bits
 pub record HasUses (f : ℕ) (g : Function) (old new : Uses) : Type 0 where

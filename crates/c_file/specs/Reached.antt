@@ -1,14 +1,11 @@
--- Which functions of a file are reached, and how they are found in passes over the calls of the file.
-use Rattle.std.specs.Prelude.{◌≡◌, ◌<◌, ℕ, ◌&&◌, ◌||◌, not, Bool, true, false, List, [], ◌∷◌, length, Some}
-use Rattle.std.specs.Prelude.{slice_get, slice_index_or, slice_set, if◌then◌else◌}
+-- Which functions of a file are reached.
+use Rattle.std.specs.Prelude.{◌≡◌, ◌<◌, ℕ, Bool, true, false, List, length, Some, slice_get, slice_index_or}
 use Rattle.c_subset.specs.Trees.{Function}
 use Rattle.c_text.specs.declared.kinds.Kind.{Kind}
 use Rattle.c_text.specs.declared.kinds.Kind.TheVariants.{Procedure, Home, Noted, Floor, Outside}
 use Rattle.c_text.specs.Labels.{Labels, function_kind}
 use Rattle.c_file.specs.declared.calls.FunctionCall.{FunctionCall}
 use Rattle.c_file.specs.Calls.{calls_from}
-
--- ---- what is reached
 
 -- a function that is called from outside
 abbrev pub is_outside : Kind → Bool
@@ -42,32 +39,3 @@ pub record AreReached (L : Labels) (functions : List Function) (flags : List Boo
   pub size : length flags ≡ length functions
   pub sound : (f : ℕ) → IsFlagged flags f → IsReached (length functions) (outside_of L) (calls_from 0 functions) f
   pub complete : (f : ℕ) → IsReached (length functions) (outside_of L) (calls_from 0 functions) f → IsFlagged flags f
-
--- ---- passes over the calls
-
--- the call is one of a function whose flag is set, and leads to one whose flag isn't
-abbrev pub is_new : List Bool → FunctionCall → Bool
-is_new flags call = slice_index_or flags call.caller false && not (slice_index_or flags call.callee true)
-
--- flags after a call
-abbrev pub followed : List Bool → FunctionCall → List Bool
-followed flags call = if is_new flags call then slice_set flags call.callee true else flags
-
--- flags after calls, one after the other
-abbrev pub passed : List Bool → List FunctionCall → List Bool
-passed flags [] = flags
-passed flags (call ∷ calls) = passed (followed flags call) calls
-
--- one of the calls leads to a function whose flag isn't set yet
-abbrev pub finds_new : List Bool → List FunctionCall → Bool
-finds_new flags [] = false
-finds_new flags (call ∷ calls) = is_new flags call || finds_new (followed flags call) calls
-
--- The flags that were set are set; where these were of reached functions, so are those that are set; no call leads to a
--- function whose flag isn't set.
-pub record Closes (calls : List FunctionCall) (old new : List Bool) : Type 0 where
-  pub size : length new ≡ length old
-  pub kept : (f : ℕ) → IsFlagged old f → IsFlagged new f
-  pub sound : (outside : ℕ → Bool) → ((f : ℕ) → IsFlagged old f → IsReached (length old) outside calls f)
-      → (f : ℕ) → IsFlagged new f → IsReached (length old) outside calls f
-  pub closed : finds_new new calls ≡ false

@@ -2,7 +2,7 @@
 ghost use Rattle.std.specs.Prelude.{◌≡◌, ◌∷◌, [], ◌++◌, OnOk, slice_index_or};
 ghost use Rattle.c_subset.specs.Lines.{line_of, lines_in};
 ghost use Rattle.c_file.specs.Calls.{call_to, case_calls, calls_in, line_calls};
-ghost use Rattle.c_file.specs.Reached as spec;
+ghost use Rattle.c_file.specs.Closing as spec;
 
 use c_subset::{Case, Line};
 use flow_base::Memory;

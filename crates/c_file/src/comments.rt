@@ -1,12 +1,22 @@
-//! What the procedures of a file do, told by the parts of the chart that they are of.
-ghost use Rattle.std.specs.Prelude.{◌≡◌, ◌++◌, [], OnOk, slice_index_or, string_bytes};
+//! What the procedures of a file do, told by the parts of the chart that they are of, and for what
+//! they are copies.
+ghost use Rattle.std.specs.Prelude.{◌≡◌, ◌<◌, ◌++◌, ℕ, [], OnOk, Some, length, slice_index_or};
+ghost use Rattle.std.specs.Prelude.{string_bytes};
 ghost use Rattle.flow_base.specs.Lists.{items_of};
+ghost use Rattle.active_config.specs.Tree.{state_count};
+ghost use Rattle.actions.specs.declared.event.Event.TheVariants as named;
 ghost use Rattle.checked_chart.specs.Kept.{chart_of};
-ghost use Rattle.c_file.specs.Comments.{AreOfChart, said_of, words_at};
+ghost use Rattle.code_passes.specs.declared.tag.EventTag.TheVariants as tags;
+ghost use Rattle.trace_text.specs.Trace as trace;
+ghost use Rattle.c_file.specs.Comments as words;
+ghost use Rattle.c_file.specs.Comments.{AreOfChart, IsTagOf, said_of, words_at, words_for};
 ghost use Rattle.c_file.specs.Source.{comment_of, comment_text, other_comments};
 
 use crate::said::Said;
-use chart_parts::append_part;
+use actions::Event;
+use chart_parts::{append_part, append_state};
+use checked_chart::Chart;
+use code_passes::{EventTag, Tag};
 use std::alloc::AllocError;
 
 /// Appends words for the part at that place, and nothing where there is none.
@@ -21,6 +31,95 @@ fn print_words(out: &mut String, said: &Said<'_>, place: usize) -> Result<(), Al
         Some(part) => append_part(out, chart.shape(), chart.names(), *part),
         None => Ok(()),
     }
+}
+
+/// The name of an event.
+fn event_name(chart: &Chart, event: u32) -> &str
+    requires { event < length (chart_of chart.now).names.events }
+    ensures { result.now ≡ trace.event_name (chart_of chart.now).names event }
+{
+    chart.names().events.items()[event as usize].name.text()
+}
+
+/// Appends for which events a procedure is.
+fn print_events(out: &mut String, chart: &Chart, events: EventTag) -> Result<(), AllocError>
+    requires { (e : ℕ) → events ≡ tags.Is (named.Named e)
+        → e < length (chart_of chart.now).names.events }
+    ensures { OnOk result (string_bytes out.new ≡ string_bytes out.old
+        ++ words.event_words (chart_of chart.now).names events) }
+{
+    match events {
+        EventTag::Any => Ok(()),
+        EventTag::Is(Event::Start) => out.push_str(", where the event is the start"),
+        EventTag::Is(Event::Tick) => out.push_str(", where the event is a tick"),
+        EventTag::Is(Event::Named(event)) => {
+            out.push_str(", where the event is ")?;
+            out.push_str(event_name(chart, event))
+        }
+        EventTag::Other => out.push_str(", where the event is another one"),
+    }
+}
+
+/// What stands before the home for which a procedure is.
+fn home_start(events: EventTag) -> &'static str
+    ensures { result.now ≡ words.home_start events }
+{
+    match events {
+        EventTag::Any => ", where the home is ",
+        EventTag::Is(_) | EventTag::Other => " and the home is ",
+    }
+}
+
+/// Appends for which home a procedure is.
+fn print_home(
+    out: &mut String,
+    chart: &Chart,
+    events: EventTag,
+    home: Option<u32>,
+) -> Result<(), AllocError>
+    requires { (s : ℕ) → home ≡ Some s → s < state_count (chart_of chart.now).tree }
+    ensures { OnOk result (string_bytes out.new ≡ string_bytes out.old
+        ++ words.home_words (chart_of chart.now).tree (chart_of chart.now).names events home) }
+{
+    match home {
+        Some(state) => append_state(out, home_start(events), chart.shape(), chart.names(), state),
+        None => Ok(()),
+    }
+}
+
+/// Words for whether a procedure stands for others.
+fn shared_words(is_shared: bool) -> &'static str
+    ensures { result.now ≡ words.shared_words is_shared }
+{
+    if is_shared {
+        ", and what is equal to it"
+    } else {
+        ""
+    }
+}
+
+/// Appends for what a copy of a procedure is.
+fn print_copy(out: &mut String, chart: &Chart, tag: Tag) -> Result<(), AllocError>
+    requires { IsTagOf (chart_of chart.now) tag }
+    ensures { OnOk result (string_bytes out.new ≡ string_bytes out.old
+        ++ words.copy_words (chart_of chart.now).tree (chart_of chart.now).names tag) }
+{
+    print_events(out, chart, tag.event)?;
+    print_home(out, chart, tag.event, tag.home)?;
+    out.push_str(shared_words(tag.shared))
+}
+
+/// Appends what a procedure with a tag does.
+fn print_tag(out: &mut String, said: &Said<'_>, tag: Tag) -> Result<(), AllocError>
+    requires parts { AreOfChart said.now }
+    requires tag { IsTagOf (chart_of said.now.chart.now) tag }
+    ensures { OnOk result (string_bytes out.new ≡ string_bytes out.old
+        ++ words_for (chart_of said.now.chart.now).tree (chart_of said.now.chart.now).names
+        (items_of said.now.parts) said.now.origins.now tag) }
+{
+    let origin = said.origins.get(tag.proc as usize).copied().unwrap_or(0);
+    print_words(out, said, origin as usize)?;
+    print_copy(out, said.chart, tag)
 }
 
 /// What a function after those of procedures does.
@@ -46,9 +145,9 @@ fn print_comment_of(out: &mut String, said: &Said<'_>, function: u32) -> Result<
         ++ comment_of (said_of said.now) function) }
 {
     let place = function as usize;
-    let procs = said.origins.len();
+    let procs = said.tags.len();
     if place < procs {
-        print_words(out, said, said.origins[place] as usize)?;
+        print_tag(out, said, said.tags[place])?;
     } else {
         out.push_str(other_comment(place - procs))?;
     }

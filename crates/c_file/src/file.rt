@@ -2,17 +2,19 @@
 ghost use Rattle.std.specs.Prelude.{◌≡◌, IfOk, string_bytes};
 ghost use Rattle.checked_chart.specs.Kept.{chart_of};
 ghost use Rattle.code_language.specs.Code.{code_of};
-ghost use Rattle.c_file.specs.Files.{IsCodeFor, IsHeader, IsSource, IsSourceFor, chart_name};
+ghost use Rattle.c_file.specs.Files.{IsCodeFor, IsHeader, IsSource, IsSourceFor, IsWritten};
+ghost use Rattle.c_file.specs.Files.{chart_name};
 
 use crate::made::Made;
 use crate::printing::printed_source;
 use crate::said::Said;
 use c_expression_writer::FileShape;
 use c_header::print_header;
-use c_runs::files_run_as_charts;
+use c_runs::files_of_code_with_the_same_runs_run_as_charts;
 use c_text::Labels;
 use chart_compile::compile;
 use checked_chart::Chart;
+use code_passes::{Faster, faster};
 use code_shrink::{Shrunk, shrink_with_origins};
 use flow_base::{Bounds, Memory};
 use std::alloc::Global;
@@ -34,6 +36,32 @@ fn name_of(chart: &Chart) -> &str
     chart.names().states.items()[root as usize].text()
 }
 
+/// The code for which a source is written, and what is told of it.
+#[derive(Drop)]
+struct Written {
+    /// The code, and for what its procedures are, by those of the smaller code of the chart.
+    faster: Faster,
+    /// The numbers that the procedures of the smaller code had.
+    origins: Vec<u32>,
+    /// The greatest height of a procedure of the smaller code.
+    height: u32,
+}
+
+/// The code for which the source of a chart is written. The smaller code is dropped.
+fn written_code(alloc: Global, chart: &Chart) -> Result<Written, Memory>
+    ensures { IfOk result (λ written. IsWritten (chart_of chart.now) (code_of written.faster.code)
+        written.faster.tags.items written.origins.items written.height) }
+{
+    let shrunk = shrunk_code(alloc, chart)?;
+    let height = shrunk.code.height();
+    let faster = faster(alloc, &shrunk.code)?;
+    Ok(Written {
+        faster,
+        origins: shrunk.origins,
+        height,
+    })
+}
+
 /// The header of a chart's C under these bounds.
 ///
 /// `Memory` only where memory was refused.
@@ -44,7 +72,8 @@ pub fn header(alloc: Global, chart: &Chart, bounds: Bounds) -> Result<String, Me
         (λ text. IsHeader (chart_of chart.now) bounds (string_bytes text)) }
 {
     let shrunk = shrunk_code(alloc, chart)?;
-    let shape = FileShape::make(alloc, chart.names(), chart.shape(), &shrunk.code, bounds)?;
+    let (code, height) = (&shrunk.code, shrunk.code.height());
+    let shape = FileShape::make(alloc, chart.names(), chart.shape(), code, height, bounds)?;
     let mut text = String::new(alloc);
     match print_header(alloc, &mut text, name_of(chart), &shape) {
         Ok(()) => Ok(text),
@@ -52,35 +81,38 @@ pub fn header(alloc: Global, chart: &Chart, bounds: Bounds) -> Result<String, Me
     }
 }
 
-/// The source for the smaller code of a chart.
+/// The source for code of a chart.
 fn source_of(
     alloc: Global,
     chart: &Chart,
-    shrunk: &Shrunk,
+    written: &Written,
     bounds: Bounds,
 ) -> Result<String, Memory>
-    requires code { IsCodeFor (chart_of chart.now) (code_of shrunk.now.code)
-        shrunk.now.origins.items }
-    ensures { IfOk result (λ text. IsSourceFor (chart_of chart.now) bounds
-        (code_of shrunk.now.code) shrunk.now.origins.items (string_bytes text)) }
+    requires { IsWritten (chart_of chart.now) (code_of written.now.faster.code)
+        written.now.faster.tags.items written.now.origins.items written.now.height }
+    ensures { IfOk result (λ text. IsSourceFor (chart_of chart.now) bounds written.now.height
+        (code_of written.now.faster.code) written.now.origins.items written.now.faster.tags.items
+        (string_bytes text)) }
 {
-    let shape = FileShape::make(alloc, chart.names(), chart.shape(), &shrunk.code, bounds)?;
+    let (code, height) = (&written.faster.code, written.height);
+    let shape = FileShape::make(alloc, chart.names(), chart.shape(), code, height, bounds)?;
     let name = name_of(chart);
     let made = Made {
         name,
         labels: Labels::make(name, chart.names(), chart.shape(), shape.procs),
-        said: Said::make(alloc, chart, &shrunk.origins)?,
+        said: Said::make(alloc, chart, &written.origins, &written.faster.tags)?,
         shape,
-        code: &shrunk.code,
+        code,
     };
     let text = printed_source(alloc, &made)?;
     Ok(text)
 }
 
 /// The source of a chart's C under these bounds: what the header declares, and the functions that
-/// it needs. Each function is made, printed and dropped before the next one, so that no more than
-/// the text, the code, one function and the numbers of functions that call each other are in memory
-/// at once.
+/// it needs. It is written for code that is faster than the smaller code of the chart and has its
+/// runs. Each function is made, printed and dropped before the next one, so that no more than the
+/// text, the code, one function and the numbers of functions that call each other are in memory at
+/// once.
 ///
 /// `Memory` only where memory was refused.
 ///
@@ -89,10 +121,10 @@ pub fn source(alloc: Global, chart: &Chart, bounds: Bounds) -> Result<String, Me
     ensures { IfOk result
         (λ text. IsSource (chart_of chart.now) bounds (string_bytes text)) }
 {
-    files_run_as_charts();
+    files_of_code_with_the_same_runs_run_as_charts();
     // Only the proof reads the shape: the chart is valid.
     let _ = chart.shape();
-    let shrunk = shrunk_code(alloc, chart)?;
-    let text = source_of(alloc, chart, &shrunk, bounds)?;
+    let written = written_code(alloc, chart)?;
+    let text = source_of(alloc, chart, &written, bounds)?;
     Ok(text)
 }

@@ -1,19 +1,48 @@
 //! What holds of the two files of a chart.
-ghost use Rattle.std.specs.Prelude.{◌≡◌, ℕ, List};
+ghost use Rattle.std.specs.Prelude.{◌≡◌, ℕ, List, true};
+ghost use Rattle.std.specs.List.{list_all};
+ghost use Rattle.active_config.specs.Tree.{Tree};
+ghost use Rattle.actions.specs.Names.{Names};
+ghost use Rattle.actions.specs.declared.names.EventDecl.{EventDecl};
+ghost use Rattle.chart_lexer.specs.Words.{is_name};
+ghost use Rattle.chart_parts.specs.Plain.{IsPlain};
+ghost use Rattle.c_file.specs.Comments.{copy_words};
 ghost use Rattle.flow_base.specs.declared.bounds.Bounds.{Bounds};
 ghost use Rattle.checked_chart.specs.Chart.{Chart};
 ghost use Rattle.code_language.specs.Code.{Code};
-ghost use Rattle.c_file.specs.Files.{IsCodeFor, IsSourceFor};
+ghost use Rattle.code_passes.specs.declared.tag.Tag.{Tag};
+ghost use Rattle.c_file.specs.Files.{IsCodeFor, IsSourceFor, IsWritten, height_of};
+ghost use Rattle.c_functions.specs.Files.{shape_of};
+ghost use Rattle.c_functions.specs.Starts.{HasShape};
+ghost use Rattle.c_subset.specs.Meaning.{Store};
 
 /// The smaller code of a chart is one, and so are the numbers that its procedures had: the header
-/// and the source of a chart are of the same code.
+/// and the source of a chart are for the same smaller code.
 pub fn the_smaller_code_of_a_chart_is_one()
     ensures { (c : Chart) (k k' : Code) (origins origins' : List ℕ) → IsCodeFor c k origins
         → IsCodeFor c k' origins' → (k ≡ k') × (origins ≡ origins') }
 {}
 
+/// The header of a chart declares the struct of its source: what has the shape of the one has that
+/// of the other.
+pub fn the_struct_of_the_header_is_that_of_the_source()
+    ensures { (c : Chart) (k : Code) (tags : List Tag) (origins : List ℕ) (h : ℕ)
+        (written : IsWritten c k tags origins h) (b : Bounds) (s : Store)
+        → HasShape (shape_of written.smaller (height_of written.smaller) b) s
+        → HasShape (shape_of k h b) s }
+{}
+
 /// The source for code of a chart is one: which functions are written is told by the code.
 pub fn the_source_for_code_is_one()
-    ensures { (c : Chart) (b : Bounds) (k : Code) (origins text text' : List ℕ)
-        → IsSourceFor c b k origins text → IsSourceFor c b k origins text' → text ≡ text' }
+    ensures { (c : Chart) (b : Bounds) (h : ℕ) (k : Code) (origins : List ℕ) (tags : List Tag)
+        (text text' : List ℕ) → IsSourceFor c b h k origins tags text
+        → IsSourceFor c b h k origins tags text' → text ≡ text' }
+{}
+
+/// The words for what a copy of a procedure is for are one line in which no comment of C ends,
+/// where states and events have names.
+pub fn words_for_copies_can_stand_in_a_comment()
+    ensures { (t : Tree) (n : Names) (tag : Tag) → list_all is_name n.states ≡ true
+        → list_all (λ (e : EventDecl). is_name e.name) n.events ≡ true
+        → IsPlain (copy_words t n tag) }
 {}

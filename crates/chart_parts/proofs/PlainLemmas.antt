@@ -37,11 +37,11 @@ differs : (b byte : ℕ) → not (nat_eq b byte) ≡ true → nat_eq b byte ≡ 
 differs b byte h = grind (arith, nat_tests)
 
 -- whether a byte is plain
-abbrev is_plain_byte : ℕ → Bool
+abbrev pub is_plain_byte : ℕ → Bool
 is_plain_byte b = not (nat_eq b 10) && not (nat_eq b 42)
 
 -- a text that passes the test
-tested : (words : List ℕ) → list_all is_plain_byte words ≡ true → IsPlain words
+pub tested : (words : List ℕ) → list_all is_plain_byte words ≡ true → IsPlain words
 tested [] h = tt
 tested (b ∷ words) h =
     let rest = and_parts (is_plain_byte b) (list_all is_plain_byte words) h in
@@ -49,7 +49,7 @@ tested (b ∷ words) h =
     ((differs b 10 both.0, differs b 42 both.1), tested words rest.1)
 
 -- plain text after plain text
-plain_append : (words text : List ℕ) → IsPlain words → IsPlain text → IsPlain (words ++ text)
+pub plain_append : (words text : List ℕ) → IsPlain words → IsPlain text → IsPlain (words ++ text)
 plain_append [] text h g = g
 plain_append (b ∷ words) text h g = (h.0, plain_append words text h.1 g)
 
@@ -75,7 +75,7 @@ name_byte_plain : (b : ℕ) → is_name_byte b ≡ true → IsPlainByte b
 name_byte_plain b h = (grind (arith, nat_tests), grind (arith, nat_tests))
 
 -- bytes of a name
-bytes_plain : (name : List ℕ) → ((k : ℕ) → k < length name → is_name_byte (get_or name k 0) ≡ true) → IsPlain name
+pub bytes_plain : (name : List ℕ) → ((k : ℕ) → k < length name → is_name_byte (get_or name k 0) ≡ true) → IsPlain name
 bytes_plain [] h = tt
 bytes_plain (b ∷ name) h =
     (name_byte_plain b (h 0 (omega arith)), bytes_plain name (λ k lt. h (suc k) (omega arith)))
@@ -136,7 +136,7 @@ module _ (t : Tree) (n : Names) (named : list_all is_name n.states ≡ true) whe
   path_plain s = joined_plain (drop 1 (reverse (s ∷ ancestors t s)))
 
   -- a state
-  state_plain : (s : ℕ) → IsPlain (state_words t n s)
+  pub state_plain : (s : ℕ) → IsPlain (state_words t n s)
   state_plain zero = tested (codes "the chart") refl
   state_plain (suc s) = path_plain (suc s)
 

@@ -15,4 +15,4 @@ mod transitions;
 pub use laws::{each_part_has_its_key, words_can_stand_in_a_comment};
 pub use part::{Owner, Part, Toward, TransPart};
 pub use regions::chart_parts;
-pub use text::append_part;
+pub use text::{append_part, append_state};

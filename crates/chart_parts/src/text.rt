@@ -101,7 +101,11 @@ fn state_name(names: &Names, state: u32) -> &str
 }
 
 /// Appends words and a state: its path, or that it is the chart.
-fn append_state(
+///
+/// An error only where memory was refused.
+///
+/// Source: this project's choice.
+pub fn append_state(
     out: &mut String,
     words: &str,
     shape: &Shape,

@@ -1,5 +1,5 @@
 use Rattle.std.proofs.Common.{◌≡◌, ◌||◌, drop}
-use Rattle.c_file.specs.Reached.{passed, finds_new}
+use Rattle.c_file.specs.Closing.{passed, finds_new}
 use Rattle.c_file.proofs.calls.pass.Given as goal
 
 -- the calls to come give what all give

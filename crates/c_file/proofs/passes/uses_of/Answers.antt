@@ -2,7 +2,8 @@ use Rattle.std.proofs.Common.{◌≡◌, length, sym, subst, arith}
 use Rattle.std.proofs.lemmas.List.{with_items_is}
 use Rattle.c_text.specs.Labels.{labels_of}
 use Rattle.c_file.specs.Made.{functions_of}
-use Rattle.c_file.specs.Reached.{AreReached, Closes}
+use Rattle.c_file.specs.Reached.{AreReached}
+use Rattle.c_file.specs.Closing.{Closes}
 use Rattle.c_file.proofs.PassLemmas.{uses_reached, uses_wide}
 use Rattle.c_file.proofs.passes.uses_of.Goals as goal
 

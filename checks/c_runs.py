@@ -2,21 +2,24 @@
 """Runs the C that a built `chart_to_c` writes of charts by the words of docs/C_SUBSET.md alone, and compares the traces.
 
     python3 checks/c_runs.py --against CHART_TO_C CHART ..
-    python3 checks/c_runs.py --against CHART_TO_C --random N [--seed S] [--first M] [--keep FOLDER]
+    python3 checks/c_runs.py --against CHART_TO_C --random N [--seed S] [--first M] [--jobs J] [--keep FOLDER]
 
 c_subset.py reads the header and the source and runs them. It refuses what isn't in the grammar of the page, and stops at what has no
 rule there. The event file is read and the trace is written by chart_rules.py, with the states and the values of the struct. The first
 form runs charts over the event files that stand beside them, and compares with the traces there. The second form makes N random
 charts with event files and bounds as random_compiled.py does, without the changes that a chart would be refused for, and compares with
-what chart_rules.py writes of the chart; a chart and its events follow from the seed and its number.
+what chart_rules.py writes of the chart; a chart and its events follow from the seed and its number. J charts are run at a time, as
+many as there are processors where nothing is said; what is written is the same for each J.
 
 The program ends with status 1 where anything differs and where there is no chart. The files of a random chart that differs are kept in
-FOLDER, which is `differences` where nothing is said. A chart takes about half a second."""
+FOLDER, which is `differences` where nothing is said. A chart takes about a quarter of a second of a processor."""
 import os
 import random
 import sys
 import tempfile
 from fractions import Fraction
+from functools import partial
+from typing import NamedTuple
 
 import c_subset
 import chart_rules as rules
@@ -24,7 +27,7 @@ import random_charts
 from c_subset import ENDINGS, Run, ending
 from chart_c import Failed, Kept, field_of, make_c, state_name
 from chart_check import check_chart
-from programs import Ended, differences, keep_files, parser
+from programs import Ended, differences, keep_files, parser, results_of
 from random_compiled import USUAL_BOUNDS, bounds_of
 
 FUEL = 100000
@@ -90,8 +93,20 @@ def compared(name, program, text, events, expected, options=()):
         return ['%s: %s' % (name, failed)]
 
 
-def random_case(seed, number):
-    """An accepted random chart, with an event file and bounds; None where the chart isn't accepted."""
+def words_for(bounds):
+    """The options of bounds, and none where they are the usual ones."""
+    return [] if bounds == USUAL_BOUNDS else ['--depth', str(bounds[0]), '--steps', str(bounds[1])]
+
+
+class Compared(NamedTuple):
+    """Lines that tell what is wrong of an accepted random chart, what its files are called, and the files, by their kind."""
+    lines: list
+    stem: str
+    files: dict
+
+
+def compare_chart(seed, program, number):
+    """Compares a random chart, which has an event file and bounds; None where the chart isn't accepted."""
     choices = random.Random('c %s %d' % (seed, number))
     made = random_charts.Maker(choices, True).chart()
     text = random_charts.Writer(choices).chart(made)
@@ -99,31 +114,31 @@ def random_case(seed, number):
         chart = check_chart(text)
     except rules.Fault:
         return None
-    return text, random_charts.event_file(choices, chart), bounds_of(choices)
+    events, bounds = random_charts.event_file(choices, chart), bounds_of(choices)
+    expected = rules.run_rules(text, events.encode('latin-1'), *bounds)
+    lines = compared('chart %d' % number, program, text, events, expected, words_for(bounds))
+    contents = {'chart': text.encode('latin-1'), 'events': events.encode('latin-1')}
+    return Compared(lines, 'c %s %d %d %d' % (seed, number, *bounds), contents)
 
 
-def words_for(bounds):
-    """The options of bounds, and none where they are the usual ones."""
-    return [] if bounds == USUAL_BOUNDS else ['--depth', str(bounds[0]), '--steps', str(bounds[1])]
+def compare_random(seed, program, number):
+    """The same, where calls may nest deeply."""
+    (answer,) = rules.with_deep_calls(lambda: [compare_chart(seed, program, number)])
+    return answer
 
 
-def compare_random(options):
+def compare_all(options):
     """Compares random charts, and gives how many there were and the lines that tell what is wrong."""
-    seen, wrong, number = 0, [], options.first
-    while seen < options.random:
-        case = random_case(options.seed, number)
-        if case is not None:
+    seen, wrong = 0, []
+    for each in results_of(partial(compare_random, options.seed, options.against), options.first, options.jobs):
+        if seen == options.random:
+            return seen, wrong
+        if each is not None:
             seen += 1
-            text, events, bounds = case
-            expected = rules.run_rules(text, events.encode('latin-1'), *bounds)
-            lines = compared('chart %d' % number, options.against, text, events, expected, words_for(bounds))
-            if lines:
-                contents = {'chart': text.encode('latin-1'), 'events': events.encode('latin-1')}
-                keep_files(options.keep, 'c %s %d %d %d' % (options.seed, number, *bounds), contents)
-                print('\n'.join(lines), flush=True)
-            wrong += lines
-        number += 1
-    return seen, wrong
+            wrong += each.lines
+            if each.lines:
+                keep_files(options.keep, each.stem, each.files)
+                print('\n'.join(each.lines), flush=True)
 
 
 def main(words):
@@ -133,11 +148,12 @@ def main(words):
     reader.add_argument('--random', metavar='N', type=int, default=0)
     reader.add_argument('--seed', default='1')
     reader.add_argument('--first', metavar='M', type=int, default=0)
+    reader.add_argument('--jobs', metavar='J', type=int, default=os.cpu_count())
     reader.add_argument('--keep', metavar='FOLDER', default='differences')
     reader.add_argument('charts', metavar='CHART', nargs='*')
     options = reader.parse_args(words)
     options.against = os.path.abspath(options.against)
-    seen, wrong = compare_random(options)
+    seen, wrong = compare_all(options) if options.random else (0, [])
     for case in map(Kept, options.charts):
         lines = compared(case.name, options.against, *case.texts())
         print(''.join(line + '\n' for line in lines), end='', flush=True)

@@ -1,14 +1,15 @@
 #!/usr/bin/env python3
 """Compares the C that a built `chart_to_c` writes of random charts, by gcc and clang, with the rules.
 
-    python3 checks/random_chart_c.py --against CHART_TO_C --charts N [--seed S] [--first M] [--compilers CC ..] [--sanitize K]
-                                     [--files F] [--keep FOLDER]
+    python3 checks/random_chart_c.py --against CHART_TO_C --charts N [--seed S] [--first M] [--both] [--compilers CC ..]
+                                     [--sanitize K] [--files F] [--jobs J] [--keep FOLDER]
 
 A chart, its event files and its bounds are made as c_runs.py makes them: they follow from the seed and the chart's number. The
-C is compiled by each compiler, gcc and clang where nothing is said, at -O0 in one half of the charts and at -O2 in the other, with each
-warning as an error, and of one chart in K, 10 where nothing is said, with the sanitizers of addresses and of undefined behaviour too,
-which end a run that they report. So is the driver of chart_c.py. Each of F event files, 2 where nothing is said, is run; the trace,
-the message and the status must be those of chart_rules.py.
+C is compiled by each compiler, gcc and clang where nothing is said, at -O0 in one half of the charts and at -O2 in the other, or with
+--both at both levels in all, with each warning as an error; and of one chart in K, 10 where nothing is said, at the level of its half
+with the sanitizers of addresses and of undefined behaviour too, which end a run that they report. So is the driver of chart_c.py. Each
+of F event files, 2 where nothing is said, is run; the trace, the message and the status must be those of chart_rules.py. J charts are
+tried at a time, as many as there are processors where nothing is said; what is written is the same for each J.
 
 It writes a line for each difference, keeps the files of it in FOLDER, which is `differences` where nothing is said, and ends with
 status 1 where there is one, or where no chart was tried. At the end it writes how many charts were tried how, and how the runs ended."""
@@ -17,68 +18,73 @@ import random
 import sys
 import tempfile
 from collections import Counter
+from typing import NamedTuple
 
 import chart_rules as rules
 import random_charts
 from chart_c import LONGEST, Failed, compile_c, compile_driver, make_c, write
 from chart_check import check_chart
 from c_runs import words_for
-from programs import differences, ended, keep_files, parser, print_counts
+from programs import differences, ended, keep_files, parser, print_counts, results_of
 from random_compiled import bounds_of, features_of
 
 SANITIZERS = ['-fsanitize=undefined,address', '-fno-sanitize-recover=all', '-g']
 # What a chart itself says, such as `x != 300` of a datum with 8 bits, or `x <= x`, is no fault of the C that does it.
 ALLOWED = ['-Wno-type-limits', '-Wno-tautological-compare']
+LEVELS = ['-O0', '-O2']
+
+
+class Compared(NamedTuple):
+    """What was met of an accepted chart: counts of what it has and how it was compiled, and of how its runs ended, and where anything
+    differs lines that tell it, and the files, by their kind, with the bounds in their name."""
+    charts: Counter
+    runs: Counter
+    lines: list
+    stem: str
+    files: dict
 
 
 class Comparison:
-    """Compares charts, and counts what was met."""
+    """Compares a chart in a folder, with a driver that is compiled in the same way."""
 
     def __init__(self, options, folder):
-        self.options, self.folder, self.drivers = options, folder, {}
-        self.charts, self.runs, self.wrong = Counter(), Counter(), 0
-
-    def driver(self, compiler, flags):
-        """The driver that is compiled in the same way."""
-        key = compiler, *flags
-        if key not in self.drivers:
-            folder = os.path.join(self.folder, 'driver %d' % len(self.drivers))
-            os.mkdir(folder)
-            self.drivers[key] = compile_driver(folder, compiler, flags)
-        return self.drivers[key]
+        self.options, self.folder = options, folder
+        self.drivers = {(compiler, *flags): compile_driver(tempfile.mkdtemp(dir=folder), compiler, flags)
+                        for compiler in options.compilers for level in LEVELS for flags in ([level], [level, *SANITIZERS])}
 
     def builds(self, number):
         """The compilers and the flags for a chart."""
+        own = LEVELS[(number + 1) % 2]
         for compiler in self.options.compilers:
-            level = '-O0' if number % 2 else '-O2'
-            yield compiler, [level, *ALLOWED]
+            for level in LEVELS if self.options.both else [own]:
+                yield compiler, [level]
             if number % self.options.sanitize == 0:
-                yield compiler, [level, *ALLOWED, *SANITIZERS]
+                yield compiler, [own, *SANITIZERS]
 
     def chart(self, number):
-        """Compares all builds of a chart, and gives whether there was an accepted one."""
+        """Compares all builds of a chart; None where the chart isn't accepted."""
+        (compared,) = rules.with_deep_calls(lambda: [self.compared_chart(number)])
+        return compared
+
+    def compared_chart(self, number):
+        """The same, where calls may nest deeply."""
         choices = random.Random('c %s %d' % (self.options.seed, number))
         made = random_charts.Maker(choices, True).chart()
         text = random_charts.Writer(choices).chart(made)
         try:
             chart = check_chart(text)
         except rules.Fault:
-            return False
+            return None
         files = [random_charts.event_file(choices, chart) for _ in range(self.options.files)]
         bounds = bounds_of(choices)
         expected = [rules.run_rules(text, events.encode('latin-1'), *bounds) for events in files]
-        self.charts['all'] += 1
-        self.charts.update(features_of(chart))
-        self.runs.update('status %d %s' % (each.status, each.error.partition(': ')[2].split(' ')[0].strip()) for each in expected)
-        lines = self.compared(number, text, files, bounds, expected)
-        if lines:
-            self.wrong += 1
-            contents = {'chart': text.encode('latin-1'), **{'events%d' % n: each.encode('latin-1') for n, each in enumerate(files)}}
-            keep_files(self.options.keep, 'c %s %d %d %d' % (self.options.seed, number, *bounds), contents)
-            print('\n'.join(lines), flush=True)
-        return True
+        charts = Counter({'all': 1, **dict.fromkeys(features_of(chart), 1)})
+        runs = Counter('status %d %s' % (each.status, each.error.partition(': ')[2].split(' ')[0].strip()) for each in expected)
+        lines = self.compared(number, text, files, bounds, expected, charts)
+        contents = {'chart': text.encode('latin-1'), **{'events%d' % n: each.encode('latin-1') for n, each in enumerate(files)}}
+        return Compared(charts, runs, lines, 'c %s %d %d %d' % (self.options.seed, number, *bounds), contents)
 
-    def compared(self, number, text, files, bounds, expected):
+    def compared(self, number, text, files, bounds, expected, charts):
         """Lines that tell what is wrong of a chart."""
         lines = []
         with tempfile.TemporaryDirectory(dir=self.folder) as folder:
@@ -86,9 +92,9 @@ class Comparison:
                 sources = make_c(self.options.against, text, folder, words_for(bounds))
                 for compiler, flags in self.builds(number):
                     name = 'chart %d by %s %s' % (number, compiler, ' '.join(flags))
-                    program = compile_c(sources, self.driver(compiler, flags), folder, compiler, flags)
-                    self.charts['by %s %s' % (compiler, flags[0])] += 1
-                    self.charts['by %s with sanitizers' % compiler] += SANITIZERS[0] in flags
+                    program = compile_c(sources, self.drivers[(compiler, *flags)], folder, compiler, [*flags, *ALLOWED])
+                    is_sanitized = SANITIZERS[0] in flags
+                    charts['by %s %s%s' % (compiler, flags[0], ' with sanitizers' if is_sanitized else '')] += 1
                     for events, answer in zip(files, expected):
                         lines += self.ran(name, program, folder, events, answer)
             except Failed as failed:
@@ -111,22 +117,32 @@ def main(words):
     reader.add_argument('--charts', metavar='N', type=int, required=True)
     reader.add_argument('--seed', default='1')
     reader.add_argument('--first', metavar='M', type=int, default=0)
+    reader.add_argument('--both', action='store_true')
     reader.add_argument('--compilers', metavar='CC', nargs='+', default=['gcc', 'clang'])
     reader.add_argument('--sanitize', metavar='K', type=int, default=10)
     reader.add_argument('--files', metavar='F', type=int, default=2)
+    reader.add_argument('--jobs', metavar='J', type=int, default=os.cpu_count())
     reader.add_argument('--keep', metavar='FOLDER', default='differences')
     options = reader.parse_args(words)
     options.against = os.path.abspath(options.against)
-    number = options.first
+    charts, runs, wrong, number = Counter(), Counter(), 0, options.first
     with tempfile.TemporaryDirectory(dir='/dev/shm' if os.path.isdir('/dev/shm') else None) as folder:
-        comparison = Comparison(options, folder)
-        while comparison.charts['all'] < options.charts:
-            comparison.chart(number)
+        for each in results_of(Comparison(options, folder).chart, options.first, options.jobs):
+            if charts['all'] >= options.charts:
+                break
             number += 1
-    print_counts('charts', comparison.charts)
-    print_counts('runs', comparison.runs)
-    print('\n%d charts, %d of them with differences; the next chart is %d' % (comparison.charts['all'], comparison.wrong, number))
-    return 1 if comparison.wrong or not comparison.charts['all'] else 0
+            if each is None:
+                continue
+            charts.update(each.charts)
+            runs.update(each.runs)
+            if each.lines:
+                wrong += 1
+                keep_files(options.keep, each.stem, each.files)
+                print('\n'.join(each.lines), flush=True)
+    print_counts('charts', charts)
+    print_counts('runs', runs)
+    print('\n%d charts, %d of them with differences; the next chart is %d' % (charts['all'], wrong, number))
+    return 1 if wrong or not charts['all'] else 0
 
 
 if __name__ == '__main__':

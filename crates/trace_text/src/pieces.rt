@@ -230,8 +230,9 @@ impl Pieces {
         self.keep_byte(second);
     }
 
-    /// Keeps a text for which there is room, however long it is.
-    #[inline(always)]
+    /// Keeps a text for which there is room, however long it is. It stays out of its callers, so
+    /// that the loops that put short names prepare nothing for long ones.
+    #[inline(never)]
     fn keep_all(&mut self, text: &[u8])
         requires { length self.old.bytes + length text.now ≤ PIECE_SIZE }
         ensures { self.new ≡ kept self.old text.now }

@@ -113,6 +113,7 @@ pub fn put_full<O: Sink>(
 }
 
 /// Puts a line, however it ends.
+#[inline(always)]
 fn put_line<O: Sink>(
     index: u64,
     event: Event,

@@ -196,6 +196,7 @@ pub(crate) enum LineEnd {
 }
 
 /// Puts how a line ends.
+#[inline(always)]
 pub(crate) fn put_end<O: Sink>(names: &Names, end: LineEnd, pieces: &mut Pieces, out: &mut O)
     requires { IsEndOf (names_of names.now) end }
     ensures { Puts (O.wrote out.old) (O.wrote out.new) (O.faults out.old) (O.faults out.new)

@@ -1,0 +1,4 @@
+pub mod Certificate
+pub mod Claims
+pub mod Rows
+pub mod Needed

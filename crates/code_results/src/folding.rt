@@ -2,6 +2,7 @@
 ghost use Rattle.std.specs.Prelude.{◌≡◌, IfOk, length};
 ghost use Rattle.code_language.specs.Code.{code_of};
 ghost use Rattle.code_copies.specs.SameRuns.{HasSameRuns};
+ghost use Rattle.code_results.specs.Folded.{IsFolded};
 
 use crate::checking::is_right;
 use crate::making::made;
@@ -21,14 +22,15 @@ use std::alloc::Global;
 ///
 /// Source: this project's choice.
 pub fn fold_results(alloc: Global, code: Code) -> Result<Code, Memory>
+    ensures folded { IfOk result (λ made. IsFolded (code_of code) (code_of made)) }
     ensures same { IfOk result (λ made. HasSameRuns (code_of code) (code_of made)) }
     ensures size { IfOk result (λ made. length (code_of made).procedures.procs
         ≡ length (code_of code).procedures.procs) }
 {
     let plan = find(alloc, code.raw())?;
-    if is_right(&plan, code.raw()) {
-        made(alloc, &plan, code)
-    } else {
-        Ok(code)
+    if !is_right(&plan, code.raw()) {
+        return Ok(code);
     }
+    let made = made(alloc, &plan, code)?;
+    Ok(made)
 }

@@ -6,8 +6,8 @@ use crate::plan::{Place, Results};
 use crate::results::{only, told};
 use code_language::{Cond, Instr, RawCode};
 
-/// How often the code is gone over at most.
-const ROUNDS: usize = 1_000;
+/// How often the code is gone over at most, up and down.
+const ROUNDS: usize = 500;
 
 /// Whether the last result may differ at a place; where no place is it may.
 fn differs_at(places: &[Place], place: usize) -> bool {
@@ -108,24 +108,45 @@ fn note_begin(begins: &mut [bool], proc: usize, may: bool) -> bool {
     news
 }
 
-/// Goes over all procedures once. Whether there is news.
-fn read_once(raw: &RawCode, places: &mut [Vec<Place>], begins: &mut [bool]) -> bool {
+/// Goes over a procedure once, if it is there. Whether there is news.
+fn read_at(raw: &RawCode, places: &mut [Vec<Place>], begins: &mut [bool], proc: usize) -> bool {
+    let Some(instrs) = raw.procs.items().get(proc) else {
+        return false;
+    };
+    let Some(own) = places.get_mut(proc) else {
+        return false;
+    };
+    read_in(raw.react, begins, own, instrs.items());
+    note_begin(begins, proc, differs_at(own, 0))
+}
+
+/// Goes over all procedures once, from the first one to the last. Whether there is news.
+fn read_up(raw: &RawCode, places: &mut [Vec<Place>], begins: &mut [bool]) -> bool {
     let mut news = false;
-    for (proc, instrs) in raw.procs.items().iter().enumerate() {
-        if let Some(own) = places.get_mut(proc) {
-            read_in(raw.react, begins, own, instrs.items());
-            if note_begin(begins, proc, differs_at(own, 0)) {
-                news = true;
-            }
+    for proc in 0..places.len() {
+        if read_at(raw, places, begins, proc) {
+            news = true;
         }
     }
     news
 }
 
-/// Goes over all procedures until there is no news, or often enough.
+/// Goes over all procedures once, from the last one to the first. Whether there is news.
+fn read_down(raw: &RawCode, places: &mut [Vec<Place>], begins: &mut [bool]) -> bool {
+    let mut news = false;
+    for proc in (0..places.len()).rev() {
+        if read_at(raw, places, begins, proc) {
+            news = true;
+        }
+    }
+    news
+}
+
+/// Goes over all procedures until there is no news, or often enough: up, since calls go to lower
+/// procedures, and down, since most visits go to higher ones.
 pub(crate) fn read(raw: &RawCode, places: &mut [Vec<Place>], begins: &mut [bool]) {
     for _ in 0..ROUNDS {
-        if !read_once(raw, places, begins) {
+        if !read_up(raw, places, begins) || !read_down(raw, places, begins) {
             return;
         }
     }

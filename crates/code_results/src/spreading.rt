@@ -5,8 +5,8 @@ use crate::plan::{Place, Results};
 use crate::results::{may_be, only, told};
 use code_language::{Cond, Instr, RawCode};
 
-/// How often the code is gone over at most.
-const ROUNDS: usize = 1_000;
+/// How often the code is gone over at most, up and down.
+const ROUNDS: usize = 500;
 
 /// The results that a procedure may return, as far as they are found.
 fn found_of(returns: &[Results], proc: u32) -> Results {
@@ -137,23 +137,49 @@ fn spread_in(
     news
 }
 
-/// Goes over all procedures once. Whether there is news.
-fn spread_once(raw: &RawCode, places: &mut [Vec<Place>], returns: &mut [Results]) -> bool {
+/// Goes over a procedure once, if it is there. Whether there is news.
+fn spread_at(
+    raw: &RawCode,
+    places: &mut [Vec<Place>],
+    returns: &mut [Results],
+    proc: usize,
+) -> bool {
+    let Some(instrs) = raw.procs.items().get(proc) else {
+        return false;
+    };
+    let Some(own) = places.get_mut(proc) else {
+        return false;
+    };
+    spread_in(raw.react, returns, proc, own, instrs.items())
+}
+
+/// Goes over all procedures once, from the first one to the last. Whether there is news.
+fn spread_up(raw: &RawCode, places: &mut [Vec<Place>], returns: &mut [Results]) -> bool {
     let mut news = false;
-    for (proc, instrs) in raw.procs.items().iter().enumerate() {
-        if let Some(own) = places.get_mut(proc) {
-            if spread_in(raw.react, returns, proc, own, instrs.items()) {
-                news = true;
-            }
+    for proc in 0..places.len() {
+        if spread_at(raw, places, returns, proc) {
+            news = true;
         }
     }
     news
 }
 
-/// Goes over all procedures until there is no news, or often enough.
+/// Goes over all procedures once, from the last one to the first. Whether there is news.
+fn spread_down(raw: &RawCode, places: &mut [Vec<Place>], returns: &mut [Results]) -> bool {
+    let mut news = false;
+    for proc in (0..places.len()).rev() {
+        if spread_at(raw, places, returns, proc) {
+            news = true;
+        }
+    }
+    news
+}
+
+/// Goes over all procedures until there is no news, or often enough: up, since calls go to lower
+/// procedures, and down, since most visits go to higher ones.
 pub(crate) fn spread(raw: &RawCode, places: &mut [Vec<Place>], returns: &mut [Results]) {
     for _ in 0..ROUNDS {
-        if !spread_once(raw, places, returns) {
+        if !spread_up(raw, places, returns) || !spread_down(raw, places, returns) {
             return;
         }
     }

@@ -3,3 +3,4 @@ pub mod MergedSound
 pub mod MergedMeasured
 pub mod MergedResults
 pub mod MergedWhole
+pub mod OwnNumbers

@@ -1,5 +1,5 @@
 -- How code is made where a procedure stands for each procedure that is equal to it.
-use Rattle.std.specs.Prelude.{◌≡◌, ◌<◌, ◌≤◌, ℕ, List, [], length, map, slice_index_or}
+use Rattle.std.specs.Prelude.{◌≡◌, ◌<◌, ◌≤◌, ℕ, zero, suc, List, [], ◌∷◌, length, map, slice_index_or}
 use Rattle.code_language.specs.Code.{Code, Procedures}
 use Rattle.code_language.specs.Instrs.{Instr}
 use Rattle.code_shrink.specs.Follows.{renamed}
@@ -27,7 +27,13 @@ merged_procedures m k = record { procs = map (under m) k.procs; start = m k.star
 abbrev pub merged_code : (ℕ → ℕ) → Code → Code
 merged_code m k = record k { procedures = merged_procedures m k.procedures }
 
--- the second code is the first one, or that in which procedures stand for equal ones, by this table of their numbers
+-- the numbers of n procedures in their order, from procedure p on
+abbrev pub numbers_from : ℕ → ℕ → List ℕ
+numbers_from p zero = []
+numbers_from p (suc n) = p ∷ numbers_from (suc p) n
+
+-- the second code is the first one, where each procedure stands for itself, or that in which procedures stand for equal
+-- ones, by this table of their numbers
 pub data IsMerged (k k' : Code) (numbers : List ℕ) : Type 0 where
-  AsItWas : k' ≡ k → IsMerged k k' numbers
+  AsItWas : numbers ≡ numbers_from 0 (length k.procedures.procs) → k' ≡ k → IsMerged k k' numbers
   ByTable : AreEqual (number_by numbers) k.procedures → k' ≡ merged_code (number_by numbers) k → IsMerged k k' numbers

@@ -3,7 +3,7 @@ ghost use Rattle.std.specs.Prelude.{◌≡◌, ◌<◌, ◌≤◌, ℕ, IfOk, Is
 ghost use Rattle.code_language.specs.Acceptance.{procs_of};
 ghost use Rattle.code_language.specs.declared.limits.TheConstants.{PROC_LIMIT};
 ghost use Rattle.code_language.specs.Code.{code_of};
-ghost use Rattle.code_merging.specs.Merged.{AreEqual, StandsFor};
+ghost use Rattle.code_merging.specs.Merged.{AreEqual, StandsFor, numbers_from};
 ghost use Rattle.code_shrink.specs.Numbers.{number_by};
 
 use crate::equal::are_same;
@@ -20,7 +20,7 @@ const ROUNDS: u32 = 2;
 /// Each procedure stands for itself.
 pub(crate) fn own_numbers(alloc: Global, count: usize) -> Result<Vec<u32>, Memory>
     requires { count ≤ PROC_LIMIT }
-    ensures { IfOk result (λ numbers. length numbers.items ≡ count) }
+    ensures { IfOk result (λ numbers. numbers.items ≡ numbers_from 0 count) }
 {
     let mut numbers = Vec::new(alloc);
     for p in 0..count {

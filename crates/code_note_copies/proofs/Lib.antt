@@ -1,0 +1,2 @@
+pub mod PureMade
+pub mod PureWhole

@@ -1,0 +1,70 @@
+//! For which `Play`s the new procedures of a plan stand.
+ghost use Rattle.std.specs.Prelude.{◌≡◌, ℕ, IsTrue, Some, length, slice_get};
+ghost use Rattle.code_language.specs.Code.{code_of, instr_of, instrs_of};
+ghost use Rattle.code_language.specs.Instrs.{Play};
+ghost use Rattle.code_notes.specs.Checked.{StandsFor};
+ghost use Rattle.code_notes.specs.Found.{place_in, plan_of};
+
+use crate::checking::place_at;
+use crate::plan::{PLAYER_LIMIT, Plan};
+use code_language::{Instr, RawCode};
+
+/// Whether the instruction is `Play`.
+fn is_play(instr: &Instr) -> bool
+    ensures { IsTrue result → instr_of instr.now ≡ Play }
+{
+    match instr {
+        Instr::Play => true,
+        _ => false,
+    }
+}
+
+/// Whether the new procedure stands for the instruction at a place, a `Play`.
+fn stands_for(plan: &Plan, proc: usize, place: usize, instr: &Instr, player: u32) -> bool
+    ensures { IsTrue result → (instr_of instr.now ≡ Play)
+        × ((place_in plan.now proc place).player ≡ Some player) }
+{
+    is_play(instr) && place_at(plan, proc, place).player == Some(player)
+}
+
+/// Whether the new procedure stands for a `Play` of these instructions of a procedure.
+fn has_player(plan: &Plan, proc: usize, instrs: &[Instr], player: u32) -> bool
+    ensures { IsTrue result → (i : ℕ) × (slice_get (instrs_of instrs.now) i ≡ Some Play)
+        × ((place_in plan.now proc i).player ≡ Some player) }
+{
+    for (place, instr) in instrs.iter().enumerate() {
+        if stands_for(plan, proc, place, instr, player) {
+            return true;
+        }
+    }
+    false
+}
+
+/// Whether the new procedure stands for a `Play` of a procedure.
+fn is_played(plan: &Plan, raw: &RawCode, proc: u32, player: u32) -> bool
+    ensures { IsTrue result
+        → StandsFor (plan_of plan.now) (code_of raw.now).procedures player proc }
+{
+    match raw.procs.items().get(proc as usize) {
+        Some(instrs) => has_player(plan, proc as usize, instrs.items(), player),
+        None => false,
+    }
+}
+
+/// Whether each new procedure stands for a `Play` of the procedure that the plan tells.
+pub(crate) fn are_played(plan: &Plan, raw: &RawCode) -> bool
+    ensures size { IsTrue result
+        → length plan.now.played.items ≡ length (plan_of plan.now).players }
+    ensures each { IsTrue result → (q p : ℕ) → slice_get plan.now.played.items q ≡ Some p
+        → StandsFor (plan_of plan.now) (code_of raw.now).procedures q p }
+{
+    if plan.played.len() != plan.players.len() || plan.played.len() > PLAYER_LIMIT {
+        return false;
+    }
+    for (player, proc) in plan.played.iter().enumerate() {
+        if !is_played(plan, raw, *proc, player as u32) {
+            return false;
+        }
+    }
+    true
+}

@@ -1,0 +1,118 @@
+//! The search for a plan of notes. No answer depends on it.
+mod spreading;
+mod table;
+
+use crate::plan::{PLAYER_LIMIT, Plan};
+use crate::searching::spreading::Spread;
+use crate::searching::table::{EMPTY, number_of};
+use code_language::{Instr, RawCode};
+use flow_base::Memory;
+use std::alloc::Global;
+
+/// An equal list.
+fn copy_list(alloc: Global, list: &[u32]) -> Result<Vec<u32>, Memory> {
+    let mut copy = Vec::new(alloc);
+    for note in list {
+        let Ok(()) = copy.push(*note) else {
+            return Err(Memory);
+        };
+    }
+    Ok(copy)
+}
+
+/// The new procedures so far, with the one that runs each list, if there is one.
+#[derive(Drop)]
+struct Players {
+    of_list: Vec<Option<u32>>,
+    players: Vec<Vec<u32>>,
+    played: Vec<u32>,
+}
+
+impl Players {
+    /// The new procedure that runs the list, which is made where there is none yet; `proc` has the
+    /// `Play`.
+    fn for_list(
+        &mut self,
+        alloc: Global,
+        list: u32,
+        notes: &[u32],
+        proc: usize,
+    ) -> Result<u32, Memory> {
+        let number = number_of(self.players.len());
+        let Some(known) = self.of_list.get_mut(list as usize) else {
+            return Ok(number);
+        };
+        if let Some(player) = *known {
+            return Ok(player);
+        }
+        *known = Some(number);
+        let copy = copy_list(alloc, notes)?;
+        let Ok(()) = self.players.push(copy) else {
+            return Err(Memory);
+        };
+        match self.played.push(number_of(proc)) {
+            Ok(()) => Ok(number),
+            Err(_) => Err(Memory),
+        }
+    }
+}
+
+/// Finds what stands for each `Play` of a procedure. Whether the notes of each are known.
+fn find_players(
+    alloc: Global,
+    spread: &mut Spread,
+    players: &mut Players,
+    proc: usize,
+    instrs: &[Instr],
+) -> Result<bool, Memory> {
+    for (place, instr) in instrs.iter().enumerate() {
+        if let Instr::Play = instr {
+            match spread.notes_at(proc, place) {
+                None => return Ok(false),
+                Some(EMPTY) => {}
+                Some(list) => {
+                    let player = players.for_list(alloc, list, spread.table.notes(list), proc)?;
+                    spread.set_player(proc, place, player);
+                }
+            }
+        }
+    }
+    Ok(true)
+}
+
+/// Finds what stands for each `Play`. None where the notes of one aren't known, or where there
+/// would be too many new procedures.
+fn with_players(alloc: Global, raw: &RawCode, mut spread: Spread) -> Result<Option<Plan>, Memory> {
+    let Ok(of_list) = vec![in alloc; None; spread.table.count()] else {
+        return Err(Memory);
+    };
+    let mut players = Players {
+        of_list,
+        players: Vec::new(alloc),
+        played: Vec::new(alloc),
+    };
+    for (proc, instrs) in raw.procs.items().iter().enumerate() {
+        if !find_players(alloc, &mut spread, &mut players, proc, instrs.items())?
+            || players.players.len() > PLAYER_LIMIT
+        {
+            return Ok(None);
+        }
+    }
+    Ok(Some(Plan {
+        lists: spread.table.into_lists(),
+        players: players.players,
+        played: players.played,
+        places: spread.places,
+    }))
+}
+
+/// What is known of the notes at each place. None where those that a `Play` would run aren't known.
+///
+/// It goes over the code until there is no news, at most 1,000 times. `Memory` only where memory
+/// was refused.
+pub(crate) fn find(alloc: Global, raw: &RawCode) -> Result<Option<Plan>, Memory> {
+    let mut spread = Spread::new(alloc, raw)?;
+    spread.begin(raw);
+    spread.spread(alloc, raw)?;
+    with_players(alloc, raw, spread)
+}

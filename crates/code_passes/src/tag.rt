@@ -27,4 +27,7 @@ pub struct Tag {
     pub event: EventTag,
     /// Whether it stands for others as well, which are equal to it.
     pub shared: bool,
+    /// Whether it is the play of that procedure alone: it calls the actions that were noted on the
+    /// way to it.
+    pub plays: bool,
 }

@@ -1,39 +1,33 @@
 //! The tags of procedures from pass to pass.
-ghost use Rattle.std.specs.Prelude.{◌≡◌, ◌<◌, ◌≤◌, ℕ, IfOk, length, slice_index, Some};
-ghost use Rattle.std.specs.List.{All};
-ghost use Rattle.active_config.specs.Tree.{state_count};
-ghost use Rattle.actions.specs.declared.event.Event.TheVariants.{Named};
-ghost use Rattle.code_copies.specs.Found.{plan_of};
-ghost use Rattle.code_copies.specs.Made.{PlanIsRight};
-ghost use Rattle.code_language.specs.Code as form;
+ghost use Rattle.std.specs.Prelude.{◌≡◌, ◌<◌, ℕ, EachIndex, IfOk, List, false, length, slice_index};
+ghost use Rattle.std.specs.Prelude.{◌++◌, map, slice_index_or};
+ghost use Rattle.code_copies.specs.Found.{event_fact_of, facts_of, plan_of, set_of};
+ghost use Rattle.code_copies.specs.Made.{PlanIsRight, keys_of};
 ghost use Rattle.code_language.specs.Code.{code_of};
-ghost use Rattle.code_language.specs.declared.limits.TheConstants.{PROC_LIMIT};
-ghost use Rattle.code_passes.specs.declared.tag.EventTag.TheVariants as event_tags;
-ghost use Rattle.code_passes.specs.Passed.{IsFaster};
-ghost use Rattle.code_passes.specs.Tags.{IsTag};
+ghost use Rattle.code_passes.specs.Tags as spec;
 
 use crate::tag::{EventTag, Tag};
-use actions::Event;
 use code_copies::{EventFact, Key, Plan};
-use code_language::{Code, RawCode};
+use code_language::Code;
 use flow_base::Memory;
 use std::alloc::Global;
 
 /// The tag of a procedure that is as it was given.
 fn own_tag(proc: u32) -> Tag
-    ensures { (k : form.Code) → proc < length k.procedures.procs → IsTag k result }
+    ensures { result ≡ spec.own_tag proc }
 {
     Tag {
         proc,
         home: None,
         event: EventTag::Any,
         shared: false,
+        plays: false,
     }
 }
 
 /// The tags of code as it was given.
 pub(crate) fn own_tags(alloc: Global, code: &Code) -> Result<Vec<Tag>, Memory>
-    ensures { IfOk result (λ tags. IsFaster (code_of code.now) (code_of code.now) tags.items) }
+    ensures { IfOk result (λ tags. tags.items ≡ spec.own_tags (code_of code.now)) }
 {
     let count = code.raw().procs.items().len() as u32;
     let mut tags = Vec::new(alloc);
@@ -48,9 +42,7 @@ pub(crate) fn own_tags(alloc: Global, code: &Code) -> Result<Vec<Tag>, Memory>
 /// The tags of procedures that had these numbers.
 pub(crate) fn tags_at(alloc: Global, tags: &[Tag], origins: &[u32]) -> Result<Vec<Tag>, Memory>
     requires { (i : ℕ) → i < length origins.now → slice_index origins.now i < length tags.now }
-    ensures size { IfOk result (λ found. length found.items ≡ length origins.now) }
-    ensures each { (k : form.Code) → All (IsTag k) tags.now
-        → IfOk result (λ found. All (IsTag k) found.items) }
+    ensures { IfOk result (λ found. spec.AreTagsAt origins.now tags.now found.items) }
 {
     let mut found = Vec::new(alloc);
     for origin in origins {
@@ -61,93 +53,138 @@ pub(crate) fn tags_at(alloc: Global, tags: &[Tag], origins: &[u32]) -> Result<Ve
     Ok(found)
 }
 
-/// Whether some procedure has another one that stands for it, by the number of that one.
-fn shared_flags(alloc: Global, numbers: &[u32]) -> Result<Vec<bool>, Memory> {
-    let mut flags = Vec::new(alloc);
-    for _ in numbers {
-        let Ok(()) = flags.push(false) else {
-            return Err(Memory);
-        };
+/// Notes that a procedure has this number, where it isn't that of the procedure itself.
+fn mark_other(flags: &mut [bool], proc: usize, number: usize)
+    ensures size { length flags.new ≡ length flags.old }
+    ensures each { EachIndex flags.new (λ p. slice_index_or flags.new p false
+        ≡ spec.or_other (slice_index_or flags.old p false) p proc number) }
+{
+    if number == proc {
+        return;
     }
+    if number < flags.len() {
+        flags[number] = true;
+    }
+}
+
+/// Whether some procedure has another one that stands for it, by the number of that one.
+fn shared_flags(alloc: Global, numbers: &[u32]) -> Result<Vec<bool>, Memory>
+    ensures size { IfOk result (λ flags. length flags.items ≡ length numbers.now) }
+    ensures each { IfOk result (λ flags. EachIndex flags.items
+        (λ p. slice_index_or flags.items p false ≡ spec.has_other p 0 numbers.now)) }
+{
+    let Ok(mut flags) = vec![in alloc; false; numbers.len()] else {
+        return Err(Memory);
+    };
     for (proc, number) in numbers.iter().enumerate() {
-        let number = *number as usize;
-        if number != proc && number < flags.len() {
-            flags[number] = true;
-        }
+        mark_other(&mut flags, proc, *number as usize);
     }
     Ok(flags)
 }
 
-/// The tags, where procedures stand for others by these numbers.
-pub(crate) fn shared_tags(alloc: Global, tags: &[Tag], numbers: &[u32]) -> Result<Vec<Tag>, Memory>
-    ensures size { IfOk result (λ shared. length shared.items ≡ length tags.now) }
-    ensures each { (k : form.Code) → All (IsTag k) tags.now
-        → IfOk result (λ shared. All (IsTag k) shared.items) }
-{
-    let flags = shared_flags(alloc, numbers)?;
-    let mut shared = Vec::new(alloc);
-    for proc in 0..tags.len() {
-        let is_shared = flags.get(proc).copied().unwrap_or(false);
-        let Ok(()) = shared.push(with_shared(tags[proc], is_shared)) else {
-            return Err(Memory);
-        };
-    }
-    Ok(shared)
-}
-
 /// The tag, where it is one of others as well or not.
 fn with_shared(tag: Tag, is_shared: bool) -> Tag
-    ensures { (k : form.Code) → IsTag k tag → IsTag k result }
+    ensures { result ≡ spec.with_shared is_shared tag }
 {
     Tag {
         proc: tag.proc,
         home: tag.home,
         event: tag.event,
         shared: tag.shared || is_shared,
+        plays: tag.plays,
     }
 }
 
-/// The home of a copy, where it is a state.
-fn home_tag(raw: &RawCode, home: Option<u32>) -> Option<u32>
-    ensures { (s : ℕ) → result ≡ Some s → s < state_count (code_of raw.now).tree }
+/// The tags, where these procedures stand for others.
+fn shared_by(alloc: Global, tags: &[Tag], flags: &[bool]) -> Result<Vec<Tag>, Memory>
+    requires { length flags.now ≡ length tags.now }
+    ensures { (numbers : List ℕ)
+        → EachIndex flags.now (λ p. slice_index_or flags.now p false ≡ spec.has_other p 0 numbers)
+        → IfOk result (λ shared. shared.items ≡ spec.shared_from numbers 0 tags.now) }
 {
-    match home {
-        Some(state) if (state as usize) < raw.states.items().len() => Some(state),
-        _ => None,
+    let mut shared = Vec::new(alloc);
+    for proc in 0..tags.len() {
+        let Ok(()) = shared.push(with_shared(tags[proc], flags[proc])) else {
+            return Err(Memory);
+        };
+    }
+    Ok(shared)
+}
+
+/// The tags, where procedures stand for others by these numbers.
+pub(crate) fn shared_tags(alloc: Global, tags: &[Tag], numbers: &[u32]) -> Result<Vec<Tag>, Memory>
+    requires { length numbers.now ≡ length tags.now }
+    ensures { IfOk result (λ shared. shared.items ≡ spec.shared_from numbers.now 0 tags.now) }
+{
+    let flags = shared_flags(alloc, numbers)?;
+    shared_by(alloc, tags, &flags)
+}
+
+/// The tag of the play of a procedure with this tag.
+fn with_plays(tag: Tag) -> Tag
+    ensures { result ≡ spec.with_plays tag }
+{
+    Tag {
+        proc: tag.proc,
+        home: tag.home,
+        event: tag.event,
+        shared: tag.shared,
+        plays: true,
+    }
+}
+
+/// The tags of the plays of procedures with the tags in front, and then the other tags.
+pub(crate) fn after_plays(alloc: Global, front: &[Tag], tags: &[Tag]) -> Result<Vec<Tag>, Memory>
+    ensures { IfOk result (λ all. all.items ≡ map spec.with_plays front.now ++ tags.now) }
+{
+    let mut all = Vec::new(alloc);
+    for tag in front {
+        let Ok(()) = all.push(with_plays(*tag)) else {
+            return Err(Memory);
+        };
+    }
+    let Ok(()) = all.extend_from_slice(tags) else {
+        return Err(Memory);
+    };
+    Ok(all)
+}
+
+/// The events of a set. A set that isn't there has none.
+fn events_of(sets: &[Vec<u32>], number: u32) -> &[u32]
+    ensures { result.now ≡ set_of sets.now number }
+{
+    match sets.get(number as usize) {
+        Some(set) => set,
+        None => &[],
     }
 }
 
 /// The events of a copy.
-fn event_tag(raw: &RawCode, sets: &[Vec<u32>], event: EventFact) -> EventTag
-    ensures { (e : ℕ) → result ≡ event_tags.Is (Named e)
-        → e < length (code_of raw.now).names.events }
+fn event_tag(sets: &[Vec<u32>], event: EventFact) -> EventTag
+    ensures { result ≡ spec.event_tag (event_fact_of sets.now event) }
 {
     match event {
-        EventFact::Is(Event::Named(number)) => {
-            if (number as usize) < raw.events.items().len() {
-                EventTag::Is(Event::Named(number))
+        EventFact::Is(event) => EventTag::Is(event),
+        EventFact::NoneOf(set) => {
+            if events_of(sets, set).is_empty() {
+                EventTag::Any
             } else {
                 EventTag::Other
             }
         }
-        EventFact::Is(event) => EventTag::Is(event),
-        EventFact::NoneOf(set) => match sets.get(set as usize) {
-            Some(events) if !events.is_empty() => EventTag::Other,
-            _ => EventTag::Any,
-        },
     }
 }
 
 /// The tag of a copy of a procedure that has a tag.
-fn copy_tag(raw: &RawCode, sets: &[Vec<u32>], tag: Tag, key: Key) -> Tag
-    ensures { (k : form.Code) → k.tree ≡ (code_of raw.now).tree → k.names ≡ (code_of raw.now).names
-        → IsTag k tag → IsTag k result }
+fn copy_tag(sets: &[Vec<u32>], tag: Tag, key: Key) -> Tag
+    ensures { result ≡ spec.copy_tag (facts_of sets.now key.facts) tag }
 {
     Tag {
         proc: tag.proc,
-        home: home_tag(raw, key.facts.home),
-        event: event_tag(raw, sets, key.facts.event),
+        home: key.facts.home,
+        event: event_tag(sets, key.facts.event),
         shared: tag.shared,
+        plays: tag.plays,
     }
 }
 
@@ -160,16 +197,13 @@ pub(crate) fn copy_tags(
 ) -> Result<Vec<Tag>, Memory>
     requires right { PlanIsRight (plan_of plan.now) (code_of code.now) }
     requires size { length tags.now ≡ length (code_of code.now).procedures.procs }
-    ensures size { IfOk result (λ made. length made.items ≡ length (plan_of plan.now).copies) }
-    ensures each { (k : form.Code) → (code_of code.now).tree ≡ k.tree
-        → (code_of code.now).names ≡ k.names → All (IsTag k) tags.now
-        → IfOk result (λ made. All (IsTag k) made.items) }
+    ensures { IfOk result (λ made. spec.AreCopyTags (keys_of (plan_of plan.now).copies) tags.now
+        made.items) }
 {
-    let raw = code.raw();
     let mut made = Vec::new(alloc);
     for copy in &plan.copies {
         let tag = tags[copy.key.proc as usize];
-        let Ok(()) = made.push(copy_tag(raw, &plan.sets, tag, copy.key)) else {
+        let Ok(()) = made.push(copy_tag(&plan.sets, tag, copy.key)) else {
             return Err(Memory);
         };
     }

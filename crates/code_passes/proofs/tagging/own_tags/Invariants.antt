@@ -1,9 +1,8 @@
-use Rattle.std.proofs.Common.{◌≡◌, length}
-use Rattle.std.specs.List.{All}
-use Rattle.code_language.specs.Code.{code_of}
-use Rattle.code_passes.specs.Tags.{IsTag}
+use Rattle.std.proofs.Common.{◌≡◌, map}
+use Rattle.code_merging.specs.Merged.{numbers_from}
+use Rattle.code_passes.specs.Tags.{own_tag}
 use Rattle.code_passes.proofs.tagging.own_tags.Given as goal
 
--- there is one for each so far, and each is one of the code
+-- those so far are there
 abbrev pub invariant-loop-proc : goal.invariant-loop-proc
-invariant-loop-proc l = (length l.tags.items ≡ l.proc) × All (IsTag (code_of l.code)) l.tags.items
+invariant-loop-proc l = l.tags.items ≡ map own_tag (numbers_from 0 l.proc)

@@ -1,18 +1,14 @@
-use Rattle.std.proofs.Common.{[], ◌∷◌, ap, sym, subst, length, length-append, arith}
-use Rattle.std.specs.List.{All}
-use Rattle.std.proofs.lemmas.List.Elements.{All-push, All-get_or}
-use Rattle.code_passes.specs.Tags.{IsTag}
+use Rattle.std.proofs.Common.{◌≡◌, ◌<◌, ℕ, List, ap, ◌∙◌, sym, subst, false, length, get_or}
+use Rattle.code_passes.specs.Tags.{has_other}
 use Rattle.code_passes.proofs.tagging.shared_tags.Goals as goal
 
--- one more
-pub loop-proc-preserved : goal.loop-proc-preserved
-loop-proc-preserved c =
-    let items = c.in-Ok.ensures.items in
-    let size = c.loop-proc.invariant.0 in (
-      omega (arith, ap length items, length-append c.loop-proc.shared.items (c.with_shared.result ∷ []), size),
-      λ k all.
-          subst (All (IsTag k)) (sym items)
-          (All-push (IsTag k) c.loop-proc.shared.items c.with_shared.result (c.loop-proc.invariant.1 k all)
-          (c.with_shared.ensures k
-          (All-get_or (IsTag k) c.args.tags.now c.loop-proc.proc _ c.loop-proc-test.true all))),
-    )
+-- there is a flag for each tag
+pub shared_by-requires : goal.shared_by-requires
+shared_by-requires c = ap length c.deref.ensures.value ∙ c.in_ok-flags.ensures.size ∙ c.requires
+
+-- they tell of the numbers
+pub returns : goal.returns
+returns c =
+    c.shared_by.ensures c.args.numbers.now
+    (subst (λ l. (p : ℕ) → p < length l → get_or l p false ≡ has_other p 0 c.args.numbers.now)
+    (sym c.deref.ensures.value) c.in_ok-flags.ensures.each)

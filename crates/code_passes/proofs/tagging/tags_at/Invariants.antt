@@ -1,11 +1,6 @@
-use Rattle.std.proofs.Common.{◌≡◌, length}
-use Rattle.std.specs.List.{All}
-use Rattle.code_language.specs.Code.{Code}
-use Rattle.code_passes.specs.Tags.{IsTag}
+use Rattle.std.proofs.Common.{◌≡◌, map, take, Some, slice_get}
 use Rattle.code_passes.proofs.tagging.tags_at.Given as goal
 
--- there is one for each so far, and each is one of the tags
+-- those so far are found
 abbrev pub invariant-loop-origin : goal.invariant-loop-origin
-invariant-loop-origin l =
-    (length l.found.items ≡ l.origin-index)
-    × ((k : Code) → All (IsTag k) l.tags → All (IsTag k) l.found.items)
+invariant-loop-origin l = map Some l.found.items ≡ map (slice_get l.tags) (take l.origin-index l.origins)

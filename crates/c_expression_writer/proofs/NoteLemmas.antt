@@ -1,5 +1,7 @@
--- The numbers of the flags of noted procedures.
-use Rattle.std.proofs.Common.{◌≡◌, ℕ, zero, suc, ◌+◌, ◌<◌, ◌≤◌, Bool, true, false, cond, List, [], ◌∷◌, ◌++◌, length, get_or, take, append-nil, refl, ap, sym, ◌∙◌, arith}
+-- The numbers of the flags of noted procedures, and how many notes there is room for.
+use Rattle.std.proofs.Common.{◌≡◌, ℕ, zero, suc, ◌+◌, ◌*◌, ◌<◌, ◌≤◌, ◌==◌, Bool, true, false, cond, List, [], ◌∷◌}
+use Rattle.std.proofs.Common.{◌++◌, length, get_or, take, append-nil, refl, ap, sym, ◌∙◌, arith}
+use Rattle.std.proofs.lemmas.Bool.Decides.{nat_tests}
 use Rattle.std.proofs.lemmas.List.{take_all, length-map}
 use Rattle.std.specs.Prelude.{filter}
 use Rattle.std.specs.List.{range_with_len}
@@ -8,6 +10,7 @@ use Rattle.flow_base.specs.declared.list.List.{List as Kept}
 use Rattle.active_config.proofs.RangeLemmas.{filter-range_more}
 use Rattle.code_language.specs.Code.{instrs_of}
 use Rattle.code_language.specs.declared.instr.Instr.{Instr}
+use Rattle.c_functions.specs.Files.{note_room}
 use Rattle.c_functions.specs.Notes.{is_noted, noted_in}
 use Rattle.c_expression_writer.specs.Parts.{procs_seen}
 
@@ -69,3 +72,18 @@ numbers_left flags i old new is so_far e =
     e ∙ so_far ∙ sym (append-nil (filter (λ b. get_or flags b false) (range_with_len 0 i)))
     ∙ ap (λ z. filter (λ b. get_or flags b false) (range_with_len 0 i) ++ cond z (i ∷ []) []) (sym is)
     ∙ sym (numbers_more flags i)
+
+zero_test : (n : ℕ) → (n == 0) ≡ true → n ≡ 0
+zero_test n h = grind (arith, nat_tests)
+
+-- where nothing is noted there is one entry
+pub room_of_none : (noted : List ℕ) (height steps : ℕ) → (length noted == 0) ≡ true → 1 ≡ note_room noted height steps
+room_of_none [] height steps none = refl
+room_of_none (q ∷ noted) height steps none =
+    let zero_is : suc (length noted) ≡ 0 = zero_test (suc (length noted)) none in absurd (omega (arith, zero_is))
+
+-- where something is noted there is room for a chain of calls for an event and for each of its steps
+pub room_of_some : (noted : List ℕ) (height steps : ℕ) → (length noted == 0) ≡ false
+    → (steps + 1) * (height + 1) ≡ note_room noted height steps
+room_of_some [] height steps some = absurd cc
+room_of_some (q ∷ noted) height steps some = refl

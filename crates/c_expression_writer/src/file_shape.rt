@@ -1,6 +1,9 @@
 //! What the C of a file is written for.
+ghost use Rattle.std.specs.Prelude.{◌≡◌};
+ghost use Rattle.c_functions.specs.Files as files;
 ghost use Rattle.c_expression_writer.specs.Parts.{AreParts, AreRanks};
 
+use crate::fault_tests::Tests;
 use crate::notes::noted_in;
 use crate::ranks::{Ranks, ranks_of};
 use actions::Names;
@@ -9,8 +12,21 @@ use code_language::Code;
 use flow_base::{Bounds, List, Memory};
 use std::alloc::Global;
 
-/// What the C of a file is written for: the states and the names of code, bounds, how many
-/// procedures there are, which of them are noted, and how many entries `note[]` has.
+/// How many entries `note[]` has where these procedures are noted: enough for a chain of calls of
+/// that height for an event and for each of its steps, and one where none is noted.
+fn note_room(noted: &[u32], height: u32, bounds: Bounds) -> u64
+    ensures { result ≡ files.note_room noted.now height bounds.steps }
+{
+    if noted.is_empty() {
+        1
+    } else {
+        (u64::from(bounds.steps) + 1) * (u64::from(height) + 1)
+    }
+}
+
+/// What the C of a file is written for: the states and the names of code, bounds, which faults are
+/// tested, how many procedures there are, which of them are noted, and how many entries `note[]`
+/// has.
 #[derive(Drop)]
 pub struct FileShape<'a> {
     /// The tree of states.
@@ -19,14 +35,14 @@ pub struct FileShape<'a> {
     pub names: &'a Names,
     /// The bounds of a run.
     pub bounds: Bounds,
+    /// Which faults are tested.
+    pub tests: &'a Tests,
     /// How many procedures there are.
     pub procs: u32,
     /// The procedures that are noted, in ascending order.
     pub noted: List<u32>,
-    /// The height for which `note[]` has room.
-    pub height: u32,
-    /// How many entries `note[]` has: enough for a chain of calls of that height for an event and
-    /// for each of its steps.
+    /// How many entries `note[]` has: enough for a chain of calls of the height of the code for an
+    /// event and for each of its steps, and one where nothing is noted.
     pub notes: u64,
     /// How many ORs there are.
     ors: u32,
@@ -41,35 +57,35 @@ impl<'a> FileShape<'a> {
     ghost use Rattle.actions.specs.Names.{names_of};
     ghost use Rattle.code_language.specs.Code.{code_of};
     ghost use Rattle.c_functions.specs.Files.{shape_of};
-    ghost use Rattle.c_expression_writer.specs.FileShapes.{shape_seen};
+    ghost use Rattle.c_expression_writer.specs.FileShapes.{shape_seen, tests_seen};
 
-    /// The shape of code, with room in `note[]` for a height: its tree and its names are handed over
-    /// beside it. What is proved of runs of the file is so where the code is no higher than that.
+    /// The shape of code with these tests, under these bounds: its tree and its names are handed
+    /// over beside it.
     pub fn make(
         alloc: Global,
         names: &'a Names,
         tree: &'a Shape,
         code: &Code,
-        height: u32,
+        tests: &'a Tests,
         bounds: Bounds,
     ) -> Result<FileShape<'a>, Memory>
         requires names { names_of names.now ≡ (code_of code.now).names }
         requires tree { tree.now ≡ (code_of code.now).tree }
-        ensures shape { IfOk result
-            (λ shape. shape_seen shape ≡ shape_of (code_of code.now) height bounds) }
-        ensures height { IfOk result (λ shape. shape.height ≡ height) }
+        ensures shape { IfOk result (λ shape.
+            shape_seen shape ≡ shape_of (code_of code.now) (tests_seen tests.now) bounds) }
     {
         let procs = code.raw().procs.items();
         let noted = noted_in(alloc, procs)?;
+        let notes = note_room(noted.items(), code.height(), bounds);
         let Ranks { ranks, ors } = ranks_of(alloc, tree)?;
         Ok(FileShape {
             tree,
             names,
             bounds,
+            tests,
             procs: procs.len() as u32,
             noted,
-            height,
-            notes: (u64::from(bounds.steps) + 1) * (u64::from(height) + 1),
+            notes,
             ors,
             ranks,
         })

@@ -1,5 +1,5 @@
 -- Assignments and tests of expressions in a plan, as C.
-use Rattle.std.proofs.Common.{◌≡◌, ℕ, zero, suc, ◌^◌, ◌<◌, ℤ, Bool, true, false, List, [], ◌∷◌}
+use Rattle.std.proofs.Common.{◌≡◌, ℕ, zero, suc, ◌^◌, ◌<◌, ℤ, Bool, true, false, ◌||◌, List, [], ◌∷◌}
 use Rattle.std.proofs.Common.{length, map, Option, Some, None}
 use Rattle.std.proofs.Common.{Result, Ok, Err, IfOk, slice_get, slice_index_or, refl, sym, ap, ◌∙◌, subst, arith}
 use Rattle.std.proofs.Common.{mod-eq_of_lt}
@@ -61,7 +61,10 @@ use Rattle.c_functions.specs.Layout.{on_c}
 use Rattle.c_functions.specs.Plans.{Shape, layout, helper, faulted, fault_datum, fault_field, fault_datum_field}
 use Rattle.c_functions.specs.Plans.{first_free, declared_at, expression_c, assign_c, bad}
 use Rattle.c_functions.specs.Plans.{fault_number, plan_c}
+use Rattle.c_functions.specs.Failing.{divides, is_error}
 use Rattle.c_functions.specs.Files.{Represents}
+use Rattle.c_functions.proofs.Failing.{FailsBy, or-left, value-fails, assigned-fails}
+use Rattle.c_functions.proofs.Noting.{or-right}
 use Rattle.c_functions.proofs.Tests.{unsigned, on-has}
 use Rattle.c_functions.proofs.Structs.{vals-put, fault-told}
 use Rattle.c_functions.proofs.Words.{or-got}
@@ -196,7 +199,7 @@ unfolding mark_count told
 told-count K st = length-map-range_with_len (λ (s : ℕ). c_on K.tree K.numbers s st) 0 (state_count K.tree)
 
 module _ (K : Shape) (int : Width) (fit : IsFit K int) (bodies : ℕ → plan.Block) (call : p.Calls) (turns_left : ℕ)
-    (calls : Calls) (k : ℕ) (c0 u0 : ℕ) (p0 : Bool) (now : Now) (h : ℕ → ℕ) (most : ℕ)
+    (calls : Calls) (k : ℕ) (c0 u0 : ℕ) (f0 p0 : Bool) (now : Now) (h : ℕ → ℕ) (most : ℕ)
     (has : HasCalls K h most call calls) where
   abbrev X : plan.Block → Memory → Inner → Out
   X a m l = exec (program_c K bodies) call turns_left now a m l
@@ -208,10 +211,10 @@ module _ (K : Shape) (int : Width) (fit : IsFit K int) (bodies : ℕ → plan.Bl
   At c m l s loc = IsAt K c0 u0 p0 now c m l s loc
 
   abbrev Goes : ℕ → (Memory → Inner → Store → Locals → Type 0) → plan.Block → Type 0
-  Goes c R a = Follows K c0 u0 (At c) R (X a) (Y (plan_c K a))
+  Goes c R a = Follows K c0 u0 f0 (At c) R (X a) (Y (plan_c K a))
 
   abbrev EndsIn : (Memory → Inner → Store → Locals → Type 0) → Out → Outcome → Type 0
-  EndsIn R o o' = Ends K c0 u0 R o o'
+  EndsIn R o o' = Ends K c0 u0 f0 R o o'
 
   abbrev tests : ℕ → CExpr
   tests = on_c K.tree (layout K) K.numbers
@@ -224,7 +227,7 @@ module _ (K : Shape) (int : Width) (fit : IsFit K int) (bodies : ℕ → plan.Bl
       subst (λ (b : Bool). Has int s l (on_c K.tree (layout K) K.numbers q) (one_if b))
       (sym (told-on K m.states q within))
       (on-has int s l K.tree K.numbers (layout K) m.states q fit.most
-      (is_layout K int fit bodies call turns_left calls k c0 u0 p0 now) shows.states within)
+      (is_layout K int fit bodies call turns_left calls k c0 u0 f0 p0 now) shows.states within)
 
   scope-same : (m : Memory) → IsFine K m → scope_at m.vals (told K.tree K.numbers m.states) ≡ scope_of K.names
   scope-same m fine =
@@ -235,9 +238,10 @@ module _ (K : Shape) (int : Width) (fit : IsFit K int) (bodies : ℕ → plan.Bl
 
   -- an assignment
   pub assign-ends : (R : Memory → Inner → Store → Locals → Type 0) (c v : ℕ) (x : Expr) (rest : plan.Block)
-      → IsTyped K.names v x → Goes c R rest → Goes c R (plan.Store v x rest)
+      → ((is_error (declared_at K.names v).mode || divides x) ≡ true → f0 ≡ true) → IsTyped K.names v x → Goes c R rest
+      → Goes c R (plan.Store v x rest)
   unfolding exec plan_c assigned_in
-  assign-ends R c v x rest typed go m l s loc at =
+  assign-ends R c v x rest fails typed go m l s loc at =
       by (value_of m.vals marks x) refl
       (value_has_sort int (on_c K.tree (layout K) K.numbers) s m.vals marks x first_free loc typed.sort at.fine.sorts
       at.shows.vals (active m s at.shows) sorted)
@@ -285,12 +289,26 @@ module _ (K : Shape) (int : Width) (fit : IsFit K int) (bodies : ℕ → plan.Bl
             active = active m s at.shows;
             int_is = omega (arith, fit.most);
             divides = has.divides s;
-            returning = returning K int fit bodies call turns_left calls k c0 u0 p0 now s _ _ at.shows.fault_is
+            returning = returning K int fit bodies call turns_left calls k c0 u0 f0 p0 now s _ _ at.shows.fault_is
                 at.shows.datum_is;
             there = there;
             sorted = sorted;
             takes = subst (λ (so : Sort). assignment_fault so typed.sort ≡ None) (sym sort_is) typed.takes;
           }))))
+
+      -- the datum can take the value
+      can_take : (value : Value) → HasSort typed.sort value → CanTake (datum m.vals v).sort value
+      can_take value sort =
+          subst (λ (so : Sort). CanTake so value) (sym sort_is)
+          (CanTake-assignable typed.decl.sort typed.sort value typed.takes sort)
+
+      -- and is refused only by its mode
+      errs : (value : Value) → HasSort typed.sort value → (y : Fault) → assigned m.vals v value ≡ Err y
+          → is_error (declared_at K.names v).mode ≡ true
+      errs value sort y e =
+          subst (λ (d : Declaration). is_error d.mode ≡ true) declared
+          (subst (λ (r : Result (List Datum) Fault). FailsBy (is_error (datum m.vals v).mode) r) e
+          (assigned-fails m.vals v value (can_take value sort)))
 
       -- other data
       data_by : (value : Value) → HasSort typed.sort value → (r : Result (List Datum) Fault)
@@ -299,17 +317,18 @@ module _ (K : Shape) (int : Width) (fit : IsFit K int) (bodies : ℕ → plan.Bl
           (Y (assign_c K v x (plan_c K rest)) s loc) r
           → EndsIn R (p.and_stored (with_vals m (with_data r (world_of K.tree K.numbers m))) m (λ z. X rest z l))
           (Y (assign_c K v x (plan_c K rest)) s loc)
-      data_by value sort (Err y) e end = (
+      data_by value sort (Err y) e end = λ t. (
         told_c K y s,
         end,
         fault-shows K m s y at.shows at.fine.long
             (assigned-small m.vals v value y (omega (arith, within, fit.vars)) e),
+        fails (or-left (is_error (declared_at K.names v).mode) (divides x) (errs value sort y e)),
       )
       data_by value sort (Ok vals) e end =
           let of = of_data-assigned m.vals vals v value e ∙ at.fine.declared in
           subst (λ (o : Outcome). EndsIn R (X rest (record m { vals = vals }) l) o) (sym end.2)
           (go (record m { vals = vals }) l (with_field s v end.0) end.1
-          (at-locals K int fit bodies call turns_left calls k c0 u0 p0 now c (record m { vals = vals }) l
+          (at-locals K int fit bodies call turns_left calls k c0 u0 f0 p0 now c (record m { vals = vals }) l
           (with_field s v end.0) loc end.1 (agree-less 6 7 loc end.1 (omega arith) end.3)
           (at-memory K c0 u0 p0 now c c m (record m { vals = vals }) l s (with_field s v end.0) loc at
           (vals-put K None m s at.shows at.fine.long vals v end.0 within end.4)
@@ -317,9 +336,7 @@ module _ (K : Shape) (int : Width) (fit : IsFit K int) (bodies : ℕ → plan.Bl
             chosen = at.fine.chosen;
             flags = at.fine.flags;
             kept = at.fine.kept;
-            sorts = sorts-assigned m.vals vals v value e at.fine.sorts
-                (subst (λ (so : Sort). CanTake so value) (sym sort_is)
-                (CanTake-assignable typed.decl.sort typed.sort value typed.takes sort));
+            sorts = sorts-assigned m.vals vals v value e at.fine.sorts (can_take value sort);
             declared = of;
             long = long-of vals K.names of;
             outputs = at.fine.outputs;
@@ -333,16 +350,22 @@ module _ (K : Shape) (int : Width) (fit : IsFit K int) (bodies : ℕ → plan.Bl
           (Y (assign_c K v x (plan_c K rest)) s loc) (assigned_by m.vals v r)
           → EndsIn R (p.and_stored (with_vals m (assigned_value v r (world_of K.tree K.numbers m))) m (λ z. X rest z l))
           (Y (assign_c K v x (plan_c K rest)) s loc)
-      by (Err y) is sort gives end =
-          (told_c K y s, end, fault-shows K m s y at.shows at.fine.long (fault-small K.names y fit.vars gives))
+      by (Err y) is sort gives end = λ t. (
+        told_c K y s,
+        end,
+        fault-shows K m s y at.shows at.fine.long (fault-small K.names y fit.vars gives),
+        fails (or-right (is_error (declared_at K.names v).mode) (divides x)
+            (subst (λ (r : Valued). FailsBy (divides x) r) is (value-fails m.vals marks x))),
+      )
       by (Ok value) is sort gives end = data_by value sort (assigned m.vals v value) refl end
 
   -- a test of an expression
   pub arithmetic-ends : (R : Memory → Inner → Store → Locals → Type 0) (e : Expr) (x y rest : plan.Block)
-      → sort_of (scope_of K.names) e ≡ Ok kinds.Flag → Goes c0 (At c0) x → Goes c0 (At c0) y → Goes c0 R rest
+      → (divides e ≡ true → f0 ≡ true) → sort_of (scope_of K.names) e ≡ Ok kinds.Flag → Goes c0 (At c0) x
+      → Goes c0 (At c0) y → Goes c0 R rest
       → Goes c0 R (plan.If (plan.Arithmetic e) x y rest)
   unfolding exec plan_c truth_of
-  arithmetic-ends R e x y rest flag one other go m l s loc at =
+  arithmetic-ends R e x y rest fails flag one other go m l s loc at =
       by (value_of m.vals marks e) refl
       (value_has_sort int (on_c K.tree (layout K) K.numbers) s m.vals marks e first_free loc kinds.Flag at.fine.sorts
       at.shows.vals (active m s at.shows) sorted)
@@ -360,29 +383,30 @@ module _ (K : Shape) (int : Width) (fit : IsFit K int) (bodies : ℕ → plan.Bl
 
       returns : Returning int calls k (faulted K) (told_c K) (unsigned W32 bad) s
       returns =
-          returning K int fit bodies call turns_left calls k c0 u0 p0 now s _ _ at.shows.fault_is at.shows.datum_is
+          returning K int fit bodies call turns_left calls k c0 u0 f0 p0 now s _ _ at.shows.fault_is at.shows.datum_is
 
       by : (r : Valued) → value_of m.vals (told K.tree K.numbers m.states) e ≡ r → IfOk r (HasSort kinds.Flag)
           → Gives K.names Any r → EndsAs int s 7 (expression_c K e) loc r
           → EndsIn R (p.and_on (p.branch (truth r) m (X x m l) (X y m l)) (X rest))
           (Y (written (helper K) (faulted K) (expression_c K e).code
           (If (expression_c K e).expr (plan_c K x) (plan_c K y) (plan_c K rest))) s loc)
-      by (Err f) is sort gives end = (
+      by (Err f) is sort gives end = λ t. (
         told_c K f s,
         written-faults int calls k (helper K) (faulted K) (told_c K) (unsigned W32 bad) s
             (has.divides s) returns (expression_c K e).code
             (If (expression_c K e).expr (plan_c K x) (plan_c K y) (plan_c K rest)) loc f end,
         fault-shows K m s f at.shows at.fine.long (fault-small K.names f fit.vars gives),
+        fails (subst (λ (r : Valued). FailsBy (divides e) r) is (value-fails m.vals marks e)),
       )
       by (Ok (values.Number n)) is sort gives end = absurd sort
       by (Ok (values.Flag b)) is sort gives end =
           let after = end.0 in
-          let at' = at-locals K int fit bodies call turns_left calls k c0 u0 p0 now c0 m l s loc after
+          let at' = at-locals K int fit bodies call turns_left calls k c0 u0 f0 p0 now c0 m l s loc after
           (agree-less 6 7 loc after (omega arith) end.2) at in
           subst (λ (o : Outcome). EndsIn R (p.and_on (p.branch (Ok b) m (X x m l) (X y m l)) (X rest)) o)
           (sym (written-goes int calls k (helper K) (faulted K) (told_c K) (unsigned W32 bad) s (has.divides s) returns
           (expression_c K e).code (If (expression_c K e).expr (plan_c K x) (plan_c K y)
           (plan_c K rest)) loc after end.1))
-          (branch-ends K int fit bodies call turns_left calls k c0 u0 p0 now R (expression_c K e).expr b x y rest m l s
-          after (end.3 after (agree-itself (expression_c K e).next after)) (λ t. one m l s after at')
+          (branch-ends K int fit bodies call turns_left calls k c0 u0 f0 p0 now R (expression_c K e).expr b x y rest m l
+          s after (end.3 after (agree-itself (expression_c K e).next after)) (λ t. one m l s after at')
           (λ t. other m l s after at') go)

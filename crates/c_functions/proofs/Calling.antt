@@ -65,7 +65,7 @@ turn-on false x m call (Some q) now v l go = at (call q now (length v.notes) l.h
     at Wrong = refl
 
 module _ (K : Shape) (int : Width) (fit : IsFit K int) (bodies : ℕ → plan.Block) (call : p.Calls) (turns_left : ℕ)
-    (calls : Calls) (k : ℕ) (c0 u0 : ℕ) (p0 : Bool) (now : Now) (h : ℕ → ℕ) (most : ℕ) (low : (q : ℕ) → h q ≤ most)
+    (calls : Calls) (k : ℕ) (c0 u0 : ℕ) (f0 p0 : Bool) (now : Now) (h : ℕ → ℕ) (most : ℕ) (low : (q : ℕ) → h q ≤ most)
     (room : HasRoomFor K most) (has : HasCalls K h most call calls)
     (event_small : event_number K.names now.event < 2 ^ 17) (depth_small : now.depth ≤ K.bounds.depth) where
   abbrev X : plan.Block → Memory → Inner → Out
@@ -78,24 +78,26 @@ module _ (K : Shape) (int : Width) (fit : IsFit K int) (bodies : ℕ → plan.Bl
   At c m l s loc = IsAt K c0 u0 p0 now c m l s loc
 
   abbrev Goes : ℕ → (Memory → Inner → Store → Locals → Type 0) → plan.Block → Type 0
-  Goes c R a = Follows K c0 u0 (At c) R (X a) (Y (plan_c K a))
+  Goes c R a = Follows K c0 u0 f0 (At c) R (X a) (Y (plan_c K a))
 
   abbrev EndsIn : (Memory → Inner → Store → Locals → Type 0) → Out → Outcome → Type 0
-  EndsIn R o o' = Ends K c0 u0 R o o'
+  EndsIn R o o' = Ends K c0 u0 f0 R o o'
 
   -- a call
-  pub call-ends : (R : Memory → Inner → Store → Locals → Type 0) (c q : ℕ) (rest : plan.Block) → q < K.procs → c0 ≤ c
-      → Goes c R rest → (m : Memory) (l : Inner) (s : Store) (loc : Locals) → At c m l s loc
+  pub call-ends : (R : Memory → Inner → Store → Locals → Type 0) (c q : ℕ) (rest : plan.Block)
+      → (K.tests.after q ≡ true → f0 ≡ true) → q < K.procs → c0 ≤ c → Goes c R rest → (m : Memory) (l : Inner)
+      (s : Store) (loc : Locals) → At c m l s loc
       → c + suc (h q) ≤ suc m.used * suc most
       → EndsIn R (X (plan.Call q rest) m l) (Y (plan_c K (plan.Call q rest)) s loc)
   unfolding exec plan_c outcome
-  call-ends R c q rest lt above go m l s loc at space =
+  call-ends R c q rest fails lt above go m l s loc at space =
       let e = event_number K.names now.event in
       subst (λ (o : Outcome). EndsIn R (X (plan.Call q rest) m l) o)
       (sym (values-given int fit.most s loc
       (event_local ∷ depth_local ∷ base_local ∷ home_local ∷ result_local ∷ [])
       (five e now.depth l.base l.home l.result)
-      (λ xs. called (calls q xs s) word 4 loc (λ v z. Y (unless_bad (plan_c K rest)) v z)) (
+      (λ xs. called (calls q xs s) word 4 loc (λ v z. Y (cond (K.tests.after q) (unless_bad (plan_c K rest))
+      (plan_c K rest)) v z)) (
         local-means int fit.most s loc 0 e at.event,
         (
           local-means int fit.most s loc 1 now.depth at.depth,
@@ -108,10 +110,11 @@ module _ (K : Shape) (int : Width) (fit : IsFit K int) (bodies : ℕ → plan.Bl
           ),
         ),
       )))
-      (called-ends K int fit bodies call turns_left calls k c0 u0 p0 now R c
+      (called-ends K int fit bodies call turns_left calls k c0 u0 f0 p0 now R (K.tests.after q) (K.tests.after q)
+      (λ e. e) fails c
       (call q now l.base l.home l.result m) (calls q (five e now.depth l.base l.home l.result) s) m l s loc (X rest)
       (plan_c K rest) at
-      (subst (λ (n : ℕ). EndsCall K n m.used (call q now l.base l.home l.result m)
+      (subst (λ (n : ℕ). EndsCall K n m.used (K.tests.after q) (call q now l.base l.home l.result m)
       (calls q (five e now.depth l.base l.home l.result) s)) at.notes
       (has.procedures q l.base l.home l.result now m s (record {
         proc = lt;
@@ -127,29 +130,31 @@ module _ (K : Shape) (int : Width) (fit : IsFit K int) (bodies : ℕ → plan.Bl
 
   -- a call with a note or none
   pub noted-ends : (R : Memory → Inner → Store → Locals → Type 0) (q : ℕ) (tag : Option ℕ) (rest : plan.Block)
-      → q < K.procs → ((b : ℕ) → tag ≡ Some b → IsIn K.noted b) → Goes c0 R rest
+      → (K.tests.after q ≡ true → f0 ≡ true) → q < K.procs → ((b : ℕ) → tag ≡ Some b → IsIn K.noted b) → Goes c0 R rest
       → (m : Memory) (l : Inner) (s : Store) (loc : Locals) → At c0 m l s loc
       → c0 + suc (suc (h q)) ≤ suc m.used * suc most
       → EndsIn R (X (noted_call q tag rest) m l) (Y (plan_c K (noted_call q tag rest)) s loc)
-  noted-ends R q None rest lt noted go m l s loc at space =
-      call-ends R c0 q rest lt (omega arith) go m l s loc at (omega (arith, space))
-  noted-ends R q (Some b) rest lt noted go m l s loc at space =
+  noted-ends R q None rest fails lt noted go m l s loc at space =
+      call-ends R c0 q rest fails lt (omega arith) go m l s loc at (omega (arith, space))
+  noted-ends R q (Some b) rest fails lt noted go m l s loc at space =
       let used = at.fine.used in
       let more = more-room m.used K.bounds.steps most used in
-      push-ends K int fit bodies call turns_left calls k c0 u0 p0 now R c0 b (plan.Call q (plan.Pop rest))
-      (noted b refl) (omega (arith, space, more, room.enough)) (omega (arith, space, more, room.few)) m l s loc at
-      (λ s' at'. call-ends R (c0 + 1) q (plan.Pop rest) lt (omega arith)
-      (pop-ends K int fit bodies call turns_left calls k c0 u0 p0 now R c0 rest go)
+      let enough = room.enough b (noted b refl) in
+      push-ends K int fit bodies call turns_left calls k c0 u0 f0 p0 now R c0 b (plan.Call q (plan.Pop rest))
+      (noted b refl) (omega (arith, space, more, enough)) (omega (arith, space, more, room.few)) m l s loc at
+      (λ s' at'. call-ends R (c0 + 1) q (plan.Pop rest) fails lt (omega arith)
+      (pop-ends K int fit bodies call turns_left calls k c0 u0 f0 p0 now R c0 rest go)
       (record m { notes = m.notes ++ b ∷ [] }) l s' loc at' (omega (arith, space)))
 
   -- a send
-  pub send-ends : (R : Memory → Inner → Store → Locals → Type 0) (e q : ℕ) (rest : plan.Block) → q < K.procs
+  pub send-ends : (R : Memory → Inner → Store → Locals → Type 0) (e q : ℕ) (rest : plan.Block)
+      → (K.tests.after q ≡ true → f0 ≡ true) → q < K.procs
       → e < length K.names.events → now.depth < K.bounds.depth → Goes c0 R rest
       → (m : Memory) (l : Inner) (s : Store) (loc : Locals) → At c0 m l s loc
       → c0 + suc (h q) ≤ suc m.used * suc most
       → EndsIn R (X (plan.Send e q rest) m l) (Y (plan_c K (plan.Send e q rest)) s loc)
   unfolding exec plan_c outcome
-  send-ends R e q rest lt within deep go m l s loc at space =
+  send-ends R e q rest fails lt within deep go m l s loc at space =
       let n = length m.notes in
       let few : suc now.depth < 2 ^ 16 = omega (arith, deep, fit.depth) in
       let next : now.depth + 1 ≡ suc now.depth = omega arith in
@@ -157,7 +162,8 @@ module _ (K : Shape) (int : Width) (fit : IsFit K int) (bodies : ℕ → plan.Bl
       (sym (values-given int fit.most s loc
       (number e ∷ Calc Plus depth_local (number 1) ∷ Field (noted_field K) ∷ number 0 ∷ result_local ∷ [])
       (five e (suc now.depth) n 0 l.result)
-      (λ xs. called (calls q xs s) word 4 loc (λ v z. Y (unless_bad (plan_c K rest)) v z)) (
+      (λ xs. called (calls q xs s) word 4 loc (λ v z. Y (cond (K.tests.after q) (unless_bad (plan_c K rest))
+      (plan_c K rest)) v z)) (
         number-means int fit.most s loc e (omega (arith, within, fit.events)),
         (
           plus-means int fit.most s loc depth_local (number 1) now.depth 1 (omega (arith, few)) (omega arith)
@@ -172,10 +178,11 @@ module _ (K : Shape) (int : Width) (fit : IsFit K int) (bodies : ℕ → plan.Bl
           ),
         ),
       )))
-      (called-ends K int fit bodies call turns_left calls k c0 u0 p0 now R c0
+      (called-ends K int fit bodies call turns_left calls k c0 u0 f0 p0 now R (K.tests.after q) (K.tests.after q)
+      (λ e. e) fails c0
       (call q (deeper e now) n 0 l.result m) (calls q (five e (suc now.depth) n 0 l.result) s) m l s loc (X rest)
       (plan_c K rest) at
-      (subst (λ (c : ℕ). EndsCall K c m.used (call q (deeper e now) n 0 l.result m)
+      (subst (λ (c : ℕ). EndsCall K c m.used (K.tests.after q) (call q (deeper e now) n 0 l.result m)
       (calls q (five e (suc now.depth) n 0 l.result) s)) at.notes
       (has.procedures q n 0 l.result (deeper e now) m s (record {
         proc = lt;
@@ -200,14 +207,14 @@ module _ (K : Shape) (int : Width) (fit : IsFit K int) (bodies : ℕ → plan.Bl
       → Y (ask_home (bare_function K) rest) s loc
       ≡ Y rest s (with_local loc Truth 6 (one_if (c_bare K.tree K.numbers l.home m.states)))
   asked m l s loc rest at =
-      ask-goes K int fit bodies call turns_left calls k c0 u0 p0 now (bare_function K) l.home
+      ask-goes K int fit bodies call turns_left calls k c0 u0 f0 p0 now (bare_function K) l.home
       (c_bare K.tree K.numbers l.home m.states) rest s loc
       (has.asks_bare m.states s l.home at.shows.states at.home_is) at.home
 
   asked-at : (m : Memory) (l : Inner) (s : Store) (loc : Locals) → At c0 m l s loc
       → Tested m l s (with_local loc Truth 6 (one_if (c_bare K.tree K.numbers l.home m.states)))
   asked-at m l s loc at = (
-    at-locals K int fit bodies call turns_left calls k c0 u0 p0 now c0 m l s loc _
+    at-locals K int fit bodies call turns_left calls k c0 u0 f0 p0 now c0 m l s loc _
         (agree-set 6 6 loc Truth (one_if (c_bare K.tree K.numbers l.home m.states)) (omega arith)) at,
     set-there loc Truth 6 (one_if (c_bare K.tree K.numbers l.home m.states)),
   )
@@ -279,15 +286,15 @@ module _ (K : Shape) (int : Width) (fit : IsFit K int) (bodies : ℕ → plan.Bl
   end-falls s loc = refl
 
   -- one turn
-  turn-ends : p0 ≡ true → c0 + 1 ≤ suc u0 * suc most → (m : Memory) (l : Inner) (s : Store) (loc : Locals)
+  turn-ends : p0 ≡ true → f0 ≡ true → c0 + 1 ≤ suc u0 * suc most → (m : Memory) (l : Inner) (s : Store) (loc : Locals)
       → Tested m l s loc → l.cursor < length m.notes
       → EndsIn Tested (p.pay K.bounds m (λ v. p.turn call (slice_get v.notes l.cursor) now v
       (record l { cursor = suc l.cursor }) Fell)) (Y (turn_c K) s loc)
-  turn-ends sets space m l s loc t lt =
-      pay-ends K int fit bodies call turns_left calls k c0 u0 p0 now Tested c0 m l s loc
+  turn-ends sets failing space m l s loc t lt =
+      pay-ends K int fit bodies call turns_left calls k c0 u0 f0 p0 now Tested c0 m l s loc
       (λ v. p.turn call (slice_get v.notes l.cursor) now v (record l { cursor = suc l.cursor }) Fell)
       (Set word 5 (Calc Plus cursor_local (number 1))
-      (called_c (noted_function K) args (ask_home (bare_function K) End))) t.0 paid
+      (called_c (noted_function K) args (ask_home (bare_function K) End))) (λ e. failing) t.0 paid
     where
       note : CExpr
       note = Element note_row (Calc Less cursor_local (number 1))
@@ -313,7 +320,7 @@ module _ (K : Shape) (int : Width) (fit : IsFit K int) (bodies : ℕ → plan.Bl
       e : ℕ
       e = event_number K.names now.event
 
-      answered : Follows K c0 u0 (At c0) Tested (λ w z. Fell w z) (Y (ask_home (bare_function K) End))
+      answered : Follows K c0 u0 f0 (At c0) Tested (λ w z. Fell w z) (Y (ask_home (bare_function K) End))
       answered w z s loc at =
           let after = with_local loc Truth 6 (one_if (c_bare K.tree K.numbers z.home w.states)) in
           (s, after, asked w z s loc End at ∙ end-falls s after, asked-at w z s loc at)
@@ -356,12 +363,13 @@ module _ (K : Shape) (int : Width) (fit : IsFit K int) (bodies : ℕ → plan.Bl
               ),
             ),
           ))))
-          (called-ends K int fit bodies call turns_left calls k c0 u0 p0 now Tested c0
+          (called-ends K int fit bodies call turns_left calls k c0 u0 f0 p0 now Tested true (K.tests.after there.0)
+          (λ e. refl) (λ e. failing) c0
           (call q now (length m.notes) l.home l.result v)
           (calls (noted_function K) (six e now.depth (length m.notes) l.home l.result q) s') v l' s' after
           (λ w z. Fell w z)
           (ask_home (bare_function K) End) at'
-          (subst (λ (n : ℕ). EndsCall K n (m.used + 1) (call q now (length m.notes) l.home l.result v)
+          (subst (λ (n : ℕ). EndsCall K n (m.used + 1) (K.tests.after q) (call q now (length m.notes) l.home l.result v)
           (calls (noted_function K) (six e now.depth (length m.notes) l.home l.result q) s')) at'.notes
           (has.notes q (length m.notes) l.home l.result now v s' known (record {
             proc = fit.noted q known;
@@ -398,15 +406,15 @@ module _ (K : Shape) (int : Width) (fit : IsFit K int) (bodies : ℕ → plan.Bl
   and_left false b e = absurd cc
 
   -- the turns
-  loop-ends : p0 ≡ true → c0 + 1 ≤ suc u0 * suc most → (j n : ℕ) → j < n → (m : Memory) (l : Inner)
+  loop-ends : p0 ≡ true → f0 ≡ true → c0 + 1 ≤ suc u0 * suc most → (j n : ℕ) → j < n → (m : Memory) (l : Inner)
       (s : Store) (loc : Locals) → Tested m l s loc
       → EndsIn (At c0) (p.turns (program_c K bodies) call j now m l)
       (turns n (λ v z. meaning int v z (Both (Compare IsBelow cursor_local (Field (noted_field K))) tested_local))
       (λ v z. Y (turn_c K) v z) s loc)
   unfolding turns p.turns
-  loop-ends sets space zero n lt m l s loc t = tt
-  loop-ends sets space (suc j) zero lt m l s loc t = absurd (omega (arith, lt))
-  loop-ends sets space (suc j) (suc n) lt m l s loc t =
+  loop-ends sets failing space zero n lt m l s loc t = tt
+  loop-ends sets failing space (suc j) zero lt m l s loc t = absurd (omega (arith, lt))
+  loop-ends sets failing space (suc j) (suc n) lt m l s loc t =
       let c = test-has sets m l s loc t in
       let b = nat_lt l.cursor (length m.notes) && c_bare K.tree K.numbers l.home m.states in
       let test = λ (v : Store) (z : Locals). meaning int v z
@@ -415,7 +423,7 @@ module _ (K : Shape) (int : Width) (fit : IsFit K int) (bodies : ℕ → plan.Bl
       subst (λ (o : Outcome). EndsIn (At c0) (p.turns (program_c K bodies) call (suc j) now m l) o)
       (sym (ap (λ (m : Meaning). with_value m (λ x. cond (is_true x.value) others (Falls s loc))) c.1
       ∙ ap (λ (b : Bool). cond b others (Falls s loc)) (truth-stays b)))
-      (at b refl (λ m l s loc t. loop-ends sets space j n (omega (arith, lt)) m l s loc t))
+      (at b refl (λ m l s loc t. loop-ends sets failing space j n (omega (arith, lt)) m l s loc t))
     where
       at : (b : Bool) → (nat_lt l.cursor (length m.notes) && c_bare K.tree K.numbers l.home m.states) ≡ b
           → ((m : Memory) (l : Inner) (s : Store) (loc : Locals) → Tested m l s loc
@@ -438,21 +446,21 @@ module _ (K : Shape) (int : Width) (fit : IsFit K int) (bodies : ℕ → plan.Bl
           (sym (turn-on (nat_le K.bounds.steps m.used) faults.Steps m call (slice_get m.notes l.cursor) now
           (record m { used = m.used + 1 }) (record l { cursor = suc l.cursor })
           (p.turns (program_c K bodies) call j now)))
-          (ends-on K c0 u0 Tested (At c0)
+          (ends-on K c0 u0 f0 Tested (At c0)
           (p.pay K.bounds m (λ v. p.turn call (slice_get v.notes l.cursor) now v
           (record l { cursor = suc l.cursor }) Fell))
           (Y (turn_c K) s loc) (p.turns (program_c K bodies) call j now)
           (turns n (λ v z. meaning int v z (Both (Compare IsBelow cursor_local (Field
           (noted_field K))) tested_local))
           (λ v z. Y (turn_c K) v z))
-          (turn-ends sets space m l s loc t lt)
+          (turn-ends sets failing space m l s loc t lt)
           more)
 
   -- the turns from the base on
   pub play-ends : (R : Memory → Inner → Store → Locals → Type 0) (rest : plan.Block) → turns_left < k
-      → c0 + 1 ≤ suc u0 * suc most → p0 ≡ true → Goes c0 R rest → Goes c0 R (plan.Play rest)
+      → c0 + 1 ≤ suc u0 * suc most → p0 ≡ true → f0 ≡ true → Goes c0 R rest → Goes c0 R (plan.Play rest)
   unfolding exec plan_c outcome
-  play-ends R rest fuel space sets go m l s loc at =
+  play-ends R rest fuel space sets failing go m l s loc at =
       subst (λ (o : Outcome). EndsIn R (X (plan.Play rest) m l) o)
       (sym (if-goes int fit.most calls k
       (ask_home (bare_function K) (While (Both (Compare IsBelow cursor_local (Field (noted_field K))) tested_local)
@@ -478,10 +486,10 @@ module _ (K : Shape) (int : Width) (fit : IsFit K int) (bodies : ℕ → plan.Bl
           subst (λ (o : Outcome). EndsIn R (p.and_on (p.turns (program_c K bodies) call turns_left now m l) (X rest)) o)
           (sym (asked m l s loc (While (Both (Compare IsBelow cursor_local (Field (noted_field K))) tested_local)
           (turn_c K) (plan_c K rest)) at))
-          (ends-on K c0 u0 (At c0) R (p.turns (program_c K bodies) call turns_left now m l)
+          (ends-on K c0 u0 f0 (At c0) R (p.turns (program_c K bodies) call turns_left now m l)
           (turns k (λ v z. meaning int v z (Both (Compare IsBelow cursor_local (Field (noted_field K))) tested_local))
           (λ v z. Y (turn_c K) v z) s after) (X rest) (Y (plan_c K rest))
-          (loop-ends sets space turns_left k fuel m l s after t) go)
+          (loop-ends sets failing space turns_left k fuel m l s after t) go)
 
       by : (b : Bool)
           → EndsIn R (p.and_on (p.turns (program_c K bodies) call turns_left now m
@@ -511,13 +519,13 @@ module _ (K : Shape) (int : Width) (fit : IsFit K int) (bodies : ℕ → plan.Bl
   home_on-ends R x y rest one other go m l s loc at =
       let b = c_on K.tree K.numbers l.home m.states in
       let after = with_local loc Truth 6 (one_if b) in
-      let at' = at-locals K int fit bodies call turns_left calls k c0 u0 p0 now c0 m l s loc after
+      let at' = at-locals K int fit bodies call turns_left calls k c0 u0 f0 p0 now c0 m l s loc after
       (agree-set 6 6 loc Truth (one_if b) (omega arith)) at in
       subst (λ (o : Outcome). EndsIn R (p.and_on (p.branch (Ok b) m (X x m l) (X y m l)) (X rest)) o)
-      (sym (ask-goes K int fit bodies call turns_left calls k c0 u0 p0 now (on_function K) l.home b
+      (sym (ask-goes K int fit bodies call turns_left calls k c0 u0 f0 p0 now (on_function K) l.home b
       (If tested_local (plan_c K x) (plan_c K y) (plan_c K rest)) s loc
       (has.asks_on m.states s l.home at.shows.states at.home_is) at.home))
-      (branch-ends K int fit bodies call turns_left calls k c0 u0 p0 now R tested_local b x y rest m l s after
+      (branch-ends K int fit bodies call turns_left calls k c0 u0 f0 p0 now R tested_local b x y rest m l s after
       (local-has int s after Truth 6 (one_if b) (set-there loc Truth 6 (one_if b))) (λ t. one m l s after at')
       (λ t. other m l s after at') go)
 
@@ -530,5 +538,5 @@ module _ (K : Shape) (int : Width) (fit : IsFit K int) (bodies : ℕ → plan.Bl
       let after = with_local loc Truth 6 (one_if b) in
       subst (λ (o : Outcome). EndsIn R (p.and_on (p.branch (Ok b) m (X x m l) (X y m l)) (X rest)) o)
       (sym (asked m l s loc (If tested_local (plan_c K x) (plan_c K y) (plan_c K rest)) at))
-      (branch-ends K int fit bodies call turns_left calls k c0 u0 p0 now R tested_local b x y rest m l s after
+      (branch-ends K int fit bodies call turns_left calls k c0 u0 f0 p0 now R tested_local b x y rest m l s after
       (local-has int s after Truth 6 (one_if b) t.1) (λ e. one m l s after t.0) (λ e. other m l s after t.0) go)

@@ -67,7 +67,7 @@ event_test K e events.Tick lt = apart (length K.names.events) e lt
 event_test K e events.Start lt = apart (length K.names.events + 1) e (omega (arith, lt))
 
 module _ (K : Shape) (int : Width) (fit : IsFit K int) (bodies : ℕ → plan.Block) (call : p.Calls) (turns_left : ℕ)
-    (calls : Calls) (k : ℕ) (c0 u0 : ℕ) (p0 : Bool) (now : Now) (m : Memory) (l : Inner) (s : Store) (loc : Locals)
+    (calls : Calls) (k : ℕ) (c0 u0 : ℕ) (f0 p0 : Bool) (now : Now) (m : Memory) (l : Inner) (s : Store) (loc : Locals)
     (c : ℕ) (h : IsAt K c0 u0 p0 now c m l s loc) where
   -- the C of a test gives what the test gives
   abbrev pub Tells : Check → Type 0
@@ -80,7 +80,7 @@ module _ (K : Shape) (int : Width) (fit : IsFit K int) (bodies : ℕ → plan.Bl
       (subst (λ (b : Bool). Has int s loc (on_c K.tree (layout K) K.numbers q) (one_if b))
       (sym (on_test (program_c K bodies) m now l q))
       (on-has int s loc K.tree K.numbers (layout K) m.states q fit.most
-      (is_layout K int fit bodies call turns_left calls k c0 u0 p0 now) h.shows.states lt))
+      (is_layout K int fit bodies call turns_left calls k c0 u0 f0 p0 now) h.shows.states lt))
 
   pub bare-tells : (q : ℕ) → q < state_count K.tree → Tells (bare_check K.tree K.numbers q)
   bare-tells q lt =
@@ -89,7 +89,7 @@ module _ (K : Shape) (int : Width) (fit : IsFit K int) (bodies : ℕ → plan.Bl
       (subst (λ (b : Bool). Has int s loc (bare_c K.tree (layout K) K.numbers q) (one_if b))
       (sym (bare_test (program_c K bodies) m now l q))
       (bare-has int s loc K.tree K.numbers (layout K) m.states q fit.most
-      (is_layout K int fit bodies call turns_left calls k c0 u0 p0 now) h.shows.states lt))
+      (is_layout K int fit bodies call turns_left calls k c0 u0 f0 p0 now) h.shows.states lt))
 
   takes_if-tells : (q : ℕ) (b : Bool) → q < state_count K.tree → Tells (takes_if K.tree K.numbers q b)
   takes_if-tells q true lt = bare-tells q lt
@@ -104,7 +104,7 @@ module _ (K : Shape) (int : Width) (fit : IsFit K int) (bodies : ℕ → plan.Bl
       → Tells (last_under K.numbers x (Some q))
   last-tells q x or lt =
       last-has int s loc K.tree K.numbers (layout K) m.states q x
-      (is_layout K int fit bodies call turns_left calls k c0 u0 p0 now) h.shows.states or lt
+      (is_layout K int fit bodies call turns_left calls k c0 u0 f0 p0 now) h.shows.states or lt
 
   pub event-tells : (e : ℕ) → e < length K.names.events → event_number K.names now.event < 2 ^ 17
       → Tells (plan.IsEvent e)

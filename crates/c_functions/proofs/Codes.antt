@@ -14,6 +14,7 @@ use Rattle.active_config.proofs.PathLemmas.{parent_lt}
 use Rattle.actions.specs.declared.event.Event.{Event}
 use Rattle.actions.specs.declared.event.Event.TheVariants as events
 use Rattle.actions.specs.Data.{HaveTheirSorts}
+use Rattle.actions.specs.Runs.{Moment}
 use Rattle.actions.specs.World.{World, of_data}
 use Rattle.actions.specs.Work.{Now}
 use Rattle.checked_chart.specs.declared.limits.TheConstants.{STATE_LIMIT, VARIABLE_LIMIT, EVENT_LIMIT}
@@ -25,7 +26,7 @@ use Rattle.code_language.specs.Code.{Code, instructions, fetch}
 use Rattle.code_language.specs.Instrs.{Instr}
 use Rattle.code_language.specs.Machine.{Machine, run}
 use Rattle.code_language.specs.Measures.{greatest, heights}
-use Rattle.code_language.specs.Reactions.{first_frame, program_of}
+use Rattle.code_language.specs.Reactions.{first_frame, program_of, Leads}
 use Rattle.code_language.specs.Sound.{AreSound}
 use Rattle.code_language.specs.WellFormed.{IsCode, Known, known_of, first_of, unless, first_over, later_fault}
 use Rattle.code_language.specs.WellFormed.{starts_known}
@@ -48,14 +49,16 @@ use Rattle.c_procedures.proofs.Agreeing.{own_agrees}
 use Rattle.c_procedures.proofs.Ending.{called_outside}
 use Rattle.c_procedures.proofs.Lasting.{ends_as_code}
 use Rattle.c_procedures.proofs.Starting.{suc_numbers}
-use Rattle.c_functions.specs.Plans.{event_number, bad}
-use Rattle.c_functions.specs.Files.{Represents, shape_of, functions_c}
-use Rattle.c_functions.specs.Moments.{HasSmallResults, BeginsWith, TellsFault, EndsAsCode}
+use Rattle.c_functions.specs.Plans.{Tests, event_number, bad}
+use Rattle.c_functions.specs.Failing.{AfterIsRight}
+use Rattle.c_functions.specs.Notes.{noted_in}
+use Rattle.c_functions.specs.Files.{Represents, note_room, shape_of, functions_c}
+use Rattle.c_functions.specs.Moments.{HasSmallResults, BeginsWith, TellsFault, EndsAsCode, MayEnd}
 use Rattle.c_functions.proofs.Follows.{IsFit, HasRoomFor, IsFine, EndsCall, program_c}
 use Rattle.c_functions.proofs.Assigns.{long-of}
 use Rattle.c_functions.proofs.Calling.{more-room}
 use Rattle.c_functions.proofs.Stepping.{five}
-use Rattle.c_functions.proofs.Noting.{noted-below, noted-there}
+use Rattle.c_functions.proofs.Noting.{IsIn, noted-below, noted-there}
 use Rattle.c_functions.proofs.Simulating.{AreGood}
 use Rattle.c_functions.proofs.Functions.{follow}
 
@@ -101,37 +104,36 @@ few-procs k is = at (nat_lt PROC_LIMIT (length k.procedures.procs)) refl is.few
 
 -- ---- what the shape of code is
 
--- a greater height has more room
-more-height : (n most h : ℕ) → most ≤ h → suc n * suc most ≤ suc n * suc h
-more-height n most h le = grind arith
-
 frames-are : (n most : ℕ) → (n + 1) * (most + 1) ≡ suc n * suc most
 frames-are n most =
     let a : n + 1 ≡ suc n = omega arith in
     let b : most + 1 ≡ suc most = omega arith in
     ap (λ (x : ℕ). x * (most + 1)) a ∙ ap (λ (x : ℕ). suc n * x) b
 
--- where note[] has room for a height that is the code's or more, it has room for the calls of code
-room-for : (k : Code) (h : ℕ) (b : Bounds) → IsCode k → greatest (heights k.procedures.procs) ≤ h
-    → HasRoomFor (shape_of k h b) (greatest (heights k.procedures.procs))
-room-for k h b is le =
+-- where something is noted note[] has room for an event and for each of its steps
+noted-room : (noted : List ℕ) (q most steps : ℕ) → IsIn noted q → suc steps * suc most ≤ note_room noted most steps
+noted-room [] q most steps is = absurd cc
+noted-room (x ∷ noted) q most steps is = let same = frames-are steps most in omega (arith, same)
+
+-- so it has room for the calls of code
+room-for : (k : Code) (T : Tests) (b : Bounds) → IsCode k
+    → HasRoomFor (shape_of k T b) (greatest (heights k.procedures.procs))
+room-for k T b is =
     let most = greatest (heights k.procedures.procs) in
     let low = code-low k is in
     let limit : HEIGHT_LIMIT ≡ 200 = refl in
     let s : STEP_LIMIT ≡ 50000 = refl in
     let steps : b.steps ≤ 50000 = omega (arith, b.steps_limit, s) in
     let high : most ≤ 200 = omega (arith, low, limit) in
-    let given : suc b.steps * suc most ≤ suc b.steps * suc h = more-height b.steps most h le in
     let more : suc b.steps * suc most ≤ suc 50000 * suc most = more-room b.steps 50000 most steps in
-    let same : (b.steps + 1) * (h + 1) ≡ suc b.steps * suc h = frames-are b.steps h in
     record {
-      enough = omega (arith, given, same);
+      enough = λ q is. noted-room (noted_in k.procedures.procs) q most b.steps is;
       few = omega (arith, more, high);
     }
 
-pub fits : (k : Code) (h : ℕ) (b : Bounds) (int : Width) → IsCode k → HasStateNames k → bits int ≤ 32
-    → IsFit (shape_of k h b) int
-fits k h b int is named most =
+pub fits : (k : Code) (T : Tests) (b : Bounds) (int : Width) → IsCode k → HasStateNames k
+    → bits int ≤ 32 → IsFit (shape_of k T b) int
+fits k T b int is named most =
     let states = is.table.states in
     let vars = is.table.vars in
     let events = is.table.events in
@@ -168,9 +170,11 @@ sound-got K p behind (y ∷ xs) zero x h e =
     (h.0.known, h.0.typed, h.0.keeps)
 sound-got K p behind (y ∷ xs) (suc j) x h e = sound-got K p behind xs j x h.1 e
 
-module _ (k : Code) (h : ℕ) (b : Bounds) (is : IsCode k) (small : HasSmallResults k) where
+module _ (k : Code) (T : Tests) (b : Bounds) (is : IsCode k) (small : HasSmallResults k)
+    (right : AfterIsRight T k) where
   are-good : (q : ℕ) → q < length k.procedures.procs
-      → AreGood (shape_of k h b) (slice_index (heights k.procedures.procs)) (slice_index (heights k.procedures.procs) q)
+      → AreGood (shape_of k T b) k.procedures.react (T.after q) (slice_index (heights k.procedures.procs))
+      (slice_index (heights k.procedures.procs) q)
       (instructions k.procedures q)
   unfolding instructions fetch
   are-good q lt j x e =
@@ -187,6 +191,7 @@ module _ (k : Code) (h : ℕ) (b : Bounds) (is : IsCode k) (small : HasSmallResu
         noted = λ c has. noted-there (known_of k) k.procedures.procs q j c x refl lt e sound.0 has;
         returned = λ r same. small.returned q j r (e ∙ ap (λ (x : Instr). Some x) same);
         compared = λ z r same. small.tested q j z r (e ∙ ap (λ (x : Instr). Some x) same);
+        fails = λ can. right.tested q j x e can;
       }
 
 -- ---- memory of a moment
@@ -196,10 +201,10 @@ none-got [] zero q e h = absurd cc
 none-got [] (suc j) q e h = absurd cc
 none-got (x ∷ xs) j q e h = absurd cc
 
-fine-of : (k : Code) (h : ℕ) (b : Bounds) (m : Memory) (w : World) → IsWorld k b w
+fine-of : (k : Code) (T : Tests) (b : Bounds) (m : Memory) (w : World) → IsWorld k b w
     → Stands k.tree (λ x. suc x) m w → m.notes ≡ []
-    → IsFine (shape_of k h b) m
-fine-of k h b m w world st notes =
+    → IsFine (shape_of k T b) m
+fine-of k T b m w world st notes =
     let declared = ap of_data st.vals ∙ world.fits.declared in
     let o = ap length st.outputs in
     let u = st.used in
@@ -223,13 +228,14 @@ event-small k (events.Named e) is few = omega (arith, few, is)
 
 -- ---- a call from outside
 
-module _ (k : Code) (h : ℕ) (b : Bounds) (file : File) (int : Width) (fuel p : ℕ) (now : Now) (start : Machine)
-    (s : Store) (c0 u0 : ℕ) where
+module _ (k : Code) (T : Tests) (b : Bounds) (file : File) (int : Width) (fuel p : ℕ) (now : Now) (start : Machine)
+    (s : Store) (c0 u0 : ℕ) (f0 : Bool)
+    (ends : (moment : Moment) → Leads (program_of k b) start moment → MayEnd T moment.fault) where
   -- the plan ends as code, and C as the plan
   joined : (o : Out) (o' : Outcome) → runs.EndsAsCode (program_of k b) (λ x. suc x) start o
-      → EndsCall (shape_of k h b) c0 u0 o o'
+      → EndsCall (shape_of k T b) c0 u0 f0 o o'
       → call file int fuel p (five (event_number k.names now.event) now.depth 0 0 0) s ≡ o'
-      → EndsAsCode k h b file int fuel p now start s
+      → EndsAsCode k T b file int fuel p now start s
   joined (Fell m l) o' code c e = absurd code
   joined (Left m r) o' code c e = record {
     moment = code.moment;
@@ -240,39 +246,43 @@ module _ (k : Code) (h : ℕ) (b : Bounds) (file : File) (int : Width) (fuel p :
     shows = record {
       memory = m;
       stands = code.ends.stands;
-      represents = subst (λ (x : Option Fault). Represents (shape_of k h b) x m c.0) (sym code.ends.fault) c.2.shows;
+      represents = subst (λ (x : Option Fault). Represents (shape_of k T b) x m c.0) (sym code.ends.fault) c.2.shows;
     };
     tells = subst (λ (x : Option Fault). TellsFault x r) (sym code.ends.fault) c.2.result_is;
   }
-  joined (Failed m x) o' code c e = record {
-    moment = code.moment;
-    leads = code.leads;
-    after = c.0;
-    result = bad;
-    gives = e ∙ c.1;
-    shows = record {
-      memory = m;
-      stands = code.ends.stands;
-      represents = subst (λ (x : Option Fault). Represents (shape_of k h b) x m c.0) (sym code.ends.fault) c.2;
-    };
-    tells = subst (λ (x : Option Fault). TellsFault x bad) (sym code.ends.fault) refl;
-  }
+  joined (Failed m x) o' code c e =
+      let t = subst (λ (o : Option Fault). MayEnd T o) code.ends.fault (ends code.moment code.leads) in
+      let f = c t in
+      record {
+        moment = code.moment;
+        leads = code.leads;
+        after = f.0;
+        result = bad;
+        gives = e ∙ f.1;
+        shows = record {
+          memory = m;
+          stands = code.ends.stands;
+          represents = subst (λ (x : Option Fault). Represents (shape_of k T b) x m f.0) (sym code.ends.fault) f.2;
+        };
+        tells = subst (λ (x : Option Fault). TellsFault x bad) (sym code.ends.fault) refl;
+      }
   joined Starved o' code c e = absurd code
   joined Wrong o' code c e = absurd code
 
 -- the function of a procedure ends as a run from the procedure's first frame
-pub ends-as-code : (k : Code) (h : ℕ) (b : Bounds) (bodies : ℕ → plan.Block) (file : File) (int : Width) (fuel p : ℕ)
-    (now : Now) (m : Memory) (w : World) (s : Store) → IsCode k → HasStateNames k → HasSmallResults k
-    → greatest (heights k.procedures.procs) ≤ h → AreWritten k.tree (λ x. suc x) k.procedures bodies
-    → BeginsWith file (functions_c (shape_of k h b) bodies)
+pub ends-as-code : (k : Code) (T : Tests) (b : Bounds) (bodies : ℕ → plan.Block) (file : File) (int : Width)
+    (fuel p : ℕ) (now : Now) (m : Memory) (w : World) (s : Store) → IsCode k → HasStateNames k → HasSmallResults k
+    → AfterIsRight T k → AreWritten k.tree (λ x. suc x) k.procedures bodies
+    → BeginsWith file (functions_c (shape_of k T b) bodies)
     → bits int ≤ 32 → IsMoment k b (first_frame p w now)
+    → ((moment : Moment) → Leads (program_of k b) (first_frame p w now) moment → MayEnd T moment.fault)
     → IsOver (run (program_of k b) fuel (first_frame p w now)) → Stands k.tree (λ x. suc x) m w
-    → Represents (shape_of k h b) None m s → m.notes ≡ []
-    → EndsAsCode k h b file int (2 * fuel + 3) p now (first_frame p w now) s
-ends-as-code k h b bodies file int fuel p now m w s is named small low written begins_with most moment over stands shows
-    none =
-    let K = shape_of k h b in
-    let fit = fits k h b int is named most in
+    → Represents (shape_of k T b) None m s → m.notes ≡ []
+    → EndsAsCode k T b file int (2 * fuel + 3) p now (first_frame p w now) s
+ends-as-code k T b bodies file int fuel p now m w s is named small right written begins_with most moment ends over
+    stands shows none =
+    let K = shape_of k T b in
+    let fit = fits k T b int is named most in
     let parts = code_parts k is in
     let each = slice_index (heights k.procedures.procs) in
     let most_height = greatest (heights k.procedures.procs) in
@@ -281,20 +291,20 @@ ends-as-code k h b bodies file int fuel p now m w s is named small low written b
     let height = high.bound p in
     let empty : length m.notes ≡ 0 = ap length none in
     let spread : suc m.used * suc most_height ≡ m.used * suc most_height + suc most_height = grind arith in
-    joined k h b file int (2 * fuel + 3) p now (first_frame p w now) s (length m.notes) m.used
+    joined k T b file int (2 * fuel + 3) p now (first_frame p w now) s (length m.notes) m.used (T.after p) ends
     (call_fn (program_c K bodies) (suc fuel) p now 0 0 0 m)
     (call file int (2 * fuel + 3) p (five (event_number k.names now.event) now.depth 0 0 0) s)
     (ends_as_code k (λ x. suc x) b fuel (first_frame p w now) _ is moment over
     (called_outside k.tree (λ x. suc x) k.procedures b (suc_numbers k.tree) is.table.tree.same_length
     (program_c K bodies).sums (own_agrees k.tree (λ x. suc x) (suc_numbers k.tree)) bodies written (suc fuel) p now m w
     stands none))
-    (follow K int fit bodies file begins_with each most_height high.bound (room-for k h b is low) k.procedures
+    (follow K int fit bodies file begins_with each most_height high.bound (room-for k T b is) k.procedures
     parts.react (λ x q lt up. let less = parent_lt k.tree (state_count k.tree) is.table.tree.pre_order x q lt up in
-    omega (arith, less, lt)) written.each (are-good k h b is small) (suc fuel)
+    omega (arith, less, lt)) written.each (are-good k T b is small right) (suc fuel)
     (2 * fuel + 3) (omega arith) p 0 0 0 now m s (record {
       proc = moment.frames.0.proc;
       shows = shows;
-      fine = fine-of k h b m w moment.world stands none;
+      fine = fine-of k T b m w moment.world stands none;
       base_le = omega arith;
       home_is = few;
       result_is = omega arith;

@@ -10,7 +10,7 @@ use Rattle.active_config.specs.Tree.{state_count, parent_of, comp_of}
 use Rattle.actions.specs.Data.{HaveTheirSorts}
 use Rattle.actions.specs.Work.{Now}
 use Rattle.actions.specs.World.{of_data, of_names}
-use Rattle.c_subset.specs.Trees.{Field, Compare, Block, End}
+use Rattle.c_subset.specs.Trees.{Field, Compare, Block, End, If}
 use Rattle.c_subset.specs.declared.trees.Width.{Width}
 use Rattle.c_subset.specs.declared.trees.Width.TheVariants.{W32}
 use Rattle.c_subset.specs.declared.trees.Comparison.TheVariants.{IsAtLeast}
@@ -26,7 +26,9 @@ use Rattle.c_procedures.specs.Meaning as p
 use Rattle.c_procedures.specs.Meaning.{CProgram, exec, with_states}
 use Rattle.c_procedures.specs.Runs.{own_sums}
 use Rattle.c_functions.specs.Layout.{IsLayout}
-use Rattle.c_functions.specs.Plans.{Shape, layout, used_field, outs_field, noted_field, fault_field, fault_datum_field}
+use Rattle.c_functions.specs.Moments.{MayEnd}
+use Rattle.c_functions.specs.Plans.{Shape, Tests, layout, used_field, outs_field, noted_field, fault_field}
+use Rattle.c_functions.specs.Plans.{fault_datum_field}
 use Rattle.c_functions.specs.Plans.{fault_number, fault_datum, event_number, bad, word, number, faulted, pay_c}
 use Rattle.c_functions.specs.Plans.{count_up}
 use Rattle.c_functions.specs.Plans.{plan_c, out_row, note_row}
@@ -35,7 +37,8 @@ use Rattle.c_functions.proofs.Tests.{unsigned}
 use Rattle.c_functions.proofs.Changes.{chooses, keeps, turns}
 use Rattle.c_functions.proofs.Places.{is-layout}
 use Rattle.c_functions.proofs.Noting.{IsIn}
-use Rattle.c_functions.proofs.Structs.{used-put, out-put, note-put, note-drop, states-put, fault-told}
+use Rattle.c_functions.proofs.Structs.{not-both, used-put, used-untold, out-put, note-put, note-drop, states-put}
+use Rattle.c_functions.proofs.Structs.{fault-told}
 use Rattle.c_functions.proofs.Words.{at_least-is, number-means, field-means, plus-means, less-means}
 use Rattle.c_functions.proofs.Words.{compare-has}
 use Rattle.c_functions.proofs.Words.{front-got, front-length, length-push, put-word, if-goes, store_at-goes}
@@ -58,9 +61,10 @@ pub record IsFit (K : Shape) (int : Width) : Type 0 where
   pub steps : K.bounds.steps < 2 ^ 16
   pub depth : K.bounds.depth < 2 ^ 16
 
--- note[] has room for the calls that are open at most in an event, where procedures have at most that height
+-- where something is noted, note[] has room for the calls that are open at most in an event, where procedures have at
+-- most that height
 pub record HasRoomFor (K : Shape) (most : ℕ) : Type 0 where
-  pub enough : suc K.bounds.steps * suc most ≤ K.notes
+  pub enough : (q : ℕ) → IsIn K.noted q → suc K.bounds.steps * suc most ≤ K.notes
   pub few : suc K.bounds.steps * suc most < 2 ^ 31
 
 -- memory of a run: data of their sorts as declared, outputs that were paid, notes that are those of the shape
@@ -91,6 +95,11 @@ told_c K x s =
     with_field (with_field s (fault_field K) (unsigned W32 (fault_number (Some x)))) (fault_datum_field K)
     (unsigned W32 (fault_datum (Some x) % 2 ^ 32))
 
+-- a run isn't ended by the bound of steps where steps are tested and aren't
+not-tested : (T : Tests) → MayEnd T (Some faults.Steps) → T.steps ≡ false → ⊥
+unfolding MayEnd
+not-tested T on off = not-both T.steps on off
+
 -- ---- where C stands to a plan, in a function that began with c0 notes and u0 steps
 
 module _ (K : Shape) (c0 u0 : ℕ) where
@@ -119,32 +128,6 @@ module _ (K : Shape) (c0 u0 : ℕ) where
     pub used : u0 ≤ m.used
     pub result_is : r < bad
 
-  -- C ends as the plan, with a claim where both fall through
-  abbrev pub Ends : (Memory → Inner → Store → Locals → Type 0) → Out → Outcome → Type 0
-  Ends Q (Fell m l) o = (s : Store) × (loc : Locals) × (o ≡ Falls s loc) × Q m l s loc
-  Ends Q (Left m r) o = (s : Store) × (o ≡ Returns s (unsigned W32 r)) × HasLeft m r s
-  Ends Q (Failed m x) o = (s : Store) × (o ≡ Returns s (unsigned W32 bad)) × Represents K (Some x) m s
-  Ends Q Starved o = Unit {0}
-  Ends Q Wrong o = Unit {0}
-
-  -- the same of a call, which doesn't fall through
-  abbrev pub EndsCall : Out → Outcome → Type 0
-  EndsCall o o' = Ends (λ m l s loc. Unit {0}) o o'
-
-  -- from wherever C stands to the plan
-  abbrev pub Follows : (Memory → Inner → Store → Locals → Type 0) → (Memory → Inner → Store → Locals → Type 0)
-      → (Memory → Inner → Out) → (Store → Locals → Outcome) → Type 0
-  Follows Q R f g = (m : Memory) (l : Inner) (s : Store) (loc : Locals) → Q m l s loc → Ends R (f m l) (g s loc)
-
-  pub ends-on : (Q R : Memory → Inner → Store → Locals → Type 0) (o : Out) (o' : Outcome) (f : Memory → Inner → Out)
-      (g : Store → Locals → Outcome) → Ends Q o o' → Follows Q R f g → Ends R (p.and_on o f) (and_on o' g)
-  ends-on Q R (Fell m l) o' f g h go =
-      subst (λ (o : Outcome). Ends R (f m l) (and_on o g)) (sym h.2) (go m l h.0 h.1 h.3)
-  ends-on Q R (Left m r) o' f g h go = (h.0, ap (λ (o : Outcome). and_on o g) h.1, h.2)
-  ends-on Q R (Failed m x) o' f g h go = (h.0, ap (λ (o : Outcome). and_on o g) h.1, h.2)
-  ends-on Q R Starved o' f g h go = tt
-  ends-on Q R Wrong o' f g h go = tt
-
   -- memory and struct changed, and no local
   pub at-memory : (p0 : Bool) (now : Now) (c c' : ℕ) (m m' : Memory) (l : Inner) (s s' : Store) (loc : Locals)
       → IsAt p0 now c m l s loc → Represents K None m' s' → IsFine K m' → length m'.notes ≡ c' → u0 ≤ m'.used
@@ -166,6 +149,37 @@ module _ (K : Shape) (c0 u0 : ℕ) where
     cursor_le = h.cursor_le;
   }
 
+-- the same of a function, whose result its callers test where f0 says so
+module _ (K : Shape) (c0 u0 : ℕ) (f0 : Bool) where
+  -- C ends as the plan, with a claim where both fall through; where the plan meets a bound that isn't tested nothing is
+  -- said, and after another fault the result is one that callers test
+  abbrev pub Ends : (Memory → Inner → Store → Locals → Type 0) → Out → Outcome → Type 0
+  Ends Q (Fell m l) o = (s : Store) × (loc : Locals) × (o ≡ Falls s loc) × Q m l s loc
+  Ends Q (Left m r) o = (s : Store) × (o ≡ Returns s (unsigned W32 r)) × HasLeft K c0 u0 m r s
+  Ends Q (Failed m x) o =
+      MayEnd K.tests (Some x)
+      → (s : Store) × (o ≡ Returns s (unsigned W32 bad)) × Represents K (Some x) m s × (f0 ≡ true)
+  Ends Q Starved o = Unit {0}
+  Ends Q Wrong o = Unit {0}
+
+  -- the same of a call, which doesn't fall through
+  abbrev pub EndsCall : Out → Outcome → Type 0
+  EndsCall o o' = Ends (λ m l s loc. Unit {0}) o o'
+
+  -- from wherever C stands to the plan
+  abbrev pub Follows : (Memory → Inner → Store → Locals → Type 0) → (Memory → Inner → Store → Locals → Type 0)
+      → (Memory → Inner → Out) → (Store → Locals → Outcome) → Type 0
+  Follows Q R f g = (m : Memory) (l : Inner) (s : Store) (loc : Locals) → Q m l s loc → Ends R (f m l) (g s loc)
+
+  pub ends-on : (Q R : Memory → Inner → Store → Locals → Type 0) (o : Out) (o' : Outcome) (f : Memory → Inner → Out)
+      (g : Store → Locals → Outcome) → Ends Q o o' → Follows Q R f g → Ends R (p.and_on o f) (and_on o' g)
+  ends-on Q R (Fell m l) o' f g h go =
+      subst (λ (o : Outcome). Ends R (f m l) (and_on o g)) (sym h.2) (go m l h.0 h.1 h.3)
+  ends-on Q R (Left m r) o' f g h go = (h.0, ap (λ (o : Outcome). and_on o g) h.1, h.2)
+  ends-on Q R (Failed m x) o' f g h go = λ t. let e = h t in (e.0, ap (λ (o : Outcome). and_on o g) e.1, e.2, e.3)
+  ends-on Q R Starved o' f g h go = tt
+  ends-on Q R Wrong o' f g h go = tt
+
 -- memory with other states of the same lengths
 pub fine-states : (K : Shape) (m : Memory) (st : States) → IsFine K m → length st.chosen ≡ length m.states.chosen
     → length st.flags ≡ length m.states.flags → length st.kept ≡ length m.states.kept → IsFine K (with_states st m)
@@ -184,7 +198,7 @@ fine-states K m st f a b c = record {
 -- ---- statements
 
 module _ (K : Shape) (int : Width) (fit : IsFit K int) (bodies : ℕ → plan.Block) (call : p.Calls) (turns_left : ℕ)
-    (calls : Calls) (k : ℕ) (c0 u0 : ℕ) (p0 : Bool) (now : Now) where
+    (calls : Calls) (k : ℕ) (c0 u0 : ℕ) (f0 p0 : Bool) (now : Now) where
   P : CProgram
   P = program_c K bodies
 
@@ -201,10 +215,10 @@ module _ (K : Shape) (int : Width) (fit : IsFit K int) (bodies : ℕ → plan.Bl
 
   -- statements and their C, from c notes to a claim
   abbrev pub Goes : ℕ → (Memory → Inner → Store → Locals → Type 0) → plan.Block → Type 0
-  Goes c R a = Follows K c0 u0 (At c) R (X a) (Y (plan_c K a))
+  Goes c R a = Follows K c0 u0 f0 (At c) R (X a) (Y (plan_c K a))
 
   abbrev pub EndsIn : (Memory → Inner → Store → Locals → Type 0) → Out → Outcome → Type 0
-  EndsIn R o o' = Ends K c0 u0 R o o'
+  EndsIn R o o' = Ends K c0 u0 f0 R o o'
 
   pub is_layout : IsLayout K.tree K.numbers (layout K)
   is_layout = is-layout K.tree K.numbers (length K.names.vars + 5) fit.numbers
@@ -231,15 +245,16 @@ module _ (K : Shape) (int : Width) (fit : IsFit K int) (bodies : ℕ → plan.Bl
 
   -- a fault of the plan
   pub faulted-ends : (R : Memory → Inner → Store → Locals → Type 0) (c : ℕ) (m : Memory) (l : Inner) (s : Store)
-      (loc : Locals) (x : Fault) → At c m l s loc → fault_datum (Some x) < 2 ^ 32
+      (loc : Locals) (x : Fault) → At c m l s loc → fault_datum (Some x) < 2 ^ 32 → f0 ≡ true
       → EndsIn R (Failed m x) (outcome int calls k (faulted K x) s loc)
-  faulted-ends R c m l s loc x h small = (
+  faulted-ends R c m l s loc x h small fails = λ t. (
     told_c K x s,
     faulted-goes s loc _ _ h.shows.fault_is h.shows.datum_is x,
     subst (λ (d : ℕ). Represents K (Some x) m
         (with_field (with_field s (fault_field K) (unsigned W32 (fault_number (Some x)))) (fault_datum_field K)
         (unsigned W32 d))) (sym (mod-eq_of_lt small))
         (fault-told K None m s h.shows h.fine.long (Some x) (number_small x) small),
+    fails,
   )
     where
       number_small : (x : Fault) → fault_number (Some x) < 2 ^ 32
@@ -255,57 +270,85 @@ module _ (K : Shape) (int : Width) (fit : IsFit K int) (bodies : ℕ → plan.Bl
 
   -- a step is paid
   pub pay-ends : (R : Memory → Inner → Store → Locals → Type 0) (c : ℕ) (m : Memory) (l : Inner) (s : Store)
-      (loc : Locals) (f : Memory → Out) (rest : Block) → At c m l s loc
+      (loc : Locals) (f : Memory → Out) (rest : Block) → (K.tests.steps ≡ true → f0 ≡ true) → At c m l s loc
       → ((s' : Store) → At c (record m { used = m.used + 1 }) l s' loc → length m.outputs < m.used + 1
       → EndsIn R (f (record m { used = m.used + 1 })) (outcome int calls k rest s' loc))
       → EndsIn R (p.pay K.bounds m f) (outcome int calls k (pay_c K rest) s loc)
   unfolding outcome
-  pay-ends R c m l s loc f rest h go =
-      subst (λ (o : Outcome). EndsIn R (p.pay K.bounds m f) o) (sym goes) (at (nat_le K.bounds.steps m.used) refl)
+  pay-ends R c m l s loc f rest fails h go = by K.tests.steps refl
     where
       small : m.used < 2 ^ 16
       small = omega (arith, h.fine.used, fit.steps)
 
-      goes : outcome int calls k (pay_c K rest) s loc
+      fine : m.used < K.bounds.steps → IsFine K (record m { used = m.used + 1 })
+      fine left = record {
+        chosen = h.fine.chosen;
+        flags = h.fine.flags;
+        kept = h.fine.kept;
+        sorts = h.fine.sorts;
+        declared = h.fine.declared;
+        long = h.fine.long;
+        outputs = omega (arith, h.fine.outputs);
+        used = omega (arith, left);
+        noted = h.fine.noted;
+      }
+
+      -- where steps are tested
+      goes : HasWord s.fields (used_field K) m.used
+          → outcome int calls k (If (Compare IsAtLeast (Field (used_field K)) (number K.bounds.steps))
+          (faulted K faults.Steps) End (count_up (used_field K) rest)) s loc
           ≡ and_on (cond (nat_le K.bounds.steps m.used) (outcome int calls k (faulted K faults.Steps) s loc)
           (outcome int calls k End s loc)) (λ v o. outcome int calls k (count_up (used_field K) rest) v o)
-      goes = if-goes int fit.most calls k (count_up (used_field K) rest) s loc (nat_le K.bounds.steps m.used)
+      goes used = if-goes int fit.most calls k (count_up (used_field K) rest) s loc (nat_le K.bounds.steps m.used)
           (Compare IsAtLeast (Field (used_field K)) (number K.bounds.steps)) (faulted K faults.Steps) End
           (subst (λ (b : Bool). Has int s loc (Compare IsAtLeast (Field (used_field K)) (number K.bounds.steps))
           (one_if b)) (at_least-is m.used K.bounds.steps)
           (compare-has int fit.most s loc IsAtLeast (Field (used_field K)) (number K.bounds.steps) m.used K.bounds.steps
-          h.shows.used.small (omega (arith, fit.steps)) (field-means int fit.most s loc
-          (used_field K) m.used h.shows.used)
+          used.small (omega (arith, fit.steps)) (field-means int fit.most s loc (used_field K) m.used used)
           (number-means int fit.most s loc K.bounds.steps (omega (arith, fit.steps)))))
 
-      at : (b : Bool) → nat_le K.bounds.steps m.used ≡ b
+      at : K.tests.steps ≡ true → HasWord s.fields (used_field K) m.used → (b : Bool) → nat_le K.bounds.steps m.used ≡ b
           → EndsIn R (p.unless_met b faults.Steps m (f (record m { used = m.used + 1 })))
           (and_on (cond b (outcome int calls k (faulted K faults.Steps) s loc) (outcome int calls k End s loc))
           (λ v o. outcome int calls k (count_up (used_field K) rest) v o))
-      at true e =
-          let x = faulted-ends R c m l s loc faults.Steps h (omega arith) in
-          (x.0, ap (λ (o : Outcome). and_on o (λ v o. outcome int calls k (count_up (used_field K) rest) v o)) x.1, x.2)
-      at false e =
+      at on used true e = λ t.
+          let x = faulted-ends R c m l s loc faults.Steps h (omega arith) (fails on) t in (
+            x.0,
+            ap (λ (o : Outcome). and_on o (λ v o. outcome int calls k (count_up (used_field K) rest) v o)) x.1,
+            x.2,
+            x.3,
+          )
+      at on used false e =
           let left : m.used < K.bounds.steps = grind (arith, nat_tests) in
           let s' = with_field s (used_field K) (unsigned W32 (m.used + 1)) in
           subst (λ (o : Outcome). EndsIn R (f (record m { used = m.used + 1 })) o)
-          (sym (put-word int fit.most calls k rest s loc (used_field K) m.used _ _ h.shows.used (omega (arith, small))
-          (plus-means int fit.most s loc (Field (used_field K)) (number 1) m.used 1 h.shows.used.small (omega arith)
-          (omega (arith, small)) (field-means int fit.most s loc (used_field K) m.used h.shows.used)
+          (sym (put-word int fit.most calls k rest s loc (used_field K) m.used _ _ used (omega (arith, small))
+          (plus-means int fit.most s loc (Field (used_field K)) (number 1) m.used 1 used.small (omega arith)
+          (omega (arith, small)) (field-means int fit.most s loc (used_field K) m.used used)
           (number-means int fit.most s loc 1 (omega arith)))))
           (go s' (at-memory K c0 u0 p0 now c c m (record m { used = m.used + 1 }) l s s' loc h
-          (used-put K None m s h.shows h.fine.long (m.used + 1) (omega (arith, small)))
-          (record {
-            chosen = h.fine.chosen;
-            flags = h.fine.flags;
-            kept = h.fine.kept;
-            sorts = h.fine.sorts;
-            declared = h.fine.declared;
-            long = h.fine.long;
-            outputs = omega (arith, h.fine.outputs);
-            used = omega (arith, left);
-            noted = h.fine.noted;
-          }) h.notes (omega (arith, h.used))) (omega (arith, h.fine.outputs)))
+          (used-put K None m s h.shows h.fine.long (m.used + 1) (omega (arith, small))) (fine left) h.notes
+          (omega (arith, h.used))) (omega (arith, h.fine.outputs)))
+
+      -- and where they aren't
+      untold : K.tests.steps ≡ false → (b : Bool) → nat_le K.bounds.steps m.used ≡ b
+          → EndsIn R (p.unless_met b faults.Steps m (f (record m { used = m.used + 1 })))
+          (outcome int calls k rest s loc)
+      untold off true e = λ t. absurd (not-tested K.tests t off)
+      untold off false e =
+          let left : m.used < K.bounds.steps = grind (arith, nat_tests) in
+          go s (at-memory K c0 u0 p0 now c c m (record m { used = m.used + 1 }) l s s loc h
+          (used-untold K None m s h.shows h.fine.long (m.used + 1) off) (fine left) h.notes (omega (arith, h.used)))
+          (omega (arith, h.fine.outputs))
+
+      by : (b : Bool) → K.tests.steps ≡ b
+          → EndsIn R (p.pay K.bounds m f) (outcome int calls k
+          (cond b (If (Compare IsAtLeast (Field (used_field K)) (number K.bounds.steps)) (faulted K faults.Steps) End
+          (count_up (used_field K) rest)) rest) s loc)
+      by true on =
+          subst (λ (o : Outcome). EndsIn R (p.pay K.bounds m f) o) (sym (goes (h.shows.used on)))
+          (at on (h.shows.used on) (nat_le K.bounds.steps m.used) refl)
+      by false off = untold off (nat_le K.bounds.steps m.used) refl
 
   -- the number of an active child
   pub choose-ends : (R : Memory → Inner → Store → Locals → Type 0) (c q i : ℕ) (rest : plan.Block)

@@ -193,26 +193,28 @@ module _ (K : Shape) (int : Width) (fit : IsFit K int) (bodies : ℕ → plan.Bl
     (room : HasRoomFor K most) (k : Procedures) (react_there : k.react < K.procs)
     (parents : (s q : ℕ) → s < state_count K.tree → parent_of K.tree s ≡ Some q → q < state_count K.tree)
     (written : (q : ℕ) → Written K.tree K.numbers k.react (instructions k q) [] (bodies q))
-    (good : (q : ℕ) → q < K.procs → AreGood K h (h q) (instructions k q)) where
+    (good : (q : ℕ) → q < K.procs → AreGood K k.react (K.tests.after q) h (h q) (instructions k q)) where
   -- what a function gives of what its body did
-  closed-ends : (c0 u0 : ℕ) (Q : Memory → Inner → Store → Locals → Type 0) (o : Out) (o' : Outcome)
-      → Ends K c0 u0 Q o o' → EndsCall K c0 u0 (p.closed o) (returned word o')
-  closed-ends c0 u0 Q (Fell m l) o' e = tt
-  closed-ends c0 u0 Q (Left m r) o' e =
+  closed-ends : (c0 u0 : ℕ) (f0 : Bool) (Q : Memory → Inner → Store → Locals → Type 0) (o : Out) (o' : Outcome)
+      → Ends K c0 u0 f0 Q o o' → EndsCall K c0 u0 f0 (p.closed o) (returned word o')
+  closed-ends c0 u0 f0 Q (Fell m l) o' e = tt
+  closed-ends c0 u0 f0 Q (Left m r) o' e =
       let small = e.2.result_is in (
         e.0,
         ap (returned word) e.1
             ∙ ap (λ (m : Meaning). with_value m (λ y. Returns e.0 y)) (own-stays W32 r (omega (arith, small))),
         e.2,
       )
-  closed-ends c0 u0 Q (Failed m x) o' e = (
-    e.0,
-    ap (returned word) e.1
-        ∙ ap (λ (m : Meaning). with_value m (λ y. Returns e.0 y)) (own-stays W32 bad (omega arith)),
-    e.2,
-  )
-  closed-ends c0 u0 Q Starved o' e = tt
-  closed-ends c0 u0 Q Wrong o' e = tt
+  closed-ends c0 u0 f0 Q (Failed m x) o' e = λ t.
+      let f = e t in (
+        f.0,
+        ap (returned word) f.1
+            ∙ ap (λ (m : Meaning). with_value m (λ y. Returns f.0 y)) (own-stays W32 bad (omega arith)),
+        f.2,
+        f.3,
+      )
+  closed-ends c0 u0 f0 Q Starved o' e = tt
+  closed-ends c0 u0 f0 Q Wrong o' e = tt
 
   -- the locals that are parameters
   abbrev given : ℕ → ℕ → ℕ → ℕ → ℕ → Locals
@@ -348,15 +350,17 @@ module _ (K : Shape) (int : Width) (fit : IsFit K int) (bodies : ℕ → plan.Bl
       let calls = call file int (suc (suc n)) in
       let few = can.shows.noted.small in
       let at = at-begin p0 now m base home r s can.shows can.fine can.base_le can.home_is can.result_is in
-      subst (λ (o : Outcome). EndsCall K c0 m.used (call_fn (program_c K bodies) (suc j) q now base home r m) o)
+      subst (λ (o : Outcome). EndsCall K c0 m.used (K.tests.after q)
+      (call_fn (program_c K bodies) (suc j) q now base home r m) o)
       (sym (call-runs (suc n) q (bodies q) e now.depth base home r s (procedure-there K bodies file begins_with q
       can.proc) (let v = can.event in omega (arith, v)) (let d = can.depth in omega (arith, d, fit.depth))
       (let b = can.base_le in omega (arith, b, few)) (let h = can.home_is in omega (arith, h, fit.states))
       (let r = can.result_is in omega (arith, r))))
-      (closed-ends c0 m.used (IsAt K c0 m.used p0 now c0)
+      (closed-ends c0 m.used (K.tests.after q) (IsAt K c0 m.used p0 now c0)
       (exec (program_c K bodies) (call_fn (program_c K bodies) j) j now (bodies q) m (begins base home r))
       (outcome int calls (suc (suc n)) (plan_c K (bodies q)) s after)
-      (sim K int fit bodies (call_fn (program_c K bodies) j) j calls (suc (suc n)) c0 m.used p0 now h most low room
-      (has-calls j (suc n) (follow j (suc (suc n)) (omega (arith, lt))) (follow j (suc n) (omega (arith, lt))))
+      (sim K int fit bodies (call_fn (program_c K bodies) j) j calls (suc (suc n)) c0 m.used (K.tests.after q) p0 now h
+      most low room (has-calls j (suc n) (follow j (suc (suc n)) (omega (arith, lt)))
+      (follow j (suc n) (omega (arith, lt))))
       can.event can.depth (omega (arith, lt)) k.react react_there parents (h q) can.room (written q)
       (good q can.proc) (λ e. e) m (begins base home r) s after at))

@@ -2,6 +2,7 @@ pub mod Tests
 pub mod Changes
 pub mod Places
 pub mod Noting
+pub mod Failing
 pub mod Words
 pub mod Structs
 pub mod Follows

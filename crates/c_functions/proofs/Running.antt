@@ -1,10 +1,10 @@
 -- The runs of a file are those of code.
 use Rattle.std.proofs.Common.{◌≡◌, ℕ, zero, suc, ◌+◌, ◌*◌, ◌^◌, ◌<◌, ◌≤◌, nat_eq, pos, Bool, not, is_some}
-use Rattle.std.proofs.Common.{List, [], ◌∷◌, length}
+use Rattle.std.proofs.Common.{true, false, cond, List, [], ◌∷◌, length}
 use Rattle.std.proofs.Common.{map, Option, Some, None, slice_get, refl, sym, ap, ◌∙◌, subst}
 use Rattle.std.proofs.Common.{arith, length-append, replicate}
 use Rattle.std.proofs.lemmas.Bool.Decides.{nat_tests}
-use Rattle.std.specs.List.{range_with_len}
+use Rattle.std.specs.List.{AllByRecursion, range_with_len}
 use Rattle.std.proofs.lemmas.List.{length-replicate}
 use Rattle.flow_base.specs.declared.bounds.Bounds.{Bounds}
 use Rattle.flow_base.specs.declared.fault.Fault.{Fault}
@@ -21,9 +21,8 @@ use Rattle.actions.proofs.InputLemmas.{input_value, IsInputSet-fits}
 use Rattle.actions.proofs.StoredLemmas.{stored, mantissa_there}
 use Rattle.code_language.specs.Code.{Code}
 use Rattle.code_language.specs.Machine.{Machine, Next, Goes, Stops, Over, and_then, step, run}
-use Rattle.code_language.specs.Measures.{greatest, heights}
 use Rattle.code_language.specs.Reactions.{program_of, start_machine, react_machine, Starts, Reacts}
-use Rattle.code_language.specs.Reactions.{CodeRun}
+use Rattle.code_language.specs.Reactions.{CodeRun, Leads}
 use Rattle.code_language.specs.WellFormed.{IsCode}
 use Rattle.code_simulation.proofs.Endings.{one_end}
 use Rattle.code_costs.specs.Left.{most_instructions}
@@ -31,14 +30,14 @@ use Rattle.code_costs.specs.Moments.{HasStateNames, IsWorld, IsMoment, StaysSoun
 use Rattle.code_costs.proofs.EventLemmas.{start_ends, reaction_ends}
 use Rattle.code_costs.proofs.MomentLemmas.{step_sound}
 use Rattle.code_costs.proofs.StartLemmas.{can_react, start_moment, reaction_moment}
-use Rattle.c_subset.specs.Trees.{Local, Function}
+use Rattle.c_subset.specs.Trees.{Local, Function, Block}
 use Rattle.c_subset.specs.declared.trees.Width.{Width}
 use Rattle.c_subset.specs.declared.trees.Width.TheVariants.{W32}
 use Rattle.c_subset.specs.declared.trees.CType.{CType}
 use Rattle.c_subset.specs.declared.trees.CType.TheVariants.{Truth}
 use Rattle.c_subset.specs.Trees.{Store as PutField}
 use Rattle.c_subset.specs.Meaning.{bits, CValue, Object, Store, Locals, one_if}
-use Rattle.c_subset.specs.Running.{no_values, Returns, with_local, no_locals, with_field}
+use Rattle.c_subset.specs.Running.{no_values, Returns, Calls, with_local, no_locals, with_field}
 use Rattle.c_subset.specs.Running.{returned, run as run_c, outcome, call}
 use Rattle.c_expressions.specs.Claims.{ShowsData, field_type}
 use Rattle.c_expressions.proofs.Assigning.{set-shows}
@@ -48,17 +47,18 @@ use Rattle.c_procedures.specs.Statements as plan
 use Rattle.c_procedures.specs.Runs.{Stands}
 use Rattle.c_procedures.specs.Written.{AreWritten}
 use Rattle.c_procedures.proofs.Starting.{no_fields_show, suc_numbers}
-use Rattle.c_functions.specs.Plans.{Shape, word, number, bad, event_number, declared_at, used_field, outs_field}
+use Rattle.c_functions.specs.Plans.{Shape, Tests, word, number, bad, event_number, declared_at, used_field, outs_field}
 use Rattle.c_functions.specs.Plans.{noted_field}
+use Rattle.c_functions.specs.Failing.{AfterIsRight}
 use Rattle.c_functions.specs.Plans.{start_function, react_function}
 use Rattle.c_functions.specs.Files.{Represents, shape_of, procedure_c, functions_c}
-use Rattle.c_functions.specs.Moments.{HasSmallResults, BeginsWith, ShowsMoment, TellsFault, EndsAsCode}
-use Rattle.c_functions.specs.Starts.{first_values, outside_c, start_c, react_c, file_of, HasShape, AreStored}
-use Rattle.c_functions.specs.Starts.{Answers}
+use Rattle.c_functions.specs.Moments.{HasSmallResults, BeginsWith, ShowsMoment, TellsFault, EndsAsCode, MayEnd}
+use Rattle.c_functions.specs.Starts.{first_values, outside_c, start_c, uncounted_c, react_c, file_of, HasShape}
+use Rattle.c_functions.specs.Starts.{AreStored, Answers}
 use Rattle.c_functions.specs.Starts.{AllGiven, ReactsOn, RunsOn}
 use Rattle.c_functions.proofs.Tests.{unsigned}
 use Rattle.c_functions.proofs.Words.{number-means, local-means, argument-goes, arguments-end, put-word, none-got}
-use Rattle.c_functions.proofs.Structs.{used-put, out-clear, note-clear, vals-put}
+use Rattle.c_functions.proofs.Structs.{used-put, used-untold, out-clear, note-clear, vals-put}
 use Rattle.c_functions.proofs.Follows.{IsFit}
 use Rattle.c_functions.proofs.Assigns.{declared-of, long-of}
 use Rattle.c_functions.proofs.Functions.{get-right, range-length}
@@ -162,67 +162,94 @@ inputs-stored K (Some value ∷ inputs) v w w' m s fit values sets e h =
       marks = r.marks ∙ ap (λ (w : World). w.marks) sets.1.2;
     }
 
+-- no step is used yet, and the struct says so where steps are counted
+uncounted-goes : (K : Shape) (int : Width) → bits int ≤ 32 → (calls : Calls) (k : ℕ) (rest : Block) (m : Memory)
+    (s : Store) (l : Locals) → Represents K None m s → length m.vals ≡ length K.names.vars
+    → (s' : Store) × (outcome int calls k (uncounted_c K rest) s l ≡ outcome int calls k rest s' l)
+    × Represents K None (record m { used = 0 }) s'
+uncounted-goes K int most calls k rest m s l h long = by K.tests.steps refl
+  where
+    by : (b : Bool) → K.tests.steps ≡ b
+        → (s' : Store)
+        × (outcome int calls k (cond b (PutField (used_field K) (number 0) rest) rest) s l
+        ≡ outcome int calls k rest s' l)
+        × Represents K None (record m { used = 0 }) s'
+    by true on = (
+      with_field s (used_field K) (unsigned W32 0),
+      put-word int most calls k rest s l (used_field K) _ 0 (number 0) (h.used on) (omega arith)
+          (number-means int most s l 0 (omega arith)),
+      used-put K None m s h long 0 (omega arith),
+    )
+    by false off = (s, refl, used-untold K None m s h long 0 off)
+
 -- ---- the file of code
 
-module _ (k : Code) (h : ℕ) (b : Bounds) (bodies : ℕ → plan.Block) (int : Width) (is : IsCode k)
-    (named : HasStateNames k) (small : HasSmallResults k) (low : greatest (heights k.procedures.procs) ≤ h)
+module _ (k : Code) (T : Tests) (b : Bounds) (bodies : ℕ → plan.Block) (int : Width) (is : IsCode k)
+    (named : HasStateNames k) (small : HasSmallResults k) (right : AfterIsRight T k)
     (written : AreWritten k.tree (λ x. suc x) k.procedures bodies) (most : bits int ≤ 32) where
-  fit : IsFit (shape_of k h b) int
-  fit = fits k h b int is named most
+  fit : IsFit (shape_of k T b) int
+  fit = fits k T b int is named most
 
-  begins : BeginsWith (file_of k h b bodies) (functions_c (shape_of k h b) bodies)
+  begins : BeginsWith (file_of k T b bodies) (functions_c (shape_of k T b) bodies)
   begins = record {
-    later = start_c (shape_of k h b) k.procedures.start ∷ react_c (shape_of k h b) k.procedures.react ∷ [];
+    later = start_c (shape_of k T b) k.procedures.start ∷ react_c (shape_of k T b) k.procedures.react ∷ [];
     is = refl;
   }
 
-  count : length (functions_c (shape_of k h b) bodies) ≡ length k.procedures.procs + 8
+  count : length (functions_c (shape_of k T b) bodies) ≡ length k.procedures.procs + 8
   unfolding functions_c
   count =
       length-append
-      (map (λ q. procedure_c (shape_of k h b) (bodies q)) (range_with_len 0 (length k.procedures.procs))) _
+      (map (λ q. procedure_c (shape_of k T b) (bodies q)) (range_with_len 0 (length k.procedures.procs))) _
       ∙ ap (λ (n : ℕ). n + 8)
-      (range-length (λ q. procedure_c (shape_of k h b) (bodies q)) 0 (length k.procedures.procs))
+      (range-length (λ q. procedure_c (shape_of k T b) (bodies q)) 0 (length k.procedures.procs))
 
-  start-there : slice_get (file_of k h b bodies).functions (start_function (shape_of k h b))
-      ≡ Some (start_c (shape_of k h b) k.procedures.start)
+  start-there : slice_get (file_of k T b bodies).functions (start_function (shape_of k T b))
+      ≡ Some (start_c (shape_of k T b) k.procedures.start)
   start-there =
       let e : length k.procedures.procs + 8 ≡ length k.procedures.procs + 8 + 0 = omega arith in
-      ap (λ (i : ℕ). slice_get (file_of k h b bodies).functions i) e
-      ∙ get-right (functions_c (shape_of k h b) bodies)
-      (start_c (shape_of k h b) k.procedures.start ∷ react_c (shape_of k h b) k.procedures.react ∷ [])
+      ap (λ (i : ℕ). slice_get (file_of k T b bodies).functions i) e
+      ∙ get-right (functions_c (shape_of k T b) bodies)
+      (start_c (shape_of k T b) k.procedures.start ∷ react_c (shape_of k T b) k.procedures.react ∷ [])
       (length k.procedures.procs + 8) 0 count
 
-  react-there : slice_get (file_of k h b bodies).functions (react_function (shape_of k h b))
-      ≡ Some (react_c (shape_of k h b) k.procedures.react)
+  react-there : slice_get (file_of k T b bodies).functions (react_function (shape_of k T b))
+      ≡ Some (react_c (shape_of k T b) k.procedures.react)
   react-there =
       let e : length k.procedures.procs + 9 ≡ length k.procedures.procs + 8 + 1 = omega arith in
-      ap (λ (i : ℕ). slice_get (file_of k h b bodies).functions i) e
-      ∙ get-right (functions_c (shape_of k h b) bodies)
-      (start_c (shape_of k h b) k.procedures.start ∷ react_c (shape_of k h b) k.procedures.react ∷ [])
+      ap (λ (i : ℕ). slice_get (file_of k T b bodies).functions i) e
+      ∙ get-right (functions_c (shape_of k T b) bodies)
+      (start_c (shape_of k T b) k.procedures.start ∷ react_c (shape_of k T b) k.procedures.react ∷ [])
       (length k.procedures.procs + 8) 1 count
 
   -- what is returned, for the moment to which code leads
   told-same : (now : Now) (fuel p : ℕ) (start : Machine) (s : Store)
-      (e : EndsAsCode k h b (file_of k h b bodies) int fuel p now start s) (m : Moment) → e.moment ≡ m
+      (e : EndsAsCode k T b (file_of k T b bodies) int fuel p now start s) (m : Moment) → e.moment ≡ m
       → Returns e.after (record { type = Truth; value = one_if (not (nat_eq e.result bad)) })
       ≡ Returns e.after (record { type = Truth; value = one_if (not (is_some m.fault)) })
   told-same now fuel p start s e m same =
       ap (λ (c : Bool). Returns e.after (record { type = Truth; value = one_if (not c) }))
       (tells-same e.moment.fault e.result e.tells ∙ ap (λ (m : Moment). is_some m.fault) same)
 
+  -- where a run leads to a moment it may end so
+  only-ends : (start : Machine) (m : Moment) → Leads (program_of k b) start m → MayEnd T m.fault
+      → (moment : Moment) → Leads (program_of k b) start moment → MayEnd T moment.fault
+  only-ends start m leads may moment other =
+      subst (λ (m : Moment). MayEnd T m.fault) (sym (one_end other leads)) may
+
   -- the start
-  start-answers : (s : Store) (m : Moment) → HasShape (shape_of k h b) s → Starts k b m.world m.fault
+  start-answers : (s : Store) (m : Moment) → HasShape (shape_of k T b) s → Starts k b m.world m.fault
+      → MayEnd T m.fault
       → (after : Store)
-      × Answers (shape_of k h b) (file_of k h b bodies) int (start_function (shape_of k h b)) [] m s after
+      × Answers (shape_of k T b) (file_of k T b bodies) int (start_function (shape_of k T b)) [] m s after
       × IsWorld k b m.world
   unfolding call
-  start-answers s m shape leads =
+  start-answers s m shape leads may =
       let fuel = most_instructions k b in
       let enough = 2 * fuel + 3 in
       let sound = start_moment k b is named in
-      let s0 = first_struct (shape_of k h b) s.rows in
-      let m0 = memory_before (shape_of k h b) in
+      let s0 = first_struct (shape_of k T b) s.rows in
+      let m0 = memory_before (shape_of k T b) in
       let w0 = world_before k.tree k.names in
       let stands : Stands k.tree (λ x. suc x) m0 w0 = record {
         states = no_fields_show k.tree (λ x. suc x) (suc_numbers k.tree);
@@ -231,12 +258,13 @@ module _ (k : Code) (h : ℕ) (b : Bounds) (bodies : ℕ → plan.Block) (int : 
         outputs = refl;
         used = refl;
       } in
-      let ended = ends-as-code k h b bodies (file_of k h b bodies) int fuel k.procedures.start
+      let ended = ends-as-code k T b bodies (file_of k T b bodies) int fuel k.procedures.start
       (from_outside events.Start) m0 w0
-      s0 is named small low written begins most sound (start_ends k b is) stands
-      (first-shows (shape_of k h b) s.rows shape.out shape.note) refl in
+      s0 is named small right written begins most sound (only-ends (start_machine k) m leads may) (start_ends k b is)
+      stands
+      (first-shows (shape_of k T b) s.rows shape.out shape.note) refl in
       let same : ended.moment ≡ m = one_end ended.leads leads in
-      let calls = call (file_of k h b bodies) int enough in
+      let calls = call (file_of k T b bodies) int enough in
       let e = event_number k.names events.Start in
       let few = fit.events in
       let ev : e < 2 ^ 32 = omega (arith, few) in (
@@ -246,47 +274,54 @@ module _ (k : Code) (h : ℕ) (b : Bounds) (bodies : ℕ → plan.Block) (int : 
           gives =
               ap (λ (o : Option Function). run_c int calls enough o [] s) start-there
               ∙ arguments-end 0 no_locals (λ l. returned Truth
-              (outcome int calls enough (start_c (shape_of k h b) k.procedures.start).body s l))
+              (outcome int calls enough (start_c (shape_of k T b) k.procedures.start).body s l))
               ∙ ap (returned Truth) (all-go int calls enough (outside_c k.procedures.start (number e)) s.rows
-              no_locals (first_values (shape_of k h b)) [] s.fields shape.fields
-              (first-stay (shape_of k h b) is.table.inits))
-              ∙ outside-goes (shape_of k h b) int fit calls enough k.procedures.start e ended.result (number e)
+              no_locals (first_values (shape_of k T b)) [] s.fields shape.fields
+              (first-stay (shape_of k T b) is.table.inits))
+              ∙ outside-goes (shape_of k T b) int fit calls enough k.procedures.start e ended.result (number e)
               s0 ended.after no_locals (number-means int most s0 no_locals e ev)
               (tells-small ended.moment.fault ended.result ended.tells) ended.gives
               ∙ told-same (from_outside events.Start) enough k.procedures.start
               (start_machine k) s0 ended m same;
-          shows = subst (λ (m : Moment). ShowsMoment (shape_of k h b) m ended.after) same ended.shows;
+          shows = subst (λ (m : Moment). ShowsMoment (shape_of k T b) m ended.after) same ended.shows;
         },
         over-world k b is leads.steps (start_machine k) m.world m.fault sound leads.ends,
       )
 
   -- a reaction
   react-answers : (m next : Moment) (s : Store) (given : EventWithInputs) (w' : World)
-      → ShowsMoment (shape_of k h b) m s → m.fault ≡ None → IsWorld k b m.world → CanBeGiven k.names given
+      → ShowsMoment (shape_of k T b) m s → m.fault ≡ None → IsWorld k b m.world → CanBeGiven k.names given
       → AreSet 0 given.inputs m.world w' → Reacts k b w' given.event next.world next.fault
+      → MayEnd T next.fault
       → (set : Store) × AreStored k.names 0 given.inputs s set × (after : Store)
-      × Answers (shape_of k h b) (file_of k h b bodies) int (react_function (shape_of k h b))
+      × Answers (shape_of k T b) (file_of k T b bodies) int (react_function (shape_of k T b))
       (record { type = word; value = pos (event_number k.names given.event) } ∷ []) next set after
       × IsWorld k b next.world
   unfolding call
-  react-answers m next s given w' shows none world can sets leads =
+  react-answers m next s given w' shows none world can sets leads may =
       let fuel = most_instructions k b in
       let enough = 2 * fuel + 3 in
       let mem = shows.memory in
-      let shown : Represents (shape_of k h b) None mem s =
-      subst (λ (x : Option Fault). Represents (shape_of k h b) x mem s) none shows.represents in
+      let shown : Represents (shape_of k T b) None mem s =
+      subst (λ (x : Option Fault). Represents (shape_of k T b) x mem s) none shows.represents in
       let st = inputs-stored
-      (shape_of k h b) given.inputs 0 m.world w' mem s world.fits can.inputs sets shows.stands.vals shown in
+      (shape_of k T b) given.inputs 0 m.world w' mem s world.fits can.inputs sets shows.stands.vals shown in
       let m1 = record mem { vals = w'.vals } in
       let long = long-of w'.vals k.names st.fits_still.declared in
-      let s1 = with_field st.set (used_field (shape_of k h b)) (unsigned W32 0) in
-      let h1 = used-put (shape_of k h b) None m1 st.set st.shows long 0 (omega arith) in
       let m2 = record m1 { used = 0 } in
-      let s2 = with_field s1 (outs_field (shape_of k h b)) (unsigned W32 0) in
-      let h2 = out-clear (shape_of k h b) None m2 s1 h1 long in
+      let enough_calls = call (file_of k T b bodies) int enough in
+      let l : Locals = with_local no_locals word 0 (pos (event_number k.names given.event)) in
+      let body = outside_c k.procedures.react (Local word 0) in
+      let first = uncounted-goes (shape_of k T b) int most enough_calls enough
+      (PutField (outs_field (shape_of k T b)) (number 0) (PutField (noted_field (shape_of k T b)) (number 0) body))
+      m1 st.set l st.shows long in
+      let s1 = first.0 in
+      let h1 = first.2 in
+      let s2 = with_field s1 (outs_field (shape_of k T b)) (unsigned W32 0) in
+      let h2 = out-clear (shape_of k T b) None m2 s1 h1 long in
       let m3 = record m2 { outputs = [] } in
-      let s3 = with_field s2 (noted_field (shape_of k h b)) (unsigned W32 0) in
-      let h3 = note-clear (shape_of k h b) None m3 s2 h2 long in
+      let s3 = with_field s2 (noted_field (shape_of k T b)) (unsigned W32 0) in
+      let h3 = note-clear (shape_of k T b) None m3 s2 h2 long in
       let m4 = record m3 { notes = [] } in
       let stands : Stands k.tree (λ x. suc x) m4 (begun w') = record {
         states = subst (λ (c : Configuration). Shows k.tree (λ x. suc x) mem.states c)
@@ -298,15 +333,15 @@ module _ (k : Code) (h : ℕ) (b : Bounds) (bodies : ℕ → plan.Block) (int : 
       } in
       let event = can_react k.names given.event can.event in
       let sound = reaction_moment k b is w' given.event st.fits_still event in
-      let ended = ends-as-code k h b bodies (file_of k h b bodies) int fuel k.procedures.react
-      (from_outside given.event) m4 (begun w') s3 is named small low written begins most sound (reaction_ends k b is w' given.event) stands h3 refl in
+      let ended = ends-as-code k T b bodies (file_of k T b bodies) int fuel k.procedures.react
+      (from_outside given.event) m4 (begun w') s3 is named small right written begins most sound
+      (only-ends (react_machine k w' given.event) next leads may) (reaction_ends k b is w' given.event) stands h3 refl
+      in
       let same : ended.moment ≡ next = one_end ended.leads leads in
-      let calls = call (file_of k h b bodies) int enough in
+      let calls = call (file_of k T b bodies) int enough in
       let e = event_number k.names given.event in
       let few = event-small k given.event event fit.events in
-      let ev : e < 2 ^ 32 = omega (arith, few) in
-      let l : Locals = with_local no_locals word 0 (pos e) in
-      let body = outside_c k.procedures.react (Local word 0) in (
+      let ev : e < 2 ^ 32 = omega (arith, few) in (
         st.set,
         st.stored_are,
         ended.after,
@@ -315,26 +350,24 @@ module _ (k : Code) (h : ℕ) (b : Bounds) (bodies : ℕ → plan.Block) (int : 
           gives =
               ap (λ (o : Option Function). run_c int calls enough o (unsigned W32 e ∷ []) st.set) react-there
               ∙ argument-goes [] e [] 0 no_locals (λ l. returned Truth (outcome int calls enough
-              (react_c (shape_of k h b) k.procedures.react).body st.set l)) ev
+              (react_c (shape_of k T b) k.procedures.react).body st.set l)) ev
               ∙ arguments-end 1 l (λ l. returned Truth (outcome int calls enough
-              (react_c (shape_of k h b) k.procedures.react).body st.set l))
+              (react_c (shape_of k T b) k.procedures.react).body st.set l))
               ∙ ap (returned Truth)
-              (put-word int most calls enough (PutField (outs_field (shape_of k h b)) (number 0)
-              (PutField (noted_field (shape_of k h b)) (number 0) body)) st.set l (used_field (shape_of k h b)) _ 0
-              (number 0) st.shows.used (omega arith) (number-means int most st.set l 0 (omega arith))
-              ∙ put-word int most calls enough (PutField (noted_field (shape_of k h b)) (number 0) body) s1 l
-              (outs_field (shape_of k h b)) _ 0 (number 0) h1.outs (omega arith) (number-means int most s1 l 0
+              (first.1
+              ∙ put-word int most calls enough (PutField (noted_field (shape_of k T b)) (number 0) body) s1 l
+              (outs_field (shape_of k T b)) _ 0 (number 0) h1.outs (omega arith) (number-means int most s1 l 0
               (omega arith))
-              ∙ put-word int most calls enough body s2 l (noted_field (shape_of k h b)) _ 0 (number 0) h2.noted
+              ∙ put-word int most calls enough body s2 l (noted_field (shape_of k T b)) _ 0 (number 0) h2.noted
               (omega arith) (number-means int most s2 l 0 (omega arith)))
-              ∙ outside-goes (shape_of k h b) int fit calls enough k.procedures.react e ended.result
+              ∙ outside-goes (shape_of k T b) int fit calls enough k.procedures.react e ended.result
               (Local word 0) s3
               ended.after l (local-means int most s3 l 0 e refl)
               (tells-small ended.moment.fault ended.result ended.tells) ended.gives
               ∙ told-same (from_outside given.event) enough k.procedures.react
               (react_machine k w' given.event) s3
               ended next same;
-          shows = subst (λ (m : Moment). ShowsMoment (shape_of k h b) m ended.after) same ended.shows;
+          shows = subst (λ (m : Moment). ShowsMoment (shape_of k T b) m ended.after) same ended.shows;
         },
         over-world k b is leads.steps (react_machine k w' given.event) next.world next.fault sound leads.ends,
       )
@@ -342,38 +375,42 @@ module _ (k : Code) (h : ℕ) (b : Bounds) (bodies : ℕ → plan.Block) (int : 
   -- ---- runs
 
   reacts-on : (events : List EventWithInputs) (m : Moment) (s : Store) (moments : List Moment)
-      → ShowsMoment (shape_of k h b) m s → IsWorld k b m.world → AllGiven k.names events
-      → GoesOn (Reacts k b) m events moments
-      → ReactsOn (shape_of k h b) (file_of k h b bodies) int m s events moments
-  reacts-on [] m s moments shows world all goes = goes
-  reacts-on (given ∷ events) m s moments shows world all goes =
+      → ShowsMoment (shape_of k T b) m s → IsWorld k b m.world → AllGiven k.names events
+      → GoesOn (Reacts k b) m events moments → AllByRecursion (λ (m : Moment). MayEnd T m.fault) moments
+      → ReactsOn (shape_of k T b) (file_of k T b bodies) int m s events moments
+  reacts-on [] m s moments shows world all goes may = goes
+  reacts-on (given ∷ events) m s moments shows world all goes may =
       by m.fault refl goes
-      (λ next after later shows' world' goes'. reacts-on events next after later shows' world' all.1 goes')
+      (λ next after later shows' world' goes' may'. reacts-on events next after later shows' world' all.1 goes' may')
     where
       by : (f : Option Fault) → m.fault ≡ f
           → UnlessFaulted f moments ((next : Moment) × (later : List Moment) × (moments ≡ next ∷ later)
           × ReactsWithInputs (Reacts k b) m.world given next.world next.fault × GoesOn (Reacts k b) next events later)
-          → ((next : Moment) (after : Store) (later : List Moment) → ShowsMoment (shape_of k h b) next after
+          → ((next : Moment) (after : Store) (later : List Moment) → ShowsMoment (shape_of k T b) next after
           → IsWorld k b next.world → GoesOn (Reacts k b) next events later
-          → ReactsOn (shape_of k h b) (file_of k h b bodies) int next after events later)
+          → AllByRecursion (λ (m : Moment). MayEnd T m.fault) later
+          → ReactsOn (shape_of k T b) (file_of k T b bodies) int next after events later)
           → UnlessFaulted f moments ((next : Moment) × (later : List Moment) × (moments ≡ next ∷ later)
           × (set : Store) × AreStored k.names 0 given.inputs s set × (after : Store)
-          × Answers (shape_of k h b) (file_of k h b bodies) int (react_function (shape_of k h b))
+          × Answers (shape_of k T b) (file_of k T b bodies) int (react_function (shape_of k T b))
           (record { type = word; value = pos (event_number k.names given.event) } ∷ []) next set after
-          × ReactsOn (shape_of k h b) (file_of k h b bodies) int next after events later)
+          × ReactsOn (shape_of k T b) (file_of k T b bodies) int next after events later)
       by (Some x) none run more = run
       by None none run more =
-          let r = react-answers m run.0 s given run.3.0 shows none world all.0 run.3.1 run.3.2 in
-          (run.0, run.1, run.2, r.0, r.1, r.2, r.3, more run.0 r.2 run.1 r.3.shows r.4 run.4)
+          let ends : AllByRecursion (λ (m : Moment). MayEnd T m.fault) (run.0 ∷ run.1) =
+          subst (λ (ms : List Moment). AllByRecursion (λ (m : Moment). MayEnd T m.fault) ms) run.2 may in
+          let r = react-answers m run.0 s given run.3.0 shows none world all.0 run.3.1 run.3.2 ends.0 in
+          (run.0, run.1, run.2, r.0, r.1, r.2, r.3, more run.0 r.2 run.1 r.3.shows r.4 run.4 ends.1)
 
   -- the run of the file from a struct of its type shows what the run of code gives
-  pub runs-on : (s : Store) (events : List EventWithInputs) (moments : List Moment) → HasShape (shape_of k h b) s
+  pub runs-on : (s : Store) (events : List EventWithInputs) (moments : List Moment) → HasShape (shape_of k T b) s
       → AllGiven k.names events → CodeRun k b events moments
-      → RunsOn (shape_of k h b) (file_of k h b bodies) int s events moments
-  runs-on s events [] shape all code = absurd code
-  runs-on s events (m ∷ moments) shape all code =
-      let r = start-answers s m shape code.0 in
-      (r.0, r.1, reacts-on events m r.0 moments r.1.shows r.2 all code.1)
+      → AllByRecursion (λ (m : Moment). MayEnd T m.fault) moments
+      → RunsOn (shape_of k T b) (file_of k T b bodies) int s events moments
+  runs-on s events [] shape all code may = absurd code
+  runs-on s events (m ∷ moments) shape all code may =
+      let r = start-answers s m shape code.0 may.0 in
+      (r.0, r.1, reacts-on events m r.0 moments r.1.shows r.2 all code.1 may.1)
 
 -- ---- a struct without values
 
@@ -394,10 +431,10 @@ types-unset [] = refl
 types-unset (t ∷ ts) = ap (λ (l : List CType). t ∷ l) (types-unset ts)
 
 -- has the shape of the file
-pub unset-shape : (k : Code) (h : ℕ) (b : Bounds) (bodies : ℕ → plan.Block)
-    → HasShape (shape_of k h b) (no_values (file_of k h b bodies))
-unset-shape k h b bodies = record {
-  fields = types-unset (map (λ (x : CValue). x.type) (first_values (shape_of k h b)));
+pub unset-shape : (k : Code) (T : Tests) (b : Bounds) (bodies : ℕ → plan.Block)
+    → HasShape (shape_of k T b) (no_values (file_of k T b bodies))
+unset-shape k T b bodies = record {
+  fields = types-unset (map (λ (x : CValue). x.type) (first_values (shape_of k T b)));
   out = record {
     row = replicate b.steps (record { type = word; value = None });
     there = refl;
@@ -406,10 +443,10 @@ unset-shape k h b bodies = record {
     shown = λ i x e. absurd (none-got i x e);
   };
   note = record {
-    row = replicate (shape_of k h b).notes (record { type = word; value = None });
+    row = replicate (shape_of k T b).notes (record { type = word; value = None });
     there = refl;
-    sized = length-replicate (shape_of k h b).notes (record { type = word; value = None });
-    typed = typed-unset (shape_of k h b).notes;
+    sized = length-replicate (shape_of k T b).notes (record { type = word; value = None });
+    typed = typed-unset (shape_of k T b).notes;
     shown = λ i x e. absurd (none-got i x e);
   };
 }

@@ -93,24 +93,26 @@ module _ (K : Shape) (int : Width) (fit : IsFit K int) (calls : Calls) (k : ℕ)
       ∙ ap (λ (m : Meaning). with_value m (λ y. Returns s y)) (own-stays W32 r small)
 
   -- and so is what it ended with
-  result-ends : (c u : ℕ) (o : Out) (o' : Outcome) (loc : Locals) → EndsCall K c u o o'
-      → EndsCall K c u (p.closed o) (returned word (called o' word 4 loc (λ v z. Y (Return result_local) v z)))
-  result-ends c u (Fell m l) o' loc e = tt
-  result-ends c u (Left m r) o' loc e =
+  result-ends : (c u : ℕ) (f0 : Bool) (o : Out) (o' : Outcome) (loc : Locals) → EndsCall K c u f0 o o'
+      → EndsCall K c u f0 (p.closed o) (returned word (called o' word 4 loc (λ v z. Y (Return result_local) v z)))
+  result-ends c u f0 (Fell m l) o' loc e = tt
+  result-ends c u f0 (Left m r) o' loc e =
       let small = e.2.result_is in (
         e.0,
         ap (λ (o : Outcome). returned word (called o word 4 loc (λ v z. Y (Return result_local) v z))) e.1
             ∙ result-goes e.0 loc r (omega (arith, small)),
         e.2,
       )
-  result-ends c u (Failed m x) o' loc e = (
-    e.0,
-    ap (λ (o : Outcome). returned word (called o word 4 loc (λ v z. Y (Return result_local) v z))) e.1
-        ∙ result-goes e.0 loc bad (omega arith),
-    e.2,
-  )
-  result-ends c u Starved o' loc e = tt
-  result-ends c u Wrong o' loc e = tt
+  result-ends c u f0 (Failed m x) o' loc e = λ t.
+      let f = e t in (
+        f.0,
+        ap (λ (o : Outcome). returned word (called o word 4 loc (λ v z. Y (Return result_local) v z))) f.1
+            ∙ result-goes f.0 loc bad (omega arith),
+        f.2,
+        f.3,
+      )
+  result-ends c u f0 Starved o' loc e = tt
+  result-ends c u f0 Wrong o' loc e = tt
 
   -- the locals that are parameters
   abbrev handed : ℕ → ℕ → ℕ → ℕ → ℕ → ℕ → Locals
@@ -175,12 +177,12 @@ module _ (K : Shape) (int : Width) (fit : IsFit K int) (file : File)
       let e = event_number K.names now.event in
       let few = can.shows.noted.small in
       let loc = handed K int fit (call file int n) n e now.depth base home r q in
-      subst (λ (o : Outcome). EndsCall K (length m.notes) m.used (plans q now base home r m) o)
+      subst (λ (o : Outcome). EndsCall K (length m.notes) m.used (K.tests.after q) (plans q now base home r m) o)
       (sym (note-runs n e now.depth base home r q s is (let v = can.event in omega (arith, v))
       (let d = can.depth in omega (arith, d, fit.depth)) (let b = can.base_le in omega (arith, b, few))
       (let h = can.home_is in omega (arith, h, fit.states)) (let r = can.result_is in omega (arith, r))))
-      (subst (λ (o : Out). EndsCall K (length m.notes) m.used o (returned word
+      (subst (λ (o : Out). EndsCall K (length m.notes) m.used (K.tests.after q) o (returned word
       (called (call file int n q (five e now.depth base home r) s) word 4 loc
       (λ v z. outcome int (call file int n) n (Return result_local) v z)))) (closes q base home r now m)
-      (result-ends K int fit (call file int n) n (length m.notes) m.used (plans q now base home r m)
+      (result-ends K int fit (call file int n) n (length m.notes) m.used (K.tests.after q) (plans q now base home r m)
       (call file int n q (five e now.depth base home r) s) loc (follow q base home r now m s can)))

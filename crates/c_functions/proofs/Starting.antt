@@ -286,7 +286,7 @@ module _ (K : Shape) (rows : List (List Object)) where
   first-shows out note = record {
     states = states-held;
     vals = λ v lt. datum-there v lt;
-    used = let e : length K.names.vars + 0 ≡ length K.names.vars = omega arith in
+    used = λ t. let e : length K.names.vars + 0 ≡ length K.names.vars = omega arith in
         subst (λ (i : ℕ). HasWord (first_struct K rows).fields i 0) e (word-there 0 refl);
     outs = word-there 1 refl;
     noted = word-there 2 refl;

@@ -22,13 +22,15 @@ use Rattle.c_procedures.specs.Statements as plan
 use Rattle.c_procedures.specs.Meaning as p
 use Rattle.c_procedures.specs.Meaning.{check, exec}
 use Rattle.c_functions.specs.Layout.{HoldsStates}
-use Rattle.c_functions.specs.Plans.{Shape, layout, noted_field, on_function, bare_function, helper, event_number, bad}
-use Rattle.c_functions.specs.Plans.{word, noted_function}
+use Rattle.c_functions.specs.Moments.{MayEnd}
+use Rattle.c_functions.specs.Plans.{Shape, Tests, layout, noted_field, on_function, bare_function, helper}
+use Rattle.c_functions.specs.Plans.{event_number, bad, word, noted_function}
 use Rattle.c_functions.specs.Plans.{number, faulted, unless_bad, ask_home, check_c, plan_c, result_local, depth_local}
 use Rattle.c_functions.specs.Plans.{home_local}
 use Rattle.c_functions.specs.Files.{Represents}
 use Rattle.c_functions.proofs.Tests.{unsigned, equal-numbers}
 use Rattle.c_functions.proofs.Noting.{IsIn}
+use Rattle.c_functions.proofs.Structs.{not-both}
 use Rattle.c_functions.proofs.Words.{at_least-is, number-means, local-means, field-means, compare-has}
 use Rattle.c_functions.proofs.Words.{values-given}
 use Rattle.c_functions.proofs.Words.{called-goes, set-goes, if-goes, return-gives}
@@ -64,14 +66,14 @@ pub record CanCall (K : Shape) (h : ℕ → ℕ) (most : ℕ) (q base home r : �
 abbrev pub ProceduresFollow : Shape → (ℕ → ℕ) → ℕ → p.Calls → Calls → Type 0
 ProceduresFollow K h most call calls = (q base home r : ℕ) (now : Now) (m : Memory) (s : Store)
     → CanCall K h most q base home r now m s
-    → EndsCall K (length m.notes) m.used (call q now base home r m)
+    → EndsCall K (length m.notes) m.used (K.tests.after q) (call q now base home r m)
     (calls q (five (event_number K.names now.event) now.depth base home r) s)
 
 -- the function that calls a noted procedure does what that procedure's plan does
 abbrev pub NotesFollow : Shape → (ℕ → ℕ) → ℕ → p.Calls → Calls → Type 0
 NotesFollow K h most call calls = (q base home r : ℕ) (now : Now) (m : Memory) (s : Store) → IsIn K.noted q
     → CanCall K h most q base home r now m s
-    → EndsCall K (length m.notes) m.used (call q now base home r m)
+    → EndsCall K (length m.notes) m.used (K.tests.after q) (call q now base home r m)
     (calls (noted_function K) (six (event_number K.names now.event) now.depth base home r q) s)
 
 -- the calls of a file: those of procedures, of noted ones, of the home, and of flow_divW
@@ -86,6 +88,11 @@ pub record HasCalls (K : Shape) (h : ℕ → ℕ) (most : ℕ) (call : p.Calls) 
       → calls (bare_function K) (unsigned W32 x ∷ []) s
       ≡ Returns s (record { type = Truth; value = one_if (c_bare K.tree K.numbers x st) })
 
+-- a run isn't ended by the bound of depth where the depth is tested and isn't
+not-tested : (T : Tests) → MayEnd T (Some faults.Depth) → T.depth ≡ false → ⊥
+unfolding MayEnd
+not-tested T on off = not-both T.depth on off
+
 not-same : (a b : ℕ) → a < b → nat_eq a b ≡ false
 not-same a b lt = grind (arith, nat_tests)
 
@@ -93,7 +100,7 @@ self-same : (a : ℕ) → nat_eq a a ≡ true
 self-same a = grind (arith, nat_tests)
 
 module _ (K : Shape) (int : Width) (fit : IsFit K int) (bodies : ℕ → plan.Block) (call : p.Calls) (turns_left : ℕ)
-    (calls : Calls) (k : ℕ) (c0 u0 : ℕ) (p0 : Bool) (now : Now) where
+    (calls : Calls) (k : ℕ) (c0 u0 : ℕ) (f0 p0 : Bool) (now : Now) where
   abbrev X : plan.Block → Memory → Inner → Out
   X a m l = exec (program_c K bodies) call turns_left now a m l
 
@@ -104,10 +111,10 @@ module _ (K : Shape) (int : Width) (fit : IsFit K int) (bodies : ℕ → plan.Bl
   At c m l s loc = IsAt K c0 u0 p0 now c m l s loc
 
   abbrev Goes : ℕ → (Memory → Inner → Store → Locals → Type 0) → plan.Block → Type 0
-  Goes c R a = Follows K c0 u0 (At c) R (X a) (Y (plan_c K a))
+  Goes c R a = Follows K c0 u0 f0 (At c) R (X a) (Y (plan_c K a))
 
   abbrev EndsIn : (Memory → Inner → Store → Locals → Type 0) → Out → Outcome → Type 0
-  EndsIn R o o' = Ends K c0 u0 R o o'
+  EndsIn R o o' = Ends K c0 u0 f0 R o o'
 
   -- other locals that agree
   pub at-locals : (c : ℕ) (m : Memory) (l : Inner) (s : Store) (loc after : Locals) → AgreeBelow 6 loc after
@@ -163,36 +170,54 @@ module _ (K : Shape) (int : Width) (fit : IsFit K int) (bodies : ℕ → plan.Bl
       ∙ ap (λ (o : Outcome). and_on (cond (nat_eq r bad) o (Falls s loc)) (λ v o. Y rest v o))
       (return-gives int calls k s loc bad (number bad) (number-means int fit.most s loc bad (omega arith)))
 
-  -- a call, the test of what it gave, and other statements
-  pub called-ends : (R : Memory → Inner → Store → Locals → Type 0) (c : ℕ) (o : Out) (o' : Outcome) (m : Memory)
-      (l : Inner) (s : Store) (loc : Locals) (f : Memory → Inner → Out) (rest : Block) → At c m l s loc
-      → EndsCall K c m.used o o' → Follows K c0 u0 (At c) R f (Y rest)
+  -- a result isn't BAD, whether it is tested or not
+  after-goes : (b : Bool) (rest : Block) (s : Store) (loc : Locals) (r : ℕ) → r < bad → loc word 4 ≡ Some (pos r)
+      → Y (cond b (unless_bad rest) rest) s loc ≡ Y rest s loc
+  after-goes true rest s loc r low there =
+      unless-goes rest s loc r (omega (arith, low)) there
+      ∙ ap (λ (b : Bool). and_on (cond b (Returns s (unsigned W32 bad)) (Falls s loc)) (λ v o. Y rest v o))
+      (not-same r bad low)
+  after-goes false rest s loc r low there = refl
+
+  -- or is BAD, and is tested
+  after-returns : (b : Bool) → b ≡ true → (rest : Block) (s : Store) (loc : Locals) → loc word 4 ≡ Some (pos bad)
+      → Y (cond b (unless_bad rest) rest) s loc ≡ Returns s (unsigned W32 bad)
+  after-returns true on rest s loc there =
+      unless-goes rest s loc bad (omega arith) there
+      ∙ ap (λ (b : Bool). and_on (cond b (Returns s (unsigned W32 bad)) (Falls s loc)) (λ v o. Y rest v o))
+      (self-same bad)
+  after-returns false on rest s loc there = absurd cc
+
+  -- a call, the test of what it gave, and other statements; the called function is one whose result is tested, as f1
+  -- tells
+  pub called-ends : (R : Memory → Inner → Store → Locals → Type 0) (b f1 : Bool) → (f1 ≡ true → b ≡ true)
+      → (f1 ≡ true → f0 ≡ true) → (c : ℕ) (o : Out) (o' : Outcome) (m : Memory) (l : Inner) (s : Store) (loc : Locals)
+      (f : Memory → Inner → Out) (rest : Block) → At c m l s loc → EndsCall K c m.used f1 o o'
+      → Follows K c0 u0 f0 (At c) R f (Y rest)
       → EndsIn R (p.and_with o (λ v r. f v (record l { result = r })))
-      (called o' word 4 loc (λ v z. Y (unless_bad rest) v z))
-  called-ends R c (Fell v z) o' m l s loc f rest h ends go = tt
-  called-ends R c (Left v r) o' m l s loc f rest h ends go =
+      (called o' word 4 loc (λ v z. Y (cond b (unless_bad rest) rest) v z))
+  called-ends R b f1 on fails c (Fell v z) o' m l s loc f rest h ends go = tt
+  called-ends R b f1 on fails c (Left v r) o' m l s loc f rest h ends go =
       let at = at-result c m v l s ends.0 loc r h ends.2 in
       let low = ends.2.result_is in
       let after = with_local loc word 4 (pos r) in
       subst (λ (o : Outcome). EndsIn R (f v (record l { result = r })) o)
-      (sym (ap (λ (o : Outcome). called o word 4 loc (λ v z. Y (unless_bad rest) v z)) ends.1
-      ∙ called-goes ends.0 r 4 loc (λ v z. Y (unless_bad rest) v z) (omega (arith, low))
-      ∙ unless-goes rest ends.0 after r (omega (arith, low)) refl
-      ∙ ap (λ (b : Bool). and_on (cond b (Returns ends.0 (unsigned W32 bad)) (Falls ends.0 after))
-      (λ v o. Y rest v o)) (not-same r bad low)))
+      (sym (ap (λ (o : Outcome). called o word 4 loc (λ v z. Y (cond b (unless_bad rest) rest) v z)) ends.1
+      ∙ called-goes ends.0 r 4 loc (λ v z. Y (cond b (unless_bad rest) rest) v z) (omega (arith, low))
+      ∙ after-goes b rest ends.0 after r low refl))
       (go v (record l { result = r }) ends.0 after at)
-  called-ends R c (Failed v x) o' m l s loc f rest h ends go =
+  called-ends R b f1 on fails c (Failed v x) o' m l s loc f rest h ends go = λ t.
+      let e = ends t in
       let after = with_local loc word 4 (pos bad) in (
-        ends.0,
-        ap (λ (o : Outcome). called o word 4 loc (λ v z. Y (unless_bad rest) v z)) ends.1
-            ∙ called-goes ends.0 bad 4 loc (λ v z. Y (unless_bad rest) v z) (omega arith)
-            ∙ unless-goes rest ends.0 after bad (omega arith) refl
-            ∙ ap (λ (b : Bool). and_on (cond b (Returns ends.0 (unsigned W32 bad)) (Falls ends.0 after))
-            (λ v o. Y rest v o)) (self-same bad),
-        ends.2,
+        e.0,
+        ap (λ (o : Outcome). called o word 4 loc (λ v z. Y (cond b (unless_bad rest) rest) v z)) e.1
+            ∙ called-goes e.0 bad 4 loc (λ v z. Y (cond b (unless_bad rest) rest) v z) (omega arith)
+            ∙ after-returns b (on e.3) rest e.0 after refl,
+        e.2,
+        fails e.3,
       )
-  called-ends R c Starved o' m l s loc f rest h ends go = tt
-  called-ends R c Wrong o' m l s loc f rest h ends go = tt
+  called-ends R b f1 on fails c Starved o' m l s loc f rest h ends go = tt
+  called-ends R b f1 on fails c Wrong o' m l s loc f rest h ends go = tt
 
   -- ---- branches
 
@@ -206,7 +231,7 @@ module _ (K : Shape) (int : Width) (fit : IsFit K int) (bodies : ℕ → plan.Bl
   branch-ends R e b x y rest m l s loc has one other go =
       subst (λ (o : Outcome). EndsIn R (p.and_on (p.branch (Ok b) m (X x m l) (X y m l)) (X rest)) o)
       (sym (if-goes int fit.most calls k (plan_c K rest) s loc b e (plan_c K x) (plan_c K y) has))
-      (ends-on K c0 u0 (At c0) R (p.branch (Ok b) m (X x m l) (X y m l))
+      (ends-on K c0 u0 f0 (At c0) R (p.branch (Ok b) m (X x m l) (X y m l))
       (cond b (Y (plan_c K x) s loc) (Y (plan_c K y) s loc)) (X rest) (Y (plan_c K rest)) (at b refl) go)
     where
       at : (d : Bool) → b ≡ d → EndsIn (At c0) (p.branch (Ok d) m (X x m l) (X y m l))
@@ -239,29 +264,41 @@ module _ (K : Shape) (int : Width) (fit : IsFit K int) (bodies : ℕ → plan.Bl
 
   -- a test of depth
   pub deep-ends : (R : Memory → Inner → Store → Locals → Type 0) (c : ℕ) (rest : plan.Block) (m : Memory) (l : Inner)
-      (s : Store) (loc : Locals) → At c m l s loc → now.depth ≤ K.bounds.depth
+      (s : Store) (loc : Locals) → (K.tests.depth ≡ true → f0 ≡ true) → At c m l s loc → now.depth ≤ K.bounds.depth
       → (now.depth < K.bounds.depth → EndsIn R (X rest m l) (Y (plan_c K rest) s loc))
       → EndsIn R (X (plan.Deep rest) m l) (Y (plan_c K (plan.Deep rest)) s loc)
   unfolding exec plan_c outcome
-  deep-ends R c rest m l s loc h within go =
-      subst (λ (o : Outcome). EndsIn R (X (plan.Deep rest) m l) o)
-      (sym (if-goes int fit.most calls k (plan_c K rest) s loc (nat_le K.bounds.depth now.depth)
-      (Compare IsAtLeast depth_local (number K.bounds.depth)) (faulted K faults.Depth) End
-      (subst (λ (b : Bool). Has int s loc (Compare IsAtLeast depth_local (number K.bounds.depth)) (one_if b))
-      (at_least-is now.depth K.bounds.depth)
-      (compare-has int fit.most s loc IsAtLeast depth_local (number K.bounds.depth) now.depth K.bounds.depth
-      (omega (arith, within, fit.depth)) (omega (arith, fit.depth)) (local-means int fit.most s loc 1 now.depth h.depth)
-      (number-means int fit.most s loc K.bounds.depth (omega (arith, fit.depth)))))))
-      (at (nat_le K.bounds.depth now.depth) refl)
+  deep-ends R c rest m l s loc fails h within go = by K.tests.depth refl
     where
-      at : (b : Bool) → nat_le K.bounds.depth now.depth ≡ b
+      at : K.tests.depth ≡ true → (b : Bool) → nat_le K.bounds.depth now.depth ≡ b
           → EndsIn R (p.unless_met b faults.Depth m (X rest m l))
           (and_on (cond b (Y (faulted K faults.Depth) s loc) (Falls s loc)) (λ v o. Y (plan_c K rest) v o))
-      at true e =
-          let x = faulted-ends K int fit bodies call turns_left calls k c0 u0 p0 now R c m l s loc faults.Depth h
-          (omega arith)
-          in (x.0, ap (λ (o : Outcome). and_on o (λ v o. Y (plan_c K rest) v o)) x.1, x.2)
-      at false e = go (grind (arith, nat_tests))
+      at on true e = λ t.
+          let x = faulted-ends K int fit bodies call turns_left calls k c0 u0 f0 p0 now R c m l s loc faults.Depth h
+          (omega arith) (fails on) t
+          in (x.0, ap (λ (o : Outcome). and_on o (λ v o. Y (plan_c K rest) v o)) x.1, x.2, x.3)
+      at on false e = go (grind (arith, nat_tests))
+
+      untold : K.tests.depth ≡ false → (b : Bool) → nat_le K.bounds.depth now.depth ≡ b
+          → EndsIn R (p.unless_met b faults.Depth m (X rest m l)) (Y (plan_c K rest) s loc)
+      untold off true e = λ t. absurd (not-tested K.tests t off)
+      untold off false e = go (grind (arith, nat_tests))
+
+      by : (b : Bool) → K.tests.depth ≡ b
+          → EndsIn R (X (plan.Deep rest) m l) (Y (cond b (If (Compare IsAtLeast depth_local (number K.bounds.depth))
+          (faulted K faults.Depth) End (plan_c K rest)) (plan_c K rest)) s loc)
+      by true on =
+          subst (λ (o : Outcome). EndsIn R (X (plan.Deep rest) m l) o)
+          (sym (if-goes int fit.most calls k (plan_c K rest) s loc (nat_le K.bounds.depth now.depth)
+          (Compare IsAtLeast depth_local (number K.bounds.depth)) (faulted K faults.Depth) End
+          (subst (λ (b : Bool). Has int s loc (Compare IsAtLeast depth_local (number K.bounds.depth)) (one_if b))
+          (at_least-is now.depth K.bounds.depth)
+          (compare-has int fit.most s loc IsAtLeast depth_local (number K.bounds.depth) now.depth K.bounds.depth
+          (omega (arith, within, fit.depth)) (omega (arith, fit.depth))
+          (local-means int fit.most s loc 1 now.depth h.depth)
+          (number-means int fit.most s loc K.bounds.depth (omega (arith, fit.depth)))))))
+          (at on (nat_le K.bounds.depth now.depth) refl)
+      by false off = untold off (nat_le K.bounds.depth now.depth) refl
 
   -- the home is set
   pub home-ends : (R : Memory → Inner → Store → Locals → Type 0) (c q : ℕ) (rest : plan.Block)

@@ -1,6 +1,6 @@
 -- The struct shows memory after each change of one part.
 use Rattle.std.proofs.Common.{◌≡◌, ◌≢◌, ℕ, ◌+◌, ◌-◌, ◌^◌, ◌<◌, ◌≤◌, pos, List, [], ◌∷◌, ◌++◌, length}
-use Rattle.std.proofs.Common.{Option}
+use Rattle.std.proofs.Common.{Option, Bool, true, false}
 use Rattle.std.proofs.Common.{slice_set, sym, ◌∙◌, subst, arith}
 use Rattle.flow_base.specs.declared.fault.Fault.{Fault}
 use Rattle.actions.specs.Data.{Datum}
@@ -18,6 +18,10 @@ use Rattle.c_functions.specs.Files.{HasWord, Represents}
 use Rattle.c_functions.proofs.Tests.{unsigned}
 use Rattle.c_functions.proofs.Words.{set-other, word-kept, word-put, row-pushed, row-other, row-front, row-empty}
 use Rattle.c_functions.proofs.Words.{length-push, front-length}
+
+-- what is tested isn't left out
+pub not-both : (b : Bool) → b ≡ true → b ≡ false → ⊥
+not-both b on off = absurd cc
 
 -- where another array changes, and one field before those of states
 states-kept : (K : Shape) (st : States) (s : Store) (f : ℕ) (v : CValue) (rows : List (List Object))
@@ -52,11 +56,25 @@ module _ (K : Shape) (x : Option Fault) (m : Memory) (s : Store) (h : Represents
   used-put a small = record {
     states = states-kept K m.states s (used_field K) (unsigned W32 a) s.rows (omega arith) h.states;
     vals = data-kept K m.vals s (used_field K) (unsigned W32 a) (omega (arith, long)) h.vals;
-    used = word-put s.fields (used_field K) _ a h.used small;
+    used = λ t. word-put s.fields (used_field K) _ a (h.used t) small;
     outs = word-kept s.fields (used_field K) (outs_field K) _ _ (λ e. absurd (omega (arith, e))) h.outs;
     noted = word-kept s.fields (used_field K) (noted_field K) _ _ (λ e. absurd (omega (arith, e))) h.noted;
     fault_is = word-kept s.fields (used_field K) (fault_field K) _ _ (λ e. absurd (omega (arith, e))) h.fault_is;
     datum_is = word-kept s.fields (used_field K) (fault_datum_field K) _ _ (λ e. absurd (omega (arith, e))) h.datum_is;
+    out = h.out;
+    note = h.note;
+  }
+
+  -- a step more is used, where steps aren't counted
+  pub used-untold : (a : ℕ) → K.tests.steps ≡ false → Represents K x (record m { used = a }) s
+  used-untold a off = record {
+    states = h.states;
+    vals = h.vals;
+    used = λ on. absurd (not-both K.tests.steps on off);
+    outs = h.outs;
+    noted = h.noted;
+    fault_is = h.fault_is;
+    datum_is = h.datum_is;
     out = h.out;
     note = h.note;
   }
@@ -69,7 +87,7 @@ module _ (K : Shape) (x : Option Fault) (m : Memory) (s : Store) (h : Represents
   out-put e room small = record {
     states = states-kept K m.states s (outs_field K) (unsigned W32 (length m.outputs + 1)) _ (omega arith) h.states;
     vals = data-kept K m.vals s (outs_field K) (unsigned W32 (length m.outputs + 1)) (omega (arith, long)) h.vals;
-    used = word-kept s.fields (outs_field K) (used_field K) _ _ (λ e. absurd (omega (arith, e))) h.used;
+    used = λ t. word-kept s.fields (outs_field K) (used_field K) _ _ (λ e. absurd (omega (arith, e))) (h.used t);
     outs = subst (λ (n : ℕ). HasWord
         (slice_set s.fields (outs_field K) (object_of (unsigned W32 (length m.outputs + 1)))) (outs_field K) n)
         (sym (length-push m.outputs e)) (word-put s.fields (outs_field K) _ (length m.outputs + 1) h.outs small);
@@ -88,7 +106,7 @@ module _ (K : Shape) (x : Option Fault) (m : Memory) (s : Store) (h : Represents
   note-put p room small = record {
     states = states-kept K m.states s (noted_field K) (unsigned W32 (length m.notes + 1)) _ (omega arith) h.states;
     vals = data-kept K m.vals s (noted_field K) (unsigned W32 (length m.notes + 1)) (omega (arith, long)) h.vals;
-    used = word-kept s.fields (noted_field K) (used_field K) _ _ (λ e. absurd (omega (arith, e))) h.used;
+    used = λ t. word-kept s.fields (noted_field K) (used_field K) _ _ (λ e. absurd (omega (arith, e))) (h.used t);
     outs = word-kept s.fields (noted_field K) (outs_field K) _ _ (λ e. absurd (omega (arith, e))) h.outs;
     noted = subst (λ (n : ℕ). HasWord
         (slice_set s.fields (noted_field K) (object_of (unsigned W32 (length m.notes + 1)))) (noted_field K) n)
@@ -105,7 +123,7 @@ module _ (K : Shape) (x : Option Fault) (m : Memory) (s : Store) (h : Represents
   note-drop = record {
     states = states-kept K m.states s (noted_field K) (unsigned W32 (length m.notes - 1)) s.rows (omega arith) h.states;
     vals = data-kept K m.vals s (noted_field K) (unsigned W32 (length m.notes - 1)) (omega (arith, long)) h.vals;
-    used = word-kept s.fields (noted_field K) (used_field K) _ _ (λ e. absurd (omega (arith, e))) h.used;
+    used = λ t. word-kept s.fields (noted_field K) (used_field K) _ _ (λ e. absurd (omega (arith, e))) (h.used t);
     outs = word-kept s.fields (noted_field K) (outs_field K) _ _ (λ e. absurd (omega (arith, e))) h.outs;
     noted = subst (λ (n : ℕ). HasWord
         (slice_set s.fields (noted_field K) (object_of (unsigned W32 (length m.notes - 1)))) (noted_field K) n)
@@ -122,7 +140,7 @@ module _ (K : Shape) (x : Option Fault) (m : Memory) (s : Store) (h : Represents
   out-clear = record {
     states = states-kept K m.states s (outs_field K) (unsigned W32 0) s.rows (omega arith) h.states;
     vals = data-kept K m.vals s (outs_field K) (unsigned W32 0) (omega (arith, long)) h.vals;
-    used = word-kept s.fields (outs_field K) (used_field K) _ _ (λ e. absurd (omega (arith, e))) h.used;
+    used = λ t. word-kept s.fields (outs_field K) (used_field K) _ _ (λ e. absurd (omega (arith, e))) (h.used t);
     outs = word-put s.fields (outs_field K) _ 0 h.outs (omega arith);
     noted = word-kept s.fields (outs_field K) (noted_field K) _ _ (λ e. absurd (omega (arith, e))) h.noted;
     fault_is = word-kept s.fields (outs_field K) (fault_field K) _ _ (λ e. absurd (omega (arith, e))) h.fault_is;
@@ -136,7 +154,7 @@ module _ (K : Shape) (x : Option Fault) (m : Memory) (s : Store) (h : Represents
   note-clear = record {
     states = states-kept K m.states s (noted_field K) (unsigned W32 0) s.rows (omega arith) h.states;
     vals = data-kept K m.vals s (noted_field K) (unsigned W32 0) (omega (arith, long)) h.vals;
-    used = word-kept s.fields (noted_field K) (used_field K) _ _ (λ e. absurd (omega (arith, e))) h.used;
+    used = λ t. word-kept s.fields (noted_field K) (used_field K) _ _ (λ e. absurd (omega (arith, e))) (h.used t);
     outs = word-kept s.fields (noted_field K) (outs_field K) _ _ (λ e. absurd (omega (arith, e))) h.outs;
     noted = word-put s.fields (noted_field K) _ 0 h.noted (omega arith);
     fault_is = word-kept s.fields (noted_field K) (fault_field K) _ _ (λ e. absurd (omega (arith, e))) h.fault_is;
@@ -151,7 +169,7 @@ module _ (K : Shape) (x : Option Fault) (m : Memory) (s : Store) (h : Represents
   vals-put vals v a lt show = record {
     states = states-kept K m.states s v a s.rows (omega (arith, lt)) h.states;
     vals = show;
-    used = word-kept s.fields v (used_field K) _ _ (λ e. absurd (omega (arith, lt, e))) h.used;
+    used = λ t. word-kept s.fields v (used_field K) _ _ (λ e. absurd (omega (arith, lt, e))) (h.used t);
     outs = word-kept s.fields v (outs_field K) _ _ (λ e. absurd (omega (arith, lt, e))) h.outs;
     noted = word-kept s.fields v (noted_field K) _ _ (λ e. absurd (omega (arith, lt, e))) h.noted;
     fault_is = word-kept s.fields v (fault_field K) _ _ (λ e. absurd (omega (arith, lt, e))) h.fault_is;
@@ -167,7 +185,7 @@ module _ (K : Shape) (x : Option Fault) (m : Memory) (s : Store) (h : Represents
   states-put st f a above holds = record {
     states = holds;
     vals = data-kept K m.vals s f a (omega (arith, long, above)) h.vals;
-    used = word-kept s.fields f (used_field K) _ _ (λ e. absurd (omega (arith, above, e))) h.used;
+    used = λ t. word-kept s.fields f (used_field K) _ _ (λ e. absurd (omega (arith, above, e))) (h.used t);
     outs = word-kept s.fields f (outs_field K) _ _ (λ e. absurd (omega (arith, above, e))) h.outs;
     noted = word-kept s.fields f (noted_field K) _ _ (λ e. absurd (omega (arith, above, e))) h.noted;
     fault_is = word-kept s.fields f (fault_field K) _ _ (λ e. absurd (omega (arith, above, e))) h.fault_is;
@@ -193,8 +211,8 @@ module _ (K : Shape) (x : Option Fault) (m : Memory) (s : Store) (h : Represents
             (states-kept K m.states s f a s.rows (omega arith) h.states);
         vals = data-kept K m.vals (with_field s f a) g b (omega (arith, long))
             (data-kept K m.vals s f a (omega (arith, long)) h.vals);
-        used = word-kept one g (used_field K) _ _ (λ e. absurd (omega (arith, e)))
-            (word-kept s.fields f (used_field K) _ _ (λ e. absurd (omega (arith, e))) h.used);
+        used = λ t. word-kept one g (used_field K) _ _ (λ e. absurd (omega (arith, e)))
+            (word-kept s.fields f (used_field K) _ _ (λ e. absurd (omega (arith, e))) (h.used t));
         outs = word-kept one g (outs_field K) _ _ (λ e. absurd (omega (arith, e)))
             (word-kept s.fields f (outs_field K) _ _ (λ e. absurd (omega (arith, e))) h.outs);
         noted = word-kept one g (noted_field K) _ _ (λ e. absurd (omega (arith, e)))

@@ -1,11 +1,12 @@
 -- The functions of a file, and when its struct shows the memory of a plan.
 use Rattle.std.specs.Prelude.{◌≡◌, ℕ, suc, ◌+◌, ◌*◌, ◌^◌, ◌<◌, pos, List, [], ◌∷◌, ◌++◌, length, map, slice_get}
-use Rattle.std.specs.Prelude.{Option, Some, if◌then◌else◌}
+use Rattle.std.specs.Prelude.{Option, Some, if◌then◌else◌, true}
 use Rattle.std.specs.List.{range_with_len}
 use Rattle.flow_base.specs.declared.bounds.Bounds.{Bounds}
 use Rattle.flow_base.specs.declared.fault.Fault.{Fault}
 use Rattle.active_config.specs.Tree.{state_count}
 use Rattle.code_language.specs.Code.{Code}
+use Rattle.code_language.specs.Measures.{greatest, heights}
 use Rattle.c_subset.specs.Trees.{CExpr, Const, Compare, Local, Block}
 use Rattle.c_subset.specs.declared.trees.Width.TheVariants.{W8, W16, W32, W64, W128}
 use Rattle.c_subset.specs.declared.trees.CType.TheVariants.{Truth}
@@ -19,21 +20,29 @@ use Rattle.c_procedures.specs.Statements.{Memory}
 use Rattle.c_procedures.specs.Statements as plan
 use Rattle.c_functions.specs.Layout.{HoldsStates, on_c, bare_c}
 use Rattle.c_functions.specs.Notes.{noted_in}
-use Rattle.c_functions.specs.Plans.{Shape, layout, word, number, plays, plan_c, used_field, outs_field, noted_field}
+use Rattle.c_functions.specs.Plans.{Shape, Tests, layout, word, number, plays, plan_c, used_field, outs_field}
+use Rattle.c_functions.specs.Plans.{noted_field}
 use Rattle.c_functions.specs.Plans.{event_local, depth_local, base_local, home_local, result_local, cases_of}
 use Rattle.c_functions.specs.Plans.{fault_field, fault_datum_field, fault_number, fault_datum, out_row, note_row}
 
+-- How many entries note[] has: room for a chain of calls of the greatest height for an event and for each of its steps;
+-- one, which nothing uses, where nothing is noted.
+abbrev pub note_room : List ℕ → ℕ → ℕ → ℕ
+note_room [] height steps = 1
+note_room (q ∷ noted) height steps = (steps + 1) * (height + 1)
+
 -- The shape of code: a state's number as a child is one more than its own, and the procedures that the code notes may
--- stand in note[]. That has room for a chain of calls of a given height for an event and for each of its steps.
-abbrev pub shape_of : Code → ℕ → Bounds → Shape
-shape_of k h b = record {
+-- stand in note[].
+abbrev pub shape_of : Code → Tests → Bounds → Shape
+shape_of k T b = record {
   tree = k.tree;
   numbers = λ x. suc x;
   names = k.names;
   bounds = b;
+  tests = T;
   procs = length k.procedures.procs;
   noted = noted_in k.procedures.procs;
-  notes = (b.steps + 1) * (h + 1);
+  notes = note_room (noted_in k.procedures.procs) (greatest (heights k.procedures.procs)) b.steps;
 }
 
 -- ---- functions
@@ -94,11 +103,11 @@ pub record HasRow (rows : List (List Object)) (a size : ℕ) (xs : List ℕ) : T
   pub shown : (i x : ℕ) → slice_get xs i ≡ Some x
       → slice_get row i ≡ Some (record { type = word; value = Some (pos x) })
 
--- the struct shows the memory of a plan, and a fault or none
+-- the struct shows the memory of a plan, but for steps that aren't counted, and a fault or none
 pub record Represents (K : Shape) (fault : Option Fault) (m : Memory) (s : Store) : Type 0 where
   pub states : HoldsStates K.tree (layout K) m.states s
   pub vals : ShowsData m.vals s
-  pub used : HasWord s.fields (used_field K) m.used
+  pub used : K.tests.steps ≡ true → HasWord s.fields (used_field K) m.used
   pub outs : HasWord s.fields (outs_field K) (length m.outputs)
   pub noted : HasWord s.fields (noted_field K) (length m.notes)
   pub fault_is : HasWord s.fields (fault_field K) (fault_number fault)

@@ -1,7 +1,8 @@
 -- When the struct shows a moment of a run of code, and when a call of a procedure's function ends as code.
-use Rattle.std.specs.Prelude.{◌≡◌, ◌<◌, ℕ, ◌++◌, pos, List, [], ◌∷◌, Option, Some, None}
+use Rattle.std.specs.Prelude.{◌≡◌, ◌<◌, ℕ, ◌++◌, pos, List, [], ◌∷◌, Option, Some, None, true}
 use Rattle.flow_base.specs.declared.bounds.Bounds.{Bounds}
 use Rattle.flow_base.specs.declared.fault.Fault.{Fault}
+use Rattle.flow_base.specs.declared.fault.Fault.TheVariants as faults
 use Rattle.actions.specs.Runs.{Moment}
 use Rattle.actions.specs.Work.{Now}
 use Rattle.code_language.specs.Code.{Code, fetch}
@@ -14,13 +15,21 @@ use Rattle.c_subset.specs.Meaning.{CValue, Store}
 use Rattle.c_subset.specs.Running.{Returns, call}
 use Rattle.c_procedures.specs.Statements.{Memory}
 use Rattle.c_procedures.specs.Runs.{Stands}
-use Rattle.c_functions.specs.Plans.{Shape, event_number, word, bad}
+use Rattle.c_functions.specs.Plans.{Shape, Tests, event_number, word, bad}
 use Rattle.c_functions.specs.Files.{Represents, shape_of}
 
 -- the results of code, and those that it tests, are below the number that tells a fault
 pub record HasSmallResults (k : Code) : Type 0 where
   pub returned : (p i r : ℕ) → fetch k.procedures p i ≡ Some (Ret r) → r < bad
   pub tested : (p i j r : ℕ) → fetch k.procedures p i ≡ Some (Unless j (Result r)) → r < bad
+
+-- a run may end so: without a fault, by one that isn't of a bound, or by that of a bound that is tested
+unfoldable pub MayEnd : Tests → Option Fault → Type 0
+MayEnd T None = Unit {0}
+MayEnd T (Some faults.Depth) = T.depth ≡ true
+MayEnd T (Some faults.Steps) = T.steps ≡ true
+MayEnd T (Some (faults.Overflow v)) = Unit {0}
+MayEnd T (Some faults.Zero) = Unit {0}
 
 -- a file begins with these functions
 pub record BeginsWith (file : File) (functions : List Function) : Type 0 where
@@ -49,7 +58,7 @@ arguments_c e d b h r =
 
 -- code leads to a moment, and the call of the procedure's function returns, tells whether there was a fault, and leaves
 -- a struct that shows the moment
-pub record EndsAsCode (k : Code) (h : ℕ) (b : Bounds) (file : File) (int : Width) (fuel p : ℕ) (now : Now)
+pub record EndsAsCode (k : Code) (T : Tests) (b : Bounds) (file : File) (int : Width) (fuel p : ℕ) (now : Now)
     (start : Machine) (s : Store) : Type 0 where
   pub moment : Moment
   pub leads : Leads (program_of k b) start moment
@@ -57,5 +66,5 @@ pub record EndsAsCode (k : Code) (h : ℕ) (b : Bounds) (file : File) (int : Wid
   pub result : ℕ
   pub gives : call file int fuel p (arguments_c (event_number k.names now.event) now.depth 0 0 0) s
       ≡ Returns after (word_of result)
-  pub shows : ShowsMoment (shape_of k h b) moment after
+  pub shows : ShowsMoment (shape_of k T b) moment after
   pub tells : TellsFault moment.fault result

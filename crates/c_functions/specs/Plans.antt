@@ -1,6 +1,6 @@
 -- The C of a plan: which statements are written for it, over the struct and the locals of its function.
 use Rattle.std.specs.Prelude.{ℕ, ◌+◌, pos, List, [], ◌∷◌, length, map, slice_index_or, Option}
-use Rattle.std.specs.Prelude.{Some, None, Bool, true, false, ◌||◌}
+use Rattle.std.specs.Prelude.{Some, None, Bool, true, false, ◌||◌, if◌then◌else◌}
 use Rattle.flow_base.specs.declared.bounds.Bounds.{Bounds}
 use Rattle.flow_base.specs.declared.fault.Fault.{Fault}
 use Rattle.flow_base.specs.declared.fault.Fault.TheVariants as faults
@@ -30,13 +30,26 @@ use Rattle.c_procedures.specs.Statements.{Check, Test}
 use Rattle.c_procedures.specs.Statements as plan
 use Rattle.c_functions.specs.Layout.{Layout, layout_after, number_test, bit_test, on_c, put_number, put_bit}
 
--- what the C is written for: the tree, the numbers of states as children, what is declared, the bounds of a run, how
--- many procedures there are, which of them may stand in note[], and how many entries it has
+-- Which faults are tested: whether the steps and the depth are, which isn't needed where no event overruns the bound;
+-- and of each procedure whether its result is compared with BAD after a call, which isn't needed where the procedure
+-- never fails
+pub record Tests : Type 0 where
+  pub steps : Bool
+  pub depth : Bool
+  pub after : ℕ → Bool
+
+-- all faults are tested
+abbrev pub all_tests : Tests
+all_tests = record { steps = true; depth = true; after = λ p. true }
+
+-- what the C is written for: the tree, the numbers of states as children, what is declared, the bounds of a run, which
+-- faults are tested, how many procedures there are, which of them may stand in note[], and how many entries it has
 pub record Shape : Type 0 where
   pub tree : Tree
   pub numbers : ℕ → ℕ
   pub names : Names
   pub bounds : Bounds
+  pub tests : Tests
   pub procs : ℕ
   pub noted : List ℕ
   pub notes : ℕ
@@ -191,11 +204,20 @@ faulted K x =
     c.Store (fault_field K) (number (fault_number (Some x)))
     (c.Store (fault_datum_field K) (number (fault_datum (Some x))) (c.Return (number bad)))
 
--- if (m->used >= STEPS) fault, else m->used = m->used + 1u;
+-- if (m->used >= STEPS) fault, else m->used = m->used + 1u; where steps aren't tested they aren't counted
 abbrev pub pay_c : Shape → Block → Block
 pay_c K rest =
-    c.If (Compare IsAtLeast (Field (used_field K)) (number K.bounds.steps)) (faulted K faults.Steps) c.End
+    if K.tests.steps
+    then c.If (Compare IsAtLeast (Field (used_field K)) (number K.bounds.steps)) (faulted K faults.Steps) c.End
     (count_up (used_field K) rest)
+    else rest
+
+-- if (depth >= DEPTH) fault, where the depth is tested
+abbrev pub deep_c : Shape → Block → Block
+deep_c K rest =
+    if K.tests.depth
+    then c.If (Compare IsAtLeast depth_local (number K.bounds.depth)) (faulted K faults.Depth) c.End rest
+    else rest
 
 -- if (r == BAD) return BAD;
 abbrev pub unless_bad : Block → Block
@@ -204,6 +226,10 @@ unless_bad rest = c.If (Compare IsEqual result_local (number bad)) (c.Return (nu
 -- r = pN(m, ..); and the test of what it gave
 abbrev pub called_c : ℕ → List CExpr → Block → Block
 called_c p args rest = c.Call word 4 p args (unless_bad rest)
+
+-- the same of the function of a procedure, where its result is tested
+abbrev pub procedure_call : Shape → ℕ → List CExpr → Block → Block
+procedure_call K p args rest = c.Call word 4 p args (if K.tests.after p then unless_bad rest else rest)
 
 -- h = on(m, home); or h = bare(m, home);
 abbrev pub ask_home : ℕ → Block → Block
@@ -299,18 +325,17 @@ plan_c K (plan.Store v x rest) = assign_c K v x (plan_c K rest)
 plan_c K (plan.Put e rest) =
     c.StoreAt out_row (Field (outs_field K)) (number e) (count_up (outs_field K) (plan_c K rest))
 plan_c K (plan.Pay rest) = pay_c K (plan_c K rest)
-plan_c K (plan.Deep rest) =
-    c.If (Compare IsAtLeast depth_local (number K.bounds.depth)) (faulted K faults.Depth) c.End (plan_c K rest)
+plan_c K (plan.Deep rest) = deep_c K (plan_c K rest)
 plan_c K (plan.SetHome s rest) = c.Set word 3 (number s) (plan_c K rest)
 plan_c K (plan.SetBase rest) = c.Set word 2 (Field (noted_field K)) (plan_c K rest)
 plan_c K (plan.Push p rest) =
     c.StoreAt note_row (Field (noted_field K)) (number p) (count_up (noted_field K) (plan_c K rest))
 plan_c K (plan.Pop rest) = count_down (noted_field K) (plan_c K rest)
 plan_c K (plan.Call p rest) =
-    called_c p (event_local ∷ depth_local ∷ base_local ∷ home_local ∷ result_local ∷ []) (plan_c K rest)
+    procedure_call K p (event_local ∷ depth_local ∷ base_local ∷ home_local ∷ result_local ∷ []) (plan_c K rest)
 plan_c K (plan.Send e p rest) =
-    called_c p (number e ∷ Calc Plus depth_local (number 1) ∷ Field (noted_field K) ∷ number 0 ∷ result_local ∷ [])
-    (plan_c K rest)
+    procedure_call K p
+    (number e ∷ Calc Plus depth_local (number 1) ∷ Field (noted_field K) ∷ number 0 ∷ result_local ∷ []) (plan_c K rest)
 plan_c K (plan.Play rest) = play_c K (plan_c K rest)
 plan_c K (plan.If t a b rest) = if_c K t (plan_c K a) (plan_c K b) (plan_c K rest)
 plan_c K (plan.Return r) = c.Return (number r)

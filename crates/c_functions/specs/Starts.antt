@@ -1,6 +1,6 @@
 -- The start and the reaction of a file, and its runs over events.
 use Rattle.std.specs.Prelude.{◌≡◌, ℕ, suc, ◌+◌, ◌/◌, pos, ℤ, List, [], ◌∷◌, ◌++◌, map, replicate, not, is_some}
-use Rattle.std.specs.Prelude.{Option, Some, None}
+use Rattle.std.specs.Prelude.{Option, Some, None, if◌then◌else◌}
 use Rattle.flow_base.specs.declared.bounds.Bounds.{Bounds}
 use Rattle.active_config.specs.Tree.{Tree, state_count}
 use Rattle.actions.specs.declared.event.Event.{Event}
@@ -23,8 +23,8 @@ use Rattle.c_subset.specs.Running.{Returns, call, with_field}
 use Rattle.c_expressions.specs.Claims.{field_type}
 use Rattle.c_procedures.specs.Statements as plan
 use Rattle.c_functions.specs.Layout.{or_count}
-use Rattle.c_functions.specs.Plans.{Shape, word, number, bad, result_local, event_number, declared_at, used_field}
-use Rattle.c_functions.specs.Plans.{outs_field}
+use Rattle.c_functions.specs.Plans.{Shape, Tests, word, number, bad, result_local, event_number, declared_at}
+use Rattle.c_functions.specs.Plans.{used_field, outs_field}
 use Rattle.c_functions.specs.Plans.{noted_field, start_function, react_function, out_row, note_row}
 use Rattle.c_functions.specs.Files.{HasRow, shape_of, functions_c}
 use Rattle.c_functions.specs.Moments.{word_of, ShowsMoment}
@@ -66,22 +66,26 @@ start_c K p = record {
   body = store_all 0 (first_values K) (outside_c p (number (event_number K.names events.Start)));
 }
 
+-- m->used = 0u; where steps are counted
+abbrev pub uncounted_c : Shape → Block → Block
+uncounted_c K rest = if K.tests.steps then c.Store (used_field K) (number 0) rest else rest
+
 -- a reaction has no step used, nothing put out and no notes, and calls its procedure for the event
 abbrev pub react_c : Shape → ℕ → Function
 react_c K p = record {
   result = Truth;
   parameters = word ∷ [];
-  body = c.Store (used_field K) (number 0) (c.Store (outs_field K) (number 0)
-      (c.Store (noted_field K) (number 0) (outside_c p (Local word 0))));
+  body = uncounted_c K (c.Store (outs_field K) (number 0) (c.Store (noted_field K) (number 0)
+      (outside_c p (Local word 0))));
 }
 
--- the file of code, with room in note[] for that height
-abbrev pub file_of : Code → ℕ → Bounds → (ℕ → plan.Block) → File
-file_of k h b bodies = record {
-  fields = map (λ (x : CValue). x.type) (first_values (shape_of k h b));
-  rows = record { type = word; size = b.steps } ∷ record { type = word; size = (shape_of k h b).notes } ∷ [];
-  functions = functions_c (shape_of k h b) bodies
-      ++ start_c (shape_of k h b) k.procedures.start ∷ react_c (shape_of k h b) k.procedures.react ∷ [];
+-- the file of code, with these tests
+abbrev pub file_of : Code → Tests → Bounds → (ℕ → plan.Block) → File
+file_of k T b bodies = record {
+  fields = map (λ (x : CValue). x.type) (first_values (shape_of k T b));
+  rows = record { type = word; size = b.steps } ∷ record { type = word; size = (shape_of k T b).notes } ∷ [];
+  functions = functions_c (shape_of k T b) bodies
+      ++ start_c (shape_of k T b) k.procedures.start ∷ react_c (shape_of k T b) k.procedures.react ∷ [];
 }
 
 -- ---- runs

@@ -1,23 +1,29 @@
 -- The C of a chart runs as the chart.
-use Rattle.std.proofs.Common.{◌≡◌, ℕ, ◌≤◌, ◌+◌, length, refl, sym, ap, ◌∙◌, subst, arith}
+use Rattle.std.proofs.Common.{◌≡◌, ◌≤◌, ◌+◌, List, [], ◌∷◌, length, Option, Some, None, refl, sym, ap, ◌∙◌}
+use Rattle.std.proofs.Common.{subst, arith}
+use Rattle.std.specs.List.{AllByRecursion}
+use Rattle.flow_base.specs.declared.bounds.Bounds.{Bounds}
+use Rattle.flow_base.specs.declared.fault.Fault.{Fault}
+use Rattle.flow_base.specs.declared.fault.Fault.TheVariants as faults
 use Rattle.active_config.specs.Tree.{Tree, state_count}
 use Rattle.actions.specs.Names.{Names}
+use Rattle.actions.specs.Runs.{Moment}
 use Rattle.checked_chart.specs.Chart.{Chart}
 use Rattle.checked_chart.specs.Valid.{IsValid}
 use Rattle.code_language.specs.Code.{Code}
 use Rattle.code_language.specs.Instrs.{Unless, Result, Ret}
-use Rattle.code_language.specs.Measures.{greatest, heights}
 use Rattle.code_copies.specs.SameRuns.{HasSameRuns}
 use Rattle.chart_layout.specs.Bodies.{code_of_chart}
 use Rattle.chart_layout.proofs.ListResults.{results_below}
 use Rattle.chart_layout.proofs.Whole.{code_runs}
 use Rattle.c_procedures.specs.Writer.{plans_of}
 use Rattle.c_procedures.proofs.Writing.{plans_are}
-use Rattle.c_functions.specs.Plans.{bad}
-use Rattle.c_functions.specs.Moments.{HasSmallResults}
+use Rattle.c_functions.specs.Failing.{AfterIsRight}
+use Rattle.c_functions.specs.Plans.{Tests, all_tests, bad}
+use Rattle.c_functions.specs.Moments.{HasSmallResults, MayEnd}
 use Rattle.c_functions.specs.Starts.{AllGiven}
 use Rattle.c_functions.proofs.Running.{runs-on}
-use Rattle.c_runs.specs.Claims.{RunsAsRules}
+use Rattle.c_runs.specs.Claims.{RunsAsRules, Serves}
 
 -- the code of a chart has the chart's tree and names
 tree-same : (c : Chart) → (code_of_chart c).tree ≡ c.tree
@@ -42,14 +48,36 @@ small-results c k valid same =
           results_below c valid bad few w.1.proc w.1.place (Unless w.0 (Result r)) w.1.stands;
     }
 
--- the C of code with the same runs, with room for its height or more, runs as the rules say
-pub runs-as-rules : (c : Chart) (k : Code) (h : ℕ) → IsValid c → HasSameRuns (code_of_chart c) k
-    → greatest (heights k.procedures.procs) ≤ h → RunsAsRules c k h (plans_of k)
-runs-as-rules c k h valid same low b int s events moments most shape all run =
+-- the C of code with the same runs, with right tests and limits that serve it, runs as the rules say
+pub runs-as-rules : (c : Chart) (b : Bounds) (k : Code) (T : Tests) (limits : Bounds) → IsValid c
+    → HasSameRuns (code_of_chart c) k → Serves c b k T limits → AfterIsRight T k
+    → RunsAsRules c b k T limits (plans_of k)
+runs-as-rules c b k T limits valid same serves right int s events moments most shape all run =
     let names : k.names ≡ c.names = same.names ∙ names-same c in
     let tree : k.tree ≡ c.tree = same.tree ∙ tree-same c in
-    runs-on k h b (plans_of k) int same.well_formed
+    runs-on k T limits (plans_of k) int same.well_formed
     (ap (λ (n : Names). length n.states) names ∙ valid.state_names ∙ ap (λ (t : Tree). state_count t) (sym tree))
-    (small-results c k valid same) low (plans_are k same.well_formed) most s events moments shape
-    (subst (λ (n : Names). AllGiven n events) (sym names) all)
-    ((same.runs b events moments).0 ((code_runs c valid b events moments).0 run))
+    (small-results c k valid same) right (plans_are k same.well_formed) most s events moments shape
+    (subst (λ (n : Names). AllGiven n events) (sym names) all) (serves.runs events moments run)
+    (serves.ends events moments all run)
+
+-- where all faults are tested a run may end in any way
+may-end : (x : Option Fault) → MayEnd all_tests x
+unfolding MayEnd
+may-end None = tt
+may-end (Some faults.Depth) = refl
+may-end (Some faults.Steps) = refl
+may-end (Some (faults.Overflow v)) = tt
+may-end (Some faults.Zero) = tt
+
+all-may-end : (moments : List Moment) → AllByRecursion (λ (m : Moment). MayEnd all_tests m.fault) moments
+all-may-end [] = tt
+all-may-end (m ∷ moments) = (may-end m.fault, all-may-end moments)
+
+-- so all tests serve, with the bounds as limits
+pub all-serve : (c : Chart) (b : Bounds) (k : Code) → IsValid c → HasSameRuns (code_of_chart c) k
+    → Serves c b k all_tests b
+all-serve c b k valid same = record {
+  runs = λ events moments run. (same.runs b events moments).0 ((code_runs c valid b events moments).0 run);
+  ends = λ events moments all run. all-may-end moments;
+}

@@ -1,21 +1,32 @@
 -- What is claimed of the file that is written for code.
 use Rattle.std.specs.Prelude.{◌≤◌, ℕ, List}
+use Rattle.std.specs.List.{AllByRecursion}
 use Rattle.flow_base.specs.declared.bounds.Bounds.{Bounds}
 use Rattle.actions.specs.Runs.{EventWithInputs, Moment}
 use Rattle.checked_chart.specs.Chart.{Chart}
 use Rattle.sos_rules.specs.Reactions.{RulesRun}
 use Rattle.code_language.specs.Code.{Code}
+use Rattle.code_language.specs.Reactions.{CodeRun}
 use Rattle.c_subset.specs.declared.trees.Width.{Width}
 use Rattle.c_subset.specs.Meaning.{bits, Store}
 use Rattle.c_procedures.specs.Statements.{Block}
 use Rattle.c_functions.specs.Files.{shape_of}
+use Rattle.c_functions.specs.Moments.{MayEnd}
+use Rattle.c_functions.specs.Plans.{Tests}
 use Rattle.c_functions.specs.Starts.{file_of, HasShape, AllGiven, RunsOn}
 
--- The C of code with room in note[] for a height runs as the rules say: for all bounds, events with inputs and widths
--- of int up to 32 bits, from every struct of its type the start and the reactions show the moments of the rules, and no
--- call goes wrong.
-abbrev pub RunsAsRules : Chart → Code → ℕ → (ℕ → Block) → Type 0
-RunsAsRules c k h bodies =
-    (b : Bounds) (int : Width) (s : Store) (events : List EventWithInputs) (moments : List Moment)
-    → bits int ≤ 32 → HasShape (shape_of k h b) s → AllGiven c.names events → RulesRun c b events moments
-    → RunsOn (shape_of k h b) (file_of k h b bodies) int s events moments
+-- Under the limits code runs as the chart does under its bounds, and no run is ended by a bound that isn't tested.
+pub record Serves (c : Chart) (b : Bounds) (k : Code) (T : Tests) (limits : Bounds) : Type 0 where
+  pub runs : (events : List EventWithInputs) (moments : List Moment) → RulesRun c b events moments
+      → CodeRun k limits events moments
+  pub ends : (events : List EventWithInputs) (moments : List Moment) → AllGiven c.names events
+      → RulesRun c b events moments → AllByRecursion (λ (m : Moment). MayEnd T m.fault) moments
+
+-- The C of code, with these tests and limits, runs as the rules say under these bounds: for all events with inputs and
+-- widths of int up to 32 bits, from every struct of its type the start and the reactions show the moments of the rules,
+-- and no call goes wrong.
+abbrev pub RunsAsRules : Chart → Bounds → Code → Tests → Bounds → (ℕ → Block) → Type 0
+RunsAsRules c b k T limits bodies =
+    (int : Width) (s : Store) (events : List EventWithInputs) (moments : List Moment)
+    → bits int ≤ 32 → HasShape (shape_of k T limits) s → AllGiven c.names events → RulesRun c b events moments
+    → RunsOn (shape_of k T limits) (file_of k T limits bodies) int s events moments

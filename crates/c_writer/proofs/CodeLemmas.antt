@@ -44,13 +44,15 @@ short_at (is ∷ procs) zero h =
 short_at (is ∷ procs) (suc p) h = short_at procs p (or_false (nat_lt INSTR_LIMIT (length is)) _ h).1
 
 -- the instructions of each procedure can be written
-pub can_be_written : (K : Shape) (k : Code) (h : ℕ) → IsShapeOf K k h → IsCode k → (p : ℕ)
+pub can_be_written : (K : Shape) (k : Code) → IsShapeOf K k → IsCode k → (p : ℕ)
     → CanBeWritten K (instructions k.procedures p)
 unfolding instructions
-can_be_written K k h same is p =
+can_be_written K k same is p =
     subst (λ (S : Shape). CanBeWritten S (instructions k.procedures p)) (sym same)
     (record {
-      each = λ i x got. sound_get (shape_of k h K.bounds) p 0 i (instructions k.procedures p) x (sound_at k is p) got;
+      each =
+          λ i x got.
+          sound_get (shape_of k K.tests K.bounds) p 0 i (instructions k.procedures p) x (sound_at k is p) got;
       short =
           short_at k.procedures.procs p (or_false (nat_lt PROC_LIMIT (length k.procedures.procs)) _ is.few).1;
     })
@@ -92,33 +94,33 @@ get_after f from (suc n) i more =
     ap (slice_get (map f (range_with_len from (suc n)) ++ more)) e ∙ get_after f (from + 1) n i more
 
 -- the functions of the file, under the shape of the code
-functions_are : (K : Shape) (k : Code) (h : ℕ) → IsShapeOf K k h
-    → (file_of k h K.bounds (plans_of k)).functions
+functions_are : (K : Shape) (k : Code) → IsShapeOf K k
+    → (file_of k K.tests K.bounds (plans_of k)).functions
     ≡ map (λ p. procedure_c K (plans_of k p)) (range_with_len 0 K.procs)
     ++ later_functions K k.procedures.start k.procedures.react
 unfolding functions_c
-functions_are K k h same =
-    let S = shape_of k h K.bounds in
+functions_are K k same =
+    let S = shape_of k K.tests K.bounds in
     append_assoc (map (λ p. procedure_c S (plans_of k p)) (range_with_len 0 S.procs)) _ _
     ∙ ap (λ (T : Shape). map (λ p. procedure_c T (plans_of k p)) (range_with_len 0 T.procs)
     ++ later_functions T k.procedures.start k.procedures.react) (sym same)
 
 -- the function of a procedure has its number
-pub procedure_there : (K : Shape) (k : Code) (h : ℕ) → IsShapeOf K k h → (n : ℕ) → n < K.procs
-    → slice_get (file_of k h K.bounds (plans_of k)).functions n ≡ Some (procedure_c K (plans_of k n))
-procedure_there K k h same n lt =
-    ap (λ gs. slice_get gs n) (functions_are K k h same)
+pub procedure_there : (K : Shape) (k : Code) → IsShapeOf K k → (n : ℕ) → n < K.procs
+    → slice_get (file_of k K.tests K.bounds (plans_of k)).functions n ≡ Some (procedure_c K (plans_of k n))
+procedure_there K k same n lt =
+    ap (λ gs. slice_get gs n) (functions_are K k same)
     ∙ get_made (λ p. procedure_c K (plans_of k p)) 0 K.procs n
     (later_functions K k.procedures.start k.procedures.react) lt
     ∙ (let e : 0 + n ≡ n = omega arith in ap (λ j. Some (procedure_c K (plans_of k j))) e)
 
 -- the others come after those of all procedures
-pub later_there : (K : Shape) (k : Code) (h : ℕ) → IsShapeOf K k h → (n : ℕ) → K.procs ≤ n
-    → slice_get (file_of k h K.bounds (plans_of k)).functions n
+pub later_there : (K : Shape) (k : Code) → IsShapeOf K k → (n : ℕ) → K.procs ≤ n
+    → slice_get (file_of k K.tests K.bounds (plans_of k)).functions n
     ≡ slice_get (later_functions K k.procedures.start k.procedures.react) (n - K.procs)
-later_there K k h same n le =
+later_there K k same n le =
     let e : n ≡ K.procs + (n - K.procs) = omega arith in
-    ap (λ gs. slice_get gs n) (functions_are K k h same)
+    ap (λ gs. slice_get gs n) (functions_are K k same)
     ∙ ap (slice_get (map (λ p. procedure_c K (plans_of k p)) (range_with_len 0 K.procs)
     ++ later_functions K k.procedures.start k.procedures.react)) e
     ∙ get_after (λ p. procedure_c K (plans_of k p)) 0 K.procs (n - K.procs)

@@ -1,7 +1,7 @@
 -- Which plans have lines, and which play.
-use Rattle.std.proofs.Common.{◌≡◌, ◌<◌, ◌+◌, ℕ, true, false, List, [], ◌∷◌, ◌++◌, drop, Option, Some, None}
+use Rattle.std.proofs.Common.{◌≡◌, ◌<◌, ◌+◌, ℕ, Bool, true, false, List, [], ◌∷◌, ◌++◌, drop, Option, Some, None}
 use Rattle.std.proofs.Common.{sym, ap, ◌∙◌, subst, refl, append_assoc, append-nil}
-use Rattle.std.specs.Prelude.{◌||◌}
+use Rattle.std.specs.Prelude.{◌||◌, if◌then◌else◌}
 use Rattle.flow_base.specs.declared.fault.Fault.{Fault}
 use Rattle.active_config.specs.Tree.{parent_of}
 use Rattle.code_language.specs.declared.instr.Cond as declared_cond
@@ -23,10 +23,12 @@ use Rattle.actions.specs.Sorts.{scope_of, sort_of}
 use Rattle.c_procedures.specs.States.{or_parent}
 use Rattle.c_procedures.specs.Statements.{Test}
 use Rattle.c_procedures.specs.Statements as plan
-use Rattle.c_procedures.specs.Written.{straight, set_block, unset_block, keep_block, noted_call, test_of}
-use Rattle.c_functions.specs.Plans.{Shape, helper, faulted, declared_at, expression_c, if_c, plan_c, plays}
+use Rattle.c_procedures.specs.Written.{straight, set_block, unset_block, keep_block, noted_call, test_of, on_check}
+use Rattle.c_functions.specs.Plans.{Shape, helper, faulted, declared_at, expression_c, pay_c, deep_c, if_c, plan_c}
+use Rattle.c_functions.specs.Plans.{plays}
 use Rattle.c_writer.specs.Fine.{known_in}
 use Rattle.c_writer.specs.Parts.{HasLines, StaysWithin, is_play, part}
+use Rattle.c_writer.specs.Pieces.{tested_step, tested_depth}
 use Rattle.c_writer.proofs.PartLemmas.{IsPlain, part_ret, part_straight, forks}
 
 -- there is a line of the statements
@@ -54,6 +56,21 @@ if_has K plan.HomeBare x y rest = refl
 if_has K (plan.Arithmetic e) x y rest =
     written_has (helper K) (faulted K) (expression_c K e).code (c.If (expression_c K e).expr x y rest) refl
 
+-- one of two that both have a line
+one_has : (b : Bool) (x y : Block) → Has x → Has y → Has (if b then x else y)
+one_has true x y p q = p
+one_has false x y p q = q
+
+-- a step that is paid before statements that have a line
+pay_has : (K : Shape) (rest : Block) → Has rest → Has (pay_c K rest)
+unfolding lines_of
+pay_has K rest h = one_has K.tests.steps (tested_step K rest) rest refl h
+
+-- a send that nests before such statements
+deep_has : (K : Shape) (rest : Block) → Has rest → Has (deep_c K rest)
+unfolding lines_of
+deep_has K rest h = one_has K.tests.depth (tested_depth K rest) rest refl h
+
 -- a parent that remembers
 keep_has : (K : Shape) (s : ℕ) (o : Option ℕ) → parent_of K.tree s ≡ o → can_be_kept K.tree s ≡ true
     → (a : plan.Block) → HasLines K (keep_block K.numbers s o a)
@@ -76,16 +93,20 @@ straight_has K react (i.Assign v x) keeps p a =
     let s = stores_of v (declared_at K.names v).sort (declared_at K.names v).mode
     (sort_in (sort_of (scope_of K.names) x)) (expression_c K x) in
     written_has (helper K) (faulted K) s.code (c.Store v s.kept (plan_c K a)) refl
-straight_has K react (i.Emit e) keeps p a = refl
+straight_has K react (i.Emit e) keeps p a = pay_has K (plan_c K (plan.Put e a)) refl
 straight_has K react (i.Mark s) keeps p a = refl
 straight_has K react (i.Clear s) keeps p a = refl
 straight_has K react (i.Keep s) keeps p a = keep_has K s (parent_of K.tree s) refl keeps a
 straight_has K react (i.Unless k x) keeps p a = absurd p
 straight_has K react (i.Skip j) keeps p a = absurd p
 straight_has K react (i.Call q tag) keeps p a = call_has K q tag a
-straight_has K react (i.Visit q tag) keeps p a = refl
-straight_has K react (i.Send e) keeps p a = refl
-straight_has K react (i.SendTo e s q) keeps p a = refl
+straight_has K react (i.Visit q tag) keeps p a = pay_has K (plan_c K (noted_call q tag a)) (call_has K q tag a)
+straight_has K react (i.Send e) keeps p a =
+    let sent = plan_c K (plan.Send e react a) in deep_has K (pay_c K sent) (pay_has K sent refl)
+straight_has K react (i.SendTo e s q) keeps p a =
+    let sent =
+    plan_c K (plan.If (plan.Simple (on_check K.tree K.numbers s)) (plan.Send e q plan.End) plan.End a) in
+    deep_has K (pay_c K sent) (pay_has K sent refl)
 straight_has K react i.Play keeps p a = refl
 straight_has K react (i.Home s) keeps p a = refl
 straight_has K react i.Begin keeps p a = refl

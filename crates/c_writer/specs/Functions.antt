@@ -11,9 +11,9 @@ use Rattle.c_functions.specs.Layout.{on_c, bare_c}
 use Rattle.c_functions.specs.Plans.{Shape, layout}
 use Rattle.c_functions.specs.Starts.{start_c, react_c}
 
--- the shape is that of the code with room for a height, under its own bounds
-abbrev pub IsShapeOf : Shape → Code → ℕ → Type 0
-IsShapeOf K k h = K ≡ shape_of k h K.bounds
+-- the shape is that of the code, with its own tests and bounds
+abbrev pub IsShapeOf : Shape → Code → Type 0
+IsShapeOf K k = K ≡ shape_of k K.tests K.bounds
 
 -- the functions after those of the procedures
 abbrev pub later_functions : Shape → ℕ → ℕ → List Function

@@ -1,6 +1,6 @@
 -- Pieces of the C of plans that have no name there.
-use Rattle.std.specs.Prelude.{List, [], ◌∷◌}
-use Rattle.flow_base.specs.declared.fault.Fault.TheVariants.{Depth}
+use Rattle.std.specs.Prelude.{ℕ, List, [], ◌∷◌, if◌then◌else◌}
+use Rattle.flow_base.specs.declared.fault.Fault.TheVariants.{Depth, Steps}
 use Rattle.c_subset.specs.Trees.{CExpr, Block}
 use Rattle.c_subset.specs.Trees as c
 use Rattle.c_subset.specs.declared.trees.Arithmetic.TheVariants.{Plus, Less}
@@ -8,11 +8,21 @@ use Rattle.c_subset.specs.declared.trees.Comparison.TheVariants.{IsAtLeast, IsBe
 use Rattle.c_procedures.specs.Statements as plan
 use Rattle.c_functions.specs.Plans.{Shape, event_local, depth_local, base_local, home_local, result_local, cursor_local}
 use Rattle.c_functions.specs.Plans.{tested_local, word, number, faulted, note_row, noted_field, pay_c, called_c}
-use Rattle.c_functions.specs.Plans.{ask_home, noted_function, bare_function, plan_c}
+use Rattle.c_functions.specs.Plans.{used_field, count_up, unless_bad, ask_home, noted_function, bare_function, plan_c}
+
+-- if (m->used >= STEPS) fault, else m->used = m->used + 1u;
+abbrev pub tested_step : Shape → Block → Block
+tested_step K rest =
+    c.If (c.Compare IsAtLeast (c.Field (used_field K)) (number K.bounds.steps)) (faulted K Steps) c.End
+    (count_up (used_field K) rest)
 
 -- if (depth >= DEPTH) fault
-abbrev pub deep_c : Shape → Block → Block
-deep_c K rest = c.If (c.Compare IsAtLeast depth_local (number K.bounds.depth)) (faulted K Depth) c.End rest
+abbrev pub tested_depth : Shape → Block → Block
+tested_depth K rest = c.If (c.Compare IsAtLeast depth_local (number K.bounds.depth)) (faulted K Depth) c.End rest
+
+-- if (r == BAD) return BAD; where the result of the procedure is tested
+abbrev pub tested_result : Shape → ℕ → Block → Block
+tested_result K p rest = if K.tests.after p then unless_bad rest else rest
 
 -- if (cursor < base) cursor = base;
 abbrev pub raise_cursor : Block → Block

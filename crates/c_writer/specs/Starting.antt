@@ -6,7 +6,8 @@ use Rattle.c_subset.specs.Trees as c
 use Rattle.c_subset.specs.declared.trees.CType.{CType}
 use Rattle.c_subset.specs.Meaning.{CValue}
 use Rattle.c_expressions.specs.Claims.{field_type}
-use Rattle.c_functions.specs.Plans.{Shape, number, used_field, outs_field, noted_field}
+use Rattle.c_functions.specs.Plans.{Shape, number, outs_field, noted_field}
+use Rattle.c_functions.specs.Starts.{uncounted_c}
 
 -- the first value of a datum
 abbrev pub value_of : Var → CValue
@@ -16,7 +17,7 @@ value_of v = record { type = field_type v.sort; value = v.init }
 abbrev pub nothing_of : CType → CValue
 nothing_of t = record { type = t; value = pos 0 }
 
--- m->used = 0; m->outs = 0; m->noted = 0;
+-- m->used = 0; where steps are counted, and m->outs = 0; m->noted = 0;
 abbrev pub clear_counts : Shape → Block → Block
 clear_counts K rest =
-    c.Store (used_field K) (number 0) (c.Store (outs_field K) (number 0) (c.Store (noted_field K) (number 0) rest))
+    uncounted_c K (c.Store (outs_field K) (number 0) (c.Store (noted_field K) (number 0) rest))

@@ -5,6 +5,7 @@ ghost use Rattle.c_subset.specs.Lines.{Appends, expr_of, exprs_of};
 ghost use Rattle.c_functions.specs.Plans as spec;
 ghost use Rattle.c_expression_writer.specs.FileShapes.{shape_seen};
 ghost use Rattle.c_writer.specs.Calls.{own_arguments, send_arguments};
+ghost use Rattle.c_writer.specs.Pieces.{tested_result};
 
 use crate::pieces::{WORD, local, put_return};
 use c_expression_writer::{FileShape, number, put};
@@ -73,6 +74,40 @@ pub(crate) fn put_unless_bad(alloc: Global, lines: &mut List<Line>) -> Result<()
     put(lines, Line::Close)
 }
 
+/// Appends a return of the fault where the last result, of a procedure, tells one: nothing where
+/// the result of the procedure isn't tested.
+fn put_unless_failed(
+    alloc: Global,
+    shape: &FileShape<'_>,
+    lines: &mut List<Line>,
+    procedure: u32,
+) -> Result<(), Memory>
+    ensures { OnOk result (Appends (items_of lines.old) (items_of lines.new)
+        (tested_result (shape_seen shape.now) procedure)) }
+{
+    if shape.tests.is_after(procedure) {
+        put_unless_bad(alloc, lines)
+    } else {
+        Ok(())
+    }
+}
+
+/// Appends a call of the function of a procedure.
+#[tactic(auto, unfolding(c_subset::specs::Lines::lines_of))]
+fn put_procedure_call(
+    alloc: Global,
+    shape: &FileShape<'_>,
+    lines: &mut List<Line>,
+    procedure: u32,
+    arguments: List<CExpr>,
+) -> Result<(), Memory>
+    ensures { OnOk result (Appends (items_of lines.old) (items_of lines.new)
+        (spec.procedure_call (shape_seen shape.now) procedure (exprs_of (items_of arguments)))) }
+{
+    put(lines, Line::Call(WORD, 4, procedure, arguments))?;
+    put_unless_failed(alloc, shape, lines, procedure)
+}
+
 /// Appends a call of a function whose result may tell a fault.
 #[tactic(auto, unfolding(c_subset::specs::Lines::lines_of))]
 pub(crate) fn put_called(
@@ -89,12 +124,17 @@ pub(crate) fn put_called(
 }
 
 /// Appends a call with the parameters of the caller.
-pub(crate) fn put_call(alloc: Global, lines: &mut List<Line>, procedure: u32) -> Result<(), Memory>
+pub(crate) fn put_call(
+    alloc: Global,
+    shape: &FileShape<'_>,
+    lines: &mut List<Line>,
+    procedure: u32,
+) -> Result<(), Memory>
     ensures { OnOk result (Appends (items_of lines.old) (items_of lines.new)
-        (spec.called_c procedure own_arguments)) }
+        (spec.procedure_call (shape_seen shape.now) procedure own_arguments)) }
 {
     let arguments = five(alloc, local(0), local(1), local(2), local(3), local(4))?;
-    put_called(alloc, lines, procedure, arguments)
+    put_procedure_call(alloc, shape, lines, procedure, arguments)
 }
 
 /// Appends a call that processes a sent event, one deeper and with the root as its home.
@@ -106,12 +146,13 @@ pub(crate) fn put_send(
     procedure: u32,
 ) -> Result<(), Memory>
     ensures { OnOk result (Appends (items_of lines.old) (items_of lines.new)
-        (spec.called_c procedure (send_arguments (shape_seen shape.now) event))) }
+        (spec.procedure_call (shape_seen shape.now) procedure
+        (send_arguments (shape_seen shape.now) event))) }
 {
     let depth = CExpr::calc(alloc, Arithmetic::Plus, local(1), number(1))?;
     let base = CExpr::Field(shape.noted_field());
     let arguments = five(alloc, number(event), depth, base, number(0), local(4))?;
-    put_called(alloc, lines, procedure, arguments)
+    put_procedure_call(alloc, shape, lines, procedure, arguments)
 }
 
 /// Appends a question about the home, whose answer is the local with number 6.

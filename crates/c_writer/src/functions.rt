@@ -49,7 +49,7 @@ fn procedure_at(
     code: &Code,
     number: u32,
 ) -> Result<Function, Memory>
-    requires shape { IsShapeOf (shape_seen shape.now) (code_of code.now) shape.now.height }
+    requires shape { IsShapeOf (shape_seen shape.now) (code_of code.now) }
     requires number { number < (shape_seen shape.now).procs }
     ensures { IfOk result (λ function. IsFunction function
         (procedure_c (shape_seen shape.now) (plans_of (code_of code.now) number))) }
@@ -65,7 +65,7 @@ fn later_function(
     code: &Code,
     place: u32,
 ) -> Result<Function, Memory>
-    requires shape { IsShapeOf (shape_seen shape.now) (code_of code.now) shape.now.height }
+    requires shape { IsShapeOf (shape_seen shape.now) (code_of code.now) }
     requires place { place < 10 }
     ensures { IfOk result (IsAt (later_functions (shape_seen shape.now)
         (code_of code.now).procedures.start (code_of code.now).procedures.react) place) }
@@ -93,9 +93,9 @@ pub fn function(
     code: &Code,
     number: u32,
 ) -> Result<Function, Memory>
-    requires shape { IsShapeOf (shape_seen shape.now) (code_of code.now) shape.now.height }
+    requires shape { IsShapeOf (shape_seen shape.now) (code_of code.now) }
     requires number { number < (shape_seen shape.now).procs + 10 }
-    ensures { IfOk result (HasFunction (file_of (code_of code.now) shape.now.height
+    ensures { IfOk result (HasFunction (file_of (code_of code.now) (shape_seen shape.now).tests
         (shape_seen shape.now).bounds (plans_of (code_of code.now))) number) }
 {
     if number < shape.procs {

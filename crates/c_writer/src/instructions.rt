@@ -51,10 +51,10 @@ fn put_noted_call(
         (items_of lines.new) (noted_call procedure note)) }
 {
     let Some(note) = note else {
-        return put_call(alloc, lines, procedure);
+        return put_call(alloc, shape, lines, procedure);
     };
     put_entry(alloc, lines, 1, shape.noted_field(), note)?;
-    put_call(alloc, lines, procedure)?;
+    put_call(alloc, shape, lines, procedure)?;
     put_count_down(alloc, lines, shape.noted_field())
 }
 

@@ -5,7 +5,7 @@ ghost use Rattle.c_subset.specs.Lines.{Appends, expr_of, lines_in, lines_of};
 ghost use Rattle.c_subset.specs.Trees as c;
 ghost use Rattle.c_functions.specs.Plans as spec;
 ghost use Rattle.c_expression_writer.specs.FileShapes.{shape_seen};
-ghost use Rattle.c_writer.specs.Pieces.{deep_c};
+ghost use Rattle.c_writer.specs.Pieces.{tested_depth, tested_step};
 
 use c_expression_writer::{FileShape, number, put, write_fault};
 use c_subset::{Arithmetic, CExpr, CType, Comparison, Line, Width};
@@ -78,14 +78,10 @@ pub(crate) fn put_count_down(
     put_store(lines, field, less)
 }
 
-/// Appends that a step is paid, or a fault where none is left.
-pub(crate) fn put_pay(
-    alloc: Global,
-    shape: &FileShape<'_>,
-    lines: &mut List<Line>,
-) -> Result<(), Memory>
+/// Appends that a step is counted, or a fault where none is left.
+fn put_step(alloc: Global, shape: &FileShape<'_>, lines: &mut List<Line>) -> Result<(), Memory>
     ensures { OnOk result (Appends (items_of lines.old) (items_of lines.new)
-        (spec.pay_c (shape_seen shape.now))) }
+        (tested_step (shape_seen shape.now))) }
 {
     let steps = number(shape.bounds.steps);
     let used = CExpr::Field(shape.used_field());
@@ -94,18 +90,46 @@ pub(crate) fn put_pay(
     put_count_up(alloc, lines, shape.used_field())
 }
 
+/// Appends that a step is paid: nothing where steps aren't tested.
+pub(crate) fn put_pay(
+    alloc: Global,
+    shape: &FileShape<'_>,
+    lines: &mut List<Line>,
+) -> Result<(), Memory>
+    ensures { OnOk result (Appends (items_of lines.old) (items_of lines.new)
+        (spec.pay_c (shape_seen shape.now))) }
+{
+    if shape.tests.steps {
+        put_step(alloc, shape, lines)
+    } else {
+        Ok(())
+    }
+}
+
 /// Appends a fault where no depth is left for a send.
+fn put_depth(alloc: Global, shape: &FileShape<'_>, lines: &mut List<Line>) -> Result<(), Memory>
+    ensures { OnOk result (Appends (items_of lines.old) (items_of lines.new)
+        (tested_depth (shape_seen shape.now))) }
+{
+    let depth = number(shape.bounds.depth);
+    let test = CExpr::compare(alloc, Comparison::IsAtLeast, local(1), depth)?;
+    put_fault_if(shape, lines, test, Fault::Depth)
+}
+
+/// Appends that a send nests: nothing where the depth isn't tested.
 pub(crate) fn put_deep(
     alloc: Global,
     shape: &FileShape<'_>,
     lines: &mut List<Line>,
 ) -> Result<(), Memory>
     ensures { OnOk result (Appends (items_of lines.old) (items_of lines.new)
-        (deep_c (shape_seen shape.now))) }
+        (spec.deep_c (shape_seen shape.now))) }
 {
-    let depth = number(shape.bounds.depth);
-    let test = CExpr::compare(alloc, Comparison::IsAtLeast, local(1), depth)?;
-    put_fault_if(shape, lines, test, Fault::Depth)
+    if shape.tests.depth {
+        put_depth(alloc, shape, lines)
+    } else {
+        Ok(())
+    }
 }
 
 /// Appends that a number is put at the end of an array, whose length is in a field.

@@ -113,12 +113,24 @@ fn put_outside(
     put_return(lines, fine)
 }
 
+/// Appends that no step is used: nothing where steps aren't counted.
+fn put_uncounted(shape: &FileShape<'_>, lines: &mut List<Line>) -> Result<(), Memory>
+    ensures { OnOk result (Appends (items_of lines.old) (items_of lines.new)
+        (starts.uncounted_c (shape_seen shape.now))) }
+{
+    if shape.tests.steps {
+        put_store(lines, shape.used_field(), number(0))
+    } else {
+        Ok(())
+    }
+}
+
 /// Appends that no step is used, nothing is put out and there are no notes.
 fn put_clear_counts(shape: &FileShape<'_>, lines: &mut List<Line>) -> Result<(), Memory>
     ensures { OnOk result (Appends (items_of lines.old) (items_of lines.new)
         (clear_counts (shape_seen shape.now))) }
 {
-    put_store(lines, shape.used_field(), number(0))?;
+    put_uncounted(shape, lines)?;
     put_store(lines, shape.outs_field(), number(0))?;
     put_store(lines, shape.noted_field(), number(0))
 }

@@ -14,7 +14,7 @@ returns-then-number-shape c =
     IfOk-weaker c.procedure_at.result _ _
     (λ f h. record {
       function = procedure_c K (plans_of k c.args.number);
-      there = procedure_there K k c.args.shape.now.height c.requires.shape c.args.number c.if-number-shape.true;
+      there = procedure_there K k c.requires.shape c.args.number c.if-number-shape.true;
       is = h;
     }) c.procedure_at.ensures
 
@@ -25,6 +25,6 @@ returns c =
     IfOk-weaker c.later_function.result _ _
     (λ f h. record {
       function = h.function;
-      there = later_there K k c.args.shape.now.height c.requires.shape c.args.number c.if-number-shape.false ∙ h.there;
+      there = later_there K k c.requires.shape c.args.number c.if-number-shape.false ∙ h.there;
       is = h.is;
     }) c.later_function.ensures

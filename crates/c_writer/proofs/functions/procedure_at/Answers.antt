@@ -16,7 +16,7 @@ procedure-requires-clause-can c =
     let K = shape_seen c.args.shape.now in
     let k = code_of c.args.code.now in
     subst (CanBeWritten K) (sym c.instrs_at.ensures.instrs)
-    (can_be_written K k c.args.shape.now.height c.requires.shape c.instrs_at.ensures.well_formed c.args.number)
+    (can_be_written K k c.requires.shape c.instrs_at.ensures.well_formed c.args.number)
 
 pub procedure-requires-clause-stays : goal.procedure-requires-clause-stays
 procedure-requires-clause-stays c =

@@ -102,7 +102,7 @@ data IsFunction (chart : List ℕ) : List ℕ → Type 0 where
   Start : {name : List ℕ} → name ≡ chart ++ codes "_start" → IsFunction chart name
   React : {name : List ℕ} → name ≡ chart ++ codes "_react" → IsFunction chart name
 
--- what stands after the chart's name in other names of the header; one byte stands in it that the name that is replaced
+-- what stands after the chart's name in other names of header and source; one byte stands in it that the name that is replaced
 -- has only from the chart's
 record IsRest (rest : List ℕ) : Type 0 where
   heavy : 2 ≤ weight rest
@@ -258,7 +258,7 @@ functions L few = all_both (IsFunction L.chart) (numbered_labels (codes "p") L.p
 
 -- ---- what stands after the chart's name
 
--- one of the names that all headers have
+-- one of the names that all files have
 record IsFixed (rest : List ℕ) : Type 0 where
   is_rest : IsRest rest
   no_event : get_or rest 1 0 ≢ 69
@@ -319,7 +319,11 @@ each_fixed (suc (suc (suc (suc (suc (suc (suc zero))))))) within =
     fixed_by (codes "_DEPTH") 68 (omega arith) (omega arith) refl refl refl refl refl
 each_fixed (suc (suc (suc (suc (suc (suc (suc (suc zero)))))))) within =
     fixed_by (codes "_STEPS") 83 (omega arith) (omega arith) refl refl refl refl refl
-each_fixed (suc (suc (suc (suc (suc (suc (suc (suc (suc i))))))))) within = absurd (omega (arith, within))
+each_fixed (suc (suc (suc (suc (suc (suc (suc (suc (suc zero))))))))) within =
+    fixed_by (codes "_NOTES") 78 (omega arith) (omega arith) refl refl refl refl refl
+each_fixed (suc (suc (suc (suc (suc (suc (suc (suc (suc (suc zero)))))))))) within =
+    fixed_by (codes "_header_fits") 101 (omega arith) (omega arith) refl refl refl refl refl
+each_fixed (suc (suc (suc (suc (suc (suc (suc (suc (suc (suc (suc i))))))))))) within = absurd (omega (arith, within))
 
 all_fixed : AllByRecursion IsFixed fixed_labels
 all_fixed = all_from IsFixed fixed_labels each_fixed
@@ -364,7 +368,7 @@ charted chart K = all_after IsRest (IsCharted chart) (λ rest. chart ++ rest) (h
 
 -- ---- pairwise different
 
--- the place of a name that all headers have
+-- the place of a name that all files have
 place : List ℕ → ℕ
 place name =
     cond (bytes_eq name (codes "_chart")) 0
@@ -373,7 +377,9 @@ place name =
     (cond (bytes_eq name (codes "_FAULT_DEPTH")) 3
     (cond (bytes_eq name (codes "_FAULT_STEPS")) 4
     (cond (bytes_eq name (codes "_FAULT_OVERFLOW")) 5
-    (cond (bytes_eq name (codes "_FAULT_ZERO")) 6 (cond (bytes_eq name (codes "_DEPTH")) 7 8)))))))
+    (cond (bytes_eq name (codes "_FAULT_ZERO")) 6
+    (cond (bytes_eq name (codes "_DEPTH")) 7
+    (cond (bytes_eq name (codes "_STEPS")) 8 (cond (bytes_eq name (codes "_NOTES")) 9 10)))))))))
 
 fixed_told : (i : ℕ) → i < length fixed_labels → place (get_or fixed_labels i []) ≡ i
 unfolding place
@@ -386,7 +392,9 @@ fixed_told (suc (suc (suc (suc (suc zero))))) within = refl
 fixed_told (suc (suc (suc (suc (suc (suc zero)))))) within = refl
 fixed_told (suc (suc (suc (suc (suc (suc (suc zero))))))) within = refl
 fixed_told (suc (suc (suc (suc (suc (suc (suc (suc zero)))))))) within = refl
-fixed_told (suc (suc (suc (suc (suc (suc (suc (suc (suc i))))))))) within = absurd (omega (arith, within))
+fixed_told (suc (suc (suc (suc (suc (suc (suc (suc (suc zero))))))))) within = refl
+fixed_told (suc (suc (suc (suc (suc (suc (suc (suc (suc (suc zero)))))))))) within = refl
+fixed_told (suc (suc (suc (suc (suc (suc (suc (suc (suc (suc (suc i))))))))))) within = absurd (omega (arith, within))
 
 tests_distinct : (t : Tree) (n : Names) → HasNamedTree t n → AreDistinct (test_labels t n)
 tests_distinct t n h i j li lj e =

@@ -22,7 +22,7 @@ use Rattle.c_text.proofs.TypeLemmas.{types_of_fields, names_of_fields}
 use Rattle.c_header.specs.declared.states.About.TheVariants.{Active, Remembered, Bits}
 use Rattle.c_header.specs.Paths.{place_text}
 use Rattle.c_header.specs.Fields.{texts_below, field_start, field_line, values_text, datum_line, data_text}
-use Rattle.c_header.specs.Fields.{counters_text, children_text, active_field, last_field, bits_line}
+use Rattle.c_header.specs.Fields.{used_words, counters_text, children_text, active_field, last_field, bits_line}
 use Rattle.c_header.specs.Header.{states_text, rows_text, values_fields, states_fields, struct_text}
 use Rattle.c_header.specs.Struct.{DeclaresStruct, struct_fields, struct_rows, member_text, members_text, arrays_text}
 
@@ -86,14 +86,15 @@ unfolding datum_comment
 data_lines L f [] = refl
 data_lines L f (v ∷ vars) = ap (λ (t : List ℕ). datum_line L f v ++ t) (data_lines L (f + 1) vars)
 
-counter_comments : List (List ℕ)
-counter_comments =
-    codes "steps of the last event" ∷ codes "how many events it put out" ∷ codes "how many entries of note[] are in use"
+counter_comments : Bool → List (List ℕ)
+counter_comments counted =
+    used_words counted ∷ codes "how many events it put out" ∷ codes "how many entries of note[] are in use"
     ∷ codes "its fault" ∷ codes "the datum that overflowed, by its number from 0" ∷ []
 
-counter_lines : (L : Labels) (f : ℕ) → counters_text L f ≡ lines_from L f counter_comments
+counter_lines : (L : Labels) (counted : Bool) (f : ℕ)
+    → counters_text L counted f ≡ lines_from L f (counter_comments counted)
 unfolding counters_text counter_comments
-counter_lines L f =
+counter_lines L counted f =
     let two : f + 2 ≡ f + 1 + 1 = omega arith in
     let three : f + 3 ≡ f + 1 + 1 + 1 = omega arith in
     let four : f + 4 ≡ f + 1 + 1 + 1 + 1 = omega arith in
@@ -256,7 +257,7 @@ module _ (chart : List ℕ) (K : Shape) (tree : IsTree K.tree) where
   -- ---- the struct
 
   abbrev value_comments : List (List ℕ)
-  value_comments = map datum_comment K.names.vars ++ counter_comments
+  value_comments = map datum_comment K.names.vars ++ counter_comments K.tests.steps
 
   abbrev all_comments : List (List ℕ)
   all_comments = value_comments ++ (actives ++ (lasts ++ words))
@@ -264,18 +265,19 @@ module _ (chart : List ℕ) (K : Shape) (tree : IsTree K.tree) where
   value_lines : values_fields labels K ≡ lines_from labels 0 value_comments
   unfolding values_fields
   value_lines =
-      ap (λ (t : List ℕ). t ++ counters_text labels (length K.names.vars)) (data_lines labels 0 K.names.vars)
+      ap (λ (t : List ℕ). t ++ counters_text labels K.tests.steps (length K.names.vars))
+      (data_lines labels 0 K.names.vars)
       ∙ ap (λ (t : List ℕ). lines_from labels 0 (map datum_comment K.names.vars) ++ t)
-      (counter_lines labels (length K.names.vars))
-      ∙ sym (lines-append labels 0 (length K.names.vars) (map datum_comment K.names.vars) counter_comments
-      (omega (arith, length-map K.names.vars datum_comment)))
+      (counter_lines labels K.tests.steps (length K.names.vars))
+      ∙ sym (lines-append labels 0 (length K.names.vars) (map datum_comment K.names.vars)
+      (counter_comments K.tests.steps) (omega (arith, length-map K.names.vars datum_comment)))
 
   ors_counted : or_rank K.tree (state_count K.tree) ≡ or_count K.tree
   ors_counted = rank-all K.tree (state_count K.tree) (omega (arith, tree.same_length))
 
   values_size : length value_comments ≡ length K.names.vars + 5
   unfolding counter_comments
-  values_size = length-append (map datum_comment K.names.vars) counter_comments
+  values_size = length-append (map datum_comment K.names.vars) (counter_comments K.tests.steps)
       ∙ omega (arith, length-map K.names.vars datum_comment)
 
   state_lines : states_fields chart labels K ≡ lines_from labels (length K.names.vars + 5) (actives ++ (lasts ++ words))

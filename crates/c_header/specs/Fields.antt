@@ -1,5 +1,6 @@
 -- The fields of the struct, each with a comment.
-use Rattle.std.specs.Prelude.{ℕ, zero, suc, ◌+◌, ◌%◌, ◌==◌, List, [], ◌∷◌, ◌++◌, codes, decimal, if◌then◌else◌}
+use Rattle.std.specs.Prelude.{ℕ, zero, suc, ◌+◌, ◌%◌, ◌==◌, Bool, true, false, List, [], ◌∷◌, ◌++◌, codes, decimal}
+use Rattle.std.specs.Prelude.{if◌then◌else◌}
 use Rattle.std.specs.Fmt.{signed_decimal}
 use Rattle.fixed_point.specs.declared.scale.Scale.{Scale}
 use Rattle.fixed_point.specs.Scales.{least, greatest}
@@ -55,10 +56,15 @@ data_text L f (v ∷ vars) = datum_line L f v ++ data_text L (f + 1) vars
 
 -- ---- counters
 
+-- what the field of the used steps is: whether steps are counted
+abbrev pub used_words : Bool → List ℕ
+used_words true = codes "steps of the last event"
+used_words false = codes "not used: no event can overrun the bound of steps"
+
 -- the fields between those of data and those of states
-unfoldable pub counters_text : Labels → ℕ → List ℕ
-counters_text L f =
-    field_line L f (codes "steps of the last event")
+unfoldable pub counters_text : Labels → Bool → ℕ → List ℕ
+counters_text L counted f =
+    field_line L f (used_words counted)
     ++ (field_line L (f + 1) (codes "how many events it put out")
     ++ (field_line L (f + 2) (codes "how many entries of note[] are in use")
     ++ (field_line L (f + 3) (codes "its fault")

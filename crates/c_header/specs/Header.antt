@@ -86,12 +86,14 @@ faults_text chart =
     ++ (define_line chart (codes "_FAULT_") (codes "OVERFLOW") (fault_number (Some (faults.Overflow 0)))
     ++ define_line chart (codes "_FAULT_") (codes "ZERO") (fault_number (Some faults.Zero))))))
 
--- the bounds
-unfoldable pub bounds_text : List ℕ → Bounds → List ℕ
-bounds_text chart bounds =
+-- the bounds, and how many entries note[] has
+unfoldable pub bounds_text : List ℕ → Bounds → ℕ → List ℕ
+bounds_text chart bounds notes =
     codes "\n/* The bounds of an event: how deep sends nest, and how many steps it takes. */\n"
     ++ (define_line chart (codes "_") (codes "DEPTH") bounds.depth
-    ++ (define_line chart (codes "_") (codes "STEPS") bounds.steps ++ codes "\n"))
+    ++ (define_line chart (codes "_") (codes "STEPS") bounds.steps
+    ++ (codes "\n/* How many entries note[] has. */\n"
+    ++ (define_line chart (codes "_") (codes "NOTES") notes ++ codes "\n"))))
 
 -- ---- states
 
@@ -136,7 +138,7 @@ rows_text K =
 
 -- the fields of data, and those after them
 unfoldable pub values_fields : Labels → Shape → List ℕ
-values_fields L K = data_text L 0 K.names.vars ++ counters_text L (used_field K)
+values_fields L K = data_text L 0 K.names.vars ++ counters_text L K.tests.steps (used_field K)
 
 -- the fields of states
 unfoldable pub states_fields : List ℕ → Labels → Shape → List ℕ
@@ -166,7 +168,8 @@ unfoldable pub front_text : List ℕ → Shape → List ℕ
 front_text chart K =
     named_text (codes "/* The C of the chart ") chart (codes ", written by chart_to_c. Do not edit.\n\n")
     ++ (usage_text chart
-    ++ (needs_text chart ++ (events_text chart K.names.events ++ (faults_text chart ++ bounds_text chart K.bounds))))
+    ++ (needs_text chart
+    ++ (events_text chart K.names.events ++ (faults_text chart ++ bounds_text chart K.bounds K.notes))))
 
 -- what stands from the struct on
 unfoldable pub back_text : List ℕ → Labels → Shape → List ℕ

@@ -41,17 +41,19 @@ test_label t n x = codes "_in_" ++ path_text Label t n x
 abbrev pub test_labels : Tree → Names → List (List ℕ)
 test_labels t n = map (test_label t n) (range_with_len 1 (state_count t - 1))
 
--- after the chart's name, the names that all headers have: the struct, an event without a name, faults and bounds
+-- after the chart's name, the names that all files have: the struct, an event without a name, faults, bounds, how many
+-- notes there is room for, and the check of the source whether the header fits it
 abbrev pub fixed_labels : List (List ℕ)
 fixed_labels =
     codes "_chart" ∷ codes "_TICK" ∷ codes "_FAULT_NONE" ∷ codes "_FAULT_DEPTH" ∷ codes "_FAULT_STEPS"
-    ∷ codes "_FAULT_OVERFLOW" ∷ codes "_FAULT_ZERO" ∷ codes "_DEPTH" ∷ codes "_STEPS" ∷ []
+    ∷ codes "_FAULT_OVERFLOW" ∷ codes "_FAULT_ZERO" ∷ codes "_DEPTH" ∷ codes "_STEPS" ∷ codes "_NOTES"
+    ∷ codes "_header_fits" ∷ []
 
--- what stands after the chart's name in the names of the header, but for those of its two functions
+-- what stands after the chart's name in the names of header and source, but for those of its two functions
 abbrev pub header_labels : Shape → List (List ℕ)
 header_labels K = fixed_labels ++ (event_labels K.names.events ++ test_labels K.tree K.names)
 
--- the name that is replaced, the types of 128 bits, the functions, and the other names of the header
+-- the name that is replaced, the types of 128 bits, the functions, and the other names
 abbrev pub scope_labels : List ℕ → Shape → List (List ℕ)
 scope_labels chart K =
     guard_label chart ∷ codes "flow_int128" ∷ codes "flow_uint128"

@@ -122,18 +122,30 @@ fn print_unit(out: &mut String, frac: u8) -> Result<(), AllocError>
     }
 }
 
-/// Appends the fields between those of data and those of states.
+/// What the field of the used steps is.
+fn used_words(counted: bool) -> &'static str
+    ensures { result.now ≡ spec.used_words counted }
+{
+    if counted {
+        "steps of the last event"
+    } else {
+        "not used: no event can overrun the bound of steps"
+    }
+}
+
+/// Appends the fields between those of data and those of states, where steps are counted or not.
 #[tactic(auto, unfolding(crate::specs::Fields::counters_text))]
 pub(crate) fn print_counters(
     out: &mut String,
     labels: &Labels<'_>,
+    counted: bool,
     first: u32,
 ) -> Result<(), AllocError>
     requires { first + 4 < 2 ^ 32 }
     ensures { OnOk result (string_bytes out.new
-        ≡ string_bytes out.old ++ spec.counters_text (labels_of labels.now) first) }
+        ≡ string_bytes out.old ++ spec.counters_text (labels_of labels.now) counted first) }
 {
-    print_commented(out, labels, first, "steps of the last event")?;
+    print_commented(out, labels, first, used_words(counted))?;
     print_commented(out, labels, first + 1, "how many events it put out")?;
     print_commented(
         out,

@@ -46,7 +46,7 @@ fn print_front(out: &mut String, chart: &str, shape: &FileShape<'_>) -> Result<(
     print_needs(out, chart)?;
     print_events(out, chart, shape.names.events.items())?;
     print_faults(out, chart)?;
-    print_bounds(out, chart, shape.bounds)
+    print_bounds(out, chart, shape.bounds, shape.notes)
 }
 
 /// Appends what an engineer has to know.
@@ -149,7 +149,7 @@ fn print_values_fields(
         ++ spec.values_fields (labels_of labels.now) (shape_seen shape.now)) }
 {
     print_data(out, labels, shape.names.vars.items())?;
-    print_counters(out, labels, shape.used_field())
+    print_counters(out, labels, shape.tests.steps, shape.used_field())
 }
 
 /// Appends the fields of states.

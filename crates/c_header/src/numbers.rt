@@ -1,4 +1,4 @@
-//! The numbers of events, faults and bounds, printed.
+//! The numbers of events, faults, bounds and notes, printed.
 ghost use Rattle.std.specs.Prelude.{◌≡◌, ◌++◌, string_bytes, OnOk};
 ghost use Rattle.c_header.specs.Header as spec;
 
@@ -78,16 +78,23 @@ pub(crate) fn print_faults(out: &mut String, chart: &str) -> Result<(), AllocErr
     print_define(out, chart, "_FAULT_", "ZERO", 4)
 }
 
-/// Appends the bounds.
+/// Appends the bounds, and how many entries `note[]` has.
 #[tactic(auto, unfolding(crate::specs::Header::bounds_text))]
-pub(crate) fn print_bounds(out: &mut String, chart: &str, bounds: Bounds) -> Result<(), AllocError>
-    ensures { OnOk result
-        (string_bytes out.new ≡ string_bytes out.old ++ spec.bounds_text chart.now bounds) }
+pub(crate) fn print_bounds(
+    out: &mut String,
+    chart: &str,
+    bounds: Bounds,
+    notes: u64,
+) -> Result<(), AllocError>
+    ensures { OnOk result (string_bytes out.new
+        ≡ string_bytes out.old ++ spec.bounds_text chart.now bounds notes) }
 {
     out.push_str(
         "\n/* The bounds of an event: how deep sends nest, and how many steps it takes. */\n",
     )?;
     print_define(out, chart, "_", "DEPTH", u64::from(bounds.depth))?;
     print_define(out, chart, "_", "STEPS", u64::from(bounds.steps))?;
+    out.push_str("\n/* How many entries note[] has. */\n")?;
+    print_define(out, chart, "_", "NOTES", notes)?;
     out.push_str("\n")
 }

@@ -12,5 +12,6 @@ returns c =
       c.in_ok-print_commented-3.ensures,
       c.in_ok-print_commented-2.ensures,
       c.in_ok-print_commented.ensures,
+      c.used_words.ensures,
     )
     (simp append_assoc))

@@ -6,8 +6,10 @@ use Rattle.c_header.proofs.numbers.print_bounds.Goals as goal
 pub returns : goal.returns
 unfolding bounds_text
 returns c =
-    last _ _ _ _ (pushed _ _ _ _ c.push_str-2.ensures.bytes)
+    last _ _ _ _ (pushed _ _ _ _ c.push_str-3.ensures.bytes)
     (rw (
+      c.in_ok-print_define-3.ensures,
+      c.in_ok-push_str-2.ensures.bytes,
       c.in_ok-print_define-2.ensures,
       c.in_ok-print_define.ensures,
       c.in_ok-push_str.ensures.bytes,

@@ -1,5 +1,5 @@
 -- The smaller code of a chart, and the code that is written, declare what the chart does.
-use Rattle.std.proofs.Common.{◌≡◌, ◌≤◌, ◌<◌, ℕ, List, length, sym, ◌∙◌, subst, arith}
+use Rattle.std.proofs.Common.{◌≡◌, ◌<◌, ℕ, List, length, refl, sym, ◌∙◌, subst}
 use Rattle.std.specs.List.{All}
 use Rattle.std.proofs.lemmas.List.Elements.{All-weaker}
 use Rattle.active_config.specs.Tree.{Tree, state_count}
@@ -11,8 +11,9 @@ use Rattle.code_copies.specs.SameRuns.{HasSameRuns}
 use Rattle.code_copies.proofs.SameRunsLemmas.{same_shrunk, same_both}
 use Rattle.code_passes.specs.declared.tag.Tag.{Tag}
 use Rattle.code_passes.specs.Tags.{IsTag}
+use Rattle.code_passes.proofs.PassedLemmas.{passed_same, passed_told}
 use Rattle.c_file.specs.Comments.{IsTagOf}
-use Rattle.c_file.specs.Files.{IsCodeFor, IsWritten, height_of}
+use Rattle.c_file.specs.Files.{IsCodeFor, IsWritten}
 
 module _ {c : Chart} {k : Code} {origins : List ℕ} where
   pub same_names : {n : Names} → n ≡ c.names → IsCodeFor c k origins → n ≡ k.names
@@ -23,30 +24,43 @@ module _ {c : Chart} {k : Code} {origins : List ℕ} where
   unfolding code_of_chart
   same_tree is code = is ∙ sym code.shrunk.tree
 
-module _ {c : Chart} {k : Code} {tags : List Tag} {origins : List ℕ} {h : ℕ} where
-  -- so does the code that is written
-  pub written_names : {n : Names} → n ≡ c.names → IsWritten c k tags origins h → n ≡ k.names
-  written_names is w = same_names is w.is_code ∙ sym w.is_faster.passed.same.names
+module _ {c : Chart} {k : Code} {tags : List Tag} {origins : List ℕ} where
+  -- the code that is written has the runs of the smaller code
+  pub runs_smaller : (w : IsWritten c k tags origins) → HasSameRuns w.smaller k
+  runs_smaller w = passed_same w.smaller k tags w.is_code.shrunk.well_formed w.is_faster.passed
 
-  pub written_tree : {t : Tree} → t ≡ c.tree → IsWritten c k tags origins h → t ≡ k.tree
-  written_tree is w = same_tree is w.is_code ∙ sym w.is_faster.passed.same.tree
+  -- so it declares the same
+  pub written_names : {n : Names} → n ≡ c.names → IsWritten c k tags origins → n ≡ k.names
+  written_names is w = same_names is w.is_code ∙ sym (runs_smaller w).names
+
+  pub written_tree : {t : Tree} → t ≡ c.tree → IsWritten c k tags origins → t ≡ k.tree
+  written_tree is w = same_tree is w.is_code ∙ sym (runs_smaller w).tree
 
   -- its tags are those of the chart
-  pub written_tags : IsWritten c k tags origins h → All (IsTagOf c) tags
+  pub written_tags : IsWritten c k tags origins → All (IsTagOf c) tags
   unfolding code_of_chart
   written_tags w =
       All-weaker (IsTag w.smaller) (IsTagOf c)
       (λ tag is. record {
         home = λ s e. subst (λ t. s < state_count t) w.is_code.shrunk.tree (is.home s e);
         event = λ s e. subst (λ (n : Names). s < length n.events) w.is_code.shrunk.names (is.event s e);
-      }) tags w.is_faster.passed.told.each
+      }) tags (passed_told w.smaller k tags w.is_faster.passed)
 
   -- its file runs as the rules say, where that holds of all code with the same runs
-  pub written_same : IsWritten c k tags origins h → HasSameRuns (code_of_chart c) k
+  pub written_same : IsWritten c k tags origins → HasSameRuns (code_of_chart c) k
   written_same w =
       same_both (code_of_chart c) w.smaller k (same_shrunk (code_of_chart c) w.smaller w.is_code.shrunk)
-      w.is_faster.passed.same
+      (runs_smaller w)
 
-  -- it is no higher than there is room for
-  pub written_height : IsWritten c k tags origins h → height_of k ≤ h
-  written_height w = let high = w.is_faster.height in let is = w.height in omega (arith, high, is)
+-- all code that is written for a chart declares the same
+module _ {c : Chart} {k k' : Code} {tags tags' : List Tag} {origins origins' : List ℕ}
+    (one : IsWritten c k tags origins) (two : IsWritten c k' tags' origins') where
+  pub same_trees : k'.tree ≡ k.tree
+  same_trees =
+      let first : c.tree ≡ k.tree = written_tree refl one in
+      let second : c.tree ≡ k'.tree = written_tree refl two in sym second ∙ first
+
+  pub same_names_of : k'.names ≡ k.names
+  same_names_of =
+      let first : c.names ≡ k.names = written_names refl one in
+      let second : c.names ≡ k'.names = written_names refl two in sym second ∙ first

@@ -17,7 +17,7 @@ use Rattle.code_passes.specs.declared.tag.EventTag.{EventTag}
 use Rattle.code_passes.specs.declared.tag.EventTag.TheVariants.{Any, Is, Other}
 use Rattle.code_passes.specs.declared.tag.Tag.{Tag}
 use Rattle.trace_text.specs.Trace.{event_name}
-use Rattle.c_file.specs.Comments.{event_words, home_start, home_words, shared_words, copy_words}
+use Rattle.c_file.specs.Comments.{event_words, home_start, home_words, shared_words, play_words, copy_words}
 
 -- the event has a name
 abbrev is_named : EventDecl → Bool
@@ -42,6 +42,11 @@ shared_plain : (b : Bool) → IsPlain (shared_words b)
 shared_plain true = tested (codes ", and what is equal to it") refl
 shared_plain false = tt
 
+-- whether it calls what is noted
+play_plain : (b : Bool) → IsPlain (play_words b)
+play_plain true = tested (codes ", the actions noted there") refl
+play_plain false = tt
+
 module _ (t : Tree) (n : Names) (states : list_all is_name n.states ≡ true)
     (events : list_all is_named n.events ≡ true) where
   -- for which events
@@ -63,6 +68,7 @@ module _ (t : Tree) (n : Names) (states : list_all is_name n.states ≡ true)
   -- for what a copy is
   pub copy_plain : (tag : Tag) → IsPlain (copy_words t n tag)
   copy_plain tag =
-      plain_append (event_words n tag.event) _ (events_plain tag.event)
+      plain_append (play_words tag.plays) _ (play_plain tag.plays)
+      (plain_append (event_words n tag.event) _ (events_plain tag.event)
       (plain_append (home_words t n tag.event tag.home) (shared_words tag.shared) (home_plain tag.event tag.home)
-      (shared_plain tag.shared))
+      (shared_plain tag.shared)))

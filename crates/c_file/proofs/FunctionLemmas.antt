@@ -11,10 +11,11 @@ use Rattle.c_subset.specs.declared.trees.Function as declared
 use Rattle.c_subset.specs.declared.trees.CType.TheVariants.{Truth}
 use Rattle.c_procedures.specs.Statements as plan
 use Rattle.c_procedures.specs.Writer.{plans_of}
-use Rattle.c_functions.specs.Plans.{Shape}
+use Rattle.c_functions.specs.Plans.{Shape, Tests}
 use Rattle.c_functions.specs.Files.{shape_of, functions_c, procedure_c}
 use Rattle.c_functions.specs.Starts.{file_of}
 use Rattle.c_functions.proofs.Functions.{range-length}
+use Rattle.c_expression_writer.specs.FileShapes.{shape_seen}
 use Rattle.c_writer.specs.Functions.{IsAt}
 use Rattle.c_file.specs.declared.made.Made.{Made}
 use Rattle.c_file.specs.Made.{IsMade, functions_of}
@@ -24,27 +25,28 @@ pub no_function : Function
 no_function = record { result = Truth; parameters = []; body = End }
 
 -- those of procedures stand first, then eight others, then the start and the reaction
-first_count : (k : Code) (h : ℕ) (b : Bounds) (bodies : ℕ → plan.Block)
-    → length (functions_c (shape_of k h b) bodies) ≡ length k.procedures.procs + 8
+first_count : (k : Code) (T : Tests) (b : Bounds) (bodies : ℕ → plan.Block)
+    → length (functions_c (shape_of k T b) bodies) ≡ length k.procedures.procs + 8
 unfolding functions_c
-first_count k h b bodies =
-    length-append (map (λ q. procedure_c (shape_of k h b) (bodies q)) (range_with_len 0 (length k.procedures.procs))) _
+first_count k T b bodies =
+    length-append (map (λ q. procedure_c (shape_of k T b) (bodies q)) (range_with_len 0 (length k.procedures.procs))) _
     ∙ ap (λ (n : ℕ). n + 8)
-    (range-length (λ q. procedure_c (shape_of k h b) (bodies q)) 0 (length k.procedures.procs))
+    (range-length (λ q. procedure_c (shape_of k T b) (bodies q)) 0 (length k.procedures.procs))
 
 -- there are ten after those of procedures
-file_count : (k : Code) (h : ℕ) (b : Bounds) (bodies : ℕ → plan.Block)
-    → length (file_of k h b bodies).functions ≡ length k.procedures.procs + 10
-file_count k h b bodies =
-    let all : length (file_of k h b bodies).functions ≡ length (functions_c (shape_of k h b) bodies) + 2 =
-    length-append (functions_c (shape_of k h b) bodies) _ in
-    omega (arith, all, first_count k h b bodies)
+file_count : (k : Code) (T : Tests) (b : Bounds) (bodies : ℕ → plan.Block)
+    → length (file_of k T b bodies).functions ≡ length k.procedures.procs + 10
+file_count k T b bodies =
+    let all : length (file_of k T b bodies).functions ≡ length (functions_c (shape_of k T b) bodies) + 2 =
+    length-append (functions_c (shape_of k T b) bodies) _ in
+    omega (arith, all, first_count k T b bodies)
 
 pub functions_count : (made : Made) → IsMade made → made.shape.procs + 10 ≡ length (functions_of made)
 unfolding functions_of
 functions_count made is =
     ap (λ (K : Shape). K.procs + 10) is.shape
-    ∙ sym (file_count (code_of made.code.now) made.shape.height made.shape.bounds (plans_of (code_of made.code.now)))
+    ∙ sym (file_count (code_of made.code.now) (shape_seen made.shape).tests made.shape.bounds
+    (plans_of (code_of made.code.now)))
 
 -- there is one function at a place
 pub one_function : (functions : List Function) (n : ℕ) (f : declared.Function) (g : Function)

@@ -11,3 +11,4 @@ pub mod CodeLemmas
 pub mod StructLemmas
 pub mod OneCode
 pub mod OneText
+pub mod ServeLemmas

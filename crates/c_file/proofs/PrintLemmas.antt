@@ -18,3 +18,12 @@ four_printed old first second third fourth one two three four a b c d =
 -- a text where nothing was before
 pub first_printed : (old text now : List ℕ) → old ≡ [] → now ≡ old ++ text → now ≡ text
 first_printed old text now none is = is ∙ ap (λ (t : List ℕ). t ++ text) none
+
+-- six texts
+pub six_printed : (old a b c d e f one two three four five six : List ℕ)
+    → one ≡ old ++ a → two ≡ one ++ b → three ≡ two ++ c → four ≡ three ++ d → five ≡ four ++ e → six ≡ five ++ f
+    → six ≡ old ++ (a ++ (b ++ (c ++ (d ++ (e ++ f)))))
+six_printed old a b c d e f one two three four five six p q r s t u =
+    two_printed old a (b ++ (c ++ (d ++ (e ++ f)))) one six p
+    (two_printed one b (c ++ (d ++ (e ++ f))) two six q
+    (four_printed two c d e f three four five six r s t u))

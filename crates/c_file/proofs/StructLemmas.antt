@@ -1,5 +1,5 @@
 -- The struct of the header is that of the source.
-use Rattle.std.proofs.Common.{◌≡◌, ◌+◌, ◌*◌, ℕ, List, [], ◌∷◌, ◌++◌, map, sym, ap, ◌∙◌, subst}
+use Rattle.std.proofs.Common.{◌≡◌, ℕ, List, [], ◌∷◌, ◌++◌, map, sym, ap, ◌∙◌, subst}
 use Rattle.flow_base.specs.declared.bounds.Bounds.{Bounds}
 use Rattle.active_config.specs.Tree.{Tree}
 use Rattle.actions.specs.Names.{Names}
@@ -8,11 +8,11 @@ use Rattle.code_language.specs.Code.{Code}
 use Rattle.c_subset.specs.Meaning.{CValue, Store}
 use Rattle.c_expressions.specs.Claims.{field_type}
 use Rattle.c_functions.specs.Files.{HasRow, shape_of}
-use Rattle.c_functions.specs.Plans.{note_row}
+use Rattle.c_functions.specs.Plans.{Tests, note_row, out_row}
 use Rattle.c_functions.specs.Starts.{HasShape, first_values, state_values, zero_word}
 
 -- code that declares the same has the same fields
-module _ (k k' : Code) (h h' : ℕ) (b : Bounds) (tree : k'.tree ≡ k.tree) (names : k'.names ≡ k.names) where
+module _ (k k' : Code) (T T' : Tests) (b b' : Bounds) (tree : k'.tree ≡ k.tree) (names : k'.names ≡ k.names) where
   -- what they begin with, by the names and the tree
   abbrev pub values_by : Names → Tree → List CValue
   values_by n t =
@@ -20,14 +20,15 @@ module _ (k k' : Code) (h h' : ℕ) (b : Bounds) (tree : k'.tree ≡ k.tree) (na
       ++ zero_word ∷ zero_word ∷ zero_word ∷ zero_word ∷ zero_word ∷ state_values t
 
   -- it is the same
-  values_same : first_values (shape_of k h b) ≡ first_values (shape_of k' h' b)
+  values_same : first_values (shape_of k T b) ≡ first_values (shape_of k' T' b')
   unfolding first_values
   values_same = sym (ap (λ (n : Names). values_by n k'.tree) names ∙ ap (λ (t : Tree). values_by k.names t) tree)
 
-  -- so is the struct, where there is room for the same height
-  pub struct_same : (s : Store) → h' ≡ h → HasShape (shape_of k h b) s → HasShape (shape_of k' h' b) s
-  struct_same s high has = record {
+  -- so is the struct, where there is room for as many outputs and notes
+  pub struct_same : (s : Store) → b.steps ≡ b'.steps → (shape_of k T b).notes ≡ (shape_of k' T' b').notes
+      → HasShape (shape_of k T b) s → HasShape (shape_of k' T' b') s
+  struct_same s steps notes has = record {
     fields = has.fields ∙ ap (λ (xs : List CValue). map (λ (x : CValue). x.type) xs) values_same;
-    out = has.out;
-    note = subst (λ (n : ℕ). HasRow s.rows note_row ((b.steps + 1) * (n + 1)) []) (sym high) has.note;
+    out = subst (λ (n : ℕ). HasRow s.rows out_row n []) steps has.out;
+    note = subst (λ (n : ℕ). HasRow s.rows note_row n []) notes has.note;
   }

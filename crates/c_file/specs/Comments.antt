@@ -47,9 +47,16 @@ abbrev pub shared_words : Bool → List ℕ
 shared_words true = codes ", and what is equal to it"
 shared_words false = []
 
+-- whether a procedure calls the actions that were noted on the way to its part, and that alone
+abbrev pub play_words : Bool → List ℕ
+play_words true = codes ", the actions noted there"
+play_words false = []
+
 -- for what a copy of a procedure is
 abbrev pub copy_words : Tree → Names → Tag → List ℕ
-copy_words t n tag = event_words n tag.event ++ (home_words t n tag.event tag.home ++ shared_words tag.shared)
+copy_words t n tag =
+    play_words tag.plays
+    ++ (event_words n tag.event ++ (home_words t n tag.event tag.home ++ shared_words tag.shared))
 
 -- what a procedure does: the part of the chart that its procedure of the smaller code is of, and for what it is a copy
 abbrev pub words_for : Tree → Names → List Part → List ℕ → Tag → List ℕ

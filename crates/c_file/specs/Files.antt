@@ -1,9 +1,11 @@
 -- Header and source of a chart.
-use Rattle.std.specs.Prelude.{◌≡◌, ℕ, List, [], length, slice_index_or}
+use Rattle.std.specs.Prelude.{◌≡◌, ℕ, true, false, List, [], length, slice_index_or}
+use Rattle.std.specs.List.{AllByRecursion}
 use Rattle.flow_base.specs.declared.bounds.Bounds.{Bounds}
+use Rattle.actions.specs.Runs.{EventWithInputs, Moment}
 use Rattle.checked_chart.specs.Chart.{Chart}
-use Rattle.code_language.specs.Code.{Code}
-use Rattle.code_language.specs.Measures.{greatest, heights}
+use Rattle.sos_rules.specs.Reactions.{RulesRun}
+use Rattle.code_language.specs.Code.{Code, code_of}
 use Rattle.chart_layout.specs.Bodies.{code_of_chart}
 use Rattle.code_shrink.specs.Shrunk.{IsShrunk}
 use Rattle.code_shrink.specs.Origins.{HadNumbers}
@@ -11,11 +13,16 @@ use Rattle.code_passes.specs.Passed.{IsFaster}
 use Rattle.code_passes.specs.declared.tag.Tag.{Tag}
 use Rattle.chart_parts.specs.Parts.{parts_of}
 use Rattle.c_procedures.specs.Writer.{plans_of}
+use Rattle.c_functions.specs.Failing.{AfterIsRight}
 use Rattle.c_functions.specs.Files.{shape_of}
-use Rattle.c_functions.specs.Starts.{file_of}
-use Rattle.c_runs.specs.Claims.{RunsAsRules}
+use Rattle.c_functions.specs.Moments.{MayEnd}
+use Rattle.c_functions.specs.Plans.{Tests}
+use Rattle.c_functions.specs.Starts.{file_of, AllGiven}
+use Rattle.c_runs.specs.Claims.{RunsAsRules, Serves}
 use Rattle.c_text.specs.Labels.{labels_for}
+use Rattle.c_expression_writer.specs.FileShapes.{tests_seen}
 use Rattle.c_header.specs.Header.{header_text}
+use Rattle.c_file.specs.declared.written.Written.{Written}
 use Rattle.c_file.specs.Comments.{comments_for}
 use Rattle.c_file.specs.Source.{IsSourceText}
 
@@ -28,42 +35,59 @@ pub record IsCodeFor (c : Chart) (k : Code) (origins : List ℕ) : Type 0 where
   pub shrunk : IsShrunk (code_of_chart c) k
   pub numbers : HadNumbers (code_of_chart c).procedures k.procedures origins
 
--- The text is the source for code of a chart with these tags, with room in note[] for a height, where the smaller code
--- had these numbers: the functions that are reached, each procedure under words for the part of the chart that it is of
--- and for what it is a copy
-abbrev pub IsSourceFor : Chart → Bounds → ℕ → Code → List ℕ → List Tag → List ℕ → Type 0
-IsSourceFor c b h k origins tags text =
-    IsSourceText (labels_for (chart_name c) c.names c.tree (length k.procedures.procs))
-    (comments_for c.tree c.names (parts_of c) origins tags) (file_of k h b (plans_of k)).functions text
+-- the tests of no bound
+abbrev pub untested_bounds : Tests
+untested_bounds = record { steps = false; depth = false; after = λ p. true }
 
--- the greatest height of a procedure of code
-abbrev pub height_of : Code → ℕ
-height_of k = greatest (heights k.procedures.procs)
+-- no event of a chart overruns these bounds: whatever events it is given, no run is ended by a bound
+abbrev pub NoEventOverruns : Chart → Bounds → Type 0
+NoEventOverruns c b =
+    (events : List EventWithInputs) (moments : List Moment) → AllGiven c.names events → RulesRun c b events moments
+    → AllByRecursion (λ (m : Moment). MayEnd untested_bounds m.fault) moments
 
--- The text is that of the header of a chart under these bounds: of the struct and the calls of the file of its smaller
--- code
-pub record IsHeader (c : Chart) (b : Bounds) (text : List ℕ) : Type 0 where
-  pub code : Code
-  pub origins : List ℕ
-  pub is_code : IsCodeFor c code origins
-  pub is_text : text ≡ header_text (chart_name c) (shape_of code (height_of code) b)
-
--- code with these tags is one for which the source of a chart is written: it has the runs of the chart's smaller code,
--- whose procedures had these numbers and which has this height, and is no higher
-pub record IsWritten (c : Chart) (k : Code) (tags : List Tag) (origins : List ℕ) (h : ℕ) : Type 0 where
+-- code with these tags is one for which the C of a chart is written: it has the runs of the chart's smaller code, whose
+-- procedures had these numbers
+pub record IsWritten (c : Chart) (k : Code) (tags : List Tag) (origins : List ℕ) : Type 0 where
   pub smaller : Code
   pub is_code : IsCodeFor c smaller origins
   pub is_faster : IsFaster smaller k tags
-  pub height : h ≡ height_of smaller
+
+-- what both files of a chart under its bounds are written for: such code, with tests and limits that serve it, where the
+-- result of each procedure that can fail is tested after a call
+pub record IsWrittenUnder (c : Chart) (b : Bounds) (written : Written) : Type 0 where
+  pub is_written : IsWritten c (code_of written.faster.code) written.faster.tags.items written.origins.items
+  pub serves : Serves c b (code_of written.faster.code) (tests_seen written.tests) written.limits
+  pub after : AfterIsRight (tests_seen written.tests) (code_of written.faster.code)
+
+-- The text is the source for code of a chart with these tags, with these tests and limits, where the smaller code had
+-- these numbers: the functions that are reached, each procedure under words for the part of the chart that it is of and
+-- for what it is a copy, and the check that the header is of the same limits and of code with as many notes
+abbrev pub IsSourceFor : Chart → Tests → Bounds → Code → List ℕ → List Tag → List ℕ → Type 0
+IsSourceFor c T limits k origins tags text =
+    IsSourceText (labels_for (chart_name c) c.names c.tree (length k.procedures.procs))
+    (comments_for c.tree c.names (parts_of c) origins tags) limits.steps (shape_of k T limits).notes
+    (file_of k T limits (plans_of k)).functions text
+
+-- The text is that of the header of a chart under these bounds: of the struct and the calls of the file of code with the
+-- runs of its smaller code, with tests and limits that serve it
+pub record IsHeader (c : Chart) (b : Bounds) (text : List ℕ) : Type 0 where
+  pub code : Code
+  pub tags : List Tag
+  pub origins : List ℕ
+  pub tests : Tests
+  pub limits : Bounds
+  pub is_written : IsWritten c code tags origins
+  pub serves : Serves c b code tests limits
+  pub is_text : text ≡ header_text (chart_name c) (shape_of code tests limits)
 
 -- The text is that of the source of a chart under these bounds: of those functions that are reached of the file of code
--- with the runs of its smaller code, with room in note[] for the smaller code's height, as in the header; that file
--- runs as the rules say
+-- with the runs of its smaller code, with tests and limits; that file runs as the rules say under these bounds
 pub record IsSource (c : Chart) (b : Bounds) (text : List ℕ) : Type 0 where
   pub code : Code
   pub tags : List Tag
   pub origins : List ℕ
-  pub height : ℕ
-  pub is_written : IsWritten c code tags origins height
-  pub is_text : IsSourceFor c b height code origins tags text
-  pub runs : RunsAsRules c code height (plans_of code)
+  pub tests : Tests
+  pub limits : Bounds
+  pub is_written : IsWritten c code tags origins
+  pub is_text : IsSourceFor c tests limits code origins tags text
+  pub runs : RunsAsRules c b code tests limits (plans_of code)

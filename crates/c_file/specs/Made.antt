@@ -20,12 +20,13 @@ use Rattle.c_file.specs.Uses.{is_wide}
 pub record IsMade (made : Made) : Type 0 where
   pub named : (labels_of made.labels).chart ≡ made.name.now
   pub parts : AreOfChart made.said
-  pub shape : IsShapeOf (shape_seen made.shape) (code_of made.code.now) made.shape.height
+  pub shape : IsShapeOf (shape_seen made.shape) (code_of made.code.now)
 
 -- the functions of the file
 unfoldable pub functions_of : Made → List Function
 functions_of made =
-    (file_of (code_of made.code.now) made.shape.height made.shape.bounds (plans_of (code_of made.code.now))).functions
+    (file_of (code_of made.code.now) (shape_seen made.shape).tests made.shape.bounds
+    (plans_of (code_of made.code.now))).functions
 
 -- one more function, which has that number: its calls, and whether it names a type of 128 bits
 pub record HasUses (f : ℕ) (g : Function) (old new : Uses) : Type 0 where

@@ -1,6 +1,6 @@
 -- The text of a source: what is written of a file, and in which order.
 use Rattle.std.specs.Prelude.{◌≡◌, ℕ, ◌+◌, ◌-◌, ◌||◌, ◌&&◌, not, Bool, true, false, List, [], ◌∷◌, ◌++◌, length, codes}
-use Rattle.std.specs.Prelude.{slice_index_or, if◌then◌else◌}
+use Rattle.std.specs.Prelude.{decimal, slice_index_or, if◌then◌else◌}
 use Rattle.c_subset.specs.Trees.{Function}
 use Rattle.c_subset.specs.Lines.{lines_of}
 use Rattle.c_text.specs.Labels.{Labels}
@@ -47,6 +47,14 @@ opening_text chart =
     (codes "/* The C of the chart " ++ chart) ++ ((codes ", written by chart_to_c. Do not edit. " ++ chart)
     ++ ((codes ".h says how it is used. */\n#include \"" ++ chart) ++ codes ".h\"\n\n"))
 
+-- A type that C refuses where the header is of other bounds or of other code than the source, so that the struct has
+-- other arrays: its size would be negative
+unfoldable pub fits_text : List ℕ → ℕ → ℕ → List ℕ
+fits_text chart steps notes =
+    (codes "/* C refuses this type where the header is not that of this source. */\ntypedef char " ++ chart)
+    ++ ((codes "_header_fits[((" ++ chart) ++ ((codes "_STEPS == " ++ decimal steps)
+    ++ ((codes ") && (" ++ chart) ++ ((codes "_NOTES == " ++ decimal notes) ++ codes ")) ? 1 : -1];\n\n"))))
+
 -- the types of 128 bits, where one is named
 abbrev pub wide_text : Bool → List ℕ
 wide_text true =
@@ -77,16 +85,21 @@ functions_text L said written f [] = []
 functions_text L said written f (g ∷ gs) = written_text L said written f g ++ functions_text L said written (f + 1) gs
 
 -- what stands before the functions
-abbrev pub front_text : Labels → List Function → List Bool → List ℕ
-front_text L functions written =
-    opening_text L.chart ++ (wide_text (any_wide written 0 functions) ++ declarations_text L written 0 functions)
+abbrev pub front_text : Labels → ℕ → ℕ → List Function → List Bool → List ℕ
+front_text L steps notes functions written =
+    opening_text L.chart
+    ++ (fits_text L.chart steps notes
+    ++ (wide_text (any_wide written 0 functions) ++ declarations_text L written 0 functions))
 
--- the source of those of the functions that are written
-unfoldable pub source_text : Labels → List (List ℕ) → List Function → List Bool → List ℕ
-source_text L said functions written = front_text L functions written ++ functions_text L said written 0 functions
+-- the source of those of the functions that are written, for a struct with so many outputs and notes
+unfoldable pub source_text : Labels → List (List ℕ) → ℕ → ℕ → List Function → List Bool → List ℕ
+source_text L said steps notes functions written =
+    front_text L steps notes functions written ++ functions_text L said written 0 functions
 
--- The text is the source of the functions that are reached, of which those of procedures do what is said
-pub record IsSourceText (L : Labels) (said : List (List ℕ)) (functions : List Function) (text : List ℕ) : Type 0 where
+-- The text is the source of the functions that are reached, of which those of procedures do what is said, for a struct
+-- with so many outputs and notes
+pub record IsSourceText (L : Labels) (said : List (List ℕ)) (steps notes : ℕ) (functions : List Function)
+    (text : List ℕ) : Type 0 where
   pub written : List Bool
   pub reached : AreReached L functions written
-  pub is_text : text ≡ source_text L said functions written
+  pub is_text : text ≡ source_text L said steps notes functions written

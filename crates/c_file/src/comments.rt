@@ -98,12 +98,24 @@ fn shared_words(is_shared: bool) -> &'static str
     }
 }
 
+/// Words for whether a procedure calls the actions that were noted on the way to its part.
+fn play_words(is_play: bool) -> &'static str
+    ensures { result.now ≡ words.play_words is_play }
+{
+    if is_play {
+        ", the actions noted there"
+    } else {
+        ""
+    }
+}
+
 /// Appends for what a copy of a procedure is.
 fn print_copy(out: &mut String, chart: &Chart, tag: Tag) -> Result<(), AllocError>
     requires { IsTagOf (chart_of chart.now) tag }
     ensures { OnOk result (string_bytes out.new ≡ string_bytes out.old
         ++ words.copy_words (chart_of chart.now).tree (chart_of chart.now).names tag) }
 {
+    out.push_str(play_words(tag.plays))?;
     print_events(out, chart, tag.event)?;
     print_home(out, chart, tag.event, tag.home)?;
     out.push_str(shared_words(tag.shared))

@@ -14,6 +14,7 @@ mod passes;
 mod printing;
 mod said;
 mod uses;
+mod written;
 
 pub use file::{header, source};
 pub use laws::{

@@ -12,6 +12,7 @@ use crate::comments::print_comment;
 use crate::made::Made;
 use crate::passes::{Uses, is_outside, uses_of};
 use c_text::{function_kind, print_function, print_prototype};
+use code_fields::print_number;
 use flow_base::Memory;
 use std::alloc::{AllocError, Global};
 
@@ -69,6 +70,25 @@ fn print_opening(out: &mut String, chart: &str) -> Result<(), AllocError>
     print_named(out, ", written by chart_to_c. Do not edit. ", chart)?;
     print_named(out, ".h says how it is used. */\n#include \"", chart)?;
     out.push_str(".h\"\n\n")?;
+    Ok(())
+}
+
+/// Appends the type that C refuses where the header has other numbers.
+#[tactic(auto, unfolding(crate::specs::Source::fits_text))]
+fn print_fits(out: &mut String, chart: &str, steps: u64, notes: u64) -> Result<(), AllocError>
+    ensures { OnOk result (string_bytes out.new
+        ≡ string_bytes out.old ++ spec.fits_text chart.now steps notes) }
+{
+    print_named(
+        out,
+        "/* C refuses this type where the header is not that of this source. */\ntypedef char ",
+        chart,
+    )?;
+    print_named(out, "_header_fits[((", chart)?;
+    print_number(out, "_STEPS == ", steps)?;
+    print_named(out, ") && (", chart)?;
+    print_number(out, "_NOTES == ", notes)?;
+    out.push_str(")) ? 1 : -1];\n\n")?;
     Ok(())
 }
 
@@ -189,10 +209,16 @@ fn print_front(out: &mut String, made: &Made<'_>, uses: &Uses) -> Result<(), All
     requires is { IsMade made.now }
     requires uses { AreUses (labels_of made.now.labels) (functions_of made.now) uses.now }
     ensures { OnOk result (string_bytes out.new ≡ string_bytes out.old
-        ++ spec.front_text (labels_of made.now.labels) (functions_of made.now)
-        uses.now.reached.items) }
+        ++ spec.front_text (labels_of made.now.labels) made.now.shape.bounds.steps
+        made.now.shape.notes (functions_of made.now) uses.now.reached.items) }
 {
     print_opening(out, made.name)?;
+    print_fits(
+        out,
+        made.name,
+        u64::from(made.shape.bounds.steps),
+        made.shape.notes,
+    )?;
     print_wide(out, any_wide(made, uses))?;
     print_declarations(out, made, uses)
 }
@@ -203,7 +229,8 @@ fn print_source(alloc: Global, out: &mut String, made: &Made<'_>, uses: &Uses) -
     requires uses { AreUses (labels_of made.now.labels) (functions_of made.now) uses.now }
     ensures { OnOk result (string_bytes out.new ≡ string_bytes out.old
         ++ spec.source_text (labels_of made.now.labels) (said_of made.now.said)
-        (functions_of made.now) uses.now.reached.items) }
+        made.now.shape.bounds.steps made.now.shape.notes (functions_of made.now)
+        uses.now.reached.items) }
 {
     let Ok(()) = print_front(out, made, uses) else {
         return Err(Memory);
@@ -216,7 +243,8 @@ fn print_source(alloc: Global, out: &mut String, made: &Made<'_>, uses: &Uses) -
 pub(crate) fn printed_source(alloc: Global, made: &Made<'_>) -> Result<String, Memory>
     requires is { IsMade made.now }
     ensures { IfOk result (λ text. spec.IsSourceText (labels_of made.now.labels)
-        (said_of made.now.said) (functions_of made.now) (string_bytes text)) }
+        (said_of made.now.said) made.now.shape.bounds.steps made.now.shape.notes
+        (functions_of made.now) (string_bytes text)) }
 {
     let uses = uses_of(alloc, made)?;
     let mut text = String::new(alloc);

@@ -5,5 +5,9 @@ use Rattle.c_command.proofs.header.header_of.Goals as goal
 pub returns : goal.returns
 returns c =
     IfOk-weaker c.header.result _ _
-    (λ text is. record { bounds = c.in_ok-bounds.bounds; bounds_for = c.in_ok-bounds.ensures; is_file = is })
+    (λ text is. record {
+      bounds = c.in_ok-chosen.chosen.bounds;
+      bounds_for = c.in_ok-chosen.ensures.bounds_for;
+      is_file = is;
+    })
     c.header.ensures

@@ -1,8 +1,18 @@
-use Rattle.c_file.proofs.CodeLemmas.{same_names, same_tree}
+use Rattle.code_language.specs.Code.{code_of}
+use Rattle.c_expression_writer.specs.FileShapes.{tests_seen}
 use Rattle.c_file.proofs.file.header.Goals as goal
 
-pub make-requires-clause-names : goal.make-requires-clause-names
-make-requires-clause-names c = same_names c.names.ensures.names c.in_ok-shrunk.ensures
-
-pub make-requires-clause-tree : goal.make-requires-clause-tree
-make-requires-clause-tree c = same_tree c.shape.ensures.shape c.in_ok-shrunk.ensures
+pub returns : goal.returns
+returns c =
+    let w = c.in_ok-written.written in
+    let is = c.in_ok-written.ensures in
+    record {
+      code = code_of w.faster.code;
+      tags = w.faster.tags.items;
+      origins = w.origins.items;
+      tests = tests_seen w.tests;
+      limits = w.limits;
+      is_written = is.is_written;
+      serves = is.serves;
+      is_text = c.in_ok-text.ensures;
+    }

@@ -1,6 +1,7 @@
 use Rattle.checked_chart.specs.Kept.{chart_of}
 use Rattle.code_language.specs.Code.{code_of}
-use Rattle.c_file.proofs.CodeLemmas.{written_same, written_height}
+use Rattle.c_expression_writer.specs.FileShapes.{tests_seen}
+use Rattle.c_file.proofs.CodeLemmas.{written_same}
 use Rattle.c_file.proofs.file.source.Goals as goal
 
 pub returns : goal.returns
@@ -11,10 +12,12 @@ returns c =
       code = code_of w.faster.code;
       tags = w.faster.tags.items;
       origins = w.origins.items;
-      height = w.height;
-      is_written = is;
+      tests = tests_seen w.tests;
+      limits = w.limits;
+      is_written = is.is_written;
       is_text = c.in_ok-text.ensures;
       runs =
-          c.files_of_code_with_the_same_runs_run_as_charts.ensures (chart_of c.args.chart.now) (code_of w.faster.code)
-          w.height c.shape.ensures.valid (written_same is) (written_height is);
+          c.files_of_code_with_the_same_runs_run_as_charts.ensures (chart_of c.args.chart.now) c.args.bounds
+          (code_of w.faster.code) (tests_seen w.tests) w.limits c.shape.ensures.valid (written_same is.is_written)
+          is.serves is.after;
     }

@@ -1,8 +1,8 @@
-use Rattle.c_file.specs.Files.{height_of}
+use Rattle.c_file.proofs.CodeLemmas.{same_trees, same_names_of}
 use Rattle.c_file.proofs.StructLemmas.{struct_same}
 use Rattle.c_file.proofs.laws.the_struct_of_the_header_is_that_of_the_source.Goals as goal
 
 pub returns : goal.returns
-returns c chart k tags origins h w b s has =
-    struct_same w.smaller k (height_of w.smaller) h b w.is_faster.passed.same.tree w.is_faster.passed.same.names s
-    w.height has
+returns c chart k k' tags tags' origins origins' T T' limits limits' s written written' steps notes has =
+    struct_same k k' T T' limits limits' (same_trees written written') (same_names_of written written') s steps notes
+    has

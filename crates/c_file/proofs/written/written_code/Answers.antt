@@ -1,0 +1,25 @@
+use Rattle.std.proofs.Common.{◌∙◌}
+use Rattle.checked_chart.specs.Kept.{chart_of}
+use Rattle.code_language.specs.Code.{code_of}
+use Rattle.c_file.specs.Files.{IsWritten}
+use Rattle.c_file.proofs.CodeLemmas.{written_same}
+use Rattle.c_file.proofs.ServeLemmas.{limits_serve}
+use Rattle.c_file.proofs.written.written_code.Goals as goal
+
+pub returns : goal.returns
+returns c =
+    let is : IsWritten (chart_of c.args.chart.now) (code_of c.in_ok-faster.faster.code)
+    c.in_ok-faster.faster.tags.items c.in_ok-shrunk.shrunk.origins.items = record {
+      smaller = code_of c.in_ok-shrunk.shrunk.code;
+      is_code = c.in_ok-shrunk.ensures;
+      is_faster = c.in_ok-faster.ensures;
+    } in
+    record {
+      is_written = is;
+      serves =
+          limits_serve (chart_of c.args.chart.now) c.args.bounds (code_of c.in_ok-faster.faster.code) _
+          c.in_ok-found.found c.args.never_overrun c.shape.ensures.valid (written_same is) c.in_ok-found.ensures
+          (c.in_ok-tests.ensures.steps ∙ c.is_tested-steps.ensures) (c.in_ok-tests.ensures.depth ∙ c.is_tested-depth.ensures)
+          c.requires;
+      after = c.in_ok-tests.ensures.right;
+    }

@@ -1,0 +1,73 @@
+//! The code for which both files of a chart are written, and what they test.
+ghost use Rattle.std.specs.Prelude.{◌≡◌, ◌&&◌, IfOk, not, true};
+ghost use Rattle.checked_chart.specs.Kept.{chart_of};
+ghost use Rattle.code_language.specs.Code.{code_of};
+ghost use Rattle.c_file.specs.Files.{IsCodeFor, IsWrittenUnder, NoEventOverruns};
+
+use c_expression_writer::Tests;
+use c_tests::tests_of;
+use chart_compile::compile;
+use checked_chart::Chart;
+use code_counts::limits_of;
+use code_passes::{Faster, faster};
+use code_shrink::{Shrunk, shrink_with_origins};
+use flow_base::{Bounds, Memory};
+use std::alloc::Global;
+
+/// The code for which both files of a chart are written, and what is told of it.
+#[derive(Drop)]
+pub(crate) struct Written {
+    /// The code, and for what its procedures are, by those of the smaller code of the chart.
+    pub faster: Faster,
+    /// The numbers that the procedures of the smaller code had.
+    pub origins: Vec<u32>,
+    /// The bounds under which the C runs.
+    pub limits: Bounds,
+    /// Which faults it tests.
+    pub tests: Tests,
+}
+
+/// The smaller code of a chart, with the numbers that its procedures had.
+fn shrunk_code(alloc: Global, chart: &Chart) -> Result<Shrunk, Memory>
+    ensures { IfOk result
+        (λ shrunk. IsCodeFor (chart_of chart.now) (code_of shrunk.code) shrunk.origins.items) }
+{
+    let code = compile(alloc, chart)?;
+    shrink_with_origins(alloc, &code)
+}
+
+/// Whether a bound is tested that the code may overrun or may not.
+fn is_tested(never_overrun: bool, may_overrun: bool) -> bool
+    ensures { result ≡ (not never_overrun && may_overrun) }
+{
+    !never_overrun && may_overrun
+}
+
+/// The code for which both files of a chart are written under these bounds. Where it is known that
+/// no event of the code takes as much as a bound allows, its limit is the most that one takes. A
+/// limit is tested unless this is known, or no event of the chart overruns the bounds, and the
+/// result of a call where the procedure can fail. The smaller code is dropped.
+pub(crate) fn written_code(
+    alloc: Global,
+    chart: &Chart,
+    bounds: Bounds,
+    never_overrun: bool,
+) -> Result<Written, Memory>
+    requires { never_overrun ≡ true → NoEventOverruns (chart_of chart.now) bounds }
+    ensures { IfOk result (IsWrittenUnder (chart_of chart.now) bounds) }
+{
+    // Only the proof reads the shape: the chart is valid.
+    let _ = chart.shape();
+    let shrunk = shrunk_code(alloc, chart)?;
+    let faster = faster(alloc, &shrunk.code)?;
+    let found = limits_of(alloc, &faster.code, bounds)?;
+    let steps = is_tested(never_overrun, found.tests_steps);
+    let depth = is_tested(never_overrun, found.tests_depth);
+    let tests = tests_of(alloc, &faster.code, steps, depth)?;
+    Ok(Written {
+        faster,
+        origins: shrunk.origins,
+        limits: found.bounds,
+        tests,
+    })
+}

@@ -1,5 +1,6 @@
 #!/usr/bin/env python3
-"""Compares `flowc rules`, `flowc exec` and the C of `chart_to_c` on the generated case 0 with a switch in C, Boost.Statechart and Qt SCXML.
+"""Compares `flowc rules`, `flowc exec` and the C of `chart_to_c` on the generated case 0 with a switch in C, Boost.Statechart and
+Qt SCXML, and then the C of three examples with C by hand.
 
     bench/compare.py [BIN [CHART_TO_C]] [--functions]
 
@@ -9,8 +10,8 @@ All of them run the 20,000 events and must write the same trace, byte for byte, 
 error. Instructions are counted by valgrind's tool callgrind over the first 5,000 events, less those of a run without events.
 The time is the least processor time of five runs over the event file ten times, less that without events. `flowc` reads 4 KiB
 at once and writes up to 8 KiB at once, the others read the whole file and write 60 KiB at once. What isn't installed is skipped,
-and a line says so. With --functions it prints too how the instructions of `exec` and of `rules` are distributed. It works in a
-temporary folder, and is no test of speed: no ratio is an error."""
+and a line says so. example_rows.py says what is measured of the examples. With --functions it prints too how the instructions of
+`exec` and of `rules` are distributed. It works in a temporary folder, and is no test of speed: no ratio is an error."""
 import collections
 import os
 import re
@@ -19,6 +20,7 @@ import subprocess
 import sys
 import tempfile
 
+import example_rows
 import generated
 import measuring
 from machines import boost_statechart, chart_c, qt_scxml, switch_in_c
@@ -244,6 +246,8 @@ def main(program, chart_to_c, is_by_function):
         print_rows({name: (counts and sum(counts.values()), seconds.get(name)) for name, counts in functions.items()})
         for name in ('exec', 'rules') if is_by_function and functions['exec'] else ():
             print_functions(name, functions[name])
+    if 'C of the chart' in programs:
+        example_rows.print_rows(program, chart_to_c)
 
 
 if __name__ == '__main__':

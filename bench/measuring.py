@@ -50,12 +50,12 @@ def has_callgrind():
     return shutil.which('valgrind') is not None
 
 
-def count(words, folder):
-    """The file in which callgrind, a tool of valgrind, has counted the machine instructions of a run."""
+def count(words, folder, *options):
+    """The file in which callgrind, a tool of valgrind, has counted the machine instructions of a run, with these options."""
     counts = os.path.join(folder, 'counts')
     if os.path.exists(counts):
         os.unlink(counts)
-    subprocess.run(['valgrind', '--tool=callgrind', '--callgrind-out-file=' + counts, *words], cwd=folder,
+    subprocess.run(['valgrind', '--tool=callgrind', '--callgrind-out-file=' + counts, *options, *words], cwd=folder,
                    stdin=subprocess.DEVNULL, stdout=subprocess.DEVNULL, stderr=subprocess.DEVNULL, timeout=LONGEST_COUNTED)
     return counts
 
@@ -65,7 +65,24 @@ def instructions(words, folder):
     if not has_callgrind():
         return None
     with open(count(words, folder), encoding='latin-1') as file:
-        return next(int(line.split()[1]) for line in file if line.startswith(('summary:', 'totals:')))
+        return total_of(file)
+
+
+def total_of(lines):
+    """The machine instructions of the run that callgrind counted in these lines."""
+    return next(int(line.split()[1]) for line in lines if line.startswith(('summary:', 'totals:')))
+
+
+def instructions_in(words, folder, function):
+    """The machine instructions of a run, and those between each call of a function, which doesn't call itself, and its return; None
+    without callgrind."""
+    if not has_callgrind():
+        return None
+    with open(count(words, folder, '--compress-strings=no'), encoding='latin-1') as file:
+        lines = file.readlines()
+    # Two lines follow the one that names what is called: how often, and the instructions of these calls.
+    return total_of(lines), sum(int(lines[place + 2].split()[-1]) for place, line in enumerate(lines)
+                                if line == 'cfn=%s\n' % function)
 
 
 def write(folder, name, text):

@@ -344,6 +344,8 @@ class Reader:
                 self.inline_function()
             elif self.tokens[self.place].text == '__extension__':
                 self.wide_types()
+            elif self.take('typedef char'):
+                self.fitting_type()
             else:
                 self.prototype_or_function()
         for name in self.prototypes:
@@ -361,6 +363,31 @@ class Reader:
                 self.refuse('`%s` is no number of type int' % text)
             self.file.constants[name] = int(text)
             self.want('} ;')
+
+    def fitting_type(self):
+        """A type of an array whose size is 1 where the numbers of the header are those of the source, and else -1, which C refuses."""
+        self.new_name({**self.file.constants, **self.prototypes, **self.file.functions}, 'type')
+        self.want('[ (')
+        fits = self.same_number()
+        while self.take('&&'):
+            fits = self.same_number() and fits
+        self.want(') ? 1 :')
+        if not fits:
+            self.refuse('the header does not fit the source: an array has no negative size (6.7.5.2 p1)')
+        self.want('- 1 ] ;')
+
+    def same_number(self):
+        """Whether a number of the header is this one: `(N == C)`."""
+        self.want('(')
+        name = self.next('name', 'a number of the header')
+        if name not in self.file.constants:
+            self.refuse('the header has no number `%s`' % name)
+        self.want('==')
+        text = self.next('number', 'a number')
+        if text.endswith('u') or int(text) >= 2 ** 31:
+            self.refuse('`%s` is no number of type int' % text)
+        self.want(')')
+        return self.file.constants[name] == int(text)
 
     def wide_types(self):
         """The lines that name the types of 128 bits."""

@@ -1,7 +1,8 @@
 #!/usr/bin/env python3
 r"""Runs random cases through all commands of a built program for a given time, and compares the answers with each other.
 
-    python3 checks/soak.py --against PROGRAM [--minutes T] [--seed S] [--first M] [--cases N] [--longest L] [--keep FOLDER]
+    python3 checks/soak.py --against PROGRAM [--chart-to-c CHART_TO_C] [--minutes T] [--seed S] [--first M] [--cases N]
+                           [--longest L] [--keep FOLDER]
 
 T is 60 where nothing is said. A case follows from the seed and its own number alone, so that `--first M --cases 1` runs case M
 again. It is one of these:
@@ -12,7 +13,9 @@ again. It is one of these:
                     it alike, and `exec` must have the same answer for what `upgrade` writes.
     hostile chart   The bytes of a chart are changed, cut, doubled or mixed with others: `check`, `fmt`, `compile`, `rules` and
                     `run` must refuse it alike; where it is accepted, `fmt` must give a text that `fmt` leaves as it is and that
-                    has the same counts, code of the same traces, and the traces are compared as above.
+                    has the same counts, code of the same traces, and the traces are compared as above. With CHART_TO_C its
+                    `header` and `source` must refuse it alike too, and where it is accepted c_runs.py runs the C, whose trace
+                    must be the same. c_runs.py and random_chart_c.py do that for random charts.
     hostile code    The same of a code text.
     hostile events  The same of an event file.
     net             A random net of charts with a schedule, as in random_nets.py: the trace must keep the law of nets, as net_law.py
@@ -24,9 +27,10 @@ again. It is one of these:
 
 For one case in ten, of charts one in twenty, the references chart_check.py, chart_rules.py, code_text.py, code_machine.py and
 nets.py must answer alike. Each answer of each call must be one that answers.py allows. A call may use L seconds of processor
-time, 60 where nothing is said, and so much memory: 32 MiB, 400 bytes for each byte of a chart and 64 for each byte of a code text,
-and for `exec`, `run` and each chart of a net room for the frames of its bounds, (steps + 1) * (height + 1) * 32 bytes, where the
-height is 200 or 87. A program that can't begin with 1 GiB, such as one built with a sanitizer, runs without that limit.
+time, 60 where nothing is said, and so much memory: 32 MiB, 400 bytes for each byte of a chart and 64 for each byte of a code
+text, and for `exec`, `run` and each chart of a net room for the frames of its bounds, (steps + 1) * (height + 1) * 32 bytes,
+where the height is 200 or 87; for the C of a chart it is 1 GiB. A program that can't begin with 1 GiB, such as one built with
+a sanitizer, runs without that limit.
 
 A line is written for each difference, whose files are kept in FOLDER, and at the end a summary. The status is 1 where anything
 differed."""
@@ -42,6 +46,7 @@ from collections import Counter
 from typing import NamedTuple
 
 import answers
+import c_runs
 import chart_check as check
 import chart_rules as rules
 import chart_syntax as syntax
@@ -68,10 +73,12 @@ ODD_BYTES = b'\0\n\r\t #/{}[]()@=-+*<>!&|;:,.q\x7f\x80\xff09azAZ_'
 # ---- the program under limits
 
 class Measured(random_compiled.Program):
-    """The program under limits. It counts calls, statuses, time and memory, and what is no answer at all."""
+    """The program under limits, and `chart_to_c`, where it is given. Calls, statuses, time and memory are counted, and what is no
+    answer at all."""
 
-    def __init__(self, path, folder, longest):
+    def __init__(self, path, folder, longest, chart_to_c=None):
         super().__init__(path, folder)
+        self.chart_to_c = chart_to_c and os.path.abspath(chart_to_c)
         self.longest = longest
         self.limited = answers.begins(self.path, 1 << 30)
         self.calls, self.seconds, self.memory, self.bad = Counter(), Counter(), Counter(), []
@@ -91,6 +98,8 @@ class Measured(random_compiled.Program):
         """How much memory a call may have."""
         if command == 'net':
             return self.most_of_net(names[0], options)
+        if command in answers.C_COMMANDS:
+            return 1024 * MIB
         first = self.size(names[0]) if names else 0
         most = 32 * MIB + first * (64 if command in answers.WITH_CODE else 400)
         if command in ('exec', 'run'):
@@ -122,7 +131,8 @@ class Measured(random_compiled.Program):
 
         names = [os.path.join(self.folder, name) for name in ('standard output', 'standard error')]
         with open(names[0], 'wb') as out, open(names[1], 'wb') as error:
-            process = subprocess.Popen([self.path, *words], stdin=subprocess.DEVNULL, stdout=out, stderr=error, cwd=self.folder,
+            program = self.chart_to_c if command in answers.C_COMMANDS else self.path
+            process = subprocess.Popen([program, *words], stdin=subprocess.DEVNULL, stdout=out, stderr=error, cwd=self.folder,
                                        preexec_fn=limit)
             status, used, timed_out = waited(process, 10 * self.longest)
         texts = []
@@ -269,6 +279,10 @@ def asked(words):
 
 # ---- the cases
 
+def options_of(bounds):
+    return ['--depth', str(bounds[0]), '--steps', str(bounds[1])]
+
+
 class Soak:
     """Runs cases by their numbers, and counts what was met and what was wrong. `keep` is the folder for files of differences."""
 
@@ -372,13 +386,22 @@ class Soak:
                 lines += differences('%s %s' % (name, command), checked, program.run(command, 'chart', *more))
         else:
             lines += differences(name + ' check of the canonical text', checked, program.run('check', 'formatted'))
-            lines += self.trace_lines(name, text, events, random_compiled.bounds_of(choices), with_references)
+            bounds = random_compiled.bounds_of(choices)
+            lines += self.trace_lines(name, text, events, bounds, with_references)
+            if program.chart_to_c:
+                self.found['traces of the C of hostile texts'] += 1
+                expected = program.run('rules', 'chart', 'events', options=options_of(bounds))
+                lines += c_runs.compared(name + ' c_runs.py', program.chart_to_c, text.decode('latin-1'),
+                                         events.decode('latin-1'), expected, options_of(bounds))
+        for command in answers.C_COMMANDS if program.chart_to_c else ():
+            answer = program.run(command, 'chart')
+            lines += differences('%s %s' % (name, command), checked if checked.status != 0 else Ended(answer.out, '', 0), answer)
         self.differ(name, lines, chart=text, events=events)
 
     def trace_lines(self, name, text, events, bounds, with_references):
         """Differences of the traces of an accepted chart."""
         program = self.program
-        options = ['--depth', str(bounds[0]), '--steps', str(bounds[1])]
+        options = options_of(bounds)
         program.write('events', events)
         ran = program.run('rules', 'chart', 'events', options=options)
         self.found['traces of hostile texts with status %s' % ran.status] += 1
@@ -539,6 +562,7 @@ def main(words):
     """Runs cases until the time is over, and gives the status."""
     reader = parser(__doc__)
     reader.add_argument('--against', metavar='PROGRAM', required=True)
+    reader.add_argument('--chart-to-c', metavar='CHART_TO_C')
     reader.add_argument('--minutes', type=float, default=60)
     reader.add_argument('--seed', default='1')
     reader.add_argument('--first', type=int, default=0)
@@ -549,7 +573,7 @@ def main(words):
     began, first, most = time.time(), options.first, options.cases
     print('seed %s, from case %d on' % (options.seed, first), flush=True)
     with tempfile.TemporaryDirectory(dir='/dev/shm' if os.path.isdir('/dev/shm') else None) as folder:
-        program = Measured(options.against, folder, options.longest)
+        program = Measured(options.against, folder, options.longest, options.chart_to_c)
         soak, number = Soak(program, options.seed, options.keep), first
         while time.time() - began < 60 * options.minutes and not (most and number - first >= most):
             soak.case(number)

@@ -12,12 +12,12 @@ use Rattle.code_language.specs.Reactions.{Leads, program_of}
 use Rattle.code_counts.specs.Certificate.{Numbers, IsCertificate, IsMost}
 use Rattle.code_counts.specs.Claims.{HasMost, IsWithin}
 use Rattle.code_counts.specs.declared.numbers.Counted.{Counted}
-use Rattle.code_counts.specs.declared.numbers.Counted.TheVariants.{Steps, Outputs, Depth, Notes}
-use Rattle.code_counts.proofs.Levels.{IsLevel, depth_level, notes_level, level_stays}
+use Rattle.code_counts.specs.declared.numbers.Counted.TheVariants.{Steps, Outputs, Depth, Notes, Calls}
+use Rattle.code_counts.proofs.Levels.{IsLevel, depth_level, notes_level, calls_level, level_stays}
 use Rattle.code_counts.proofs.Sums.{steps_sum, outputs_sum, sum_within}
 
 module _ (k : Code) (N : Numbers) (most : ℕ) (is : IsMost k.procedures N most) where
-  -- depth and notes, which are levels
+  -- depth, notes and calls, which are levels
   by_level : (c : Counted) → IsLevel c → IsCertificate c k.procedures N → HasMost c k most
   by_level c s ok = record {
     start = λ b n. level_stays (program_of k b) c N most s ok n (world_before k.tree k.names) (from_outside Start)
@@ -42,6 +42,7 @@ module _ (k : Code) (N : Numbers) (most : ℕ) (is : IsMost k.procedures N most)
   }
   bounded Depth ok = by_level Depth depth_level ok
   bounded Notes ok = by_level Notes notes_level ok
+  bounded Calls ok = by_level Calls calls_level ok
 
 -- ---- where events end
 
@@ -61,7 +62,12 @@ stopped C (suc n) m w x h =
     stopped_then (step C m) (run C n) (ahead C n) w x (λ m' h'. stopped C n m' w x h') h
 
 -- what holds at all times of an event holds at its end
+pub at_end : (P : Next → Type 0) (C : Program) (m : Machine) (moment : Moment) → Leads C m moment
+    → ((n : ℕ) → P (ahead C n m)) → P (Stops moment.world moment.fault)
+at_end P C m moment leads all =
+    subst P (stopped C leads.steps m moment.world moment.fault leads.ends) (all leads.steps)
+
+-- so do numbers
 pub end_within : (c : Counted) (C : Program) (most : ℕ) (m : Machine) (moment : Moment) → Leads C m moment
     → ((n : ℕ) → IsWithin c C.bounds most (ahead C n m)) → IsWithin c C.bounds most (Stops moment.world moment.fault)
-end_within c C most m moment leads all =
-    subst (IsWithin c C.bounds most) (stopped C leads.steps m moment.world moment.fault leads.ends) (all leads.steps)
+end_within c C most m moment leads all = at_end (IsWithin c C.bounds most) C m moment leads all

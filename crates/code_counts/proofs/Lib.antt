@@ -3,6 +3,7 @@ pub mod Debts
 pub mod Sums
 pub mod Levels
 pub mod Bounded
+pub mod Room
 pub mod Each
 pub mod SameSteps
 pub mod SameRuns

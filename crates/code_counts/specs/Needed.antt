@@ -1,5 +1,5 @@
 -- The bounds that the events of code need.
-use Rattle.std.specs.Prelude.{◌≡◌, ◌≤◌, ◌⊎◌, ◌↔◌, ℕ, Bool, IsTrue, IsFalse, List, Option, Some, None}
+use Rattle.std.specs.Prelude.{◌≡◌, ◌≤◌, ◌⊎◌, ◌↔◌, ℕ, Bool, IsTrue, IsFalse, List, length, Option, Some, None, IfSome}
 use Rattle.flow_base.specs.Bounds.{AreBounds}
 use Rattle.flow_base.specs.declared.bounds.Bounds.{Bounds}
 use Rattle.flow_base.specs.declared.fault.Fault.{Fault}
@@ -12,7 +12,7 @@ use Rattle.code_language.specs.Reactions.{Starts, Reacts, CodeRun}
 use Rattle.code_counts.specs.Claims.{HasMost}
 use Rattle.code_counts.specs.declared.numbers.Limits.{Limits}
 use Rattle.code_counts.specs.declared.numbers.Counted.{Counted}
-use Rattle.code_counts.specs.declared.numbers.Counted.TheVariants.{Steps, Depth}
+use Rattle.code_counts.specs.declared.numbers.Counted.TheVariants.{Steps, Depth, Calls}
 
 -- two bounds of what is counted are the same, or no event of the code takes more than either
 abbrev pub AreSameFor : Counted → Code → ℕ → ℕ → Type 0
@@ -35,8 +35,17 @@ MayEnd steps depth (Some faults.Steps) = IsTrue steps
 MayEnd steps depth (Some (faults.Overflow v)) = Unit {0}
 MayEnd steps depth (Some faults.Zero) = Unit {0}
 
+-- an array with so many entries has room for what a start or a reaction puts out under these bounds, from whatever
+-- world
+pub record IsRoom (k : Code) (b : Bounds) (room : ℕ) : Type 0 where
+  pub some : 1 ≤ room
+  pub few : room ≤ b.steps
+  pub start : (w : World) (x : Option Fault) → Starts k b w x → length w.outputs ≤ room
+  pub reaction : (w w' : World) (e : Event) (x : Option Fault) → Reacts k b w e w' x → length w'.outputs ≤ room
+
 -- the bounds that were found serve the code in place of the given ones: the runs are the same, and a start and a
--- reaction, from whatever world, end by the fault of a bound only where it is tested
+-- reaction, from whatever world, end by the fault of a bound only where it is tested, and put out no more events than
+-- there is room for; and the number of open calls that was found is the most that an event has
 pub record IsLimit (k : Code) (b : Bounds) (found : Limits) : Type 0 where
   pub runs : (events : List EventWithInputs) (moments : List Moment)
       → CodeRun k b events moments ↔ CodeRun k found.bounds events moments
@@ -46,4 +55,6 @@ pub record IsLimit (k : Code) (b : Bounds) (found : Limits) : Type 0 where
       → MayEnd found.tests_steps found.tests_depth x
   pub steps : Serves Steps k b.steps found.bounds.steps found.tests_steps
   pub depth : Serves Depth k b.depth found.bounds.depth found.tests_depth
+  pub outputs : IsRoom k found.bounds found.outputs
+  pub calls : IfSome found.calls (HasMost Calls k)
   pub in_range : AreBounds b.depth b.steps → AreBounds found.bounds.depth found.bounds.steps

@@ -15,6 +15,8 @@ pub enum Counted {
     Depth,
     /// How many notes are pending at once.
     Notes,
+    /// How many calls are open at once, besides that of the start or of the reaction.
+    Calls,
 }
 
 /// How much an event can take at most, for the start and for all reactions.
@@ -30,9 +32,12 @@ pub struct Counts {
     pub depth: u32,
     /// How many notes are pending at once.
     pub notes: u32,
+    /// How many calls are open at once, besides that of the start or of the reaction.
+    pub calls: u32,
 }
 
-/// The bounds that the events of code need, and which of them a run has to test.
+/// The bounds that the events of code need, which of them a run has to test, and how much room its
+/// outputs and its calls take.
 ///
 /// Source: this project's choice.
 #[derive(Clone, Copy, Debug)]
@@ -43,6 +48,11 @@ pub struct Limits {
     pub tests_steps: bool,
     /// Whether an event may be sent deeper, so that a run has to test the depth.
     pub tests_depth: bool,
+    /// How many events an event puts out at most: 1 to the steps of `bounds`.
+    pub outputs: u32,
+    /// How many calls are open at once at most, besides that of the start or of the reaction; none
+    /// where no such number was found, as where calls go round.
+    pub calls: Option<u32>,
 }
 
 /// The numbers at a place of code.

@@ -23,6 +23,7 @@ shape_seen s = record {
   names = names_of s.names.now;
   bounds = s.bounds;
   tests = tests_seen s.tests.now;
+  outputs = s.outputs;
   procs = s.procs;
   noted = items_of s.noted;
   notes = s.notes;

@@ -11,7 +11,7 @@ use flow_base::Memory;
 use std::alloc::Global;
 
 /// 2 to the exponent.
-pub fn power_of_two(exponent: u32) -> i128
+pub(crate) fn power_of_two(exponent: u32) -> i128
     requires { exponent ≤ 126 }
     ensures { result ≡ pos (2 ^ exponent) }
 {

@@ -21,7 +21,7 @@ pub(crate) struct Brought {
 }
 
 /// The least mantissa of a scale.
-fn least(scale: Scale) -> i128
+pub fn least(scale: Scale) -> i128
     ensures { result ≡ scales.least scale }
 {
     if scale.signed {
@@ -32,7 +32,7 @@ fn least(scale: Scale) -> i128
 }
 
 /// The greatest mantissa of a scale.
-fn greatest(scale: Scale) -> i128
+pub fn greatest(scale: Scale) -> i128
     ensures { result ≡ scales.greatest scale }
 {
     if scale.signed {

@@ -25,8 +25,8 @@ fn note_room(noted: &[u32], height: u32, bounds: Bounds) -> u64
 }
 
 /// What the C of a file is written for: the states and the names of code, bounds, which faults are
-/// tested, how many procedures there are, which of them are noted, and how many entries `note[]`
-/// has.
+/// tested, how many entries `out[]` has, how many procedures there are, which of them are noted,
+/// and how many entries `note[]` has.
 #[derive(Drop)]
 pub struct FileShape<'a> {
     /// The tree of states.
@@ -37,6 +37,8 @@ pub struct FileShape<'a> {
     pub bounds: Bounds,
     /// Which faults are tested.
     pub tests: &'a Tests,
+    /// How many entries `out[]` has.
+    pub outputs: u32,
     /// How many procedures there are.
     pub procs: u32,
     /// The procedures that are noted, in ascending order.
@@ -59,8 +61,8 @@ impl<'a> FileShape<'a> {
     ghost use Rattle.c_functions.specs.Files.{shape_of};
     ghost use Rattle.c_expression_writer.specs.FileShapes.{shape_seen, tests_seen};
 
-    /// The shape of code with these tests, under these bounds: its tree and its names are handed
-    /// over beside it.
+    /// The shape of code with these tests, under these bounds, for so many outputs: its tree and
+    /// its names are handed over beside it.
     pub fn make(
         alloc: Global,
         names: &'a Names,
@@ -68,11 +70,13 @@ impl<'a> FileShape<'a> {
         code: &Code,
         tests: &'a Tests,
         bounds: Bounds,
+        outputs: u32,
     ) -> Result<FileShape<'a>, Memory>
         requires names { names_of names.now ≡ (code_of code.now).names }
         requires tree { tree.now ≡ (code_of code.now).tree }
         ensures shape { IfOk result (λ shape.
-            shape_seen shape ≡ shape_of (code_of code.now) (tests_seen tests.now) bounds) }
+            shape_seen shape ≡ shape_of (code_of code.now) (tests_seen tests.now) bounds
+            outputs) }
     {
         let procs = code.raw().procs.items();
         let noted = noted_in(alloc, procs)?;
@@ -83,6 +87,7 @@ impl<'a> FileShape<'a> {
             names,
             bounds,
             tests,
+            outputs,
             procs: procs.len() as u32,
             noted,
             notes,

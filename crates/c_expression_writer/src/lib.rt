@@ -21,8 +21,8 @@ mod sorts;
 mod state_tests;
 mod wraps;
 
-pub use arithmetic::power_of_two;
 pub use assignments::write_assign;
+pub use ends::{greatest, least};
 pub use expressions::write_test;
 pub use fault_tests::Tests;
 pub use file_shape::FileShape;

@@ -317,7 +317,7 @@ module _ (K : Shape) (int : Width) (fit : IsFit K int) (bodies : ℕ → plan.Bl
           (Y (assign_c K v x (plan_c K rest)) s loc) r
           → EndsIn R (p.and_stored (with_vals m (with_data r (world_of K.tree K.numbers m))) m (λ z. X rest z l))
           (Y (assign_c K v x (plan_c K rest)) s loc)
-      data_by value sort (Err y) e end = λ t. (
+      data_by value sort (Err y) e end = λ room t. (
         told_c K y s,
         end,
         fault-shows K m s y at.shows at.fine.long
@@ -350,7 +350,7 @@ module _ (K : Shape) (int : Width) (fit : IsFit K int) (bodies : ℕ → plan.Bl
           (Y (assign_c K v x (plan_c K rest)) s loc) (assigned_by m.vals v r)
           → EndsIn R (p.and_stored (with_vals m (assigned_value v r (world_of K.tree K.numbers m))) m (λ z. X rest z l))
           (Y (assign_c K v x (plan_c K rest)) s loc)
-      by (Err y) is sort gives end = λ t. (
+      by (Err y) is sort gives end = λ room t. (
         told_c K y s,
         end,
         fault-shows K m s y at.shows at.fine.long (fault-small K.names y fit.vars gives),
@@ -390,7 +390,7 @@ module _ (K : Shape) (int : Width) (fit : IsFit K int) (bodies : ℕ → plan.Bl
           → EndsIn R (p.and_on (p.branch (truth r) m (X x m l) (X y m l)) (X rest))
           (Y (written (helper K) (faulted K) (expression_c K e).code
           (If (expression_c K e).expr (plan_c K x) (plan_c K y) (plan_c K rest))) s loc)
-      by (Err f) is sort gives end = λ t. (
+      by (Err f) is sort gives end = λ room t. (
         told_c K f s,
         written-faults int calls k (helper K) (faulted K) (told_c K) (unsigned W32 bad) s
             (has.divides s) returns (expression_c K e).code
@@ -409,4 +409,4 @@ module _ (K : Shape) (int : Width) (fit : IsFit K int) (bodies : ℕ → plan.Bl
           (plan_c K rest)) loc after end.1))
           (branch-ends K int fit bodies call turns_left calls k c0 u0 f0 p0 now R (expression_c K e).expr b x y rest m l
           s after (end.3 after (agree-itself (expression_c K e).next after)) (λ t. one m l s after at')
-          (λ t. other m l s after at') go)
+          (λ t. other m l s after at') has.keep go)

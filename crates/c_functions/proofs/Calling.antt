@@ -41,6 +41,7 @@ use Rattle.c_functions.proofs.Words.{values-given, got, set-goes, if-goes}
 use Rattle.c_functions.proofs.Follows.{IsFit, HasRoomFor, IsAt, Ends, EndsCall, Follows, ends-on, program_c}
 use Rattle.c_functions.proofs.Follows.{pay-ends}
 use Rattle.c_functions.proofs.Noting.{IsIn}
+use Rattle.c_functions.proofs.Outputs.{turns-keep, exec-keeps}
 use Rattle.c_functions.proofs.Follows.{push-ends, pop-ends}
 use Rattle.c_functions.proofs.Stepping.{five, six, HasCalls, at-locals, called-ends, branch-ends, ask-goes}
 
@@ -126,7 +127,7 @@ module _ (K : Shape) (int : Width) (fit : IsFit K int) (bodies : ℕ → plan.Bl
         depth = depth_small;
         event = event_small;
         room = let n = at.notes in omega (arith, n, space);
-      }))) go)
+      }))) (exec-keeps K bodies call has.keep turns_left now rest) go)
 
   -- a call with a note or none
   pub noted-ends : (R : Memory → Inner → Store → Locals → Type 0) (q : ℕ) (tag : Option ℕ) (rest : plan.Block)
@@ -194,7 +195,7 @@ module _ (K : Shape) (int : Width) (fit : IsFit K int) (bodies : ℕ → plan.Bl
         depth = deep;
         event = omega (arith, within, fit.events);
         room = let c = at.notes in omega (arith, c, space);
-      }))) go)
+      }))) (exec-keeps K bodies call has.keep turns_left now rest) go)
 
   -- ---- play
 
@@ -321,7 +322,7 @@ module _ (K : Shape) (int : Width) (fit : IsFit K int) (bodies : ℕ → plan.Bl
       e = event_number K.names now.event
 
       answered : Follows K c0 u0 f0 (At c0) Tested (λ w z. Fell w z) (Y (ask_home (bare_function K) End))
-      answered w z s loc at =
+      answered w z s loc at = λ room.
           let after = with_local loc Truth 6 (one_if (c_bare K.tree K.numbers z.home w.states)) in
           (s, after, asked w z s loc End at ∙ end-falls s after, asked-at w z s loc at)
 
@@ -384,7 +385,7 @@ module _ (K : Shape) (int : Width) (fit : IsFit K int) (bodies : ℕ → plan.Bl
                 let more = more-room u0 m.used most u in
                 let twice : suc (m.used + 1) * suc most ≡ suc m.used * suc most + suc most = grind arith in
                 omega (arith, c, space, more, lo, twice);
-          }))) answered))
+          }))) (λ w z n room. room) answered))
 
   -- the test of `while`
   test-has : p0 ≡ true → (m : Memory) (l : Inner) (s : Store) (loc : Locals) → Tested m l s loc
@@ -412,7 +413,7 @@ module _ (K : Shape) (int : Width) (fit : IsFit K int) (bodies : ℕ → plan.Bl
       (turns n (λ v z. meaning int v z (Both (Compare IsBelow cursor_local (Field (noted_field K))) tested_local))
       (λ v z. Y (turn_c K) v z) s loc)
   unfolding turns p.turns
-  loop-ends sets failing space zero n lt m l s loc t = tt
+  loop-ends sets failing space zero n lt m l s loc t = λ room. tt
   loop-ends sets failing space (suc j) zero lt m l s loc t = absurd (omega (arith, lt))
   loop-ends sets failing space (suc j) (suc n) lt m l s loc t =
       let c = test-has sets m l s loc t in
@@ -436,7 +437,7 @@ module _ (K : Shape) (int : Width) (fit : IsFit K int) (bodies : ℕ → plan.Bl
           (cond b (and_on (Y (turn_c K) s loc) (turns n
           (λ v z. meaning int v z (Both (Compare IsBelow cursor_local (Field (noted_field K))) tested_local))
           (λ v z. Y (turn_c K) v z))) (Falls s loc))
-      at false e more = (s, loc, refl, t.0)
+      at false e more = λ room. (s, loc, refl, t.0)
       at true e more =
           let first = and_left (nat_lt l.cursor (length m.notes)) (c_bare K.tree K.numbers l.home m.states) e in
           let lt : l.cursor < length m.notes = grind (arith, nat_tests) in
@@ -454,7 +455,7 @@ module _ (K : Shape) (int : Width) (fit : IsFit K int) (bodies : ℕ → plan.Bl
           (noted_field K))) tested_local))
           (λ v z. Y (turn_c K) v z))
           (turn-ends sets failing space m l s loc t lt)
-          more)
+          (turns-keep K bodies call has.keep j now) more)
 
   -- the turns from the base on
   pub play-ends : (R : Memory → Inner → Store → Locals → Type 0) (rest : plan.Block) → turns_left < k
@@ -489,7 +490,8 @@ module _ (K : Shape) (int : Width) (fit : IsFit K int) (bodies : ℕ → plan.Bl
           (ends-on K c0 u0 f0 (At c0) R (p.turns (program_c K bodies) call turns_left now m l)
           (turns k (λ v z. meaning int v z (Both (Compare IsBelow cursor_local (Field (noted_field K))) tested_local))
           (λ v z. Y (turn_c K) v z) s after) (X rest) (Y (plan_c K rest))
-          (loop-ends sets failing space turns_left k fuel m l s after t) go)
+          (loop-ends sets failing space turns_left k fuel m l s after t)
+          (exec-keeps K bodies call has.keep turns_left now rest) go)
 
       by : (b : Bool)
           → EndsIn R (p.and_on (p.turns (program_c K bodies) call turns_left now m
@@ -527,7 +529,7 @@ module _ (K : Shape) (int : Width) (fit : IsFit K int) (bodies : ℕ → plan.Bl
       (has.asks_on m.states s l.home at.shows.states at.home_is) at.home))
       (branch-ends K int fit bodies call turns_left calls k c0 u0 f0 p0 now R tested_local b x y rest m l s after
       (local-has int s after Truth 6 (one_if b) (set-there loc Truth 6 (one_if b))) (λ t. one m l s after at')
-      (λ t. other m l s after at') go)
+      (λ t. other m l s after at') has.keep go)
 
   pub home_bare-ends : (R : Memory → Inner → Store → Locals → Type 0) (x y rest : plan.Block) → Goes c0 (At c0) x
       → Goes c0 (At c0) y → Goes c0 R rest → Goes c0 R (plan.If plan.HomeBare x y rest)
@@ -539,4 +541,5 @@ module _ (K : Shape) (int : Width) (fit : IsFit K int) (bodies : ℕ → plan.Bl
       subst (λ (o : Outcome). EndsIn R (p.and_on (p.branch (Ok b) m (X x m l) (X y m l)) (X rest)) o)
       (sym (asked m l s loc (If tested_local (plan_c K x) (plan_c K y) (plan_c K rest)) at))
       (branch-ends K int fit bodies call turns_left calls k c0 u0 f0 p0 now R tested_local b x y rest m l s after
-      (local-has int s after Truth 6 (one_if b) t.1) (λ e. one m l s after t.0) (λ e. other m l s after t.0) go)
+      (local-has int s after Truth 6 (one_if b) t.1) (λ e. one m l s after t.0) (λ e. other m l s after t.0)
+      has.keep go)

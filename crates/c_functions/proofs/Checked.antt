@@ -7,7 +7,7 @@ use Rattle.active_config.specs.Tree.{state_count, parent_of, comp_of, children_o
 use Rattle.actions.specs.declared.event.Event.{Event}
 use Rattle.actions.specs.declared.event.Event.TheVariants as events
 use Rattle.actions.specs.Work.{Now, is_event}
-use Rattle.c_subset.specs.Trees.{CExpr, Both}
+use Rattle.c_subset.specs.Trees.{CExpr}
 use Rattle.c_subset.specs.declared.trees.Width.{Width}
 use Rattle.c_subset.specs.declared.trees.Comparison.TheVariants.{IsEqual}
 use Rattle.c_subset.specs.Meaning.{one_if, Store, Locals}

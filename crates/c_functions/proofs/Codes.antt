@@ -53,7 +53,7 @@ use Rattle.c_functions.specs.Plans.{Tests, event_number, bad}
 use Rattle.c_functions.specs.Failing.{AfterIsRight}
 use Rattle.c_functions.specs.Notes.{noted_in}
 use Rattle.c_functions.specs.Files.{Represents, note_room, shape_of, functions_c}
-use Rattle.c_functions.specs.Moments.{HasSmallResults, BeginsWith, TellsFault, EndsAsCode, MayEnd}
+use Rattle.c_functions.specs.Moments.{HasSmallResults, BeginsWith, TellsFault, EndsAsCode, MayEnd, MayEndIn}
 use Rattle.c_functions.proofs.Follows.{IsFit, HasRoomFor, IsFine, EndsCall, program_c}
 use Rattle.c_functions.proofs.Assigns.{long-of}
 use Rattle.c_functions.proofs.Calling.{more-room}
@@ -116,9 +116,9 @@ noted-room [] q most steps is = absurd cc
 noted-room (x ∷ noted) q most steps is = let same = frames-are steps most in omega (arith, same)
 
 -- so it has room for the calls of code
-room-for : (k : Code) (T : Tests) (b : Bounds) → IsCode k
-    → HasRoomFor (shape_of k T b) (greatest (heights k.procedures.procs))
-room-for k T b is =
+room-for : (k : Code) (T : Tests) (b : Bounds) (room : ℕ) → IsCode k
+    → HasRoomFor (shape_of k T b room) (greatest (heights k.procedures.procs))
+room-for k T b room is =
     let most = greatest (heights k.procedures.procs) in
     let low = code-low k is in
     let limit : HEIGHT_LIMIT ≡ 200 = refl in
@@ -131,9 +131,9 @@ room-for k T b is =
       few = omega (arith, more, high);
     }
 
-pub fits : (k : Code) (T : Tests) (b : Bounds) (int : Width) → IsCode k → HasStateNames k
-    → bits int ≤ 32 → IsFit (shape_of k T b) int
-fits k T b int is named most =
+pub fits : (k : Code) (T : Tests) (b : Bounds) (room : ℕ) (int : Width) → IsCode k → HasStateNames k
+    → bits int ≤ 32 → IsFit (shape_of k T b room) int
+fits k T b room int is named most =
     let states = is.table.states in
     let vars = is.table.vars in
     let events = is.table.events in
@@ -170,10 +170,10 @@ sound-got K p behind (y ∷ xs) zero x h e =
     (h.0.known, h.0.typed, h.0.keeps)
 sound-got K p behind (y ∷ xs) (suc j) x h e = sound-got K p behind xs j x h.1 e
 
-module _ (k : Code) (T : Tests) (b : Bounds) (is : IsCode k) (small : HasSmallResults k)
+module _ (k : Code) (T : Tests) (b : Bounds) (room : ℕ) (is : IsCode k) (small : HasSmallResults k)
     (right : AfterIsRight T k) where
   are-good : (q : ℕ) → q < length k.procedures.procs
-      → AreGood (shape_of k T b) k.procedures.react (T.after q) (slice_index (heights k.procedures.procs))
+      → AreGood (shape_of k T b room) k.procedures.react (T.after q) (slice_index (heights k.procedures.procs))
       (slice_index (heights k.procedures.procs) q)
       (instructions k.procedures q)
   unfolding instructions fetch
@@ -201,10 +201,10 @@ none-got [] zero q e h = absurd cc
 none-got [] (suc j) q e h = absurd cc
 none-got (x ∷ xs) j q e h = absurd cc
 
-fine-of : (k : Code) (T : Tests) (b : Bounds) (m : Memory) (w : World) → IsWorld k b w
+fine-of : (k : Code) (T : Tests) (b : Bounds) (room : ℕ) (m : Memory) (w : World) → IsWorld k b w
     → Stands k.tree (λ x. suc x) m w → m.notes ≡ []
-    → IsFine (shape_of k T b) m
-fine-of k T b m w world st notes =
+    → IsFine (shape_of k T b room) m
+fine-of k T b room m w world st notes =
     let declared = ap of_data st.vals ∙ world.fits.declared in
     let o = ap length st.outputs in
     let u = st.used in
@@ -228,31 +228,38 @@ event-small k (events.Named e) is few = omega (arith, few, is)
 
 -- ---- a call from outside
 
-module _ (k : Code) (T : Tests) (b : Bounds) (file : File) (int : Width) (fuel p : ℕ) (now : Now) (start : Machine)
-    (s : Store) (c0 u0 : ℕ) (f0 : Bool)
-    (ends : (moment : Moment) → Leads (program_of k b) start moment → MayEnd T moment.fault) where
+module _ (k : Code) (T : Tests) (b : Bounds) (room : ℕ) (file : File) (int : Width) (fuel p : ℕ) (now : Now)
+    (start : Machine) (s : Store) (c0 u0 : ℕ) (f0 : Bool)
+    (ends : (moment : Moment) → Leads (program_of k b) start moment → MayEndIn T room moment) where
   -- the plan ends as code, and C as the plan
   joined : (o : Out) (o' : Outcome) → runs.EndsAsCode (program_of k b) (λ x. suc x) start o
-      → EndsCall (shape_of k T b) c0 u0 f0 o o'
+      → EndsCall (shape_of k T b room) c0 u0 f0 o o'
       → call file int fuel p (five (event_number k.names now.event) now.depth 0 0 0) s ≡ o'
-      → EndsAsCode k T b file int fuel p now start s
+      → EndsAsCode k T b room file int fuel p now start s
   joined (Fell m l) o' code c e = absurd code
-  joined (Left m r) o' code c e = record {
-    moment = code.moment;
-    leads = code.leads;
-    after = c.0;
-    result = r;
-    gives = e ∙ c.1;
-    shows = record {
-      memory = m;
-      stands = code.ends.stands;
-      represents = subst (λ (x : Option Fault). Represents (shape_of k T b) x m c.0) (sym code.ends.fault) c.2.shows;
-    };
-    tells = subst (λ (x : Option Fault). TellsFault x r) (sym code.ends.fault) c.2.result_is;
-  }
+  joined (Left m r) o' code c e =
+      let few = (ends code.moment code.leads).outputs in
+      let same = ap length code.ends.stands.outputs in
+      let f = c (omega (arith, few, same)) in
+      record {
+        moment = code.moment;
+        leads = code.leads;
+        after = f.0;
+        result = r;
+        gives = e ∙ f.1;
+        shows = record {
+          memory = m;
+          stands = code.ends.stands;
+          represents = subst (λ (x : Option Fault). Represents (shape_of k T b room) x m f.0) (sym code.ends.fault)
+              f.2.shows;
+        };
+        tells = subst (λ (x : Option Fault). TellsFault x r) (sym code.ends.fault) f.2.result_is;
+      }
   joined (Failed m x) o' code c e =
-      let t = subst (λ (o : Option Fault). MayEnd T o) code.ends.fault (ends code.moment code.leads) in
-      let f = c t in
+      let may = ends code.moment code.leads in
+      let few = may.outputs in
+      let same = ap length code.ends.stands.outputs in
+      let f = c (omega (arith, few, same)) (subst (λ (o : Option Fault). MayEnd T o) code.ends.fault may.fault) in
       record {
         moment = code.moment;
         leads = code.leads;
@@ -262,7 +269,8 @@ module _ (k : Code) (T : Tests) (b : Bounds) (file : File) (int : Width) (fuel p
         shows = record {
           memory = m;
           stands = code.ends.stands;
-          represents = subst (λ (x : Option Fault). Represents (shape_of k T b) x m f.0) (sym code.ends.fault) f.2;
+          represents = subst (λ (x : Option Fault). Represents (shape_of k T b room) x m f.0) (sym code.ends.fault)
+              f.2;
         };
         tells = subst (λ (x : Option Fault). TellsFault x bad) (sym code.ends.fault) refl;
       }
@@ -270,19 +278,19 @@ module _ (k : Code) (T : Tests) (b : Bounds) (file : File) (int : Width) (fuel p
   joined Wrong o' code c e = absurd code
 
 -- the function of a procedure ends as a run from the procedure's first frame
-pub ends-as-code : (k : Code) (T : Tests) (b : Bounds) (bodies : ℕ → plan.Block) (file : File) (int : Width)
+pub ends-as-code : (k : Code) (T : Tests) (b : Bounds) (room : ℕ) (bodies : ℕ → plan.Block) (file : File) (int : Width)
     (fuel p : ℕ) (now : Now) (m : Memory) (w : World) (s : Store) → IsCode k → HasStateNames k → HasSmallResults k
     → AfterIsRight T k → AreWritten k.tree (λ x. suc x) k.procedures bodies
-    → BeginsWith file (functions_c (shape_of k T b) bodies)
+    → BeginsWith file (functions_c (shape_of k T b room) bodies)
     → bits int ≤ 32 → IsMoment k b (first_frame p w now)
-    → ((moment : Moment) → Leads (program_of k b) (first_frame p w now) moment → MayEnd T moment.fault)
+    → ((moment : Moment) → Leads (program_of k b) (first_frame p w now) moment → MayEndIn T room moment)
     → IsOver (run (program_of k b) fuel (first_frame p w now)) → Stands k.tree (λ x. suc x) m w
-    → Represents (shape_of k T b) None m s → m.notes ≡ []
-    → EndsAsCode k T b file int (2 * fuel + 3) p now (first_frame p w now) s
-ends-as-code k T b bodies file int fuel p now m w s is named small right written begins_with most moment ends over
+    → Represents (shape_of k T b room) None m s → m.notes ≡ []
+    → EndsAsCode k T b room file int (2 * fuel + 3) p now (first_frame p w now) s
+ends-as-code k T b room bodies file int fuel p now m w s is named small right written begins_with most moment ends over
     stands shows none =
-    let K = shape_of k T b in
-    let fit = fits k T b int is named most in
+    let K = shape_of k T b room in
+    let fit = fits k T b room int is named most in
     let parts = code_parts k is in
     let each = slice_index (heights k.procedures.procs) in
     let most_height = greatest (heights k.procedures.procs) in
@@ -291,20 +299,20 @@ ends-as-code k T b bodies file int fuel p now m w s is named small right written
     let height = high.bound p in
     let empty : length m.notes ≡ 0 = ap length none in
     let spread : suc m.used * suc most_height ≡ m.used * suc most_height + suc most_height = grind arith in
-    joined k T b file int (2 * fuel + 3) p now (first_frame p w now) s (length m.notes) m.used (T.after p) ends
+    joined k T b room file int (2 * fuel + 3) p now (first_frame p w now) s (length m.notes) m.used (T.after p) ends
     (call_fn (program_c K bodies) (suc fuel) p now 0 0 0 m)
     (call file int (2 * fuel + 3) p (five (event_number k.names now.event) now.depth 0 0 0) s)
     (ends_as_code k (λ x. suc x) b fuel (first_frame p w now) _ is moment over
     (called_outside k.tree (λ x. suc x) k.procedures b (suc_numbers k.tree) is.table.tree.same_length
     (program_c K bodies).sums (own_agrees k.tree (λ x. suc x) (suc_numbers k.tree)) bodies written (suc fuel) p now m w
     stands none))
-    (follow K int fit bodies file begins_with each most_height high.bound (room-for k T b is) k.procedures
+    (follow K int fit bodies file begins_with each most_height high.bound (room-for k T b room is) k.procedures
     parts.react (λ x q lt up. let less = parent_lt k.tree (state_count k.tree) is.table.tree.pre_order x q lt up in
-    omega (arith, less, lt)) written.each (are-good k T b is small right) (suc fuel)
+    omega (arith, less, lt)) written.each (are-good k T b room is small right) (suc fuel)
     (2 * fuel + 3) (omega arith) p 0 0 0 now m s (record {
       proc = moment.frames.0.proc;
       shows = shows;
-      fine = fine-of k T b m w moment.world stands none;
+      fine = fine-of k T b room m w moment.world stands none;
       base_le = omega arith;
       home_is = few;
       result_is = omega arith;

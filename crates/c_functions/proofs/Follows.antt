@@ -79,6 +79,29 @@ pub record IsFine (K : Shape) (m : Memory) : Type 0 where
   pub used : m.used ≤ K.bounds.steps
   pub noted : (i q : ℕ) → slice_get m.notes i ≡ Some q → IsIn K.noted q
 
+-- ---- what is put out
+
+-- a plan ended, and at most so many events are put out
+abbrev pub HasRoom : ℕ → Out → Type 0
+HasRoom n (Fell m l) = length m.outputs ≤ n
+HasRoom n (Left m r) = length m.outputs ≤ n
+HasRoom n (Failed m x) = length m.outputs ≤ n
+HasRoom n Starved = ⊥
+HasRoom n Wrong = ⊥
+
+-- no more were put out at first than at the end
+abbrev pub Keeps : Memory → Out → Type 0
+Keeps m o = (n : ℕ) → HasRoom n o → length m.outputs ≤ n
+
+-- so from whatever memory statements begin, and calls
+abbrev pub StatementsKeep : (Memory → Inner → Out) → Type 0
+StatementsKeep f = (m : Memory) (l : Inner) → Keeps m (f m l)
+
+abbrev pub CallsKeep : p.Calls → Type 0
+CallsKeep call = (q : ℕ) (now : Now) (base home r : ℕ) (m : Memory) → Keeps m (call q now base home r m)
+
+-- ---- plans
+
 -- the program of a plan's bodies, with the arithmetic of code
 abbrev pub program_c : Shape → (ℕ → plan.Block) → CProgram
 program_c K bodies = record {
@@ -153,14 +176,18 @@ module _ (K : Shape) (c0 u0 : ℕ) where
 module _ (K : Shape) (c0 u0 : ℕ) (f0 : Bool) where
   -- C ends as the plan, with a claim where both fall through; where the plan meets a bound that isn't tested nothing is
   -- said, and after another fault the result is one that callers test
-  abbrev pub Ends : (Memory → Inner → Store → Locals → Type 0) → Out → Outcome → Type 0
-  Ends Q (Fell m l) o = (s : Store) × (loc : Locals) × (o ≡ Falls s loc) × Q m l s loc
-  Ends Q (Left m r) o = (s : Store) × (o ≡ Returns s (unsigned W32 r)) × HasLeft K c0 u0 m r s
-  Ends Q (Failed m x) o =
+  abbrev pub EndsAlike : (Memory → Inner → Store → Locals → Type 0) → Out → Outcome → Type 0
+  EndsAlike Q (Fell m l) o = (s : Store) × (loc : Locals) × (o ≡ Falls s loc) × Q m l s loc
+  EndsAlike Q (Left m r) o = (s : Store) × (o ≡ Returns s (unsigned W32 r)) × HasLeft K c0 u0 m r s
+  EndsAlike Q (Failed m x) o =
       MayEnd K.tests (Some x)
       → (s : Store) × (o ≡ Returns s (unsigned W32 bad)) × Represents K (Some x) m s × (f0 ≡ true)
-  Ends Q Starved o = Unit {0}
-  Ends Q Wrong o = Unit {0}
+  EndsAlike Q Starved o = Unit {0}
+  EndsAlike Q Wrong o = Unit {0}
+
+  -- so it ends where out[] has room for what the plan puts out until its end
+  abbrev pub Ends : (Memory → Inner → Store → Locals → Type 0) → Out → Outcome → Type 0
+  Ends Q o o' = HasRoom K.outputs o → EndsAlike Q o o'
 
   -- the same of a call, which doesn't fall through
   abbrev pub EndsCall : Out → Outcome → Type 0
@@ -172,13 +199,16 @@ module _ (K : Shape) (c0 u0 : ℕ) (f0 : Bool) where
   Follows Q R f g = (m : Memory) (l : Inner) (s : Store) (loc : Locals) → Q m l s loc → Ends R (f m l) (g s loc)
 
   pub ends-on : (Q R : Memory → Inner → Store → Locals → Type 0) (o : Out) (o' : Outcome) (f : Memory → Inner → Out)
-      (g : Store → Locals → Outcome) → Ends Q o o' → Follows Q R f g → Ends R (p.and_on o f) (and_on o' g)
-  ends-on Q R (Fell m l) o' f g h go =
-      subst (λ (o : Outcome). Ends R (f m l) (and_on o g)) (sym h.2) (go m l h.0 h.1 h.3)
-  ends-on Q R (Left m r) o' f g h go = (h.0, ap (λ (o : Outcome). and_on o g) h.1, h.2)
-  ends-on Q R (Failed m x) o' f g h go = λ t. let e = h t in (e.0, ap (λ (o : Outcome). and_on o g) e.1, e.2, e.3)
-  ends-on Q R Starved o' f g h go = tt
-  ends-on Q R Wrong o' f g h go = tt
+      (g : Store → Locals → Outcome) → Ends Q o o' → StatementsKeep f → Follows Q R f g
+      → Ends R (p.and_on o f) (and_on o' g)
+  ends-on Q R (Fell m l) o' f g h keep go = λ room.
+      let e = h (keep m l K.outputs room) in
+      subst (λ (o : Outcome). EndsAlike R (f m l) (and_on o g)) (sym e.2) (go m l e.0 e.1 e.3 room)
+  ends-on Q R (Left m r) o' f g h keep go = λ room. let e = h room in (e.0, ap (λ (o : Outcome). and_on o g) e.1, e.2)
+  ends-on Q R (Failed m x) o' f g h keep go = λ room t.
+      let e = h room t in (e.0, ap (λ (o : Outcome). and_on o g) e.1, e.2, e.3)
+  ends-on Q R Starved o' f g h keep go = λ room. tt
+  ends-on Q R Wrong o' f g h keep go = λ room. tt
 
 -- memory with other states of the same lengths
 pub fine-states : (K : Shape) (m : Memory) (st : States) → IsFine K m → length st.chosen ≡ length m.states.chosen
@@ -247,7 +277,7 @@ module _ (K : Shape) (int : Width) (fit : IsFit K int) (bodies : ℕ → plan.Bl
   pub faulted-ends : (R : Memory → Inner → Store → Locals → Type 0) (c : ℕ) (m : Memory) (l : Inner) (s : Store)
       (loc : Locals) (x : Fault) → At c m l s loc → fault_datum (Some x) < 2 ^ 32 → f0 ≡ true
       → EndsIn R (Failed m x) (outcome int calls k (faulted K x) s loc)
-  faulted-ends R c m l s loc x h small fails = λ t. (
+  faulted-ends R c m l s loc x h small fails = λ room t. (
     told_c K x s,
     faulted-goes s loc _ _ h.shows.fault_is h.shows.datum_is x,
     subst (λ (d : ℕ). Represents K (Some x) m
@@ -311,8 +341,8 @@ module _ (K : Shape) (int : Width) (fit : IsFit K int) (bodies : ℕ → plan.Bl
           → EndsIn R (p.unless_met b faults.Steps m (f (record m { used = m.used + 1 })))
           (and_on (cond b (outcome int calls k (faulted K faults.Steps) s loc) (outcome int calls k End s loc))
           (λ v o. outcome int calls k (count_up (used_field K) rest) v o))
-      at on used true e = λ t.
-          let x = faulted-ends R c m l s loc faults.Steps h (omega arith) (fails on) t in (
+      at on used true e = λ room t.
+          let x = faulted-ends R c m l s loc faults.Steps h (omega arith) (fails on) room t in (
             x.0,
             ap (λ (o : Outcome). and_on o (λ v o. outcome int calls k (count_up (used_field K) rest) v o)) x.1,
             x.2,
@@ -334,7 +364,7 @@ module _ (K : Shape) (int : Width) (fit : IsFit K int) (bodies : ℕ → plan.Bl
       untold : K.tests.steps ≡ false → (b : Bool) → nat_le K.bounds.steps m.used ≡ b
           → EndsIn R (p.unless_met b faults.Steps m (f (record m { used = m.used + 1 })))
           (outcome int calls k rest s loc)
-      untold off true e = λ t. absurd (not-tested K.tests t off)
+      untold off true e = λ room t. absurd (not-tested K.tests t off)
       untold off false e =
           let left : m.used < K.bounds.steps = grind (arith, nat_tests) in
           go s (at-memory K c0 u0 p0 now c c m (record m { used = m.used + 1 }) l s s loc h
@@ -393,18 +423,22 @@ module _ (K : Shape) (int : Width) (fit : IsFit K int) (bodies : ℕ → plan.Bl
 
   -- an event is put out, after a step was paid
   pub put-ends : (R : Memory → Inner → Store → Locals → Type 0) (c e : ℕ) (rest : plan.Block) → e < 2 ^ 16
-      → Goes c R rest → (m : Memory) (l : Inner) (s : Store) (loc : Locals) → At c m l s loc
-      → length m.outputs < m.used → EndsIn R (X (plan.Put e rest) m l) (Y (plan_c K (plan.Put e rest)) s loc)
+      → StatementsKeep (X rest) → Goes c R rest → (m : Memory) (l : Inner) (s : Store) (loc : Locals)
+      → At c m l s loc → length m.outputs < m.used
+      → EndsIn R (X (plan.Put e rest) m l) (Y (plan_c K (plan.Put e rest)) s loc)
   unfolding exec plan_c
-  put-ends R c e rest small go m l s loc h room =
+  put-ends R c e rest small keep go m l s loc h paid = λ room.
       let n = length m.outputs in
-      let few : n < 2 ^ 16 = omega (arith, room, h.fine.used, fit.steps) in
+      let few : n < 2 ^ 16 = omega (arith, paid, h.fine.used, fit.steps) in
+      let more = length-push m.outputs e in
+      let later = keep (record m { outputs = m.outputs ++ e ∷ [] }) l K.outputs room in
+      let lt : n < K.outputs = omega (arith, more, later) in
       let one = with_element s out_row (pos n) (unsigned W32 e) in
       let two = with_field one (outs_field K) (unsigned W32 (n + 1)) in
-      subst (λ (o : Outcome). EndsIn R (X rest (record m { outputs = m.outputs ++ e ∷ [] }) l) o)
+      subst (λ (o : Outcome). EndsAlike K c0 u0 f0 R (X rest (record m { outputs = m.outputs ++ e ∷ [] }) l) o)
       (sym (store_at-goes int fit.most calls k (count_up (outs_field K)
-      (plan_c K rest)) s loc out_row n e K.bounds.steps
-      (Field (outs_field K)) (number e) m.outputs h.shows.out (omega (arith, room, h.fine.used)) (omega (arith, small))
+      (plan_c K rest)) s loc out_row n e K.outputs
+      (Field (outs_field K)) (number e) m.outputs h.shows.out lt (omega (arith, small))
       (field-means int fit.most s loc (outs_field K) n h.shows.outs)
       (number-means int fit.most s loc e (omega (arith, small)))
       ∙ put-word int fit.most calls k (plan_c K rest) one loc (outs_field K) n _ _
@@ -415,7 +449,7 @@ module _ (K : Shape) (int : Width) (fit : IsFit K int) (bodies : ℕ → plan.Bl
       (record { there = h.shows.outs.there; small = h.shows.outs.small }))
       (number-means int fit.most one loc 1 (omega arith)))))
       (go _ l two loc (at-memory K c0 u0 p0 now c c m _ l s two loc h
-      (out-put K None m s h.shows h.fine.long e (omega (arith, room, h.fine.used)) (omega (arith, few)))
+      (out-put K None m s h.shows h.fine.long e lt (omega (arith, few)))
       (record {
         chosen = h.fine.chosen;
         flags = h.fine.flags;
@@ -423,10 +457,10 @@ module _ (K : Shape) (int : Width) (fit : IsFit K int) (bodies : ℕ → plan.Bl
         sorts = h.fine.sorts;
         declared = h.fine.declared;
         long = h.fine.long;
-        outputs = let more = length-push m.outputs e in omega (arith, more, room);
+        outputs = omega (arith, more, paid);
         used = h.fine.used;
         noted = h.fine.noted;
-      }) h.notes h.used))
+      }) h.notes h.used) room)
 
   -- a note is pushed
   pub push-ends : (R : Memory → Inner → Store → Locals → Type 0) (c q : ℕ) (rest : plan.Block) → IsIn K.noted q

@@ -39,6 +39,7 @@ use Rattle.c_functions.proofs.Follows.{IsFit, HasRoomFor, IsFine, IsAt, Ends, En
 use Rattle.c_functions.proofs.Stepping.{five, ProceduresFollow, HasCalls}
 use Rattle.c_functions.proofs.Selecting.{notes-follow}
 use Rattle.c_functions.proofs.Simulating.{AreGood, sim}
+use Rattle.c_functions.proofs.Outputs.{calls-keep}
 
 -- ---- which functions stand where
 
@@ -197,24 +198,25 @@ module _ (K : Shape) (int : Width) (fit : IsFit K int) (bodies : ℕ → plan.Bl
   -- what a function gives of what its body did
   closed-ends : (c0 u0 : ℕ) (f0 : Bool) (Q : Memory → Inner → Store → Locals → Type 0) (o : Out) (o' : Outcome)
       → Ends K c0 u0 f0 Q o o' → EndsCall K c0 u0 f0 (p.closed o) (returned word o')
-  closed-ends c0 u0 f0 Q (Fell m l) o' e = tt
-  closed-ends c0 u0 f0 Q (Left m r) o' e =
-      let small = e.2.result_is in (
-        e.0,
-        ap (returned word) e.1
-            ∙ ap (λ (m : Meaning). with_value m (λ y. Returns e.0 y)) (own-stays W32 r (omega (arith, small))),
-        e.2,
+  closed-ends c0 u0 f0 Q (Fell m l) o' e = λ room. tt
+  closed-ends c0 u0 f0 Q (Left m r) o' e = λ room.
+      let f = e room in
+      let small = f.2.result_is in (
+        f.0,
+        ap (returned word) f.1
+            ∙ ap (λ (m : Meaning). with_value m (λ y. Returns f.0 y)) (own-stays W32 r (omega (arith, small))),
+        f.2,
       )
-  closed-ends c0 u0 f0 Q (Failed m x) o' e = λ t.
-      let f = e t in (
+  closed-ends c0 u0 f0 Q (Failed m x) o' e = λ room t.
+      let f = e room t in (
         f.0,
         ap (returned word) f.1
             ∙ ap (λ (m : Meaning). with_value m (λ y. Returns f.0 y)) (own-stays W32 bad (omega arith)),
         f.2,
         f.3,
       )
-  closed-ends c0 u0 f0 Q Starved o' e = tt
-  closed-ends c0 u0 f0 Q Wrong o' e = tt
+  closed-ends c0 u0 f0 Q Starved o' e = λ room. tt
+  closed-ends c0 u0 f0 Q Wrong o' e = λ room. tt
 
   -- the locals that are parameters
   abbrev given : ℕ → ℕ → ℕ → ℕ → ℕ → Locals
@@ -249,6 +251,7 @@ module _ (K : Shape) (int : Width) (fit : IsFit K int) (bodies : ℕ → plan.Bl
       → HasCalls K h most (call_fn (program_c K bodies) j) (call file int (suc n))
   has-calls j n follow less = record {
     procedures = follow;
+    keep = calls-keep K bodies j;
     notes = notes-follow K int fit file (noted-there K bodies file begins_with) h most
         (call_fn (program_c K bodies) j) n (call-closes j) less;
     divides = λ s. file-divides file int n (helper K) s (floor-there K bodies file begins_with);
@@ -338,7 +341,7 @@ module _ (K : Shape) (int : Width) (fit : IsFit K int) (bodies : ℕ → plan.Bl
   pub follow : (j n : ℕ) → j + j < n
       → ProceduresFollow K h most (call_fn (program_c K bodies) j) (call file int n)
   unfolding call_fn
-  follow zero n lt q base home r now m s can = tt
+  follow zero n lt q base home r now m s can = λ room. tt
   follow (suc j) zero lt q base home r now m s can = absurd (omega (arith, lt))
   follow (suc j) (suc zero) lt q base home r now m s can = absurd (omega (arith, lt))
   follow (suc j) (suc (suc zero)) lt q base home r now m s can = absurd (omega (arith, lt))

@@ -6,6 +6,7 @@ pub mod Failing
 pub mod Words
 pub mod Structs
 pub mod Follows
+pub mod Outputs
 pub mod Checked
 pub mod Stepping
 pub mod Selecting

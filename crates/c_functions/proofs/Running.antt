@@ -52,8 +52,8 @@ use Rattle.c_functions.specs.Plans.{noted_field}
 use Rattle.c_functions.specs.Failing.{AfterIsRight}
 use Rattle.c_functions.specs.Plans.{start_function, react_function}
 use Rattle.c_functions.specs.Files.{Represents, shape_of, procedure_c, functions_c}
-use Rattle.c_functions.specs.Moments.{HasSmallResults, BeginsWith, ShowsMoment, TellsFault, EndsAsCode, MayEnd}
-use Rattle.c_functions.specs.Starts.{first_values, outside_c, start_c, uncounted_c, react_c, file_of, HasShape}
+use Rattle.c_functions.specs.Moments.{HasSmallResults, BeginsWith, ShowsMoment, TellsFault, EndsAsCode, MayEndIn}
+use Rattle.c_functions.specs.Starts.{first_values, outside_c, start_c, clear_used_c, react_c, file_of, HasShape}
 use Rattle.c_functions.specs.Starts.{AreStored, Answers}
 use Rattle.c_functions.specs.Starts.{AllGiven, ReactsOn, RunsOn}
 use Rattle.c_functions.proofs.Tests.{unsigned}
@@ -163,11 +163,11 @@ inputs-stored K (Some value ∷ inputs) v w w' m s fit values sets e h =
     }
 
 -- no step is used yet, and the struct says so where steps are counted
-uncounted-goes : (K : Shape) (int : Width) → bits int ≤ 32 → (calls : Calls) (k : ℕ) (rest : Block) (m : Memory)
+cleared-goes : (K : Shape) (int : Width) → bits int ≤ 32 → (calls : Calls) (k : ℕ) (rest : Block) (m : Memory)
     (s : Store) (l : Locals) → Represents K None m s → length m.vals ≡ length K.names.vars
-    → (s' : Store) × (outcome int calls k (uncounted_c K rest) s l ≡ outcome int calls k rest s' l)
+    → (s' : Store) × (outcome int calls k (clear_used_c K rest) s l ≡ outcome int calls k rest s' l)
     × Represents K None (record m { used = 0 }) s'
-uncounted-goes K int most calls k rest m s l h long = by K.tests.steps refl
+cleared-goes K int most calls k rest m s l h long = by K.tests.steps refl
   where
     by : (b : Bool) → K.tests.steps ≡ b
         → (s' : Store)
@@ -184,47 +184,47 @@ uncounted-goes K int most calls k rest m s l h long = by K.tests.steps refl
 
 -- ---- the file of code
 
-module _ (k : Code) (T : Tests) (b : Bounds) (bodies : ℕ → plan.Block) (int : Width) (is : IsCode k)
+module _ (k : Code) (T : Tests) (b : Bounds) (room : ℕ) (bodies : ℕ → plan.Block) (int : Width) (is : IsCode k)
     (named : HasStateNames k) (small : HasSmallResults k) (right : AfterIsRight T k)
     (written : AreWritten k.tree (λ x. suc x) k.procedures bodies) (most : bits int ≤ 32) where
-  fit : IsFit (shape_of k T b) int
-  fit = fits k T b int is named most
+  fit : IsFit (shape_of k T b room) int
+  fit = fits k T b room int is named most
 
-  begins : BeginsWith (file_of k T b bodies) (functions_c (shape_of k T b) bodies)
+  begins : BeginsWith (file_of k T b room bodies) (functions_c (shape_of k T b room) bodies)
   begins = record {
-    later = start_c (shape_of k T b) k.procedures.start ∷ react_c (shape_of k T b) k.procedures.react ∷ [];
+    later = start_c (shape_of k T b room) k.procedures.start ∷ react_c (shape_of k T b room) k.procedures.react ∷ [];
     is = refl;
   }
 
-  count : length (functions_c (shape_of k T b) bodies) ≡ length k.procedures.procs + 8
+  count : length (functions_c (shape_of k T b room) bodies) ≡ length k.procedures.procs + 8
   unfolding functions_c
   count =
       length-append
-      (map (λ q. procedure_c (shape_of k T b) (bodies q)) (range_with_len 0 (length k.procedures.procs))) _
+      (map (λ q. procedure_c (shape_of k T b room) (bodies q)) (range_with_len 0 (length k.procedures.procs))) _
       ∙ ap (λ (n : ℕ). n + 8)
-      (range-length (λ q. procedure_c (shape_of k T b) (bodies q)) 0 (length k.procedures.procs))
+      (range-length (λ q. procedure_c (shape_of k T b room) (bodies q)) 0 (length k.procedures.procs))
 
-  start-there : slice_get (file_of k T b bodies).functions (start_function (shape_of k T b))
-      ≡ Some (start_c (shape_of k T b) k.procedures.start)
+  start-there : slice_get (file_of k T b room bodies).functions (start_function (shape_of k T b room))
+      ≡ Some (start_c (shape_of k T b room) k.procedures.start)
   start-there =
       let e : length k.procedures.procs + 8 ≡ length k.procedures.procs + 8 + 0 = omega arith in
-      ap (λ (i : ℕ). slice_get (file_of k T b bodies).functions i) e
-      ∙ get-right (functions_c (shape_of k T b) bodies)
-      (start_c (shape_of k T b) k.procedures.start ∷ react_c (shape_of k T b) k.procedures.react ∷ [])
+      ap (λ (i : ℕ). slice_get (file_of k T b room bodies).functions i) e
+      ∙ get-right (functions_c (shape_of k T b room) bodies)
+      (start_c (shape_of k T b room) k.procedures.start ∷ react_c (shape_of k T b room) k.procedures.react ∷ [])
       (length k.procedures.procs + 8) 0 count
 
-  react-there : slice_get (file_of k T b bodies).functions (react_function (shape_of k T b))
-      ≡ Some (react_c (shape_of k T b) k.procedures.react)
+  react-there : slice_get (file_of k T b room bodies).functions (react_function (shape_of k T b room))
+      ≡ Some (react_c (shape_of k T b room) k.procedures.react)
   react-there =
       let e : length k.procedures.procs + 9 ≡ length k.procedures.procs + 8 + 1 = omega arith in
-      ap (λ (i : ℕ). slice_get (file_of k T b bodies).functions i) e
-      ∙ get-right (functions_c (shape_of k T b) bodies)
-      (start_c (shape_of k T b) k.procedures.start ∷ react_c (shape_of k T b) k.procedures.react ∷ [])
+      ap (λ (i : ℕ). slice_get (file_of k T b room bodies).functions i) e
+      ∙ get-right (functions_c (shape_of k T b room) bodies)
+      (start_c (shape_of k T b room) k.procedures.start ∷ react_c (shape_of k T b room) k.procedures.react ∷ [])
       (length k.procedures.procs + 8) 1 count
 
   -- what is returned, for the moment to which code leads
   told-same : (now : Now) (fuel p : ℕ) (start : Machine) (s : Store)
-      (e : EndsAsCode k T b (file_of k T b bodies) int fuel p now start s) (m : Moment) → e.moment ≡ m
+      (e : EndsAsCode k T b room (file_of k T b room bodies) int fuel p now start s) (m : Moment) → e.moment ≡ m
       → Returns e.after (record { type = Truth; value = one_if (not (nat_eq e.result bad)) })
       ≡ Returns e.after (record { type = Truth; value = one_if (not (is_some m.fault)) })
   told-same now fuel p start s e m same =
@@ -232,24 +232,25 @@ module _ (k : Code) (T : Tests) (b : Bounds) (bodies : ℕ → plan.Block) (int 
       (tells-same e.moment.fault e.result e.tells ∙ ap (λ (m : Moment). is_some m.fault) same)
 
   -- where a run leads to a moment it may end so
-  only-ends : (start : Machine) (m : Moment) → Leads (program_of k b) start m → MayEnd T m.fault
-      → (moment : Moment) → Leads (program_of k b) start moment → MayEnd T moment.fault
+  only-ends : (start : Machine) (m : Moment) → Leads (program_of k b) start m → MayEndIn T room m
+      → (moment : Moment) → Leads (program_of k b) start moment → MayEndIn T room moment
   only-ends start m leads may moment other =
-      subst (λ (m : Moment). MayEnd T m.fault) (sym (one_end other leads)) may
+      subst (λ (m : Moment). MayEndIn T room m) (sym (one_end other leads)) may
 
   -- the start
-  start-answers : (s : Store) (m : Moment) → HasShape (shape_of k T b) s → Starts k b m.world m.fault
-      → MayEnd T m.fault
+  start-answers : (s : Store) (m : Moment) → HasShape (shape_of k T b room) s → Starts k b m.world m.fault
+      → MayEndIn T room m
       → (after : Store)
-      × Answers (shape_of k T b) (file_of k T b bodies) int (start_function (shape_of k T b)) [] m s after
+      × Answers (shape_of k T b room) (file_of k T b room bodies) int (start_function (shape_of k T b room)) [] m s
+      after
       × IsWorld k b m.world
   unfolding call
   start-answers s m shape leads may =
       let fuel = most_instructions k b in
       let enough = 2 * fuel + 3 in
       let sound = start_moment k b is named in
-      let s0 = first_struct (shape_of k T b) s.rows in
-      let m0 = memory_before (shape_of k T b) in
+      let s0 = first_struct (shape_of k T b room) s.rows in
+      let m0 = memory_before (shape_of k T b room) in
       let w0 = world_before k.tree k.names in
       let stands : Stands k.tree (λ x. suc x) m0 w0 = record {
         states = no_fields_show k.tree (λ x. suc x) (suc_numbers k.tree);
@@ -258,13 +259,13 @@ module _ (k : Code) (T : Tests) (b : Bounds) (bodies : ℕ → plan.Block) (int 
         outputs = refl;
         used = refl;
       } in
-      let ended = ends-as-code k T b bodies (file_of k T b bodies) int fuel k.procedures.start
+      let ended = ends-as-code k T b room bodies (file_of k T b room bodies) int fuel k.procedures.start
       (from_outside events.Start) m0 w0
       s0 is named small right written begins most sound (only-ends (start_machine k) m leads may) (start_ends k b is)
       stands
-      (first-shows (shape_of k T b) s.rows shape.out shape.note) refl in
+      (first-shows (shape_of k T b room) s.rows shape.out shape.note) refl in
       let same : ended.moment ≡ m = one_end ended.leads leads in
-      let calls = call (file_of k T b bodies) int enough in
+      let calls = call (file_of k T b room bodies) int enough in
       let e = event_number k.names events.Start in
       let few = fit.events in
       let ev : e < 2 ^ 32 = omega (arith, few) in (
@@ -274,27 +275,27 @@ module _ (k : Code) (T : Tests) (b : Bounds) (bodies : ℕ → plan.Block) (int 
           gives =
               ap (λ (o : Option Function). run_c int calls enough o [] s) start-there
               ∙ arguments-end 0 no_locals (λ l. returned Truth
-              (outcome int calls enough (start_c (shape_of k T b) k.procedures.start).body s l))
+              (outcome int calls enough (start_c (shape_of k T b room) k.procedures.start).body s l))
               ∙ ap (returned Truth) (all-go int calls enough (outside_c k.procedures.start (number e)) s.rows
-              no_locals (first_values (shape_of k T b)) [] s.fields shape.fields
-              (first-stay (shape_of k T b) is.table.inits))
-              ∙ outside-goes (shape_of k T b) int fit calls enough k.procedures.start e ended.result (number e)
+              no_locals (first_values (shape_of k T b room)) [] s.fields shape.fields
+              (first-stay (shape_of k T b room) is.table.inits))
+              ∙ outside-goes (shape_of k T b room) int fit calls enough k.procedures.start e ended.result (number e)
               s0 ended.after no_locals (number-means int most s0 no_locals e ev)
               (tells-small ended.moment.fault ended.result ended.tells) ended.gives
               ∙ told-same (from_outside events.Start) enough k.procedures.start
               (start_machine k) s0 ended m same;
-          shows = subst (λ (m : Moment). ShowsMoment (shape_of k T b) m ended.after) same ended.shows;
+          shows = subst (λ (m : Moment). ShowsMoment (shape_of k T b room) m ended.after) same ended.shows;
         },
         over-world k b is leads.steps (start_machine k) m.world m.fault sound leads.ends,
       )
 
   -- a reaction
   react-answers : (m next : Moment) (s : Store) (given : EventWithInputs) (w' : World)
-      → ShowsMoment (shape_of k T b) m s → m.fault ≡ None → IsWorld k b m.world → CanBeGiven k.names given
+      → ShowsMoment (shape_of k T b room) m s → m.fault ≡ None → IsWorld k b m.world → CanBeGiven k.names given
       → AreSet 0 given.inputs m.world w' → Reacts k b w' given.event next.world next.fault
-      → MayEnd T next.fault
+      → MayEndIn T room next
       → (set : Store) × AreStored k.names 0 given.inputs s set × (after : Store)
-      × Answers (shape_of k T b) (file_of k T b bodies) int (react_function (shape_of k T b))
+      × Answers (shape_of k T b room) (file_of k T b room bodies) int (react_function (shape_of k T b room))
       (record { type = word; value = pos (event_number k.names given.event) } ∷ []) next set after
       × IsWorld k b next.world
   unfolding call
@@ -302,26 +303,27 @@ module _ (k : Code) (T : Tests) (b : Bounds) (bodies : ℕ → plan.Block) (int 
       let fuel = most_instructions k b in
       let enough = 2 * fuel + 3 in
       let mem = shows.memory in
-      let shown : Represents (shape_of k T b) None mem s =
-      subst (λ (x : Option Fault). Represents (shape_of k T b) x mem s) none shows.represents in
+      let shown : Represents (shape_of k T b room) None mem s =
+      subst (λ (x : Option Fault). Represents (shape_of k T b room) x mem s) none shows.represents in
       let st = inputs-stored
-      (shape_of k T b) given.inputs 0 m.world w' mem s world.fits can.inputs sets shows.stands.vals shown in
+      (shape_of k T b room) given.inputs 0 m.world w' mem s world.fits can.inputs sets shows.stands.vals shown in
       let m1 = record mem { vals = w'.vals } in
       let long = long-of w'.vals k.names st.fits_still.declared in
       let m2 = record m1 { used = 0 } in
-      let enough_calls = call (file_of k T b bodies) int enough in
+      let enough_calls = call (file_of k T b room bodies) int enough in
       let l : Locals = with_local no_locals word 0 (pos (event_number k.names given.event)) in
       let body = outside_c k.procedures.react (Local word 0) in
-      let first = uncounted-goes (shape_of k T b) int most enough_calls enough
-      (PutField (outs_field (shape_of k T b)) (number 0) (PutField (noted_field (shape_of k T b)) (number 0) body))
+      let first = cleared-goes (shape_of k T b room) int most enough_calls enough
+      (PutField (outs_field (shape_of k T b room)) (number 0)
+      (PutField (noted_field (shape_of k T b room)) (number 0) body))
       m1 st.set l st.shows long in
       let s1 = first.0 in
       let h1 = first.2 in
-      let s2 = with_field s1 (outs_field (shape_of k T b)) (unsigned W32 0) in
-      let h2 = out-clear (shape_of k T b) None m2 s1 h1 long in
+      let s2 = with_field s1 (outs_field (shape_of k T b room)) (unsigned W32 0) in
+      let h2 = out-clear (shape_of k T b room) None m2 s1 h1 long in
       let m3 = record m2 { outputs = [] } in
-      let s3 = with_field s2 (noted_field (shape_of k T b)) (unsigned W32 0) in
-      let h3 = note-clear (shape_of k T b) None m3 s2 h2 long in
+      let s3 = with_field s2 (noted_field (shape_of k T b room)) (unsigned W32 0) in
+      let h3 = note-clear (shape_of k T b room) None m3 s2 h2 long in
       let m4 = record m3 { notes = [] } in
       let stands : Stands k.tree (λ x. suc x) m4 (begun w') = record {
         states = subst (λ (c : Configuration). Shows k.tree (λ x. suc x) mem.states c)
@@ -333,12 +335,12 @@ module _ (k : Code) (T : Tests) (b : Bounds) (bodies : ℕ → plan.Block) (int 
       } in
       let event = can_react k.names given.event can.event in
       let sound = reaction_moment k b is w' given.event st.fits_still event in
-      let ended = ends-as-code k T b bodies (file_of k T b bodies) int fuel k.procedures.react
+      let ended = ends-as-code k T b room bodies (file_of k T b room bodies) int fuel k.procedures.react
       (from_outside given.event) m4 (begun w') s3 is named small right written begins most sound
       (only-ends (react_machine k w' given.event) next leads may) (reaction_ends k b is w' given.event) stands h3 refl
       in
       let same : ended.moment ≡ next = one_end ended.leads leads in
-      let calls = call (file_of k T b bodies) int enough in
+      let calls = call (file_of k T b room bodies) int enough in
       let e = event_number k.names given.event in
       let few = event-small k given.event event fit.events in
       let ev : e < 2 ^ 32 = omega (arith, few) in (
@@ -350,24 +352,24 @@ module _ (k : Code) (T : Tests) (b : Bounds) (bodies : ℕ → plan.Block) (int 
           gives =
               ap (λ (o : Option Function). run_c int calls enough o (unsigned W32 e ∷ []) st.set) react-there
               ∙ argument-goes [] e [] 0 no_locals (λ l. returned Truth (outcome int calls enough
-              (react_c (shape_of k T b) k.procedures.react).body st.set l)) ev
+              (react_c (shape_of k T b room) k.procedures.react).body st.set l)) ev
               ∙ arguments-end 1 l (λ l. returned Truth (outcome int calls enough
-              (react_c (shape_of k T b) k.procedures.react).body st.set l))
+              (react_c (shape_of k T b room) k.procedures.react).body st.set l))
               ∙ ap (returned Truth)
               (first.1
-              ∙ put-word int most calls enough (PutField (noted_field (shape_of k T b)) (number 0) body) s1 l
-              (outs_field (shape_of k T b)) _ 0 (number 0) h1.outs (omega arith) (number-means int most s1 l 0
+              ∙ put-word int most calls enough (PutField (noted_field (shape_of k T b room)) (number 0) body) s1 l
+              (outs_field (shape_of k T b room)) _ 0 (number 0) h1.outs (omega arith) (number-means int most s1 l 0
               (omega arith))
-              ∙ put-word int most calls enough body s2 l (noted_field (shape_of k T b)) _ 0 (number 0) h2.noted
+              ∙ put-word int most calls enough body s2 l (noted_field (shape_of k T b room)) _ 0 (number 0) h2.noted
               (omega arith) (number-means int most s2 l 0 (omega arith)))
-              ∙ outside-goes (shape_of k T b) int fit calls enough k.procedures.react e ended.result
+              ∙ outside-goes (shape_of k T b room) int fit calls enough k.procedures.react e ended.result
               (Local word 0) s3
               ended.after l (local-means int most s3 l 0 e refl)
               (tells-small ended.moment.fault ended.result ended.tells) ended.gives
               ∙ told-same (from_outside given.event) enough k.procedures.react
               (react_machine k w' given.event) s3
               ended next same;
-          shows = subst (λ (m : Moment). ShowsMoment (shape_of k T b) m ended.after) same ended.shows;
+          shows = subst (λ (m : Moment). ShowsMoment (shape_of k T b room) m ended.after) same ended.shows;
         },
         over-world k b is leads.steps (react_machine k w' given.event) next.world next.fault sound leads.ends,
       )
@@ -375,9 +377,9 @@ module _ (k : Code) (T : Tests) (b : Bounds) (bodies : ℕ → plan.Block) (int 
   -- ---- runs
 
   reacts-on : (events : List EventWithInputs) (m : Moment) (s : Store) (moments : List Moment)
-      → ShowsMoment (shape_of k T b) m s → IsWorld k b m.world → AllGiven k.names events
-      → GoesOn (Reacts k b) m events moments → AllByRecursion (λ (m : Moment). MayEnd T m.fault) moments
-      → ReactsOn (shape_of k T b) (file_of k T b bodies) int m s events moments
+      → ShowsMoment (shape_of k T b room) m s → IsWorld k b m.world → AllGiven k.names events
+      → GoesOn (Reacts k b) m events moments → AllByRecursion (MayEndIn T room) moments
+      → ReactsOn (shape_of k T b room) (file_of k T b room bodies) int m s events moments
   reacts-on [] m s moments shows world all goes may = goes
   reacts-on (given ∷ events) m s moments shows world all goes may =
       by m.fault refl goes
@@ -386,27 +388,27 @@ module _ (k : Code) (T : Tests) (b : Bounds) (bodies : ℕ → plan.Block) (int 
       by : (f : Option Fault) → m.fault ≡ f
           → UnlessFaulted f moments ((next : Moment) × (later : List Moment) × (moments ≡ next ∷ later)
           × ReactsWithInputs (Reacts k b) m.world given next.world next.fault × GoesOn (Reacts k b) next events later)
-          → ((next : Moment) (after : Store) (later : List Moment) → ShowsMoment (shape_of k T b) next after
+          → ((next : Moment) (after : Store) (later : List Moment) → ShowsMoment (shape_of k T b room) next after
           → IsWorld k b next.world → GoesOn (Reacts k b) next events later
-          → AllByRecursion (λ (m : Moment). MayEnd T m.fault) later
-          → ReactsOn (shape_of k T b) (file_of k T b bodies) int next after events later)
+          → AllByRecursion (MayEndIn T room) later
+          → ReactsOn (shape_of k T b room) (file_of k T b room bodies) int next after events later)
           → UnlessFaulted f moments ((next : Moment) × (later : List Moment) × (moments ≡ next ∷ later)
           × (set : Store) × AreStored k.names 0 given.inputs s set × (after : Store)
-          × Answers (shape_of k T b) (file_of k T b bodies) int (react_function (shape_of k T b))
+          × Answers (shape_of k T b room) (file_of k T b room bodies) int (react_function (shape_of k T b room))
           (record { type = word; value = pos (event_number k.names given.event) } ∷ []) next set after
-          × ReactsOn (shape_of k T b) (file_of k T b bodies) int next after events later)
+          × ReactsOn (shape_of k T b room) (file_of k T b room bodies) int next after events later)
       by (Some x) none run more = run
       by None none run more =
-          let ends : AllByRecursion (λ (m : Moment). MayEnd T m.fault) (run.0 ∷ run.1) =
-          subst (λ (ms : List Moment). AllByRecursion (λ (m : Moment). MayEnd T m.fault) ms) run.2 may in
+          let ends : AllByRecursion (MayEndIn T room) (run.0 ∷ run.1) =
+          subst (λ (ms : List Moment). AllByRecursion (MayEndIn T room) ms) run.2 may in
           let r = react-answers m run.0 s given run.3.0 shows none world all.0 run.3.1 run.3.2 ends.0 in
           (run.0, run.1, run.2, r.0, r.1, r.2, r.3, more run.0 r.2 run.1 r.3.shows r.4 run.4 ends.1)
 
   -- the run of the file from a struct of its type shows what the run of code gives
-  pub runs-on : (s : Store) (events : List EventWithInputs) (moments : List Moment) → HasShape (shape_of k T b) s
+  pub runs-on : (s : Store) (events : List EventWithInputs) (moments : List Moment) → HasShape (shape_of k T b room) s
       → AllGiven k.names events → CodeRun k b events moments
-      → AllByRecursion (λ (m : Moment). MayEnd T m.fault) moments
-      → RunsOn (shape_of k T b) (file_of k T b bodies) int s events moments
+      → AllByRecursion (MayEndIn T room) moments
+      → RunsOn (shape_of k T b room) (file_of k T b room bodies) int s events moments
   runs-on s events [] shape all code may = absurd code
   runs-on s events (m ∷ moments) shape all code may =
       let r = start-answers s m shape code.0 may.0 in
@@ -431,22 +433,22 @@ types-unset [] = refl
 types-unset (t ∷ ts) = ap (λ (l : List CType). t ∷ l) (types-unset ts)
 
 -- has the shape of the file
-pub unset-shape : (k : Code) (T : Tests) (b : Bounds) (bodies : ℕ → plan.Block)
-    → HasShape (shape_of k T b) (no_values (file_of k T b bodies))
-unset-shape k T b bodies = record {
-  fields = types-unset (map (λ (x : CValue). x.type) (first_values (shape_of k T b)));
+pub unset-shape : (k : Code) (T : Tests) (b : Bounds) (room : ℕ) (bodies : ℕ → plan.Block)
+    → HasShape (shape_of k T b room) (no_values (file_of k T b room bodies))
+unset-shape k T b room bodies = record {
+  fields = types-unset (map (λ (x : CValue). x.type) (first_values (shape_of k T b room)));
   out = record {
-    row = replicate b.steps (record { type = word; value = None });
+    row = replicate room (record { type = word; value = None });
     there = refl;
-    sized = length-replicate b.steps (record { type = word; value = None });
-    typed = typed-unset b.steps;
+    sized = length-replicate room (record { type = word; value = None });
+    typed = typed-unset room;
     shown = λ i x e. absurd (none-got i x e);
   };
   note = record {
-    row = replicate (shape_of k T b).notes (record { type = word; value = None });
+    row = replicate (shape_of k T b room).notes (record { type = word; value = None });
     there = refl;
-    sized = length-replicate (shape_of k T b).notes (record { type = word; value = None });
-    typed = typed-unset (shape_of k T b).notes;
+    sized = length-replicate (shape_of k T b room).notes (record { type = word; value = None });
+    typed = typed-unset (shape_of k T b room).notes;
     shown = λ i x e. absurd (none-got i x e);
   };
 }

@@ -95,24 +95,25 @@ module _ (K : Shape) (int : Width) (fit : IsFit K int) (calls : Calls) (k : ℕ)
   -- and so is what it ended with
   result-ends : (c u : ℕ) (f0 : Bool) (o : Out) (o' : Outcome) (loc : Locals) → EndsCall K c u f0 o o'
       → EndsCall K c u f0 (p.closed o) (returned word (called o' word 4 loc (λ v z. Y (Return result_local) v z)))
-  result-ends c u f0 (Fell m l) o' loc e = tt
-  result-ends c u f0 (Left m r) o' loc e =
-      let small = e.2.result_is in (
-        e.0,
-        ap (λ (o : Outcome). returned word (called o word 4 loc (λ v z. Y (Return result_local) v z))) e.1
-            ∙ result-goes e.0 loc r (omega (arith, small)),
-        e.2,
+  result-ends c u f0 (Fell m l) o' loc e = λ room. tt
+  result-ends c u f0 (Left m r) o' loc e = λ room.
+      let f = e room in
+      let small = f.2.result_is in (
+        f.0,
+        ap (λ (o : Outcome). returned word (called o word 4 loc (λ v z. Y (Return result_local) v z))) f.1
+            ∙ result-goes f.0 loc r (omega (arith, small)),
+        f.2,
       )
-  result-ends c u f0 (Failed m x) o' loc e = λ t.
-      let f = e t in (
+  result-ends c u f0 (Failed m x) o' loc e = λ room t.
+      let f = e room t in (
         f.0,
         ap (λ (o : Outcome). returned word (called o word 4 loc (λ v z. Y (Return result_local) v z))) f.1
             ∙ result-goes f.0 loc bad (omega arith),
         f.2,
         f.3,
       )
-  result-ends c u f0 Starved o' loc e = tt
-  result-ends c u f0 Wrong o' loc e = tt
+  result-ends c u f0 Starved o' loc e = λ room. tt
+  result-ends c u f0 Wrong o' loc e = λ room. tt
 
   -- the locals that are parameters
   abbrev handed : ℕ → ℕ → ℕ → ℕ → ℕ → ℕ → Locals

@@ -38,6 +38,7 @@ use Rattle.c_functions.proofs.Checked.{on-tells, bare-tells, takes-tells, last-t
 use Rattle.c_functions.proofs.Checked.{not-tells}
 use Rattle.c_functions.proofs.Failing.{or-left}
 use Rattle.c_functions.proofs.Noting.{IsIn, or-right, tag-noted}
+use Rattle.c_functions.proofs.Outputs.{exec-keeps}
 use Rattle.c_functions.proofs.Stepping.{HasCalls, if-ends, deep-ends, home-ends}
 use Rattle.c_functions.proofs.Stepping.{base-ends}
 use Rattle.c_functions.proofs.Calling.{more-room, noted-ends, send-ends, play-ends, home_on-ends, home_bare-ends}
@@ -137,7 +138,7 @@ module _ (K : Shape) (int : Width) (fit : IsFit K int) (bodies : ℕ → plan.Bl
 
   end-does : Does plan.End
   unfolding exec plan_c outcome
-  end-does m l s loc at = (s, loc, refl, at)
+  end-does m l s loc at = λ room. (s, loc, refl, at)
 
   -- ---- states
 
@@ -166,7 +167,7 @@ module _ (K : Shape) (int : Width) (fit : IsFit K int) (bodies : ℕ → plan.Bl
       → Does x → Does y → Does rest → Does (plan.If (plan.Simple a) x y rest)
   if-does a x y rest tells one other go m l s loc at =
       if-ends K int fit bodies call turns_left calls k c0 u0 f0 p0 now At a x y rest m l s loc (tells m l s loc at)
-      (λ e. one m l s loc at) (λ e. other m l s loc at) go
+      (λ e. one m l s loc at) (λ e. other m l s loc at) has.keep go
 
   mark-does : (s : ℕ) (rest : plan.Block) → s < state_count K.tree → Does rest
       → Does (straight K.tree K.numbers react (i.Mark s) rest)
@@ -203,7 +204,8 @@ module _ (K : Shape) (int : Width) (fit : IsFit K int) (bodies : ℕ → plan.Bl
       pay-ends K int fit bodies call turns_left calls k c0 u0 f0 p0 now At c0 m l s loc (λ v. X (plan.Put e rest) v l)
       (plan_c K (plan.Put e rest)) fails at
       (λ s' at' spare. put-ends K int fit bodies call turns_left calls k c0 u0 f0 p0 now At c0 e rest
-      (omega (arith, lt, fit.events)) go (record m { used = m.used + 1 }) l s' loc at' spare)
+      (omega (arith, lt, fit.events)) (exec-keeps K bodies call has.keep turns_left now rest) go
+      (record m { used = m.used + 1 }) l s' loc at' spare)
 
   call-does : (q : ℕ) (tag : Option ℕ) (rest : plan.Block) → (K.tests.after q ≡ true → f0 ≡ true) → q < K.procs
       → ((b : ℕ) → tag ≡ Some b → IsIn K.noted b)
@@ -277,7 +279,7 @@ module _ (K : Shape) (int : Width) (fit : IsFit K int) (bodies : ℕ → plan.Bl
       (λ t. fails (or-right K.tests.steps _ (or-right K.tests.depth (K.tests.after q) t))) there lt deep end-does
       (record m { used = m.used + 1 }) l v' loc at'
       (let r = paid-room m q at.used in omega (arith, r)))
-      (λ t. end-does (record m { used = m.used + 1 }) l v' loc at') go))
+      (λ t. end-does (record m { used = m.used + 1 }) l v' loc at') has.keep go))
 
   -- ---- results
 
@@ -293,7 +295,7 @@ module _ (K : Shape) (int : Width) (fit : IsFit K int) (bodies : ℕ → plan.Bl
 
   return-does : (r : ℕ) → r < bad → Does (plan.Return r)
   unfolding exec plan_c
-  return-does r small m l s loc at = (
+  return-does r small m l s loc at = λ room. (
     s,
     return-gives int calls k s loc r (number r) (number-means int fit.most s loc r (omega (arith, small))),
     left-at m l s loc r at small,
@@ -309,7 +311,7 @@ module _ (K : Shape) (int : Width) (fit : IsFit K int) (bodies : ℕ → plan.Bl
       result-does end-does go
     where
       result-does : Does plan.ReturnResult
-      result-does m l s loc at = (
+      result-does m l s loc at = λ room. (
         s,
         return-gives int calls k s loc l.result result_local
             (local-means int fit.most s loc 4 l.result at.result),

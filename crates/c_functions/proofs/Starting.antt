@@ -281,7 +281,7 @@ module _ (K : Shape) (rows : List (List Object)) where
         };
   }
 
-  pub first-shows : HasRow rows out_row K.bounds.steps [] → HasRow rows note_row K.notes []
+  pub first-shows : HasRow rows out_row K.outputs [] → HasRow rows note_row K.notes []
       → Represents K None (memory_before K) (first_struct K rows)
   first-shows out note = record {
     states = states-held;

@@ -34,8 +34,9 @@ use Rattle.c_functions.proofs.Structs.{not-both}
 use Rattle.c_functions.proofs.Words.{at_least-is, number-means, local-means, field-means, compare-has}
 use Rattle.c_functions.proofs.Words.{values-given}
 use Rattle.c_functions.proofs.Words.{called-goes, set-goes, if-goes, return-gives}
-use Rattle.c_functions.proofs.Follows.{IsFit, IsFine, IsAt, HasLeft, Ends, EndsCall, Follows, ends-on, program_c}
-use Rattle.c_functions.proofs.Follows.{faulted-ends}
+use Rattle.c_functions.proofs.Follows.{IsFit, IsFine, IsAt, HasLeft, EndsAlike, Ends, EndsCall, Follows, ends-on}
+use Rattle.c_functions.proofs.Follows.{StatementsKeep, CallsKeep, program_c, faulted-ends}
+use Rattle.c_functions.proofs.Outputs.{exec-keeps}
 
 -- ---- calls
 
@@ -76,9 +77,10 @@ NotesFollow K h most call calls = (q base home r : ℕ) (now : Now) (m : Memory)
     → EndsCall K (length m.notes) m.used (K.tests.after q) (call q now base home r m)
     (calls (noted_function K) (six (event_number K.names now.event) now.depth base home r q) s)
 
--- the calls of a file: those of procedures, of noted ones, of the home, and of flow_divW
+-- the calls of a file: those of procedures, which keep what was put out, of noted ones, of the home, and of flow_divW
 pub record HasCalls (K : Shape) (h : ℕ → ℕ) (most : ℕ) (call : p.Calls) (calls : Calls) : Type 0 where
   pub procedures : ProceduresFollow K h most call calls
+  pub keep : CallsKeep call
   pub notes : NotesFollow K h most call calls
   pub divides : (s : Store) → Divides calls (helper K) s
   pub asks_on : (st : States) (s : Store) (x : ℕ) → HoldsStates K.tree (layout K) st s → x < state_count K.tree
@@ -192,22 +194,23 @@ module _ (K : Shape) (int : Width) (fit : IsFit K int) (bodies : ℕ → plan.Bl
   -- tells
   pub called-ends : (R : Memory → Inner → Store → Locals → Type 0) (b f1 : Bool) → (f1 ≡ true → b ≡ true)
       → (f1 ≡ true → f0 ≡ true) → (c : ℕ) (o : Out) (o' : Outcome) (m : Memory) (l : Inner) (s : Store) (loc : Locals)
-      (f : Memory → Inner → Out) (rest : Block) → At c m l s loc → EndsCall K c m.used f1 o o'
+      (f : Memory → Inner → Out) (rest : Block) → At c m l s loc → EndsCall K c m.used f1 o o' → StatementsKeep f
       → Follows K c0 u0 f0 (At c) R f (Y rest)
       → EndsIn R (p.and_with o (λ v r. f v (record l { result = r })))
       (called o' word 4 loc (λ v z. Y (cond b (unless_bad rest) rest) v z))
-  called-ends R b f1 on fails c (Fell v z) o' m l s loc f rest h ends go = tt
-  called-ends R b f1 on fails c (Left v r) o' m l s loc f rest h ends go =
-      let at = at-result c m v l s ends.0 loc r h ends.2 in
-      let low = ends.2.result_is in
+  called-ends R b f1 on fails c (Fell v z) o' m l s loc f rest h ends keep go = λ room. tt
+  called-ends R b f1 on fails c (Left v r) o' m l s loc f rest h ends keep go = λ room.
+      let e = ends (keep v (record l { result = r }) K.outputs room) in
+      let at = at-result c m v l s e.0 loc r h e.2 in
+      let low = e.2.result_is in
       let after = with_local loc word 4 (pos r) in
-      subst (λ (o : Outcome). EndsIn R (f v (record l { result = r })) o)
-      (sym (ap (λ (o : Outcome). called o word 4 loc (λ v z. Y (cond b (unless_bad rest) rest) v z)) ends.1
-      ∙ called-goes ends.0 r 4 loc (λ v z. Y (cond b (unless_bad rest) rest) v z) (omega (arith, low))
-      ∙ after-goes b rest ends.0 after r low refl))
-      (go v (record l { result = r }) ends.0 after at)
-  called-ends R b f1 on fails c (Failed v x) o' m l s loc f rest h ends go = λ t.
-      let e = ends t in
+      subst (λ (o : Outcome). EndsAlike K c0 u0 f0 R (f v (record l { result = r })) o)
+      (sym (ap (λ (o : Outcome). called o word 4 loc (λ v z. Y (cond b (unless_bad rest) rest) v z)) e.1
+      ∙ called-goes e.0 r 4 loc (λ v z. Y (cond b (unless_bad rest) rest) v z) (omega (arith, low))
+      ∙ after-goes b rest e.0 after r low refl))
+      (go v (record l { result = r }) e.0 after at room)
+  called-ends R b f1 on fails c (Failed v x) o' m l s loc f rest h ends keep go = λ room t.
+      let e = ends room t in
       let after = with_local loc word 4 (pos bad) in (
         e.0,
         ap (λ (o : Outcome). called o word 4 loc (λ v z. Y (cond b (unless_bad rest) rest) v z)) e.1
@@ -216,8 +219,8 @@ module _ (K : Shape) (int : Width) (fit : IsFit K int) (bodies : ℕ → plan.Bl
         e.2,
         fails e.3,
       )
-  called-ends R b f1 on fails c Starved o' m l s loc f rest h ends go = tt
-  called-ends R b f1 on fails c Wrong o' m l s loc f rest h ends go = tt
+  called-ends R b f1 on fails c Starved o' m l s loc f rest h ends keep go = λ room. tt
+  called-ends R b f1 on fails c Wrong o' m l s loc f rest h ends keep go = λ room. tt
 
   -- ---- branches
 
@@ -225,14 +228,15 @@ module _ (K : Shape) (int : Width) (fit : IsFit K int) (bodies : ℕ → plan.Bl
   pub branch-ends : (R : Memory → Inner → Store → Locals → Type 0) (e : CExpr) (b : Bool) (x y rest : plan.Block)
       (m : Memory) (l : Inner) (s : Store) (loc : Locals) → Has int s loc e (one_if b)
       → (b ≡ true → EndsIn (At c0) (X x m l) (Y (plan_c K x) s loc))
-      → (b ≡ false → EndsIn (At c0) (X y m l) (Y (plan_c K y) s loc)) → Goes c0 R rest
+      → (b ≡ false → EndsIn (At c0) (X y m l) (Y (plan_c K y) s loc)) → CallsKeep call → Goes c0 R rest
       → EndsIn R (p.and_on (p.branch (Ok b) m (X x m l) (X y m l)) (X rest))
       (Y (If e (plan_c K x) (plan_c K y) (plan_c K rest)) s loc)
-  branch-ends R e b x y rest m l s loc has one other go =
+  branch-ends R e b x y rest m l s loc has one other keep go =
       subst (λ (o : Outcome). EndsIn R (p.and_on (p.branch (Ok b) m (X x m l) (X y m l)) (X rest)) o)
       (sym (if-goes int fit.most calls k (plan_c K rest) s loc b e (plan_c K x) (plan_c K y) has))
       (ends-on K c0 u0 f0 (At c0) R (p.branch (Ok b) m (X x m l) (X y m l))
-      (cond b (Y (plan_c K x) s loc) (Y (plan_c K y) s loc)) (X rest) (Y (plan_c K rest)) (at b refl) go)
+      (cond b (Y (plan_c K x) s loc) (Y (plan_c K y) s loc)) (X rest) (Y (plan_c K rest)) (at b refl)
+      (exec-keeps K bodies call keep turns_left now rest) go)
     where
       at : (d : Bool) → b ≡ d → EndsIn (At c0) (p.branch (Ok d) m (X x m l) (X y m l))
           (cond d (Y (plan_c K x) s loc) (Y (plan_c K y) s loc))
@@ -244,11 +248,11 @@ module _ (K : Shape) (int : Width) (fit : IsFit K int) (bodies : ℕ → plan.Bl
       → Has int s loc (check_c K a) (one_if (check (program_c K bodies) a m now l))
       → (check (program_c K bodies) a m now l ≡ true → EndsIn (At c0) (X x m l) (Y (plan_c K x) s loc))
       → (check (program_c K bodies) a m now l ≡ false → EndsIn (At c0) (X y m l) (Y (plan_c K y) s loc))
-      → Goes c0 R rest
+      → CallsKeep call → Goes c0 R rest
       → EndsIn R (X (plan.If (plan.Simple a) x y rest) m l) (Y (plan_c K (plan.If (plan.Simple a) x y rest)) s loc)
   unfolding exec plan_c
-  if-ends R a x y rest m l s loc has one other go =
-      branch-ends R (check_c K a) (check (program_c K bodies) a m now l) x y rest m l s loc has one other go
+  if-ends R a x y rest m l s loc has one other keep go =
+      branch-ends R (check_c K a) (check (program_c K bodies) a m now l) x y rest m l s loc has one other keep go
 
   -- a question about the home
   pub ask-goes : (f q : ℕ) (b : Bool) (rest : Block) (s : Store) (loc : Locals)
@@ -273,15 +277,15 @@ module _ (K : Shape) (int : Width) (fit : IsFit K int) (bodies : ℕ → plan.Bl
       at : K.tests.depth ≡ true → (b : Bool) → nat_le K.bounds.depth now.depth ≡ b
           → EndsIn R (p.unless_met b faults.Depth m (X rest m l))
           (and_on (cond b (Y (faulted K faults.Depth) s loc) (Falls s loc)) (λ v o. Y (plan_c K rest) v o))
-      at on true e = λ t.
+      at on true e = λ room t.
           let x = faulted-ends K int fit bodies call turns_left calls k c0 u0 f0 p0 now R c m l s loc faults.Depth h
-          (omega arith) (fails on) t
+          (omega arith) (fails on) room t
           in (x.0, ap (λ (o : Outcome). and_on o (λ v o. Y (plan_c K rest) v o)) x.1, x.2, x.3)
       at on false e = go (grind (arith, nat_tests))
 
       untold : K.tests.depth ≡ false → (b : Bool) → nat_le K.bounds.depth now.depth ≡ b
           → EndsIn R (p.unless_met b faults.Depth m (X rest m l)) (Y (plan_c K rest) s loc)
-      untold off true e = λ t. absurd (not-tested K.tests t off)
+      untold off true e = λ room t. absurd (not-tested K.tests t off)
       untold off false e = go (grind (arith, nat_tests))
 
       by : (b : Bool) → K.tests.depth ≡ b

@@ -80,7 +80,7 @@ module _ (K : Shape) (x : Option Fault) (m : Memory) (s : Store) (h : Represents
   }
 
   -- an event is put out
-  pub out-put : (e : ℕ) → length m.outputs < K.bounds.steps → length m.outputs + 1 < 2 ^ 32
+  pub out-put : (e : ℕ) → length m.outputs < K.outputs → length m.outputs + 1 < 2 ^ 32
       → Represents K x (record m { outputs = m.outputs ++ e ∷ [] })
       (with_field (with_element s out_row (pos (length m.outputs)) (unsigned W32 e)) (outs_field K)
       (unsigned W32 (length m.outputs + 1)))
@@ -94,7 +94,7 @@ module _ (K : Shape) (x : Option Fault) (m : Memory) (s : Store) (h : Represents
     noted = word-kept s.fields (outs_field K) (noted_field K) _ _ (λ e. absurd (omega (arith, e))) h.noted;
     fault_is = word-kept s.fields (outs_field K) (fault_field K) _ _ (λ e. absurd (omega (arith, e))) h.fault_is;
     datum_is = word-kept s.fields (outs_field K) (fault_datum_field K) _ _ (λ e. absurd (omega (arith, e))) h.datum_is;
-    out = row-pushed s.rows out_row K.bounds.steps e m.outputs h.out room;
+    out = row-pushed s.rows out_row K.outputs e m.outputs h.out room;
     note = row-other s.rows note_row out_row K.notes m.notes _ (λ e. absurd (omega (arith, e))) h.note;
   }
 
@@ -113,7 +113,7 @@ module _ (K : Shape) (x : Option Fault) (m : Memory) (s : Store) (h : Represents
         (sym (length-push m.notes p)) (word-put s.fields (noted_field K) _ (length m.notes + 1) h.noted small);
     fault_is = word-kept s.fields (noted_field K) (fault_field K) _ _ (λ e. absurd (omega (arith, e))) h.fault_is;
     datum_is = word-kept s.fields (noted_field K) (fault_datum_field K) _ _ (λ e. absurd (omega (arith, e))) h.datum_is;
-    out = row-other s.rows out_row note_row K.bounds.steps m.outputs _ (λ e. absurd (omega (arith, e))) h.out;
+    out = row-other s.rows out_row note_row K.outputs m.outputs _ (λ e. absurd (omega (arith, e))) h.out;
     note = row-pushed s.rows note_row K.notes p m.notes h.note room;
   }
 
@@ -145,7 +145,7 @@ module _ (K : Shape) (x : Option Fault) (m : Memory) (s : Store) (h : Represents
     noted = word-kept s.fields (outs_field K) (noted_field K) _ _ (λ e. absurd (omega (arith, e))) h.noted;
     fault_is = word-kept s.fields (outs_field K) (fault_field K) _ _ (λ e. absurd (omega (arith, e))) h.fault_is;
     datum_is = word-kept s.fields (outs_field K) (fault_datum_field K) _ _ (λ e. absurd (omega (arith, e))) h.datum_is;
-    out = row-empty s.rows out_row K.bounds.steps m.outputs h.out;
+    out = row-empty s.rows out_row K.outputs m.outputs h.out;
     note = h.note;
   }
 

@@ -31,15 +31,16 @@ abbrev pub note_room : List ℕ → ℕ → ℕ → ℕ
 note_room [] height steps = 1
 note_room (q ∷ noted) height steps = (steps + 1) * (height + 1)
 
--- The shape of code: a state's number as a child is one more than its own, and the procedures that the code notes may
--- stand in note[].
-abbrev pub shape_of : Code → Tests → Bounds → Shape
-shape_of k T b = record {
+-- The shape of code, for an array out[] of so many entries: a state's number as a child is one more than its own, and
+-- the procedures that the code notes may stand in note[].
+abbrev pub shape_of : Code → Tests → Bounds → ℕ → Shape
+shape_of k T b room = record {
   tree = k.tree;
   numbers = λ x. suc x;
   names = k.names;
   bounds = b;
   tests = T;
+  outputs = room;
   procs = length k.procedures.procs;
   noted = noted_in k.procedures.procs;
   notes = note_room (noted_in k.procedures.procs) (greatest (heights k.procedures.procs)) b.steps;
@@ -112,5 +113,5 @@ pub record Represents (K : Shape) (fault : Option Fault) (m : Memory) (s : Store
   pub noted : HasWord s.fields (noted_field K) (length m.notes)
   pub fault_is : HasWord s.fields (fault_field K) (fault_number fault)
   pub datum_is : HasWord s.fields (fault_datum_field K) (fault_datum fault)
-  pub out : HasRow s.rows out_row K.bounds.steps m.outputs
+  pub out : HasRow s.rows out_row K.outputs m.outputs
   pub note : HasRow s.rows note_row K.notes m.notes

@@ -7,7 +7,7 @@ use Rattle.active_config.specs.Tree.{Tree, state_count, parent_of, comp_of, chil
 use Rattle.c_subset.specs.Trees.{CExpr, Const}
 use Rattle.c_subset.specs.declared.trees.Width.{Width}
 use Rattle.c_subset.specs.declared.trees.Width.TheVariants.{W16, W32}
-use Rattle.c_subset.specs.declared.trees.CType.TheVariants.{Unsigned, Truth}
+use Rattle.c_subset.specs.declared.trees.CType.TheVariants.{Unsigned}
 use Rattle.c_subset.specs.declared.trees.Bitwise.TheVariants.{BitAnd, BitOr}
 use Rattle.c_subset.specs.declared.trees.Comparison.TheVariants.{IsEqual, IsUnequal}
 use Rattle.c_subset.specs.Trees.{Field, Bang, Bits, Compare, Both}

@@ -1,5 +1,5 @@
 -- When the struct shows a moment of a run of code, and when a call of a procedure's function ends as code.
-use Rattle.std.specs.Prelude.{◌≡◌, ◌<◌, ℕ, ◌++◌, pos, List, [], ◌∷◌, Option, Some, None, true}
+use Rattle.std.specs.Prelude.{◌≡◌, ◌<◌, ◌≤◌, ℕ, ◌++◌, pos, List, [], ◌∷◌, length, Option, Some, None, true}
 use Rattle.flow_base.specs.declared.bounds.Bounds.{Bounds}
 use Rattle.flow_base.specs.declared.fault.Fault.{Fault}
 use Rattle.flow_base.specs.declared.fault.Fault.TheVariants as faults
@@ -31,6 +31,11 @@ MayEnd T (Some faults.Steps) = T.steps ≡ true
 MayEnd T (Some (faults.Overflow v)) = Unit {0}
 MayEnd T (Some faults.Zero) = Unit {0}
 
+-- a run may end in that moment: so, and where out[] has room for what was put out
+pub record MayEndIn (T : Tests) (room : ℕ) (moment : Moment) : Type 0 where
+  pub fault : MayEnd T moment.fault
+  pub outputs : length moment.world.outputs ≤ room
+
 -- a file begins with these functions
 pub record BeginsWith (file : File) (functions : List Function) : Type 0 where
   pub later : List Function
@@ -58,13 +63,13 @@ arguments_c e d b h r =
 
 -- code leads to a moment, and the call of the procedure's function returns, tells whether there was a fault, and leaves
 -- a struct that shows the moment
-pub record EndsAsCode (k : Code) (T : Tests) (b : Bounds) (file : File) (int : Width) (fuel p : ℕ) (now : Now)
-    (start : Machine) (s : Store) : Type 0 where
+pub record EndsAsCode (k : Code) (T : Tests) (b : Bounds) (room : ℕ) (file : File) (int : Width) (fuel p : ℕ)
+    (now : Now) (start : Machine) (s : Store) : Type 0 where
   pub moment : Moment
   pub leads : Leads (program_of k b) start moment
   pub after : Store
   pub result : ℕ
   pub gives : call file int fuel p (arguments_c (event_number k.names now.event) now.depth 0 0 0) s
       ≡ Returns after (word_of result)
-  pub shows : ShowsMoment (shape_of k T b) moment after
+  pub shows : ShowsMoment (shape_of k T b room) moment after
   pub tells : TellsFault moment.fault result

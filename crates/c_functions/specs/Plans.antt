@@ -43,13 +43,15 @@ abbrev pub all_tests : Tests
 all_tests = record { steps = true; depth = true; after = λ p. true }
 
 -- what the C is written for: the tree, the numbers of states as children, what is declared, the bounds of a run, which
--- faults are tested, how many procedures there are, which of them may stand in note[], and how many entries it has
+-- faults are tested, how many entries out[] has, how many procedures there are, which of them may stand in note[], and
+-- how many entries that has
 pub record Shape : Type 0 where
   pub tree : Tree
   pub numbers : ℕ → ℕ
   pub names : Names
   pub bounds : Bounds
   pub tests : Tests
+  pub outputs : ℕ
   pub procs : ℕ
   pub noted : List ℕ
   pub notes : ℕ

@@ -67,25 +67,25 @@ start_c K p = record {
 }
 
 -- m->used = 0u; where steps are counted
-abbrev pub uncounted_c : Shape → Block → Block
-uncounted_c K rest = if K.tests.steps then c.Store (used_field K) (number 0) rest else rest
+abbrev pub clear_used_c : Shape → Block → Block
+clear_used_c K rest = if K.tests.steps then c.Store (used_field K) (number 0) rest else rest
 
 -- a reaction has no step used, nothing put out and no notes, and calls its procedure for the event
 abbrev pub react_c : Shape → ℕ → Function
 react_c K p = record {
   result = Truth;
   parameters = word ∷ [];
-  body = uncounted_c K (c.Store (outs_field K) (number 0) (c.Store (noted_field K) (number 0)
+  body = clear_used_c K (c.Store (outs_field K) (number 0) (c.Store (noted_field K) (number 0)
       (outside_c p (Local word 0))));
 }
 
--- the file of code, with these tests
-abbrev pub file_of : Code → Tests → Bounds → (ℕ → plan.Block) → File
-file_of k T b bodies = record {
-  fields = map (λ (x : CValue). x.type) (first_values (shape_of k T b));
-  rows = record { type = word; size = b.steps } ∷ record { type = word; size = (shape_of k T b).notes } ∷ [];
-  functions = functions_c (shape_of k T b) bodies
-      ++ start_c (shape_of k T b) k.procedures.start ∷ react_c (shape_of k T b) k.procedures.react ∷ [];
+-- the file of code, with these tests and so many entries of out[]
+abbrev pub file_of : Code → Tests → Bounds → ℕ → (ℕ → plan.Block) → File
+file_of k T b room bodies = record {
+  fields = map (λ (x : CValue). x.type) (first_values (shape_of k T b room));
+  rows = record { type = word; size = room } ∷ record { type = word; size = (shape_of k T b room).notes } ∷ [];
+  functions = functions_c (shape_of k T b room) bodies
+      ++ start_c (shape_of k T b room) k.procedures.start ∷ react_c (shape_of k T b room) k.procedures.react ∷ [];
 }
 
 -- ---- runs
@@ -93,7 +93,7 @@ file_of k T b bodies = record {
 -- a struct of the file's type, whatever its fields and elements hold
 pub record HasShape (K : Shape) (s : Store) : Type 0 where
   pub fields : map (λ (o : Object). o.type) s.fields ≡ map (λ (x : CValue). x.type) (first_values K)
-  pub out : HasRow s.rows out_row K.bounds.steps []
+  pub out : HasRow s.rows out_row K.outputs []
   pub note : HasRow s.rows note_row K.notes []
 
 -- the fields of inputs, from a number on, are given the mantissas of these values

@@ -25,7 +25,7 @@ ghost use Rattle.c_procedures.specs.Statements.{Memory, Block as Plan};
 ghost use Rattle.c_procedures.specs.Runs.{Stands};
 ghost use Rattle.c_procedures.specs.Written.{AreWritten};
 ghost use Rattle.c_functions.specs.Files.{Represents, shape_of, functions_c};
-ghost use Rattle.c_functions.specs.Moments.{HasSmallResults, BeginsWith, EndsAsCode, MayEnd};
+ghost use Rattle.c_functions.specs.Moments.{HasSmallResults, BeginsWith, EndsAsCode, MayEndIn};
 ghost use Rattle.c_functions.specs.Plans.{Tests};
 ghost use Rattle.c_functions.specs.Failing.{AfterIsRight};
 ghost use Rattle.c_functions.specs.Starts.{file_of, HasShape, AllGiven, RunsOn};
@@ -89,35 +89,38 @@ pub fn states_have_places()
 /// it is never wrong. Twice, because a noted procedure is called through one more function. The
 /// call leaves a struct that shows the moment to which the run leads, and returns a result below
 /// BAD, or BAD where the moment has a fault. So it is where the run isn't ended by a bound that
-/// isn't tested, and the result of each procedure that can fail is tested.
+/// isn't tested, `out[]` has room for what it puts out, and the result of each procedure that can
+/// fail is tested.
 pub fn functions_end_as_code()
-    ensures { (k : Code) (T : Tests) (b : Bounds) (bodies : ℕ → Plan) (file : File) (int : Width)
-        (fuel p : ℕ) (now : Now) (m : Memory) (w : World) (s : Store) → IsCode k →
+    ensures { (k : Code) (T : Tests) (b : Bounds) (room : ℕ) (bodies : ℕ → Plan) (file : File)
+        (int : Width) (fuel p : ℕ) (now : Now) (m : Memory) (w : World) (s : Store) → IsCode k →
         HasStateNames k → HasSmallResults k → AfterIsRight T k →
         AreWritten k.tree (λ x. suc x) k.procedures bodies →
-        BeginsWith file (functions_c (shape_of k T b) bodies) → bits int ≤ 32 →
+        BeginsWith file (functions_c (shape_of k T b room) bodies) → bits int ≤ 32 →
         IsMoment k b (first_frame p w now) →
         ((moment : Moment) → Leads (program_of k b) (first_frame p w now) moment →
-        MayEnd T moment.fault) →
+        MayEndIn T room moment) →
         IsOver (run (program_of k b) fuel (first_frame p w now)) →
-        Stands k.tree (λ x. suc x) m w → Represents (shape_of k T b) None m s → m.notes ≡ [] →
-        EndsAsCode k T b file int (2 * fuel + 3) p now (first_frame p w now) s }
+        Stands k.tree (λ x. suc x) m w → Represents (shape_of k T b room) None m s → m.notes ≡ [] →
+        EndsAsCode k T b room file int (2 * fuel + 3) p now (first_frame p w now) s }
 {}
 
 /// The file of well-formed code runs as the code: from every struct of its type, whatever it holds,
 /// the start and then each reaction return, and tell whether there was a fault, where int has at
 /// most 32 bits. After each call the struct shows the moment of the code's run: active states,
 /// remembered children, data, outputs, used steps where they are counted, and the fault. So it is
-/// where no moment has the fault of a bound that isn't tested, and the result of each procedure
-/// that can fail is tested. A struct without values is such a struct.
+/// where no moment has the fault of a bound that isn't tested, `out[]` has room for what each puts
+/// out, and the result of each procedure that can fail is tested. A struct without values is such a
+/// struct.
 pub fn files_run_as_code()
-    ensures runs { (k : Code) (T : Tests) (b : Bounds) (bodies : ℕ → Plan) (int : Width) (s : Store)
-        (events : List EventWithInputs) (moments : List Moment) → IsCode k → HasStateNames k →
-        HasSmallResults k → AreWritten k.tree (λ x. suc x) k.procedures bodies → bits int ≤ 32 →
-        AfterIsRight T k → HasShape (shape_of k T b) s →
+    ensures runs { (k : Code) (T : Tests) (b : Bounds) (room : ℕ) (bodies : ℕ → Plan) (int : Width)
+        (s : Store) (events : List EventWithInputs) (moments : List Moment) → IsCode k →
+        HasStateNames k → HasSmallResults k →
+        AreWritten k.tree (λ x. suc x) k.procedures bodies → bits int ≤ 32 →
+        AfterIsRight T k → HasShape (shape_of k T b room) s →
         AllGiven k.names events → CodeRun k b events moments →
-        AllByRecursion (λ (m : Moment). MayEnd T m.fault) moments →
-        RunsOn (shape_of k T b) (file_of k T b bodies) int s events moments }
-    ensures unset { (k : Code) (T : Tests) (b : Bounds) (bodies : ℕ → Plan) →
-        HasShape (shape_of k T b) (no_values (file_of k T b bodies)) }
+        AllByRecursion (MayEndIn T room) moments →
+        RunsOn (shape_of k T b room) (file_of k T b room bodies) int s events moments }
+    ensures unset { (k : Code) (T : Tests) (b : Bounds) (room : ℕ) (bodies : ℕ → Plan) →
+        HasShape (shape_of k T b room) (no_values (file_of k T b room bodies)) }
 {}

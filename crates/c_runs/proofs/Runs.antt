@@ -1,17 +1,19 @@
 -- The C of a chart runs as the chart.
-use Rattle.std.proofs.Common.{◌≡◌, ◌≤◌, ◌+◌, List, [], ◌∷◌, length, Option, Some, None, refl, sym, ap, ◌∙◌}
+use Rattle.std.proofs.Common.{◌≡◌, ◌≤◌, ◌+◌, ℕ, List, length, Option, Some, None, refl, sym, ap, ◌∙◌}
 use Rattle.std.proofs.Common.{subst, arith}
-use Rattle.std.specs.List.{AllByRecursion}
 use Rattle.flow_base.specs.declared.bounds.Bounds.{Bounds}
 use Rattle.flow_base.specs.declared.fault.Fault.{Fault}
 use Rattle.flow_base.specs.declared.fault.Fault.TheVariants as faults
 use Rattle.active_config.specs.Tree.{Tree, state_count}
 use Rattle.actions.specs.Names.{Names}
-use Rattle.actions.specs.Runs.{Moment}
+use Rattle.actions.specs.Runs.{EventWithInputs, Moment}
 use Rattle.checked_chart.specs.Chart.{Chart}
 use Rattle.checked_chart.specs.Valid.{IsValid}
+use Rattle.sos_rules.specs.Reactions.{RulesRun}
 use Rattle.code_language.specs.Code.{Code}
 use Rattle.code_language.specs.Instrs.{Unless, Result, Ret}
+use Rattle.code_language.specs.Reactions.{Starts, Reacts, CodeRun}
+use Rattle.code_counts.proofs.Room.{start_few, reaction_few}
 use Rattle.code_copies.specs.SameRuns.{HasSameRuns}
 use Rattle.chart_layout.specs.Bodies.{code_of_chart}
 use Rattle.chart_layout.proofs.ListResults.{results_below}
@@ -20,10 +22,11 @@ use Rattle.c_procedures.specs.Writer.{plans_of}
 use Rattle.c_procedures.proofs.Writing.{plans_are}
 use Rattle.c_functions.specs.Failing.{AfterIsRight}
 use Rattle.c_functions.specs.Plans.{Tests, all_tests, bad}
-use Rattle.c_functions.specs.Moments.{HasSmallResults, MayEnd}
+use Rattle.c_functions.specs.Moments.{HasSmallResults, MayEnd, MayEndIn}
 use Rattle.c_functions.specs.Starts.{AllGiven}
 use Rattle.c_functions.proofs.Running.{runs-on}
 use Rattle.c_runs.specs.Claims.{RunsAsRules, Serves}
+use Rattle.c_runs.proofs.EachMoment.{run_ends}
 
 -- the code of a chart has the chart's tree and names
 tree-same : (c : Chart) → (code_of_chart c).tree ≡ c.tree
@@ -48,14 +51,14 @@ small-results c k valid same =
           results_below c valid bad few w.1.proc w.1.place (Unless w.0 (Result r)) w.1.stands;
     }
 
--- the C of code with the same runs, with right tests and limits that serve it, runs as the rules say
-pub runs-as-rules : (c : Chart) (b : Bounds) (k : Code) (T : Tests) (limits : Bounds) → IsValid c
-    → HasSameRuns (code_of_chart c) k → Serves c b k T limits → AfterIsRight T k
-    → RunsAsRules c b k T limits (plans_of k)
-runs-as-rules c b k T limits valid same serves right int s events moments most shape all run =
+-- the C of code with the same runs, with right tests, limits and room that serve it, runs as the rules say
+pub runs-as-rules : (c : Chart) (b : Bounds) (k : Code) (T : Tests) (limits : Bounds) (room : ℕ) → IsValid c
+    → HasSameRuns (code_of_chart c) k → Serves c b k T limits room → AfterIsRight T k
+    → RunsAsRules c b k T limits room (plans_of k)
+runs-as-rules c b k T limits room valid same serves right int s events moments most shape all run =
     let names : k.names ≡ c.names = same.names ∙ names-same c in
     let tree : k.tree ≡ c.tree = same.tree ∙ tree-same c in
-    runs-on k T limits (plans_of k) int same.well_formed
+    runs-on k T limits room (plans_of k) int same.well_formed
     (ap (λ (n : Names). length n.states) names ∙ valid.state_names ∙ ap (λ (t : Tree). state_count t) (sym tree))
     (small-results c k valid same) right (plans_are k same.well_formed) most s events moments shape
     (subst (λ (n : Names). AllGiven n events) (sym names) all) (serves.runs events moments run)
@@ -70,14 +73,18 @@ may-end (Some faults.Steps) = refl
 may-end (Some (faults.Overflow v)) = tt
 may-end (Some faults.Zero) = tt
 
-all-may-end : (moments : List Moment) → AllByRecursion (λ (m : Moment). MayEnd all_tests m.fault) moments
-all-may-end [] = tt
-all-may-end (m ∷ moments) = (may-end m.fault, all-may-end moments)
-
--- so all tests serve, with the bounds as limits
+-- and its outputs are no more than its steps, so all tests serve, with the bounds as limits
 pub all-serve : (c : Chart) (b : Bounds) (k : Code) → IsValid c → HasSameRuns (code_of_chart c) k
-    → Serves c b k all_tests b
+    → Serves c b k all_tests b b.steps
 all-serve c b k valid same = record {
-  runs = λ events moments run. (same.runs b events moments).0 ((code_runs c valid b events moments).0 run);
-  ends = λ events moments all run. all-may-end moments;
+  runs = runs;
+  ends = λ events moments all run.
+      run_ends (MayEndIn all_tests b.steps) (Starts k b) (Reacts k b)
+      (λ m starts. record { fault = may-end m.fault; outputs = start_few k b m.world m.fault starts })
+      (λ w e m reacts. record { fault = may-end m.fault; outputs = reaction_few k b w m.world e m.fault reacts })
+      events moments (runs events moments run);
 }
+  where
+    runs : (events : List EventWithInputs) (moments : List Moment) → RulesRun c b events moments
+        → CodeRun k b events moments
+    runs events moments run = (same.runs b events moments).0 ((code_runs c valid b events moments).0 run)

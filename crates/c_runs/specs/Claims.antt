@@ -11,22 +11,23 @@ use Rattle.c_subset.specs.declared.trees.Width.{Width}
 use Rattle.c_subset.specs.Meaning.{bits, Store}
 use Rattle.c_procedures.specs.Statements.{Block}
 use Rattle.c_functions.specs.Files.{shape_of}
-use Rattle.c_functions.specs.Moments.{MayEnd}
+use Rattle.c_functions.specs.Moments.{MayEndIn}
 use Rattle.c_functions.specs.Plans.{Tests}
 use Rattle.c_functions.specs.Starts.{file_of, HasShape, AllGiven, RunsOn}
 
--- Under the limits code runs as the chart does under its bounds, and no run is ended by a bound that isn't tested.
-pub record Serves (c : Chart) (b : Bounds) (k : Code) (T : Tests) (limits : Bounds) : Type 0 where
+-- Under the limits code runs as the chart does under its bounds, no run is ended by a bound that isn't tested, and
+-- there is room for what each event puts out.
+pub record Serves (c : Chart) (b : Bounds) (k : Code) (T : Tests) (limits : Bounds) (room : ℕ) : Type 0 where
   pub runs : (events : List EventWithInputs) (moments : List Moment) → RulesRun c b events moments
       → CodeRun k limits events moments
   pub ends : (events : List EventWithInputs) (moments : List Moment) → AllGiven c.names events
-      → RulesRun c b events moments → AllByRecursion (λ (m : Moment). MayEnd T m.fault) moments
+      → RulesRun c b events moments → AllByRecursion (MayEndIn T room) moments
 
--- The C of code, with these tests and limits, runs as the rules say under these bounds: for all events with inputs and
--- widths of int up to 32 bits, from every struct of its type the start and the reactions show the moments of the rules,
--- and no call goes wrong.
-abbrev pub RunsAsRules : Chart → Bounds → Code → Tests → Bounds → (ℕ → Block) → Type 0
-RunsAsRules c b k T limits bodies =
+-- The C of code, with these tests, limits and room for outputs, runs as the rules say under these bounds: for all
+-- events with inputs and widths of int up to 32 bits, from every struct of its type the start and the reactions show the
+-- moments of the rules, and no call goes wrong.
+abbrev pub RunsAsRules : Chart → Bounds → Code → Tests → Bounds → ℕ → (ℕ → Block) → Type 0
+RunsAsRules c b k T limits room bodies =
     (int : Width) (s : Store) (events : List EventWithInputs) (moments : List Moment)
-    → bits int ≤ 32 → HasShape (shape_of k T limits) s → AllGiven c.names events → RulesRun c b events moments
-    → RunsOn (shape_of k T limits) (file_of k T limits bodies) int s events moments
+    → bits int ≤ 32 → HasShape (shape_of k T limits room) s → AllGiven c.names events → RulesRun c b events moments
+    → RunsOn (shape_of k T limits room) (file_of k T limits room bodies) int s events moments

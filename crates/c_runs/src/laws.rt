@@ -1,4 +1,5 @@
 //! What holds of the C of every valid chart.
+ghost use Rattle.std.specs.Prelude.{ℕ};
 ghost use Rattle.flow_base.specs.declared.bounds.Bounds.{Bounds};
 ghost use Rattle.checked_chart.specs.Chart.{Chart};
 ghost use Rattle.checked_chart.specs.Valid.{IsValid};
@@ -12,19 +13,20 @@ ghost use Rattle.c_functions.specs.Plans.{Tests, all_tests};
 ghost use Rattle.c_runs.specs.Claims.{RunsAsRules, Serves};
 
 /// The C that is written for the smaller code of a valid chart under its bounds, with all tests,
-/// runs as the rules say: its start and its reactions never go wrong, and after each call the
-/// struct shows the active states, the remembered children, the data, the outputs and the fault
-/// that the rules give.
+/// and room for as many outputs as steps, runs as the rules say: its start and its reactions never
+/// go wrong, and after each call the struct shows the active states, the remembered children, the
+/// data, the outputs and the fault that the rules give.
 pub fn files_run_as_charts()
     ensures { (c : Chart) (b : Bounds) (k : Code) → IsValid c → IsShrunk (code_of_chart c) k
-        → RunsAsRules c b k all_tests b (plans_of k) }
+        → RunsAsRules c b k all_tests b b.steps (plans_of k) }
 {}
 
 /// The same of the C that is written for any code which has the runs of the code of a valid chart,
-/// is well formed, declares what it does, and keeps its results; with tests and limits that serve
-/// it, where the result of each procedure that can fail is tested.
+/// is well formed, declares what it does, and keeps its results; with tests, limits and room for
+/// outputs that serve it, where the result of each procedure that can fail is tested.
 pub fn files_of_code_with_the_same_runs_run_as_charts()
-    ensures { (c : Chart) (b : Bounds) (k : Code) (T : Tests) (limits : Bounds) → IsValid c
-        → HasSameRuns (code_of_chart c) k → Serves c b k T limits
-        → AfterIsRight T k → RunsAsRules c b k T limits (plans_of k) }
+    ensures { (c : Chart) (b : Bounds) (k : Code) (T : Tests) (limits : Bounds)
+        (room : ℕ) → IsValid c
+        → HasSameRuns (code_of_chart c) k → Serves c b k T limits room
+        → AfterIsRight T k → RunsAsRules c b k T limits room (plans_of k) }
 {}

@@ -52,7 +52,7 @@ can_be_written K k same is p =
     (record {
       each =
           λ i x got.
-          sound_get (shape_of k K.tests K.bounds) p 0 i (instructions k.procedures p) x (sound_at k is p) got;
+          sound_get (shape_of k K.tests K.bounds K.outputs) p 0 i (instructions k.procedures p) x (sound_at k is p) got;
       short =
           short_at k.procedures.procs p (or_false (nat_lt PROC_LIMIT (length k.procedures.procs)) _ is.few).1;
     })
@@ -95,19 +95,19 @@ get_after f from (suc n) i more =
 
 -- the functions of the file, under the shape of the code
 functions_are : (K : Shape) (k : Code) → IsShapeOf K k
-    → (file_of k K.tests K.bounds (plans_of k)).functions
+    → (file_of k K.tests K.bounds K.outputs (plans_of k)).functions
     ≡ map (λ p. procedure_c K (plans_of k p)) (range_with_len 0 K.procs)
     ++ later_functions K k.procedures.start k.procedures.react
 unfolding functions_c
 functions_are K k same =
-    let S = shape_of k K.tests K.bounds in
+    let S = shape_of k K.tests K.bounds K.outputs in
     append_assoc (map (λ p. procedure_c S (plans_of k p)) (range_with_len 0 S.procs)) _ _
     ∙ ap (λ (T : Shape). map (λ p. procedure_c T (plans_of k p)) (range_with_len 0 T.procs)
     ++ later_functions T k.procedures.start k.procedures.react) (sym same)
 
 -- the function of a procedure has its number
 pub procedure_there : (K : Shape) (k : Code) → IsShapeOf K k → (n : ℕ) → n < K.procs
-    → slice_get (file_of k K.tests K.bounds (plans_of k)).functions n ≡ Some (procedure_c K (plans_of k n))
+    → slice_get (file_of k K.tests K.bounds K.outputs (plans_of k)).functions n ≡ Some (procedure_c K (plans_of k n))
 procedure_there K k same n lt =
     ap (λ gs. slice_get gs n) (functions_are K k same)
     ∙ get_made (λ p. procedure_c K (plans_of k p)) 0 K.procs n
@@ -116,7 +116,7 @@ procedure_there K k same n lt =
 
 -- the others come after those of all procedures
 pub later_there : (K : Shape) (k : Code) → IsShapeOf K k → (n : ℕ) → K.procs ≤ n
-    → slice_get (file_of k K.tests K.bounds (plans_of k)).functions n
+    → slice_get (file_of k K.tests K.bounds K.outputs (plans_of k)).functions n
     ≡ slice_get (later_functions K k.procedures.start k.procedures.react) (n - K.procs)
 later_there K k same n le =
     let e : n ≡ K.procs + (n - K.procs) = omega arith in

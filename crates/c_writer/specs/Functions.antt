@@ -11,9 +11,9 @@ use Rattle.c_functions.specs.Layout.{on_c, bare_c}
 use Rattle.c_functions.specs.Plans.{Shape, layout}
 use Rattle.c_functions.specs.Starts.{start_c, react_c}
 
--- the shape is that of the code, with its own tests and bounds
+-- the shape is that of the code, with its own tests, bounds and room for outputs
 abbrev pub IsShapeOf : Shape → Code → Type 0
-IsShapeOf K k = K ≡ shape_of k K.tests K.bounds
+IsShapeOf K k = K ≡ shape_of k K.tests K.bounds K.outputs
 
 -- the functions after those of the procedures
 abbrev pub later_functions : Shape → ℕ → ℕ → List Function

@@ -96,7 +96,8 @@ pub fn function(
     requires shape { IsShapeOf (shape_seen shape.now) (code_of code.now) }
     requires number { number < (shape_seen shape.now).procs + 10 }
     ensures { IfOk result (HasFunction (file_of (code_of code.now) (shape_seen shape.now).tests
-        (shape_seen shape.now).bounds (plans_of (code_of code.now))) number) }
+        (shape_seen shape.now).bounds (shape_seen shape.now).outputs (plans_of (code_of code.now)))
+        number) }
 {
     if number < shape.procs {
         return procedure_at(alloc, shape, code, number);

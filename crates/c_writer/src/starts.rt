@@ -114,9 +114,9 @@ fn put_outside(
 }
 
 /// Appends that no step is used: nothing where steps aren't counted.
-fn put_uncounted(shape: &FileShape<'_>, lines: &mut List<Line>) -> Result<(), Memory>
+fn put_clear_used(shape: &FileShape<'_>, lines: &mut List<Line>) -> Result<(), Memory>
     ensures { OnOk result (Appends (items_of lines.old) (items_of lines.new)
-        (starts.uncounted_c (shape_seen shape.now))) }
+        (starts.clear_used_c (shape_seen shape.now))) }
 {
     if shape.tests.steps {
         put_store(lines, shape.used_field(), number(0))
@@ -130,7 +130,7 @@ fn put_clear_counts(shape: &FileShape<'_>, lines: &mut List<Line>) -> Result<(),
     ensures { OnOk result (Appends (items_of lines.old) (items_of lines.new)
         (clear_counts (shape_seen shape.now))) }
 {
-    put_uncounted(shape, lines)?;
+    put_clear_used(shape, lines)?;
     put_store(lines, shape.outs_field(), number(0))?;
     put_store(lines, shape.noted_field(), number(0))
 }

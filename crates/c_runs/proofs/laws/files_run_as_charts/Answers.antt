@@ -8,6 +8,6 @@ use Rattle.c_runs.proofs.laws.files_run_as_charts.Goals as goal
 pub returns : goal.returns
 returns c chart b k valid shrunk =
     let same = same_shrunk (code_of_chart chart) k shrunk in
-    runs-as-rules chart b k all_tests b valid same (all-serve chart b k valid same) (record {
+    runs-as-rules chart b k all_tests b b.steps valid same (all-serve chart b k valid same) (record {
       tested = λ p j x e can. refl;
     })

@@ -25,28 +25,29 @@ pub no_function : Function
 no_function = record { result = Truth; parameters = []; body = End }
 
 -- those of procedures stand first, then eight others, then the start and the reaction
-first_count : (k : Code) (T : Tests) (b : Bounds) (bodies : ℕ → plan.Block)
-    → length (functions_c (shape_of k T b) bodies) ≡ length k.procedures.procs + 8
+first_count : (k : Code) (T : Tests) (b : Bounds) (room : ℕ) (bodies : ℕ → plan.Block)
+    → length (functions_c (shape_of k T b room) bodies) ≡ length k.procedures.procs + 8
 unfolding functions_c
-first_count k T b bodies =
-    length-append (map (λ q. procedure_c (shape_of k T b) (bodies q)) (range_with_len 0 (length k.procedures.procs))) _
+first_count k T b room bodies =
+    length-append
+    (map (λ q. procedure_c (shape_of k T b room) (bodies q)) (range_with_len 0 (length k.procedures.procs))) _
     ∙ ap (λ (n : ℕ). n + 8)
-    (range-length (λ q. procedure_c (shape_of k T b) (bodies q)) 0 (length k.procedures.procs))
+    (range-length (λ q. procedure_c (shape_of k T b room) (bodies q)) 0 (length k.procedures.procs))
 
 -- there are ten after those of procedures
-file_count : (k : Code) (T : Tests) (b : Bounds) (bodies : ℕ → plan.Block)
-    → length (file_of k T b bodies).functions ≡ length k.procedures.procs + 10
-file_count k T b bodies =
-    let all : length (file_of k T b bodies).functions ≡ length (functions_c (shape_of k T b) bodies) + 2 =
-    length-append (functions_c (shape_of k T b) bodies) _ in
-    omega (arith, all, first_count k T b bodies)
+file_count : (k : Code) (T : Tests) (b : Bounds) (room : ℕ) (bodies : ℕ → plan.Block)
+    → length (file_of k T b room bodies).functions ≡ length k.procedures.procs + 10
+file_count k T b room bodies =
+    let all : length (file_of k T b room bodies).functions ≡ length (functions_c (shape_of k T b room) bodies) + 2 =
+    length-append (functions_c (shape_of k T b room) bodies) _ in
+    omega (arith, all, first_count k T b room bodies)
 
 pub functions_count : (made : Made) → IsMade made → made.shape.procs + 10 ≡ length (functions_of made)
 unfolding functions_of
 functions_count made is =
     ap (λ (K : Shape). K.procs + 10) is.shape
     ∙ sym (file_count (code_of made.code.now) (shape_seen made.shape).tests made.shape.bounds
-    (plans_of (code_of made.code.now)))
+    made.shape.outputs (plans_of (code_of made.code.now)))
 
 -- there is one function at a place
 pub one_function : (functions : List Function) (n : ℕ) (f : declared.Function) (g : Function)

@@ -16,10 +16,10 @@ module _ (L : Labels) (functions : List Function) where
       (λ h. b.complete f (a.sound f h)) (λ h. a.complete f (b.sound f h)))
 
   -- and so there is one text
-  pub one_text : (said : List (List ℕ)) (steps notes : ℕ) (text text' : List ℕ)
-      → IsSourceText L said steps notes functions text → IsSourceText L said steps notes functions text'
+  pub one_text : (said : List (List ℕ)) (steps outputs notes : ℕ) (text text' : List ℕ)
+      → IsSourceText L said steps outputs notes functions text → IsSourceText L said steps outputs notes functions text'
       → text ≡ text'
-  one_text said steps notes text text' a b =
+  one_text said steps outputs notes text text' a b =
       a.is_text
-      ∙ ap (λ (written : List Bool). source_text L said steps notes functions written)
+      ∙ ap (λ (written : List Bool). source_text L said steps outputs notes functions written)
       (same_written a.written b.written a.reached b.reached) ∙ sym b.is_text

@@ -19,11 +19,12 @@ four_printed old first second third fourth one two three four a b c d =
 pub first_printed : (old text now : List ℕ) → old ≡ [] → now ≡ old ++ text → now ≡ text
 first_printed old text now none is = is ∙ ap (λ (t : List ℕ). t ++ text) none
 
--- six texts
-pub six_printed : (old a b c d e f one two three four five six : List ℕ)
+-- eight texts
+pub eight_printed : (old a b c d e f g h one two three four five six seven eight : List ℕ)
     → one ≡ old ++ a → two ≡ one ++ b → three ≡ two ++ c → four ≡ three ++ d → five ≡ four ++ e → six ≡ five ++ f
-    → six ≡ old ++ (a ++ (b ++ (c ++ (d ++ (e ++ f)))))
-six_printed old a b c d e f one two three four five six p q r s t u =
-    two_printed old a (b ++ (c ++ (d ++ (e ++ f)))) one six p
-    (two_printed one b (c ++ (d ++ (e ++ f))) two six q
-    (four_printed two c d e f three four five six r s t u))
+    → seven ≡ six ++ g → eight ≡ seven ++ h
+    → eight ≡ old ++ (a ++ (b ++ (c ++ (d ++ (e ++ (f ++ (g ++ h)))))))
+eight_printed old a b c d e f g h one two three four five six seven eight p q r s t u v w =
+    four_printed old a b c (d ++ (e ++ (f ++ (g ++ h)))) one two three eight p q r
+    (two_printed three d (e ++ (f ++ (g ++ h))) four eight s
+    (four_printed four e f g h five six seven eight t u v w))

@@ -16,8 +16,8 @@ use Rattle.c_file.specs.Comments.{comments_for}
 use Rattle.c_file.specs.Source.{IsSourceText}
 use Rattle.c_file.specs.Files.{chart_name, IsSourceFor}
 
-module _ (c : Chart) (T : Tests) (limits : Bounds) (origins : List ℕ) (tags : List Tag) (k : Code) (K : Shape)
-    (shape_is : K ≡ shape_of k T limits) where
+module _ (c : Chart) (T : Tests) (limits : Bounds) (room : ℕ) (origins : List ℕ) (tags : List Tag) (k : Code)
+    (K : Shape) (shape_is : K ≡ shape_of k T limits room) where
   -- names are made of what the chart declares, and of how many procedures the code has
   labels_are : (labels : Labels) (name : List ℕ) (names : Names) (t : Tree)
       → labels ≡ labels_for name names t K.procs → name ≡ chart_name c → names ≡ c.names → t ≡ c.tree
@@ -33,15 +33,17 @@ module _ (c : Chart) (T : Tests) (limits : Bounds) (origins : List ℕ) (tags : 
   pub source_is : (text : List ℕ) (labels : Labels) (said : List (List ℕ)) (name : List ℕ) (names : Names) (t : Tree)
       → labels ≡ labels_for name names t K.procs → name ≡ chart_name c → names ≡ c.names → t ≡ c.tree
       → said ≡ comments_for c.tree c.names (parts_of c) origins tags
-      → IsSourceText labels said K.bounds.steps K.notes (file_of k K.tests K.bounds (plans_of k)).functions text
-      → IsSourceFor c T limits k origins tags text
+      → IsSourceText labels said K.bounds.steps K.outputs K.notes
+      (file_of k K.tests K.bounds K.outputs (plans_of k)).functions text
+      → IsSourceFor c T limits room k origins tags text
   source_is text labels said name names t are name_is names_is tree_is said_is is =
       subst (λ (S : Shape). IsSourceText (labels_for (chart_name c) c.names c.tree (length k.procedures.procs))
-      (comments_for c.tree c.names (parts_of c) origins tags) S.bounds.steps S.notes
-      (file_of k S.tests S.bounds (plans_of k)).functions text) shape_is
+      (comments_for c.tree c.names (parts_of c) origins tags) S.bounds.steps S.outputs S.notes
+      (file_of k S.tests S.bounds S.outputs (plans_of k)).functions text) shape_is
       (subst (λ (xs : List (List ℕ)). IsSourceText (labels_for (chart_name c) c.names c.tree
-      (length k.procedures.procs)) xs K.bounds.steps K.notes (file_of k K.tests K.bounds (plans_of k)).functions text)
+      (length k.procedures.procs)) xs K.bounds.steps K.outputs K.notes
+      (file_of k K.tests K.bounds K.outputs (plans_of k)).functions text)
       said_is
-      (subst (λ (L : Labels). IsSourceText L said K.bounds.steps K.notes
-      (file_of k K.tests K.bounds (plans_of k)).functions text)
+      (subst (λ (L : Labels). IsSourceText L said K.bounds.steps K.outputs K.notes
+      (file_of k K.tests K.bounds K.outputs (plans_of k)).functions text)
       (labels_are labels name names t are name_is names_is tree_is) is))

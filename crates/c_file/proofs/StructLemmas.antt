@@ -12,7 +12,8 @@ use Rattle.c_functions.specs.Plans.{Tests, note_row, out_row}
 use Rattle.c_functions.specs.Starts.{HasShape, first_values, state_values, zero_word}
 
 -- code that declares the same has the same fields
-module _ (k k' : Code) (T T' : Tests) (b b' : Bounds) (tree : k'.tree ≡ k.tree) (names : k'.names ≡ k.names) where
+module _ (k k' : Code) (T T' : Tests) (b b' : Bounds) (room room' : ℕ)
+    (tree : k'.tree ≡ k.tree) (names : k'.names ≡ k.names) where
   -- what they begin with, by the names and the tree
   abbrev pub values_by : Names → Tree → List CValue
   values_by n t =
@@ -20,15 +21,16 @@ module _ (k k' : Code) (T T' : Tests) (b b' : Bounds) (tree : k'.tree ≡ k.tree
       ++ zero_word ∷ zero_word ∷ zero_word ∷ zero_word ∷ zero_word ∷ state_values t
 
   -- it is the same
-  values_same : first_values (shape_of k T b) ≡ first_values (shape_of k' T' b')
+  values_same : first_values (shape_of k T b room) ≡ first_values (shape_of k' T' b' room')
   unfolding first_values
   values_same = sym (ap (λ (n : Names). values_by n k'.tree) names ∙ ap (λ (t : Tree). values_by k.names t) tree)
 
   -- so is the struct, where there is room for as many outputs and notes
-  pub struct_same : (s : Store) → b.steps ≡ b'.steps → (shape_of k T b).notes ≡ (shape_of k' T' b').notes
-      → HasShape (shape_of k T b) s → HasShape (shape_of k' T' b') s
-  struct_same s steps notes has = record {
+  pub struct_same : (s : Store) → room ≡ room'
+      → (shape_of k T b room).notes ≡ (shape_of k' T' b' room').notes
+      → HasShape (shape_of k T b room) s → HasShape (shape_of k' T' b' room') s
+  struct_same s outputs notes has = record {
     fields = has.fields ∙ ap (λ (xs : List CValue). map (λ (x : CValue). x.type) xs) values_same;
-    out = subst (λ (n : ℕ). HasRow s.rows out_row n []) steps has.out;
+    out = subst (λ (n : ℕ). HasRow s.rows out_row n []) outputs has.out;
     note = subst (λ (n : ℕ). HasRow s.rows note_row n []) notes has.note;
   }

@@ -25,7 +25,7 @@ pub record IsMade (made : Made) : Type 0 where
 -- the functions of the file
 unfoldable pub functions_of : Made → List Function
 functions_of made =
-    (file_of (code_of made.code.now) (shape_seen made.shape).tests made.shape.bounds
+    (file_of (code_of made.code.now) (shape_seen made.shape).tests made.shape.bounds made.shape.outputs
     (plans_of (code_of made.code.now))).functions
 
 -- one more function, which has that number: its calls, and whether it names a type of 128 bits

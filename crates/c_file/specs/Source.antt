@@ -49,11 +49,12 @@ opening_text chart =
 
 -- A type that C refuses where the header is of other bounds or of other code than the source, so that the struct has
 -- other arrays: its size would be negative
-unfoldable pub fits_text : List ℕ → ℕ → ℕ → List ℕ
-fits_text chart steps notes =
+unfoldable pub fits_text : List ℕ → ℕ → ℕ → ℕ → List ℕ
+fits_text chart steps outputs notes =
     (codes "/* C refuses this type where the header is not that of this source. */\ntypedef char " ++ chart)
     ++ ((codes "_header_fits[((" ++ chart) ++ ((codes "_STEPS == " ++ decimal steps)
-    ++ ((codes ") && (" ++ chart) ++ ((codes "_NOTES == " ++ decimal notes) ++ codes ")) ? 1 : -1];\n\n"))))
+    ++ ((codes ") && (" ++ chart) ++ ((codes "_OUTPUTS == " ++ decimal outputs)
+    ++ ((codes ") && (" ++ chart) ++ ((codes "_NOTES == " ++ decimal notes) ++ codes ")) ? 1 : -1];\n\n"))))))
 
 -- the types of 128 bits, where one is named
 abbrev pub wide_text : Bool → List ℕ
@@ -85,21 +86,22 @@ functions_text L said written f [] = []
 functions_text L said written f (g ∷ gs) = written_text L said written f g ++ functions_text L said written (f + 1) gs
 
 -- what stands before the functions
-abbrev pub front_text : Labels → ℕ → ℕ → List Function → List Bool → List ℕ
-front_text L steps notes functions written =
+abbrev pub front_text : Labels → ℕ → ℕ → ℕ → List Function → List Bool → List ℕ
+front_text L steps outputs notes functions written =
     opening_text L.chart
-    ++ (fits_text L.chart steps notes
+    ++ (fits_text L.chart steps outputs notes
     ++ (wide_text (any_wide written 0 functions) ++ declarations_text L written 0 functions))
 
--- the source of those of the functions that are written, for a struct with so many outputs and notes
-unfoldable pub source_text : Labels → List (List ℕ) → ℕ → ℕ → List Function → List Bool → List ℕ
-source_text L said steps notes functions written =
-    front_text L steps notes functions written ++ functions_text L said written 0 functions
+-- the source of those of the functions that are written, for so many steps and a struct with room for so many outputs
+-- and notes
+unfoldable pub source_text : Labels → List (List ℕ) → ℕ → ℕ → ℕ → List Function → List Bool → List ℕ
+source_text L said steps outputs notes functions written =
+    front_text L steps outputs notes functions written ++ functions_text L said written 0 functions
 
--- The text is the source of the functions that are reached, of which those of procedures do what is said, for a struct
--- with so many outputs and notes
-pub record IsSourceText (L : Labels) (said : List (List ℕ)) (steps notes : ℕ) (functions : List Function)
+-- The text is the source of the functions that are reached, of which those of procedures do what is said, for so many
+-- steps and a struct with room for so many outputs and notes
+pub record IsSourceText (L : Labels) (said : List (List ℕ)) (steps outputs notes : ℕ) (functions : List Function)
     (text : List ℕ) : Type 0 where
   pub written : List Bool
   pub reached : AreReached L functions written
-  pub is_text : text ≡ source_text L said steps notes functions written
+  pub is_text : text ≡ source_text L said steps outputs notes functions written

@@ -34,14 +34,22 @@ fn header_of(alloc: Global, chart: &Chart, written: &Written) -> Result<String, 
         written.now.faster.tags.items written.now.origins.items }
     ensures { IfOk result (λ text. string_bytes text ≡ header_text (chart_name (chart_of chart.now))
         (shape_of (code_of written.now.faster.code) (tests_seen written.now.tests)
-        written.now.limits)) }
+        written.now.limits written.now.outputs) written.now.calls) }
 {
     let names = chart.names();
     let tree = chart.shape();
     let code = &written.faster.code;
-    let shape = FileShape::make(alloc, names, tree, code, &written.tests, written.limits)?;
+    let shape = FileShape::make(
+        alloc,
+        names,
+        tree,
+        code,
+        &written.tests,
+        written.limits,
+        written.outputs,
+    )?;
     let mut text = String::new(alloc);
-    match print_header(alloc, &mut text, name_of(chart), &shape) {
+    match print_header(alloc, &mut text, name_of(chart), &shape, written.calls) {
         Ok(()) => Ok(text),
         Err(_) => Err(Memory),
     }
@@ -73,13 +81,21 @@ fn source_of(alloc: Global, chart: &Chart, written: &Written) -> Result<String, 
     requires { IsWritten (chart_of chart.now) (code_of written.now.faster.code)
         written.now.faster.tags.items written.now.origins.items }
     ensures { IfOk result (λ text. IsSourceFor (chart_of chart.now) (tests_seen written.now.tests)
-        written.now.limits (code_of written.now.faster.code) written.now.origins.items
-        written.now.faster.tags.items (string_bytes text)) }
+        written.now.limits written.now.outputs (code_of written.now.faster.code)
+        written.now.origins.items written.now.faster.tags.items (string_bytes text)) }
 {
     let names = chart.names();
     let tree = chart.shape();
     let code = &written.faster.code;
-    let shape = FileShape::make(alloc, names, tree, code, &written.tests, written.limits)?;
+    let shape = FileShape::make(
+        alloc,
+        names,
+        tree,
+        code,
+        &written.tests,
+        written.limits,
+        written.outputs,
+    )?;
     let name = name_of(chart);
     let made = Made {
         name,

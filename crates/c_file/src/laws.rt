@@ -24,22 +24,23 @@ pub fn the_smaller_code_of_a_chart_is_one()
         → IsCodeFor c k' origins' → (k ≡ k') × (origins ≡ origins') }
 {}
 
-/// The header of a chart declares the struct of its source, where their limits have the same steps
-/// and their code has room for as many notes, which a C compiler checks: what has the shape of the
-/// one has that of the other.
+/// The header of a chart declares the struct of its source, where both have room for as many
+/// outputs and as many notes, which a C compiler checks: what has the shape of the one has that of
+/// the other.
 pub fn the_struct_of_the_header_is_that_of_the_source()
     ensures { (c : Chart) (k k' : Code) (tags tags' : List Tag) (origins origins' : List ℕ)
-        (T T' : Tests) (limits limits' : Bounds) (s : Store) → IsWritten c k tags origins
-        → IsWritten c k' tags' origins' → limits.steps ≡ limits'.steps
-        → (shape_of k T limits).notes ≡ (shape_of k' T' limits').notes
-        → HasShape (shape_of k T limits) s → HasShape (shape_of k' T' limits') s }
+        (T T' : Tests) (limits limits' : Bounds) (room room' : ℕ) (s : Store)
+        → IsWritten c k tags origins → IsWritten c k' tags' origins' → room ≡ room'
+        → (shape_of k T limits room).notes ≡ (shape_of k' T' limits' room').notes
+        → HasShape (shape_of k T limits room) s → HasShape (shape_of k' T' limits' room') s }
 {}
 
 /// The source for code of a chart is one: which functions are written is told by the code.
 pub fn the_source_for_code_is_one()
-    ensures { (c : Chart) (T : Tests) (limits : Bounds) (k : Code) (origins : List ℕ)
-        (tags : List Tag) (text text' : List ℕ) → IsSourceFor c T limits k origins tags text
-        → IsSourceFor c T limits k origins tags text' → text ≡ text' }
+    ensures { (c : Chart) (T : Tests) (limits : Bounds) (room : ℕ) (k : Code)
+        (origins : List ℕ) (tags : List Tag) (text text' : List ℕ)
+        → IsSourceFor c T limits room k origins tags text
+        → IsSourceFor c T limits room k origins tags text' → text ≡ text' }
 {}
 
 /// The words for what a copy of a procedure is for are one line in which no comment of C ends,

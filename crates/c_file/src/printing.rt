@@ -75,9 +75,15 @@ fn print_opening(out: &mut String, chart: &str) -> Result<(), AllocError>
 
 /// Appends the type that C refuses where the header has other numbers.
 #[tactic(auto, unfolding(crate::specs::Source::fits_text))]
-fn print_fits(out: &mut String, chart: &str, steps: u64, notes: u64) -> Result<(), AllocError>
+fn print_fits(
+    out: &mut String,
+    chart: &str,
+    steps: u64,
+    outputs: u64,
+    notes: u64,
+) -> Result<(), AllocError>
     ensures { OnOk result (string_bytes out.new
-        ≡ string_bytes out.old ++ spec.fits_text chart.now steps notes) }
+        ≡ string_bytes out.old ++ spec.fits_text chart.now steps outputs notes) }
 {
     print_named(
         out,
@@ -86,6 +92,8 @@ fn print_fits(out: &mut String, chart: &str, steps: u64, notes: u64) -> Result<(
     )?;
     print_named(out, "_header_fits[((", chart)?;
     print_number(out, "_STEPS == ", steps)?;
+    print_named(out, ") && (", chart)?;
+    print_number(out, "_OUTPUTS == ", outputs)?;
     print_named(out, ") && (", chart)?;
     print_number(out, "_NOTES == ", notes)?;
     out.push_str(")) ? 1 : -1];\n\n")?;
@@ -210,13 +218,15 @@ fn print_front(out: &mut String, made: &Made<'_>, uses: &Uses) -> Result<(), All
     requires uses { AreUses (labels_of made.now.labels) (functions_of made.now) uses.now }
     ensures { OnOk result (string_bytes out.new ≡ string_bytes out.old
         ++ spec.front_text (labels_of made.now.labels) made.now.shape.bounds.steps
-        made.now.shape.notes (functions_of made.now) uses.now.reached.items) }
+        made.now.shape.outputs made.now.shape.notes (functions_of made.now)
+        uses.now.reached.items) }
 {
     print_opening(out, made.name)?;
     print_fits(
         out,
         made.name,
         u64::from(made.shape.bounds.steps),
+        u64::from(made.shape.outputs),
         made.shape.notes,
     )?;
     print_wide(out, any_wide(made, uses))?;
@@ -229,8 +239,8 @@ fn print_source(alloc: Global, out: &mut String, made: &Made<'_>, uses: &Uses) -
     requires uses { AreUses (labels_of made.now.labels) (functions_of made.now) uses.now }
     ensures { OnOk result (string_bytes out.new ≡ string_bytes out.old
         ++ spec.source_text (labels_of made.now.labels) (said_of made.now.said)
-        made.now.shape.bounds.steps made.now.shape.notes (functions_of made.now)
-        uses.now.reached.items) }
+        made.now.shape.bounds.steps made.now.shape.outputs made.now.shape.notes
+        (functions_of made.now) uses.now.reached.items) }
 {
     let Ok(()) = print_front(out, made, uses) else {
         return Err(Memory);
@@ -243,8 +253,8 @@ fn print_source(alloc: Global, out: &mut String, made: &Made<'_>, uses: &Uses) -
 pub(crate) fn printed_source(alloc: Global, made: &Made<'_>) -> Result<String, Memory>
     requires is { IsMade made.now }
     ensures { IfOk result (λ text. spec.IsSourceText (labels_of made.now.labels)
-        (said_of made.now.said) made.now.shape.bounds.steps made.now.shape.notes
-        (functions_of made.now) (string_bytes text)) }
+        (said_of made.now.said) made.now.shape.bounds.steps made.now.shape.outputs
+        made.now.shape.notes (functions_of made.now) (string_bytes text)) }
 {
     let uses = uses_of(alloc, made)?;
     let mut text = String::new(alloc);

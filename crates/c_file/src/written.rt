@@ -25,6 +25,11 @@ pub(crate) struct Written {
     pub limits: Bounds,
     /// Which faults it tests.
     pub tests: Tests,
+    /// How many events it has room to put out.
+    pub outputs: u32,
+    /// How many calls are open at once at most besides that of the start or of the reaction; none
+    /// where that isn't known.
+    pub calls: Option<u32>,
 }
 
 /// The smaller code of a chart, with the numbers that its procedures had.
@@ -46,7 +51,8 @@ fn is_tested(never_overrun: bool, may_overrun: bool) -> bool
 /// The code for which both files of a chart are written under these bounds. Where it is known that
 /// no event of the code takes as much as a bound allows, its limit is the most that one takes. A
 /// limit is tested unless this is known, or no event of the chart overruns the bounds, and the
-/// result of a call where the procedure can fail. The smaller code is dropped.
+/// result of a call where the procedure can fail. There is room for what an event puts out under
+/// the limits. The smaller code is dropped.
 pub(crate) fn written_code(
     alloc: Global,
     chart: &Chart,
@@ -69,5 +75,7 @@ pub(crate) fn written_code(
         origins: shrunk.origins,
         limits: found.bounds,
         tests,
+        outputs: found.outputs,
+        calls: found.calls,
     })
 }

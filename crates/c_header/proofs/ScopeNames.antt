@@ -320,10 +320,15 @@ each_fixed (suc (suc (suc (suc (suc (suc (suc zero))))))) within =
 each_fixed (suc (suc (suc (suc (suc (suc (suc (suc zero)))))))) within =
     fixed_by (codes "_STEPS") 83 (omega arith) (omega arith) refl refl refl refl refl
 each_fixed (suc (suc (suc (suc (suc (suc (suc (suc (suc zero))))))))) within =
-    fixed_by (codes "_NOTES") 78 (omega arith) (omega arith) refl refl refl refl refl
+    fixed_by (codes "_OUTPUTS") 85 (omega arith) (omega arith) refl refl refl refl refl
 each_fixed (suc (suc (suc (suc (suc (suc (suc (suc (suc (suc zero)))))))))) within =
+    fixed_by (codes "_NOTES") 78 (omega arith) (omega arith) refl refl refl refl refl
+each_fixed (suc (suc (suc (suc (suc (suc (suc (suc (suc (suc (suc zero))))))))))) within =
+    fixed_by (codes "_CALLS") 67 (omega arith) (omega arith) refl refl refl refl refl
+each_fixed (suc (suc (suc (suc (suc (suc (suc (suc (suc (suc (suc (suc zero)))))))))))) within =
     fixed_by (codes "_header_fits") 101 (omega arith) (omega arith) refl refl refl refl refl
-each_fixed (suc (suc (suc (suc (suc (suc (suc (suc (suc (suc (suc i))))))))))) within = absurd (omega (arith, within))
+each_fixed (suc (suc (suc (suc (suc (suc (suc (suc (suc (suc (suc (suc (suc i))))))))))))) within =
+    absurd (omega (arith, within))
 
 all_fixed : AllByRecursion IsFixed fixed_labels
 all_fixed = all_from IsFixed fixed_labels each_fixed
@@ -379,7 +384,9 @@ place name =
     (cond (bytes_eq name (codes "_FAULT_OVERFLOW")) 5
     (cond (bytes_eq name (codes "_FAULT_ZERO")) 6
     (cond (bytes_eq name (codes "_DEPTH")) 7
-    (cond (bytes_eq name (codes "_STEPS")) 8 (cond (bytes_eq name (codes "_NOTES")) 9 10)))))))))
+    (cond (bytes_eq name (codes "_STEPS")) 8
+    (cond (bytes_eq name (codes "_OUTPUTS")) 9
+    (cond (bytes_eq name (codes "_NOTES")) 10 (cond (bytes_eq name (codes "_CALLS")) 11 12)))))))))))
 
 fixed_told : (i : ℕ) → i < length fixed_labels → place (get_or fixed_labels i []) ≡ i
 unfolding place
@@ -394,7 +401,10 @@ fixed_told (suc (suc (suc (suc (suc (suc (suc zero))))))) within = refl
 fixed_told (suc (suc (suc (suc (suc (suc (suc (suc zero)))))))) within = refl
 fixed_told (suc (suc (suc (suc (suc (suc (suc (suc (suc zero))))))))) within = refl
 fixed_told (suc (suc (suc (suc (suc (suc (suc (suc (suc (suc zero)))))))))) within = refl
-fixed_told (suc (suc (suc (suc (suc (suc (suc (suc (suc (suc (suc i))))))))))) within = absurd (omega (arith, within))
+fixed_told (suc (suc (suc (suc (suc (suc (suc (suc (suc (suc (suc zero))))))))))) within = refl
+fixed_told (suc (suc (suc (suc (suc (suc (suc (suc (suc (suc (suc (suc zero)))))))))))) within = refl
+fixed_told (suc (suc (suc (suc (suc (suc (suc (suc (suc (suc (suc (suc (suc i))))))))))))) within =
+    absurd (omega (arith, within))
 
 tests_distinct : (t : Tree) (n : Names) → HasNamedTree t n → AreDistinct (test_labels t n)
 tests_distinct t n h i j li lj e =

@@ -349,7 +349,7 @@ module _ (chart : List ℕ) (K : Shape) (tree : IsTree K.tree) where
   row_lines : rows_text K ≡ arrays_text (struct_rows K) row_labels row_comments_are
   unfolding rows_text row_comments_are member_text
   row_lines =
-      let out_size : List ℕ = decimal K.bounds.steps in
+      let out_size : List ℕ = decimal K.outputs in
       let note_size : List ℕ = decimal K.notes in
       let out_rest : List ℕ = codes "; /* the events that the last event put out */\n" in
       let note_rest : List ℕ = codes "; /* what is to be done before the event goes on */\n" in

@@ -1,5 +1,6 @@
 -- The header of a chart's C.
-use Rattle.std.specs.Prelude.{ℕ, ◌+◌, ◌==◌, List, [], ◌∷◌, ◌++◌, length, codes, decimal, Some, None, if◌then◌else◌}
+use Rattle.std.specs.Prelude.{ℕ, ◌+◌, ◌==◌, List, [], ◌∷◌, ◌++◌, length, codes, decimal, Option, Some, None}
+use Rattle.std.specs.Prelude.{if◌then◌else◌}
 use Rattle.flow_base.specs.declared.bounds.Bounds.{Bounds}
 use Rattle.flow_base.specs.declared.fault.Fault.TheVariants as faults
 use Rattle.active_config.specs.Tree.{state_count}
@@ -86,14 +87,31 @@ faults_text chart =
     ++ (define_line chart (codes "_FAULT_") (codes "OVERFLOW") (fault_number (Some (faults.Overflow 0)))
     ++ define_line chart (codes "_FAULT_") (codes "ZERO") (fault_number (Some faults.Zero))))))
 
--- the bounds, and how many entries note[] has
-unfoldable pub bounds_text : List ℕ → Bounds → ℕ → List ℕ
-bounds_text chart bounds notes =
+-- the bounds, and how many entries the arrays have
+unfoldable pub bounds_text : List ℕ → Bounds → ℕ → ℕ → List ℕ
+bounds_text chart bounds outputs notes =
     codes "\n/* The bounds of an event: how deep sends nest, and how many steps it takes. */\n"
     ++ (define_line chart (codes "_") (codes "DEPTH") bounds.depth
     ++ (define_line chart (codes "_") (codes "STEPS") bounds.steps
-    ++ (codes "\n/* How many entries note[] has. */\n"
-    ++ (define_line chart (codes "_") (codes "NOTES") notes ++ codes "\n"))))
+    ++ (codes "\n/* How many entries out[] and note[] have. */\n"
+    ++ (define_line chart (codes "_") (codes "OUTPUTS") outputs
+    ++ define_line chart (codes "_") (codes "NOTES") notes))))
+
+-- how many functions of parts of the chart are open at once at most
+unfoldable pub most_calls_text : List ℕ → ℕ → List ℕ
+most_calls_text chart most =
+    codes "\n/* How many of the functions p0, p1 and so on are open at once at most. */\n"
+    ++ (define_line chart (codes "_") (codes "CALLS") most ++ codes "\n")
+
+-- what stands instead where that isn't known
+abbrev pub own_calls_text : List ℕ
+own_calls_text =
+    codes "\n/* Functions may call themselves, by way of others too, as often as the bounds allow. */\n\n"
+
+-- where the most calls are known that are open besides that of the start or of the reaction, there is one function more
+abbrev pub calls_text : List ℕ → Option ℕ → List ℕ
+calls_text chart (Some calls) = most_calls_text chart (calls + 1)
+calls_text chart None = own_calls_text
 
 -- ---- states
 
@@ -132,7 +150,7 @@ states_text chart L K about = texts_below (state_text chart L K about) (state_co
 -- the arrays
 unfoldable pub rows_text : Shape → List ℕ
 rows_text K =
-    codes "    uint32_t out[" ++ (decimal K.bounds.steps
+    codes "    uint32_t out[" ++ (decimal K.outputs
     ++ (codes "]; /* the events that the last event put out */\n    uint32_t note["
     ++ (decimal K.notes ++ codes "]; /* what is to be done before the event goes on */\n")))
 
@@ -164,12 +182,13 @@ react_text chart L K =
 -- ---- the whole
 
 -- what stands before the struct
-unfoldable pub front_text : List ℕ → Shape → List ℕ
-front_text chart K =
+unfoldable pub front_text : List ℕ → Shape → Option ℕ → List ℕ
+front_text chart K calls =
     named_text (codes "/* The C of the chart ") chart (codes ", written by chart_to_c. Do not edit.\n\n")
     ++ (usage_text chart
     ++ (needs_text chart
-    ++ (events_text chart K.names.events ++ (faults_text chart ++ bounds_text chart K.bounds K.notes))))
+    ++ (events_text chart K.names.events
+    ++ (faults_text chart ++ (bounds_text chart K.bounds K.outputs K.notes ++ calls_text chart calls)))))
 
 -- what stands from the struct on
 unfoldable pub back_text : List ℕ → Labels → Shape → List ℕ
@@ -177,7 +196,7 @@ back_text chart L K =
     struct_text chart L K
     ++ (start_text L K ++ (react_text chart L K ++ (states_text chart L K Test ++ codes "#endif\n")))
 
--- the header of a chart of that name
-unfoldable pub header_text : List ℕ → Shape → List ℕ
-header_text chart K =
-    front_text chart K ++ back_text chart (labels_for chart K.names K.tree K.procs) K
+-- the header of a chart of that name, where so many calls are open at once at most, if that is known
+unfoldable pub header_text : List ℕ → Shape → Option ℕ → List ℕ
+header_text chart K calls =
+    front_text chart K calls ++ back_text chart (labels_for chart K.names K.tree K.procs) K

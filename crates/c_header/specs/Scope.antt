@@ -41,13 +41,13 @@ test_label t n x = codes "_in_" ++ path_text Label t n x
 abbrev pub test_labels : Tree → Names → List (List ℕ)
 test_labels t n = map (test_label t n) (range_with_len 1 (state_count t - 1))
 
--- after the chart's name, the names that all files have: the struct, an event without a name, faults, bounds, how many
--- notes there is room for, and the check of the source whether the header fits it
+-- after the chart's name, the names that all files have: the struct, an event without a name, faults, bounds, for how
+-- many outputs and notes there is room, how many calls are open, and the check of the source whether the header fits it
 abbrev pub fixed_labels : List (List ℕ)
 fixed_labels =
     codes "_chart" ∷ codes "_TICK" ∷ codes "_FAULT_NONE" ∷ codes "_FAULT_DEPTH" ∷ codes "_FAULT_STEPS"
-    ∷ codes "_FAULT_OVERFLOW" ∷ codes "_FAULT_ZERO" ∷ codes "_DEPTH" ∷ codes "_STEPS" ∷ codes "_NOTES"
-    ∷ codes "_header_fits" ∷ []
+    ∷ codes "_FAULT_OVERFLOW" ∷ codes "_FAULT_ZERO" ∷ codes "_DEPTH" ∷ codes "_STEPS" ∷ codes "_OUTPUTS"
+    ∷ codes "_NOTES" ∷ codes "_CALLS" ∷ codes "_header_fits" ∷ []
 
 -- what stands after the chart's name in the names of header and source, but for those of its two functions
 abbrev pub header_labels : Shape → List (List ℕ)

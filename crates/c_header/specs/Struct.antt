@@ -14,7 +14,7 @@ struct_fields K = map (λ (x : CValue). x.type) (first_values K)
 
 -- the types and sizes of its arrays
 abbrev pub struct_rows : Shape → List Row
-struct_rows K = record { type = word; size = K.bounds.steps } ∷ record { type = word; size = K.notes } ∷ []
+struct_rows K = record { type = word; size = K.outputs } ∷ record { type = word; size = K.notes } ∷ []
 
 -- T DECLARATOR; /* COMMENT */
 unfoldable pub member_text : CType → List ℕ → List ℕ → List ℕ

@@ -5,9 +5,8 @@ ghost use Rattle.c_text.specs.Labels.{labels_of};
 ghost use Rattle.c_header.specs.Fields as spec;
 ghost use Rattle.c_header.specs.Header.{rows_text};
 
-use crate::ranges::{greatest, least};
 use actions::{Sort, Var};
-use c_expression_writer::FileShape;
+use c_expression_writer::{FileShape, greatest, least};
 use c_text::{Labels, field_type, print_field_label, print_type};
 use code_fields::{print_number, print_signed, print_sort, var_kind_word};
 use fixed_point::Scale;
@@ -168,7 +167,7 @@ pub(crate) fn print_rows(out: &mut String, shape: &FileShape<'_>) -> Result<(), 
     ensures { OnOk result
         (string_bytes out.new ≡ string_bytes out.old ++ rows_text (shape_seen shape.now)) }
 {
-    print_number(out, "    uint32_t out[", u64::from(shape.bounds.steps))?;
+    print_number(out, "    uint32_t out[", u64::from(shape.outputs))?;
     print_number(
         out,
         "]; /* the events that the last event put out */\n    uint32_t note[",

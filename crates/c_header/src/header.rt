@@ -5,14 +5,15 @@ ghost use Rattle.c_text.specs.Labels.{labels_of};
 ghost use Rattle.c_header.specs.Header as spec;
 
 use crate::fields::{print_counters, print_data, print_rows};
-use crate::numbers::{print_bounds, print_events, print_faults};
+use crate::numbers::{print_bounds, print_calls, print_events, print_faults};
 use crate::states::{About, print_states};
 use crate::words::print_named;
 use c_expression_writer::FileShape;
 use c_text::{Labels, print_prototype};
 use std::alloc::{AllocError, Global};
 
-/// Appends the header of the C of a chart of that name.
+/// Appends the header of the C of a chart of that name, where so many calls are open at once at
+/// most besides that of the start or of the reaction, if that is known.
 ///
 /// The text is this project's choice (`specs/Header.antt`). On an error a part of it was appended.
 #[tactic(auto, unfolding(crate::specs::Header::header_text))]
@@ -21,20 +22,26 @@ pub fn print_header(
     out: &mut String,
     chart: &str,
     shape: &FileShape<'_>,
+    calls: Option<u32>,
 ) -> Result<(), AllocError>
     ensures { OnOk result (string_bytes out.new
-        ≡ string_bytes out.old ++ spec.header_text chart.now (shape_seen shape.now)) }
+        ≡ string_bytes out.old ++ spec.header_text chart.now (shape_seen shape.now) calls) }
 {
     let labels = Labels::make(chart, shape.names, shape.tree, shape.procs);
-    print_front(out, chart, shape)?;
+    print_front(out, chart, shape, calls)?;
     print_back(alloc, out, chart, &labels, shape)
 }
 
 /// Appends what stands before the struct.
 #[tactic(auto, unfolding(crate::specs::Header::front_text))]
-fn print_front(out: &mut String, chart: &str, shape: &FileShape<'_>) -> Result<(), AllocError>
+fn print_front(
+    out: &mut String,
+    chart: &str,
+    shape: &FileShape<'_>,
+    calls: Option<u32>,
+) -> Result<(), AllocError>
     ensures { OnOk result (string_bytes out.new
-        ≡ string_bytes out.old ++ spec.front_text chart.now (shape_seen shape.now)) }
+        ≡ string_bytes out.old ++ spec.front_text chart.now (shape_seen shape.now) calls) }
 {
     print_named(
         out,
@@ -46,7 +53,8 @@ fn print_front(out: &mut String, chart: &str, shape: &FileShape<'_>) -> Result<(
     print_needs(out, chart)?;
     print_events(out, chart, shape.names.events.items())?;
     print_faults(out, chart)?;
-    print_bounds(out, chart, shape.bounds, shape.notes)
+    print_bounds(out, chart, shape.bounds, shape.outputs, shape.notes)?;
+    print_calls(out, chart, calls)
 }
 
 /// Appends what an engineer has to know.

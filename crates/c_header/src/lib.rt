@@ -1,5 +1,5 @@
-//! The header of a chart's C, printed: the numbers of events, faults, bounds and notes, the struct
-//! with a comment on each field, the two calls, and a test of each state.
+//! The header of a chart's C, printed: the numbers of events and faults, bounds and sizes, the
+//! struct with a comment on each field, the two calls, and a test of each state.
 //!
 //! Read `specs/Header.antt`, and what it uses: `specs/Fields.antt`, the fields of the struct, and
 //! `specs/Paths.antt`, the names of states. Laws say more of that text: `specs/Struct.antt`, that
@@ -12,7 +12,6 @@ mod header;
 mod laws;
 mod numbers;
 mod paths;
-mod ranges;
 mod states;
 mod words;
 

@@ -1,4 +1,4 @@
-//! The numbers of events, faults, bounds and notes, printed.
+//! The numbers of events and faults, the bounds and the sizes, printed.
 ghost use Rattle.std.specs.Prelude.{◌≡◌, ◌++◌, string_bytes, OnOk};
 ghost use Rattle.c_header.specs.Header as spec;
 
@@ -78,23 +78,58 @@ pub(crate) fn print_faults(out: &mut String, chart: &str) -> Result<(), AllocErr
     print_define(out, chart, "_FAULT_", "ZERO", 4)
 }
 
-/// Appends the bounds, and how many entries `note[]` has.
+/// Appends the bounds, and how many entries `out[]` and `note[]` have.
 #[tactic(auto, unfolding(crate::specs::Header::bounds_text))]
 pub(crate) fn print_bounds(
     out: &mut String,
     chart: &str,
     bounds: Bounds,
+    outputs: u32,
     notes: u64,
 ) -> Result<(), AllocError>
     ensures { OnOk result (string_bytes out.new
-        ≡ string_bytes out.old ++ spec.bounds_text chart.now bounds notes) }
+        ≡ string_bytes out.old ++ spec.bounds_text chart.now bounds outputs notes) }
 {
     out.push_str(
         "\n/* The bounds of an event: how deep sends nest, and how many steps it takes. */\n",
     )?;
     print_define(out, chart, "_", "DEPTH", u64::from(bounds.depth))?;
     print_define(out, chart, "_", "STEPS", u64::from(bounds.steps))?;
-    out.push_str("\n/* How many entries note[] has. */\n")?;
-    print_define(out, chart, "_", "NOTES", notes)?;
+    out.push_str("\n/* How many entries out[] and note[] have. */\n")?;
+    print_define(out, chart, "_", "OUTPUTS", u64::from(outputs))?;
+    print_define(out, chart, "_", "NOTES", notes)
+}
+
+/// Appends how many functions of parts of the chart are open at once at most, where it is known how
+/// many calls are besides that of the start or of the reaction.
+pub(crate) fn print_calls(
+    out: &mut String,
+    chart: &str,
+    calls: Option<u32>,
+) -> Result<(), AllocError>
+    ensures { OnOk result (string_bytes out.new
+        ≡ string_bytes out.old ++ spec.calls_text chart.now calls) }
+{
+    match calls {
+        Some(count) => print_most_calls(out, chart, u64::from(count) + 1),
+        None => out.push_str(own_calls()),
+    }
+}
+
+/// What the header says where functions may call themselves.
+fn own_calls() -> &'static str
+    ensures { result.now ≡ spec.own_calls_text }
+{
+    "\n/* Functions may call themselves, by way of others too, as often as the bounds allow. */\n\n"
+}
+
+/// Appends how many functions of parts of the chart are open at once at most.
+#[tactic(auto, unfolding(crate::specs::Header::most_calls_text))]
+fn print_most_calls(out: &mut String, chart: &str, most: u64) -> Result<(), AllocError>
+    ensures { OnOk result (string_bytes out.new
+        ≡ string_bytes out.old ++ spec.most_calls_text chart.now most) }
+{
+    out.push_str("\n/* How many of the functions p0, p1 and so on are open at once at most. */\n")?;
+    print_define(out, chart, "_", "CALLS", most)?;
     out.push_str("\n")
 }

@@ -12,7 +12,10 @@ returns c =
       origins = w.origins.items;
       tests = tests_seen w.tests;
       limits = w.limits;
+      room = w.outputs;
+      calls = w.calls;
       is_written = is.is_written;
       serves = is.serves;
+      most_calls = is.calls;
       is_text = c.in_ok-text.ensures;
     }

@@ -14,10 +14,11 @@ returns c =
       origins = w.origins.items;
       tests = tests_seen w.tests;
       limits = w.limits;
+      room = w.outputs;
       is_written = is.is_written;
       is_text = c.in_ok-text.ensures;
       runs =
           c.files_of_code_with_the_same_runs_run_as_charts.ensures (chart_of c.args.chart.now) c.args.bounds
-          (code_of w.faster.code) (tests_seen w.tests) w.limits c.shape.ensures.valid (written_same is.is_written)
-          is.serves is.after;
+          (code_of w.faster.code) (tests_seen w.tests) w.limits w.outputs c.shape.ensures.valid
+          (written_same is.is_written) is.serves is.after;
     }

@@ -26,9 +26,9 @@ pub returns : goal.returns
 unfolding functions_of
 returns c =
     let w = c.args.written.now in
-    source_is (chart_of c.args.chart.now) (tests_seen w.tests) w.limits w.origins.items w.faster.tags.items
-    (code_of w.faster.code) (shape_seen c.in_ok-shape.shape) c.in_ok-shape.ensures.shape _ (labels_of c.make-2.result)
-    (said_of c.in_ok-make.field-0) _ _ _
+    source_is (chart_of c.args.chart.now) (tests_seen w.tests) w.limits w.outputs w.origins.items
+    w.faster.tags.items (code_of w.faster.code) (shape_seen c.in_ok-shape.shape) c.in_ok-shape.ensures.shape _
+    (labels_of c.make-2.result) (said_of c.in_ok-make.field-0) _ _ _
     c.make-2.ensures c.name_of-name.ensures c.names-names.ensures.names c.shape-tree.ensures.shape
     (c.in_ok-make.ensures.said
     ∙ ap (λ (xs : List ℕ). comments_for (chart_of c.args.chart.now).tree (chart_of c.args.chart.now).names

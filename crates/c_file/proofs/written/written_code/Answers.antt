@@ -19,7 +19,9 @@ returns c =
       serves =
           limits_serve (chart_of c.args.chart.now) c.args.bounds (code_of c.in_ok-faster.faster.code) _
           c.in_ok-found.found c.args.never_overrun c.shape.ensures.valid (written_same is) c.in_ok-found.ensures
-          (c.in_ok-tests.ensures.steps ∙ c.is_tested-steps.ensures) (c.in_ok-tests.ensures.depth ∙ c.is_tested-depth.ensures)
+          (c.in_ok-tests.ensures.steps ∙ c.is_tested-steps.ensures)
+          (c.in_ok-tests.ensures.depth ∙ c.is_tested-depth.ensures)
           c.requires;
       after = c.in_ok-tests.ensures.right;
+      calls = c.in_ok-found.ensures.calls;
     }

@@ -6,8 +6,9 @@ use Rattle.c_header.proofs.header.print_front.Goals as goal
 pub returns : goal.returns
 unfolding front_text
 returns c =
-    last _ _ _ _ c.print_bounds.ensures
+    last _ _ _ _ c.print_calls.ensures
     (rw (
+      c.in_ok-print_bounds.ensures,
       c.in_ok-print_faults.ensures,
       c.in_ok-print_events.ensures,
       c.in_ok-print_needs.ensures,

@@ -1,12 +1,12 @@
 use Rattle.std.proofs.Common.{append_assoc}
 use Rattle.c_header.specs.Header.{bounds_text}
-use Rattle.c_header.proofs.PartLemmas.{last, pushed}
+use Rattle.c_header.proofs.PartLemmas.{last}
 use Rattle.c_header.proofs.numbers.print_bounds.Goals as goal
 
 pub returns : goal.returns
 unfolding bounds_text
 returns c =
-    last _ _ _ _ (pushed _ _ _ _ c.push_str-3.ensures.bytes)
+    last _ _ _ _ c.print_define-4.ensures
     (rw (
       c.in_ok-print_define-3.ensures,
       c.in_ok-push_str-2.ensures.bytes,
@@ -15,5 +15,6 @@ returns c =
       c.in_ok-push_str.ensures.bytes,
       c.from.ensures,
       c.from-2.ensures,
+      c.from-3.ensures,
     )
     (simp append_assoc))

@@ -31,7 +31,16 @@ from random_compiled import bounds_of, features_of
 SANITIZERS = ['-fsanitize=undefined,address', '-fno-sanitize-recover=all', '-g']
 # What a chart itself says, such as `x != 300` of a datum with 8 bits, or `x <= x`, is no fault of the C that does it.
 ALLOWED = ['-Wno-type-limits', '-Wno-tautological-compare']
+# The same of `-x - 1 != 3`, and of a guard that asks for two children of one OR; gcc has no flag for these warnings alone.
+SAID_BY_CHART = 'promoted bitwise complement', 'of mutually exclusive equal-tests'
+WITHOUT_WARNINGS = '-w'
 LEVELS = ['-O0', '-O2']
+
+
+def is_said_by_chart(message):
+    """Whether each error that a compiler tells is a warning of what the chart says."""
+    errors = [line for line in message.splitlines() if ' error: ' in line]
+    return bool(errors) and all(any(words in line for words in SAID_BY_CHART) for line in errors)
 
 
 class Compared(NamedTuple):
@@ -92,7 +101,7 @@ class Comparison:
                 sources = make_c(self.options.against, text, folder, words_for(bounds))
                 for compiler, flags in self.builds(number):
                     name = 'chart %d by %s %s' % (number, compiler, ' '.join(flags))
-                    program = compile_c(sources, self.drivers[(compiler, *flags)], folder, compiler, [*flags, *ALLOWED])
+                    program = self.compiled(sources, folder, compiler, flags, charts)
                     is_sanitized = SANITIZERS[0] in flags
                     charts['by %s %s%s' % (compiler, flags[0], ' with sanitizers' if is_sanitized else '')] += 1
                     for events, answer in zip(files, expected):
@@ -100,6 +109,17 @@ class Comparison:
             except Failed as failed:
                 lines.append('chart %d: %s' % (number, failed))
         return lines
+
+    def compiled(self, sources, folder, compiler, flags, charts):
+        """The program of a chart. Where all that the compiler warns of is said by the chart, it is compiled without warnings."""
+        driver = self.drivers[(compiler, *flags)]
+        try:
+            return compile_c(sources, driver, folder, compiler, [*flags, *ALLOWED])
+        except Failed as failed:
+            if not is_said_by_chart(str(failed)):
+                raise
+        charts['by %s %s, of which it warns' % (compiler, flags[0])] += 1
+        return compile_c(sources, driver, folder, compiler, [*flags, *ALLOWED, WITHOUT_WARNINGS])
 
     def ran(self, name, program, folder, events, expected):
         """Runs a program. Where a line of the event file is refused, the driver has a message of its own."""

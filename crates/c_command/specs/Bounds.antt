@@ -1,13 +1,11 @@
 -- Which bounds the C of a chart has.
-use Rattle.std.specs.Prelude.{◌≡◌, true, Option, Some, None}
+use Rattle.std.specs.Prelude.{◌≡◌, Option, Some, None}
 use Rattle.flow_base.specs.declared.bounds.Bounds.{Bounds}
 use Rattle.checked_chart.specs.Chart.{Chart}
 use Rattle.bound_prove.specs.declared.need.Need.{Need}
 use Rattle.bound_prove.specs.Searches.{IsNeedOf}
 use Rattle.command_words.specs.Commands.{RunBounds, usual_bounds}
 use Rattle.command_words.specs.Seen.{bounds_seen}
-use Rattle.c_file.specs.Files.{NoEventOverruns}
-use Rattle.c_command.specs.declared.bounds.ChosenBounds.{ChosenBounds}
 
 -- the bounds that a chart gives: those that no event of it overruns, and the usual ones where it has none
 abbrev pub bounds_given : Option Need → RunBounds
@@ -24,8 +22,3 @@ pub record IsGiven (c : Chart) (bounds : Bounds) : Type 0 where
 abbrev pub IsBoundsFor : Option RunBounds → Chart → Bounds → Type 0
 IsBoundsFor (Some asked) c bounds = bounds_seen bounds ≡ asked
 IsBoundsFor None c bounds = IsGiven c bounds
-
--- the bounds are for the chart, and no event of it overruns them where that is said
-pub record AreChosenFor (asked : Option RunBounds) (c : Chart) (chosen : ChosenBounds) : Type 0 where
-  pub bounds_for : IsBoundsFor asked c chosen.bounds
-  pub never : chosen.never_overrun ≡ true → NoEventOverruns c chosen.bounds

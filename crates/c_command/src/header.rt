@@ -58,6 +58,6 @@ fn header_of(alloc: Global, chart: &Chart, asked: Option<Bounds>) -> Result<Stri
     ensures { IfOk result
         (λ text. IsOfC IsHeader (asked_seen asked) (chart_of chart.now) (string_bytes text)) }
 {
-    let chosen = bounds_for(alloc, chart, asked)?;
-    header(alloc, chart, chosen.bounds, chosen.never_overrun)
+    let bounds = bounds_for(alloc, chart, asked)?;
+    header(alloc, chart, bounds)
 }

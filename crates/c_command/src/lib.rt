@@ -10,7 +10,7 @@ mod bounds_laws;
 mod header;
 mod source;
 
-pub use bounds::{ChosenBounds, bounds_for};
+pub use bounds::bounds_for;
 pub use bounds_laws::bounds_of_need_are_not_overrun;
 pub use header::write_header;
 pub use source::write_source;

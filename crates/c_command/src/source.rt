@@ -58,6 +58,6 @@ fn source_of(alloc: Global, chart: &Chart, asked: Option<Bounds>) -> Result<Stri
     ensures { IfOk result
         (λ text. IsOfC IsSource (asked_seen asked) (chart_of chart.now) (string_bytes text)) }
 {
-    let chosen = bounds_for(alloc, chart, asked)?;
-    source(alloc, chart, chosen.bounds, chosen.never_overrun)
+    let bounds = bounds_for(alloc, chart, asked)?;
+    source(alloc, chart, bounds)
 }

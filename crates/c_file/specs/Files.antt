@@ -1,10 +1,7 @@
 -- Header and source of a chart.
-use Rattle.std.specs.Prelude.{◌≡◌, ℕ, true, false, List, [], length, Option, IfSome, slice_index_or}
-use Rattle.std.specs.List.{AllByRecursion}
+use Rattle.std.specs.Prelude.{◌≡◌, ℕ, List, [], length, Option, IfSome, slice_index_or}
 use Rattle.flow_base.specs.declared.bounds.Bounds.{Bounds}
-use Rattle.actions.specs.Runs.{EventWithInputs, Moment}
 use Rattle.checked_chart.specs.Chart.{Chart}
-use Rattle.sos_rules.specs.Reactions.{RulesRun}
 use Rattle.code_language.specs.Code.{Code, code_of}
 use Rattle.chart_layout.specs.Bodies.{code_of_chart}
 use Rattle.code_counts.specs.Claims.{HasMost}
@@ -17,9 +14,8 @@ use Rattle.chart_parts.specs.Parts.{parts_of}
 use Rattle.c_procedures.specs.Writer.{plans_of}
 use Rattle.c_functions.specs.Failing.{AfterIsRight}
 use Rattle.c_functions.specs.Files.{shape_of}
-use Rattle.c_functions.specs.Moments.{MayEnd}
 use Rattle.c_functions.specs.Plans.{Tests}
-use Rattle.c_functions.specs.Starts.{file_of, AllGiven}
+use Rattle.c_functions.specs.Starts.{file_of}
 use Rattle.c_runs.specs.Claims.{RunsAsRules, Serves}
 use Rattle.c_text.specs.Labels.{labels_for}
 use Rattle.c_expression_writer.specs.FileShapes.{tests_seen}
@@ -36,16 +32,6 @@ chart_name c = slice_index_or c.names.states 0 []
 pub record IsCodeFor (c : Chart) (k : Code) (origins : List ℕ) : Type 0 where
   pub shrunk : IsShrunk (code_of_chart c) k
   pub numbers : HadNumbers (code_of_chart c).procedures k.procedures origins
-
--- the tests of no bound
-abbrev pub untested_bounds : Tests
-untested_bounds = record { steps = false; depth = false; after = λ p. true }
-
--- no event of a chart overruns these bounds: whatever events it is given, no run is ended by a bound
-abbrev pub NoEventOverruns : Chart → Bounds → Type 0
-NoEventOverruns c b =
-    (events : List EventWithInputs) (moments : List Moment) → AllGiven c.names events → RulesRun c b events moments
-    → AllByRecursion (λ (m : Moment). MayEnd untested_bounds m.fault) moments
 
 -- code with these tags is one for which the C of a chart is written: it has the runs of the chart's smaller code, whose
 -- procedures had these numbers

@@ -1,12 +1,11 @@
 //! The two files of a chart.
-ghost use Rattle.std.specs.Prelude.{◌≡◌, IfOk, string_bytes, true};
+ghost use Rattle.std.specs.Prelude.{◌≡◌, IfOk, string_bytes};
 ghost use Rattle.checked_chart.specs.Kept.{chart_of};
 ghost use Rattle.code_language.specs.Code.{code_of};
 ghost use Rattle.c_expression_writer.specs.FileShapes.{tests_seen};
 ghost use Rattle.c_functions.specs.Files.{shape_of};
 ghost use Rattle.c_header.specs.Header.{header_text};
-ghost use Rattle.c_file.specs.Files.{IsHeader, IsSource, IsSourceFor, IsWritten};
-ghost use Rattle.c_file.specs.Files.{NoEventOverruns, chart_name};
+ghost use Rattle.c_file.specs.Files.{IsHeader, IsSource, IsSourceFor, IsWritten, chart_name};
 
 use crate::made::Made;
 use crate::printing::printed_source;
@@ -55,23 +54,16 @@ fn header_of(alloc: Global, chart: &Chart, written: &Written) -> Result<String, 
     }
 }
 
-/// The header of a chart's C under these bounds, of the code for which its source is written. What
-/// it declares depends on whether no event overruns the bounds.
+/// The header of a chart's C under these bounds, of the code for which its source is written.
 ///
 /// `Memory` only where memory was refused.
 ///
 /// Source: this project's choice.
-pub fn header(
-    alloc: Global,
-    chart: &Chart,
-    bounds: Bounds,
-    never_overrun: bool,
-) -> Result<String, Memory>
-    requires { never_overrun ≡ true → NoEventOverruns (chart_of chart.now) bounds }
+pub fn header(alloc: Global, chart: &Chart, bounds: Bounds) -> Result<String, Memory>
     ensures { IfOk result
         (λ text. IsHeader (chart_of chart.now) bounds (string_bytes text)) }
 {
-    let written = written_code(alloc, chart, bounds, never_overrun)?;
+    let written = written_code(alloc, chart, bounds)?;
     let text = header_of(alloc, chart, &written)?;
     Ok(text)
 }
@@ -110,27 +102,21 @@ fn source_of(alloc: Global, chart: &Chart, written: &Written) -> Result<String, 
 
 /// The source of a chart's C under these bounds: what the header declares, and the functions that
 /// it needs. It is written for code that is faster than the smaller code of the chart and has its
-/// runs, and tests no bound where no event overruns the bounds. Each function is made, printed and
-/// dropped before the next one, so that no more than the text, the code, one function and the
-/// numbers of functions that call each other are in memory at once.
+/// runs, and tests a bound unless it is known that no event of that code overruns it. Each function
+/// is made, printed and dropped before the next one, so that no more than the text, the code, one
+/// function and the numbers of functions that call each other are in memory at once.
 ///
 /// `Memory` only where memory was refused.
 ///
 /// Source: this project's choice.
-pub fn source(
-    alloc: Global,
-    chart: &Chart,
-    bounds: Bounds,
-    never_overrun: bool,
-) -> Result<String, Memory>
-    requires { never_overrun ≡ true → NoEventOverruns (chart_of chart.now) bounds }
+pub fn source(alloc: Global, chart: &Chart, bounds: Bounds) -> Result<String, Memory>
     ensures { IfOk result
         (λ text. IsSource (chart_of chart.now) bounds (string_bytes text)) }
 {
     files_of_code_with_the_same_runs_run_as_charts();
     // Only the proof reads the shape: the chart is valid.
     let _ = chart.shape();
-    let written = written_code(alloc, chart, bounds, never_overrun)?;
+    let written = written_code(alloc, chart, bounds)?;
     let text = source_of(alloc, chart, &written)?;
     Ok(text)
 }

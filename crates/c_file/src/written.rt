@@ -1,8 +1,8 @@
 //! The code for which both files of a chart are written, and what they test.
-ghost use Rattle.std.specs.Prelude.{◌≡◌, ◌&&◌, IfOk, not, true};
+ghost use Rattle.std.specs.Prelude.{IfOk};
 ghost use Rattle.checked_chart.specs.Kept.{chart_of};
 ghost use Rattle.code_language.specs.Code.{code_of};
-ghost use Rattle.c_file.specs.Files.{IsCodeFor, IsWrittenUnder, NoEventOverruns};
+ghost use Rattle.c_file.specs.Files.{IsCodeFor, IsWrittenUnder};
 
 use c_expression_writer::Tests;
 use c_tests::tests_of;
@@ -41,25 +41,11 @@ fn shrunk_code(alloc: Global, chart: &Chart) -> Result<Shrunk, Memory>
     shrink_with_origins(alloc, &code)
 }
 
-/// Whether a bound is tested that the code may overrun or may not.
-fn is_tested(never_overrun: bool, may_overrun: bool) -> bool
-    ensures { result ≡ (not never_overrun && may_overrun) }
-{
-    !never_overrun && may_overrun
-}
-
 /// The code for which both files of a chart are written under these bounds. Where it is known that
 /// no event of the code takes as much as a bound allows, its limit is the most that one takes. A
-/// limit is tested unless this is known, or no event of the chart overruns the bounds, and the
-/// result of a call where the procedure can fail. There is room for what an event puts out under
-/// the limits. The smaller code is dropped.
-pub(crate) fn written_code(
-    alloc: Global,
-    chart: &Chart,
-    bounds: Bounds,
-    never_overrun: bool,
-) -> Result<Written, Memory>
-    requires { never_overrun ≡ true → NoEventOverruns (chart_of chart.now) bounds }
+/// limit is tested unless this is known, and the result of a call where the procedure can fail.
+/// There is room for what an event puts out under the limits. The smaller code is dropped.
+pub(crate) fn written_code(alloc: Global, chart: &Chart, bounds: Bounds) -> Result<Written, Memory>
     ensures { IfOk result (IsWrittenUnder (chart_of chart.now) bounds) }
 {
     // Only the proof reads the shape: the chart is valid.
@@ -67,9 +53,7 @@ pub(crate) fn written_code(
     let shrunk = shrunk_code(alloc, chart)?;
     let faster = faster(alloc, &shrunk.code)?;
     let found = limits_of(alloc, &faster.code, bounds)?;
-    let steps = is_tested(never_overrun, found.tests_steps);
-    let depth = is_tested(never_overrun, found.tests_depth);
-    let tests = tests_of(alloc, &faster.code, steps, depth)?;
+    let tests = tests_of(alloc, &faster.code, found.tests_steps, found.tests_depth)?;
     Ok(Written {
         faster,
         origins: shrunk.origins,

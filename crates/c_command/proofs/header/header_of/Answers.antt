@@ -6,8 +6,8 @@ pub returns : goal.returns
 returns c =
     IfOk-weaker c.header.result _ _
     (λ text is. record {
-      bounds = c.in_ok-chosen.chosen.bounds;
-      bounds_for = c.in_ok-chosen.ensures.bounds_for;
+      bounds = c.in_ok-bounds.bounds;
+      bounds_for = c.in_ok-bounds.ensures;
       is_file = is;
     })
     c.header.ensures

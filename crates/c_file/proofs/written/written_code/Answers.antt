@@ -1,4 +1,3 @@
-use Rattle.std.proofs.Common.{◌∙◌}
 use Rattle.checked_chart.specs.Kept.{chart_of}
 use Rattle.code_language.specs.Code.{code_of}
 use Rattle.c_file.specs.Files.{IsWritten}
@@ -18,10 +17,8 @@ returns c =
       is_written = is;
       serves =
           limits_serve (chart_of c.args.chart.now) c.args.bounds (code_of c.in_ok-faster.faster.code) _
-          c.in_ok-found.found c.args.never_overrun c.shape.ensures.valid (written_same is) c.in_ok-found.ensures
-          (c.in_ok-tests.ensures.steps ∙ c.is_tested-steps.ensures)
-          (c.in_ok-tests.ensures.depth ∙ c.is_tested-depth.ensures)
-          c.requires;
+          c.in_ok-found.found c.shape.ensures.valid (written_same is) c.in_ok-found.ensures
+          c.in_ok-tests.ensures.steps c.in_ok-tests.ensures.depth;
       after = c.in_ok-tests.ensures.right;
       calls = c.in_ok-found.ensures.calls;
     }

@@ -5,9 +5,9 @@ use Rattle.code_language.specs.Code.{instrs_of}
 use Rattle.code_language.specs.Instrs as spec
 use Rattle.code_language.specs.declared.instr.Instr.{Instr}
 use Rattle.flow_base.specs.Lists.{items_of}
+use Rattle.flow_base.specs.declared.chart_limits.TheConstants.{STATE_LIMIT, VARIABLE_LIMIT}
 use Rattle.active_config.specs.Tree.{Tree, state_count}
 use Rattle.actions.specs.declared.names.Names.{Names}
-use Rattle.checked_chart.specs.declared.limits.TheConstants.{STATE_LIMIT, VARIABLE_LIMIT}
 use Rattle.code_language.specs.declared.limits.TheConstants.{PROC_LIMIT}
 use Rattle.c_functions.specs.Layout.{or_count, or_rank}
 

@@ -1,9 +1,9 @@
 //! Assignments.
 ghost use Rattle.std.specs.Prelude.{◌≡◌, ◌+◌, ◌≤◌, ◌<◌, ◌^◌, ◌++◌, ◌∷◌, [], length, OnOk, IsOk};
 ghost use Rattle.flow_base.specs.Lists.{items_of};
+ghost use Rattle.flow_base.specs.declared.chart_limits.TheConstants.{OPERATOR_LIMIT};
 ghost use Rattle.actions.specs.Sorts.{IsNarrow, scope_of, sort_of};
 ghost use Rattle.actions.specs.Trees as trees;
-ghost use Rattle.checked_chart.specs.declared.limits.TheConstants.{OPERATOR_LIMIT};
 ghost use Rattle.checked_chart.specs.Expressions.{operator_count};
 ghost use Rattle.c_subset.specs.Lines as lines;
 ghost use Rattle.c_subset.specs.Lines.{Appends, expr_of, lines_in};

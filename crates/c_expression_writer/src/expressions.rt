@@ -1,13 +1,13 @@
 //! Expressions: lines for their code, and an operand.
 ghost use Rattle.std.specs.Prelude.{◌≡◌, ◌+◌, ◌*◌, ◌<◌, ◌≤◌, ◌^◌, IfOk, IsOk, OnOk};
 ghost use Rattle.flow_base.specs.Lists.{items_of};
+ghost use Rattle.flow_base.specs.declared.chart_limits.TheConstants.{OPERATOR_LIMIT};
 ghost use Rattle.actions.specs.Sorts.{IsNarrow, binary_sort, negative_sort, scope_of, sort_of};
 ghost use Rattle.actions.specs.Trees.{expr_of};
 ghost use Rattle.c_expressions.specs.Translation as spec;
 ghost use Rattle.c_functions.specs.Plans.{Shape, expression_c, faulted, helper};
 ghost use Rattle.c_expressions.specs.Code.{written};
 ghost use Rattle.c_subset.specs.Lines as lines;
-ghost use Rattle.checked_chart.specs.declared.limits.TheConstants.{OPERATOR_LIMIT};
 ghost use Rattle.checked_chart.specs.Expressions.{operator_count};
 ghost use Rattle.c_expression_writer.specs.FileShapes.{shape_seen};
 ghost use Rattle.c_expression_writer.specs.Written.{IsWritten, Lines, denial_of, flat_at};

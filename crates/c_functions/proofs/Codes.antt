@@ -9,6 +9,7 @@ use Rattle.flow_base.specs.declared.fault.Fault.{Fault}
 use Rattle.std.proofs.lemmas.Bool.Decides.{nat_tests}
 use Rattle.flow_base.specs.declared.bounds.Bounds.{Bounds}
 use Rattle.flow_base.specs.declared.bounds.TheConstants.{STEP_LIMIT, DEPTH_LIMIT}
+use Rattle.flow_base.specs.declared.chart_limits.TheConstants.{STATE_LIMIT, VARIABLE_LIMIT, EVENT_LIMIT}
 use Rattle.active_config.specs.Tree.{state_count}
 use Rattle.active_config.proofs.PathLemmas.{parent_lt}
 use Rattle.actions.specs.declared.event.Event.{Event}
@@ -17,7 +18,6 @@ use Rattle.actions.specs.Data.{HaveTheirSorts}
 use Rattle.actions.specs.Runs.{Moment}
 use Rattle.actions.specs.World.{World, of_data}
 use Rattle.actions.specs.Work.{Now}
-use Rattle.checked_chart.specs.declared.limits.TheConstants.{STATE_LIMIT, VARIABLE_LIMIT, EVENT_LIMIT}
 use Rattle.code_language.specs.declared.limits.TheConstants.{PROC_LIMIT, INSTR_LIMIT, HEIGHT_LIMIT}
 use Rattle.code_language.specs.declared.fault.CodeFault.{CodeFault}
 use Rattle.code_language.specs.declared.fault.CodeKind.{CodeKind}

@@ -3,12 +3,12 @@ use Rattle.std.proofs.Common.{◌≡◌, ◌≤◌, ℕ, true, false, Option, So
 use Rattle.std.specs.Prelude.{IsOk, Ok, Err, not, nat_lt, slice_get}
 use Rattle.std.specs.Option.{option_map_or}
 use Rattle.std.proofs.lemmas.Bool.Decides.{nat_tests}
+use Rattle.flow_base.specs.declared.chart_limits.TheConstants.{OPERATOR_LIMIT}
 use Rattle.actions.specs.declared.names.Var.{Var}
 use Rattle.actions.specs.declared.sort.ExprSort.TheVariants as sorts
 use Rattle.actions.specs.Exprs.{Expr}
 use Rattle.actions.specs.Sorts.{Sorted, scope_of, sort_of}
 use Rattle.checked_chart.specs.Expressions.{operator_count}
-use Rattle.checked_chart.specs.declared.limits.TheConstants.{OPERATOR_LIMIT}
 use Rattle.code_costs.proofs.Sound.{both_true}
 use Rattle.code_language.specs.Instrs.{Test, Assign}
 use Rattle.code_language.specs.WellFormed.{cond_typed, instr_typed, has_literals, is_flag, is_plain, takes}

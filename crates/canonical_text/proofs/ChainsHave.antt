@@ -3,12 +3,12 @@
 use Rattle.std.proofs.Common.{◌≡◌, ℕ, ◌+◌, ◌≤◌, ◌<◌, ltb, Bool, true, List, [], ◌∷◌, None, arith, inl, inr, sym}
 use Rattle.std.proofs.Common.{subst, ap}
 use Rattle.std.proofs.lemmas.Bool.{cases_Bool, ltb-true}
+use Rattle.flow_base.specs.declared.chart_limits.TheConstants.{OPERATOR_LIMIT}
 use Rattle.token_grammar.specs.declared.token.Kind.{Kind}
 use Rattle.token_grammar.specs.declared.fault.Thing.TheVariants as things
 use Rattle.token_grammar.specs.Token.{Lexeme}
 use Rattle.token_grammar.specs.Grammar.{one_of, first_refused, many_from, many_from_spells}
 use Rattle.chart_tree.specs.declared.expr.BinWord.{BinWord}
-use Rattle.chart_tree.specs.declared.limits.TheConstants.{OPERATOR_LIMIT}
 use Rattle.chart_grammar.specs.Limits.{usual, one_more}
 use Rattle.chart_grammar.specs.Expressions.{Operand, Tail, Operands, bin_word, operator, tail, tails, with_tail}
 use Rattle.chart_grammar.specs.Expressions.{joined, chain, pair}

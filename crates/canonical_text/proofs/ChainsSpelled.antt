@@ -3,10 +3,10 @@
 use Rattle.std.proofs.Common.{◌≡◌, ℕ, ◌+◌, ◌<◌, Bool, true, List, [], ◌∷◌, ◌++◌, Some, None, refl, ap, sym, ◌∙◌}
 use Rattle.std.proofs.Common.{subst, inl, inr, append-nil, append_assoc}
 use Rattle.std.proofs.lemmas.Bool.{lt-ltb}
+use Rattle.flow_base.specs.declared.chart_limits.TheConstants.{OPERATOR_LIMIT}
 use Rattle.token_grammar.specs.declared.token.Kind.{Kind}
 use Rattle.token_grammar.specs.Token.{Lexeme}
 use Rattle.token_grammar.specs.Grammar.{many_from, many_from_spells}
-use Rattle.chart_tree.specs.declared.limits.TheConstants.{OPERATOR_LIMIT}
 use Rattle.chart_tree.specs.Trees.{Binary}
 use Rattle.chart_grammar.specs.Limits.{usual}
 use Rattle.chart_grammar.specs.Expressions.{Operand, Tail, Operands, bin_word, operator, tail, tails, with_tail}

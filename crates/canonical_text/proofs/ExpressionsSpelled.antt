@@ -3,6 +3,7 @@
 use Rattle.std.proofs.Common.{◌≡◌, ℕ, zero, suc, ◌+◌, ◌≤◌, ◌<◌, ltb, Bool, true, List, [], ◌∷◌, ◌++◌, refl, arith}
 use Rattle.std.proofs.Common.{inl, inr, subst, ap, ◌∙◌}
 use Rattle.std.proofs.lemmas.Bool.{cases_Bool, ltb-false, le-ltb}
+use Rattle.flow_base.specs.declared.chart_limits.TheConstants.{OPERATOR_LIMIT}
 use Rattle.token_grammar.specs.declared.token.Kind.{Kind}
 use Rattle.token_grammar.specs.declared.token.Kind.TheVariants as kinds
 use Rattle.token_grammar.specs.declared.token.Span.{Span}
@@ -12,7 +13,6 @@ use Rattle.chart_tree.specs.declared.name.LitText.{LitText}
 use Rattle.chart_tree.specs.declared.expr.UnWord.{UnWord}
 use Rattle.chart_tree.specs.declared.expr.UnWord.TheVariants as un_words
 use Rattle.chart_tree.specs.declared.expr.BinWord.{BinWord}
-use Rattle.chart_tree.specs.declared.limits.TheConstants.{OPERATOR_LIMIT}
 use Rattle.chart_tree.specs.Trees.{Path, Expr, Lit, Flag, Name, Active, Unary, Binary}
 use Rattle.chart_grammar.specs.Limits.{usual}
 use Rattle.chart_grammar.specs.Expressions.{Operand, un_word, sign_heads, flag_heads, nested_heads, literal, flag}

@@ -1,10 +1,10 @@
 -- The levels of expressions by their precedence: what is spelled at one is spelled at each above it.
 use Rattle.std.proofs.Common.{◌≡◌, ℕ, zero, suc, ◌+◌, ◌-◌, ◌≤◌, ◌<◌, List, ◌∷◌, ◌++◌, refl, arith, subst}
+use Rattle.flow_base.specs.declared.chart_limits.TheConstants.{OPERATOR_LIMIT}
 use Rattle.token_grammar.specs.declared.token.Kind.TheVariants as kinds
 use Rattle.token_grammar.specs.Grammar.{is}
 use Rattle.chart_tree.specs.declared.expr.BinWord.{BinWord}
 use Rattle.chart_tree.specs.declared.expr.BinWord.TheVariants as bin_words
-use Rattle.chart_tree.specs.declared.limits.TheConstants.{OPERATOR_LIMIT}
 use Rattle.chart_tree.specs.Trees.{Binary}
 use Rattle.chart_grammar.specs.Limits.{usual}
 use Rattle.chart_grammar.specs.Expressions.{Operand, Operands, product_heads, sum_heads, comparison_heads}

@@ -1,8 +1,8 @@
 -- Where there is room for one more of a thing, and where there was.
 -- `had_x_room` says what was so where one more x wasn't refused, and `x_room` that one more isn't where that is so.
 use Rattle.std.proofs.Common.{◌≡◌, ℕ, ◌<◌, None, arith}
-use Rattle.chart_tree.specs.declared.limits.TheConstants.{STATE_LIMIT, JUNCTION_LIMIT, TRANSITION_LIMIT}
-use Rattle.chart_tree.specs.declared.limits.TheConstants.{VARIABLE_LIMIT, EVENT_LIMIT, STATEMENT_LIMIT, ITEM_LIMIT}
+use Rattle.flow_base.specs.declared.chart_limits.TheConstants.{STATE_LIMIT, JUNCTION_LIMIT, TRANSITION_LIMIT}
+use Rattle.flow_base.specs.declared.chart_limits.TheConstants.{VARIABLE_LIMIT, EVENT_LIMIT, STATEMENT_LIMIT, ITEM_LIMIT}
 use Rattle.chart_grammar.specs.Limits.{Counts, usual, statement_refused, state_refused, transition_refused}
 use Rattle.chart_grammar.specs.Limits.{junction_refused, event_refused, variable_refused, after_state}
 use Rattle.chart_grammar.specs.Limits.{after_transition, after_junction, after_event, after_variable}

@@ -5,11 +5,11 @@
 use Rattle.std.proofs.Common.{◌≡◌, ◌+◌, ◌≤◌, List, [], ◌∷◌, ◌++◌, length, Option, Some, None, inl, inr, refl, ap, arith}
 use Rattle.std.specs.Option.{option_map}
 use Rattle.std.specs.List.{AllByRecursion, flat_map}
+use Rattle.flow_base.specs.declared.chart_limits.TheConstants.{STATEMENT_LIMIT, ITEM_LIMIT}
 use Rattle.token_grammar.specs.declared.token.Kind.TheVariants as kinds
 use Rattle.token_grammar.specs.Token.{Lexeme}
 use Rattle.token_grammar.specs.Grammar.{is, many_from}
 use Rattle.chart_tree.specs.declared.name.NameText.{NameText}
-use Rattle.chart_tree.specs.declared.limits.TheConstants.{STATEMENT_LIMIT, ITEM_LIMIT}
 use Rattle.chart_tree.specs.Trees.{Path, Expr, Stmt, Assign, Send, Emit}
 use Rattle.chart_grammar.specs.Limits.{Counts, usual}
 use Rattle.chart_grammar.specs.Transitions.{assign, target, maybe_target, send, emit, stmt_heads, stmt, Before}

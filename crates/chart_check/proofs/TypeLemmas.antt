@@ -3,6 +3,7 @@ use Rattle.std.proofs.Common.{◌≡◌, ◌≢◌, ℕ, ◌<◌, ◌≤◌, Lis
 use Rattle.std.proofs.Common.{slice_get, flat_map, option_map, refl, sym, ap, ap₂, ◌∙◌, subst}
 use Rattle.std.specs.List.{AllByRecursion}
 use Rattle.std.proofs.lemmas.List.{length-map}
+use Rattle.flow_base.specs.declared.chart_limits.TheConstants.{STATEMENT_LIMIT}
 use Rattle.token_grammar.specs.declared.token.Span.{Span}
 use Rattle.actions.specs.declared.names.EventDecl.{EventDecl}
 use Rattle.actions.specs.declared.names.EventKind.{EventKind}
@@ -15,7 +16,6 @@ use Rattle.actions.specs.declared.sort.ExprSort.{ExprSort}
 use Rattle.actions.specs.declared.sort.ExprSort.TheVariants as gives
 use Rattle.actions.specs.declared.sort.ExprFault.{ExprFault}
 use Rattle.actions.specs.Sorts.{Scope, scope_of, Sorted, sort_of, assignment_fault}
-use Rattle.checked_chart.specs.declared.limits.TheConstants.{STATEMENT_LIMIT}
 use Rattle.checked_chart.specs.Chart as charts
 use Rattle.checked_chart.specs.Valid as valid
 use Rattle.resolved_tree.specs.declared.resolved.Ref.{Ref}

@@ -1,9 +1,9 @@
 -- What compiled code keeps.
 use Rattle.std.specs.Prelude.{◌↔◌, ◌≤◌, ◌+◌, ◌*◌, ℕ, suc, List, length}
 use Rattle.flow_base.specs.declared.bounds.Bounds.{Bounds}
+use Rattle.flow_base.specs.declared.chart_limits.TheConstants.{STATE_DEPTH_LIMIT}
 use Rattle.active_config.specs.Tree.{state_count}
 use Rattle.actions.specs.Runs.{EventWithInputs, Moment}
-use Rattle.checked_chart.specs.declared.limits.TheConstants.{STATE_DEPTH_LIMIT}
 use Rattle.checked_chart.specs.Chart.{Chart}
 use Rattle.checked_chart.specs.Counts.{transition_count, item_count}
 use Rattle.checked_chart.specs.Reached.{ChartPairs}

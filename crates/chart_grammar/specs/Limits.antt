@@ -1,12 +1,12 @@
 -- Limits of a chart text: which token is one too many.
 use Rattle.std.specs.Prelude.{◌≡◌, ℕ, ◌+◌, ◌<◌, nat_lt, nat_le, Bool, true, false, Option, Some, None, if◌then◌else◌}
+use Rattle.flow_base.specs.declared.chart_limits.TheConstants.{STATE_DEPTH_LIMIT, STATE_LIMIT, JUNCTION_LIMIT}
+use Rattle.flow_base.specs.declared.chart_limits.TheConstants.{TRANSITION_LIMIT, VARIABLE_LIMIT, EVENT_LIMIT}
+use Rattle.flow_base.specs.declared.chart_limits.TheConstants.{STATEMENT_LIMIT, OPERATOR_LIMIT, ITEM_LIMIT}
 use Rattle.token_grammar.specs.declared.fault.Fault.{Fault}
 use Rattle.token_grammar.specs.declared.fault.Fault.TheVariants as faults
 use Rattle.token_grammar.specs.declared.fault.Thing.{Thing}
 use Rattle.token_grammar.specs.declared.fault.Thing.TheVariants as things
-use Rattle.chart_tree.specs.declared.limits.TheConstants.{STATE_DEPTH_LIMIT, STATE_LIMIT, JUNCTION_LIMIT}
-use Rattle.chart_tree.specs.declared.limits.TheConstants.{TRANSITION_LIMIT, VARIABLE_LIMIT, EVENT_LIMIT}
-use Rattle.chart_tree.specs.declared.limits.TheConstants.{STATEMENT_LIMIT, OPERATOR_LIMIT, ITEM_LIMIT}
 
 -- the rank of a fault: of two faults of one token the one of lower rank is named
 abbrev pub rank : Fault → ℕ

@@ -2,12 +2,12 @@
 use Rattle.std.proofs.Common.{◌≡◌, ℕ, ◌<◌, true, List, [], ◌∷◌, ◌++◌, ◌+◌, length, Ok, Err, Option, Some, None, refl}
 use Rattle.std.proofs.Common.{sym, ap, ◌∙◌, arith}
 use Rattle.std.proofs.lemmas.List.{length-append}
+use Rattle.flow_base.specs.declared.chart_limits.TheConstants.{STATEMENT_LIMIT, ITEM_LIMIT}
 use Rattle.token_grammar.specs.declared.token.Kind.TheVariants as kinds
 use Rattle.token_grammar.specs.declared.fault.Fault.{Fault}
 use Rattle.token_grammar.specs.Token.{Lexeme}
 use Rattle.token_grammar.specs.Grammar.{Grammar, heads, token, allowed}
 use Rattle.token_grammar.proofs.Good.{Set}
-use Rattle.chart_tree.specs.declared.limits.TheConstants.{STATEMENT_LIMIT, ITEM_LIMIT}
 use Rattle.chart_tree.specs.Trees.{Stmt}
 use Rattle.chart_grammar.specs.Limits.{Counts, usual, statement_refused}
 use Rattle.chart_grammar.specs.Transitions.{Before, stmt_heads, stmt, next_stmt, after_stmts, stmts, block}

@@ -1,5 +1,6 @@
 -- Operands, and the levels of operators between them.
 use Rattle.std.proofs.Common.{◌≡◌, ℕ, ◌<◌, true, false, List, Ok, Err, Result, None, OnOk, refl, ◌∙◌, arith}
+use Rattle.flow_base.specs.declared.chart_limits.TheConstants.{OPERATOR_LIMIT}
 use Rattle.token_grammar.specs.declared.token.Kind.TheVariants as kinds
 use Rattle.token_grammar.specs.declared.token.Token.{Token}
 use Rattle.token_grammar.specs.declared.fault.Thing.TheVariants as things
@@ -10,7 +11,6 @@ use Rattle.token_grammar.specs.Grammar.{and_then, heads, token}
 use Rattle.token_grammar.proofs.Good.{Set, nothing}
 use Rattle.token_grammar.proofs.Fine.{Fine}
 use Rattle.chart_tree.specs.declared.name.NameText.{NameText}
-use Rattle.chart_tree.specs.declared.limits.TheConstants.{OPERATOR_LIMIT}
 use Rattle.chart_tree.specs.Trees.{Name}
 use Rattle.chart_grammar.specs.Limits.{usual, one_more}
 use Rattle.chart_grammar.specs.Words.{name, name_of}

@@ -5,7 +5,7 @@ ghost use Rattle.chart_grammar.specs.Limits.{usual};
 ghost use Rattle.chart_grammar.specs.States as states;
 ghost use Rattle.chart_reader.specs.Counts.{counts_of};
 
-use chart_tree::{
+use flow_base::chart_limits::{
     EVENT_LIMIT, ITEM_LIMIT, JUNCTION_LIMIT, OPERATOR_LIMIT, STATE_LIMIT, STATEMENT_LIMIT,
     TRANSITION_LIMIT, VARIABLE_LIMIT,
 };

@@ -12,7 +12,8 @@ use crate::group::Group;
 use crate::operands::Level;
 use crate::reader::Reader;
 use chart_operands::{Operand, Tail, bin_word, un_word, with_tail};
-use chart_tree::{ExprText, OPERATOR_LIMIT};
+use chart_tree::ExprText;
+use flow_base::chart_limits::OPERATOR_LIMIT;
 use token_grammar::{Fault, Kind, ReadError, Thing};
 
 impl<'t, 'a> Reader<'t, 'a> {

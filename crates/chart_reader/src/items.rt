@@ -13,8 +13,9 @@ ghost use Rattle.chart_reader.specs.Told.{told};
 use crate::content::{Item, Seen};
 use crate::group::Group;
 use crate::reader::Reader;
-use chart_tree::{JunctionText, STATE_DEPTH_LIMIT, TransText};
+use chart_tree::{JunctionText, TransText};
 use flow_base::List;
+use flow_base::chart_limits::STATE_DEPTH_LIMIT;
 use token_grammar::{Kind, ReadError};
 
 impl<'t, 'a> Reader<'t, 'a> {

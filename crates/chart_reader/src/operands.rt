@@ -1,9 +1,9 @@
 //! Operands without an operator, and the levels of operators.
 ghost use Rattle.std.specs.Prelude.{◌≡◌, ◌<◌, OnOk};
+ghost use Rattle.flow_base.specs.declared.chart_limits.TheConstants.{OPERATOR_LIMIT};
 ghost use Rattle.token_grammar.specs.Token.{lexeme, lexemes, Gives};
 ghost use Rattle.token_grammar.specs.declared.token.Kind.TheVariants as kinds;
 ghost use Rattle.token_grammar.specs.Grammar.{is};
-ghost use Rattle.chart_tree.specs.declared.limits.TheConstants.{OPERATOR_LIMIT};
 ghost use Rattle.chart_grammar.specs.Limits.{usual};
 ghost use Rattle.chart_grammar.specs.Expressions as grammar;
 ghost use Rattle.chart_reader.specs.Groups.{set_of};

@@ -16,10 +16,7 @@ pub use chart::{ChartText, EventText, EventWord, VarText, VarWord};
 pub use expr::{BinWord, ExprText, UnWord};
 pub use fault::{FormFault, FormKind};
 pub use first::{Found, keep};
-pub use limits::{
-    CHART_TEXT_LIMIT, EVENT_LIMIT, ITEM_LIMIT, JUNCTION_LIMIT, OPERATOR_LIMIT, STATE_DEPTH_LIMIT,
-    STATE_LIMIT, STATEMENT_LIMIT, TRANSITION_LIMIT, VARIABLE_LIMIT,
-};
+pub use limits::CHART_TEXT_LIMIT;
 pub use name::{LitText, NameText, PathText};
 pub use sort::{InitText, SortText};
 pub use state::{CompText, DestText, GuardText, JunctionText, StateText, StmtText, TransText};

@@ -1,8 +1,10 @@
 -- How many things of each kind a chart has, and how many it may have.
 use Rattle.std.specs.Prelude.{◌+◌, ◌<◌, ◌≤◌, ℕ, List, length, sum_by}
+use Rattle.flow_base.specs.declared.chart_limits.TheConstants.{STATE_LIMIT, STATE_DEPTH_LIMIT, JUNCTION_LIMIT}
+use Rattle.flow_base.specs.declared.chart_limits.TheConstants.{TRANSITION_LIMIT, VARIABLE_LIMIT, EVENT_LIMIT}
+use Rattle.flow_base.specs.declared.chart_limits.TheConstants.{ITEM_LIMIT}
 use Rattle.active_config.specs.Tree.{state_count, ancestors}
-use Rattle.checked_chart.specs.declared.limits.TheConstants.{STATE_LIMIT, STATE_DEPTH_LIMIT, JUNCTION_LIMIT, TRANSITION_LIMIT}
-use Rattle.checked_chart.specs.declared.limits.TheConstants.{PAIR_LIMIT, VARIABLE_LIMIT, EVENT_LIMIT, ITEM_LIMIT}
+use Rattle.checked_chart.specs.declared.limits.TheConstants.{PAIR_LIMIT}
 use Rattle.checked_chart.specs.Chart.{Chart, Node, Trans, junction_count}
 use Rattle.checked_chart.specs.Reached.{ChartPairs}
 

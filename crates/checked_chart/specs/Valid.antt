@@ -3,6 +3,7 @@ use Rattle.std.specs.Prelude.{◌≡◌, ◌≢◌, ◌<◌, ◌≤◌, ◌++◌
 use Rattle.std.specs.Prelude.{slice_get, slice_index_or, true}
 use Rattle.std.specs.List.{AllByRecursion, last_or, list_all}
 use Rattle.flow_base.specs.Names.{are_distinct}
+use Rattle.flow_base.specs.declared.chart_limits.TheConstants.{STATEMENT_LIMIT, OPERATOR_LIMIT}
 use Rattle.fixed_point.specs.declared.fitting.Mode.TheVariants.{Saturate}
 use Rattle.chart_lexer.specs.Words.{is_name}
 use Rattle.active_config.specs.declared.comp.Comp.TheVariants.{Leaf, Or}
@@ -19,7 +20,6 @@ use Rattle.actions.specs.Data.{HasInits}
 use Rattle.actions.specs.Exprs.{Expr, Stmt, Assign, Send, SendTo, Emit}
 use Rattle.actions.specs.Names.{Names}
 use Rattle.actions.specs.Sorts.{scope_of, sort_of, assignment_fault}
-use Rattle.checked_chart.specs.declared.limits.TheConstants.{STATEMENT_LIMIT, OPERATOR_LIMIT}
 use Rattle.checked_chart.specs.declared.parts.Dest.{Dest}
 use Rattle.checked_chart.specs.declared.parts.Dest.TheVariants.{State, Junction}
 use Rattle.checked_chart.specs.declared.parts.ListKind.{ListKind}

@@ -47,13 +47,13 @@ impl Model for Chart {
 
 impl Chart {
     ghost use Rattle.std.specs.Prelude.{◌≡◌, ◌<◌, ◌≤◌, ◌^◌, length, IfSome};
+    ghost use Rattle.flow_base.specs.declared.chart_limits.TheConstants.{STATEMENT_LIMIT};
     ghost use Rattle.active_config.specs.Tree as trees;
     ghost use Rattle.active_config.specs.Tree.{IsTree, state_count, comp_of, parent_of};
     ghost use Rattle.checked_chart.specs.Chart as spec;
     ghost use Rattle.checked_chart.specs.Homes as spec_homes;
     ghost use Rattle.checked_chart.specs.Kept.{chart_of};
     ghost use Rattle.checked_chart.specs.Valid.{IsNode, AreStmts, AreTrans};
-    ghost use Rattle.checked_chart.specs.declared.limits.TheConstants.{STATEMENT_LIMIT};
     ghost use Rattle.checked_chart.specs.Views.{block_seen, list_seen, node_seen};
 
     /// The chart of a tree, what it declares, a part for each state in pre-order, and the lists of

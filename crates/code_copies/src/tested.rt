@@ -10,7 +10,7 @@ ghost use Rattle.std.specs.Prelude.{
   slice_set,
   true,
 };
-ghost use Rattle.checked_chart.specs.declared.limits.TheConstants.{EVENT_LIMIT};
+ghost use Rattle.flow_base.specs.declared.chart_limits.TheConstants.{EVENT_LIMIT};
 ghost use Rattle.code_language.specs.Code.{code_of, cond_of, instr_of, instrs_of};
 ghost use Rattle.code_shrink.specs.Origins.{kept_from};
 ghost use Rattle.code_copies.specs.Tested as spec;

@@ -2,11 +2,11 @@
 use Rattle.std.specs.Prelude.{ℕ, zero, suc, ◌+◌, ◌^◌, nat_lt, pos, Bool, true, false, List, codes}
 use Rattle.std.specs.Prelude.{Option, Some, None, option_and_then, option_map, if◌then◌else◌}
 use Rattle.std.specs.Str.{bytes_eq}
+use Rattle.flow_base.specs.declared.chart_limits.TheConstants.{OPERATOR_LIMIT}
 use Rattle.fixed_point.specs.declared.num.Num.{Num}
 use Rattle.actions.specs.declared.expr.Op.{Op}
 use Rattle.actions.specs.declared.expr.Op.TheVariants as ops
 use Rattle.actions.specs.Exprs.{Expr, Lit, Flag, Read, Active, Neg, Not, Bin}
-use Rattle.checked_chart.specs.declared.limits.TheConstants.{OPERATOR_LIMIT}
 use Rattle.code_fields.specs.declared.operators.Operator.{Operator}
 use Rattle.code_fields.specs.declared.operators.Operator.TheVariants as operators
 use Rattle.code_fields.specs.Cuts.{Parts, parts_at, Field, field_of}

@@ -2,6 +2,7 @@
 use Rattle.std.specs.Prelude.{◌≡◌, ℕ, ◌^◌, ◌<◌, ◌≤◌, ℤ, unsigned_abs, Bool, true, false, IsTrue, ◌&&◌, int_le, pos}
 use Rattle.std.specs.Prelude.{List, ◌∷◌, ◌++◌, codes, decimal}
 use Rattle.std.specs.Fmt.{signed_decimal}
+use Rattle.flow_base.specs.declared.chart_limits.TheConstants.{OPERATOR_LIMIT}
 use Rattle.fixed_point.specs.declared.fitting.Mode.{Mode}
 use Rattle.fixed_point.specs.declared.fitting.Mode.TheVariants as modes
 use Rattle.fixed_point.specs.declared.num.Num.{Num}
@@ -20,7 +21,6 @@ use Rattle.actions.specs.declared.names.Var.{Var}
 use Rattle.actions.specs.declared.names.VarKind.{VarKind}
 use Rattle.actions.specs.declared.names.VarKind.TheVariants as var_kinds
 use Rattle.actions.specs.Exprs.{Expr, Lit, Flag, Read, Active, Neg, Not, Bin}
-use Rattle.checked_chart.specs.declared.limits.TheConstants.{OPERATOR_LIMIT}
 use Rattle.checked_chart.specs.Expressions.{IsLiteral, operator_count}
 
 -- a number that a line can have

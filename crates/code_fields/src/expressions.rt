@@ -7,7 +7,7 @@ ghost use Rattle.code_fields.specs.Views as views;
 use crate::cuts::{Field, field_of};
 use crate::operators::{Operator, atom_of, operator_of};
 use actions::{Expr, Op};
-use checked_chart::limits::OPERATOR_LIMIT;
+use flow_base::chart_limits::OPERATOR_LIMIT;
 use std::alloc::{AllocError, Global};
 
 /// An expression at the front of a text.

@@ -7,6 +7,8 @@ use Rattle.std.proofs.lemmas.Bool.{cases_lt, cases_eq}
 use Rattle.fixed_point.specs.declared.fitting.Mode.{Mode}
 use Rattle.fixed_point.specs.declared.fitting.Mode.TheVariants.{Saturate, Wrap, Error}
 use Rattle.flow_base.specs.Names.{are_distinct}
+use Rattle.flow_base.specs.declared.chart_limits.TheConstants.{STATE_LIMIT, STATE_DEPTH_LIMIT, VARIABLE_LIMIT}
+use Rattle.flow_base.specs.declared.chart_limits.TheConstants.{EVENT_LIMIT}
 use Rattle.chart_lexer.specs.Words.{is_name}
 use Rattle.active_config.specs.declared.comp.Comp.{Comp}
 use Rattle.active_config.specs.declared.comp.Comp.TheVariants.{Leaf, Or, And}
@@ -17,7 +19,6 @@ use Rattle.actions.specs.declared.names.Sort.{Sort}
 use Rattle.actions.specs.declared.names.Sort.TheVariants.{Flag, Number}
 use Rattle.actions.specs.declared.names.Var.{Var}
 use Rattle.actions.specs.Names.{Names}
-use Rattle.checked_chart.specs.declared.limits.TheConstants.{STATE_LIMIT, STATE_DEPTH_LIMIT, VARIABLE_LIMIT, EVENT_LIMIT}
 use Rattle.checked_chart.specs.Valid.{HasNames, HasFlagMode, declared_names, state_name}
 use Rattle.code_language.specs.declared.fault.CodeFault.{CodeFault}
 use Rattle.code_language.specs.declared.fault.CodeKind.TheVariants as kinds

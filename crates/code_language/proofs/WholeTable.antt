@@ -9,6 +9,7 @@ use Rattle.fixed_point.specs.declared.fitting.Mode.{Mode}
 use Rattle.fixed_point.specs.declared.fitting.Mode.TheVariants.{Saturate, Wrap, Error}
 use Rattle.flow_base.specs.Lists.{items_of}
 use Rattle.flow_base.specs.Names.{index_of, after, are_distinct}
+use Rattle.flow_base.specs.declared.chart_limits.TheConstants.{STATE_LIMIT, VARIABLE_LIMIT}
 use Rattle.chart_lexer.specs.Words.{is_name}
 use Rattle.active_config.specs.Tree.{Tree, IsTree}
 use Rattle.active_config.proofs.TestLemmas.{false_where}
@@ -17,7 +18,6 @@ use Rattle.actions.specs.declared.names.EventDecl.{EventDecl}
 use Rattle.actions.specs.declared.names.Sort.{Sort}
 use Rattle.actions.specs.declared.names.Sort.TheVariants.{Flag, Number}
 use Rattle.actions.specs.declared.names.Var.{Var}
-use Rattle.checked_chart.specs.declared.limits.TheConstants.{STATE_LIMIT, VARIABLE_LIMIT}
 use Rattle.checked_chart.specs.Valid.{HasFlagMode}
 use Rattle.code_language.specs.declared.code.RawCode.{RawCode}
 use Rattle.code_language.specs.declared.code.RawState.{RawState}

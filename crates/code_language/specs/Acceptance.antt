@@ -6,6 +6,8 @@ use Rattle.std.specs.Str.{bytes_eq}
 use Rattle.flow_base.specs.Names.{are_distinct}
 use Rattle.flow_base.specs.Lists.{items_of}
 use Rattle.flow_base.specs.declared.list.List.{List as Seq}
+use Rattle.flow_base.specs.declared.chart_limits.TheConstants.{STATE_LIMIT, STATE_DEPTH_LIMIT, VARIABLE_LIMIT}
+use Rattle.flow_base.specs.declared.chart_limits.TheConstants.{EVENT_LIMIT}
 use Rattle.active_config.specs.declared.comp.Comp.{Comp}
 use Rattle.active_config.specs.Tree.{Tree, IsTree, state_count, children_of, ancestors}
 use Rattle.actions.specs.declared.names.EventDecl.{EventDecl}
@@ -16,7 +18,6 @@ use Rattle.actions.specs.Data.{is_mantissa_of}
 use Rattle.chart_lexer.specs.Words.{is_name}
 use Rattle.fixed_point.specs.declared.fitting.Mode.{Mode}
 use Rattle.fixed_point.specs.declared.fitting.Mode.TheVariants.{Saturate, Wrap, Error}
-use Rattle.checked_chart.specs.declared.limits.TheConstants.{STATE_LIMIT, STATE_DEPTH_LIMIT, VARIABLE_LIMIT, EVENT_LIMIT}
 use Rattle.code_language.specs.declared.code.RawCode.{RawCode}
 use Rattle.code_language.specs.declared.code.RawState.{RawState}
 use Rattle.code_language.specs.declared.fault.CodeEnd.{CodeEnd}

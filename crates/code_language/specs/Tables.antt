@@ -1,10 +1,11 @@
 -- What code may declare of states, data and events: what a chart may.
 use Rattle.std.specs.Prelude.{◌<◌, ◌≤◌, ℕ, length}
 use Rattle.std.specs.List.{AllByRecursion}
+use Rattle.flow_base.specs.declared.chart_limits.TheConstants.{STATE_LIMIT, STATE_DEPTH_LIMIT, VARIABLE_LIMIT}
+use Rattle.flow_base.specs.declared.chart_limits.TheConstants.{EVENT_LIMIT}
 use Rattle.active_config.specs.Tree.{Tree, IsTree, state_count, ancestors}
 use Rattle.actions.specs.Data.{HasInits}
 use Rattle.actions.specs.Names.{Names}
-use Rattle.checked_chart.specs.declared.limits.TheConstants.{STATE_LIMIT, STATE_DEPTH_LIMIT, VARIABLE_LIMIT, EVENT_LIMIT}
 use Rattle.checked_chart.specs.Valid.{HasNames, HasFlagMode}
 
 -- the states are a tree, not too many and none too deep; there are not too many data and events; every name is a NAME,

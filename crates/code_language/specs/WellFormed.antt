@@ -3,6 +3,7 @@ use Rattle.std.specs.Prelude.{◌≡◌, ◌+◌, ◌^◌, ℕ, nat_lt, pos, int
 use Rattle.std.specs.Prelude.{List, [], ◌∷◌, length, Option, Some, None, Ok, Err, slice_get, if◌then◌else◌}
 use Rattle.std.specs.List.{list_any}
 use Rattle.std.specs.Option.{option_map_or}
+use Rattle.flow_base.specs.declared.chart_limits.TheConstants.{OPERATOR_LIMIT}
 use Rattle.fixed_point.specs.declared.num.Num.{Num}
 use Rattle.active_config.specs.Tree.{Tree, state_count, parent_of, comp_of}
 use Rattle.actions.specs.declared.names.EventDecl.{EventDecl}
@@ -16,7 +17,6 @@ use Rattle.actions.specs.declared.sort.ExprSort.TheVariants as sorts
 use Rattle.actions.specs.Exprs.{Expr, Lit, Flag, Read, Active, Neg, Not, Bin}
 use Rattle.actions.specs.Names.{Names}
 use Rattle.actions.specs.Sorts.{Sorted, scope_of, sort_of, assignment_fault}
-use Rattle.checked_chart.specs.declared.limits.TheConstants.{OPERATOR_LIMIT}
 use Rattle.checked_chart.specs.Chart.{is_or}
 use Rattle.checked_chart.specs.Expressions.{operator_count}
 use Rattle.code_language.specs.declared.fault.CodeEnd.{CodeEnd}

@@ -13,8 +13,8 @@ use crate::code::{RawCode, RawState};
 use actions::{EventDecl, Sort, Var};
 use active_config::{Comp, Shape, ShapeFault};
 use chart_lexer::is_name;
-use checked_chart::limits::{EVENT_LIMIT, STATE_DEPTH_LIMIT, STATE_LIMIT, VARIABLE_LIMIT};
 use fixed_point::{Mode, Num, exact};
+use flow_base::chart_limits::{EVENT_LIMIT, STATE_DEPTH_LIMIT, STATE_LIMIT, VARIABLE_LIMIT};
 use flow_base::{Memory, Text};
 use std::alloc::{AllocError, Global};
 

@@ -13,8 +13,8 @@ use actions::{
     EventKind, Expr, ExprFault, ExprSort, Sort, VarKind, assignment_fault, binary_sort,
     literal_sort, negative_sort, not_sort,
 };
-use checked_chart::limits::OPERATOR_LIMIT;
 use fixed_point::Num;
+use flow_base::chart_limits::OPERATOR_LIMIT;
 
 /// The least mantissa that is too great for a literal.
 const MANTISSA_END: i128 = 1 << 99;

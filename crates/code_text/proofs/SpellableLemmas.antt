@@ -10,6 +10,7 @@ use Rattle.std.proofs.lemmas.Int.{ints}
 use Rattle.std.proofs.lemmas.List.{get_or-map, length-map}
 use Rattle.std.proofs.lemmas.List.Elements.{recursion_from_All}
 use Rattle.std.proofs.Math.Nat.{pow-le-pow_right}
+use Rattle.flow_base.specs.declared.chart_limits.TheConstants.{OPERATOR_LIMIT}
 use Rattle.fixed_point.specs.declared.num.Num.{Num}
 use Rattle.chart_lexer.specs.Words.{is_name}
 use Rattle.active_config.specs.Tree.{Tree, IsTree, state_count, parent_of}
@@ -20,7 +21,6 @@ use Rattle.actions.specs.declared.names.Sort.TheVariants as sorts
 use Rattle.actions.specs.declared.names.Var.{Var}
 use Rattle.actions.specs.Data.{is_mantissa_of}
 use Rattle.actions.specs.Exprs.{Expr, Lit, Flag, Read, Active, Neg, Not, Bin}
-use Rattle.checked_chart.specs.declared.limits.TheConstants.{OPERATOR_LIMIT}
 use Rattle.checked_chart.specs.Expressions.{IsLiteral, operator_count}
 use Rattle.checked_chart.specs.Valid.{HasFlagMode}
 use Rattle.code_language.specs.declared.code.RawCode.{RawCode}

@@ -1,11 +1,13 @@
 //! What most other crates use: texts and lists, of whose bytes and items contracts speak, the
-//! bounds and the faults of a run, the status of the program, and the sources and sinks of bytes.
+//! limits of a chart, the bounds and the faults of a run, the status of the program, and the sources
+//! and sinks of bytes.
 //!
 //! Read `specs/Causes.antt` and `specs/Bytes.antt` first: they say what a source and a sink
 //! promise.
 #![tactic(auto)]
 
 mod bounds;
+pub mod chart_limits;
 mod fault;
 mod inputs;
 mod list;

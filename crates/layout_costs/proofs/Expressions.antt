@@ -7,6 +7,7 @@ use Rattle.std.proofs.lemmas.Bool.{lt-ltb, le-leb, ltb-true}
 use Rattle.std.proofs.lemmas.Bool.Decides.{nat_tests}
 use Rattle.std.proofs.lemmas.Option.{slice_get_within}
 use Rattle.std.proofs.lemmas.List.{length-map}
+use Rattle.flow_base.specs.declared.chart_limits.TheConstants.{OPERATOR_LIMIT}
 use Rattle.fixed_point.specs.declared.num.Num.{Num}
 use Rattle.active_config.specs.Tree.{state_count}
 use Rattle.actions.specs.declared.names.EventDecl.{EventDecl}
@@ -23,7 +24,6 @@ use Rattle.actions.specs.declared.sort.ExprFault.TheVariants as faults
 use Rattle.actions.specs.Exprs.{Expr, Lit, Flag, Read, Active, Neg, Not, Bin}
 use Rattle.actions.specs.Sorts.{Sorted, scope_of, with_sort, datum_sort, negative_sort, not_sort}
 use Rattle.actions.specs.Sorts.{binary_sort, sort_of, assignment_fault}
-use Rattle.checked_chart.specs.declared.limits.TheConstants.{OPERATOR_LIMIT}
 use Rattle.checked_chart.specs.Chart.{Chart}
 use Rattle.checked_chart.specs.Expressions.{IsLiteral, LiteralsFit, operator_count}
 use Rattle.checked_chart.specs.Valid.{IsExpr, CanAssign, IsTrigger, HasGuard}

@@ -1,10 +1,10 @@
 -- Each kind of procedure keeps its bound by those that it calls.
 use Rattle.std.proofs.Common.{◌≡◌, ℕ, ◌+◌, ◌*◌, ◌<◌, ◌≤◌, true, List, Some, refl, arith}
 use Rattle.std.specs.Prelude.{IfSome}
+use Rattle.flow_base.specs.declared.chart_limits.TheConstants.{STATE_DEPTH_LIMIT}
 use Rattle.active_config.specs.Tree.{parent_of, state_count}
 use Rattle.active_config.proofs.PathLemmas.{is_at_or_below-same}
 use Rattle.actions.specs.Exprs.{Expr, Stmt}
-use Rattle.checked_chart.specs.declared.limits.TheConstants.{STATE_DEPTH_LIMIT}
 use Rattle.checked_chart.specs.declared.parts.ListKind.{ListKind}
 use Rattle.checked_chart.specs.declared.parts.ListKind.TheVariants.{Outer, Inner, Default}
 use Rattle.checked_chart.specs.Chart.{Chart, node, list_of, junction}

@@ -1,7 +1,7 @@
 -- The heights of the procedures of the code of a chart.
 use Rattle.std.proofs.Common.{◌≡◌, ℕ, ◌+◌, ◌*◌, ◌≤◌, List, [], ◌∷◌, suc, None, arith}
 use Rattle.std.specs.Prelude.{slice_index}
-use Rattle.checked_chart.specs.declared.limits.TheConstants.{STATE_DEPTH_LIMIT}
+use Rattle.flow_base.specs.declared.chart_limits.TheConstants.{STATE_DEPTH_LIMIT}
 use Rattle.checked_chart.specs.Chart.{Chart}
 use Rattle.checked_chart.specs.Valid.{IsValid}
 use Rattle.code_language.specs.declared.fault.CodeKind.TheVariants as kinds

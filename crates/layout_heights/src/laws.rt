@@ -1,6 +1,6 @@
 //! How high the procedures of the code of a chart are.
 ghost use Rattle.std.specs.Prelude.{◌≡◌, ◌≤◌, ◌+◌, ◌*◌, ℕ, Some, None, slice_get, slice_index};
-ghost use Rattle.checked_chart.specs.declared.limits.TheConstants.{STATE_DEPTH_LIMIT};
+ghost use Rattle.flow_base.specs.declared.chart_limits.TheConstants.{STATE_DEPTH_LIMIT};
 ghost use Rattle.checked_chart.specs.Chart.{Chart};
 ghost use Rattle.checked_chart.specs.Valid.{IsValid};
 ghost use Rattle.code_language.specs.declared.fault.CodeKind.TheVariants as kinds;

@@ -1,6 +1,9 @@
 -- What holds of every resolved chart that comes from a chart text without faults of names.
 use Rattle.std.specs.Prelude.{◌≡◌, ◌≢◌, ◌<◌, ◌≤◌, ℕ, false, List, [], length, Option, Some, None, Ok, slice_get}
 use Rattle.std.specs.List.{AllByRecursion}
+use Rattle.flow_base.specs.declared.chart_limits.TheConstants.{STATE_LIMIT, STATE_DEPTH_LIMIT, JUNCTION_LIMIT}
+use Rattle.flow_base.specs.declared.chart_limits.TheConstants.{TRANSITION_LIMIT, VARIABLE_LIMIT, EVENT_LIMIT}
+use Rattle.flow_base.specs.declared.chart_limits.TheConstants.{ITEM_LIMIT, STATEMENT_LIMIT, OPERATOR_LIMIT}
 use Rattle.fixed_point.specs.declared.num.Num.{Num}
 use Rattle.fixed_point.specs.declared.reading.TheConstants.{DIGIT_LIMIT}
 use Rattle.fixed_point.specs.declared.scale.TheConstants.{PLACES_LIMIT}
@@ -8,8 +11,6 @@ use Rattle.active_config.specs.Tree.{IsTree, state_count, comp_of, children_of, 
 use Rattle.chart_tree.specs.declared.name.LitText.{LitText}
 use Rattle.chart_tree.specs.declared.sort.InitText.{InitText}
 use Rattle.chart_tree.specs.declared.sort.InitText.TheVariants as inits
-use Rattle.checked_chart.specs.declared.limits.TheConstants.{STATE_LIMIT, STATE_DEPTH_LIMIT, JUNCTION_LIMIT, TRANSITION_LIMIT}
-use Rattle.checked_chart.specs.declared.limits.TheConstants.{VARIABLE_LIMIT, EVENT_LIMIT, ITEM_LIMIT, STATEMENT_LIMIT, OPERATOR_LIMIT}
 use Rattle.checked_chart.specs.Chart as charts
 use Rattle.checked_chart.specs.Counts.{transition_count, item_count}
 use Rattle.checked_chart.specs.Expressions.{operator_count}

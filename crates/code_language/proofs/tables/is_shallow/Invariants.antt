@@ -1,6 +1,6 @@
 use Rattle.std.proofs.Common.{ℕ, ◌<◌, ◌≤◌, length}
+use Rattle.flow_base.specs.declared.chart_limits.TheConstants.{STATE_DEPTH_LIMIT}
 use Rattle.active_config.specs.Tree.{ancestors}
-use Rattle.checked_chart.specs.declared.limits.TheConstants.{STATE_DEPTH_LIMIT}
 use Rattle.code_language.proofs.tables.is_shallow.Given as goal
 
 -- no state so far is too deep

@@ -1,8 +1,8 @@
 use Rattle.std.proofs.Common.{◌≡◌, true, false, refl, sym, ◌∙◌}
 use Rattle.std.proofs.lemmas.Result.{err_from_is_err_and}
+use Rattle.flow_base.specs.declared.chart_limits.TheConstants.{STATE_DEPTH_LIMIT}
 use Rattle.token_grammar.specs.Token.{lexemes}
 use Rattle.token_grammar.specs.Grammar.{heads}
-use Rattle.chart_tree.specs.declared.limits.TheConstants.{STATE_DEPTH_LIMIT}
 use Rattle.chart_grammar.specs.Limits.{usual}
 use Rattle.chart_grammar.specs.States.{chart_heads, chart_item, chart_items, state}
 use Rattle.chart_grammar.proofs.ItemLaws.{good_next_chart_item}

@@ -1,6 +1,6 @@
 use Rattle.std.proofs.Common.{◌≡◌, length, map}
+use Rattle.flow_base.specs.declared.chart_limits.TheConstants.{STATE_DEPTH_LIMIT}
 use Rattle.token_grammar.specs.Token.{lexemes}
-use Rattle.chart_tree.specs.declared.limits.TheConstants.{STATE_DEPTH_LIMIT}
 use Rattle.chart_grammar.specs.Limits.{usual}
 use Rattle.chart_grammar.specs.States.{nothing_seen, state, chart_items}
 use Rattle.chart_reader.specs.Counts.{counts_of}

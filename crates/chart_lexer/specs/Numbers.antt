@@ -2,8 +2,8 @@
 use Rattle.std.specs.Prelude.{ℕ, ◌+◌, ◌-◌, ◌*◌, ◌&&◌, Bool, true, false, nat_eq, nat_lt, nat_le, List, [], ◌∷◌, take, drop, if◌then◌else◌}
 use Rattle.std.specs.List.{prefix_len}
 use Rattle.std.specs.Str.{byte}
+use Rattle.fixed_point.specs.declared.scale.TheConstants.{PLACES_LIMIT}
 use Rattle.chart_lexer.specs.Bytes.{is_digit}
-use Rattle.chart_lexer.specs.declared.numbers.TheConstants.{SCALE_LIMIT}
 
 -- how many digits stand at the front of the text
 abbrev pub digits_length : List ℕ → ℕ
@@ -19,7 +19,7 @@ fraction_length (b ∷ s) =
 abbrev pub is_scale : List ℕ → Bool
 is_scale [] = false
 is_scale (a ∷ []) = true
-is_scale (a ∷ b ∷ []) = nat_le ((a - byte "0") * 10 + (b - byte "0")) SCALE_LIMIT
+is_scale (a ∷ b ∷ []) = nat_le ((a - byte "0") * 10 + (b - byte "0")) PLACES_LIMIT
 is_scale (a ∷ b ∷ c ∷ s) = false
 
 -- how many bytes `q` and the number of bits after it have, where there is such a `q`

@@ -3,6 +3,7 @@ ghost use Rattle.std.specs.Prelude.{◌≡◌, ◌≤◌, length};
 ghost use Rattle.chart_lexer.specs.Numbers as spec;
 
 use crate::bytes::is_digit;
+use fixed_point::PLACES_LIMIT;
 
 /// How many digits stand at the front of the text.
 fn digits_length(text: &[u8]) -> usize
@@ -25,10 +26,7 @@ fn fraction_length(text: &[u8]) -> usize
     if digits > 0 { digits + 1 } else { 0 }
 }
 
-/// The most bits that `q` may ask for.
-pub const SCALE_LIMIT: u32 = 32;
-
-/// Whether the digits are one or two, of a value up to `SCALE_LIMIT`.
+/// Whether the digits are one or two, of a value up to `PLACES_LIMIT`.
 fn is_scale(digits: &[u8]) -> bool
     ensures { result ≡ spec.is_scale digits.now }
 {
@@ -37,7 +35,7 @@ fn is_scale(digits: &[u8]) -> bool
         [tens, units] => {
             let tens = u32::from(tens.saturating_sub(b'0'));
             let units = u32::from(units.saturating_sub(b'0'));
-            tens * 10 + units <= SCALE_LIMIT
+            tens * 10 + units <= u32::from(PLACES_LIMIT)
         }
         _ => false,
     }

@@ -36,7 +36,7 @@ use Rattle.net_text.specs.declared.route.Route.{Route}
 use Rattle.chart_net.specs.declared.seat.Seat.{Seat}
 use Rattle.event_file.specs.LineValues.{IsMadeFor}
 use Rattle.event_file.specs.declared.fault.LineFault.{LineFault}
-use Rattle.event_file.specs.declared.limits.TheConstants.{EVENT_LIMIT}
+use Rattle.event_file.specs.declared.limits.TheConstants.{FILE_EVENT_LIMIT}
 use Rattle.trace_text.specs.Trace.{IsEventOf, line_with}
 use Rattle.chart_net.proofs.HoldLemmas.{read_same}
 use Rattle.chart_net.proofs.PartLemmas.{along, at_changed, chart_same, declared_is, mapped_same, name_is, replaced_same}
@@ -367,7 +367,7 @@ pub line_done : {G : Type 0} (members : Engine G) (old mid : Parts G) (stands : 
     (number p : ℕ)
     (said : Result (Option NetStep) LineFault) (step : NetStep) (puts : List ℕ → Type 0) (failed : Bool)
     (done : Result (Unit {0}) NetEnd)
-    (result : Result ℕ NetEnd) → said ≡ Ok (Some step) → nat_le EVENT_LIMIT p ≡ false
+    (result : Result ℕ NetEnd) → said ≡ Ok (Some step) → nat_le FILE_EVENT_LIMIT p ≡ false
     → charts_of members mid ≡ charts_of members old
     → routes_of mid ≡ routes_of old → StepEnds (net_shown members mid) now step (p + 1) stands puts failed done
     → without_number result ≡ done

@@ -15,7 +15,7 @@ use Rattle.event_file.specs.NextLine.{Nexts}
 use Rattle.event_file.specs.Reading.{Reading, unused}
 use Rattle.event_file.specs.declared.fault.LineFault.{LineFault}
 use Rattle.event_file.specs.declared.fault.LineFault.TheVariants as faults
-use Rattle.event_file.specs.declared.limits.TheConstants.{EVENT_LIMIT}
+use Rattle.event_file.specs.declared.limits.TheConstants.{FILE_EVENT_LIMIT}
 use Rattle.step_driver.specs.Causes.{ReadCause}
 use Rattle.step_driver.specs.Driving.{Seen, Wrote}
 use Rattle.step_driver.specs.Ending.{given_text}
@@ -485,7 +485,7 @@ module _ (net : Net) where
         → (put : List ℕ) × P put × Driven s (NetState net Stands' next_p) before left' r' next_p (text ++ put)
     line_driven next_p taken = by_said (step_of_line net r'.line) refl taken
       where
-        by_count : (step : NetStep) (b : Bool) → nat_le EVENT_LIMIT p ≡ b → step_of_line net r'.line ≡ Ok (Some step)
+        by_count : (step : NetStep) (b : Bool) → nat_le FILE_EVENT_LIMIT p ≡ b → step_of_line net r'.line ≡ Ok (Some step)
             → StepTried b net d.state.now step p Stands' P failed (Ok next_p)
             → (put : List ℕ) × P put × Driven s (NetState net Stands' next_p) before left' r' next_p (text ++ put)
         by_count step true many is (bad, _) = absurd (cc)
@@ -519,7 +519,7 @@ module _ (net : Net) where
               rw p_is (subst (λ (z : List ℕ). Driven s (NetState net Stands' p) before left' r' p z)
                   (sym (append-nil text)) passed),
             )
-        by_said (Ok (Some step)) is h = by_count step (nat_le EVENT_LIMIT p) refl is h
+        by_said (Ok (Some step)) is h = by_count step (nat_le FILE_EVENT_LIMIT p) refl is h
         by_said (Err fault) is (bad, _) = absurd (cc)
 
     -- the run ends
@@ -531,7 +531,7 @@ module _ (net : Net) where
       where
         by_answer : (f : Bool) (step : NetStep)
             (done : StepDone net d.state.now step (p + 1) Stands' P failed (Err end))
-            (why : Option Why) → nat_le EVENT_LIMIT p ≡ false → step_of_line net r'.line ≡ Ok (Some step)
+            (why : Option Why) → nat_le FILE_EVENT_LIMIT p ≡ false → step_of_line net r'.line ≡ Ok (Some step)
             → why_ended done.next.outcome ≡ why → Err end ≡ answer_after f (p + 1) why
             → EndOf s (NetDrives net) (is_write {T = Unit {0}} (Err end)) before left'
             (text ++ outcome_line net (p + 1) done.next.after done.next.outcome) (Err end)
@@ -562,7 +562,7 @@ module _ (net : Net) where
             (subst (λ (z : List NetStep). RanOver net z (text ++ line) (Some over)) (more_steps step rest) (k rest)))
             (λ stop. refl)))
 
-        by_memory : (b : Bool) (step : NetStep) → is_memory {T = Unit {0}} (Err end) ≡ b → nat_le EVENT_LIMIT p ≡ false
+        by_memory : (b : Bool) (step : NetStep) → is_memory {T = Unit {0}} (Err end) ≡ b → nat_le FILE_EVENT_LIMIT p ≡ false
             → step_of_line net r'.line ≡ Ok (Some step)
             → StepEnds net d.state.now step (p + 1) Stands' P failed (Err end)
             → (put : List ℕ) × P put
@@ -584,7 +584,7 @@ module _ (net : Net) where
               by_answer failed step done (why_ended done.next.outcome) few is refl done.answer,
             )
 
-        by_count : (step : NetStep) (b : Bool) → nat_le EVENT_LIMIT p ≡ b → step_of_line net r'.line ≡ Ok (Some step)
+        by_count : (step : NetStep) (b : Bool) → nat_le FILE_EVENT_LIMIT p ≡ b → step_of_line net r'.line ≡ Ok (Some step)
             → StepTried b net d.state.now step p Stands' P failed (Err end)
             → (put : List ℕ) × P put
             × EndOf s (NetDrives net) (is_write {T = Unit {0}} (Err end)) before left' (text ++ put) (Err end)
@@ -604,7 +604,7 @@ module _ (net : Net) where
             → (put : List ℕ) × P put
             × EndOf s (NetDrives net) (is_write {T = Unit {0}} (Err end)) before left' (text ++ put) (Err end)
         by_said (Ok None) is (bad, _, _) = absurd (cc)
-        by_said (Ok (Some step)) is h = by_count step (nat_le EVENT_LIMIT p) refl is h
+        by_said (Ok (Some step)) is h = by_count step (nat_le FILE_EVENT_LIMIT p) refl is h
         by_said (Err fault) is (bad, puts) =
             let same : end ≡ ends.Line r'.number fault = let b = bad in cc in
             rw same ([], puts, line_refused s (NetState net Stands p) before left left' r r' p text d next fault is)

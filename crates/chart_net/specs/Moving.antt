@@ -10,7 +10,7 @@ use Rattle.actions.specs.declared.engine.Halt.TheVariants as halts
 use Rattle.actions.specs.declared.event.Event.{Event}
 use Rattle.trace_text.specs.Trace.{line_with}
 use Rattle.event_file.specs.declared.fault.LineFault.{LineFault}
-use Rattle.event_file.specs.declared.limits.TheConstants.{EVENT_LIMIT}
+use Rattle.event_file.specs.declared.limits.TheConstants.{FILE_EVENT_LIMIT}
 use Rattle.chart_net.specs.Causes.{is_memory}
 use Rattle.chart_net.specs.Holding.{Sent}
 use Rattle.chart_net.specs.Nets.{Net, NetWorld, RouteState}
@@ -143,5 +143,5 @@ abbrev pub LineDone : Net → NetWorld → ℕ → ℕ → Result (Option NetSte
     → (List ℕ → Type 0) → Bool → Result ℕ NetEnd → Type 0
 LineDone net now number p (Ok None) stands puts failed result = (result ≡ Ok p) × stands now × puts []
 LineDone net now number p (Ok (Some step)) stands puts failed result =
-    StepTried (nat_le EVENT_LIMIT p) net now step p stands puts failed result
+    StepTried (nat_le FILE_EVENT_LIMIT p) net now step p stands puts failed result
 LineDone net now number p (Err fault) stands puts failed result = (result ≡ Err (ends.Line number fault)) × puts []

@@ -34,7 +34,7 @@ pub enum NetEnd {
     /// A write failed.
     #[error("write fault")]
     Write,
-    /// The schedule has over `EVENT_LIMIT` steps. The trace of the first ones was written.
+    /// The schedule has over `FILE_EVENT_LIMIT` steps. The trace of the first ones was written.
     #[error("too many steps")]
     TooManyLines,
     /// The schedule has over `FILE_LIMIT` bytes. The trace of the steps before the line that holds

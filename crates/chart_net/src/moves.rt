@@ -23,7 +23,7 @@ use crate::move_lines::{answer_of, put_empty, put_line};
 use crate::net::Net;
 use crate::sending::{send_events, take_item};
 use actions::{Engine, Event, Halt, Value};
-use event_file::EVENT_LIMIT;
+use event_file::FILE_EVENT_LIMIT;
 use flow_base::{Fault, Sink};
 use net_text::Route;
 use trace_text::Pieces;
@@ -73,7 +73,7 @@ impl<G: Engine> Net<G> {
         requires given { At self.old.seats.items c (λ seat.
             CanBeGiven (names_at G.Engine seat) (record { event = event; inputs = seat.vals.values })) }
         requires stages { AreAt G.Engine self.old all_running p }
-        requires few { p < EVENT_LIMIT }
+        requires few { p < FILE_EVENT_LIMIT }
         requires usable { pieces.old.failed ≡ false }
         ensures done { At self.old.seats.items c (λ seat. (now : NetWorld) → StandsFor G.Engine self.old now
             → spec.StepEnds (net_shown G.Engine self.old) now
@@ -107,7 +107,7 @@ impl<G: Engine> Net<G> {
         requires sound { IsSound G.Engine self.old }
         requires there { r < length self.old.routes.items }
         requires stages { AreAt G.Engine self.old all_running p }
-        requires few { p < EVENT_LIMIT }
+        requires few { p < FILE_EVENT_LIMIT }
         requires usable { pieces.old.failed ≡ false }
         ensures done { (now : NetWorld) → StandsFor G.Engine self.old now
             → spec.StepEnds (net_shown G.Engine self.old) now (Takes r) (p + 1) (StandsFor G.Engine self.new)
@@ -169,7 +169,7 @@ impl<G: Engine> Net<G> {
         requires seat { At self.old.seats.items c (IsSeat G.Engine) }
         requires given { At self.old.seats.items c (λ seat.
             CanBeGiven (names_at G.Engine seat) (record { event = event; inputs = seat.vals.values })) }
-        requires index { At self.old.seats.items c (λ seat. seat.index < EVENT_LIMIT) }
+        requires index { At self.old.seats.items c (λ seat. seat.index < FILE_EVENT_LIMIT) }
         ensures moves { ChangesAt self.old.seats.items self.new.seats.items c (λ before after.
             SeatMoves G.Engine before after
             (Some (record { event = event; inputs = before.vals.values })) result) }
@@ -189,7 +189,7 @@ impl<G: Engine> Net<G> {
             (λ seat. IsInputEvent (names_at G.Engine seat) route.event) }
         requires item { At self.old.seats.items route.to
             (λ seat. CanTake (names_at G.Engine seat) route.target item) }
-        requires index { At self.old.seats.items route.to (λ seat. seat.index < EVENT_LIMIT) }
+        requires index { At self.old.seats.items route.to (λ seat. seat.index < FILE_EVENT_LIMIT) }
         ensures moves { ChangesAt self.old.seats.items self.new.seats.items route.to (λ before after.
             SeatMoves G.Engine before after (Some (record {
               event = Named route.event;

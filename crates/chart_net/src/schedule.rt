@@ -18,7 +18,7 @@ use crate::driver::NetEnd;
 use crate::net::Net;
 use crate::seat::Seat;
 use actions::{Engine, Event};
-use event_file::{EVENT_LIMIT, LineFault, next_token};
+use event_file::{FILE_EVENT_LIMIT, LineFault, next_token};
 use flow_base::Sink;
 use itoa::Buffer;
 use trace_text::Pieces;
@@ -45,7 +45,7 @@ impl<G: Engine> Net<G> {
     ) -> Result<u64, NetEnd>
         requires sound { IsSound G.Engine self.old }
         requires stages { AreAt G.Engine self.old all_running p }
-        requires few { p ≤ EVENT_LIMIT }
+        requires few { p ≤ FILE_EVENT_LIMIT }
         requires usable { pieces.old.failed ≡ false }
         ensures done { (now : NetWorld) → StandsFor G.Engine self.old now
             → spec.LineDone (net_shown G.Engine self.old) now number p
@@ -67,7 +67,7 @@ impl<G: Engine> Net<G> {
             Ok(None) => return Ok(p),
             Err(fault) => return Err(NetEnd::Line(number, fault)),
         };
-        if p >= EVENT_LIMIT {
+        if p >= FILE_EVENT_LIMIT {
             return Err(NetEnd::TooManyLines);
         }
         match self.do_step::<O>(step, p, pieces, out) {
@@ -86,7 +86,7 @@ impl<G: Engine> Net<G> {
     ) -> Result<(), NetEnd>
         requires sound { IsSound G.Engine self.old }
         requires stages { AreAt G.Engine self.old all_running p }
-        requires few { p < EVENT_LIMIT }
+        requires few { p < FILE_EVENT_LIMIT }
         requires usable { pieces.old.failed ≡ false }
         requires step { (said : NetStep) × spec.IsStep G.Engine self.old step said }
         ensures done { (said : NetStep) → spec.IsStep G.Engine self.old step said

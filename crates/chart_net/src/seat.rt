@@ -11,7 +11,7 @@ ghost use Rattle.chart_net.specs.Routes.{CanTake};
 ghost use Rattle.chart_net.specs.Seats.{IsSeat, SeatMoves, names_at};
 
 use actions::{Engine, Event, Halt, Value};
-use event_file::{EVENT_LIMIT, InputVals, LineFault, event_line};
+use event_file::{FILE_EVENT_LIMIT, InputVals, LineFault, event_line};
 use flow_base::Text;
 use step_driver::set_inputs;
 
@@ -59,7 +59,7 @@ impl<G: Engine> Seat<G> {
         requires few { length self.old.vals.values < 2 ^ 32 }
         requires given { CanBeGiven (names_at G.Engine self.old)
             (record { event = event; inputs = self.old.vals.values }) }
-        requires index { self.old.index < EVENT_LIMIT }
+        requires index { self.old.index < FILE_EVENT_LIMIT }
         ensures moves { SeatMoves G.Engine self.old self.new
             (Some (record { event = event; inputs = self.old.vals.values })) result }
         ensures memory { IsTrue G.never_wants_memory → result ≢ Err Halt.Memory }
@@ -79,7 +79,7 @@ impl<G: Engine> Seat<G> {
         requires running { G.stage self.old.engine ≡ Running }
         requires event { IsInputEvent (names_at G.Engine self.old) event }
         requires item { CanTake (names_at G.Engine self.old) target item }
-        requires index { self.old.index < EVENT_LIMIT }
+        requires index { self.old.index < FILE_EVENT_LIMIT }
         ensures moves { SeatMoves G.Engine self.old self.new
             (Some (record {
               event = Named event;

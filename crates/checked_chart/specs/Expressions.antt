@@ -1,6 +1,7 @@
 -- What the expressions of a valid chart are: literals in range, and not too many operators.
 use Rattle.std.specs.Prelude.{◌≡◌, ◌+◌, ◌^◌, ◌<◌, ◌≤◌, ℕ, pos}
 use Rattle.fixed_point.specs.declared.num.Num.{Num}
+use Rattle.fixed_point.specs.declared.scale.TheConstants.{PLACES_LIMIT}
 use Rattle.actions.specs.Exprs.{Expr, Lit, Flag, Read, Active, Neg, Not, Bin}
 
 -- a literal's mantissa is a whole number below 2^99, and its fraction has at most 32 bits
@@ -8,7 +9,7 @@ pub record IsLiteral (n : Num) : Type 0 where
   pub units : ℕ
   pub mantissa : n.mantissa ≡ pos units
   pub small : units < 2 ^ 99
-  pub short : n.frac ≤ 32
+  pub short : n.frac ≤ PLACES_LIMIT
 
 -- every literal of an expression is in range
 abbrev pub LiteralsFit : Expr → Type 0

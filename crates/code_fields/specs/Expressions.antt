@@ -4,6 +4,7 @@ use Rattle.std.specs.Prelude.{Option, Some, None, option_and_then, option_map, i
 use Rattle.std.specs.Str.{bytes_eq}
 use Rattle.flow_base.specs.declared.chart_limits.TheConstants.{OPERATOR_LIMIT}
 use Rattle.fixed_point.specs.declared.num.Num.{Num}
+use Rattle.fixed_point.specs.declared.scale.TheConstants.{PLACES_LIMIT}
 use Rattle.actions.specs.declared.expr.Op.{Op}
 use Rattle.actions.specs.declared.expr.Op.TheVariants as ops
 use Rattle.actions.specs.Exprs.{Expr, Lit, Flag, Read, Active, Neg, Not, Bin}
@@ -45,7 +46,7 @@ operator_of token =
 
 -- a fraction of at most 32
 abbrev pub frac_of : List ℕ → Option ℕ
-frac_of token = option_and_then (kept (λ n. nat_lt n 33)) (number_of token)
+frac_of token = option_and_then (kept (λ n. nat_lt n (PLACES_LIMIT + 1))) (number_of token)
 
 -- a literal of this mantissa
 abbrev pub literal_with : List ℕ → ℕ → Option Num

@@ -6,7 +6,7 @@ ghost use Rattle.code_fields.specs.Expressions as spec;
 use crate::cuts::cut_at;
 use crate::numbers::{behind, number_behind, number_of, numeral};
 use actions::{Expr, Op};
-use fixed_point::Num;
+use fixed_point::{Num, PLACES_LIMIT};
 
 /// The first mantissa beyond those of literals.
 const MANTISSA_END: u128 = 1 << 99;
@@ -113,10 +113,14 @@ fn literal_of(text: &[u8]) -> Option<Num>
     })
 }
 
-/// A fraction of at most 32.
+/// A fraction of at most `PLACES_LIMIT`.
 fn frac_of(token: &[u8]) -> Option<u32>
     ensures { result ≡ spec.frac_of token.now }
 {
     let frac = number_of(token)?;
-    if frac < 33 { Some(frac) } else { None }
+    if frac <= u32::from(PLACES_LIMIT) {
+        Some(frac)
+    } else {
+        None
+    }
 }

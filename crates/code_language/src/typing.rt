@@ -13,20 +13,17 @@ use actions::{
     EventKind, Expr, ExprFault, ExprSort, Sort, VarKind, assignment_fault, binary_sort,
     literal_sort, negative_sort, not_sort,
 };
-use fixed_point::Num;
+use fixed_point::{Num, PLACES_LIMIT};
 use flow_base::chart_limits::OPERATOR_LIMIT;
 
 /// The least mantissa that is too great for a literal.
 const MANTISSA_END: i128 = 1 << 99;
 
-/// The greatest fraction of a literal.
-const FRACTION_LIMIT: u32 = 32;
-
 /// Whether a literal is in range.
 fn is_literal(number: Num) -> bool
     ensures { result ≡ spec.is_literal number }
 {
-    0 <= number.mantissa && number.mantissa < MANTISSA_END && number.frac <= FRACTION_LIMIT
+    0 <= number.mantissa && number.mantissa < MANTISSA_END && number.frac <= u32::from(PLACES_LIMIT)
 }
 
 /// Whether every literal of an expression is in range.

@@ -1,6 +1,7 @@
 -- How a run over an event file ends, whose trace is written: for any engine, by its own definitions.
 use Rattle.std.specs.Prelude.{◌≡◌, ◌≢◌, ℕ, ◌≤◌, Bool, IsTrue, List, length, Some, Result, Ok, Err}
 use Rattle.flow_base.specs.Causes.{OthersKept, NoneFalls}
+use Rattle.chart_lexer.specs.declared.words.TheConstants.{NAME_LIMIT}
 use Rattle.active_config.specs.Tree.{Tree}
 use Rattle.actions.specs.Names.{Names}
 use Rattle.actions.specs.Runs.{StartRelation, ReactionRelation}
@@ -13,7 +14,6 @@ use Rattle.step_driver.specs.declared.driver.DriveEnd.TheVariants as answers
 use Rattle.commands.specs.Call.{Call}
 use Rattle.commands.specs.declared.traced.TraceEnd.{TraceEnd}
 use Rattle.commands.specs.declared.traced.TraceEnd.TheVariants as ends
-use Rattle.commands.specs.declared.fault_word.TheConstants.{NAME_LIMIT}
 
 -- the names of the data have at most 63 bytes
 abbrev pub HasShortNames : Names → Type 0

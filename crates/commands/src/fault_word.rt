@@ -1,18 +1,16 @@
 //! The word of a fault of a run.
 ghost use Rattle.std.specs.Prelude.{◌≡◌, ◌≤◌, Some, length};
+ghost use Rattle.chart_lexer.specs.declared.words.TheConstants.{NAME_LIMIT};
 ghost use Rattle.actions.specs.Names.{names_of};
 ghost use Rattle.trace_text.specs.Trace as lines;
 ghost use Rattle.commands.specs.NetRules.{no_names};
 ghost use Rattle.commands.specs.Trace.{HasShortNames};
-ghost use Rattle.commands.specs.declared.fault_word.TheConstants.{NAME_LIMIT};
 
 use actions::Names;
 use arrayvec::ArrayString;
+use chart_lexer::NAME_LIMIT;
 use flow_base::Fault;
 use std::marker::Model;
-
-/// The most bytes that the name of a datum has.
-pub const NAME_LIMIT: usize = 63;
 
 /// Room for a word: `overflow`, a space and a name.
 const WORD_ROOM: usize = 9 + NAME_LIMIT;

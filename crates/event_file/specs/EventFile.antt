@@ -4,7 +4,7 @@ use Rattle.std.specs.Prelude.{if◌then◌else◌}
 use Rattle.actions.specs.Names.{Names}
 use Rattle.event_file.specs.declared.fault.LineFault.{LineFault}
 use Rattle.event_file.specs.declared.fault.LineFault.TheVariants as faults
-use Rattle.event_file.specs.declared.limits.TheConstants.{FILE_LIMIT, EVENT_LIMIT}
+use Rattle.event_file.specs.declared.limits.TheConstants.{FILE_LIMIT, FILE_EVENT_LIMIT}
 use Rattle.event_file.specs.EventLines.{event_of_line}
 use Rattle.event_file.specs.Limits.{Limit, TooLong, PastFile, line_limit}
 use Rattle.event_file.specs.Lines.{lines_of, without_return}
@@ -38,7 +38,7 @@ abbrev pub with_line : {A : Type 0} → ℕ → ℕ → Result (Option A) LineFa
 with_line number count (Err fault) later = stopped (AtLine number fault)
 with_line number count (Ok None) later = later count
 with_line number count (Ok (Some event)) later =
-    if nat_le EVENT_LIMIT count then stopped AtEvent else begun_by event (later (count + 1))
+    if nat_le FILE_EVENT_LIMIT count then stopped AtEvent else begun_by event (later (count + 1))
 
 -- the file from a line on, unless the line passes a limit
 abbrev pub with_limit : {A : Type 0} → Option Limit → ℕ → FileOf A → FileOf A

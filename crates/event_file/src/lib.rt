@@ -18,6 +18,6 @@ mod values;
 pub use event_lines::event_line;
 pub use fault::LineFault;
 pub use input_vals::InputVals;
-pub use limits::{BUFFER_SIZE, EVENT_LIMIT, FILE_LIMIT, LINE_LIMIT};
+pub use limits::{BUFFER_SIZE, FILE_EVENT_LIMIT, FILE_LIMIT, LINE_LIMIT};
 pub use line_reader::{LineEnd, LineReader};
 pub use tokens::{TokenCut, next_token};

@@ -8,7 +8,7 @@ use Rattle.std.proofs.lemmas.Bool.Decides.{nat_tests}
 use Rattle.flow_base.proofs.Pieces.{prepend_known-append}
 use Rattle.event_file.specs.declared.fault.LineFault.{LineFault}
 use Rattle.event_file.specs.declared.fault.LineFault.TheVariants as line_faults
-use Rattle.event_file.specs.declared.limits.TheConstants.{FILE_LIMIT, EVENT_LIMIT, BUFFER_SIZE}
+use Rattle.event_file.specs.declared.limits.TheConstants.{FILE_LIMIT, FILE_EVENT_LIMIT, BUFFER_SIZE}
 use Rattle.event_file.specs.EventFile.{FileOf, Stop, AtEnd, AtLine, AtEvent, AtLimit, file_of}
 use Rattle.event_file.specs.NextLine.{Nexts}
 use Rattle.event_file.specs.Reading.{Reading}
@@ -46,7 +46,7 @@ module _ (s : StepRuns) where
       (text : List ℕ) : Type 0 where
     pub events : List s.Step
     pub counted : length events ≡ index
-    pub limit : index ≤ EVENT_LIMIT
+    pub limit : index ≤ FILE_EVENT_LIMIT
     pub reads : Reads s.say before events r left
     pub ran : s.Ran events text None
     pub begins : Begins s text
@@ -209,8 +209,8 @@ module _ (s : StepRuns) where
 
   module _ (State : List s.Step → List ℕ → Type 0) (before left left' : Option (List ℕ)) (r r' : Reading) (index : ℕ)
       (text : List ℕ) (d : Driven State before left r index text) (next : Nexts r r' left left' (Ok true)) where
-    few_so_far : (b : Bool) → nat_le EVENT_LIMIT index ≡ b → nat_le EVENT_LIMIT (length d.events) ≡ b
-    few_so_far b is = ap (nat_le EVENT_LIMIT) d.counted ∙ is
+    few_so_far : (b : Bool) → nat_le FILE_EVENT_LIMIT index ≡ b → nat_le FILE_EVENT_LIMIT (length d.events) ≡ b
+    few_so_far b is = ap (nat_le FILE_EVENT_LIMIT) d.counted ∙ is
 
     -- the line is skipped
     pub line_passed : (State' : List s.Step → List ℕ → Type 0) → s.say r'.line ≡ Ok None → State' d.events text
@@ -228,7 +228,7 @@ module _ (s : StepRuns) where
     -- the line says a step, after which the run goes on
     pub line_stepped : (State' : List s.Step → List ℕ → Type 0) (step : s.Step) (line : List ℕ)
         → s.say r'.line ≡ Ok (Some step)
-        → nat_le EVENT_LIMIT index ≡ false → s.Ran (d.events ++ step ∷ []) (text ++ line) None
+        → nat_le FILE_EVENT_LIMIT index ≡ false → s.Ran (d.events ++ step ∷ []) (text ++ line) None
         → State' (d.events ++ step ∷ []) (text ++ line) → Driven State' before left' r' (index + 1) (text ++ line)
     line_stepped State' step line is few ran state = record {
       events = d.events ++ step ∷ [];
@@ -264,7 +264,7 @@ module _ (s : StepRuns) where
         (line_says State before left left' r r' index text d next) is)
 
     -- the step is one too many
-    pub line_too_many : (step : s.Step) → s.say r'.line ≡ Ok (Some step) → nat_le EVENT_LIMIT index ≡ true
+    pub line_too_many : (step : s.Step) → s.say r'.line ≡ Ok (Some step) → nat_le FILE_EVENT_LIMIT index ≡ true
         → (wrote : Option (List ℕ)) → Wrote s (given_text wrote (text ++ []) before left') (s.answer_of None AtEvent)
     line_too_many step is many =
         stopped_at AtEvent (whole_too_many s.say before d.events r' left' step
@@ -272,7 +272,7 @@ module _ (s : StepRuns) where
 
     -- the run ends at the step
     pub line_ended : (step : s.Step) (line : List ℕ) (end : s.End) (result : Result (Unit {0}) s.Error)
-        → s.say r'.line ≡ Ok (Some step) → nat_le EVENT_LIMIT index ≡ false
+        → s.say r'.line ≡ Ok (Some step) → nat_le FILE_EVENT_LIMIT index ≡ false
         → ((rest : List s.Step) → s.Ran (d.events ++ step ∷ rest) (text ++ line) (Some end))
         → ((stop : Stop) → result ≡ s.answer_of (Some end) stop) → (wrote : Option (List ℕ))
         → Wrote s (given_text wrote (text ++ line) before left') result
@@ -293,7 +293,7 @@ module _ (s : StepRuns) where
 
     -- a write fails in the line of the step
     pub line_cut : (step : s.Step) (line : List ℕ) (end : Option s.End) → RunLaws s → s.say r'.line ≡ Ok (Some step)
-        → nat_le EVENT_LIMIT index ≡ false → s.Ran (d.events ++ step ∷ []) (text ++ line) end
+        → nat_le FILE_EVENT_LIMIT index ≡ false → s.Ran (d.events ++ step ∷ []) (text ++ line) end
         → FirstRun before (text ++ line)
     line_cut step line end laws is few ran =
         let file = whole_event s.say before d.events r' left' step
@@ -309,7 +309,7 @@ module _ (s : StepRuns) where
         }
 
     -- memory runs out at the step, and nothing is put
-    pub line_wants : (step : s.Step) → RunLaws s → s.say r'.line ≡ Ok (Some step) → nat_le EVENT_LIMIT index ≡ false
+    pub line_wants : (step : s.Step) → RunLaws s → s.say r'.line ≡ Ok (Some step) → nat_le FILE_EVENT_LIMIT index ≡ false
         → (wrote : Option (List ℕ))
         → WroteSome s (given_text wrote (text ++ []) before left') × TakesNoMore s
         (given_text wrote (text ++ []) before left')

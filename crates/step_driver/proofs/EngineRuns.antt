@@ -9,7 +9,7 @@ use Rattle.actions.specs.Runs.{EventWithInputs, StartRelation, ReactionRelation,
 use Rattle.actions.specs.World.{World}
 use Rattle.actions.specs.declared.event.Event.TheVariants.{Start}
 use Rattle.event_file.specs.declared.fault.LineFault.{LineFault}
-use Rattle.event_file.specs.declared.limits.TheConstants.{EVENT_LIMIT}
+use Rattle.event_file.specs.declared.limits.TheConstants.{FILE_EVENT_LIMIT}
 use Rattle.event_file.specs.EventLines.{event_of_line}
 use Rattle.event_file.specs.NextLine.{Nexts}
 use Rattle.event_file.specs.Reading.{Reading, unused}
@@ -214,7 +214,7 @@ module _ (start : StartRelation) (react : ReactionRelation) (t : Tree) (n : Name
         → (put : List ℕ) × P put × Driven s (so_far w') before left' r' next_index (text ++ put)
     line_driven next_index taken = by_said (event_of_line n r'.line) refl taken
       where
-        by_count : (e : EventWithInputs) (b : Bool) → nat_le EVENT_LIMIT index ≡ b
+        by_count : (e : EventWithInputs) (b : Bool) → nat_le FILE_EVENT_LIMIT index ≡ b
             → event_of_line n r'.line ≡ Ok (Some e)
             → Tried b react t n index e w w' P (Ok next_index)
             → (put : List ℕ) × P put × Driven s (so_far w') before left' r' next_index (text ++ put)
@@ -242,7 +242,7 @@ module _ (start : StartRelation) (react : ReactionRelation) (t : Tree) (n : Name
               rw index_is (subst (λ (z : List ℕ). Driven s (so_far w') before left' r' index z)
                   (sym (append-nil text)) passed),
             )
-        by_said (Ok (Some e)) is h = by_count e (nat_le EVENT_LIMIT index) refl is h
+        by_said (Ok (Some e)) is h = by_count e (nat_le FILE_EVENT_LIMIT index) refl is h
         by_said (Err fault) is (bad, _, _) = absurd (cc)
 
     -- the run ends
@@ -252,7 +252,7 @@ module _ (start : StartRelation) (react : ReactionRelation) (t : Tree) (n : Name
         × EndOf s (Drives start react t n) (is_write {T = Unit {0}} (Err end)) before left' (text ++ put) (Err end)
     line_fails end one taken = by_said (event_of_line n r'.line) refl taken
       where
-        by_end : (x : DriveEnd) (e : EventWithInputs) → nat_le EVENT_LIMIT index ≡ false
+        by_end : (x : DriveEnd) (e : EventWithInputs) → nat_le FILE_EVENT_LIMIT index ≡ false
             → event_of_line n r'.line ≡ Ok (Some e)
             → Done (ReactsWithInputs react w e) (λ y f. trace_line t n y (index + 1) e.event f) (index + 1) w' P (Err x)
             → (put : List ℕ) × P put
@@ -287,7 +287,7 @@ module _ (start : StartRelation) (react : ReactionRelation) (t : Tree) (n : Name
         by_end ends.Memory e few is puts =
             ([], puts, line_wants s (so_far w) before left left' r r' index text d next e (engine_laws one) is few)
 
-        by_count : (e : EventWithInputs) (b : Bool) → nat_le EVENT_LIMIT index ≡ b
+        by_count : (e : EventWithInputs) (b : Bool) → nat_le FILE_EVENT_LIMIT index ≡ b
             → event_of_line n r'.line ≡ Ok (Some e)
             → Tried b react t n index e w w' P (Err end)
             → (put : List ℕ) × P put
@@ -302,7 +302,7 @@ module _ (start : StartRelation) (react : ReactionRelation) (t : Tree) (n : Name
             → (put : List ℕ) × P put
             × EndOf s (Drives start react t n) (is_write {T = Unit {0}} (Err end)) before left' (text ++ put) (Err end)
         by_said (Ok None) is (bad, _, _) = absurd (cc)
-        by_said (Ok (Some e)) is h = by_count e (nat_le EVENT_LIMIT index) refl is h
+        by_said (Ok (Some e)) is h = by_count e (nat_le FILE_EVENT_LIMIT index) refl is h
         by_said (Err fault) is (bad, _, puts) =
             let same : end ≡ ends.Line r'.number fault = let b = bad in cc in
             rw same ([], puts, line_refused s (so_far w) before left left' r r' index text d next fault is)

@@ -2,7 +2,7 @@
 use Rattle.std.proofs.Common.{◌≡◌, ℕ, ◌+◌, ◌<◌, ◌≤◌, Bool, true, false, nat_lt, nat_le, List, [], ◌∷◌, ◌++◌, length}
 use Rattle.std.proofs.Common.{take, drop, Option, Some, None, Result, Ok, Err, refl, sym, ap, ◌∙◌, subst, arith}
 use Rattle.std.proofs.Common.{append_assoc, append-nil, length-append, inl, inr}
-use Rattle.event_file.specs.declared.limits.TheConstants.{LINE_LIMIT, FILE_LIMIT, EVENT_LIMIT}
+use Rattle.event_file.specs.declared.limits.TheConstants.{LINE_LIMIT, FILE_LIMIT, FILE_EVENT_LIMIT}
 use Rattle.std.specs.Io.KnownBytes.{prepend_known}
 use Rattle.std.proofs.lemmas.Bool.Decides.{nat_tests}
 use Rattle.std.proofs.lemmas.List.{length-take-le}
@@ -354,7 +354,7 @@ module _ {A : Type 0} (say : List ℕ → Result (Option A) LineFault) where
         (λ next. events_at r.at (r.number + 1) next to_come))) is;
   }
 
-  kept_event : (number count : ℕ) (event : A) (later : ℕ → FileOf A) (b : Bool) → nat_le EVENT_LIMIT count ≡ b
+  kept_event : (number count : ℕ) (event : A) (later : ℕ → FileOf A) (b : Bool) → nat_le FILE_EVENT_LIMIT count ≡ b
       → b ≡ false
       → with_line number count (Ok (Some event)) later ≡ begun_by event (later (count + 1))
   kept_event number count event later true e f = absurd (cc)
@@ -362,7 +362,7 @@ module _ {A : Type 0} (say : List ℕ → Result (Option A) LineFault) where
 
   -- an event
   pub line_with_event : (before : Option (List ℕ)) (events : List A) (r : Reading) (left : Option (List ℕ)) (event : A)
-      → LineSays before events r left → say r.line ≡ Ok (Some event) → nat_le EVENT_LIMIT (length events) ≡ false
+      → LineSays before events r left → say r.line ≡ Ok (Some event) → nat_le FILE_EVENT_LIMIT (length events) ≡ false
       → Reads before (events ++ event ∷ []) r left
   line_with_event before events r left event c is few = record {
     place = c.place;
@@ -387,7 +387,7 @@ module _ {A : Type 0} (say : List ℕ → Result (Option A) LineFault) where
     pub are_events : (file_of say text).events ≡ events ++ (event ∷ later)
 
   pub whole_event : (before : Option (List ℕ)) (events : List A) (r : Reading) (left : Option (List ℕ)) (event : A)
-      → LineSays before events r left → say r.line ≡ Ok (Some event) → nat_le EVENT_LIMIT (length events) ≡ false
+      → LineSays before events r left → say r.line ≡ Ok (Some event) → nat_le FILE_EVENT_LIMIT (length events) ≡ false
       → WholeEvent before events event
   whole_event before events r left event c is few =
       let w = whole_file before r left _ (line_with_event before events r left event c is few) in
@@ -401,7 +401,7 @@ module _ {A : Type 0} (say : List ℕ → Result (Option A) LineFault) where
 
   -- one event too many
   pub whole_too_many : (before : Option (List ℕ)) (events : List A) (r : Reading) (left : Option (List ℕ)) (event : A)
-      → LineSays before events r left → say r.line ≡ Ok (Some event) → nat_le EVENT_LIMIT (length events) ≡ true
+      → LineSays before events r left → say r.line ≡ Ok (Some event) → nat_le FILE_EVENT_LIMIT (length events) ≡ true
       → Whole before (record { events = events; stop = AtEvent })
   whole_too_many before events r left event c is many =
       let w = whole_file before r left _ c in

@@ -8,7 +8,7 @@ use Rattle.actions.specs.World.{World}
 use Rattle.actions.specs.declared.event.Event.TheVariants.{Start}
 use Rattle.event_file.specs.declared.fault.LineFault.{LineFault}
 use Rattle.event_file.specs.declared.fault.LineFault.TheVariants as line_faults
-use Rattle.event_file.specs.declared.limits.TheConstants.{EVENT_LIMIT}
+use Rattle.event_file.specs.declared.limits.TheConstants.{FILE_EVENT_LIMIT}
 use Rattle.event_file.specs.EventFile.{FileOf, Stop, AtEnd, AtLine, AtEvent, AtLimit, event_file}
 use Rattle.event_file.specs.EventLines.{event_of_line}
 use Rattle.event_file.specs.NextLine.{Nexts}
@@ -172,7 +172,7 @@ line_leaves start react t n before left left' never r r' w w' index text P end d
     says : LineSays (event_of_line n) before d.events r' left'
     says = line_says (engine_runs start react t n) (so_far start react t n w) before left left' r r' index text d next
 
-    by_end : (e : DriveEnd) (event : EventWithInputs) → nat_le EVENT_LIMIT (length d.events) ≡ false
+    by_end : (e : DriveEnd) (event : EventWithInputs) → nat_le FILE_EVENT_LIMIT (length d.events) ≡ false
         → event_of_line n r'.line ≡ Ok (Some event)
         → Done (ReactsWithInputs react w event) (λ x f. trace_line t n x (index + 1) event.event f) (index + 1) w' P
         (Err e)
@@ -206,22 +206,22 @@ line_leaves start react t n before left left' never r r' w w' index text P end d
     by_end ends.FileTooLong event few is done = absurd done
     by_end ends.Memory event few is puts = tt
 
-    by_count : (event : EventWithInputs) (b : Bool) → nat_le EVENT_LIMIT index ≡ b
+    by_count : (event : EventWithInputs) (b : Bool) → nat_le FILE_EVENT_LIMIT index ≡ b
         → event_of_line n r'.line ≡ Ok (Some event)
         → Tried b react t n index event w w' P (Err end) → Leaves start react n before left' never w' (Err end)
     by_count event true many is (bad, world, puts) =
-        let big : nat_le EVENT_LIMIT (length d.events) ≡ true = ap (nat_le EVENT_LIMIT) d.counted ∙ many in
+        let big : nat_le FILE_EVENT_LIMIT (length d.events) ≡ true = ap (nat_le FILE_EVENT_LIMIT) d.counted ∙ many in
         let same : end ≡ ends.TooManyLines = let e = bad in cc in
         let file = whole_too_many (event_of_line n) before d.events r' left' event says is big in
         rw (same, world) (all_left AtEvent (Err ends.TooManyLines) file (so_far_to d.state) refl)
     by_count event false few is (done, one_more) =
-        by_end end event (ap (nat_le EVENT_LIMIT) d.counted ∙ few) is done
+        by_end end event (ap (nat_le FILE_EVENT_LIMIT) d.counted ∙ few) is done
 
     by_said : (said : Result (Option EventWithInputs) LineFault) → event_of_line n r'.line ≡ said
         → LineTaken react t n r'.number index said w w' P (Err end)
         → Leaves start react n before left' never w' (Err end)
     by_said (Ok None) is (bad, _, _) = absurd (cc)
-    by_said (Ok (Some event)) is h = by_count event (nat_le EVENT_LIMIT index) refl is h
+    by_said (Ok (Some event)) is h = by_count event (nat_le FILE_EVENT_LIMIT index) refl is h
     by_said (Err fault) is (bad, world, puts) =
         let same : end ≡ ends.Line r'.number fault = let e = bad in cc in
         let file = whole_refused (event_of_line n) before d.events r' left' fault says is in

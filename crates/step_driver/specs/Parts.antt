@@ -12,7 +12,7 @@ use Rattle.actions.specs.declared.engine.Halt.TheVariants as halts
 use Rattle.trace_text.specs.Trace.{trace_line}
 use Rattle.event_file.specs.declared.fault.LineFault.{LineFault}
 use Rattle.event_file.specs.declared.fault.LineFault.TheVariants as line_faults
-use Rattle.event_file.specs.declared.limits.TheConstants.{EVENT_LIMIT}
+use Rattle.event_file.specs.declared.limits.TheConstants.{FILE_EVENT_LIMIT}
 use Rattle.step_driver.specs.declared.driver.DriveEnd.{DriveEnd}
 use Rattle.step_driver.specs.declared.driver.DriveEnd.TheVariants as ends
 use Rattle.step_driver.specs.declared.lines.NoLine.{NoLine}
@@ -68,7 +68,7 @@ abbrev pub LineTaken : ReactionRelation → Tree → Names → ℕ → ℕ → R
     → World → (List ℕ → Type 0) → Result ℕ DriveEnd → Type 0
 LineTaken react t n number index (Ok None) w w' puts result = (result ≡ Ok index) × (w' ≡ w) × puts []
 LineTaken react t n number index (Ok (Some event)) w w' puts result = Tried
-    (nat_le EVENT_LIMIT index) react t n index event w w' puts result
+    (nat_le FILE_EVENT_LIMIT index) react t n index event w w' puts result
 LineTaken react t n number index (Err fault) w w' puts result = (result ≡ Err (ends.Line number fault)) ×
     (w' ≡ w) × puts []
 

@@ -33,7 +33,7 @@ pub enum DriveEnd {
     /// A write failed.
     #[error("write fault")]
     Write,
-    /// The file has over `EVENT_LIMIT` events. The trace of the first ones was written.
+    /// The file has over `FILE_EVENT_LIMIT` events. The trace of the first ones was written.
     #[error("too many events")]
     TooManyLines,
     /// The file has over `FILE_LIMIT` bytes. The trace of the events before the line that holds the

@@ -12,7 +12,7 @@ ghost use Rattle.step_driver.specs.Parts as spec;
 
 use crate::driver::DriveEnd;
 use actions::{Engine, Event, Halt};
-use event_file::{EVENT_LIMIT, InputVals, event_line};
+use event_file::{FILE_EVENT_LIMIT, InputVals, event_line};
 use flow_base::Sink;
 use trace_text::{Pieces, put_trace};
 
@@ -55,7 +55,7 @@ pub(crate) fn run_line<G: Engine, O: Sink>(
     requires few { length (G.declared (G.program engine.old)).events < 2 ^ 32 }
     requires few_data { length (G.declared (G.program engine.old)).vars < 2 ^ 32 }
     requires vals { IsMadeFor (G.declared (G.program engine.old)) vals.old }
-    requires index { index ≤ EVENT_LIMIT }
+    requires index { index ≤ FILE_EVENT_LIMIT }
     requires usable { pieces.old.failed ≡ false }
     ensures taken { spec.LineTaken (G.Reacts (G.program engine.old))
         (G.tree (G.program engine.old)) (G.declared (G.program engine.old)) number index
@@ -74,7 +74,7 @@ pub(crate) fn run_line<G: Engine, O: Sink>(
         Err(fault) => Err(DriveEnd::Line(number, fault)),
         Ok(None) => Ok(index),
         Ok(Some(event)) => {
-            if index >= EVENT_LIMIT {
+            if index >= FILE_EVENT_LIMIT {
                 return Err(DriveEnd::TooManyLines);
             }
             run_event::<G, O>(engine, index + 1, event, vals, pieces, out)?;

@@ -1,6 +1,6 @@
 use Rattle.std.proofs.Common.{◌≡◌, ℕ, ◌+◌, nat_le, false, List, Ok, Err, refl, sym, append-nil, arith}
 use Rattle.std.proofs.lemmas.Bool.Decides.{nat_tests}
-use Rattle.event_file.specs.declared.limits.TheConstants.{EVENT_LIMIT}
+use Rattle.event_file.specs.declared.limits.TheConstants.{FILE_EVENT_LIMIT}
 use Rattle.chart_net.specs.NetParts.{StandsFor, all_running, net_shown}
 use Rattle.chart_net.specs.Schedules.{step_of_line}
 use Rattle.trace_text.specs.Pieces.{Puts}
@@ -26,7 +26,7 @@ returns-in-Ok-clause-done g c = λ now stands.
     let mid = c.read_step.new.self in
     let kept = c.read_step.ensures.kept in
     let read = rw c.in-Ok-Some.field-0-is at c.in-Ok-Some.ensures.read in
-    let few : nat_le EVENT_LIMIT c.args.p ≡ false = let h = c.if-p-ge-EVENT_LIMIT.false in grind (arith, nat_tests) in
+    let few : nat_le FILE_EVENT_LIMIT c.args.p ≡ false = let h = c.if-p-ge-FILE_EVENT_LIMIT.false in grind (arith, nat_tests) in
     let puts = λ (text : List ℕ). Puts (g.O.Sink.wrote c.args.out.now) (g.O.Sink.wrote c.do_step.new.out)
     (g.O.Sink.faults c.args.out.now)
     (g.O.Sink.faults c.do_step.new.out) c.args.pieces.now c.do_step.new.pieces text in
@@ -43,7 +43,7 @@ returns-in-Err-do_step-clause-done g c = λ now stands.
     let mid = c.read_step.new.self in
     let kept = c.read_step.ensures.kept in
     let read = rw c.in-Ok-Some.field-0-is at c.in-Ok-Some.ensures.read in
-    let few : nat_le EVENT_LIMIT c.args.p ≡ false = let h = c.if-p-ge-EVENT_LIMIT.false in grind (arith, nat_tests) in
+    let few : nat_le FILE_EVENT_LIMIT c.args.p ≡ false = let h = c.if-p-ge-FILE_EVENT_LIMIT.false in grind (arith, nat_tests) in
     let puts = λ (text : List ℕ). Puts (g.O.Sink.wrote c.args.out.now) (g.O.Sink.wrote c.do_step.new.out)
     (g.O.Sink.faults c.args.out.now)
     (g.O.Sink.faults c.do_step.new.out) c.args.pieces.now c.do_step.new.pieces text in

@@ -1,8 +1,8 @@
 //! The active configuration.
 use crate::bit_list::BitList;
-use crate::memory::Memory;
 use crate::shape::Shape;
 use crate::tables::no_states;
+use flow_base::Memory;
 use std::alloc::Global;
 use std::marker::Model;
 

@@ -78,8 +78,5 @@ pub(crate) fn no_marks(alloc: Global) -> Result<Marks, Memory>
     ensures { IfOk result (λ marks. marks ≡ no_marks (tree_of (0 ∷ []) (Comp.Leaf ∷ []))) }
 {
     let shape = one_state(alloc)?;
-    match Marks::make(alloc, &shape) {
-        Ok(marks) => Ok(marks),
-        Err(_) => Err(Memory),
-    }
+    Marks::make(alloc, &shape)
 }

@@ -7,11 +7,9 @@
 
 mod cells;
 mod chunk;
-mod memory;
 mod slot;
 mod stack;
 #[cfg(test)]
 mod tests;
 
-pub use memory::Memory;
 pub use stack::FrameStack;

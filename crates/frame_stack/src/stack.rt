@@ -21,8 +21,8 @@ ghost use Rattle.frame_stack.specs.Stacks.{stack};
 ghost use Rattle.frame_stack.specs.Chunks.{IsFree};
 
 use crate::chunk::{CHUNK, Chunk};
-use crate::memory::Memory;
 use crate::slot::Slot;
+use flow_base::Memory;
 use std::alloc::Global;
 use std::marker::Model;
 

@@ -1,8 +1,9 @@
 //! The stack at a few frames, past the end of a chunk, and where memory is refused.
 ghost use Rattle.std.specs.Prelude.{◌≤◌, ◌<◌, ◌+◌, ◌≡◌, length};
 
+use crate::FrameStack;
 use crate::slot::Slot;
-use crate::{FrameStack, Memory};
+use flow_base::Memory;
 use std::mem::size_of;
 use std::test::Fail;
 

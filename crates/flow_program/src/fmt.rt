@@ -15,16 +15,16 @@ use std::alloc::Global;
 /// Writes the canonical text of the chart that the file holds.
 pub fn format_chart<I: Inputs, O: Sink>(
     alloc: Global,
-    first: &str,
+    chart_file: &str,
     inputs: &mut I,
     out: &mut O,
 ) -> TextEnd<Refusal>
     ensures ends { FmtEnds (call_of I.Inputs O.Sink inputs.old inputs.new out.old out.new)
-        first.now result }
-    ensures others { OthersStay (first.now ∷ [])
+        chart_file.now result }
+    ensures others { OthersStay (chart_file.now ∷ [])
         (sources_of I.Inputs inputs.old) (sources_of I.Inputs inputs.new) }
 {
-    let canonical = read_formatted(alloc, inputs, first);
+    let canonical = read_formatted(alloc, inputs, chart_file);
     write_made(canonical, out)
 }
 
@@ -32,12 +32,13 @@ pub fn format_chart<I: Inputs, O: Sink>(
 fn read_formatted<I: Inputs>(
     alloc: Global,
     inputs: &mut I,
-    name: &str,
+    chart_file: &str,
 ) -> Result<String, FileEnd<Refusal>>
     ensures { FileGives CHART_TEXT_LIMIT (λ text canonical. IsFormatted text (string_bytes canonical))
-        RefusesChart (sources_of I.Inputs inputs.old) (sources_of I.Inputs inputs.new) name.now result }
+        RefusesChart (sources_of I.Inputs inputs.old) (sources_of I.Inputs inputs.new)
+        chart_file.now result }
 {
-    let text = read_text(alloc, inputs, name, CHART_TEXT_LIMIT, TOO_LONG)?;
+    let text = read_text(alloc, inputs, chart_file, CHART_TEXT_LIMIT, TOO_LONG)?;
     match format_text(alloc, &text) {
         Ok(canonical) => Ok(canonical),
         Err(fault) => Err(end_of_fault(fault)),

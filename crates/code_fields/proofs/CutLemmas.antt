@@ -1,72 +1,42 @@
 -- The parts of a text round a byte.
-use Rattle.std.proofs.Common.{◌≡◌, ℕ, suc, ◌+◌, ◌<◌, ◌≤◌, Bool, true, false, cond, nat_eq, nat_lt, List, [], ◌∷◌, ◌++◌}
-use Rattle.std.proofs.Common.{length, take, drop, Option, Some, None, refl, sym, ap, ◌∙◌, subst, arith}
-use Rattle.std.proofs.lemmas.Bool.{eqb-true}
+use Rattle.std.proofs.Common.{◌≡◌, ℕ, zero, suc, ◌+◌, ◌<◌, Bool, true, false, nat_eq, List, [], ◌∷◌, ◌++◌}
+use Rattle.std.proofs.Common.{length, take, drop, Option, Some, None, refl, sym, ap, ◌∙◌, arith}
+use Rattle.std.proofs.lemmas.Bool.{eqb-true, false_from_ne_true}
 use Rattle.std.proofs.lemmas.Bool.Decides.{nat_tests}
 use Rattle.std.proofs.lemmas.Option.{none-some, same_Some, option_and_then_some}
-use Rattle.std.specs.Prelude.{if◌then◌else◌, not, option_map, option_and_then}
-use Rattle.std.specs.List.{position_or_len, position, AllByRecursion}
+use Rattle.std.specs.Prelude.{if◌then◌else◌, option_map, option_and_then}
+use Rattle.std.specs.List.{AllByRecursion}
+use Rattle.memchr.specs.Find.{Nowhere, Passes, IsFirstByte, is_byte}
 use Rattle.code_fields.specs.Cuts.{Parts, parts_with, parts_at, Field, field_at, field_of, joined}
 use Rattle.code_fields.specs.Fields.{word_then}
-
--- how many bytes stand before the first such byte
-abbrev front_length : ℕ → List ℕ → ℕ
-front_length byte text = position_or_len (λ b. nat_eq b byte) text
 
 -- the parts round the byte at a place
 abbrev parts_round : ℕ → List ℕ → Parts
 parts_round n text = record { front = take n text; rest = drop (n + 1) text }
 
--- the parts round a byte that stands after the first
-found_behind : (b n : ℕ) (text : List ℕ) (here : Bool) (parts : Option Parts)
-    → (n < length text → parts ≡ Some (parts_round n text))
-    → cond (not here) (1 + n) 0 < length (b ∷ text)
-    → (if here then Some (record { front = []; rest = text }) else option_map (parts_with b) parts) ≡ Some (parts_round (cond (not here) (1 + n) 0) (b ∷ text))
-found_behind b n text true parts e h = refl
-found_behind b n text false parts e h =
-    let k : 1 + n ≡ suc n = omega arith in
-    let m : 1 + n + 1 ≡ suc (n + 1) = omega arith in
-    rw (e (omega arith), m, k) refl
+-- the parts round the first such byte
+found : (byte n : ℕ) (text : List ℕ) → n < length text → Nowhere (Passes (is_byte byte) text) 0 n
+    → Passes (is_byte byte) text n → parts_at byte text ≡ Some (parts_round n text)
+found byte n [] lt before here = absurd (omega arith)
+found byte zero (b ∷ text) lt before here = rw here refl
+found byte (suc n) (b ∷ text) lt before here =
+    let other : nat_eq b byte ≡ false = false_from_ne_true _ (before 0 (omega arith) (omega arith)) in
+    let rest = found byte n text (omega arith) (λ k low high. before (suc k) (omega arith) (omega arith)) here in
+    let next : suc n + 1 ≡ suc (n + 1) = omega arith in
+    rw (other, rest, next) refl
 
--- the parts round a byte that stands in the text
-found : (byte : ℕ) (text : List ℕ) → front_length byte text < length text
-    → parts_at byte text ≡ Some (parts_round (front_length byte text) text)
-found byte [] h = absurd (omega arith)
-found byte (b ∷ text) h = found_behind b (front_length byte text) text (nat_eq b byte) (parts_at byte text) (found byte text) h
-
--- no such byte stands after the first
-missing_behind : (b n : ℕ) (text : List ℕ) (here : Bool) (parts : Option Parts) → (length text ≤ n → parts ≡ None)
-    → length (b ∷ text) ≤ cond (not here) (1 + n) 0
-    → (if here then Some (record { front = []; rest = text }) else option_map (parts_with b) parts) ≡ None
-missing_behind b n text true parts e h = absurd (omega arith)
-missing_behind b n text false parts e h = rw (e (omega arith)) refl
-
--- no such byte stands in the text
-missing : (byte : ℕ) (text : List ℕ) → length text ≤ front_length byte text → parts_at byte text ≡ None
-missing byte [] h = refl
-missing byte (b ∷ text) h = missing_behind b (front_length byte text) text (nat_eq b byte) (parts_at byte text) (missing byte text) h
-
--- the value where the test passes
-chosen : (b : Bool) (m n : ℕ) → Some n ≡ cond b (Some m) None → n ≡ m
-chosen true m n is = cc
-chosen false m n is = cc
-
--- where the test fails, the one number isn't below the other
-left_out : (m n : ℕ) → None ≡ cond (nat_lt m n) (Some m) None → n ≤ m
-left_out m n is = grind (arith, nat_tests)
-
--- a text with such a byte
-pub parts_at-found : (byte : ℕ) (text : List ℕ) (n : ℕ) → Some n ≡ position (λ b. nat_eq b byte) text → n < length text
+-- a search that found such a byte
+pub parts_at-found : (byte : ℕ) (text : List ℕ) (n : ℕ) → IsFirstByte (is_byte byte) text (Some n)
     → Some (parts_round n text) ≡ parts_at byte text
-parts_at-found byte text n is within =
-    let e : n ≡ front_length byte text = chosen (nat_lt (front_length byte text) (length text)) (front_length byte text) n is in
-    let parts = found byte text (omega arith) in
-    rw (parts, e) refl
+parts_at-found byte text n first = sym (found byte n text first.0.high first.0.before first.1)
 
--- a text without one
-pub parts_at-missing : (byte : ℕ) (text : List ℕ) → None ≡ position (λ b. nat_eq b byte) text
-    → None ≡ parts_at byte text
-parts_at-missing byte text is = rw (missing byte text (left_out (front_length byte text) (length text) is)) refl
+-- and one that found none
+pub parts_at-missing : (byte : ℕ) (text : List ℕ) → IsFirstByte (is_byte byte) text None → None ≡ parts_at byte text
+parts_at-missing byte [] first = refl
+parts_at-missing byte (b ∷ text) first =
+    let other : nat_eq b byte ≡ false = false_from_ne_true _ (first 0 (omega arith) (omega arith)) in
+    let rest = parts_at-missing byte text (λ k low high. first (suc k) (omega arith) (omega arith)) in
+    rw (other, ← rest) refl
 
 -- where a value that is made of another is there, so is the other
 pub option_map_some : {A B P : Type 0} (f : A → B) (o : Option A) (y : B) → option_map f o ≡ Some y

@@ -1,8 +1,9 @@
 //! A text cut at a byte.
-ghost use Rattle.std.specs.Prelude.{◌≡◌, ◌<◌, length, nat_eq, IfSome, option_map};
-ghost use Rattle.std.specs.List.{position};
+ghost use Rattle.std.specs.Prelude.{◌≡◌, ◌<◌, length, IfSome, option_map};
 ghost use Rattle.code_fields.specs.Cuts as spec;
 ghost use Rattle.code_fields.specs.Views as views;
+
+use memchr::memchr;
 
 /// What stands before a byte and after it.
 #[derive(Clone, Copy, Debug)]
@@ -27,19 +28,11 @@ pub fn cut_at(text: &[u8], byte: u8) -> Option<Parts<'_>>
     ensures parts { option_map views.parts_of result ≡ spec.parts_at byte text.now }
     ensures shorter { IfSome result (λ parts. length parts.rest.now < length text.now) }
 {
-    let place = place_of(text, byte)?;
+    let place = memchr(byte, text)?;
     Some(Parts {
         front: &text[..place],
         rest: &text[place + 1..],
     })
-}
-
-/// The place of the first such byte.
-fn place_of(text: &[u8], byte: u8) -> Option<usize>
-    ensures place { result ≡ position (λ b. nat_eq b byte) text.now }
-    ensures within { IfSome result (λ n. n < length text.now) }
-{
-    text.iter().position(|other| *other == byte)
 }
 
 /// The first word of a text, and what stands after the space that follows it.

@@ -33,16 +33,16 @@ use Rattle.code_language.proofs.SiblingLemmas.{siblings_differ, no_twins}
 
 -- ---- the states, with two tests
 
--- in a tree that is not too deep the names of siblings decide
-pub states_are : (states : List RawState) (t : Tree) (twins : Bool) → (t ≡ tree_of_states states) × IsTree t
-    → IsShallow t → twins ≡ has_no_twins states → IsTrue twins ↔ AreStates states
-states_are states t twins is shallow e = (
+-- a tree that is not too deep, with different names of siblings, has right states
+pub states_are : (states : List RawState) (t : Tree) → (t ≡ tree_of_states states) × IsTree t → IsShallow t
+    → has_no_twins states ≡ true → IsTrue true ↔ AreStates states
+states_are states t is shallow twins = (
   λ h. record {
     tree = subst IsTree is.0 is.1;
     depth = subst IsShallow is.0 shallow;
-    siblings = siblings_differ states (sym e ∙ h);
+    siblings = siblings_differ states twins;
   },
-  λ (h : AreStates states). e ∙ no_twins states h.tree h.siblings,
+  λ (h : AreStates states). refl,
 )
 
 -- one that is too deep has no right states
@@ -50,14 +50,18 @@ pub states_deep : (states : List RawState) (t : Tree) → (t ≡ tree_of_states 
     → IsTrue false ↔ AreStates states
 states_deep states t is deep = false_where (λ (h : AreStates states). deep (subst IsShallow (sym is.0) h.depth))
 
+-- a test that holds and fails
+both_ways : (b : Bool) → b ≡ true → b ≡ false → ⊥
+both_ways true t f = absurd (cc f)
+both_ways false t f = absurd (cc t)
+
 -- without their parents the states are no tree
 pub no_states : (states : List RawState) → has_parents states ≡ false → IsTrue false ↔ AreStates states
-no_states states h =
-    false_where (λ (a : AreStates states). let t = tree_parents states a.tree in absurd (differ (has_parents states) t h))
-  where
-    differ : (b : Bool) → b ≡ true → b ≡ false → ⊥
-    differ true t h = absurd (cc h)
-    differ false t h = absurd (cc t)
+no_states states h = false_where (λ (a : AreStates states). both_ways _ (tree_parents states a.tree) h)
+
+-- and with siblings of the same name they are not right
+pub no_twinned : (states : List RawState) → has_no_twins states ≡ false → IsTrue false ↔ AreStates states
+no_twinned states h = false_where (λ (a : AreStates states). both_ways _ (no_twins states a.tree a.siblings) h)
 
 -- ---- the whole table
 
@@ -217,12 +221,7 @@ table_states raw h = record { tree = h.tree; depth = h.depth; siblings = h.names
 -- where the rest isn't declared, or where it is, by the states
 pub no_table : (raw : RawCode) → is_declared raw ≡ false → IsTrue false ↔ IsTable (code_of raw).tree (code_of raw).names
 no_table raw h =
-    false_where (λ (a : IsTable (code_of raw).tree (code_of raw).names).
-    let t = table_declared raw a in absurd (differ (is_declared raw) t h))
-  where
-    differ : (b : Bool) → b ≡ true → b ≡ false → ⊥
-    differ true t h = absurd (cc h)
-    differ false t h = absurd (cc t)
+    false_where (λ (a : IsTable (code_of raw).tree (code_of raw).names). both_ways _ (table_declared raw a) h)
 
 -- where it is declared the states decide
 pub table_by_states : (raw : RawCode) (b : Bool) → is_declared raw ≡ true → IsTrue b ↔ AreStates (items_of raw.states)
@@ -231,8 +230,8 @@ table_by_states raw b h s =
     (λ e. table_is raw h (s.0 e), λ (a : IsTable (code_of raw).tree (code_of raw).names). s.1 (table_states raw a))
 
 -- the same for what a call gives
-pub table_result : {E : Type 0} (raw : RawCode) (r : Result Bool E) → is_declared raw ≡ true
-    → IfOk r (λ b. IsTrue b ↔ AreStates (items_of raw.states))
-    → IfOk r (λ b. IsTrue b ↔ IsTable (code_of raw).tree (code_of raw).names)
-table_result raw (Ok b) h s = table_by_states raw b h s
+pub table_result : {T E : Type 0} (raw : RawCode) (r : Result (Option T) E) → is_declared raw ≡ true
+    → IfOk r (λ o. IsTrue (is_some o) ↔ AreStates (items_of raw.states))
+    → IfOk r (λ o. IsTrue (is_some o) ↔ IsTable (code_of raw).tree (code_of raw).names)
+table_result raw (Ok o) h s = table_by_states raw (is_some o) h s
 table_result raw (Err e) h s = tt

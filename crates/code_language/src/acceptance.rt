@@ -1,16 +1,18 @@
 //! Accepts code exactly where it is well formed.
-ghost use Rattle.std.specs.Prelude.{◌≡◌, IfOk, IfErr, IsOkUnless};
+ghost use Rattle.std.specs.Prelude.{◌≡◌, false, IfOk, IfErr, IsOkUnless};
 ghost use Rattle.code_language.specs.Code.{code_of};
 ghost use Rattle.code_language.specs.Kept.{IsKept};
-ghost use Rattle.code_language.specs.WellFormed.{IsCode, IsCause};
+ghost use Rattle.code_language.specs.Tables.{IsTable};
+ghost use Rattle.code_language.specs.WellFormed.{too_many, IsCode, IsCause};
 
 use crate::code::{Code, RawCode};
 use crate::fault::{CodeEnd, CodeFault, CodeKind};
 use crate::faults::{procs_fault, too_many};
 use crate::heights::greatest_height;
 use crate::naming::starts_known;
-use crate::tables::is_table;
+use crate::tables::table_shape;
 use crate::works::greatest_work;
+use active_config::Shape;
 use flow_base::Memory;
 use std::alloc::Global;
 
@@ -23,8 +25,10 @@ pub fn accept(alloc: Global, raw: RawCode) -> Result<Code, CodeEnd>
     ensures only { IsCode (code_of raw) → IsOkUnless result CodeEnd.Memory }
     ensures refused { IfErr result (λ end. IsCause (code_of raw) end) }
 {
-    match measured(alloc, &raw) {
-        Ok(most) => Ok(Code::of(raw, most.height, most.work)),
+    match examine(alloc, &raw) {
+        Ok(Examined { shape, measures }) => {
+            Ok(Code::of(raw, shape, measures.height, measures.work))
+        }
         Err(end) => Err(end),
     }
 }
@@ -36,19 +40,40 @@ struct Measures {
     work: u64,
 }
 
-/// The measures of well-formed code, or why it isn't accepted.
-fn measured(alloc: Global, raw: &RawCode) -> Result<Measures, CodeEnd>
-    ensures kept { IfOk result (λ most. IsKept (code_of raw.now) most.height most.work) }
+/// What is kept of well-formed code.
+#[derive(Drop)]
+struct Examined {
+    shape: Shape,
+    measures: Measures,
+}
+
+/// What is kept of well-formed code, or why it isn't accepted.
+fn examine(alloc: Global, raw: &RawCode) -> Result<Examined, CodeEnd>
+    ensures kept { IfOk result (λ found.
+        IsKept (code_of raw.now) found.shape found.measures.height found.measures.work) }
     ensures refused { IfErr result (λ end. IsCause (code_of raw.now) end) }
 {
     if too_many(raw) {
         return Err(of_code(CodeKind::TooManyProcs));
     }
-    match is_table(alloc, raw) {
-        Ok(true) => {}
-        Ok(false) => return Err(of_code(CodeKind::BadTable)),
-        Err(Memory) => return Err(CodeEnd::Memory),
+    match table_shape(alloc, raw) {
+        Ok(Some(shape)) => match measured(alloc, raw) {
+            Ok(measures) => Ok(Examined { shape, measures }),
+            Err(end) => Err(end),
+        },
+        Ok(None) => Err(of_code(CodeKind::BadTable)),
+        Err(Memory) => Err(CodeEnd::Memory),
     }
+}
+
+/// The measures of code whose table is right, or why it isn't accepted.
+fn measured(alloc: Global, raw: &RawCode) -> Result<Measures, CodeEnd>
+    requires few { too_many (code_of raw.now).procedures.procs ≡ false }
+    requires table { IsTable (code_of raw.now).tree (code_of raw.now).names }
+    ensures kept { IfOk result (λ most.
+        IsKept (code_of raw.now) (code_of raw.now).tree most.height most.work) }
+    ensures refused { IfErr result (λ end. IsCause (code_of raw.now) end) }
+{
     if !starts_known(raw) {
         return Err(of_code(CodeKind::BadNumber));
     }

@@ -1,7 +1,7 @@
 //! Code as it is written, and code that was accepted.
 use crate::instr::Instr;
 use actions::{EventDecl, Var};
-use active_config::Comp;
+use active_config::{Comp, Shape};
 use flow_base::{List, Text};
 use std::marker::Model;
 
@@ -34,10 +34,20 @@ pub struct RawCode {
     pub procs: List<List<Instr>>,
 }
 
+/// What was well-formed code, taken apart.
+#[derive(Debug, Drop)]
+pub struct CodeParts {
+    /// The code as it is written.
+    pub raw: RawCode,
+    /// The tree of its states.
+    pub shape: Shape,
+}
+
 /// Code that is well formed. A contract sees what is written; `accept` makes it.
 #[derive(Debug, Drop)]
 pub struct Code {
     raw: RawCode,
+    shape: Shape,
     height: u32,
     work: u64,
 }
@@ -55,7 +65,7 @@ impl Model for Code {
 
     ghost view = { λ code. code.raw };
 
-    ghost invariant = { λ code. IsKept (code_of code.raw) code.height code.work };
+    ghost invariant = { λ code. IsKept (code_of code.raw) code.shape code.height code.work };
 }
 
 impl Code {
@@ -65,12 +75,18 @@ impl Code {
     ghost use Rattle.code_language.specs.Measures.{greatest, heights, works};
     ghost use Rattle.code_language.specs.WellFormed.{IsCode};
 
-    /// Keeps well-formed code with its height and its work. It takes no memory.
-    pub(crate) fn of(raw: RawCode, height: u32, work: u64) -> Code
-        requires { IsKept (code_of raw) height work }
+    /// Keeps well-formed code with the tree of its states, its height and its work. It takes no
+    /// memory.
+    pub(crate) fn of(raw: RawCode, shape: Shape, height: u32, work: u64) -> Code
+        requires { IsKept (code_of raw) shape height work }
         ensures { result ≡ raw }
     {
-        Code { raw, height, work }
+        Code {
+            raw,
+            shape,
+            height,
+            work,
+        }
     }
 
     /// The code as it is written. It takes no memory.
@@ -81,12 +97,31 @@ impl Code {
         &self.raw
     }
 
+    /// The tree of its states. It takes no memory.
+    pub fn shape(&self) -> &Shape
+        ensures { result.now ≡ (code_of self.now).tree }
+    {
+        &self.shape
+    }
+
     /// The code as it was written, taken out. It takes no memory.
     pub fn into_raw(self) -> RawCode
         ensures raw { result ≡ self }
         ensures well_formed { IsCode (code_of self) }
     {
         self.raw
+    }
+
+    /// The code as it was written and the tree of its states, taken out. It takes no memory.
+    pub fn into_parts(self) -> CodeParts
+        ensures raw { result.raw ≡ self }
+        ensures shape { result.shape ≡ (code_of self).tree }
+        ensures well_formed { IsCode (code_of self) }
+    {
+        CodeParts {
+            raw: self.raw,
+            shape: self.shape,
+        }
     }
 
     /// The greatest height of a procedure, at most 200.

@@ -19,7 +19,7 @@ mod typing;
 mod works;
 
 pub use acceptance::accept;
-pub use code::{Code, RawCode, RawState};
+pub use code::{Code, CodeParts, RawCode, RawState};
 pub use fault::{CODE_FAULT_ROOM, CodeEnd, CodeFault, CodeKind};
 pub use instr::{Cond, Instr};
 pub use laws::{

@@ -1,5 +1,5 @@
 //! Whether what code declares could be a chart's.
-ghost use Rattle.std.specs.Prelude.{◌≡◌, ◌<◌, ◌≤◌, ◌↔◌, Err, IfOk, IsTrue, is_some, length, map};
+ghost use Rattle.std.specs.Prelude.{◌≡◌, ◌<◌, ◌≤◌, ◌↔◌, Err, IfOk, IfSome, IsTrue, is_some, length, map};
 ghost use Rattle.std.specs.List.{list_all};
 ghost use Rattle.flow_base.specs.Lists.{items_of};
 ghost use Rattle.actions.specs.Data.{is_mantissa_of};
@@ -18,15 +18,17 @@ use flow_base::chart_limits::{EVENT_LIMIT, STATE_DEPTH_LIMIT, STATE_LIMIT, VARIA
 use flow_base::{Memory, Text};
 use std::alloc::{AllocError, Global};
 
-/// Whether what the code declares of states, data and events could be a chart's.
-pub fn is_table(alloc: Global, raw: &RawCode) -> Result<bool, Memory>
-    ensures { IfOk result (λ fits. IsTrue fits
+/// The tree of the states, where what the code declares of states, data and events could be a
+/// chart's; none where it couldn't.
+pub fn table_shape(alloc: Global, raw: &RawCode) -> Result<Option<Shape>, Memory>
+    ensures shape { IfOk result (λ found. IfSome found (λ shape. shape ≡ (code_of raw.now).tree)) }
+    ensures table { IfOk result (λ found. IsTrue (is_some found)
         ↔ IsTable (code_of raw.now).tree (code_of raw.now).names) }
 {
     if !is_declared(raw) {
-        return Ok(false);
+        return Ok(None);
     }
-    are_states(alloc, raw.states.items())
+    states_shape(alloc, raw.states.items())
 }
 
 /// Whether what is declared keeps to all that isn't about the tree of states.
@@ -157,17 +159,25 @@ fn is_flag_mode(sort: Sort, mode: Mode) -> bool
     }
 }
 
-/// Whether the states are a tree, none is too deep, and siblings have different names.
-fn are_states(alloc: Global, states: &[RawState]) -> Result<bool, Memory>
+/// The tree of the states, where they are one, none is too deep, and siblings have different names;
+/// none where it isn't so.
+fn states_shape(alloc: Global, states: &[RawState]) -> Result<Option<Shape>, Memory>
     requires { length states.now ≤ STATE_LIMIT }
-    ensures { IfOk result (λ fits. IsTrue fits ↔ spec.AreStates states.now) }
+    ensures shape { IfOk result (λ found. IfSome found (λ shape. shape ≡ tree_of_states states.now)) }
+    ensures states { IfOk result (λ found. IsTrue (is_some found) ↔ spec.AreStates states.now) }
 {
-    if !has_parents(states) {
-        return Ok(false);
+    if !has_parents(states) || !has_no_twins(states) {
+        return Ok(None);
     }
     match shape_of(alloc, states) {
-        Ok(shape) => Ok(is_shallow(&shape) && has_no_twins(states)),
-        Err(ShapeFault::NotATree) => Ok(false),
+        Ok(shape) => {
+            if is_shallow(&shape) {
+                Ok(Some(shape))
+            } else {
+                Ok(None)
+            }
+        }
+        Err(ShapeFault::NotATree) => Ok(None),
         Err(ShapeFault::Memory) => Err(Memory),
     }
 }

@@ -10,5 +10,4 @@ pub mod Operated
 pub mod ShortRuns
 pub mod Steps
 pub mod Tested
-pub mod TreeLemmas
 pub mod Words

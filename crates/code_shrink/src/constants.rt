@@ -1,14 +1,12 @@
 //! The truth of constant tests.
-ghost use Rattle.std.specs.Prelude.{◌≡◌, [], ◌∷◌, true, IfOk, IsOk};
-ghost use Rattle.active_config.specs.Marks.{no_marks};
-ghost use Rattle.active_config.specs.Tree.{tree_of};
+ghost use Rattle.std.specs.Prelude.{◌≡◌, [], true, IfOk, IsOk};
 ghost use Rattle.actions.specs.Sorts.{sort_of};
 ghost use Rattle.actions.specs.Trees.{expr_of};
 ghost use Rattle.actions.specs.Values.{scope_at};
 ghost use Rattle.code_shrink.specs.Neat as spec;
 
 use actions::{Expr, Names, Vals, Value, eval};
-use active_config::{Comp, Marks, Shape};
+use active_config::Marks;
 use flow_base::{List, Memory};
 use std::alloc::Global;
 
@@ -55,28 +53,4 @@ pub(crate) fn no_data(alloc: Global) -> Result<Vals, Memory>
         events: List::of(Vec::new(alloc)),
     };
     Vals::make(alloc, &names)
-}
-
-/// The tree of one state. One state is a tree, so memory alone can fail.
-fn one_state(alloc: Global) -> Result<Shape, Memory>
-    ensures { IfOk result (λ shape. shape ≡ tree_of (0 ∷ []) (Comp.Leaf ∷ [])) }
-{
-    let Ok(parents) = vec![in alloc; 0u32; 1] else {
-        return Err(Memory);
-    };
-    let Ok(comps) = vec![in alloc; Comp::Leaf; 1] else {
-        return Err(Memory);
-    };
-    match Shape::make(alloc, parents, comps) {
-        Ok(shape) => Ok(shape),
-        Err(_) => Err(Memory),
-    }
-}
-
-/// The marks of one state, which isn't active.
-pub(crate) fn no_marks(alloc: Global) -> Result<Marks, Memory>
-    ensures { IfOk result (λ marks. marks ≡ no_marks (tree_of (0 ∷ []) (Comp.Leaf ∷ []))) }
-{
-    let shape = one_state(alloc)?;
-    Marks::make(alloc, &shape)
 }

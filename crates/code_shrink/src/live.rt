@@ -24,10 +24,11 @@ ghost use Rattle.code_shrink.specs.Slides.{straight_ways};
 ghost use Rattle.code_shrink.specs.Whole.{IsExact};
 ghost use Rattle.code_shrink.specs.declared.places.Way.{Way as Found};
 
-use crate::constants::{no_data, no_marks};
+use crate::constants::no_data;
 use crate::places::{Way, reached_places};
 use crate::search::Search;
 use crate::ways::ways_of;
+use active_config::Marks;
 use code_language::{Code, RawCode};
 use flow_base::Memory;
 use std::alloc::Global;
@@ -46,15 +47,18 @@ pub struct Live {
 }
 
 /// The ways of each procedure.
-fn all_ways(alloc: Global, code: &RawCode) -> Result<Vec<Vec<Way>>, Memory>
-    requires { IsCode (code_of code.now) }
+fn all_ways(alloc: Global, code: &Code) -> Result<Vec<Vec<Way>>, Memory>
     ensures { IfOk result (λ ways. spec.items_in ways.items
         ≡ map straight_ways (code_of code.now).procedures.procs) }
 {
+    let raw = code.raw();
+    // A constant test reads no datum and no mark, so any serve.
     let vals = no_data(alloc)?;
-    let marks = no_marks(alloc)?;
+    let Ok(marks) = Marks::make(alloc, code.shape()) else {
+        return Err(Memory);
+    };
     let mut all = Vec::new(alloc);
-    for procedure in code.procs.items() {
+    for procedure in raw.procs.items() {
         let ways = ways_of(alloc, procedure.items(), &vals, &marks)?;
         let Ok(()) = all.push(ways) else {
             return Err(Memory);
@@ -143,7 +147,7 @@ pub fn live_procedures(alloc: Global, code: &Code) -> Result<Live, Memory>
         ≡ map straight_ways (code_of code.now).procedures.procs) }
 {
     let raw = code.raw();
-    let ways = all_ways(alloc, raw)?;
+    let ways = all_ways(alloc, code)?;
     let flags = all_places(alloc, &ways)?;
     let live = all_live(alloc, raw, &flags)?;
     Ok(Live { live, flags, ways })

@@ -6,6 +6,7 @@ pub mod ListLemmas
 pub mod FaultLemmas
 pub mod MeasureLemmas
 pub mod TableLemmas
+pub mod RepeatLemmas
 pub mod SiblingLemmas
 pub mod WholeTable
 pub mod AcceptLemmas

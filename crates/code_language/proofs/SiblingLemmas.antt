@@ -2,9 +2,9 @@
 use Rattle.std.proofs.Common.{◌≡◌, ℕ, suc, ◌+◌, ◌<◌, ◌||◌, ◌&&◌, not, Bool, true, false, cond, List, [], ◌∷◌, ◌++◌}
 use Rattle.std.proofs.Common.{length, map, Option, Some, None, is_some, refl, sym, ap, ◌∙◌, subst, arith}
 use Rattle.std.proofs.Common.{append_assoc, length-append}
-use Rattle.std.specs.Prelude.{◌==◌, IsTrue, IsSomeAnd, slice_index_or, bytes_eq}
-use Rattle.std.specs.List.{filter, range_with_len, AllByRecursion}
-use Rattle.std.specs.Option.{option_map_or}
+use Rattle.std.specs.Prelude.{◌==◌, nat_eq, IsTrue, IsSomeAnd, slice_index_or, bytes_eq}
+use Rattle.std.specs.List.{filter, list_any, range_with_len, AllByRecursion}
+use Rattle.std.specs.Option.{option_eq, option_map_or}
 use Rattle.std.proofs.lemmas.Bool.{and_parts}
 use Rattle.std.proofs.lemmas.Bool.Decides.{nat_tests}
 use Rattle.std.proofs.lemmas.List.{length-map, map-append}
@@ -12,7 +12,7 @@ use Rattle.flow_base.specs.Names.{index_of, after, are_distinct}
 use Rattle.active_config.specs.Tree.{IsTree, state_count, parent_of, is_at_or_below, is_child, children_below}
 use Rattle.active_config.specs.Tree.{children_of}
 use Rattle.code_language.specs.declared.code.RawState.{RawState}
-use Rattle.code_language.specs.Acceptance.{same_parent, has_twin, has_no_twins, written_name, HasSiblings}
+use Rattle.code_language.specs.Acceptance.{is_same, state_named, has_no_twins, written_name, HasSiblings}
 use Rattle.code_language.specs.Code.{tree_of_states}
 use Rattle.code_language.proofs.TableLemmas.{parent_below}
 
@@ -26,6 +26,10 @@ names_under s [] = []
 names_under s (x ∷ xs) = cond (is_under s x.parent) (x.name ∷ names_under s xs) (names_under s xs)
 
 -- ---- one state and those after it
+
+-- a later state has the same parent and the same name
+abbrev has_twin : RawState → List RawState → Bool
+has_twin x later = list_any (λ y. is_same y (state_named x)) (map state_named later)
 
 -- a place counted on from one more name is there where the place is
 some_after : (o : Option ℕ) → is_some (after o) ≡ is_some o
@@ -44,7 +48,7 @@ found_step true name other ns t h = some_found (bytes_eq other name) (index_of n
 found_step false name other ns t h = h
 
 -- the same parent as one that has it
-same_under : (o : Option ℕ) (q : ℕ) → same_parent o (Some q) ≡ is_under q o
+same_under : (o : Option ℕ) (q : ℕ) → option_eq nat_eq o (Some q) ≡ is_under q o
 same_under None q = refl
 same_under (Some p) q = refl
 
@@ -55,7 +59,7 @@ twin_is x q [] e = refl
 twin_is x q (y ∷ later) e =
     found_step (is_under q y.parent) x.name y.name (names_under q later) _ (twin_is x q later e)
     ∙ ap (λ b. (b && bytes_eq y.name x.name) || has_twin x later) (sym (same_under y.parent q)
-    ∙ ap (same_parent y.parent) (sym e))
+    ∙ ap (option_eq nat_eq y.parent) (sym e))
 
 -- ---- no twins, so names under each state differ
 
@@ -140,7 +144,7 @@ no_twin_first n x (y ∷ later) e h =
     ap (λ b. (b && bytes_eq y.name x.name) || has_twin x later) (other y.parent x.parent e h.0)
     ∙ no_twin_first n x later e h.1
   where
-    other : (o p : Option ℕ) → p ≡ None → IsSomeAnd o (λ q. q < n) → same_parent o p ≡ false
+    other : (o p : Option ℕ) → p ≡ None → IsSomeAnd o (λ q. q < n) → option_eq nat_eq o p ≡ false
     other None p e h = absurd h
     other (Some q) None e h = refl
     other (Some q) (Some r) e h = absurd (cc e)

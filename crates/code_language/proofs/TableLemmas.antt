@@ -15,12 +15,9 @@ use Rattle.active_config.specs.declared.comp.Comp.{Comp}
 use Rattle.active_config.specs.Tree.{Tree, IsTree, tree_of, parents_of, parent_of, state_count, ancestors}
 use Rattle.active_config.proofs.PathLemmas.{parent_lt, ancestors-step, ancestors-root}
 use Rattle.actions.proofs.SizeLemmas.{floored_at_own}
-use Rattle.actions.specs.declared.names.EventDecl.{EventDecl}
 use Rattle.code_language.specs.declared.code.RawState.{RawState}
-use Rattle.code_language.specs.Acceptance.{has_parents, parent_or_0, comp_written, has_twin, has_no_twins}
-use Rattle.code_language.specs.Acceptance.{names_event, events_differ}
+use Rattle.code_language.specs.Acceptance.{has_parents, parent_or_0, comp_written}
 use Rattle.code_language.specs.Code.{tree_of_states}
-use Rattle.code_language.proofs.ListLemmas.{drop_at}
 
 -- ---- first values
 
@@ -38,28 +35,6 @@ exact_in_range scale m =
     ap (λ (z : ℤ). is_some (cond (is_whole n scale.frac && is_in_range scale z) (Some z) None)) (floored_at_own m scale.frac)
     ∙ ap (λ (b : Bool). is_some (cond (b && is_in_range scale m) (Some m) None)) (is_whole-raised n scale.frac (omega arith))
     ∙ some_if (is_in_range scale m) m
-
--- ---- loops over names
-
--- from one on no event has the name of a later one where it doesn't, and those after it don't
-pub events_differ-drop : (xs : List EventDecl) (i : ℕ) (x : EventDecl) → i < length xs → x ≡ get_or xs i x
-    → events_differ (drop i xs) ≡ (not (names_event x.name (drop (i + 1) xs)) && events_differ (drop (i + 1) xs))
-events_differ-drop xs i x lt is = ap events_differ (drop_at xs i x lt is)
-
--- and for the states
-pub no_twins-drop : (xs : List RawState) (i : ℕ) (x : RawState) → i < length xs → x ≡ get_or xs i x
-    → has_no_twins (drop i xs) ≡ (not (has_twin x (drop (i + 1) xs)) && has_no_twins (drop (i + 1) xs))
-no_twins-drop xs i x lt is = ap has_no_twins (drop_at xs i x lt is)
-
--- a test that fails at one decides
-pub decides_false : (twin rest whole : Bool) → whole ≡ (not twin && rest) → twin ≡ true → whole ≡ false
-decides_false true rest whole e t = e
-decides_false false rest whole e t = absurd (cc t)
-
--- and one that holds leaves the rest
-pub decides_rest : (twin rest whole : Bool) → whole ≡ (not twin && rest) → twin ≡ false → whole ≡ rest
-decides_rest true rest whole e t = absurd (cc t)
-decides_rest false rest whole e t = e
 
 -- ---- parents
 

@@ -8,7 +8,7 @@ use Rattle.std.proofs.lemmas.Bool.Decides.{nat_tests}
 use Rattle.fixed_point.specs.declared.fitting.Mode.{Mode}
 use Rattle.fixed_point.specs.declared.fitting.Mode.TheVariants.{Saturate, Wrap, Error}
 use Rattle.flow_base.specs.Lists.{items_of}
-use Rattle.flow_base.specs.Names.{index_of, after, are_distinct}
+use Rattle.flow_base.specs.Names.{are_distinct}
 use Rattle.flow_base.specs.declared.chart_limits.TheConstants.{STATE_LIMIT, VARIABLE_LIMIT}
 use Rattle.chart_lexer.specs.Words.{is_name}
 use Rattle.active_config.specs.Tree.{Tree, IsTree}
@@ -21,8 +21,7 @@ use Rattle.actions.specs.declared.names.Var.{Var}
 use Rattle.checked_chart.specs.Valid.{HasFlagMode}
 use Rattle.code_language.specs.declared.code.RawCode.{RawCode}
 use Rattle.code_language.specs.declared.code.RawState.{RawState}
-use Rattle.code_language.specs.Acceptance.{IsShallow, AreStates, are_few, are_names, names_var, names_event, vars_differ}
-use Rattle.code_language.specs.Acceptance.{events_differ}
+use Rattle.code_language.specs.Acceptance.{IsShallow, AreStates, are_few, are_names, names_of_both}
 use Rattle.code_language.specs.Acceptance.{is_flag_mode, has_value, is_declared, has_no_twins, has_parents}
 use Rattle.code_language.specs.Code.{code_of, tree_of_states}
 use Rattle.code_language.specs.Tables.{IsTable}
@@ -78,51 +77,10 @@ both_true : (a b : Bool) → a ≡ true → b ≡ true → (a && b) ≡ true
 both_true true b h k = k
 both_true false b h k = absurd (cc h)
 
--- a place counted on from one more name is there where the place is
-some_after : (o : Option ℕ) → is_some (after o) ≡ is_some o
-some_after None = refl
-some_after (Some n) = refl
-
--- the first name is the one, or the rest has it
-found : (same : Bool) (o : Option ℕ) (t : Bool) → is_some o ≡ t → is_some (cond same (Some 0) (after o)) ≡ (same || t)
-found true o t h = refl
-found false o t h = some_after o ∙ h
-
--- three tests of which one holds
-or_assoc : (a b c : Bool) → (a || (b || c)) ≡ ((a || b) || c)
-or_assoc true b c = refl
-or_assoc false b c = refl
-
 -- three tests that all hold
 and_assoc : (a b c : Bool) → (a && (b && c)) ≡ ((a && b) && c)
 and_assoc true b c = refl
 and_assoc false b c = refl
-
--- names of the data and the events in one list
-names_index : (name : List ℕ) (vars : List Var) (events : List EventDecl)
-    → is_some (index_of name (map (λ (v : Var). v.name) vars ++ map (λ (e : EventDecl). e.name) events))
-    ≡ (names_var name vars || names_event name events)
-names_index name [] [] = refl
-names_index name [] (e ∷ es) = found (bytes_eq e.name name) _ _ (names_index name [] es)
-names_index name (v ∷ vs) es =
-    found (bytes_eq v.name name) _ _ (names_index name vs es)
-    ∙ or_assoc (bytes_eq v.name name) (names_var name vs) (names_event name es)
-
--- names of events differ by pairs
-events_distinct : (es : List EventDecl) → are_distinct (map (λ (e : EventDecl). e.name) es) ≡ events_differ es
-events_distinct [] = refl
-events_distinct (e ∷ es) =
-    ap (λ b. not b && are_distinct (map (λ (e : EventDecl). e.name) es)) (names_index e.name [] es)
-    ∙ ap (λ b. not (names_event e.name es) && b) (events_distinct es)
-
--- names of data and events differ by pairs
-names_distinct : (vs : List Var) (es : List EventDecl)
-    → are_distinct (map (λ (v : Var). v.name) vs ++ map (λ (e : EventDecl). e.name) es) ≡ (vars_differ vs es && events_differ es)
-names_distinct [] es = events_distinct es
-names_distinct (v ∷ vs) es =
-    ap (λ b. not b && are_distinct (map (λ (v : Var). v.name) vs ++ map (λ (e : EventDecl). e.name) es)) (names_index v.name vs es)
-    ∙ ap (λ b. not (names_var v.name vs || names_event v.name es) && b) (names_distinct vs es)
-    ∙ and_assoc (not (names_var v.name vs || names_event v.name es)) (vars_differ vs es) (events_differ es)
 
 -- NAMEs of the data and the events in one list
 all_append : (xs ys : List (List ℕ)) → list_all is_name (xs ++ ys) ≡ (list_all is_name xs && list_all is_name ys)
@@ -161,10 +119,11 @@ values_of [] h k = refl
 values_of (v ∷ vs) h k =
     both_true _ _ (both_true _ _ h.0 (mode_of v.sort v.mode k.0)) (values_of vs h.1 k.1)
 
--- where the rest is declared and the states are right, the whole is a table
-pub table_is : (raw : RawCode) → is_declared raw ≡ true → AreStates (items_of raw.states)
+-- where the rest is declared, names differ and the states are right, the whole is a table
+pub table_is : (raw : RawCode) → is_declared raw ≡ true
+    → are_distinct (names_of_both (items_of raw.vars) (items_of raw.events)) ≡ true → AreStates (items_of raw.states)
     → IsTable (code_of raw).tree (code_of raw).names
-table_is raw h are =
+table_is raw h distinct are =
     let states = items_of raw.states in
     let vars = items_of raw.vars in
     let events = items_of raw.events in
@@ -174,7 +133,6 @@ table_is raw h are =
     let fewer = and_parts (nat_le (length vars) VARIABLE_LIMIT) _ few.1 in
     let n1 = and_parts (list_all (λ (s : RawState). is_name s.name) states) _ b.0 in
     let n2 = and_parts (list_all (λ (v : Var). is_name v.name) vars) _ n1.1 in
-    let n3 = and_parts (list_all (λ (e : EventDecl). is_name e.name) events) _ n2.1 in
     let values = inits_of vars b.1 in
     let count = states_counted states in
     let in_limit = le_of (length states) STATE_LIMIT few.0 in
@@ -188,8 +146,8 @@ table_is raw h are =
         states = list_all-map is_name (λ (s : RawState). s.name) states ∙ n1.0;
         declared = all_append (map (λ (v : Var). v.name) vars) (map (λ (e : EventDecl). e.name) events)
             ∙ both_true _ _ (list_all-map is_name (λ (v : Var). v.name) vars ∙ n2.0)
-            (list_all-map is_name (λ (e : EventDecl). e.name) events ∙ n3.0);
-        distinct = names_distinct vars events ∙ n3.1;
+            (list_all-map is_name (λ (e : EventDecl). e.name) events ∙ n2.1);
+        distinct = distinct;
         siblings = are.siblings;
       };
       inits = values.0;
@@ -210,28 +168,37 @@ table_declared raw h =
     both_true _ _ (both_true _ _ (le_test _ _ few) (both_true _ _ (le_test _ _ h.vars) (le_test _ _ h.events)))
     (both_true _ _ (both_true _ _ (sym (list_all-map is_name (λ (s : RawState). s.name) states) ∙ h.names.states)
     (both_true _ _ (sym (list_all-map is_name (λ (v : Var). v.name) vars) ∙ names.0)
-    (both_true _ _ (sym (list_all-map is_name (λ (e : EventDecl). e.name) events) ∙ names.1)
-    (sym (names_distinct vars events) ∙ h.names.distinct))))
+    (sym (list_all-map is_name (λ (e : EventDecl). e.name) events) ∙ names.1)))
     (values_of vars h.inits h.flags))
 
 -- and the states are right
 pub table_states : (raw : RawCode) → IsTable (code_of raw).tree (code_of raw).names → AreStates (items_of raw.states)
 table_states raw h = record { tree = h.tree; depth = h.depth; siblings = h.names.siblings }
 
--- where the rest isn't declared, or where it is, by the states
+-- where the rest isn't declared there is no table
 pub no_table : (raw : RawCode) → is_declared raw ≡ false → IsTrue false ↔ IsTable (code_of raw).tree (code_of raw).names
 no_table raw h =
     false_where (λ (a : IsTable (code_of raw).tree (code_of raw).names). both_ways _ (table_declared raw a) h)
 
--- where it is declared the states decide
-pub table_by_states : (raw : RawCode) (b : Bool) → is_declared raw ≡ true → IsTrue b ↔ AreStates (items_of raw.states)
-    → IsTrue b ↔ IsTable (code_of raw).tree (code_of raw).names
-table_by_states raw b h s =
-    (λ e. table_is raw h (s.0 e), λ (a : IsTable (code_of raw).tree (code_of raw).names). s.1 (table_states raw a))
+-- nor where a name stands twice
+pub no_distinct : (raw : RawCode) → are_distinct (names_of_both (items_of raw.vars) (items_of raw.events)) ≡ false
+    → IsTrue false ↔ IsTable (code_of raw).tree (code_of raw).names
+no_distinct raw h =
+    false_where (λ (a : IsTable (code_of raw).tree (code_of raw).names). both_ways _ a.names.distinct h)
+
+-- where it is declared and names differ the states decide
+pub table_by_states : (raw : RawCode) (b : Bool) → is_declared raw ≡ true
+    → are_distinct (names_of_both (items_of raw.vars) (items_of raw.events)) ≡ true
+    → IsTrue b ↔ AreStates (items_of raw.states) → IsTrue b ↔ IsTable (code_of raw).tree (code_of raw).names
+table_by_states raw b h distinct s = (
+  λ e. table_is raw h distinct (s.0 e),
+  λ (a : IsTable (code_of raw).tree (code_of raw).names). s.1 (table_states raw a),
+)
 
 -- the same for what a call gives
 pub table_result : {T E : Type 0} (raw : RawCode) (r : Result (Option T) E) → is_declared raw ≡ true
+    → are_distinct (names_of_both (items_of raw.vars) (items_of raw.events)) ≡ true
     → IfOk r (λ o. IsTrue (is_some o) ↔ AreStates (items_of raw.states))
     → IfOk r (λ o. IsTrue (is_some o) ↔ IsTable (code_of raw).tree (code_of raw).names)
-table_result raw (Ok o) h s = table_by_states raw (is_some o) h s
-table_result raw (Err e) h s = tt
+table_result raw (Ok o) h distinct s = table_by_states raw (is_some o) h distinct s
+table_result raw (Err e) h distinct s = tt

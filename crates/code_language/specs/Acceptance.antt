@@ -1,7 +1,9 @@
 -- Words for the parts of acceptance.
-use Rattle.std.specs.Prelude.{◌≡◌, ◌<◌, ◌≤◌, ℕ, List, [], ◌∷◌, length, map, Option, Some, None, Bool, true, false, not, ◌==◌, ◌||◌, ◌&&◌}
-use Rattle.std.specs.Prelude.{is_some, is_none, nat_le, unwrap_or, slice_index_or}
+use Rattle.std.specs.Prelude.{◌≡◌, ◌<◌, ◌≤◌, ℕ, List, [], ◌∷◌, ◌++◌, length, map, Option, Some, Bool, true, false, not, ◌&&◌}
+use Rattle.std.specs.Prelude.{is_some, is_none, nat_eq, nat_le, unwrap_or, slice_index_or}
+use Rattle.std.specs.Borrow.{Bor}
 use Rattle.std.specs.List.{list_all, list_any}
+use Rattle.std.specs.Option.{option_eq}
 use Rattle.std.specs.Str.{bytes_eq}
 use Rattle.flow_base.specs.Names.{are_distinct}
 use Rattle.flow_base.specs.Lists.{items_of}
@@ -60,30 +62,32 @@ abbrev pub are_few : ℕ → ℕ → ℕ → Bool
 are_few states vars events =
     nat_le states STATE_LIMIT && (nat_le vars VARIABLE_LIMIT && nat_le events EVENT_LIMIT)
 
--- the name is that of one of the data
-abbrev pub names_var : List ℕ → List Var → Bool
-names_var name vars = list_any (λ (v : Var). bytes_eq v.name name) vars
+-- a name, with the state in which it stands, if it stands in one
+pub record Named : Type 0 where
+  pub owner : Option ℕ
+  pub name : List ℕ
 
--- the name is that of one of the events
-abbrev pub names_event : List ℕ → List EventDecl → Bool
-names_event name events = list_any (λ (e : EventDecl). bytes_eq e.name name) events
+-- a name in that state
+abbrev pub named : Option ℕ → List ℕ → Named
+named owner name = record { owner = owner; name = name }
 
--- no event has the name of a later one
-abbrev pub events_differ : List EventDecl → Bool
-events_differ [] = true
-events_differ (e ∷ later) = not (names_event e.name later) && events_differ later
+-- the same name in the same state
+abbrev pub is_same : Named → Named → Bool
+is_same a b = option_eq nat_eq a.owner b.owner && bytes_eq a.name b.name
 
--- no datum has the name of a later one or of an event
-abbrev pub vars_differ : List Var → List EventDecl → Bool
-vars_differ [] events = true
-vars_differ (v ∷ later) events =
-    not (names_var v.name later || names_event v.name events) && vars_differ later events
+-- a name that was seen
+abbrev pub named_of : Option ℕ × Bor (List ℕ) → Named
+named_of key = named key.0 key.1.now
 
--- every name is a NAME, and none stands twice among data and events
+-- the names of data and events
+abbrev pub names_of_both : List Var → List EventDecl → List (List ℕ)
+names_of_both vars events = map (λ (v : Var). v.name) vars ++ map (λ (e : EventDecl). e.name) events
+
+-- every name is a NAME
 abbrev pub are_names : List RawState → List Var → List EventDecl → Bool
 are_names states vars events =
-    list_all (λ (s : RawState). is_name s.name) states && (list_all (λ (v : Var). is_name v.name) vars
-    && (list_all (λ (e : EventDecl). is_name e.name) events && (vars_differ vars events && events_differ events)))
+    list_all (λ (s : RawState). is_name s.name) states
+    && (list_all (λ (v : Var). is_name v.name) vars && list_all (λ (e : EventDecl). is_name e.name) events)
 
 -- the mode of a flag
 abbrev pub is_flag_mode : Sort → Mode → Bool
@@ -96,7 +100,7 @@ is_flag_mode (Number scale) mode = true
 abbrev pub has_value : Var → Bool
 has_value v = is_mantissa_of v.sort v.init && is_flag_mode v.sort v.mode
 
--- what is declared keeps to all of a table that isn't about the tree of states
+-- what is declared keeps to all of a table that is neither about the tree of states nor about names that stand twice
 abbrev pub is_declared : RawCode → Bool
 is_declared raw =
     are_few (length (items_of raw.states)) (length (items_of raw.vars)) (length (items_of raw.events))
@@ -116,19 +120,15 @@ parent_or_0 s = unwrap_or s.parent 0
 abbrev pub comp_written : RawState → Comp
 comp_written s = s.comp
 
--- two states with the same parent, or both without one
-abbrev pub same_parent : Option ℕ → Option ℕ → Bool
-same_parent None None = true
-same_parent None (Some q) = false
-same_parent (Some p) None = false
-same_parent (Some p) (Some q) = p == q
+-- no name stands again among those after it in the same state
+abbrev pub all_differ : List Named → Bool
+all_differ [] = true
+all_differ (x ∷ later) = not (list_any (λ y. is_same y x) later) && all_differ later
 
--- a later state has the same parent and the same name
-abbrev pub has_twin : RawState → List RawState → Bool
-has_twin x later =
-    list_any (λ (y : RawState). same_parent y.parent x.parent && bytes_eq y.name x.name) later
+-- the name of a state, which stands in its parent
+abbrev pub state_named : RawState → Named
+state_named s = named s.parent s.name
 
 -- no two states have the same parent and the same name
 abbrev pub has_no_twins : List RawState → Bool
-has_no_twins [] = true
-has_no_twins (x ∷ later) = not (has_twin x later) && has_no_twins later
+has_no_twins states = all_differ (map state_named states)

@@ -18,8 +18,7 @@ use std::alloc::Global;
 
 /// The code as accepted, or its first fault. `Memory` only where memory was refused.
 ///
-/// Its time grows with the code; only the names, of which there are at most so many, are compared
-/// pair by pair.
+/// Its time and its memory grow with the code.
 pub fn accept(alloc: Global, raw: RawCode) -> Result<Code, CodeEnd>
     ensures accepted { IfOk result (λ code. code ≡ raw) }
     ensures only { IsCode (code_of raw) → IsOkUnless result CodeEnd.Memory }

@@ -14,6 +14,7 @@ mod instr;
 mod laws;
 mod limits;
 mod naming;
+mod repeats;
 mod tables;
 mod typing;
 mod works;

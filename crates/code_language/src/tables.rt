@@ -10,12 +10,13 @@ ghost use Rattle.code_language.specs.Acceptance as spec;
 ghost use Rattle.code_language.specs.Tables.{IsTable};
 
 use crate::code::{RawCode, RawState};
+use crate::repeats::{are_names_distinct, has_no_twins};
 use actions::{EventDecl, Sort, Var};
 use active_config::{Comp, Shape, ShapeFault};
 use chart_lexer::is_name;
 use fixed_point::{Mode, Num, exact};
+use flow_base::Memory;
 use flow_base::chart_limits::{EVENT_LIMIT, STATE_DEPTH_LIMIT, STATE_LIMIT, VARIABLE_LIMIT};
-use flow_base::{Memory, Text};
 use std::alloc::{AllocError, Global};
 
 /// The tree of the states, where what the code declares of states, data and events could be a
@@ -25,13 +26,16 @@ pub fn table_shape(alloc: Global, raw: &RawCode) -> Result<Option<Shape>, Memory
     ensures table { IfOk result (λ found. IsTrue (is_some found)
         ↔ IsTable (code_of raw.now).tree (code_of raw.now).names) }
 {
-    if !is_declared(raw) {
+    let vars = raw.vars.items();
+    let events = raw.events.items();
+    if !is_declared(raw) || !are_names_distinct(alloc, vars, events)? {
         return Ok(None);
     }
     states_shape(alloc, raw.states.items())
 }
 
-/// Whether what is declared keeps to all that isn't about the tree of states.
+/// Whether what is declared keeps to all that is neither about the tree of states nor about names
+/// that stand twice.
 fn is_declared(raw: &RawCode) -> bool
     ensures { result ≡ spec.is_declared raw.now }
 {
@@ -48,18 +52,14 @@ fn has_few(raw: &RawCode) -> bool
         && raw.events.items().len() <= EVENT_LIMIT as usize
 }
 
-/// Whether every name is a NAME, and none stands twice among data and events.
+/// Whether every name is a NAME.
 fn has_names(raw: &RawCode) -> bool
     ensures { result ≡ spec.are_names (items_of raw.now.states) (items_of raw.now.vars)
         (items_of raw.now.events) }
 {
-    let vars = raw.vars.items();
-    let events = raw.events.items();
     are_state_names(raw.states.items())
-        && are_var_names(vars)
-        && are_event_names(events)
-        && are_vars_distinct(vars, events)
-        && are_events_distinct(events)
+        && are_var_names(raw.vars.items())
+        && are_event_names(raw.events.items())
 }
 
 /// Whether each state's name is a NAME.
@@ -85,48 +85,6 @@ fn are_event_names(events: &[EventDecl]) -> bool
     events
         .iter()
         .all(|event| is_name(event.name.text().as_bytes()))
-}
-
-/// Whether no name of a datum stands again among the data after it or the events.
-fn are_vars_distinct(vars: &[Var], events: &[EventDecl]) -> bool
-    ensures { result ≡ spec.vars_differ vars.now events.now }
-{
-    for (i, var) in vars.iter().enumerate() {
-        if is_var(&var.name, &vars[i + 1..]) || is_event(&var.name, events) {
-            return false;
-        }
-    }
-    true
-}
-
-/// Whether no name of an event stands again among the events after it.
-fn are_events_distinct(events: &[EventDecl]) -> bool
-    ensures { result ≡ spec.events_differ events.now }
-{
-    for (i, event) in events.iter().enumerate() {
-        if is_event(&event.name, &events[i + 1..]) {
-            return false;
-        }
-    }
-    true
-}
-
-/// Whether the name is one of these data's.
-fn is_var(name: &Text, vars: &[Var]) -> bool
-    ensures { result ≡ spec.names_var name.now vars.now }
-{
-    let name = name.text().as_bytes();
-    vars.iter().any(|var| var.name.text().as_bytes() == name)
-}
-
-/// Whether the name is one of these events'.
-fn is_event(name: &Text, events: &[EventDecl]) -> bool
-    ensures { result ≡ spec.names_event name.now events.now }
-{
-    let name = name.text().as_bytes();
-    events
-        .iter()
-        .any(|event| event.name.text().as_bytes() == name)
 }
 
 /// Whether the first value of each datum is of its sort, and no flag has a mode of its own.
@@ -166,7 +124,7 @@ fn states_shape(alloc: Global, states: &[RawState]) -> Result<Option<Shape>, Mem
     ensures shape { IfOk result (λ found. IfSome found (λ shape. shape ≡ tree_of_states states.now)) }
     ensures states { IfOk result (λ found. IsTrue (is_some found) ↔ spec.AreStates states.now) }
 {
-    if !has_parents(states) || !has_no_twins(states) {
+    if !has_parents(states) || !has_no_twins(alloc, states)? {
         return Ok(None);
     }
     match shape_of(alloc, states) {
@@ -258,24 +216,4 @@ fn depth(shape: &Shape, state: u32) -> u32
         at = parent;
     }
     depth
-}
-
-/// Whether no two states have the same parent and the same name.
-fn has_no_twins(states: &[RawState]) -> bool
-    ensures { result ≡ spec.has_no_twins states.now }
-{
-    for (i, state) in states.iter().enumerate() {
-        if has_twin(state, &states[i + 1..]) {
-            return false;
-        }
-    }
-    true
-}
-
-/// Whether a later state has the same parent and the same name.
-fn has_twin(state: &RawState, later: &[RawState]) -> bool
-    ensures { result ≡ spec.has_twin state.now later.now }
-{
-    let name = state.name.text().as_bytes();
-    later.iter().any(|other| other.parent == state.parent && other.name.text().as_bytes() == name)
 }

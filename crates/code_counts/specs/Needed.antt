@@ -45,7 +45,7 @@ pub record IsRoom (k : Code) (b : Bounds) (room : ℕ) : Type 0 where
 
 -- the bounds that were found serve the code in place of the given ones: the runs are the same, and a start and a
 -- reaction, from whatever world, end by the fault of a bound only where it is tested, and put out no more events than
--- there is room for; and the number of open calls that was found is the most that an event has
+-- there is room for; and no event has more open calls than the number that was found, where one was
 pub record IsLimit (k : Code) (b : Bounds) (found : Limits) : Type 0 where
   pub runs : (events : List EventWithInputs) (moments : List Moment)
       → CodeRun k b events moments ↔ CodeRun k found.bounds events moments

@@ -1,0 +1,11 @@
+pub mod Locals
+pub mod Keeping
+pub mod Giving
+pub mod Handing
+pub mod Returning
+pub mod Turning
+pub mod Looping
+pub mod Runs
+pub mod Lists
+pub mod ReadLemmas
+pub mod Whole

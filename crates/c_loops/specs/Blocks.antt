@@ -1,0 +1,20 @@
+-- The trees of the code as contracts see them.
+use Rattle.flow_base.specs.Lists.{items_of}
+use Rattle.c_subset.specs.Lines.{expr_of, exprs_of}
+use Rattle.c_subset.specs.Trees.{Block}
+use Rattle.c_subset.specs.Trees as c
+use Rattle.c_loops.specs.declared.trees.Tree.{Tree}
+use Rattle.c_loops.specs.declared.trees.Tree.TheVariants as trees
+
+-- statements of the code
+abbrev pub block_of : Tree → Block
+block_of trees.End = c.End
+block_of (trees.Set' t k e p rest) = c.Set t k (expr_of e) (block_of rest)
+block_of (trees.Store' f e p rest) = c.Store f (expr_of e) (block_of rest)
+block_of (trees.StoreAt' a i e p rest) = c.StoreAt a (expr_of i) (expr_of e) (block_of rest)
+block_of (trees.Call' t k f args p rest) = c.Call t k f (exprs_of (items_of args)) (block_of rest)
+block_of (trees.Select' t k e cases args p rest) =
+    c.Select t k (expr_of e) (items_of cases) (exprs_of (items_of args)) (block_of rest)
+block_of (trees.If' e p a q b r rest) = c.If (expr_of e) (block_of a) (block_of b) (block_of rest)
+block_of (trees.While' e p a q rest) = c.While (expr_of e) (block_of a) (block_of rest)
+block_of (trees.Return e) = c.Return (expr_of e)

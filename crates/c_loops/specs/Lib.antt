@@ -1,0 +1,5 @@
+pub mod Results
+pub mod Loops
+pub mod Blocks
+pub mod Reading
+pub mod Writing

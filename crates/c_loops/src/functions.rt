@@ -1,0 +1,94 @@
+//! A function as a loop where it may be one.
+ghost use Rattle.std.specs.Prelude.{◌≡◌, IfOk, length};
+ghost use Rattle.flow_base.specs.Lists.{items_of};
+ghost use Rattle.c_subset.specs.Trees as c;
+ghost use Rattle.c_subset.specs.Lines.{IsFunction, lines_in, lines_of};
+ghost use Rattle.c_loops.specs.Blocks.{block_of};
+ghost use Rattle.c_loops.specs.Loops as spec;
+ghost use Rattle.c_loops.specs.Loops.{looped};
+ghost use Rattle.c_loops.specs.Reading.{statements_of};
+
+use crate::copying::copy_lines;
+use crate::deciding::loops;
+use crate::expressions::is_word;
+use crate::reading::{Stack, read_lines};
+use crate::trees::Tree;
+use crate::turns::write_again;
+use crate::writing::put;
+use c_subset::{CExpr, CType, Function, Line};
+use flow_base::{List, Memory};
+use std::alloc::Global;
+
+/// The most lines of a function that may be a loop.
+const MOST_LINES: usize = 1_000;
+
+/// Whether these are the types of the parameters of a procedure.
+fn are_words(types: &[CType]) -> bool
+    ensures { result ≡ spec.are_words 0 types.now }
+{
+    match types {
+        [event, depth, base, home, last] => {
+            is_word(*event) && is_word(*depth) && is_word(*base) && is_word(*home) && is_word(*last)
+        }
+        _ => false,
+    }
+}
+
+/// Whether a function may be a loop: its result and its parameters are words, and it isn't too
+/// long.
+fn may_loop(function: &Function) -> bool
+    ensures { result ≡ spec.may_loop function.now.result (items_of function.now.parameters)
+        (length (items_of function.now.lines)) }
+{
+    is_word(function.result)
+        && are_words(function.parameters.items())
+        && function.lines.items().len() <= MOST_LINES
+}
+
+/// The lines as statements.
+fn tree_of(alloc: Global, lines: &[Line]) -> Result<Tree, Memory>
+    ensures { IfOk result (λ tree. block_of tree ≡ statements_of (lines_in lines.now)) }
+{
+    let copies = copy_lines(alloc, lines)?;
+    match read_lines(alloc, copies)? {
+        Stack::Empty => Ok(Tree::End),
+        Stack::Top(tree, _, _) => Ok(tree),
+    }
+}
+
+/// The lines of the loop whose turns are these statements.
+#[tactic(auto, using(crate::proofs::Lists::writes), unfolding(c_subset::specs::Lines::lines_of))]
+fn lines_of_loop(alloc: Global, number: u32, tree: &Tree) -> Result<List<Line>, Memory>
+    ensures { IfOk result (λ made. lines_in (items_of made)
+        ≡ lines_of (spec.forever (spec.again number (block_of tree.now)))) }
+{
+    let mut made = List::of(Vec::new(alloc));
+    put(&mut made, Line::While(CExpr::Const(CType::Truth, 1)))?;
+    write_again(alloc, number, tree, &mut made)?;
+    put(&mut made, Line::Close)?;
+    Ok(made)
+}
+
+/// The function with this number, as a loop where it may be one: where it is of a procedure, isn't
+/// longer than 1,000 lines, calls itself, and each result of it that it has from itself is what it
+/// returns.
+///
+/// It takes memory for a tree of its lines. `Memory` only where memory was refused.
+pub fn with_loop(alloc: Global, number: u32, function: Function) -> Result<Function, Memory>
+    ensures { IfOk result (λ made. (g : c.Function) → IsFunction function g →
+        IsFunction made (looped number g)) }
+{
+    if !may_loop(&function) {
+        return Ok(function);
+    }
+    let tree = tree_of(alloc, function.lines.items())?;
+    if !loops(number, &tree) {
+        return Ok(function);
+    }
+    let lines = lines_of_loop(alloc, number, &tree)?;
+    Ok(Function {
+        result: function.result,
+        parameters: function.parameters,
+        lines,
+    })
+}

@@ -1,0 +1,4 @@
+pub mod Each
+pub mod Cuts
+pub mod Shallow
+pub mod SameRuns

@@ -1,0 +1,11 @@
+//! What holds of code whose sends lead elsewhere where no depth is left for them.
+ghost use Rattle.flow_base.specs.declared.bounds.Bounds.{Bounds};
+ghost use Rattle.code_language.specs.Code.{Code};
+ghost use Rattle.code_language.specs.WellFormed.{IsCode};
+ghost use Rattle.code_depths.specs.Depths.{HasSameRunsUnder, IsCut};
+
+/// Well-formed code, cut for the depth of some bounds, has the runs of its code under these bounds.
+pub fn cut_code_has_the_same_runs()
+    ensures { (k k' : Code) (b : Bounds) → IsCode k' → IsCut b.depth k k'
+        → HasSameRunsUnder b k k' }
+{}

@@ -10,6 +10,7 @@ mod keys;
 mod laws;
 mod made;
 mod notes;
+mod pure;
 mod steps;
 mod tag;
 mod tagging;

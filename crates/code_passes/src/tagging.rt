@@ -53,7 +53,7 @@ pub(crate) fn tags_at(alloc: Global, tags: &[Tag], origins: &[u32]) -> Result<Ve
     Ok(found)
 }
 
-/// Notes that a procedure has this number, where it isn't that of the procedure itself.
+/// Marks that a procedure has this number, where it isn't that of the procedure itself.
 fn mark_other(flags: &mut [bool], proc: usize, number: usize)
     ensures size { length flags.new ≡ length flags.old }
     ensures each { EachIndex flags.new (λ p. slice_index_or flags.new p false
@@ -67,7 +67,7 @@ fn mark_other(flags: &mut [bool], proc: usize, number: usize)
     }
 }
 
-/// Whether some procedure has another one that stands for it, by the number of that one.
+/// For each procedure whether another one has its number.
 fn shared_flags(alloc: Global, numbers: &[u32]) -> Result<Vec<bool>, Memory>
     ensures size { IfOk result (λ flags. length flags.items ≡ length numbers.now) }
     ensures each { IfOk result (λ flags. EachIndex flags.items
@@ -82,7 +82,7 @@ fn shared_flags(alloc: Global, numbers: &[u32]) -> Result<Vec<bool>, Memory>
     Ok(flags)
 }
 
-/// The tag, where it is one of others as well or not.
+/// The tag, of a procedure that stands for others as well if so told.
 fn with_shared(tag: Tag, is_shared: bool) -> Tag
     ensures { result ≡ spec.with_shared is_shared tag }
 {

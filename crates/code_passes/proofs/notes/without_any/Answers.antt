@@ -19,3 +19,13 @@ returns-in-Some c k h =
     let passed = subst (λ (o : Option Faster). IfSome o (λ made. IsPassed k (code_of made.code) made.tags.items))
     c.in-Some.is (c.in_ok-copies.ensures.passed k h) in
     c.unnoted.ensures k (subst (IsPassed k (code_of copies.code)) (sym c.deref.ensures.value) passed)
+
+-- there is a tag for each procedure
+pub unnoted-requires-in-None : goal.unnoted-requires-in-None
+unnoted-requires-in-None c = ap length c.deref-in-None.ensures.value ∙ c.requires
+
+-- of the code as it was
+pub returns-in-None : goal.returns-in-None
+returns-in-None c k h =
+    c.unnoted-in-None.ensures k
+    (subst (IsPassed k (code_of c.args.before.now.code)) (sym c.deref-in-None.ensures.value) h)

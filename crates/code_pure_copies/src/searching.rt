@@ -1,0 +1,137 @@
+//! The searches for plans of copies. No proof relies on what they find: what it names is checked.
+mod growing;
+mod levels;
+mod lists;
+mod nesting;
+mod ordering;
+mod playing;
+mod wanting;
+
+use crate::plan::Plan;
+use crate::searching::growing::Growing;
+use crate::searching::levels::DepthSearch;
+use crate::searching::nesting::{Nesting, have_notes};
+use crate::searching::ordering::ordered;
+use crate::searching::playing::Playing;
+use crate::searching::wanting::Search;
+use code_language::{Instr, PROC_LIMIT, RawCode};
+use flow_base::{List, Memory};
+pub use lists::LIST_LIMIT;
+pub use nesting::{SEND_LIMIT, SPREAD_LIMIT};
+pub use playing::ROUND_LIMIT;
+use std::alloc::Global;
+
+/// How many copies for notes there may be for each procedure of the code, besides `COPY_ROOM`.
+///
+/// Source: this project's choice.
+pub const COPY_LIMIT: usize = 4;
+
+/// How many copies for notes of any code there may be besides.
+///
+/// Source: this project's choice.
+pub const COPY_ROOM: usize = 1_024;
+
+/// The greatest number of instructions that the copies for notes have together.
+///
+/// Source: this project's choice.
+pub const PLACE_LIMIT: usize = 4_000_000;
+
+/// How many instructions more than the code the copies by depth may have together. A chart of the
+/// size that is read by hand has room for its copies, and the C of any code grows by at most some
+/// hundred kilobytes.
+///
+/// Source: this project's choice.
+pub const DEPTH_ROOM: usize = 4_000;
+
+/// How many copies for notes of so many procedures there may be.
+fn copies_allowed(procs: usize) -> usize {
+    let allowed = procs.saturating_mul(COPY_LIMIT).saturating_add(COPY_ROOM);
+    allowed.min(PROC_LIMIT)
+}
+
+/// How many instructions the procedures have together.
+fn places_of(procs: &[List<Instr>]) -> usize {
+    let mut places: usize = 0;
+    for instrs in procs {
+        places = places.saturating_add(instrs.items().len());
+    }
+    places
+}
+
+/// Whether a procedure has two copies, where copies stand in the order of their origins.
+fn has_two(origins: &[u32]) -> bool {
+    let mut last: Option<u32> = None;
+    for origin in origins {
+        if last == Some(*origin) {
+            return true;
+        }
+        last = Some(*origin);
+    }
+    false
+}
+
+/// The plan of the copies, with those of the start and of a reaction. None where one that is wanted
+/// isn't made, or where no procedure has two.
+fn plan_of(alloc: Global, copies: Growing, start: u32, react: u32) -> Result<Option<Plan>, Memory> {
+    if !copies.is_done() {
+        return Ok(None);
+    }
+    let plan = ordered(alloc, copies.into_copies(), start, react)?;
+    Ok(if has_two(&plan.origins) {
+        Some(plan)
+    } else {
+        None
+    })
+}
+
+/// A plan of copies by the notes that are pending where procedures begin. None where no procedure
+/// has two copies, or where there would be too many.
+pub(crate) fn find_by_notes(alloc: Global, code: &RawCode) -> Result<Option<Plan>, Memory> {
+    let procs = code.procs.items();
+    let Some(playing) = Playing::of(alloc, procs)? else {
+        return Ok(None);
+    };
+    let mut search = Search::new(alloc, playing, PLACE_LIMIT);
+    let start = search.first_copy(code.start)?;
+    let react = search.first_copy(code.react)?;
+    search.make_all(alloc, procs, copies_allowed(procs.len()))?;
+    match search.into_copies() {
+        Some(copies) => plan_of(alloc, copies, start, react),
+        None => Ok(None),
+    }
+}
+
+/// Which procedures need copies by depth. None where none does, where copies couldn't name what
+/// they send to or what they note, or where it isn't found.
+fn nesting_of(alloc: Global, code: &RawCode) -> Result<Option<Nesting>, Memory> {
+    if have_notes(code.procs.items()) {
+        return Ok(None);
+    }
+    let Some(nesting) = Nesting::of(alloc, code)? else {
+        return Ok(None);
+    };
+    Ok(if nesting.has_any() && !nesting.sends_to_reaction(code) {
+        Some(nesting)
+    } else {
+        None
+    })
+}
+
+/// A plan of copies by depth, up to the given one. None where no procedure has two copies, or where
+/// there would be too many.
+pub(crate) fn find_by_depth(
+    alloc: Global,
+    code: &RawCode,
+    depth: u32,
+) -> Result<Option<Plan>, Memory> {
+    let procs = code.procs.items();
+    let Some(nesting) = nesting_of(alloc, code)? else {
+        return Ok(None);
+    };
+    let room = places_of(procs).saturating_add(DEPTH_ROOM);
+    let mut search = DepthSearch::new(alloc, nesting, depth, room);
+    let start = search.copy_at(code.start, 0)?;
+    let react = search.copy_at(code.react, 0)?;
+    search.make_all(alloc, procs)?;
+    plan_of(alloc, search.into_copies(), start, react)
+}

@@ -1,5 +1,6 @@
 pub mod CallLemmas
 pub mod ReachLemmas
+pub mod HeightLemmas
 pub mod AskLemmas
 pub mod FunctionLemmas
 pub mod PassLemmas
@@ -7,6 +8,7 @@ pub mod CommentLemmas
 pub mod CopyLemmas
 pub mod PrintLemmas
 pub mod SourceLemmas
+pub mod CutLemmas
 pub mod CodeLemmas
 pub mod StructLemmas
 pub mod OneCode

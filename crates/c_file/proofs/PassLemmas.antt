@@ -97,6 +97,12 @@ uses_reached L functions start all flags adds out no_calls closes =
     (subst (λ (cs : List FunctionCall). Closes cs all.reached.items flags)
     (adds.calls ∙ ap (λ (cs : List FunctionCall). cs ++ calls_from 0 functions) no_calls) closes)
 
+-- and what calls what
+pub uses_calls : (functions : List Function) (start all : Uses) → AreCalls functions start all
+    → start.calls.items ≡ [] → all.calls.items ≡ calls_from 0 functions
+uses_calls functions start all adds no_calls =
+    adds.calls ∙ ap (λ (cs : List FunctionCall). cs ++ calls_from 0 functions) no_calls
+
 -- and which name a type of 128 bits
 pub uses_wide : (functions : List Function) (start all : Uses) → AreCalls functions start all → start.wide.items ≡ []
     → all.wide.items ≡ map is_wide functions

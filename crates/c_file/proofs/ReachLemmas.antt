@@ -15,7 +15,7 @@ use Rattle.c_file.specs.Closing.{is_new, followed, passed, finds_new, Closes}
 
 -- ---- truth values
 
-both_true : (a b : Bool) → (a && b) ≡ true → (a ≡ true) × (b ≡ true)
+pub both_true : (a b : Bool) → (a && b) ≡ true → (a ≡ true) × (b ≡ true)
 both_true true true h = (refl, refl)
 both_true true false h = absurd (cc h)
 both_true false b h = absurd (cc h)
@@ -204,11 +204,11 @@ pass_less (call ∷ calls) flags =
 
 -- ---- a pass that finds nothing new
 
-same_item : (x y : FunctionCall) → Some x ≡ Some y → x ≡ y
+pub same_item : (x y : FunctionCall) → Some x ≡ Some y → x ≡ y
 same_item x y e = cc
 
 -- a list without items has none at any place
-none_there : (i : ℕ) (x : FunctionCall) → slice_get [] i ≡ Some x → ⊥
+pub none_there : (i : ℕ) (x : FunctionCall) → slice_get [] i ≡ Some x → ⊥
 none_there zero x e = cc e
 none_there (suc i) x e = cc e
 

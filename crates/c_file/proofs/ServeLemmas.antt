@@ -1,5 +1,6 @@
 -- Tests and limits that serve code.
 use Rattle.std.proofs.Common.{◌≡◌, ◌∙◌, Bool, List, Option, Some, None}
+use Rattle.std.specs.Prelude.{◌↔◌}
 use Rattle.flow_base.specs.declared.bounds.Bounds.{Bounds}
 use Rattle.flow_base.specs.declared.fault.Fault.{Fault}
 use Rattle.flow_base.specs.declared.fault.Fault.TheVariants as faults
@@ -12,7 +13,6 @@ use Rattle.code_language.specs.Reactions.{Starts, Reacts, CodeRun}
 use Rattle.code_counts.specs.Needed as needed
 use Rattle.code_counts.specs.Needed.{IsLimit}
 use Rattle.code_counts.specs.declared.numbers.Limits.{Limits}
-use Rattle.code_copies.specs.SameRuns.{HasSameRuns}
 use Rattle.chart_layout.specs.Bodies.{code_of_chart}
 use Rattle.chart_layout.proofs.Whole.{code_runs}
 use Rattle.c_functions.specs.Moments.{MayEnd, MayEndIn}
@@ -32,7 +32,9 @@ both_end T steps depth s d (Some faults.Zero) ends = tt
 
 -- limits that code doesn't overrun serve, where they are tested unless that is known
 pub limits_serve : (c : Chart) (b : Bounds) (k : Code) (T : Tests) (found : Limits) → IsValid c
-    → HasSameRuns (code_of_chart c) k → IsLimit k b found → T.steps ≡ found.tests_steps
+    → ((events : List EventWithInputs) (moments : List Moment)
+    → CodeRun (code_of_chart c) b events moments ↔ CodeRun k b events moments)
+    → IsLimit k b found → T.steps ≡ found.tests_steps
     → T.depth ≡ found.tests_depth → Serves c b k T found.bounds found.outputs
 limits_serve c b k T found valid same limit steps depth = record {
   runs = runs;
@@ -55,4 +57,4 @@ limits_serve c b k T found valid same limit steps depth = record {
         → CodeRun k found.bounds events moments
     runs events moments run =
         (limit.runs events moments).0
-        ((same.runs b events moments).0 ((code_runs c valid b events moments).0 run))
+        ((same events moments).0 ((code_runs c valid b events moments).0 run))

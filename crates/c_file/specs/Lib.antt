@@ -3,6 +3,8 @@ pub mod Uses
 pub mod Reached
 pub mod Closing
 pub mod Source
+pub mod Heights
 pub mod Comments
+pub mod Functions
 pub mod Made
 pub mod Files

@@ -1,16 +1,15 @@
--- What a source is made from, and what is known of the functions of its file.
+-- What both files are made from, and what is known of the functions of the source.
 use Rattle.std.specs.Prelude.{◌≡◌, ℕ, List, [], ◌∷◌, ◌++◌, map}
 use Rattle.code_language.specs.Code.{code_of}
 use Rattle.c_subset.specs.Trees.{Function}
 use Rattle.c_subset.specs.Lines.{lines_of}
-use Rattle.c_procedures.specs.Writer.{plans_of}
-use Rattle.c_functions.specs.Starts.{file_of}
 use Rattle.c_text.specs.Labels.{Labels, labels_of}
 use Rattle.c_expression_writer.specs.FileShapes.{shape_seen}
 use Rattle.c_writer.specs.Functions.{IsShapeOf}
 use Rattle.c_file.specs.declared.made.Made.{Made}
 use Rattle.c_file.specs.declared.passes.Uses.{Uses}
 use Rattle.c_file.specs.Comments.{AreOfChart}
+use Rattle.c_file.specs.Functions.{written_file}
 use Rattle.c_file.specs.Calls.{calls_in, calls_from}
 use Rattle.c_file.specs.Reached.{AreReached}
 use Rattle.c_file.specs.Uses.{is_wide}
@@ -25,8 +24,7 @@ pub record IsMade (made : Made) : Type 0 where
 -- the functions of the file
 unfoldable pub functions_of : Made → List Function
 functions_of made =
-    (file_of (code_of made.code.now) (shape_seen made.shape).tests made.shape.bounds made.shape.outputs
-    (plans_of (code_of made.code.now))).functions
+    (written_file (code_of made.code.now) (shape_seen made.shape).tests made.shape.bounds made.shape.outputs).functions
 
 -- one more function, which has that number: its calls, and whether it names a type of 128 bits
 pub record HasUses (f : ℕ) (g : Function) (old new : Uses) : Type 0 where
@@ -40,7 +38,8 @@ pub record AreCalls (functions : List Function) (start uses : Uses) : Type 0 whe
   pub calls : uses.calls.items ≡ start.calls.items ++ calls_from 0 functions
   pub wide : uses.wide.items ≡ start.wide.items ++ map is_wide functions
 
--- which functions are reached, and which name a type of 128 bits
+-- which functions are reached, what calls what, and which name a type of 128 bits
 pub record AreUses (L : Labels) (functions : List Function) (uses : Uses) : Type 0 where
   pub reached : AreReached L functions uses.reached.items
+  pub calls : uses.calls.items ≡ calls_from 0 functions
   pub wide : uses.wide.items ≡ map is_wide functions

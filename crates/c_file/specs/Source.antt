@@ -47,8 +47,8 @@ opening_text chart =
     (codes "/* The C of the chart " ++ chart) ++ ((codes ", written by chart_to_c. Do not edit. " ++ chart)
     ++ ((codes ".h says how it is used. */\n#include \"" ++ chart) ++ codes ".h\"\n\n"))
 
--- A type that C refuses where the header is of other bounds or of other code than the source, so that the struct has
--- other arrays: its size would be negative
+-- A type that C refuses where the header has other numbers of steps, outputs or notes than the source, so that the
+-- struct may have other arrays: its size would be negative
 unfoldable pub fits_text : List ℕ → ℕ → ℕ → ℕ → List ℕ
 fits_text chart steps outputs notes =
     (codes "/* C refuses this type where the header is not that of this source. */\ntypedef char " ++ chart)

@@ -9,6 +9,7 @@ use Rattle.c_subset.specs.declared.trees.CType.{CType}
 use Rattle.c_subset.specs.declared.trees.CType.TheVariants.{Signed, Unsigned, Truth}
 use Rattle.c_subset.specs.Lines.{Line, Set, Store, StoreAt, Call, Select, If, Else, While, Close, Return, lines_of}
 
+-- a width is that of 128 bits
 abbrev pub is_wide_width : Width → Bool
 is_wide_width W8 = false
 is_wide_width W16 = false
@@ -16,6 +17,7 @@ is_wide_width W32 = false
 is_wide_width W64 = false
 is_wide_width W128 = true
 
+-- a type has 128 bits
 abbrev pub is_wide_type : CType → Bool
 is_wide_type (Signed w) = is_wide_width w
 is_wide_type (Unsigned w) = is_wide_width w

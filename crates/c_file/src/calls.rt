@@ -73,7 +73,7 @@ pub(crate) fn add_lines(
 }
 
 /// The flag of a function, or another one where there is no function with that number.
-fn flag_of(flags: &[bool], function: u32, otherwise: bool) -> bool
+pub(crate) fn flag_of(flags: &[bool], function: u32, otherwise: bool) -> bool
     ensures { result ≡ slice_index_or flags.now function otherwise }
 {
     match flags.get(function as usize) {

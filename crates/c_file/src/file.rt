@@ -1,19 +1,26 @@
 //! The two files of a chart.
 ghost use Rattle.std.specs.Prelude.{◌≡◌, IfOk, string_bytes};
+ghost use Rattle.std.specs.List.{All};
 ghost use Rattle.checked_chart.specs.Kept.{chart_of};
 ghost use Rattle.code_language.specs.Code.{code_of};
-ghost use Rattle.c_expression_writer.specs.FileShapes.{tests_seen};
-ghost use Rattle.c_functions.specs.Files.{shape_of};
+ghost use Rattle.c_text.specs.Labels.{labels_of};
+ghost use Rattle.c_expression_writer.specs.FileShapes.{shape_seen};
 ghost use Rattle.c_header.specs.Header.{header_text};
-ghost use Rattle.c_file.specs.Files.{IsHeader, IsSource, IsSourceFor, IsWritten, chart_name};
+ghost use Rattle.c_runs.specs.Claims.{FitsChart};
+ghost use Rattle.c_file.specs.Comments.{IsTagOf};
+ghost use Rattle.c_file.specs.Files.{IsHeader, IsMadeFor, IsSource, chart_name};
+ghost use Rattle.c_file.specs.Heights.{IsHeaderText};
+ghost use Rattle.c_file.specs.Made.{IsMade, functions_of};
 
+use crate::heights::most_open;
 use crate::made::Made;
 use crate::printing::printed_source;
 use crate::said::Said;
 use crate::written::{Written, written_code};
 use c_expression_writer::FileShape;
 use c_header::print_header;
-use c_runs::files_of_code_with_the_same_runs_run_as_charts;
+use c_loops::loops_run_as_calls;
+use c_runs::files_of_code_that_serves_run_as_charts;
 use c_text::Labels;
 use checked_chart::Chart;
 use flow_base::{Bounds, Memory};
@@ -27,17 +34,15 @@ fn name_of(chart: &Chart) -> &str
     chart.names().states.items()[root as usize].text()
 }
 
-/// The header for code of a chart.
-fn header_of(alloc: Global, chart: &Chart, written: &Written) -> Result<String, Memory>
-    requires { IsWritten (chart_of chart.now) (code_of written.now.faster.code)
-        written.now.faster.tags.items written.now.origins.items }
-    ensures { IfOk result (λ text. string_bytes text ≡ header_text (chart_name (chart_of chart.now))
-        (shape_of (code_of written.now.faster.code) (tests_seen written.now.tests)
-        written.now.limits written.now.outputs) written.now.calls) }
+/// What both files of a chart are made from.
+fn made_of<'a>(alloc: Global, chart: &'a Chart, written: &'a Written) -> Result<Made<'a>, Memory>
+    requires code { FitsChart (chart_of chart.now) (code_of written.now.code) }
+    requires tags { All (IsTagOf (chart_of chart.now)) written.now.tags.items }
+    ensures { IfOk result (IsMadeFor (chart_of chart.now) written.now) }
 {
     let names = chart.names();
     let tree = chart.shape();
-    let code = &written.faster.code;
+    let code = &written.code;
     let shape = FileShape::make(
         alloc,
         names,
@@ -47,11 +52,36 @@ fn header_of(alloc: Global, chart: &Chart, written: &Written) -> Result<String, 
         written.limits,
         written.outputs,
     )?;
+    let name = name_of(chart);
+    Ok(Made {
+        name,
+        labels: Labels::make(name, names, tree, shape.procs),
+        said: Said::make(alloc, chart, &written.origins, &written.tags)?,
+        shape,
+        code,
+    })
+}
+
+/// The header, where so many functions of the source are open at once at most, if that is known.
+fn header_with(alloc: Global, made: &Made<'_>, most: Option<u32>) -> Result<String, Memory>
+    ensures { IfOk result (λ text. string_bytes text
+        ≡ header_text made.now.name.now (shape_seen made.now.shape) most) }
+{
     let mut text = String::new(alloc);
-    match print_header(alloc, &mut text, name_of(chart), &shape, written.calls) {
+    match print_header(alloc, &mut text, made.name, &made.shape, most) {
         Ok(()) => Ok(text),
         Err(_) => Err(Memory),
     }
+}
+
+/// The header. Each function of the source is made, to see how many are open at once.
+fn printed_header(alloc: Global, made: &Made<'_>) -> Result<String, Memory>
+    requires is { IsMade made.now }
+    ensures { IfOk result (λ text. IsHeaderText (labels_of made.now.labels)
+        (shape_seen made.now.shape) (functions_of made.now) (string_bytes text)) }
+{
+    let most = most_open(alloc, made)?;
+    header_with(alloc, made, most)
 }
 
 /// The header of a chart's C under these bounds, of the code for which its source is written.
@@ -64,39 +94,8 @@ pub fn header(alloc: Global, chart: &Chart, bounds: Bounds) -> Result<String, Me
         (λ text. IsHeader (chart_of chart.now) bounds (string_bytes text)) }
 {
     let written = written_code(alloc, chart, bounds)?;
-    let text = header_of(alloc, chart, &written)?;
-    Ok(text)
-}
-
-/// The source for code of a chart.
-fn source_of(alloc: Global, chart: &Chart, written: &Written) -> Result<String, Memory>
-    requires { IsWritten (chart_of chart.now) (code_of written.now.faster.code)
-        written.now.faster.tags.items written.now.origins.items }
-    ensures { IfOk result (λ text. IsSourceFor (chart_of chart.now) (tests_seen written.now.tests)
-        written.now.limits written.now.outputs (code_of written.now.faster.code)
-        written.now.origins.items written.now.faster.tags.items (string_bytes text)) }
-{
-    let names = chart.names();
-    let tree = chart.shape();
-    let code = &written.faster.code;
-    let shape = FileShape::make(
-        alloc,
-        names,
-        tree,
-        code,
-        &written.tests,
-        written.limits,
-        written.outputs,
-    )?;
-    let name = name_of(chart);
-    let made = Made {
-        name,
-        labels: Labels::make(name, names, tree, shape.procs),
-        said: Said::make(alloc, chart, &written.origins, &written.faster.tags)?,
-        shape,
-        code,
-    };
-    let text = printed_source(alloc, &made)?;
+    let made = made_of(alloc, chart, &written)?;
+    let text = printed_header(alloc, &made)?;
     Ok(text)
 }
 
@@ -113,10 +112,12 @@ pub fn source(alloc: Global, chart: &Chart, bounds: Bounds) -> Result<String, Me
     ensures { IfOk result
         (λ text. IsSource (chart_of chart.now) bounds (string_bytes text)) }
 {
-    files_of_code_with_the_same_runs_run_as_charts();
+    files_of_code_that_serves_run_as_charts();
+    loops_run_as_calls();
     // Only the proof reads the shape: the chart is valid.
     let _ = chart.shape();
     let written = written_code(alloc, chart, bounds)?;
-    let text = source_of(alloc, chart, &written)?;
+    let made = made_of(alloc, chart, &written)?;
+    let text = printed_source(alloc, &made)?;
     Ok(text)
 }

@@ -28,9 +28,9 @@ pub fn the_smaller_code_of_a_chart_is_one()
 /// outputs and as many notes, which a C compiler checks: what has the shape of the one has that of
 /// the other.
 pub fn the_struct_of_the_header_is_that_of_the_source()
-    ensures { (c : Chart) (k k' : Code) (tags tags' : List Tag) (origins origins' : List ℕ)
-        (T T' : Tests) (limits limits' : Bounds) (room room' : ℕ) (s : Store)
-        → IsWritten c k tags origins → IsWritten c k' tags' origins' → room ≡ room'
+    ensures { (c : Chart) (b b' : Bounds) (k k' : Code) (tags tags' : List Tag)
+        (origins origins' : List ℕ) (T T' : Tests) (limits limits' : Bounds) (room room' : ℕ)
+        (s : Store) → IsWritten c b k tags origins → IsWritten c b' k' tags' origins' → room ≡ room'
         → (shape_of k T limits room).notes ≡ (shape_of k' T' limits' room').notes
         → HasShape (shape_of k T limits room) s → HasShape (shape_of k' T' limits' room') s }
 {}

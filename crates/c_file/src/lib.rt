@@ -1,13 +1,15 @@
 //! The C of a chart: its header and its source.
 //!
 //! Read `specs/Files.antt`, what the two texts are; `specs/Source.antt`, what a source consists of;
-//! `specs/Reached.antt`, which functions are written; and `specs/Comments.antt`, what is said of
-//! each procedure. The public calls are `header` and `source`.
+//! `specs/Reached.antt`, which functions are written; `specs/Heights.antt`, how many functions are
+//! open at once; and `specs/Comments.antt`, what is said of each procedure. The public calls are
+//! `header` and `source`.
 #![tactic(auto)]
 
 mod calls;
 mod comments;
 mod file;
+mod heights;
 mod laws;
 mod made;
 mod passes;

@@ -1,6 +1,7 @@
-//! What a source is made from.
+//! What both files of a chart are made from.
 use crate::said::Said;
 use c_expression_writer::FileShape;
+use c_loops::with_loop;
 use c_subset::Function;
 use c_text::Labels;
 use c_writer::function;
@@ -8,7 +9,7 @@ use code_language::Code;
 use flow_base::Memory;
 use std::alloc::Global;
 
-/// What a source is made from. Its functions are made one at a time.
+/// What both files of a chart are made from. Functions are made one at a time.
 #[derive(Drop)]
 pub(crate) struct Made<'a> {
     /// The name of the chart.
@@ -37,7 +38,7 @@ impl Made<'_> {
         self.shape.procs + 10
     }
 
-    /// The function of that number.
+    /// The function of that number. One of a procedure is a loop where it may be.
     #[tactic(auto, unfolding(crate::specs::Made::functions_of))]
     pub fn function(&self, alloc: Global, number: u32) -> Result<Function, Memory>
         requires is { IsMade self.now }
@@ -45,6 +46,10 @@ impl Made<'_> {
         ensures { IfOk result (λ function. (g : c.Function) →
             slice_get (functions_of self.now) number ≡ Some g → IsFunction function g) }
     {
-        function(alloc, &self.shape, self.code, number)
+        let written = function(alloc, &self.shape, self.code, number)?;
+        if number >= self.shape.procs {
+            return Ok(written);
+        }
+        with_loop(alloc, number, written)
     }
 }

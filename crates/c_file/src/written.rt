@@ -9,7 +9,9 @@ use c_tests::tests_of;
 use chart_compile::compile;
 use checked_chart::Chart;
 use code_counts::limits_of;
-use code_passes::{Faster, faster};
+use code_depths::cut_sends;
+use code_language::Code;
+use code_passes::{Tag, faster};
 use code_shrink::{Shrunk, shrink_with_origins};
 use flow_base::{Bounds, Memory};
 use std::alloc::Global;
@@ -17,8 +19,10 @@ use std::alloc::Global;
 /// The code for which both files of a chart are written, and what is told of it.
 #[derive(Drop)]
 pub(crate) struct Written {
-    /// The code, and for what its procedures are, by those of the smaller code of the chart.
-    pub faster: Faster,
+    /// The code.
+    pub code: Code,
+    /// For what its procedures are, by those of the smaller code of the chart.
+    pub tags: Vec<Tag>,
     /// The numbers that the procedures of the smaller code had.
     pub origins: Vec<u32>,
     /// The bounds under which the C runs.
@@ -27,9 +31,6 @@ pub(crate) struct Written {
     pub tests: Tests,
     /// How many events it has room to put out.
     pub outputs: u32,
-    /// How many calls are open at once at most besides that of the start or of the reaction; none
-    /// where that isn't known.
-    pub calls: Option<u32>,
 }
 
 /// The smaller code of a chart, with the numbers that its procedures had.
@@ -41,25 +42,28 @@ fn shrunk_code(alloc: Global, chart: &Chart) -> Result<Shrunk, Memory>
     shrink_with_origins(alloc, &code)
 }
 
-/// The code for which both files of a chart are written under these bounds. Where it is known that
-/// no event of the code takes as much as a bound allows, its limit is the most that one takes. A
-/// limit is tested unless this is known, and the result of a call where the procedure can fail.
-/// There is room for what an event puts out under the limits. The smaller code is dropped.
+/// The code for which both files of a chart are written under these bounds: the smaller code, made
+/// faster, where a send that never finds depth left leads to a procedure that calls nothing. Where
+/// it is known that no event of the code takes as much as a bound allows, its limit is the most
+/// that one takes. A limit is tested unless this is known, and the result of a call where the
+/// procedure can fail. There is room for what an event puts out under the limits. The smaller code
+/// is dropped.
 pub(crate) fn written_code(alloc: Global, chart: &Chart, bounds: Bounds) -> Result<Written, Memory>
     ensures { IfOk result (IsWrittenUnder (chart_of chart.now) bounds) }
 {
     // Only the proof reads the shape: the chart is valid.
     let _ = chart.shape();
     let shrunk = shrunk_code(alloc, chart)?;
-    let faster = faster(alloc, &shrunk.code)?;
-    let found = limits_of(alloc, &faster.code, bounds)?;
-    let tests = tests_of(alloc, &faster.code, found.tests_steps, found.tests_depth)?;
+    let faster = faster(alloc, &shrunk.code, bounds.depth)?;
+    let code = cut_sends(alloc, faster.code, bounds.depth)?;
+    let found = limits_of(alloc, &code, bounds)?;
+    let tests = tests_of(alloc, &code, found.tests_steps, found.tests_depth)?;
     Ok(Written {
-        faster,
+        code,
+        tags: faster.tags,
         origins: shrunk.origins,
         limits: found.bounds,
         tests,
         outputs: found.outputs,
-        calls: found.calls,
     })
 }

@@ -97,10 +97,10 @@ bounds_text chart bounds outputs notes =
     ++ (define_line chart (codes "_") (codes "OUTPUTS") outputs
     ++ define_line chart (codes "_") (codes "NOTES") notes))))
 
--- how many functions of parts of the chart are open at once at most
+-- how many functions of the source are open at once at most, with the one that is called from outside
 unfoldable pub most_calls_text : List ℕ → ℕ → List ℕ
 most_calls_text chart most =
-    codes "\n/* How many of the functions p0, p1 and so on are open at once at most. */\n"
+    codes "\n/* How many functions of the source are open at once at most, with start or react. */\n"
     ++ (define_line chart (codes "_") (codes "CALLS") most ++ codes "\n")
 
 -- what stands instead where that isn't known
@@ -108,9 +108,9 @@ abbrev pub own_calls_text : List ℕ
 own_calls_text =
     codes "\n/* Functions may call themselves, by way of others too, as often as the bounds allow. */\n\n"
 
--- where the most calls are known that are open besides that of the start or of the reaction, there is one function more
+-- how many functions are open at once at most, if that is known
 abbrev pub calls_text : List ℕ → Option ℕ → List ℕ
-calls_text chart (Some calls) = most_calls_text chart (calls + 1)
+calls_text chart (Some most) = most_calls_text chart most
 calls_text chart None = own_calls_text
 
 -- ---- states
@@ -196,7 +196,7 @@ back_text chart L K =
     struct_text chart L K
     ++ (start_text L K ++ (react_text chart L K ++ (states_text chart L K Test ++ codes "#endif\n")))
 
--- the header of a chart of that name, where so many calls are open at once at most, if that is known
+-- the header of a chart of that name, where so many functions are open at once at most, if that is known
 unfoldable pub header_text : List ℕ → Shape → Option ℕ → List ℕ
 header_text chart K calls =
     front_text chart K calls ++ back_text chart (labels_for chart K.names K.tree K.procs) K

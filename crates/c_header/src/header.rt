@@ -12,8 +12,8 @@ use c_expression_writer::FileShape;
 use c_text::{Labels, print_prototype};
 use std::alloc::{AllocError, Global};
 
-/// Appends the header of the C of a chart of that name, where so many calls are open at once at
-/// most besides that of the start or of the reaction, if that is known.
+/// Appends the header of the C of a chart of that name, where so many functions of the source are
+/// open at once at most, if that is known.
 ///
 /// The text is this project's choice (`specs/Header.antt`). On an error a part of it was appended.
 #[tactic(auto, unfolding(crate::specs::Header::header_text))]

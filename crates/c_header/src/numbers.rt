@@ -100,8 +100,7 @@ pub(crate) fn print_bounds(
     print_define(out, chart, "_", "NOTES", notes)
 }
 
-/// Appends how many functions of parts of the chart are open at once at most, where it is known how
-/// many calls are besides that of the start or of the reaction.
+/// Appends how many functions of the source are open at once at most, if that is known.
 pub(crate) fn print_calls(
     out: &mut String,
     chart: &str,
@@ -111,7 +110,7 @@ pub(crate) fn print_calls(
         ≡ string_bytes out.old ++ spec.calls_text chart.now calls) }
 {
     match calls {
-        Some(count) => print_most_calls(out, chart, u64::from(count) + 1),
+        Some(most) => print_most_calls(out, chart, u64::from(most)),
         None => out.push_str(own_calls()),
     }
 }
@@ -123,13 +122,15 @@ fn own_calls() -> &'static str
     "\n/* Functions may call themselves, by way of others too, as often as the bounds allow. */\n\n"
 }
 
-/// Appends how many functions of parts of the chart are open at once at most.
+/// Appends how many functions of the source are open at once at most.
 #[tactic(auto, unfolding(crate::specs::Header::most_calls_text))]
 fn print_most_calls(out: &mut String, chart: &str, most: u64) -> Result<(), AllocError>
     ensures { OnOk result (string_bytes out.new
         ≡ string_bytes out.old ++ spec.most_calls_text chart.now most) }
 {
-    out.push_str("\n/* How many of the functions p0, p1 and so on are open at once at most. */\n")?;
+    out.push_str(
+        "\n/* How many functions of the source are open at once at most, with start or react. */\n",
+    )?;
     print_define(out, chart, "_", "CALLS", most)?;
     out.push_str("\n")
 }

@@ -25,7 +25,7 @@ use Rattle.c_functions.specs.Plans.{Tests, all_tests, bad}
 use Rattle.c_functions.specs.Moments.{HasSmallResults, MayEnd, MayEndIn}
 use Rattle.c_functions.specs.Starts.{AllGiven}
 use Rattle.c_functions.proofs.Running.{runs-on}
-use Rattle.c_runs.specs.Claims.{RunsAsRules, Serves}
+use Rattle.c_runs.specs.Claims.{FitsChart, RunsAsRules, Serves}
 use Rattle.c_runs.proofs.EachMoment.{run_ends}
 
 -- the code of a chart has the chart's tree and names
@@ -38,30 +38,37 @@ unfolding code_of_chart
 names-same c = refl
 
 -- the results of code that keeps those of the chart's code are few
-small-results : (c : Chart) (k : Code) → IsValid c → HasSameRuns (code_of_chart c) k → HasSmallResults k
+small-results : (c : Chart) (k : Code) → IsValid c → FitsChart c k → HasSmallResults k
 unfolding code_of_chart
-small-results c k valid same =
+small-results c k valid fits =
     let few : 3 + state_count c.tree ≤ bad = omega (arith, valid.limits.states) in
     record {
       returned = λ p i r e.
-          let w = same.results.returned p i r e in
+          let w = fits.results.returned p i r e in
           results_below c valid bad few w.proc w.place (Ret r) w.stands;
       tested = λ p i j r e.
-          let w = same.results.tested p i j r e in
+          let w = fits.results.tested p i j r e in
           results_below c valid bad few w.1.proc w.1.place (Unless w.0 (Result r)) w.1.stands;
     }
 
--- the C of code with the same runs, with right tests, limits and room that serve it, runs as the rules say
+-- code with the same runs fits the chart
+pub same-fits : (c : Chart) (k : Code) → HasSameRuns (code_of_chart c) k → FitsChart c k
+same-fits c k same = record {
+  well_formed = same.well_formed;
+  tree = same.tree ∙ tree-same c;
+  names = same.names ∙ names-same c;
+  results = same.results;
+}
+
+-- the C of code that fits the chart, with right tests, limits and room that serve it, runs as the rules say
 pub runs-as-rules : (c : Chart) (b : Bounds) (k : Code) (T : Tests) (limits : Bounds) (room : ℕ) → IsValid c
-    → HasSameRuns (code_of_chart c) k → Serves c b k T limits room → AfterIsRight T k
-    → RunsAsRules c b k T limits room (plans_of k)
-runs-as-rules c b k T limits room valid same serves right int s events moments most shape all run =
-    let names : k.names ≡ c.names = same.names ∙ names-same c in
-    let tree : k.tree ≡ c.tree = same.tree ∙ tree-same c in
-    runs-on k T limits room (plans_of k) int same.well_formed
-    (ap (λ (n : Names). length n.states) names ∙ valid.state_names ∙ ap (λ (t : Tree). state_count t) (sym tree))
-    (small-results c k valid same) right (plans_are k same.well_formed) most s events moments shape
-    (subst (λ (n : Names). AllGiven n events) (sym names) all) (serves.runs events moments run)
+    → FitsChart c k → Serves c b k T limits room → AfterIsRight T k → RunsAsRules c b k T limits room (plans_of k)
+runs-as-rules c b k T limits room valid fits serves right int s events moments most shape all run =
+    runs-on k T limits room (plans_of k) int fits.well_formed
+    (ap (λ (n : Names). length n.states) fits.names ∙ valid.state_names
+    ∙ ap (λ (t : Tree). state_count t) (sym fits.tree))
+    (small-results c k valid fits) right (plans_are k fits.well_formed) most s events moments shape
+    (subst (λ (n : Names). AllGiven n events) (sym fits.names) all) (serves.runs events moments run)
     (serves.ends events moments all run)
 
 -- where all faults are tested a run may end in any way

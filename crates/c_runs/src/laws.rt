@@ -5,12 +5,11 @@ ghost use Rattle.checked_chart.specs.Chart.{Chart};
 ghost use Rattle.checked_chart.specs.Valid.{IsValid};
 ghost use Rattle.code_language.specs.Code.{Code};
 ghost use Rattle.code_shrink.specs.Shrunk.{IsShrunk};
-ghost use Rattle.code_copies.specs.SameRuns.{HasSameRuns};
 ghost use Rattle.chart_layout.specs.Bodies.{code_of_chart};
 ghost use Rattle.c_procedures.specs.Writer.{plans_of};
 ghost use Rattle.c_functions.specs.Failing.{AfterIsRight};
 ghost use Rattle.c_functions.specs.Plans.{Tests, all_tests};
-ghost use Rattle.c_runs.specs.Claims.{RunsAsRules, Serves};
+ghost use Rattle.c_runs.specs.Claims.{FitsChart, RunsAsRules, Serves};
 
 /// The C that is written for the smaller code of a valid chart under its bounds, with all tests,
 /// and room for as many outputs as steps, runs as the rules say: its start and its reactions never
@@ -21,12 +20,12 @@ pub fn files_run_as_charts()
         → RunsAsRules c b k all_tests b b.steps (plans_of k) }
 {}
 
-/// The same of the C that is written for any code which has the runs of the code of a valid chart,
-/// is well formed, declares what it does, and keeps its results; with tests, limits and room for
-/// outputs that serve it, where the result of each procedure that can fail is tested.
-pub fn files_of_code_with_the_same_runs_run_as_charts()
+/// The same of the C that is written for any well-formed code which declares what a valid chart
+/// does and has no results but those of its code: with tests, limits and room for outputs that
+/// serve it, so that it runs as the chart under its bounds, and where the result of each procedure
+/// that can fail is tested.
+pub fn files_of_code_that_serves_run_as_charts()
     ensures { (c : Chart) (b : Bounds) (k : Code) (T : Tests) (limits : Bounds)
-        (room : ℕ) → IsValid c
-        → HasSameRuns (code_of_chart c) k → Serves c b k T limits room
+        (room : ℕ) → IsValid c → FitsChart c k → Serves c b k T limits room
         → AfterIsRight T k → RunsAsRules c b k T limits room (plans_of k) }
 {}

@@ -6,4 +6,4 @@
 
 mod laws;
 
-pub use laws::{files_of_code_with_the_same_runs_run_as_charts, files_run_as_charts};
+pub use laws::{files_of_code_that_serves_run_as_charts, files_run_as_charts};

@@ -1,5 +1,6 @@
 use Rattle.code_language.specs.Code.{code_of}
 use Rattle.c_expression_writer.specs.FileShapes.{tests_seen}
+use Rattle.c_file.proofs.SourceLemmas.{header_is}
 use Rattle.c_file.proofs.file.header.Goals as goal
 
 pub returns : goal.returns
@@ -7,15 +8,13 @@ returns c =
     let w = c.in_ok-written.written in
     let is = c.in_ok-written.ensures in
     record {
-      code = code_of w.faster.code;
-      tags = w.faster.tags.items;
+      code = code_of w.code;
+      tags = w.tags.items;
       origins = w.origins.items;
       tests = tests_seen w.tests;
       limits = w.limits;
       room = w.outputs;
-      calls = w.calls;
       is_written = is.is_written;
       serves = is.serves;
-      most_calls = is.calls;
-      is_text = c.in_ok-text.ensures;
+      is_text = header_is c.in_ok-made.ensures _ c.in_ok-text.ensures;
     }

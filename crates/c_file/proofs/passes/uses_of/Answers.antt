@@ -4,7 +4,7 @@ use Rattle.c_text.specs.Labels.{labels_of}
 use Rattle.c_file.specs.Made.{functions_of}
 use Rattle.c_file.specs.Reached.{AreReached}
 use Rattle.c_file.specs.Closing.{Closes}
-use Rattle.c_file.proofs.PassLemmas.{uses_reached, uses_wide}
+use Rattle.c_file.proofs.PassLemmas.{uses_reached, uses_calls, uses_wide}
 use Rattle.c_file.proofs.passes.uses_of.Goals as goal
 
 pub returns : goal.returns
@@ -21,5 +21,6 @@ returns c =
           (sym (with_items_is all.reached flags size))
           (uses_reached (labels_of c.args.made.now.labels) (functions_of c.args.made.now) _ all flags
           c.in_ok-add_all_uses.ensures c.in_ok-outside_flags.ensures c.new.ensures.items closes);
+      calls = uses_calls (functions_of c.args.made.now) _ all c.in_ok-add_all_uses.ensures c.new.ensures.items;
       wide = uses_wide (functions_of c.args.made.now) _ all c.in_ok-add_all_uses.ensures c.new-2.ensures.items;
     }

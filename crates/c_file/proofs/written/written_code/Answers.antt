@@ -1,24 +1,27 @@
 use Rattle.checked_chart.specs.Kept.{chart_of}
 use Rattle.code_language.specs.Code.{code_of}
 use Rattle.c_file.specs.Files.{IsWritten}
-use Rattle.c_file.proofs.CodeLemmas.{written_same}
+use Rattle.c_file.proofs.CodeLemmas.{written_fits, written_runs, written_tags}
 use Rattle.c_file.proofs.ServeLemmas.{limits_serve}
 use Rattle.c_file.proofs.written.written_code.Goals as goal
 
 pub returns : goal.returns
 returns c =
-    let is : IsWritten (chart_of c.args.chart.now) (code_of c.in_ok-faster.faster.code)
+    let is : IsWritten (chart_of c.args.chart.now) c.args.bounds (code_of c.in_ok-code.code)
     c.in_ok-faster.faster.tags.items c.in_ok-shrunk.shrunk.origins.items = record {
       smaller = code_of c.in_ok-shrunk.shrunk.code;
       is_code = c.in_ok-shrunk.ensures;
+      faster = code_of c.in_ok-faster.faster.code;
       is_faster = c.in_ok-faster.ensures;
+      is_cut = c.in_ok-code.ensures.cut;
     } in
     record {
       is_written = is;
+      fits = written_fits is c.in_ok-code.ensures.well_formed;
+      tags = written_tags is;
       serves =
-          limits_serve (chart_of c.args.chart.now) c.args.bounds (code_of c.in_ok-faster.faster.code) _
-          c.in_ok-found.found c.shape.ensures.valid (written_same is) c.in_ok-found.ensures
+          limits_serve (chart_of c.args.chart.now) c.args.bounds (code_of c.in_ok-code.code) _ c.in_ok-found.found
+          c.shape.ensures.valid (written_runs is c.in_ok-code.ensures.well_formed) c.in_ok-found.ensures
           c.in_ok-tests.ensures.steps c.in_ok-tests.ensures.depth;
       after = c.in_ok-tests.ensures.right;
-      calls = c.in_ok-found.ensures.calls;
     }

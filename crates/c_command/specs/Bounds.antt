@@ -7,7 +7,7 @@ use Rattle.bound_prove.specs.Searches.{IsNeedOf}
 use Rattle.command_words.specs.Commands.{RunBounds, usual_bounds}
 use Rattle.command_words.specs.Seen.{bounds_seen}
 
--- the bounds that a chart gives: those that no event of it overruns, and the usual ones where it has none
+-- the bounds that a chart gives: those that no event of it overruns, and the default ones where it has none
 abbrev pub bounds_given : Option Need → RunBounds
 bounds_given None = usual_bounds
 bounds_given (Some need) = record { depth = need.depth; steps = need.steps }

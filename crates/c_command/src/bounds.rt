@@ -10,7 +10,7 @@ use flow_base::{Bounds, Memory};
 use std::alloc::Global;
 
 /// The bounds that are asked for; where none are, those that no event of the chart overruns, if a
-/// certificate gives such bounds, and else the usual ones. Fails only where memory does.
+/// certificate gives such bounds, and else the default ones. Fails only where memory does.
 ///
 /// This project's choice.
 pub fn bounds_for(alloc: Global, chart: &Chart, asked: Option<Bounds>) -> Result<Bounds, Memory>

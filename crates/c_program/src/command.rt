@@ -18,7 +18,7 @@ use std::alloc::Global;
 ///
 /// `header CHART` writes the header of the C of the accepted chart of the file, and `source CHART`
 /// its source. Both take the bounds `--depth` and `--steps`; where neither stands there, the bounds
-/// are those that no event of the chart overruns, if it has such bounds, and else the usual ones.
+/// are those that no event of the chart overruns, if it has such bounds, and else the default ones.
 /// All other words are refused as Usage. Any words may end in Memory before anything is read.
 pub fn c_main<I: Inputs, O: Sink, E: Sink>(
     alloc: Global,

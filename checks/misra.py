@@ -20,7 +20,7 @@ import chart_rules as rules
 from chart_c import LONGEST, Failed, make_c, output_of
 from programs import ended, parser
 
-KNOWN = ['15.5', '17.2', '17.8']
+KNOWN = ['15.5', '17.8']
 ADDONS = ['/usr/lib/*/cppcheck/addons/misra.py', '/usr/share/cppcheck/addons/misra.py']
 # cppcheck doesn't read the headers of the compiler: these stand for what is used of them beyond names of types.
 TARGET = ['--std=c99', '--platform=unix64', '-DUINT_MAX=4294967295u', '-DINT64_C(x)=x', '-DUINT64_C(x)=x##u']

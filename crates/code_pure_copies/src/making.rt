@@ -22,7 +22,7 @@ use crate::naming::{is_copy, naming_copies};
 use crate::plan::{Named, Plan};
 use crate::searching::{find_by_depth, find_by_notes};
 use code_language::{Code, CodeEnd, Instr, RawCode, accept};
-use code_shrink::{copy_events, copy_states, copy_vars};
+use code_shrink::with_procedures;
 use flow_base::{List, Memory};
 use std::alloc::Global;
 
@@ -94,31 +94,6 @@ fn copies_of(
     Ok(Some(made))
 }
 
-/// Code that declares the same and has these procedures.
-fn with_copies(
-    alloc: Global,
-    raw: &RawCode,
-    procs: List<List<Instr>>,
-    start: u32,
-    react: u32,
-) -> Result<RawCode, Memory>
-    ensures { IfOk result (λ made. code_of made ≡ record (code_of raw.now) {
-      procedures = record { procs = procs_of (items_of procs); start = start; react = react };
-    }) }
-{
-    let states = copy_states(alloc, raw.states.items())?;
-    let vars = copy_vars(alloc, raw.vars.items())?;
-    let events = copy_events(alloc, raw.events.items())?;
-    Ok(RawCode {
-        states,
-        vars,
-        events,
-        start,
-        react,
-        procs,
-    })
-}
-
 /// Whether the copies with which a start and a reaction begin are such of their procedures.
 fn are_firsts(origins: &[u32], plan: &Plan, raw: &RawCode) -> bool
     requires { 0 < length origins.now }
@@ -146,7 +121,7 @@ fn made_raw(
     let Some(procs) = copies_of(alloc, raw.procs.items(), origins, &plan.names)? else {
         return Ok(None);
     };
-    let made = with_copies(alloc, raw, procs, plan.start, plan.react)?;
+    let made = with_procedures(alloc, raw, procs, plan.start, plan.react)?;
     Ok(Some(made))
 }
 

@@ -6,12 +6,7 @@ use Rattle.std.specs.Prelude.{nat_lt}
 use Rattle.std.specs.List.{list_any}
 use Rattle.std.proofs.lemmas.Bool.{ltb-false}
 use Rattle.std.proofs.lemmas.List.{append_assoc, append-nil, drop-map}
-use Rattle.flow_base.specs.Lists.{items_of}
-use Rattle.actions.specs.declared.names.EventDecl.{EventDecl}
-use Rattle.actions.specs.declared.names.Var.{Var}
-use Rattle.code_language.specs.Code.{Code, Procedures, code_of, tree_of_states}
-use Rattle.code_language.specs.declared.code.RawCode.{RawCode}
-use Rattle.code_language.specs.declared.code.RawState.{RawState}
+use Rattle.code_language.specs.Code.{Code, Procedures}
 use Rattle.code_language.specs.Instrs.{Instr, Assign, Emit, Mark, Clear, Keep, Unless, Skip, Call, Visit, Send}
 use Rattle.code_language.specs.Instrs.{SendTo, Play, Home, Begin, Pass, Ret}
 use Rattle.code_language.specs.WellFormed.{known_of, IsCode}
@@ -211,25 +206,12 @@ is_shrunk k live flags well exact =
       stays = neat_code_stays live flags k well exact;
     }
 
--- code of these parts
-abbrev of_parts : List RawState → List Var → List EventDecl → Procedures → Code
-of_parts states vars events procedures = record {
-  tree = tree_of_states states;
-  names = record { states = map (λ (s : RawState). s.name) states; vars = vars; events = events };
-  procedures = procedures;
-}
-
--- so is code that is written with such procedures and with the same tables
-pub made_shrunk : (raw made : RawCode) → IsCode (code_of raw) → items_of made.states ≡ items_of raw.states
-    → items_of made.vars ≡ items_of raw.vars → items_of made.events ≡ items_of raw.events
-    → AreSmaller (code_of raw).procedures (code_of made).procedures → IsShrunk (code_of raw) (code_of made)
-made_shrunk raw made well states vars events are =
-    let same : code_of made ≡ smaller_code are.live are.flags (code_of raw) =
-    ap (λ s. of_parts s (items_of made.vars) (items_of made.events) (code_of made).procedures) states
-    ∙ ap (λ v. of_parts (items_of raw.states) v (items_of made.events) (code_of made).procedures) vars
-    ∙ ap (λ e. of_parts (items_of raw.states) (items_of raw.vars) e (code_of made).procedures) events
-    ∙ ap (of_parts (items_of raw.states) (items_of raw.vars) (items_of raw.events)) are.made in
-    subst (IsShrunk (code_of raw)) (sym same) (is_shrunk (code_of raw) are.live are.flags well are.exact)
+-- so is code that declares the same and has such procedures
+pub made_shrunk : (k made : Code) (ps : Procedures) → IsCode k → made ≡ record k { procedures = ps }
+    → AreSmaller k.procedures ps → IsShrunk k made
+made_shrunk k made ps well is are =
+    subst (IsShrunk k) (sym (is ∙ ap (λ (all : Procedures). record k { procedures = all }) are.made))
+    (is_shrunk k are.live are.flags well are.exact)
 
 -- there are few enough procedures, and none is too long
 pub few_and_short : (k : Code) → IsCode k → (length k.procedures.procs ≤ PROC_LIMIT)

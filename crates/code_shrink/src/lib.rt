@@ -24,7 +24,7 @@ pub use laws::{copies_run_as_their_code, what_is_reached_is_shrunk_code};
 pub use numbers::number_at;
 pub use renamed::{copy_cond, renamed_instr};
 pub use shrinking::{Shrunk, shrink, shrink_with_origins};
-pub use tables::{copy_events, copy_states, copy_vars};
+pub use tables::with_procedures;
 
 /// The code, with the world below it.
 pub use code_language as form;

@@ -17,7 +17,7 @@ use crate::live::{Live, live_procedures};
 use crate::numbers::{number_at, numbers_of};
 use crate::origins::origins_of;
 use crate::smaller::smaller_procedure;
-use crate::tables::{copy_events, copy_states, copy_vars};
+use crate::tables::with_procedures;
 use code_language::{Code, CodeEnd, Instr, RawCode, accept};
 use flow_base::{List, Memory};
 use std::alloc::Global;
@@ -82,21 +82,9 @@ fn smaller_raw(alloc: Global, code: &Code) -> Result<Made, Memory>
         (code_of made.raw).procedures made.origins.items) }
 {
     let kept = kept_procedures(alloc, code)?;
-    let raw = code.raw();
-    let states = copy_states(alloc, raw.states.items())?;
-    let vars = copy_vars(alloc, raw.vars.items())?;
-    let events = copy_events(alloc, raw.events.items())?;
-    Ok(Made {
-        raw: RawCode {
-            states,
-            vars,
-            events,
-            start: kept.start,
-            react: kept.react,
-            procs: kept.procs,
-        },
-        origins: kept.origins,
-    })
+    let origins = kept.origins;
+    let raw = with_procedures(alloc, code.raw(), kept.procs, kept.start, kept.react)?;
+    Ok(Made { raw, origins })
 }
 
 /// What is kept of the procedures.

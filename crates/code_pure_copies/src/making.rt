@@ -139,8 +139,8 @@ fn made_by(alloc: Global, code: &Code, plan: &Plan, origins: &[u32]) -> Result<O
     };
     match accept(alloc, raw) {
         Ok(made) => {
-            // What is accepted is well formed, so that it runs as its code.
-            made.raw();
+            // Only the proof reads the code: what is accepted is well formed.
+            let _ = made.raw();
             Ok(Some(made))
         }
         Err(CodeEnd::Memory) => Err(Memory),

@@ -30,7 +30,10 @@ pub use laws::{
 };
 pub use making::made;
 pub use plan::{Key, Place, Plan, ProcedureCopy};
-pub use searching::{COPY_LIMIT, COPY_ROOM, PLACE_LIMIT, find, find_by_home};
+pub use searching::{
+    COPY_LIMIT, COPY_ROOM, FoundCopy, PLACE_LIMIT, copies_allowed, find, find_by_home, number_of,
+    rank_at, ranks_of,
+};
 pub use tested::tested_events;
 
 /// The code, with the world below it.

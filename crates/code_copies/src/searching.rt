@@ -17,6 +17,8 @@ use crate::searching::roots::Roots;
 use actions::Event;
 use code_language::{Code, PROC_LIMIT, RawCode};
 use flow_base::Memory;
+pub use lists::number_of;
+pub use ordering::{FoundCopy, rank_at, ranks_of};
 use std::alloc::Global;
 
 /// How many copies a plan may have for each procedure of the code, besides `COPY_ROOM`.
@@ -50,8 +52,11 @@ fn at_reaction(is_rooted: bool) -> Facts {
     }
 }
 
-/// How many copies a plan for so many procedures may have.
-fn copies_allowed(procs: usize) -> usize {
+/// How many copies a plan for so many procedures may have, by `COPY_LIMIT` and `COPY_ROOM`; no more
+/// than code may have procedures.
+///
+/// Source: this project's choice.
+pub fn copies_allowed(procs: usize) -> usize {
     let allowed = procs.saturating_mul(COPY_LIMIT).saturating_add(COPY_ROOM);
     allowed.min(PROC_LIMIT)
 }

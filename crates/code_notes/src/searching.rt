@@ -4,7 +4,8 @@ mod table;
 
 use crate::plan::{PLAYER_LIMIT, Plan};
 use crate::searching::spreading::Spread;
-use crate::searching::table::{EMPTY, number_of};
+use crate::searching::table::NO_NOTES;
+use code_copies::number_of;
 use code_language::{Instr, RawCode};
 use flow_base::Memory;
 use std::alloc::Global;
@@ -69,7 +70,7 @@ fn find_players(
         if let Instr::Play = instr {
             match spread.notes_at(proc, place) {
                 None => return Ok(false),
-                Some(EMPTY) => {}
+                Some(NO_NOTES) => {}
                 Some(list) => {
                     let player = players.for_list(alloc, list, spread.table.notes(list), proc)?;
                     spread.set_player(proc, place, player);

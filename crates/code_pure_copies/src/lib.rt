@@ -1,8 +1,8 @@
 //! Copies of procedures that do what their procedures do, for the notes that are pending where they
 //! begin, or for the depth at which they begin.
 //!
-//! The public calls are `copy_by_notes` and `copy_by_depth`. Read `specs/PureCopies.antt`, when code
-//! is made of copies.
+//! The public calls are `copy_by_notes` and `copy_by_depth`. Read `specs/PureCopies.antt`, when
+//! code is made of copies.
 #![tactic(auto)]
 
 mod laws;
@@ -16,8 +16,7 @@ mod tests;
 pub use laws::pure_copies_run_as_their_code;
 pub use making::{Copies, copy_by_depth, copy_by_notes};
 pub use searching::{
-    COPY_LIMIT, COPY_ROOM, DEPTH_ROOM, LIST_LIMIT, PLACE_LIMIT, ROUND_LIMIT, SEND_LIMIT,
-    SPREAD_LIMIT,
+    DEPTH_ROOM, NOTE_PLACE_LIMIT, PENDING_LIMIT, ROUND_LIMIT, SEND_LIMIT, SPREAD_LIMIT,
 };
 
 /// The code, with the world below it.

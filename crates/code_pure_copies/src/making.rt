@@ -184,9 +184,10 @@ fn planned(alloc: Global, code: &Code, plan: Option<Plan>) -> Result<Option<Copi
 /// if it comes to a `Play` without a `Begin` before it; each other procedure has one copy, if it is
 /// named at all. Copies stand in the order of their origins.
 ///
-/// None where no procedure has two copies, or where there would be too many, by `COPY_LIMIT`,
-/// `COPY_ROOM`, `PLACE_LIMIT`, `LIST_LIMIT` and `ROUND_LIMIT`. Which copies there are is not
-/// proved, but that they are copies is: a procedure may also have more copies than it needs.
+/// None where no procedure has two copies, or where there would be too many, by `COPY_LIMIT` and
+/// `COPY_ROOM` of `code_copies`, `NOTE_PLACE_LIMIT`, `PENDING_LIMIT` and `ROUND_LIMIT`. Which
+/// copies there are is not proved, but that they are copies is: a procedure may also have more
+/// copies than it needs.
 ///
 /// Its time grows with the places of the copies. `Memory` only where memory was refused.
 ///

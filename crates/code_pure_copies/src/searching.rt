@@ -14,27 +14,18 @@ use crate::searching::nesting::{Nesting, have_notes};
 use crate::searching::ordering::ordered;
 use crate::searching::playing::Playing;
 use crate::searching::wanting::Search;
-use code_language::{Instr, PROC_LIMIT, RawCode};
+use code_copies::copies_allowed;
+use code_language::{Instr, RawCode};
 use flow_base::{List, Memory};
-pub use lists::LIST_LIMIT;
+pub use lists::PENDING_LIMIT;
 pub use nesting::{SEND_LIMIT, SPREAD_LIMIT};
 pub use playing::ROUND_LIMIT;
 use std::alloc::Global;
 
-/// How many copies for notes there may be for each procedure of the code, besides `COPY_ROOM`.
-///
-/// Source: this project's choice.
-pub const COPY_LIMIT: usize = 4;
-
-/// How many copies for notes of any code there may be besides.
-///
-/// Source: this project's choice.
-pub const COPY_ROOM: usize = 1_024;
-
 /// The greatest number of instructions that the copies for notes have together.
 ///
 /// Source: this project's choice.
-pub const PLACE_LIMIT: usize = 4_000_000;
+pub const NOTE_PLACE_LIMIT: usize = 4_000_000;
 
 /// How many instructions more than the code the copies by depth may have together. A chart of the
 /// size that is read by hand has room for its copies, and the C of any code grows by at most some
@@ -42,12 +33,6 @@ pub const PLACE_LIMIT: usize = 4_000_000;
 ///
 /// Source: this project's choice.
 pub const DEPTH_ROOM: usize = 4_000;
-
-/// How many copies for notes of so many procedures there may be.
-fn copies_allowed(procs: usize) -> usize {
-    let allowed = procs.saturating_mul(COPY_LIMIT).saturating_add(COPY_ROOM);
-    allowed.min(PROC_LIMIT)
-}
 
 /// How many instructions the procedures have together.
 fn places_of(procs: &[List<Instr>]) -> usize {
@@ -91,7 +76,7 @@ pub(crate) fn find_by_notes(alloc: Global, code: &RawCode) -> Result<Option<Plan
     let Some(playing) = Playing::of(alloc, procs)? else {
         return Ok(None);
     };
-    let mut search = Search::new(alloc, playing, PLACE_LIMIT);
+    let mut search = Search::new(alloc, playing, NOTE_PLACE_LIMIT);
     let start = search.first_copy(code.start)?;
     let react = search.first_copy(code.react)?;
     search.make_all(alloc, procs, copies_allowed(procs.len()))?;

@@ -3,7 +3,9 @@ use flow_base::Memory;
 use std::alloc::Global;
 
 /// An index as a number; one that is too great gives the greatest number.
-pub(crate) fn number_of(index: usize) -> u32 {
+///
+/// Source: this project's choice.
+pub fn number_of(index: usize) -> u32 {
     if index < u32::MAX as usize {
         index as u32
     } else {

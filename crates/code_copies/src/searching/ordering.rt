@@ -5,16 +5,21 @@ use flow_base::Memory;
 use std::alloc::Global;
 
 /// A copy that was found, under the number that it had then.
+///
+/// Source: this project's choice.
 #[derive(Debug, Drop)]
-pub(crate) struct FoundCopy {
+pub struct FoundCopy<C> {
     /// The number.
     pub number: u32,
     /// The copy.
-    pub copy: ProcedureCopy,
+    pub copy: C,
 }
 
-/// For each number that a copy had the one that it has in the list.
-pub(crate) fn ranks_of(alloc: Global, copies: &[FoundCopy]) -> Result<Vec<u32>, Memory> {
+/// For each number that a copy had the one that it has in the list; 0 for a number that none had.
+/// `Memory` only where memory was refused.
+///
+/// Source: this project's choice.
+pub fn ranks_of<C>(alloc: Global, copies: &[FoundCopy<C>]) -> Result<Vec<u32>, Memory> {
     let Ok(mut ranks) = vec![in alloc; 0; copies.len()] else {
         return Err(Memory);
     };
@@ -26,8 +31,10 @@ pub(crate) fn ranks_of(alloc: Global, copies: &[FoundCopy]) -> Result<Vec<u32>, 
     Ok(ranks)
 }
 
-/// The number that a copy has, by the one that it had.
-pub(crate) fn rank_at(ranks: &[u32], number: u32) -> u32 {
+/// The number that a copy has, by the one that it had; 0 where there is no such copy.
+///
+/// Source: this project's choice.
+pub fn rank_at(ranks: &[u32], number: u32) -> u32 {
     ranks.get(number as usize).copied().unwrap_or(0)
 }
 
@@ -46,7 +53,7 @@ fn rename(places: &mut [Option<Place>], ranks: &[u32]) {
 /// The copies alone, with the numbers that they have.
 pub(crate) fn renamed(
     alloc: Global,
-    found: Vec<FoundCopy>,
+    found: Vec<FoundCopy<ProcedureCopy>>,
     ranks: &[u32],
 ) -> Result<Vec<ProcedureCopy>, Memory> {
     let mut copies = Vec::new(alloc);
@@ -61,7 +68,7 @@ pub(crate) fn renamed(
 }
 
 /// Puts the copies in the order of their procedures, those of one procedure as they are.
-pub(crate) fn sort(copies: &mut Vec<FoundCopy>) -> Result<(), Memory> {
+pub(crate) fn sort(copies: &mut Vec<FoundCopy<ProcedureCopy>>) -> Result<(), Memory> {
     match copies.sort_by_key(|found| found.copy.key.proc) {
         Ok(()) => Ok(()),
         Err(_) => Err(Memory),

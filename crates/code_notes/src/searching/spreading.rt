@@ -2,7 +2,7 @@
 //! until nothing more is found.
 use crate::checking::UNREACHED;
 use crate::plan::{NOTE_LIMIT, Place};
-use crate::searching::table::{EMPTY, Table};
+use crate::searching::table::{NO_NOTES, Table};
 use code_language::{Instr, RawCode};
 use flow_base::{List, Memory};
 use std::alloc::Global;
@@ -60,7 +60,7 @@ impl Spread {
         if known.reached {
             known.notes
         } else {
-            Some(EMPTY)
+            Some(NO_NOTES)
         }
     }
 
@@ -101,7 +101,7 @@ impl Spread {
 
     /// A run comes to the begin of a procedure that is its own base.
     fn arrive_as_base(&mut self, proc: u32) {
-        self.arrive(proc as usize, 0, Some(EMPTY), false);
+        self.arrive(proc as usize, 0, Some(NO_NOTES), false);
     }
 
     /// The notes once one more is there.
@@ -165,7 +165,7 @@ impl Spread {
                 }
                 self.arrive(proc, next, known.notes, true);
             }
-            Instr::Begin => self.arrive(proc, next, Some(EMPTY), known.played),
+            Instr::Begin => self.arrive(proc, next, Some(NO_NOTES), known.played),
             Instr::Ret(_) => {}
             Instr::Assign(_, _)
             | Instr::Emit(_)

@@ -1,22 +1,14 @@
 //! Lists of notes, each under its number.
 use crate::plan::NOTE_LIMIT;
+use code_copies::number_of;
 use flow_base::Memory;
 use std::alloc::Global;
 
 /// The number of the list without notes.
-pub(crate) const EMPTY: u32 = 0;
+pub(crate) const NO_NOTES: u32 = 0;
 
 /// The greatest number of lists.
 const LIST_LIMIT: usize = 65_536;
-
-/// An index as a number; one that is too great gives the greatest number.
-pub(crate) fn number_of(index: usize) -> u32 {
-    if index < u32::MAX as usize {
-        index as u32
-    } else {
-        u32::MAX
-    }
-}
 
 /// The lists, with the numbers of those that have one more note than each.
 #[derive(Drop)]

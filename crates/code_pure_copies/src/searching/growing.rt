@@ -1,18 +1,10 @@
 //! The copies that a search wants, and those that it has made.
 use crate::plan::Named;
+use code_copies::{FoundCopy, number_of};
 use code_language::Instr;
 use flow_base::{List, Memory};
 use indexmap::IndexSet;
 use std::alloc::Global;
-
-/// An index as a number; one that is too great gives the greatest number.
-pub(crate) fn number_of(index: usize) -> u32 {
-    if index < u32::MAX as usize {
-        index as u32
-    } else {
-        u32::MAX
-    }
-}
 
 /// The instructions of a procedure; none where it isn't there.
 pub(crate) fn instrs_at(procs: &[List<Instr>], proc: u32) -> &[Instr] {
@@ -31,11 +23,9 @@ pub(crate) struct Wanted {
     pub purpose: u32,
 }
 
-/// A copy that was found.
+/// A copy.
 #[derive(Debug, Drop)]
-pub(crate) struct FoundCopy {
-    /// The number that it had then.
-    pub number: u32,
+pub(crate) struct NamingCopy {
     /// The procedure.
     pub origin: u32,
     /// What its instructions name.
@@ -48,7 +38,7 @@ pub(crate) struct Growing {
     /// The copies that are wanted, each under its number.
     wanted: IndexSet<Wanted>,
     /// The first of them, with what they name.
-    made: Vec<FoundCopy>,
+    made: Vec<FoundCopy<NamingCopy>>,
     /// How many more places there may be.
     room: usize,
 }
@@ -90,8 +80,10 @@ impl Growing {
     pub(crate) fn make(&mut self, wanted: Wanted, names: Vec<Named>) -> Result<(), Memory> {
         let found = FoundCopy {
             number: number_of(self.made.len()),
-            origin: wanted.proc,
-            names,
+            copy: NamingCopy {
+                origin: wanted.proc,
+                names,
+            },
         };
         match self.made.push(found) {
             Ok(()) => Ok(()),
@@ -105,7 +97,7 @@ impl Growing {
     }
 
     /// The copies.
-    pub(crate) fn into_copies(self) -> Vec<FoundCopy> {
+    pub(crate) fn into_copies(self) -> Vec<FoundCopy<NamingCopy>> {
         self.made
     }
 }

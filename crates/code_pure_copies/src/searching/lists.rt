@@ -1,5 +1,5 @@
 //! Lists of notes, each under a number of its own.
-use crate::searching::growing::number_of;
+use code_copies::number_of;
 use flow_base::Memory;
 use indexmap::IndexSet;
 use std::alloc::Global;
@@ -7,7 +7,7 @@ use std::alloc::Global;
 /// The greatest number of notes that may be pending where a procedure begins.
 ///
 /// Source: this project's choice.
-pub const LIST_LIMIT: usize = 16;
+pub const PENDING_LIMIT: usize = 16;
 
 /// The number of the list that has no notes.
 pub(crate) const NO_NOTES: u32 = 0;
@@ -39,7 +39,7 @@ impl NoteLists {
     /// How many notes the list has, as far as there are no more than may be.
     fn length(&self, list: u32) -> usize {
         let mut rest = list;
-        for length in 0..LIST_LIMIT {
+        for length in 0..PENDING_LIMIT {
             let Some(index) = (rest as usize).checked_sub(1) else {
                 return length;
             };
@@ -48,12 +48,12 @@ impl NoteLists {
                 None => return length,
             }
         }
-        LIST_LIMIT
+        PENDING_LIMIT
     }
 
     /// The number of the list with the note after it. None where it would be too long.
     pub(crate) fn with_note(&mut self, list: u32, note: u32) -> Result<Option<u32>, Memory> {
-        if self.length(list) >= LIST_LIMIT {
+        if self.length(list) >= PENDING_LIMIT {
             return Ok(None);
         }
         match self.longer.insert_full(Longer { list, note }) {

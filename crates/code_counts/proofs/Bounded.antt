@@ -12,12 +12,12 @@ use Rattle.code_language.specs.Reactions.{Leads, program_of}
 use Rattle.code_counts.specs.Certificate.{Numbers, IsCertificate, IsMost}
 use Rattle.code_counts.specs.Claims.{HasMost, IsWithin}
 use Rattle.code_counts.specs.declared.numbers.Counted.{Counted}
-use Rattle.code_counts.specs.declared.numbers.Counted.TheVariants.{Steps, Outputs, Depth, Notes, Calls}
-use Rattle.code_counts.proofs.Levels.{IsLevel, depth_level, notes_level, calls_level, level_stays}
+use Rattle.code_counts.specs.declared.numbers.Counted.TheVariants.{Steps, Outputs, Depth, Notes}
+use Rattle.code_counts.proofs.Levels.{IsLevel, depth_level, notes_level, level_stays}
 use Rattle.code_counts.proofs.Sums.{steps_sum, outputs_sum, sum_within}
 
 module _ (k : Code) (N : Numbers) (most : ℕ) (is : IsMost k.procedures N most) where
-  -- depth, notes and calls, which are levels
+  -- depth and notes, which are levels
   by_level : (c : Counted) → IsLevel c → IsCertificate c k.procedures N → HasMost c k most
   by_level c s ok = record {
     start = λ b n. level_stays (program_of k b) c N most s ok n (world_before k.tree k.names) (from_outside Start)
@@ -42,7 +42,6 @@ module _ (k : Code) (N : Numbers) (most : ℕ) (is : IsMost k.procedures N most)
   }
   bounded Depth ok = by_level Depth depth_level ok
   bounded Notes ok = by_level Notes notes_level ok
-  bounded Calls ok = by_level Calls calls_level ok
 
 -- ---- where events end
 

@@ -7,7 +7,7 @@ use Rattle.std.proofs.lemmas.Bool.Decides.{nat_tests}
 use Rattle.code_language.specs.Machine.{Frame, fresh, or_this, noted, later}
 use Rattle.code_counts.specs.Certificate.{Numbers, joined, of_play, HandsOn}
 use Rattle.code_counts.specs.declared.numbers.Counted.{Counted}
-use Rattle.code_counts.specs.declared.numbers.Counted.TheVariants.{Steps, Outputs, Depth, Notes, Calls}
+use Rattle.code_counts.specs.declared.numbers.Counted.TheVariants.{Steps, Outputs, Depth, Notes}
 
 -- ---- two parts together
 
@@ -17,7 +17,6 @@ joined_more Steps a x y le = omega arith
 joined_more Outputs a x y le = omega arith
 joined_more Depth a x y le = omega arith
 joined_more Notes a x y le = omega arith
-joined_more Calls a x y le = omega arith
 
 -- with nothing there is as much
 pub joined_none : (c : Counted) (a : ℕ) → joined c a 0 ≡ a
@@ -25,7 +24,6 @@ joined_none Steps a = omega arith
 joined_none Outputs a = omega arith
 joined_none Depth a = omega arith
 joined_none Notes a = omega arith
-joined_none Calls a = omega arith
 
 -- two parts are at least the first one
 pub joined_first : (c : Counted) (a x : ℕ) → a ≤ joined c a x
@@ -33,7 +31,6 @@ joined_first Steps a x = omega arith
 joined_first Outputs a x = omega arith
 joined_first Depth a x = omega arith
 joined_first Notes a x = omega arith
-joined_first Calls a x = omega arith
 
 -- and at least the second one
 pub joined_second : (c : Counted) (a x : ℕ) → x ≤ joined c a x
@@ -41,7 +38,6 @@ joined_second Steps a x = omega arith
 joined_second Outputs a x = omega arith
 joined_second Depth a x = omega arith
 joined_second Notes a x = omega arith
-joined_second Calls a x = omega arith
 
 -- three parts in another order
 joined_swap : (c : Counted) (a x y : ℕ) → joined c a (joined c x y) ≤ joined c x (joined c a y)
@@ -49,7 +45,6 @@ joined_swap Steps a x y = omega arith
 joined_swap Outputs a x y = omega arith
 joined_swap Depth a x y = omega arith
 joined_swap Notes a x y = omega arith
-joined_swap Calls a x y = omega arith
 
 -- ---- numbers of frames
 

@@ -20,11 +20,11 @@ use Rattle.code_language.specs.Machine.{if_ok}
 use Rattle.code_language.specs.Machine.{test_next, now_after, pass_on, noted, later, sent, if_deep, play_next, act}
 use Rattle.code_language.specs.Machine.{act_on, step}
 use Rattle.code_costs.specs.Ahead.{next_then, ahead}
-use Rattle.code_counts.specs.Certificate.{Numbers, joined, of_step, of_send, of_note, of_call, of_play, HandsOn}
+use Rattle.code_counts.specs.Certificate.{Numbers, joined, of_step, of_send, of_note, of_play, HandsOn}
 use Rattle.code_counts.specs.Certificate.{IsCertificate}
 use Rattle.code_counts.specs.Claims.{note_count, notes_of, amount, end_amount, MayFault, IsWithin}
 use Rattle.code_counts.specs.declared.numbers.Counted.{Counted}
-use Rattle.code_counts.specs.declared.numbers.Counted.TheVariants.{Depth, Notes, Calls}
+use Rattle.code_counts.specs.declared.numbers.Counted.TheVariants.{Depth, Notes}
 use Rattle.code_counts.proofs.Debts.{debt, Owes, joined_first, later_both, debt_later, debt_first, own_base}
 use Rattle.code_counts.proofs.Debts.{called_owes}
 use Rattle.code_counts.proofs.Faults.{Leaves, Any, IsOfValue, IsSame, IsPaid, IsSpent, holds_leaves, assign_leaves}
@@ -45,15 +45,10 @@ abbrev pub of_saved : Counted → Option Event → ℕ
 of_saved c None = 0
 of_saved c (Some e) = of_send c
 
--- what a frame above these counts as an open call; the frame of the start or of the reaction is none
-abbrev pub of_above : Counted → List Frame → ℕ
-of_above c [] = 0
-of_above c (f ∷ fs) = of_call c
-
 -- how much the frames have of what is counted
 abbrev pub level : Counted → List Frame → ℕ
 level c [] = 0
-level c (f ∷ fs) = of_saved c f.saved + (of_note c f.note + (of_above c fs + level c fs))
+level c (f ∷ fs) = of_saved c f.saved + (of_note c f.note + level c fs)
 
 -- of what is counted the greater part counts, and the frames tell how much there is
 pub record IsLevel (c : Counted) : Type 0 where
@@ -86,13 +81,9 @@ depth_level = record {
     no_note None = refl
     no_note (Some n) = refl
 
-    no_call : (fs : List Frame) → of_above Depth fs ≡ 0
-    no_call [] = refl
-    no_call (f ∷ fs) = refl
-
     sends : (fs : List Frame) → sends_of fs ≡ level Depth fs
     sends [] = refl
-    sends (f ∷ fs) = omega (arith, sends fs, one f.saved, no_note f.note, no_call fs)
+    sends (f ∷ fs) = omega (arith, sends fs, one f.saved, no_note f.note)
 
     of_value : (b : Bounds) (most : ℕ) (x : Fault) → IsOfValue x → MayFault Depth b most (Some x)
     of_value b most faults.Depth h = absurd h
@@ -121,42 +112,9 @@ notes_level = record {
     one None = refl
     one (Some n) = refl
 
-    no_call : (fs : List Frame) → of_above Notes fs ≡ 0
-    no_call [] = refl
-    no_call (f ∷ fs) = refl
-
     notes : (fs : List Frame) → notes_of fs ≡ level Notes fs
     notes [] = refl
-    notes (f ∷ fs) = omega (arith, notes fs, no_send f.saved, one f.note, no_call fs)
-
--- and the number of open calls
-pub calls_level : IsLevel Calls
-calls_level = record {
-  joins = λ a x. refl;
-  none = λ w. refl;
-  deep = λ b now fs most le is h. tt;
-  spent = λ b most. tt;
-  value = λ b most x h. tt;
-  over = λ b most. tt;
-  amounts = λ m is. calls m.frames;
-}
-  where
-    no_send : (saved : Option Event) → of_saved Calls saved ≡ 0
-    no_send None = refl
-    no_send (Some e) = refl
-
-    no_note : (tag : Option ℕ) → of_note Calls tag ≡ 0
-    no_note None = refl
-    no_note (Some n) = refl
-
-    -- each frame but the last one is above another one
-    above : (fs : List Frame) → pred (length fs) ≡ level Calls fs → length fs ≡ of_above Calls fs + level Calls fs
-    above [] h = refl
-    above (f ∷ fs) h = omega (arith, h)
-
-    calls : (fs : List Frame) → pred (length fs) ≡ level Calls fs
-    calls [] = refl
-    calls (f ∷ fs) = omega (arith, above fs (calls fs), no_send f.saved, no_note f.note)
+    notes (f ∷ fs) = omega (arith, notes fs, no_send f.saved, one f.note)
 
 -- each frame leaves room for what it may bring
 abbrev pub HaveRoom : Counted → Numbers → ℕ → List Frame → Type 0
@@ -212,7 +170,7 @@ module _ (C : Program) (c : Counted) (N : Numbers) (most : ℕ) (s : IsLevel c)
     -- a new frame is pushed
     pushes : (v : World) (now' : Now) (f' g : Frame) → now'.depth ≡ saved_count g.saved + now.depth
         → f'.saved ≡ f.saved → f'.note ≡ f.note
-        → level c (f ∷ fs) + (of_saved c g.saved + of_note c g.note + of_call c + N.left g.proc g.place) ≤ most
+        → level c (f ∷ fs) + (of_saved c g.saved + of_note c g.note + N.left g.proc g.place) ≤ most
         → level c (f ∷ fs) + N.left f'.proc f'.place ≤ most → Owes c N g (f' ∷ fs) → Owes c N f' fs
         → StaysLow C c N most (Goes (machine v now' r (g ∷ f' ∷ fs)))
     pushes v now' f' g deep saved note high le owes owes' =
@@ -279,7 +237,7 @@ module _ (C : Program) (c : Counted) (N : Numbers) (most : ℕ) (s : IsLevel c)
     passes k on = goes w r (past f k) refl refl (room_at 0 (f.place + 1 + k) on.0).0 (past_owes k on)
 
     -- a call
-    calls : (v : World) (p : ℕ) (tag : Option ℕ) (brings : ℕ) → of_note c tag + of_call c + N.left p 0 ≤ brings
+    calls : (v : World) (p : ℕ) (tag : Option ℕ) (brings : ℕ) → of_note c tag + N.left p 0 ≤ brings
         → Step brings (f.place + 1) → HandsOn c N (N.owed f.proc f.place) p tag
         → StaysLow C c N most (Goes (machine v now r (fresh p tag f.base f.home None ∷ next f ∷ fs)))
     calls v p tag brings le on hands =
@@ -288,21 +246,21 @@ module _ (C : Program) (c : Counted) (N : Numbers) (most : ℕ) (s : IsLevel c)
         room.0 (called_owes c N p tag f (next f) fs refl low.room.1.0 hands) (next_owes brings on)
 
     -- a send
-    sent_low : (v : World) (b : Bool) (e p : ℕ) → Step (of_step c + of_send c + of_call c + N.left p 0) (f.place + 1)
+    sent_low : (v : World) (b : Bool) (e p : ℕ) → Step (of_step c + of_send c + N.left p 0) (f.place + 1)
         → StaysLow C c N most (Goes (sent b e p v now r f fs))
     sent_low v true e p on =
-        let brings = of_step c + of_send c + of_call c + N.left p 0 in
+        let brings = of_step c + of_send c + N.left p 0 in
         let room = room_at brings (f.place + 1) on.0 in
         let g = fresh p None (suc (length fs)) 0 (Some now.event) in
         pushes v (deeper e now) (next f) g (omega arith) refl refl (omega (arith, room.1)) room.0
         (own_base c N g (next f ∷ fs) refl) (next_owes brings on)
-    sent_low v false e p on = plain v r (of_step c + of_send c + of_call c + N.left p 0) on
+    sent_low v false e p on = plain v r (of_step c + of_send c + N.left p 0) on
 
     -- there is room for a send
-    send_room : (p : ℕ) → Step (of_step c + of_send c + of_call c + N.left p 0) (f.place + 1)
+    send_room : (p : ℕ) → Step (of_step c + of_send c + N.left p 0) (f.place + 1)
         → level c (f ∷ fs) + of_send c ≤ most
     send_room p on =
-        omega (arith, (room_at (of_step c + of_send c + of_call c + N.left p 0) (f.place + 1) on.0).1)
+        omega (arith, (room_at (of_step c + of_send c + N.left p 0) (f.place + 1) on.0).1)
 
     -- `Pass`
     pass_low : (x : ℕ) → Step 0 (f.place + 1) → StaysLow C c N most (pass_on w now x f fs)
@@ -353,10 +311,10 @@ module _ (C : Program) (c : Counted) (N : Numbers) (most : ℕ) (s : IsLevel c)
     act_low (Some (Skip k)) q = passes k (ok f.proc f.place (Skip k) q)
     act_low (Some (Call p tag)) q =
         let on = ok f.proc f.place (Call p tag) q in
-        calls w p tag (of_note c tag + of_call c + N.left p 0) (omega arith) on.0 on.1
+        calls w p tag (of_note c tag + N.left p 0) (omega arith) on.0 on.1
     act_low (Some (Visit p tag)) q =
         let on = ok f.proc f.place (Visit p tag) q in
-        pays _ (λ v. calls v p tag (of_step c + of_note c tag + of_call c + N.left p 0) (omega arith) on.0 on.1)
+        pays _ (λ v. calls v p tag (of_step c + of_note c tag + N.left p 0) (omega arith) on.0 on.1)
     act_low (Some (Send e)) q =
         let on = ok f.proc f.place (Send e) q in
         let p = C.procedures.react in

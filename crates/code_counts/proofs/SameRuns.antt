@@ -1,7 +1,7 @@
 -- Under bounds that no event passes, runs over events are the same.
 use Rattle.std.proofs.Common.{ℕ, inl, inr, Bool, true, false, IsFalse, List, Option, Some, None}
 use Rattle.std.proofs.Common.{refl, sym, arith}
-use Rattle.std.specs.Prelude.{◌↔◌, IfSome}
+use Rattle.std.specs.Prelude.{◌↔◌}
 use Rattle.flow_base.specs.declared.bounds.Bounds.{Bounds}
 use Rattle.flow_base.specs.declared.fault.Fault.{Fault}
 use Rattle.flow_base.specs.declared.fault.Fault.TheVariants as faults
@@ -17,7 +17,7 @@ use Rattle.code_counts.specs.Claims.{HasMost, IsWithin}
 use Rattle.code_counts.specs.Needed.{AreSameFor, Serves, MayEnd, IsRoom, IsLimit}
 use Rattle.code_counts.specs.declared.numbers.Limits.{Limits}
 use Rattle.code_counts.specs.declared.numbers.Counted.{Counted}
-use Rattle.code_counts.specs.declared.numbers.Counted.TheVariants.{Steps, Depth, Calls}
+use Rattle.code_counts.specs.declared.numbers.Counted.TheVariants.{Steps, Depth}
 use Rattle.code_counts.proofs.Bounded.{end_within}
 use Rattle.code_counts.proofs.SameSteps.{IsUnspent, IsShallow, unspent, shallow, Paid, Sent, leads_same}
 
@@ -116,7 +116,7 @@ may_end steps depth w (Some faults.Zero) u s = tt
 module _ (k : Code) (b : Bounds) (found : Limits)
     (steps : Serves Steps k b.steps found.bounds.steps found.tests_steps)
     (depth : Serves Depth k b.depth found.bounds.depth found.tests_depth)
-    (outputs : IsRoom k found.bounds found.outputs) (calls : IfSome found.calls (HasMost Calls k)) where
+    (outputs : IsRoom k found.bounds found.outputs) where
   -- an event ends by the fault of a bound only where it is tested
   event_ends : (m : Machine) → BeginsEvent k m → (w : World) (x : Option Fault)
       → Leads (program_of k found.bounds) m (record { world = w; fault = x })
@@ -141,7 +141,6 @@ module _ (k : Code) (b : Bounds) (found : Limits)
     steps = steps;
     depth = depth;
     outputs = outputs;
-    calls = calls;
     in_range = λ are. record {
       some_depth = depth.some;
       depth_limit = omega (arith, are.depth_limit, depth.no_greater);

@@ -18,7 +18,7 @@ use Rattle.code_language.specs.Machine.{if_ok}
 use Rattle.code_language.specs.Machine.{test_next, now_after, pass_on, noted, later, sent, if_deep, play_next, act}
 use Rattle.code_language.specs.Machine.{act_on, step}
 use Rattle.code_costs.specs.Ahead.{next_then, ahead}
-use Rattle.code_counts.specs.Certificate.{Numbers, joined, of_step, of_output, of_send, of_note, of_call, of_play}
+use Rattle.code_counts.specs.Certificate.{Numbers, joined, of_step, of_output, of_send, of_note, of_play}
 use Rattle.code_counts.specs.Certificate.{IsCertificate}
 use Rattle.code_counts.specs.Claims.{amount, end_amount, MayFault, IsWithin}
 use Rattle.code_counts.specs.declared.numbers.Counted.{Counted}
@@ -255,14 +255,14 @@ module _ (C : Program) (c : Counted) (N : Numbers) (most : ℕ) (s : IsSum c) (o
 
     -- a send
     sent_paid : (x : Instr) → fetch C.procedures f.proc f.place ≡ Some x → (Some x ≡ Some Play → ⊥) → (v : World)
-        (b : Bool) (e p : ℕ) → IsPaid w v → Step (of_step c + of_send c + of_call c + N.left p 0) (f.place + 1)
+        (b : Bool) (e p : ℕ) → IsPaid w v → Step (of_step c + of_send c + N.left p 0) (f.place + 1)
         → StaysPaid C c N most (Goes (sent b e p v now r f fs))
     sent_paid x is other v true e p u on =
         calls x is other v (deeper e now) (fresh p None (suc (length fs)) 0 (Some now.event)) (of_step c)
-        (of_step c + of_send c + of_call c + N.left p 0) (s.pays w v u) refl (omega arith) on
+        (of_step c + of_send c + N.left p 0) (s.pays w v u) refl (omega arith) on
         (own_base c N (fresh p None (suc (length fs)) 0 (Some now.event)) (next f ∷ fs) refl)
     sent_paid x is other v false e p u on =
-        let brings = of_step c + of_send c + of_call c + N.left p 0 in
+        let brings = of_step c + of_send c + N.left p 0 in
         let both = s.joins brings (N.left f.proc (f.place + 1)) in
         goes v now r (next f) (of_step c) (s.pays w v u) (omega (arith, on.0, both, whole x is other))
         (next_owes brings on)
@@ -364,25 +364,25 @@ module _ (C : Program) (c : Counted) (N : Numbers) (most : ℕ) (s : IsSum c) (o
     act_paid (Some (Call p tag)) q =
         let on = ok f.proc f.place (Call p tag) q in
         calls (Call p tag) q (λ d. absurd (cc d)) w now (fresh p tag f.base f.home None) 0
-        (of_note c tag + of_call c + N.left p 0) (omega arith) refl (omega arith) on.0
+        (of_note c tag + N.left p 0) (omega arith) refl (omega arith) on.0
         (called_owes c N p tag f (next f) fs refl top.owes on.1)
     act_paid (Some (Visit p tag)) q =
         let on = ok f.proc f.place (Visit p tag) q in
-        pays (Visit p tag) q (λ d. absurd (cc d)) (of_step c + of_note c tag + of_call c + N.left p 0) (omega arith)
+        pays (Visit p tag) q (λ d. absurd (cc d)) (of_step c + of_note c tag + N.left p 0) (omega arith)
         on.0 _
         (λ v u. calls (Visit p tag) q (λ d. absurd (cc d)) v now (fresh p tag f.base f.home None) (of_step c)
-        (of_step c + of_note c tag + of_call c + N.left p 0) (s.pays w v u) refl (omega arith) on.0
+        (of_step c + of_note c tag + N.left p 0) (s.pays w v u) refl (omega arith) on.0
         (called_owes c N p tag f (next f) fs refl top.owes on.1))
     act_paid (Some (Send e)) q =
         let on = ok f.proc f.place (Send e) q in
         let p = C.procedures.react in
         deep_paid (nat_le C.bounds.depth now.depth) _
-        (pays (Send e) q (λ d. absurd (cc d)) (of_step c + of_send c + of_call c + N.left p 0) (omega arith) on _
+        (pays (Send e) q (λ d. absurd (cc d)) (of_step c + of_send c + N.left p 0) (omega arith) on _
         (λ v u. sent_paid (Send e) q (λ d. absurd (cc d)) v true e p u on))
     act_paid (Some (SendTo e x p)) q =
         let on = ok f.proc f.place (SendTo e x p) q in
         deep_paid (nat_le C.bounds.depth now.depth) _
-        (pays (SendTo e x p) q (λ d. absurd (cc d)) (of_step c + of_send c + of_call c + N.left p 0) (omega arith) on _
+        (pays (SendTo e x p) q (λ d. absurd (cc d)) (of_step c + of_send c + N.left p 0) (omega arith) on _
         (λ v u. sent_paid (SendTo e x p) q (λ d. absurd (cc d)) v (is_on x v.marks) e p u on))
     act_paid (Some Play) q = play_paid q (noted (later f.cursor (suc f.base)) (f ∷ fs)) refl
     act_paid (Some (Home x)) q =

@@ -4,7 +4,7 @@ use Rattle.code_language.specs.Code.{Procedures, fetch}
 use Rattle.code_language.specs.Instrs.{Instr, Assign, Emit, Mark, Clear, Keep, Unless, Skip, Call, Visit, Send, SendTo}
 use Rattle.code_language.specs.Instrs.{Play, Home, Begin, Pass, Ret}
 use Rattle.code_counts.specs.declared.numbers.Counted.{Counted}
-use Rattle.code_counts.specs.declared.numbers.Counted.TheVariants.{Steps, Outputs, Depth, Notes, Calls}
+use Rattle.code_counts.specs.declared.numbers.Counted.TheVariants.{Steps, Outputs, Depth, Notes}
 
 -- Two numbers at each place of each procedure: how much of what is counted comes at most from there until the procedure
 -- returns, with all that it calls, visits, sends and plays; and how much all notes bring at most that `Play` may run
@@ -19,7 +19,6 @@ joined Steps a b = a + b
 joined Outputs a b = a + b
 joined Depth a b = max a b
 joined Notes a b = max a b
-joined Calls a b = max a b
 
 -- what a paid step counts
 abbrev pub of_step : Counted → ℕ
@@ -27,7 +26,6 @@ of_step Steps = 1
 of_step Outputs = 0
 of_step Depth = 0
 of_step Notes = 0
-of_step Calls = 0
 
 -- what an output counts
 abbrev pub of_output : Counted → ℕ
@@ -35,7 +33,6 @@ of_output Steps = 0
 of_output Outputs = 1
 of_output Depth = 0
 of_output Notes = 0
-of_output Calls = 0
 
 -- what a send counts while it lasts
 abbrev pub of_send : Counted → ℕ
@@ -43,7 +40,6 @@ of_send Steps = 0
 of_send Outputs = 0
 of_send Depth = 1
 of_send Notes = 0
-of_send Calls = 0
 
 -- what a pending note counts
 abbrev pub of_pending : Counted → ℕ
@@ -51,15 +47,6 @@ of_pending Steps = 0
 of_pending Outputs = 0
 of_pending Depth = 0
 of_pending Notes = 1
-of_pending Calls = 0
-
--- what an open call counts
-abbrev pub of_call : Counted → ℕ
-of_call Steps = 0
-of_call Outputs = 0
-of_call Depth = 0
-of_call Notes = 0
-of_call Calls = 1
 
 -- what the note of a call counts while it is pending, if there is one
 abbrev pub of_note : Counted → Option ℕ → ℕ
@@ -69,7 +56,7 @@ of_note c (Some n) = of_pending c
 -- what it brings to run a note, if there is one
 abbrev pub of_play : Counted → Numbers → Option ℕ → ℕ
 of_play c N None = 0
-of_play c N (Some n) = of_step c + of_call c + N.left n 0
+of_play c N (Some n) = of_step c + N.left n 0
 
 -- what an instruction brings besides what comes after it in its procedure; `react` is the procedure of a reaction, and
 -- `owed` is what the notes bring that may be run at the place
@@ -81,10 +68,10 @@ brings c N react owed (Clear s) = 0
 brings c N react owed (Keep s) = 0
 brings c N react owed (Unless k test) = 0
 brings c N react owed (Skip k) = 0
-brings c N react owed (Call q tag) = of_note c tag + of_call c + N.left q 0
-brings c N react owed (Visit q tag) = of_step c + of_note c tag + of_call c + N.left q 0
-brings c N react owed (Send e) = of_step c + of_send c + of_call c + N.left react 0
-brings c N react owed (SendTo e s q) = of_step c + of_send c + of_call c + N.left q 0
+brings c N react owed (Call q tag) = of_note c tag + N.left q 0
+brings c N react owed (Visit q tag) = of_step c + of_note c tag + N.left q 0
+brings c N react owed (Send e) = of_step c + of_send c + N.left react 0
+brings c N react owed (SendTo e s q) = of_step c + of_send c + N.left q 0
 brings c N react owed Play = owed
 brings c N react owed (Home s) = 0
 brings c N react owed Begin = 0

@@ -1,5 +1,5 @@
 -- What an event of code takes at most.
-use Rattle.std.specs.Prelude.{◌≤◌, ◌<◌, ℕ, ◌+◌, pred, List, [], ◌∷◌, length, Option, Some, None}
+use Rattle.std.specs.Prelude.{◌≤◌, ◌<◌, ℕ, ◌+◌, List, [], ◌∷◌, length, Option, Some, None}
 use Rattle.flow_base.specs.declared.bounds.Bounds.{Bounds}
 use Rattle.flow_base.specs.declared.fault.Fault.{Fault}
 use Rattle.flow_base.specs.declared.fault.Fault.TheVariants as faults
@@ -10,7 +10,7 @@ use Rattle.code_language.specs.Code.{Code}
 use Rattle.code_language.specs.Machine.{Frame, Machine, Next, Goes, Stops}
 use Rattle.code_language.specs.Reactions.{program_of, start_machine, react_machine}
 use Rattle.code_counts.specs.declared.numbers.Counted.{Counted}
-use Rattle.code_counts.specs.declared.numbers.Counted.TheVariants.{Steps, Outputs, Depth, Notes, Calls}
+use Rattle.code_counts.specs.declared.numbers.Counted.TheVariants.{Steps, Outputs, Depth, Notes}
 use Rattle.code_counts.specs.declared.numbers.Counts.{Counts}
 
 -- one where there is a note, else none
@@ -23,13 +23,12 @@ unfoldable pub notes_of : List Frame → ℕ
 notes_of [] = 0
 notes_of (f ∷ fs) = note_count f.note + notes_of fs
 
--- how much a state of a run has of what is counted; the frame of the start or of the reaction is no open call
+-- how much a state of a run has of what is counted
 abbrev pub amount : Counted → Machine → ℕ
 amount Steps m = m.world.used
 amount Outputs m = length m.world.outputs
 amount Depth m = m.now.depth
 amount Notes m = notes_of m.frames
-amount Calls m = pred (length m.frames)
 
 -- how much the world in which a run ends has of what is counted
 abbrev pub end_amount : Counted → World → ℕ
@@ -37,7 +36,6 @@ end_amount Steps w = w.used
 end_amount Outputs w = length w.outputs
 end_amount Depth w = 0
 end_amount Notes w = 0
-end_amount Calls w = 0
 
 -- where so much is the most, a run ends by the fault `steps` or `depth` only under a bound that is lower
 abbrev pub MayFault : Counted → Bounds → ℕ → Option Fault → Type 0
@@ -53,7 +51,6 @@ MayFault Depth b most (Some (faults.Overflow v)) = Unit {0}
 MayFault Depth b most (Some faults.Zero) = Unit {0}
 MayFault Outputs b most fault = Unit {0}
 MayFault Notes b most fault = Unit {0}
-MayFault Calls b most fault = Unit {0}
 
 -- where a run stands there is no more than so much of what is counted
 abbrev pub IsWithin : Counted → Bounds → ℕ → Next → Type 0
@@ -72,4 +69,3 @@ pub record HasCounts (k : Code) (counts : Counts) : Type 0 where
   pub outputs : HasMost Outputs k counts.outputs
   pub depth : HasMost Depth k counts.depth
   pub notes : HasMost Notes k counts.notes
-  pub calls : HasMost Calls k counts.calls

@@ -1,5 +1,5 @@
 -- The bounds that the events of code need.
-use Rattle.std.specs.Prelude.{◌≡◌, ◌≤◌, ◌⊎◌, ◌↔◌, ℕ, Bool, IsTrue, IsFalse, List, length, Option, Some, None, IfSome}
+use Rattle.std.specs.Prelude.{◌≡◌, ◌≤◌, ◌⊎◌, ◌↔◌, ℕ, Bool, IsTrue, IsFalse, List, length, Option, Some, None}
 use Rattle.flow_base.specs.Bounds.{AreBounds}
 use Rattle.flow_base.specs.declared.bounds.Bounds.{Bounds}
 use Rattle.flow_base.specs.declared.fault.Fault.{Fault}
@@ -12,7 +12,7 @@ use Rattle.code_language.specs.Reactions.{Starts, Reacts, CodeRun}
 use Rattle.code_counts.specs.Claims.{HasMost}
 use Rattle.code_counts.specs.declared.numbers.Limits.{Limits}
 use Rattle.code_counts.specs.declared.numbers.Counted.{Counted}
-use Rattle.code_counts.specs.declared.numbers.Counted.TheVariants.{Steps, Depth, Calls}
+use Rattle.code_counts.specs.declared.numbers.Counted.TheVariants.{Steps, Depth}
 
 -- two bounds of what is counted are the same, or no event of the code takes more than either
 abbrev pub AreSameFor : Counted → Code → ℕ → ℕ → Type 0
@@ -45,7 +45,7 @@ pub record IsRoom (k : Code) (b : Bounds) (room : ℕ) : Type 0 where
 
 -- the bounds that were found serve the code in place of the given ones: the runs are the same, and a start and a
 -- reaction, from whatever world, end by the fault of a bound only where it is tested, and put out no more events than
--- there is room for; and no event has more open calls than the number that was found, where one was
+-- there is room for
 pub record IsLimit (k : Code) (b : Bounds) (found : Limits) : Type 0 where
   pub runs : (events : List EventWithInputs) (moments : List Moment)
       → CodeRun k b events moments ↔ CodeRun k found.bounds events moments
@@ -56,5 +56,4 @@ pub record IsLimit (k : Code) (b : Bounds) (found : Limits) : Type 0 where
   pub steps : Serves Steps k b.steps found.bounds.steps found.tests_steps
   pub depth : Serves Depth k b.depth found.bounds.depth found.tests_depth
   pub outputs : IsRoom k found.bounds found.outputs
-  pub calls : IfSome found.calls (HasMost Calls k)
   pub in_range : AreBounds b.depth b.steps → AreBounds found.bounds.depth found.bounds.steps

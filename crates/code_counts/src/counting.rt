@@ -56,14 +56,10 @@ pub fn counts(alloc: Global, code: &Code) -> Result<Option<Counts>, Memory>
     let Some(notes) = most(alloc, Counted::Notes, code)? else {
         return Ok(None);
     };
-    let Some(calls) = most(alloc, Counted::Calls, code)? else {
-        return Ok(None);
-    };
     Ok(Some(Counts {
         steps,
         outputs,
         depth,
         notes,
-        calls,
     }))
 }

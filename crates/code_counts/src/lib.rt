@@ -1,6 +1,5 @@
 //! How much an event of code can take at most, whatever the bounds of its run: steps, outputs,
-//! nested sends, notes that are pending and calls that are open at once; and the bounds and the
-//! room that it needs.
+//! nested sends and notes that are pending; and the bounds and the room that it needs.
 //!
 //! Read `specs/Certificate.antt`, the numbers at places and what is asked of them place by place;
 //! `specs/Claims.antt`, what they say of all runs; and `specs/Needed.antt`, what it says of bounds

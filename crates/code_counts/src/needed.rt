@@ -59,7 +59,7 @@ fn room_of(alloc: Global, code: &Code, bounds: Bounds) -> Result<u32, Memory>
 ///
 /// The most outputs of an event, as `most` finds them, are the room for them where they are no more
 /// than the bound of the steps, but at least 1. Else it is that bound, since each output takes a
-/// step. The open calls are those that `most` finds.
+/// step.
 ///
 /// # Errors
 ///
@@ -74,12 +74,10 @@ pub fn limits_of(alloc: Global, code: &Code, bounds: Bounds) -> Result<Limits, M
         steps: steps.bound,
     };
     let outputs = room_of(alloc, code, needed)?;
-    let calls = most(alloc, Counted::Calls, code)?;
     Ok(Limits {
         bounds: needed,
         tests_steps: steps.is_tested,
         tests_depth: depth.is_tested,
         outputs,
-        calls,
     })
 }

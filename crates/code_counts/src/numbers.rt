@@ -15,8 +15,6 @@ pub enum Counted {
     Depth,
     /// How many notes are pending at once.
     Notes,
-    /// How many calls are open at once, besides that of the start or of the reaction.
-    Calls,
 }
 
 /// How much an event can take at most, for the start and for all reactions.
@@ -32,12 +30,10 @@ pub struct Counts {
     pub depth: u32,
     /// How many notes are pending at once.
     pub notes: u32,
-    /// How many calls are open at once, besides that of the start or of the reaction.
-    pub calls: u32,
 }
 
 /// The bounds that the events of code need, which of them a run has to test, and how much room its
-/// outputs and its calls take.
+/// outputs take.
 ///
 /// Source: this project's choice.
 #[derive(Clone, Copy, Debug)]
@@ -50,9 +46,6 @@ pub struct Limits {
     pub tests_depth: bool,
     /// How many events an event puts out at most: 1 to the steps of `bounds`.
     pub outputs: u32,
-    /// How many calls are open at once at most, besides that of the start or of the reaction; none
-    /// where no such number was found, as where calls go round.
-    pub calls: Option<u32>,
 }
 
 /// The numbers at a place of code.

@@ -38,7 +38,7 @@ pub(crate) fn joined(counted: Counted, first: u64, second: u64) -> u64
 {
     match counted {
         Counted::Steps | Counted::Outputs => first + second,
-        Counted::Depth | Counted::Notes | Counted::Calls => first.max(second),
+        Counted::Depth | Counted::Notes => first.max(second),
     }
 }
 
@@ -49,7 +49,7 @@ fn of_step(counted: Counted) -> u64
 {
     match counted {
         Counted::Steps => 1,
-        Counted::Outputs | Counted::Depth | Counted::Notes | Counted::Calls => 0,
+        Counted::Outputs | Counted::Depth | Counted::Notes => 0,
     }
 }
 
@@ -60,7 +60,7 @@ fn of_output(counted: Counted) -> u64
 {
     match counted {
         Counted::Outputs => 1,
-        Counted::Steps | Counted::Depth | Counted::Notes | Counted::Calls => 0,
+        Counted::Steps | Counted::Depth | Counted::Notes => 0,
     }
 }
 
@@ -71,7 +71,7 @@ fn of_send(counted: Counted) -> u64
 {
     match counted {
         Counted::Depth => 1,
-        Counted::Steps | Counted::Outputs | Counted::Notes | Counted::Calls => 0,
+        Counted::Steps | Counted::Outputs | Counted::Notes => 0,
     }
 }
 
@@ -82,18 +82,7 @@ fn of_pending(counted: Counted) -> u64
 {
     match counted {
         Counted::Notes => 1,
-        Counted::Steps | Counted::Outputs | Counted::Depth | Counted::Calls => 0,
-    }
-}
-
-/// What an open call counts.
-fn of_call(counted: Counted) -> u64
-    ensures count { result ≡ spec.of_call counted }
-    ensures few { result ≤ 1 }
-{
-    match counted {
-        Counted::Calls => 1,
-        Counted::Steps | Counted::Outputs | Counted::Depth | Counted::Notes => 0,
+        Counted::Steps | Counted::Outputs | Counted::Depth => 0,
     }
 }
 
@@ -122,7 +111,7 @@ pub(crate) fn of_play(counted: Counted, rows: &[Vec<Mark>], note: Option<u32>) -
     ensures few { result ≤ PART_LIMIT }
 {
     match note {
-        Some(proc) => of_step(counted) + of_call(counted) + of_proc(rows, proc),
+        Some(proc) => of_step(counted) + of_proc(rows, proc),
         None => 0,
     }
 }
@@ -142,18 +131,12 @@ pub(crate) fn brings(
 {
     match instr {
         Instr::Emit(_) => of_step(counted) + of_output(counted),
-        Instr::Call(proc, note) => {
-            of_note(counted, *note) + of_call(counted) + of_proc(rows, *proc)
-        }
+        Instr::Call(proc, note) => of_note(counted, *note) + of_proc(rows, *proc),
         Instr::Visit(proc, note) => {
-            of_step(counted) + of_note(counted, *note) + of_call(counted) + of_proc(rows, *proc)
+            of_step(counted) + of_note(counted, *note) + of_proc(rows, *proc)
         }
-        Instr::Send(_) => {
-            of_step(counted) + of_send(counted) + of_call(counted) + of_proc(rows, react)
-        }
-        Instr::SendTo(_, _, proc) => {
-            of_step(counted) + of_send(counted) + of_call(counted) + of_proc(rows, *proc)
-        }
+        Instr::Send(_) => of_step(counted) + of_send(counted) + of_proc(rows, react),
+        Instr::SendTo(_, _, proc) => of_step(counted) + of_send(counted) + of_proc(rows, *proc),
         Instr::Play => owed as u64,
         Instr::Assign(_, _)
         | Instr::Mark(_)

@@ -9,7 +9,7 @@ use Rattle.std.specs.List.{list_all}
 use Rattle.c_subset.specs.Trees.{Function}
 use Rattle.c_text.specs.Labels.{Labels}
 use Rattle.c_file.specs.declared.calls.FunctionCall.{FunctionCall}
-use Rattle.c_file.specs.declared.passes.Uses.{Uses}
+use Rattle.c_file.specs.declared.known.Uses.{Uses}
 use Rattle.c_file.specs.Calls.{call_to, calls_from}
 use Rattle.c_file.specs.Reached.{IsFlagged, ReachedFromOutside, ReachedByCall, AreReached}
 use Rattle.c_file.specs.Made.{AreUses}

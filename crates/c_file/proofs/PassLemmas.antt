@@ -8,7 +8,7 @@ use Rattle.c_subset.specs.Trees.{Function}
 use Rattle.c_subset.specs.Lines.{lines_of}
 use Rattle.c_text.specs.Labels.{Labels}
 use Rattle.c_file.specs.declared.calls.FunctionCall.{FunctionCall}
-use Rattle.c_file.specs.declared.passes.Uses.{Uses}
+use Rattle.c_file.specs.declared.known.Uses.{Uses}
 use Rattle.c_file.specs.Calls.{calls_in, calls_from}
 use Rattle.c_file.specs.Reached.{outside_of, AreOutside, AreReached}
 use Rattle.c_file.specs.Closing.{Closes}

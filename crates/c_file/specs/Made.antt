@@ -7,7 +7,7 @@ use Rattle.c_text.specs.Labels.{Labels, labels_of}
 use Rattle.c_expression_writer.specs.FileShapes.{shape_seen}
 use Rattle.c_writer.specs.Functions.{IsShapeOf}
 use Rattle.c_file.specs.declared.made.Made.{Made}
-use Rattle.c_file.specs.declared.passes.Uses.{Uses}
+use Rattle.c_file.specs.declared.known.Uses.{Uses}
 use Rattle.c_file.specs.Comments.{AreOfChart}
 use Rattle.c_file.specs.Functions.{written_file}
 use Rattle.c_file.specs.Calls.{calls_in, calls_from}

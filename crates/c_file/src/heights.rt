@@ -8,8 +8,8 @@ ghost use Rattle.c_file.specs.Heights as spec;
 ghost use Rattle.c_file.specs.Made.{IsMade, functions_of};
 
 use crate::calls::{FunctionCall, flag_of};
+use crate::known::{Uses, uses_of};
 use crate::made::Made;
-use crate::passes::{Uses, uses_of};
 use flow_base::Memory;
 use std::alloc::Global;
 

@@ -9,8 +9,8 @@ ghost use Rattle.c_file.specs.Source as spec;
 ghost use Rattle.c_file.specs.Uses.{is_wide};
 
 use crate::comments::print_comment;
+use crate::known::{Uses, is_outside, uses_of};
 use crate::made::Made;
-use crate::passes::{Uses, is_outside, uses_of};
 use c_text::{function_kind, print_function, print_prototype};
 use code_fields::print_number;
 use flow_base::Memory;

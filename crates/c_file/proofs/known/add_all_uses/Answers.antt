@@ -1,6 +1,6 @@
 use Rattle.std.proofs.Common.{arith}
 use Rattle.c_file.proofs.PassLemmas.{passing_starts, passing_goes_on, passing_ends}
-use Rattle.c_file.proofs.passes.add_all_uses.Goals as goal
+use Rattle.c_file.proofs.known.add_all_uses.Goals as goal
 
 pub loop-number-init : goal.loop-number-init
 loop-number-init c = passing_starts _ _

@@ -1,7 +1,7 @@
 use Rattle.std.proofs.Common.{◌++◌, ◌∷◌, [], ap, ◌∙◌, arith}
 use Rattle.c_file.specs.Reached.{is_outside}
 use Rattle.c_file.proofs.PassLemmas.{outside_none, outside_more, outside_ends}
-use Rattle.c_file.proofs.passes.outside_flags.Goals as goal
+use Rattle.c_file.proofs.known.outside_flags.Goals as goal
 
 pub loop-number-init : goal.loop-number-init
 loop-number-init c = outside_none _ _ c.new-flags.ensures.items

@@ -5,7 +5,7 @@ use Rattle.c_file.specs.Made.{functions_of}
 use Rattle.c_file.specs.Reached.{AreReached}
 use Rattle.c_file.specs.Closing.{Closes}
 use Rattle.c_file.proofs.PassLemmas.{uses_reached, uses_calls, uses_wide}
-use Rattle.c_file.proofs.passes.uses_of.Goals as goal
+use Rattle.c_file.proofs.known.uses_of.Goals as goal
 
 pub returns : goal.returns
 returns c =

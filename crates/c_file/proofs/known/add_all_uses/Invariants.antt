@@ -1,6 +1,6 @@
 use Rattle.c_file.specs.Made.{functions_of}
 use Rattle.c_file.proofs.PassLemmas.{Passing}
-use Rattle.c_file.proofs.passes.add_all_uses.Given as goal
+use Rattle.c_file.proofs.known.add_all_uses.Given as goal
 
 -- the functions before the number are known
 abbrev pub invariant-loop-number : goal.invariant-loop-number

@@ -9,6 +9,9 @@ use code_language::Code;
 use flow_base::Memory;
 use std::alloc::Global;
 
+/// How many functions there are besides those of procedures.
+const OTHER_FUNCTIONS: u32 = 10;
+
 /// What both files of a chart are made from. Functions are made one at a time.
 #[derive(Drop)]
 pub(crate) struct Made<'a> {
@@ -30,12 +33,12 @@ impl Made<'_> {
     ghost use Rattle.c_subset.specs.Lines.{IsFunction};
     ghost use Rattle.c_file.specs.Made.{IsMade, functions_of};
 
-    /// How many functions there are: those of procedures, and ten others.
+    /// How many functions there are: those of procedures, and others.
     pub fn count(&self) -> u32
         requires is { IsMade self.now }
         ensures { result ≡ length (functions_of self.now) }
     {
-        self.shape.procs + 10
+        self.shape.procs + OTHER_FUNCTIONS
     }
 
     /// The function of that number. One of a procedure is a loop where it may be.

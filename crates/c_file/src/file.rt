@@ -95,8 +95,7 @@ pub fn header(alloc: Global, chart: &Chart, bounds: Bounds) -> Result<String, Me
 {
     let written = written_code(alloc, chart, bounds)?;
     let made = made_of(alloc, chart, &written)?;
-    let text = printed_header(alloc, &made)?;
-    Ok(text)
+    printed_header(alloc, &made)
 }
 
 /// The source of a chart's C under these bounds: what the header declares, and the functions that
@@ -118,6 +117,5 @@ pub fn source(alloc: Global, chart: &Chart, bounds: Bounds) -> Result<String, Me
     let _ = chart.shape();
     let written = written_code(alloc, chart, bounds)?;
     let made = made_of(alloc, chart, &written)?;
-    let text = printed_source(alloc, &made)?;
-    Ok(text)
+    printed_source(alloc, &made)
 }

@@ -1,3 +1,4 @@
+use Rattle.std.proofs.lemmas.Result.{IfOk-weaker}
 use Rattle.code_language.specs.Code.{code_of}
 use Rattle.c_expression_writer.specs.FileShapes.{tests_seen}
 use Rattle.c_file.proofs.SourceLemmas.{header_is}
@@ -7,7 +8,8 @@ pub returns : goal.returns
 returns c =
     let w = c.in_ok-written.written in
     let is = c.in_ok-written.ensures in
-    record {
+    IfOk-weaker c.printed_header.result _ _
+    (λ text printed. record {
       code = code_of w.code;
       tags = w.tags.items;
       origins = w.origins.items;
@@ -16,5 +18,5 @@ returns c =
       room = w.outputs;
       is_written = is.is_written;
       serves = is.serves;
-      is_text = header_is c.in_ok-made.ensures _ c.in_ok-text.ensures;
-    }
+      is_text = header_is c.in_ok-made.ensures _ printed;
+    }) c.printed_header.ensures

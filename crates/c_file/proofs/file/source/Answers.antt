@@ -1,4 +1,5 @@
 use Rattle.std.proofs.Common.{length}
+use Rattle.std.proofs.lemmas.Result.{IfOk-weaker}
 use Rattle.checked_chart.specs.Kept.{chart_of}
 use Rattle.code_language.specs.Code.{code_of}
 use Rattle.c_procedures.specs.Writer.{plans_of}
@@ -12,7 +13,8 @@ pub returns : goal.returns
 returns c =
     let w = c.in_ok-written.written in
     let is = c.in_ok-written.ensures in
-    record {
+    IfOk-weaker c.printed_source.result _ _
+    (λ text printed. record {
       code = code_of w.code;
       tags = w.tags.items;
       origins = w.origins.items;
@@ -20,7 +22,7 @@ returns c =
       limits = w.limits;
       room = w.outputs;
       is_written = is.is_written;
-      is_text = source_is c.in_ok-made.ensures _ c.in_ok-text.ensures;
+      is_text = source_is c.in_ok-made.ensures _ printed;
       runs = λ int s events moments small has given rules.
           c.loops_run_as_calls.ensures.runs (length (code_of w.code).procedures.procs)
           (shape_of (code_of w.code) (tests_seen w.tests) w.limits w.outputs)
@@ -29,4 +31,4 @@ returns c =
           (c.files_of_code_that_serves_run_as_charts.ensures (chart_of c.args.chart.now) c.args.bounds
           (code_of w.code) (tests_seen w.tests) w.limits w.outputs c.shape.ensures.valid
           is.fits is.serves is.after int s events moments small has given rules);
-    }
+    }) c.printed_source.ensures

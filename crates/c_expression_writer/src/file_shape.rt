@@ -119,6 +119,20 @@ impl FileShape<'_> {
         self.names.vars.items().len() as u32
     }
 
+    /// The function of the start.
+    pub fn start_function(&self) -> u32
+        ensures { result ≡ plans.start_function (shape_seen self.now) }
+    {
+        self.procs + 8
+    }
+
+    /// The function of a reaction.
+    pub fn react_function(&self) -> u32
+        ensures { result ≡ plans.react_function (shape_seen self.now) }
+    {
+        self.procs + 9
+    }
+
     /// The field of how many entries of `out[]` are in use.
     pub fn outs_field(&self) -> u32
         ensures { result ≡ plans.outs_field (shape_seen self.now) }

@@ -188,7 +188,7 @@ fn print_start(
         ++ spec.start_text (labels_of labels.now) (shape_seen shape.now)) }
 {
     out.push_str("/* Begins a run. */\n")?;
-    print_prototype(out, labels, shape.procs + 8)
+    print_prototype(out, labels, shape.start_function())
 }
 
 /// Appends the call for an event.
@@ -208,6 +208,6 @@ fn print_react(
         chart,
         "_TICK or one of the input events. */\n",
     )?;
-    print_prototype(out, labels, shape.procs + 9)?;
+    print_prototype(out, labels, shape.react_function())?;
     out.push_str("\n")
 }

@@ -11,7 +11,7 @@ use Rattle.c_header.proofs.header.print_start.Goals as goal
 pub returns : goal.returns
 unfolding start_text
 returns c =
-    last _ _ _ _ c.print_prototype.ensures
+    last _ _ _ _ (rw c.start_function.ensures at c.print_prototype.ensures)
     (rw c.in_ok-push_str.ensures.bytes
     (append_assoc (string_bytes c.args.out.now) (codes "/* Begins a run. */\n")
     (prototype_text (labels_of c.args.labels.now) (start_function (shape_seen c.args.shape.now)))))

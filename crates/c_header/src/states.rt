@@ -3,7 +3,6 @@ ghost use Rattle.std.specs.Prelude.{◌≡◌, ◌<◌, ◌++◌, string_bytes, 
 ghost use Rattle.active_config.specs.Tree.{IsTree, state_count};
 ghost use Rattle.active_config.specs.Tree as trees;
 ghost use Rattle.c_expression_writer.specs.FileShapes.{shape_seen};
-ghost use Rattle.c_procedures.specs.States.{is_or};
 ghost use Rattle.c_functions.specs.Layout.{on_c};
 ghost use Rattle.c_functions.specs.Plans.{layout};
 ghost use Rattle.c_text.specs.declared.kinds.Kind.TheVariants.{Outside};
@@ -15,9 +14,9 @@ ghost use Rattle.c_header.specs.Header as spec;
 use crate::fields::{print_commented, print_field};
 use crate::paths::{Form, name_of, print_path, print_place};
 use crate::words::print_named;
-use active_config::{Comp, Shape};
+use active_config::Shape;
 use c_expression_writer::FileShape;
-use c_text::{Labels, print_test};
+use c_text::{Labels, is_or, print_test};
 use code_fields::print_number;
 use std::alloc::{AllocError, Global};
 
@@ -91,16 +90,6 @@ fn print_state(
                 print_test_of(alloc, out, chart, labels, shape, state)
             }
         }
-    }
-}
-
-/// Whether a state with that composition is an OR.
-fn is_or(comp: Comp) -> bool
-    ensures { result ≡ is_or comp }
-{
-    match comp {
-        Comp::Or => true,
-        Comp::Leaf | Comp::And => false,
     }
 }
 

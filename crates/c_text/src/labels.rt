@@ -52,8 +52,8 @@ fn count_ors(tree: &Shape) -> u32
     ors
 }
 
-/// Whether a state is an OR.
-fn is_or(comp: Comp) -> bool
+/// Whether a state with that composition is an OR.
+pub fn is_or(comp: Comp) -> bool
     ensures { result ≡ is_or comp }
 {
     match comp {

@@ -1,7 +1,7 @@
 -- Passes over the calls of a file set the flags of exactly those functions that are reached.
 use Rattle.std.proofs.Common.{◌≡◌, ℕ, zero, suc, ◌+◌, ◌<◌, ◌≤◌, ⊎_elim, ◌&&◌, ◌||◌, not, Bool, true, false, List, []}
-use Rattle.std.proofs.Common.{◌∷◌, length, drop, Some, slice_get, slice_index_or, slice_set, if◌then◌else◌, get_or, refl}
-use Rattle.std.proofs.Common.{sym, ap, ◌∙◌, subst, arith}
+use Rattle.std.proofs.Common.{◌∷◌, length, drop, Some, slice_get, slice_index_or, slice_set, if◌then◌else◌, get_or}
+use Rattle.std.proofs.Common.{refl, sym, ap, ◌∙◌, subst, arith}
 use Rattle.std.proofs.lemmas.List.{at_drop_more, at_drop_all}
 use Rattle.c_subset.specs.Trees.{Function}
 use Rattle.c_text.specs.Labels.{Labels}

@@ -102,8 +102,8 @@ data IsFunction (chart : List ℕ) : List ℕ → Type 0 where
   Start : {name : List ℕ} → name ≡ chart ++ codes "_start" → IsFunction chart name
   React : {name : List ℕ} → name ≡ chart ++ codes "_react" → IsFunction chart name
 
--- what stands after the chart's name in other names of header and source; one byte stands in it that the name that is replaced
--- has only from the chart's
+-- what stands after the chart's name in other names of header and source; one byte stands in it that the name that is
+-- replaced has only from the chart's
 record IsRest (rest : List ℕ) : Type 0 where
   heavy : 2 ≤ weight rest
   no_start : get_or rest 1 0 ≢ 115

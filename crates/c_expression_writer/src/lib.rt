@@ -26,5 +26,5 @@ pub use ends::{greatest, least};
 pub use expressions::write_test;
 pub use fault_tests::Tests;
 pub use file_shape::FileShape;
-pub use lines::{number, put, write_fault};
+pub use lines::{BAD, number, put, write_fault};
 pub use quotients::helper;

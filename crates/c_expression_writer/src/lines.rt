@@ -12,8 +12,10 @@ use crate::file_shape::FileShape;
 use c_subset::{CExpr, CType, Line, Width};
 use flow_base::{Fault, List, Memory};
 
-/// What a function returns after a fault.
-const BAD: u32 = u32::MAX;
+/// What a function returns after a fault: no result of code.
+///
+/// Source: this project's choice.
+pub const BAD: u32 = u32::MAX;
 
 /// Appends a line.
 pub fn put(out: &mut List<Line>, line: Line) -> Result<(), Memory>

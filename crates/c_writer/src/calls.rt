@@ -8,13 +8,10 @@ ghost use Rattle.c_writer.specs.Calls.{own_arguments, send_arguments};
 ghost use Rattle.c_writer.specs.Pieces.{tested_result};
 
 use crate::pieces::{WORD, local, put_return};
-use c_expression_writer::{FileShape, number, put};
+use c_expression_writer::{BAD, FileShape, number, put};
 use c_subset::{Arithmetic, CExpr, CType, Comparison, Line};
 use flow_base::{List, Memory};
 use std::alloc::Global;
-
-/// What a function returns after a fault.
-pub(crate) const BAD: u32 = u32::MAX;
 
 /// One argument.
 fn one(alloc: Global, argument: CExpr) -> Result<List<CExpr>, Memory>

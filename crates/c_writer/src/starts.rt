@@ -10,11 +10,11 @@ ghost use Rattle.c_functions.specs.Starts as starts;
 ghost use Rattle.c_expression_writer.specs.FileShapes.{shape_seen};
 ghost use Rattle.c_writer.specs.Starting.{clear_counts, nothing_of, value_of};
 
-use crate::calls::{BAD, five};
+use crate::calls::five;
 use crate::helpers::one_word;
 use crate::pieces::{WORD, local, put_return, put_store};
 use actions::{Sort, Var};
-use c_expression_writer::{FileShape, number, put};
+use c_expression_writer::{BAD, FileShape, number, put};
 use c_subset::{CExpr, CType, Comparison, Function, Line, Width};
 use flow_base::{List, Memory};
 use std::alloc::Global;

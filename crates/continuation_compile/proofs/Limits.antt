@@ -3,6 +3,7 @@ use Rattle.std.proofs.Common.{◌≡◌, ℕ, zero, suc, ◌*◌, ◌<◌, ◌�
 use Rattle.std.proofs.Common.{arith, sum_by}
 use Rattle.std.specs.Prelude.{slice_index_or}
 use Rattle.std.proofs.lemmas.List.Sums.{sum_by-cons}
+use Rattle.flow_base.specs.declared.chart_limits.TheConstants.{STATE_LIMIT, JUNCTION_LIMIT}
 use Rattle.active_config.specs.Tree.{Tree, IsTree, state_count}
 use Rattle.actions.specs.Exprs.{Expr, Stmt}
 use Rattle.checked_chart.specs.declared.parts.ListKind.{ListKind}
@@ -16,6 +17,7 @@ use Rattle.chart_layout.specs.ReachedJunctions.{reached}
 use Rattle.chart_layout.proofs.EndsLemmas.{end_is}
 use Rattle.chart_layout.proofs.Weights.{at_most_all}
 use Rattle.chart_layout.proofs.ReachedLemmas.{are_reached, list_valid}
+use Rattle.continuation_compile.specs.declared.number_limits.TheConstants.{LIST_PARTS_LIMIT}
 
 -- what stands at a place is one of those that are summed
 one_of_sum : {A : Type 0} (f : A → ℕ) (xs : List A) (i : ℕ) (d : A) → f d ≡ 0 → f (slice_index_or xs i d) ≤ sum_by f xs
@@ -50,7 +52,7 @@ kind_low n Default = omega arith
 
 module _ (c : Chart) (valid : IsValid c) where
   -- the parts of a list of a state
-  pub list_parts_low : (s : ℕ) (kind : ListKind) → parts_size (list_of c s kind) ≤ 32768
+  pub list_parts_low : (s : ℕ) (kind : ListKind) → parts_size (list_of c s kind) ≤ LIST_PARTS_LIMIT
   unfolding node no_node
   list_parts_low s kind =
       omega (
@@ -62,7 +64,7 @@ module _ (c : Chart) (valid : IsValid c) where
       )
 
   -- the parts of the list of a junction
-  pub junction_parts_low : (j : ℕ) → parts_size (junction c j) ≤ 32768
+  pub junction_parts_low : (j : ℕ) → parts_size (junction c j) ≤ LIST_PARTS_LIMIT
   unfolding junction
   junction_parts_low j =
       omega (
@@ -73,17 +75,18 @@ module _ (c : Chart) (valid : IsValid c) where
       )
 
   -- how many junctions a list reaches
-  pub reached_low : (list : List Trans) → AreTrans c list → length (reached c list) ≤ 4096
+  pub reached_low : (list : List Trans) → AreTrans c list → length (reached c list) ≤ JUNCTION_LIMIT
   reached_low list are =
       let all = are_reached c valid list are in
       omega (arith, at_most_all (reached c list) (junction_count c) all.once all.within, valid.limits.junctions)
 
   -- how many junctions a list of a state reaches
-  pub reached_count_low : (s : ℕ) (kind : ListKind) → reached_count c s kind ≤ 4096
+  pub reached_count_low : (s : ℕ) (kind : ListKind) → reached_count c s kind ≤ JUNCTION_LIMIT
   unfolding reached_count
   reached_count_low s kind = reached_low (list_of c s kind) (list_valid c valid s kind)
 
 -- how many states are below a state
-pub below_low : (t : Tree) → IsTree t → state_count t ≤ 1024 → (s : ℕ) → s < state_count t → below_count t s ≤ 1024
+pub below_low : (t : Tree) → IsTree t → state_count t ≤ STATE_LIMIT → (s : ℕ) → s < state_count t
+    → below_count t s ≤ STATE_LIMIT
 unfolding below_count
 below_low t tree few s lt = omega (arith, (end_is t tree s lt).within, few)

@@ -4,6 +4,7 @@ use Rattle.std.proofs.Common.{arith, inl, inr, length-append, subst}
 use Rattle.std.specs.Prelude.{slice_index_or}
 use Rattle.std.proofs.lemmas.Bool.{cases_lt}
 use Rattle.chart_layout.specs.Orders.{sum_to}
+use Rattle.continuation_compile.specs.declared.number_limits.TheConstants.{SIZE_LIMIT, SUM_LIMIT}
 use Rattle.continuation_compile.specs.Tables.{IsTable, AreLow}
 
 -- what stands in a list stands in it with one more after it
@@ -51,7 +52,7 @@ pub table_within : (f : ℕ → ℕ) (n b d : ℕ) (xs : List ℕ) → IsTable f
 table_within f n b d xs t h = record { long = t.long; each = t.each; low = λ k lt. omega (arith, t.low k lt) }
 
 -- sums of low numbers are low
-pub sums_low : (f : ℕ → ℕ) (n k : ℕ) → ((i : ℕ) → i < n → f i ≤ 131072) → k ≤ n → sum_to f k ≤ k * 131072
+pub sums_low : (f : ℕ → ℕ) (n k : ℕ) → ((i : ℕ) → i < n → f i ≤ SIZE_LIMIT) → k ≤ n → sum_to f k ≤ k * SIZE_LIMIT
 unfolding sum_to
 sums_low f n zero low h = omega arith
 sums_low f n (suc k) low h = omega (arith, sums_low f n k low (omega arith), low k (omega arith))
@@ -66,9 +67,9 @@ table_same f g n b xs e t = record {
 }
 
 -- a table of sums
-pub table_sums : (f : ℕ → ℕ) (n : ℕ) (xs sums : List ℕ) → IsTable f n 131072 xs
-    → ((f : ℕ → ℕ) → IsTable f (length xs) 131072 xs → IsTable (sum_to f) (suc (length xs)) 536870912 sums)
-    → IsTable (sum_to f) (suc n) 536870912 sums
+pub table_sums : (f : ℕ → ℕ) (n : ℕ) (xs sums : List ℕ) → IsTable f n SIZE_LIMIT xs
+    → ((f : ℕ → ℕ) → IsTable f (length xs) SIZE_LIMIT xs → IsTable (sum_to f) (suc (length xs)) SUM_LIMIT sums)
+    → IsTable (sum_to f) (suc n) SUM_LIMIT sums
 table_sums f n xs sums t h =
-    subst (λ m. IsTable (sum_to f) (suc m) 536870912 sums) t.long
-    (h f (subst (λ m. IsTable f m 131072 xs) (sym t.long) t))
+    subst (λ m. IsTable (sum_to f) (suc m) SUM_LIMIT sums) t.long
+    (h f (subst (λ m. IsTable f m SIZE_LIMIT xs) (sym t.long) t))

@@ -1,5 +1,6 @@
 -- Searches as contracts see them.
 use Rattle.std.specs.Prelude.{◌≡◌, ◌<◌, ◌≤◌, length}
+use Rattle.flow_base.specs.declared.chart_limits.TheConstants.{JUNCTION_LIMIT}
 use Rattle.active_config.specs.Tree.{state_count}
 use Rattle.checked_chart.specs.declared.parts.ListKind.{ListKind}
 use Rattle.checked_chart.specs.declared.parts.ListKind.TheVariants.{Outer, Inner, Default}
@@ -9,6 +10,7 @@ use Rattle.chart_layout.specs.Places.{numbers, list_numbers, list_at}
 use Rattle.chart_layout.specs.ReachedJunctions.{reached}
 use Rattle.continuation_compile.specs.declared.blocks.Lasting.{Lasting}
 use Rattle.continuation_compile.specs.declared.blocks.Lasting.TheVariants.{On, Bare}
+use Rattle.continuation_compile.specs.declared.number_limits.TheConstants.{SEARCH_LIMIT}
 use Rattle.continuation_compile.specs.declared.searches.Search.{Search}
 
 -- what the procedures of a list share
@@ -26,5 +28,5 @@ pub record IsSearch (c : Chart) (S : Search) : Type 0 where
   pub state : S.state < state_count c.tree
   pub first : S.first ≡ list_at c S.state S.kind
   pub found : S.found.now ≡ reached c (list_of c S.state S.kind)
-  pub few : length S.found.now ≤ 4096
-  pub low : S.first ≤ 2147500000
+  pub few : length S.found.now ≤ JUNCTION_LIMIT
+  pub low : S.first ≤ SEARCH_LIMIT

@@ -1,11 +1,13 @@
 //! Tables of how many things each state and each junction has.
 ghost use Rattle.std.specs.Prelude.{◌≡◌, ◌<◌, ◌≤◌, ◌+◌, ◌*◌, length, slice_index_or, IfOk};
+ghost use Rattle.flow_base.specs.declared.chart_limits.TheConstants.{STATE_LIMIT, JUNCTION_LIMIT};
 ghost use Rattle.flow_base.specs.Lists.{items_of};
 ghost use Rattle.active_config.specs.Tree.{IsTree, state_count};
 ghost use Rattle.checked_chart.specs.Chart.{junction_count};
 ghost use Rattle.checked_chart.specs.Kept.{chart_of};
 ghost use Rattle.chart_layout.specs.Ends as ends;
 ghost use Rattle.chart_layout.specs.Places as places;
+ghost use Rattle.continuation_compile.specs.declared.number_limits.TheConstants as limits;
 ghost use Rattle.continuation_compile.specs.Tables.{IsTable, AreLow};
 
 use crate::reached::reached;
@@ -19,9 +21,10 @@ use std::alloc::Global;
 /// How many states are strictly below each state.
 pub(crate) fn below_counts(alloc: Global, shape: &Shape) -> Result<List<u32>, Memory>
     requires tree { IsTree shape.now }
-    requires few { state_count shape.now ≤ 1024 }
+    requires few { state_count shape.now ≤ STATE_LIMIT }
     ensures { IfOk result (λ counts.
-        IsTable (ends.below_count shape.now) (state_count shape.now) 1024 (items_of counts)) }
+        IsTable (ends.below_count shape.now) (state_count shape.now) STATE_LIMIT
+        (items_of counts)) }
 {
     let mut counts = List::of(Vec::new(alloc));
     for s in 0..shape.len() {
@@ -37,7 +40,7 @@ pub(crate) fn reached_counts(
     kind: ListKind,
 ) -> Result<List<u32>, Memory>
     ensures { IfOk result (λ counts. IsTable (λ s. places.reached_count (chart_of chart.now) s kind)
-        (state_count (chart_of chart.now).tree) 4096 (items_of counts)) }
+        (state_count (chart_of chart.now).tree) JUNCTION_LIMIT (items_of counts)) }
 {
     let mut counts = List::of(Vec::new(alloc));
     for s in 0..chart.shape().len() {
@@ -52,7 +55,7 @@ pub(crate) fn list_parts_size(chart: &Chart, state: u32, kind: ListKind) -> u32
     requires { state < state_count (chart_of chart.now).tree }
     ensures size { result ≡ places.parts_size
         (Rattle.checked_chart.specs.Chart.list_of (chart_of chart.now) state kind) }
-    ensures low { result ≤ 32768 }
+    ensures low { result ≤ limits.LIST_PARTS_LIMIT }
 {
     // Only the proof reads the tree: the chart is valid.
     let _ = chart.shape();
@@ -64,7 +67,7 @@ pub(crate) fn list_parts_size(chart: &Chart, state: u32, kind: ListKind) -> u32
 fn state_parts_size(chart: &Chart, state: u32) -> u32
     requires { state < state_count (chart_of chart.now).tree }
     ensures size { result ≡ places.state_parts_size (chart_of chart.now) state }
-    ensures low { result ≤ 98304 }
+    ensures low { result ≤ limits.STATE_PARTS_LIMIT }
 {
     list_parts_size(chart, state, ListKind::Outer)
         + list_parts_size(chart, state, ListKind::Inner)
@@ -74,7 +77,7 @@ fn state_parts_size(chart: &Chart, state: u32) -> u32
 /// How many procedures the parts of the transitions of each state have.
 pub(crate) fn state_parts_sizes(alloc: Global, chart: &Chart) -> Result<List<u32>, Memory>
     ensures { IfOk result (λ sizes. IsTable (places.state_parts_size (chart_of chart.now))
-        (state_count (chart_of chart.now).tree) 131072 (items_of sizes)) }
+        (state_count (chart_of chart.now).tree) limits.SIZE_LIMIT (items_of sizes)) }
 {
     let mut sizes = List::of(Vec::new(alloc));
     for s in 0..chart.shape().len() {
@@ -88,7 +91,7 @@ pub(crate) fn state_parts_sizes(alloc: Global, chart: &Chart) -> Result<List<u32
 fn junction_parts_size(chart: &Chart, junction: u32) -> u32
     requires { junction < junction_count (chart_of chart.now) }
     ensures size { result ≡ places.junction_parts_size (chart_of chart.now) junction }
-    ensures low { result ≤ 32768 }
+    ensures low { result ≤ limits.LIST_PARTS_LIMIT }
 {
     // Only the proof reads the tree: the chart is valid.
     let _ = chart.shape();
@@ -98,7 +101,7 @@ fn junction_parts_size(chart: &Chart, junction: u32) -> u32
 /// How many procedures the parts of the transitions of each junction have.
 pub(crate) fn junction_parts_sizes(alloc: Global, chart: &Chart) -> Result<List<u32>, Memory>
     ensures { IfOk result (λ sizes. IsTable (places.junction_parts_size (chart_of chart.now))
-        (junction_count (chart_of chart.now)) 131072 (items_of sizes)) }
+        (junction_count (chart_of chart.now)) limits.SIZE_LIMIT (items_of sizes)) }
 {
     let mut sizes = List::of(Vec::new(alloc));
     for j in 0..chart.junctions() {
@@ -115,11 +118,11 @@ pub(crate) fn group_sizes(
     default: &List<u32>,
 ) -> Result<List<u32>, Memory>
     requires same { length (items_of below.now) ≡ length (items_of default.now) }
-    requires few { length (items_of below.now) ≤ 1024 }
-    requires below { AreLow 1024 (items_of below.now) }
-    requires default { AreLow 4096 (items_of default.now) }
+    requires few { length (items_of below.now) ≤ STATE_LIMIT }
+    requires below { AreLow STATE_LIMIT (items_of below.now) }
+    requires default { AreLow JUNCTION_LIMIT (items_of default.now) }
     ensures { IfOk result (λ sizes. IsTable (λ s. 3 * slice_index_or (items_of below.now) s 0 + 7
-        + slice_index_or (items_of default.now) s 0) (length (items_of below.now)) 131072
+        + slice_index_or (items_of default.now) s 0) (length (items_of below.now)) limits.SIZE_LIMIT
         (items_of sizes)) }
 {
     let mut sizes = List::of(Vec::new(alloc));
@@ -137,11 +140,11 @@ pub(crate) fn lists_sizes(
     inner: &List<u32>,
 ) -> Result<List<u32>, Memory>
     requires same { length (items_of outer.now) ≡ length (items_of inner.now) }
-    requires few { length (items_of outer.now) ≤ 1024 }
-    requires outer { AreLow 4096 (items_of outer.now) }
-    requires inner { AreLow 4096 (items_of inner.now) }
+    requires few { length (items_of outer.now) ≤ STATE_LIMIT }
+    requires outer { AreLow JUNCTION_LIMIT (items_of outer.now) }
+    requires inner { AreLow JUNCTION_LIMIT (items_of inner.now) }
     ensures { IfOk result (λ sizes. IsTable (λ s. 2 + slice_index_or (items_of outer.now) s 0
-        + slice_index_or (items_of inner.now) s 0) (length (items_of outer.now)) 131072
+        + slice_index_or (items_of inner.now) s 0) (length (items_of outer.now)) limits.SIZE_LIMIT
         (items_of sizes)) }
 {
     let mut sizes = List::of(Vec::new(alloc));

@@ -9,6 +9,7 @@
 mod blocks;
 mod counts;
 mod draft;
+pub mod number_limits;
 mod numbering;
 mod offsets;
 mod parts;

@@ -1,11 +1,13 @@
 //! The numbers of the procedures of a chart.
 ghost use Rattle.std.specs.Prelude.{◌≡◌, ◌<◌, ◌≤◌, ◌+◌, ◌*◌, IfOk};
+ghost use Rattle.flow_base.specs.declared.chart_limits.TheConstants.{STATE_LIMIT, JUNCTION_LIMIT};
 ghost use Rattle.active_config.specs.Tree.{state_count};
 ghost use Rattle.checked_chart.specs.Chart.{junction_count};
 ghost use Rattle.checked_chart.specs.declared.parts.ListKind.TheVariants.{Outer, Default};
 ghost use Rattle.checked_chart.specs.Kept.{chart_of};
 ghost use Rattle.chart_layout.specs.Ends as ends;
 ghost use Rattle.chart_layout.specs.Places as places;
+ghost use Rattle.continuation_compile.specs.declared.number_limits.TheConstants as limits;
 ghost use Rattle.continuation_compile.specs.Numberings.{chart_in, IsNumbering};
 
 use crate::counts::{below_counts, list_parts_size, reached_counts};
@@ -65,7 +67,7 @@ impl<'a> Numbering<'a> {
     pub fn states(&self) -> u32
         requires numbers { IsNumbering self.now }
         ensures states { result ≡ state_count (chart_in self.now).tree }
-        ensures few { result ≤ 1024 }
+        ensures few { result ≤ STATE_LIMIT }
     {
         self.chart.shape().len()
     }
@@ -75,7 +77,7 @@ impl<'a> Numbering<'a> {
         requires numbers { IsNumbering self.now }
         requires state { state < state_count (chart_in self.now).tree }
         ensures below { result ≡ ends.below_count (chart_in self.now).tree state }
-        ensures low { result ≤ 1024 }
+        ensures low { result ≤ STATE_LIMIT }
     {
         entry(&self.below, state)
     }
@@ -85,7 +87,7 @@ impl<'a> Numbering<'a> {
         requires numbers { IsNumbering self.now }
         requires state { state < state_count (chart_in self.now).tree }
         ensures reached { result ≡ places.reached_count (chart_in self.now) state Outer }
-        ensures low { result ≤ 4096 }
+        ensures low { result ≤ JUNCTION_LIMIT }
     {
         entry(&self.outer, state)
     }
@@ -95,7 +97,7 @@ impl<'a> Numbering<'a> {
         requires numbers { IsNumbering self.now }
         requires state { state < state_count (chart_in self.now).tree }
         ensures reached { result ≡ places.reached_count (chart_in self.now) state Default }
-        ensures low { result ≤ 4096 }
+        ensures low { result ≤ JUNCTION_LIMIT }
     {
         entry(&self.default, state)
     }
@@ -105,7 +107,7 @@ impl<'a> Numbering<'a> {
     fn state_parts_start(&self) -> u32
         requires numbers { IsNumbering self.now }
         ensures start { result ≡ places.state_parts_start (chart_in self.now) }
-        ensures low { result ≤ 4096 }
+        ensures low { result ≤ limits.STATE_PARTS_START_LIMIT }
     {
         1 + self.states() * 3
     }
@@ -114,7 +116,7 @@ impl<'a> Numbering<'a> {
     fn junction_parts_start(&self) -> u32
         requires numbers { IsNumbering self.now }
         ensures start { result ≡ places.junction_parts_start (chart_in self.now) }
-        ensures low { result ≤ 536875008 }
+        ensures low { result ≤ limits.JUNCTION_PARTS_START_LIMIT }
     {
         self.state_parts_start() + entry(&self.parts, self.states())
     }
@@ -123,7 +125,7 @@ impl<'a> Numbering<'a> {
     fn groups_start(&self) -> u32
         requires numbers { IsNumbering self.now }
         ensures start { result ≡ places.groups_start (chart_in self.now) }
-        ensures low { result ≤ 1073745920 }
+        ensures low { result ≤ limits.GROUPS_START_LIMIT }
     {
         self.junction_parts_start() + entry(&self.junction_parts, self.chart.junctions())
     }
@@ -132,7 +134,7 @@ impl<'a> Numbering<'a> {
     fn lists_start(&self) -> u32
         requires numbers { IsNumbering self.now }
         ensures start { result ≡ places.lists_start (chart_in self.now) }
-        ensures low { result ≤ 1610616832 }
+        ensures low { result ≤ limits.LISTS_START_LIMIT }
     {
         self.groups_start() + entry(&self.groups, self.states())
     }
@@ -141,7 +143,7 @@ impl<'a> Numbering<'a> {
     fn processes_start(&self) -> u32
         requires numbers { IsNumbering self.now }
         ensures start { result ≡ places.processes_start (chart_in self.now) }
-        ensures low { result ≤ 2147487744 }
+        ensures low { result ≤ limits.PROCESSES_START_LIMIT }
     {
         self.lists_start() + entry(&self.lists, self.states())
     }
@@ -151,7 +153,7 @@ impl<'a> Numbering<'a> {
         requires numbers { IsNumbering self.now }
         requires state { state < state_count (chart_in self.now).tree }
         ensures group { result ≡ places.group_at (chart_in self.now) state }
-        ensures low { result ≤ 1610616832 }
+        ensures low { result ≤ limits.LISTS_START_LIMIT }
     {
         let before = entry(&self.groups, state + 1);
         self.groups_start() + entry(&self.groups, self.states()).saturating_sub(before)
@@ -162,7 +164,7 @@ impl<'a> Numbering<'a> {
         requires numbers { IsNumbering self.now }
         requires state { state < state_count (chart_in self.now).tree }
         ensures lists { result ≡ places.lists_at (chart_in self.now) state }
-        ensures low { result ≤ 2147487744 }
+        ensures low { result ≤ limits.PROCESSES_START_LIMIT }
     {
         let before = entry(&self.lists, state + 1);
         self.lists_start() + entry(&self.lists, self.states()).saturating_sub(before)
@@ -173,7 +175,7 @@ impl<'a> Numbering<'a> {
         requires numbers { IsNumbering self.now }
         requires state { state < state_count (chart_in self.now).tree }
         ensures parts { result ≡ places.parts_at (chart_in self.now) state kind }
-        ensures low { result ≤ 1073745920 }
+        ensures low { result ≤ limits.GROUPS_START_LIMIT }
     {
         let first = self.state_parts_start() + entry(&self.parts, state);
         match kind {
@@ -192,7 +194,7 @@ impl<'a> Numbering<'a> {
         requires numbers { IsNumbering self.now }
         requires junction { junction < junction_count (chart_in self.now) }
         ensures parts { result ≡ places.junction_parts_at (chart_in self.now) junction }
-        ensures low { result ≤ 1073745920 }
+        ensures low { result ≤ limits.GROUPS_START_LIMIT }
     {
         self.junction_parts_start() + entry(&self.junction_parts, junction)
     }
@@ -202,7 +204,7 @@ impl<'a> Numbering<'a> {
         requires numbers { IsNumbering self.now }
         requires state { state < state_count (chart_in self.now).tree }
         ensures list { result ≡ places.list_at (chart_in self.now) state kind }
-        ensures low { result ≤ 2147500000 }
+        ensures low { result ≤ limits.LIST_LIMIT }
     {
         match kind {
             ListKind::Outer => self.lists(state),

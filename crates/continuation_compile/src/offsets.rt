@@ -1,5 +1,6 @@
 //! Tables of how many procedures stand before those of each state and of each junction.
 ghost use Rattle.std.specs.Prelude.{suc, IfOk};
+ghost use Rattle.flow_base.specs.declared.chart_limits.TheConstants.{STATE_LIMIT, JUNCTION_LIMIT};
 ghost use Rattle.flow_base.specs.Lists.{items_of};
 ghost use Rattle.active_config.specs.Tree.{state_count};
 ghost use Rattle.checked_chart.specs.Chart.{junction_count};
@@ -8,6 +9,7 @@ ghost use Rattle.checked_chart.specs.Kept.{chart_of};
 ghost use Rattle.chart_layout.specs.Ends as ends;
 ghost use Rattle.chart_layout.specs.Orders.{sum_to};
 ghost use Rattle.chart_layout.specs.Places as places;
+ghost use Rattle.continuation_compile.specs.declared.number_limits.TheConstants as limits;
 ghost use Rattle.continuation_compile.specs.Tables.{IsTable};
 
 use crate::counts::{
@@ -21,7 +23,7 @@ use std::alloc::Global;
 /// How many procedures the parts of the transitions of the states before each state have.
 pub(crate) fn parts_before(alloc: Global, chart: &Chart) -> Result<List<u32>, Memory>
     ensures { IfOk result (λ sums. IsTable (sum_to (places.state_parts_size (chart_of chart.now)))
-        (suc (state_count (chart_of chart.now).tree)) 536870912 (items_of sums)) }
+        (suc (state_count (chart_of chart.now).tree)) limits.SUM_LIMIT (items_of sums)) }
 {
     // Only the proof reads the tree: the chart is valid.
     let _ = chart.shape();
@@ -33,7 +35,7 @@ pub(crate) fn parts_before(alloc: Global, chart: &Chart) -> Result<List<u32>, Me
 pub(crate) fn junction_parts_before(alloc: Global, chart: &Chart) -> Result<List<u32>, Memory>
     ensures { IfOk result (λ sums. IsTable
         (sum_to (places.junction_parts_size (chart_of chart.now)))
-        (suc (junction_count (chart_of chart.now))) 536870912 (items_of sums)) }
+        (suc (junction_count (chart_of chart.now))) limits.SUM_LIMIT (items_of sums)) }
 {
     // Only the proof reads the tree: the chart is valid.
     let _ = chart.shape();
@@ -50,11 +52,11 @@ pub(crate) fn groups_before(
     default: &List<u32>,
 ) -> Result<List<u32>, Memory>
     requires below { IsTable (ends.below_count (chart_of chart.now).tree)
-        (state_count (chart_of chart.now).tree) 1024 (items_of below.now) }
+        (state_count (chart_of chart.now).tree) STATE_LIMIT (items_of below.now) }
     requires default { IsTable (λ s. places.reached_count (chart_of chart.now) s Default)
-        (state_count (chart_of chart.now).tree) 4096 (items_of default.now) }
+        (state_count (chart_of chart.now).tree) JUNCTION_LIMIT (items_of default.now) }
     ensures { IfOk result (λ sums. IsTable (sum_to (places.group_size (chart_of chart.now)))
-        (suc (state_count (chart_of chart.now).tree)) 536870912 (items_of sums)) }
+        (suc (state_count (chart_of chart.now).tree)) limits.SUM_LIMIT (items_of sums)) }
 {
     // Only the proof reads the tree: the chart is valid.
     let _ = chart.shape();
@@ -70,9 +72,9 @@ pub(crate) fn lists_before(
     outer: &List<u32>,
 ) -> Result<List<u32>, Memory>
     requires outer { IsTable (λ s. places.reached_count (chart_of chart.now) s Outer)
-        (state_count (chart_of chart.now).tree) 4096 (items_of outer.now) }
+        (state_count (chart_of chart.now).tree) JUNCTION_LIMIT (items_of outer.now) }
     ensures { IfOk result (λ sums. IsTable (sum_to (places.lists_size (chart_of chart.now)))
-        (suc (state_count (chart_of chart.now).tree)) 536870912 (items_of sums)) }
+        (suc (state_count (chart_of chart.now).tree)) limits.SUM_LIMIT (items_of sums)) }
 {
     // Only the proof reads the tree: the chart is valid.
     let _ = chart.shape();

@@ -3,6 +3,7 @@ ghost use Rattle.std.specs.Prelude.{◌≡◌, ◌≤◌, ◌+◌};
 ghost use Rattle.checked_chart.specs.Views.{trans_seen};
 ghost use Rattle.chart_procedures.specs.Numbers.{condition_of};
 ghost use Rattle.chart_layout.specs.Places.{guard_count, trans_numbers};
+ghost use Rattle.continuation_compile.specs.declared.number_limits.TheConstants as limits;
 
 use checked_chart::{ListKind, Trans};
 
@@ -18,7 +19,7 @@ pub(crate) fn guard_number(t: &Trans, first: u32) -> Option<u32>
 
 /// The number of the first part after its guard.
 fn behind_guard(t: &Trans, first: u32) -> u32
-    requires { first ≤ 4294967000 }
+    requires { first ≤ limits.PART_LIMIT }
     ensures { result ≡ first + guard_count (trans_seen t.now).guard }
 {
     match t.guard {
@@ -29,7 +30,7 @@ fn behind_guard(t: &Trans, first: u32) -> u32
 
 /// The number of the procedure of its condition action for a kind of list.
 pub(crate) fn condition_number(t: &Trans, kind: ListKind, first: u32) -> Option<u32>
-    requires { first ≤ 4294967000 }
+    requires { first ≤ limits.PART_LIMIT }
     ensures { result ≡ condition_of kind (trans_numbers first (trans_seen t.now)) }
 {
     if t.cond.items().is_empty() {
@@ -43,7 +44,7 @@ pub(crate) fn condition_number(t: &Trans, kind: ListKind, first: u32) -> Option<
 
 /// The number of the procedure of its transition action.
 pub(crate) fn action_number(t: &Trans, first: u32) -> Option<u32>
-    requires { first ≤ 4294967000 }
+    requires { first ≤ limits.PART_LIMIT }
     ensures { result ≡ (trans_numbers first (trans_seen t.now)).action }
 {
     if t.act.items().is_empty() {

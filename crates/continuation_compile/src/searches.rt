@@ -10,6 +10,7 @@ ghost use Rattle.code_language.specs.Instrs as instrs;
 ghost use Rattle.chart_layout.specs.Places as places;
 ghost use Rattle.chart_layout.specs.Keys as keys;
 ghost use Rattle.chart_layout.specs.Bodies.{body};
+ghost use Rattle.continuation_compile.specs.declared.number_limits.TheConstants as limits;
 ghost use Rattle.continuation_compile.specs.Drafts.{Instrs, IsFront, code_seen, procs_of, test_of};
 ghost use Rattle.continuation_compile.specs.Numberings.{chart_in, IsNumbering};
 ghost use Rattle.continuation_compile.specs.Searches.{IsSearch, search_seen, lasting_seen};
@@ -188,7 +189,7 @@ fn put_trans(
     requires numbers { IsNumbering numbering.now }
     requires search { IsSearch (chart_in numbering.now) search.now }
     requires dest { IsDest (chart_in numbering.now) t.now.dest }
-    requires low { first ≤ 4294967000 }
+    requires low { first ≤ limits.PART_LIMIT }
     ensures { OnOk result (code_seen code.new ≡ code_seen code.old
         ++ templates.trans_code (search_seen (chart_in numbering.now) search.now) (trans_seen t.now)
         (places.trans_numbers first (trans_seen t.now))) }
@@ -217,7 +218,7 @@ fn put_list(
     requires numbers { IsNumbering numbering.now }
     requires search { IsSearch (chart_in numbering.now) search.now }
     requires valid { AreTrans (chart_in numbering.now) (list_seen list.now) }
-    requires low { first + places.parts_size (list_seen list.now) ≤ 4294967000 }
+    requires low { first + places.parts_size (list_seen list.now) ≤ limits.PART_LIMIT }
     ensures { OnOk result (code_seen code.new ≡ code_seen code.old
         ++ templates.list_code (search_seen (chart_in numbering.now) search.now)
         (list_seen list.now) (places.parts_numbers first (list_seen list.now))) }
@@ -264,7 +265,7 @@ fn put_junction(
     requires numbers { IsNumbering numbering.now }
     requires search { IsSearch (chart_in numbering.now) search.now }
     requires valid { AreTrans (chart_in numbering.now) (list_seen list.now) }
-    requires low { first + places.parts_size (list_seen list.now) ≤ 4294967000 }
+    requires low { first + places.parts_size (list_seen list.now) ≤ limits.PART_LIMIT }
     ensures { OnOk result (code_seen code.new ≡ code_seen code.old
         ++ templates.junction_code (search_seen (chart_in numbering.now) search.now)
         (list_seen list.now) (places.parts_numbers first (list_seen list.now))) }

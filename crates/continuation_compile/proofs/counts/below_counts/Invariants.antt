@@ -1,3 +1,4 @@
+use Rattle.flow_base.specs.declared.chart_limits.TheConstants.{STATE_LIMIT}
 use Rattle.flow_base.specs.Lists.{items_of}
 use Rattle.chart_layout.specs.Ends.{below_count}
 use Rattle.continuation_compile.specs.Tables.{IsTable}
@@ -6,4 +7,4 @@ use Rattle.continuation_compile.proofs.counts.below_counts.Given as goal
 -- those before the number are in the table
 abbrev pub invariant-loop-s : goal.invariant-loop-s
 invariant-loop-s l =
-    IsTable (below_count l.shape) l.s 1024 (items_of l.counts)
+    IsTable (below_count l.shape) l.s STATE_LIMIT (items_of l.counts)

@@ -1,10 +1,11 @@
 use Rattle.flow_base.specs.Lists.{items_of}
 use Rattle.checked_chart.specs.Kept.{chart_of}
 use Rattle.chart_layout.specs.Places.{junction_parts_size}
+use Rattle.continuation_compile.specs.declared.number_limits.TheConstants.{SIZE_LIMIT}
 use Rattle.continuation_compile.specs.Tables.{IsTable}
 use Rattle.continuation_compile.proofs.counts.junction_parts_sizes.Given as goal
 
 -- those before the number are in the table
 abbrev pub invariant-loop-j : goal.invariant-loop-j
 invariant-loop-j l =
-    IsTable (junction_parts_size (chart_of l.chart)) l.j 131072 (items_of l.sizes)
+    IsTable (junction_parts_size (chart_of l.chart)) l.j SIZE_LIMIT (items_of l.sizes)

@@ -1,4 +1,5 @@
 use Rattle.std.proofs.Common.{◌+◌, ◌∙◌, length, refl, ap, arith}
+use Rattle.flow_base.specs.declared.chart_limits.TheConstants.{JUNCTION_LIMIT}
 use Rattle.flow_base.specs.Lists.{items_of}
 use Rattle.checked_chart.specs.Kept.{chart_of}
 use Rattle.chart_layout.specs.Places.{reached_count}
@@ -24,6 +25,6 @@ loop-s-preserved c =
     let s = c.loop-s.s in
     let is =
     ap (λ xs. length xs) (c.items.ensures ∙ c.in_ok-found.ensures.reached ∙ ap (reached chart) c.list.ensures.list) in
-    table_more (λ s. reached_count chart s c.args.kind) s (s + 1) 4096 (length c.items.result.now)
+    table_more (λ s. reached_count chart s c.args.kind) s (s + 1) JUNCTION_LIMIT (length c.items.result.now)
     (items_of c.loop-s.counts) _ refl c.loop-s.invariant is
     (omega (arith, is, reached_count_low chart c.shape.ensures.valid s c.args.kind)) c.in_ok-push.ensures.ok

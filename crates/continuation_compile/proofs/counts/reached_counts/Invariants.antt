@@ -1,3 +1,4 @@
+use Rattle.flow_base.specs.declared.chart_limits.TheConstants.{JUNCTION_LIMIT}
 use Rattle.flow_base.specs.Lists.{items_of}
 use Rattle.checked_chart.specs.Kept.{chart_of}
 use Rattle.chart_layout.specs.Places.{reached_count}
@@ -7,4 +8,4 @@ use Rattle.continuation_compile.proofs.counts.reached_counts.Given as goal
 -- those before the number are in the table
 abbrev pub invariant-loop-s : goal.invariant-loop-s
 invariant-loop-s l =
-    IsTable (λ s. reached_count (chart_of l.chart) s l.kind) l.s 4096 (items_of l.counts)
+    IsTable (λ s. reached_count (chart_of l.chart) s l.kind) l.s JUNCTION_LIMIT (items_of l.counts)

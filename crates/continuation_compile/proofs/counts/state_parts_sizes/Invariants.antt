@@ -1,10 +1,11 @@
 use Rattle.flow_base.specs.Lists.{items_of}
 use Rattle.checked_chart.specs.Kept.{chart_of}
 use Rattle.chart_layout.specs.Places.{state_parts_size}
+use Rattle.continuation_compile.specs.declared.number_limits.TheConstants.{SIZE_LIMIT}
 use Rattle.continuation_compile.specs.Tables.{IsTable}
 use Rattle.continuation_compile.proofs.counts.state_parts_sizes.Given as goal
 
 -- those before the number are in the table
 abbrev pub invariant-loop-s : goal.invariant-loop-s
 invariant-loop-s l =
-    IsTable (state_parts_size (chart_of l.chart)) l.s 131072 (items_of l.sizes)
+    IsTable (state_parts_size (chart_of l.chart)) l.s SIZE_LIMIT (items_of l.sizes)

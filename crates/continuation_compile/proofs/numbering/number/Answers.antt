@@ -1,4 +1,5 @@
 use Rattle.std.proofs.Common.{subst}
+use Rattle.flow_base.specs.declared.chart_limits.TheConstants.{STATE_LIMIT}
 use Rattle.flow_base.specs.Lists.{items_of}
 use Rattle.active_config.specs.Tree.{state_count}
 use Rattle.chart_layout.specs.Ends.{below_count}
@@ -7,14 +8,14 @@ use Rattle.continuation_compile.proofs.numbering.number.Goals as goal
 
 pub groups_before-requires-clause-below : goal.groups_before-requires-clause-below
 groups_before-requires-clause-below c =
-    subst (λ t. IsTable (below_count t) (state_count t) 1024 (items_of c.in_ok-below.below))
+    subst (λ t. IsTable (below_count t) (state_count t) STATE_LIMIT (items_of c.in_ok-below.below))
     c.shape.ensures.shape c.in_ok-below.ensures
 
 pub returns-clause-numbers : goal.returns-clause-numbers
 returns-clause-numbers c = record {
   valid = c.shape.ensures.valid;
   below =
-      subst (λ t. IsTable (below_count t) (state_count t) 1024 (items_of c.in_ok-below.below))
+      subst (λ t. IsTable (below_count t) (state_count t) STATE_LIMIT (items_of c.in_ok-below.below))
       c.shape.ensures.shape c.in_ok-below.ensures;
   outer = c.in_ok-outer.ensures;
   default = c.in_ok-default.ensures;

@@ -5,6 +5,7 @@ use Rattle.flow_base.specs.Lists.{items_of}
 use Rattle.active_config.specs.Tree.{state_count}
 use Rattle.checked_chart.specs.Kept.{chart_of}
 use Rattle.chart_layout.specs.Places.{lists_size}
+use Rattle.continuation_compile.specs.declared.number_limits.TheConstants.{SIZE_LIMIT}
 use Rattle.continuation_compile.specs.Tables.{IsTable}
 use Rattle.continuation_compile.proofs.TableTurns.{table_same, table_sums}
 use Rattle.continuation_compile.proofs.offsets.lists_before.Goals as goal
@@ -19,9 +20,9 @@ returns c =
     let sizes = items_of c.in_ok-sizes.sizes in
     let table =
     table_same (λ s. 2 + slice_index_or (items_of c.args.outer.now) s 0
-    + slice_index_or (items_of c.in_ok-inner.inner) s 0) (lists_size chart) n 131072 sizes
+    + slice_index_or (items_of c.in_ok-inner.inner) s 0) (lists_size chart) n SIZE_LIMIT sizes
     (λ k h. omega (arith, outer.each k h, inner.each k h))
     (subst (λ m. IsTable (λ s. 2 + slice_index_or (items_of c.args.outer.now) s 0
-    + slice_index_or (items_of c.in_ok-inner.inner) s 0) m 131072 sizes) outer.long c.in_ok-sizes.ensures) in
+    + slice_index_or (items_of c.in_ok-inner.inner) s 0) m SIZE_LIMIT sizes) outer.long c.in_ok-sizes.ensures) in
     IfOk-weaker c.sums_before.result _ _ (λ sums h. table_sums (lists_size chart) n sizes (items_of sums) table h)
     c.sums_before.ensures

@@ -38,7 +38,7 @@ append_first-requires-clause-search c =
             ap (λ xs. length xs) found,
             reached_count_low chart c.requires.numbers.valid c.args.state c.args.kind,
           );
-      low = c.list-first.ensures.low;
+      low = omega (arith, c.list-first.ensures.low);
     }
 
 pub append_junctions-requires-clause-search : goal.append_junctions-requires-clause-search
@@ -57,7 +57,7 @@ append_junctions-requires-clause-search c =
             ap (λ xs. length xs) found,
             reached_count_low chart c.requires.numbers.valid c.args.state c.args.kind,
           );
-      low = c.list-first.ensures.low;
+      low = omega (arith, c.list-first.ensures.low);
     }
 
 pub returns-clause-ok : goal.returns-clause-ok

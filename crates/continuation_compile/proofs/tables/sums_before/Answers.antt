@@ -2,13 +2,14 @@ use Rattle.std.proofs.Common.{◌≡◌, ◌+◌, ◌<◌, ◌∙◌, suc, lengt
 use Rattle.flow_base.specs.Lists.{items_of}
 use Rattle.chart_layout.specs.Orders.{sum_to}
 use Rattle.chart_layout.proofs.Sums.{sum_next}
+use Rattle.continuation_compile.specs.declared.number_limits.TheConstants.{SUM_LIMIT}
 use Rattle.continuation_compile.proofs.TableTurns.{table_none, table_more}
 use Rattle.continuation_compile.proofs.tables.sums_before.Goals as goal
 
 pub loop-count-init : goal.loop-count-init
 unfolding sum_to
 loop-count-init c = record {
-  sums = λ f t. table_none (sum_to f) 536870912 (items_of c.of-sums.result) (c.of-sums.ensures ∙ c.new.ensures.items);
+  sums = λ f t. table_none (sum_to f) SUM_LIMIT (items_of c.of-sums.result) (c.of-sums.ensures ∙ c.new.ensures.items);
   sum = λ f t. refl;
   low = omega arith;
 }
@@ -24,7 +25,7 @@ loop-count-preserved c =
     let next : suc i ≡ i + 1 = omega arith in
     record {
       sums = λ f t.
-          table_more (sum_to f) i (i + 1) 536870912 c.loop-count.sum (items_of c.loop-count.sums) _ refl (inv.sums f t)
+          table_more (sum_to f) i (i + 1) SUM_LIMIT c.loop-count.sum (items_of c.loop-count.sums) _ refl (inv.sums f t)
           (inv.sum f t) (omega (arith, inv.low, c.requires.few)) c.in_ok-push.ensures.ok;
       sum = λ f t. omega (arith, inv.sum f t, same, t.each i there, sum_next f i, ap (sum_to f) next);
       low = omega (arith, inv.low, same, c.requires.low i there);
@@ -43,5 +44,5 @@ returns c =
       ap (λ ys. length ys) c.items-count-items.ensures,
     ) in
     λ f t.
-    table_more (sum_to f) i (suc (length xs)) 536870912 c.loop-count.sum (items_of c.loop-count.sums) _ last
+    table_more (sum_to f) i (suc (length xs)) SUM_LIMIT c.loop-count.sum (items_of c.loop-count.sums) _ last
     (inv.sums f t) (inv.sum f t) (omega (arith, inv.low, c.requires.few)) c.in_ok-push-2.ensures.ok

@@ -12,6 +12,7 @@ ghost use Rattle.continuation_compile.specs.Numberings.{chart_in, IsNumbering};
 
 use crate::draft::{Draft, append, put, put_require, put_return};
 use crate::numbering::Numbering;
+use crate::results::{DONE, GUARD_FALSE, GUARD_TRUE};
 use actions::{Expr, Stmt, copy_expr};
 use checked_chart::Trans;
 use code_language::{Cond, Instr};
@@ -84,7 +85,7 @@ pub fn append_block(
     for stmt in stmts {
         put_stmt(alloc, &mut code, numbering, lasting, stmt)?;
     }
-    put_return(&mut code, 1)?;
+    put_return(&mut code, DONE)?;
     append(draft, code)
 }
 
@@ -98,8 +99,8 @@ fn append_guard(alloc: Global, draft: &mut Draft, guard: &Expr) -> Result<(), Me
         &mut code,
         Instr::Unless(1, Cond::Test(copy_expr(alloc, guard)?)),
     )?;
-    put_return(&mut code, 1)?;
-    put_return(&mut code, 0)?;
+    put_return(&mut code, GUARD_TRUE)?;
+    put_return(&mut code, GUARD_FALSE)?;
     append(draft, code)
 }
 

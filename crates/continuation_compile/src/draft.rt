@@ -5,6 +5,7 @@ ghost use Rattle.code_language.specs.Instrs as instrs;
 ghost use Rattle.chart_procedures.specs.StateProcedures as templates;
 ghost use Rattle.continuation_compile.specs.Drafts.{code_seen, procs_of};
 
+use crate::results::{DONE, EMPTY_JUNCTION};
 use code_language::{Cond, Instr};
 use flow_base::{List, Memory};
 
@@ -52,7 +53,7 @@ pub fn put_require(code: &mut List<Instr>, cond: Cond) -> Result<(), Memory>
 {
     put(code, Instr::Unless(1, cond))?;
     put(code, Instr::Skip(1))?;
-    put_return(code, 1)
+    put_return(code, DONE)
 }
 
 /// Appends a test: what follows is for where the condition doesn't hold, else the procedure
@@ -62,7 +63,7 @@ pub fn put_refuse(code: &mut List<Instr>, cond: Cond) -> Result<(), Memory>
         ≡ code_seen code.old ++ templates.refuse (cond_of cond) []) }
 {
     put(code, Instr::Unless(1, cond))?;
-    put_return(code, 1)
+    put_return(code, DONE)
 }
 
 /// Appends what stands after a search: what follows is for where it found no firing, else its
@@ -70,7 +71,7 @@ pub fn put_refuse(code: &mut List<Instr>, cond: Cond) -> Result<(), Memory>
 pub fn put_unless_found(code: &mut List<Instr>) -> Result<(), Memory>
     ensures { OnOk result (code_seen code.new ≡ code_seen code.old ++ templates.unless_found []) }
 {
-    put(code, Instr::Unless(1, Cond::Result(2)))?;
+    put(code, Instr::Unless(1, Cond::Result(EMPTY_JUNCTION)))?;
     put(code, Instr::Skip(1))?;
     put(code, Instr::Pass)
 }

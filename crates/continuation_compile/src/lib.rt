@@ -14,6 +14,7 @@ mod numbering;
 mod offsets;
 mod parts;
 pub mod reached;
+pub mod results;
 mod searches;
 mod sizes;
 mod tables;

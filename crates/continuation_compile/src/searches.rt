@@ -20,6 +20,7 @@ use crate::draft::{Draft, append, put, put_call, put_require, put_return};
 use crate::numbering::Numbering;
 use crate::parts::{action_number, condition_number, guard_number};
 use crate::reached::{place_of, reached};
+use crate::results::{DONE, FIRST_HOME, GUARD_TRUE, NOTHING};
 use crate::sizes::trans_size;
 use checked_chart::{Dest, ListKind, Trans};
 use code_language::{Cond, Instr};
@@ -76,9 +77,9 @@ fn fired(numbering: &Numbering<'_>, state: u32, kind: ListKind, dest: u32) -> u3
         ListKind::Outer => {
             // Only the proof reads the number of states: it is small.
             let _ = numbering.states();
-            3 + numbering.chart.home(state, kind, dest)
+            FIRST_HOME + numbering.chart.home(state, kind, dest)
         }
-        ListKind::Inner | ListKind::Default => 1,
+        ListKind::Inner | ListKind::Default => DONE,
     }
 }
 
@@ -138,7 +139,7 @@ fn put_guard(code: &mut List<Instr>, number: Option<u32>, over: u32) -> Result<(
 {
     if let Some(p) = number {
         put_call(code, p)?;
-        put(code, Instr::Unless(over, Cond::Result(1)))?;
+        put(code, Instr::Unless(over, Cond::Result(GUARD_TRUE)))?;
     }
     Ok(())
 }
@@ -228,7 +229,7 @@ fn put_list(
         put_trans(code, numbering, search, t, number)?;
         number += trans_size(t);
     }
-    put_return(code, 0)?;
+    put_return(code, NOTHING)?;
     Ok(())
 }
 
@@ -248,9 +249,9 @@ fn put_empty(
         ListKind::Outer | ListKind::Inner => {
             put_call(code, 0)?;
             put(code, Instr::Pass)?;
-            put_return(code, 0)
+            put_return(code, NOTHING)
         }
-        ListKind::Default => put_return(code, 0),
+        ListKind::Default => put_return(code, NOTHING),
     }
 }
 

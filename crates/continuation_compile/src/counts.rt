@@ -10,6 +10,7 @@ ghost use Rattle.chart_layout.specs.Places as places;
 ghost use Rattle.continuation_compile.specs.declared.number_limits.TheConstants as limits;
 ghost use Rattle.continuation_compile.specs.Tables.{IsTable, AreLow};
 
+use crate::number_offsets::{BELOW_SIZE, GROUP_SIZE, LISTS_SIZE};
 use crate::reached::reached;
 use crate::sizes::{below_count, parts_size};
 use crate::tables::entry;
@@ -121,13 +122,14 @@ pub(crate) fn group_sizes(
     requires few { length (items_of below.now) ≤ STATE_LIMIT }
     requires below { AreLow STATE_LIMIT (items_of below.now) }
     requires default { AreLow JUNCTION_LIMIT (items_of default.now) }
-    ensures { IfOk result (λ sizes. IsTable (λ s. 3 * slice_index_or (items_of below.now) s 0 + 7
-        + slice_index_or (items_of default.now) s 0) (length (items_of below.now)) limits.SIZE_LIMIT
-        (items_of sizes)) }
+    ensures { IfOk result (λ sizes. IsTable
+        (λ s. BELOW_SIZE * slice_index_or (items_of below.now) s 0 + GROUP_SIZE
+        + slice_index_or (items_of default.now) s 0)
+        (length (items_of below.now)) limits.SIZE_LIMIT (items_of sizes)) }
 {
     let mut sizes = List::of(Vec::new(alloc));
     for s in 0..below.items().len() as u32 {
-        sizes.push(3 * entry(below, s) + 7 + entry(default, s))?;
+        sizes.push(BELOW_SIZE * entry(below, s) + GROUP_SIZE + entry(default, s))?;
     }
     Ok(sizes)
 }
@@ -143,13 +145,14 @@ pub(crate) fn lists_sizes(
     requires few { length (items_of outer.now) ≤ STATE_LIMIT }
     requires outer { AreLow JUNCTION_LIMIT (items_of outer.now) }
     requires inner { AreLow JUNCTION_LIMIT (items_of inner.now) }
-    ensures { IfOk result (λ sizes. IsTable (λ s. 2 + slice_index_or (items_of outer.now) s 0
-        + slice_index_or (items_of inner.now) s 0) (length (items_of outer.now)) limits.SIZE_LIMIT
-        (items_of sizes)) }
+    ensures { IfOk result (λ sizes. IsTable
+        (λ s. LISTS_SIZE + slice_index_or (items_of outer.now) s 0
+        + slice_index_or (items_of inner.now) s 0)
+        (length (items_of outer.now)) limits.SIZE_LIMIT (items_of sizes)) }
 {
     let mut sizes = List::of(Vec::new(alloc));
     for s in 0..outer.items().len() as u32 {
-        sizes.push(2 + entry(outer, s) + entry(inner, s))?;
+        sizes.push(LISTS_SIZE + entry(outer, s) + entry(inner, s))?;
     }
     Ok(sizes)
 }

@@ -10,6 +10,7 @@ mod blocks;
 mod counts;
 mod draft;
 pub mod number_limits;
+pub mod number_offsets;
 mod numbering;
 mod offsets;
 mod parts;

@@ -11,6 +11,10 @@ ghost use Rattle.continuation_compile.specs.declared.number_limits.TheConstants 
 ghost use Rattle.continuation_compile.specs.Numberings.{chart_in, IsNumbering};
 
 use crate::counts::{below_counts, list_parts_size, reached_counts};
+use crate::number_offsets::{
+    ACTION_COUNT, ARRIVE_OFFSET, DEFAULT_LIST_OFFSET, DEFAULTS_OFFSET, ENTER_OFFSET, ENTRY_START,
+    EXIT_OFFSET, INNER_OFFSET, TAKE_OFFSET,
+};
 use crate::offsets::{groups_before, junction_parts_before, lists_before, parts_before};
 use crate::tables::entry;
 use checked_chart::{Chart, ListKind};
@@ -109,7 +113,7 @@ impl<'a> Numbering<'a> {
         ensures start { result ≡ places.state_parts_start (chart_in self.now) }
         ensures low { result ≤ limits.STATE_PARTS_START_LIMIT }
     {
-        1 + self.states() * 3
+        ENTRY_START + self.states() * ACTION_COUNT
     }
 
     /// The number of the first part of a transition of a junction.
@@ -208,8 +212,8 @@ impl<'a> Numbering<'a> {
     {
         match kind {
             ListKind::Outer => self.lists(state),
-            ListKind::Inner => self.lists(state) + 1 + self.outer(state),
-            ListKind::Default => self.group(state) + 2 + self.below(state),
+            ListKind::Inner => self.lists(state) + INNER_OFFSET + self.outer(state),
+            ListKind::Default => self.group(state) + DEFAULT_LIST_OFFSET + self.below(state),
         }
     }
 
@@ -220,7 +224,7 @@ impl<'a> Numbering<'a> {
         requires state { state < state_count (chart_in self.now).tree }
         ensures { result ≡ (places.numbers (chart_in self.now)).defaults state }
     {
-        self.group(state) + 3 + self.below(state) + self.default(state)
+        self.group(state) + DEFAULTS_OFFSET + self.below(state) + self.default(state)
     }
 
     /// The number of the procedure that arrives in a state on the way to another one.
@@ -232,8 +236,8 @@ impl<'a> Numbering<'a> {
         ensures { result ≡ (places.numbers (chart_in self.now)).arrive state dest }
     {
         match dest.saturating_sub(state) {
-            0 => self.group(state) + 4 + self.below(state) + self.default(state),
-            more => self.group(state) + 1 + more,
+            0 => self.group(state) + ARRIVE_OFFSET + self.below(state) + self.default(state),
+            more => self.group(state) + EXIT_OFFSET + more,
         }
     }
 
@@ -245,7 +249,11 @@ impl<'a> Numbering<'a> {
         requires dest { dest < state_count (chart_in self.now).tree }
         ensures { result ≡ (places.numbers (chart_in self.now)).take state dest }
     {
-        self.group(state) + 5 + self.below(state) + self.default(state) + dest.saturating_sub(state)
+        self.group(state)
+            + TAKE_OFFSET
+            + self.below(state)
+            + self.default(state)
+            + dest.saturating_sub(state)
     }
 
     /// The number of the procedure that enters a state on the way to another one.
@@ -257,7 +265,7 @@ impl<'a> Numbering<'a> {
         ensures { result ≡ (places.numbers (chart_in self.now)).enter state dest }
     {
         self.group(state)
-            + 6
+            + ENTER_OFFSET
             + 2 * self.below(state)
             + self.default(state)
             + dest.saturating_sub(state)

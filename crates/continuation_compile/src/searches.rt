@@ -17,6 +17,7 @@ ghost use Rattle.continuation_compile.specs.Searches.{IsSearch, search_seen, las
 
 use crate::blocks::{Lasting, test};
 use crate::draft::{Draft, append, put, put_call, put_require, put_return};
+use crate::number_offsets::END_MARK;
 use crate::numbering::Numbering;
 use crate::parts::{action_number, condition_number, guard_number};
 use crate::reached::{place_of, reached};
@@ -247,7 +248,7 @@ fn put_empty(
     let _ = numbering;
     match search.kind {
         ListKind::Outer | ListKind::Inner => {
-            put_call(code, 0)?;
+            put_call(code, END_MARK)?;
             put(code, Instr::Pass)?;
             put_return(code, NOTHING)
         }

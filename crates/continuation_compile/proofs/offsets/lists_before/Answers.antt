@@ -6,6 +6,7 @@ use Rattle.active_config.specs.Tree.{state_count}
 use Rattle.checked_chart.specs.Kept.{chart_of}
 use Rattle.chart_layout.specs.Places.{lists_size}
 use Rattle.continuation_compile.specs.declared.number_limits.TheConstants.{SIZE_LIMIT}
+use Rattle.continuation_compile.specs.declared.number_offsets.TheConstants.{LISTS_SIZE}
 use Rattle.continuation_compile.specs.Tables.{IsTable}
 use Rattle.continuation_compile.proofs.TableTurns.{table_same, table_sums}
 use Rattle.continuation_compile.proofs.offsets.lists_before.Goals as goal
@@ -19,10 +20,10 @@ returns c =
     let inner = c.in_ok-inner.ensures in
     let sizes = items_of c.in_ok-sizes.sizes in
     let table =
-    table_same (λ s. 2 + slice_index_or (items_of c.args.outer.now) s 0
+    table_same (λ s. LISTS_SIZE + slice_index_or (items_of c.args.outer.now) s 0
     + slice_index_or (items_of c.in_ok-inner.inner) s 0) (lists_size chart) n SIZE_LIMIT sizes
     (λ k h. omega (arith, outer.each k h, inner.each k h))
-    (subst (λ m. IsTable (λ s. 2 + slice_index_or (items_of c.args.outer.now) s 0
+    (subst (λ m. IsTable (λ s. LISTS_SIZE + slice_index_or (items_of c.args.outer.now) s 0
     + slice_index_or (items_of c.in_ok-inner.inner) s 0) m SIZE_LIMIT sizes) outer.long c.in_ok-sizes.ensures) in
     IfOk-weaker c.sums_before.result _ _ (λ sums h. table_sums (lists_size chart) n sizes (items_of sums) table h)
     c.sums_before.ensures

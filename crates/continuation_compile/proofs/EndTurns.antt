@@ -11,5 +11,5 @@ module _ (t : Tree) (tree : IsTree t) (s x : ℕ) (low : s < state_count t) (the
   below_before h = let e = (end_is t tree s low).between x there in grind (arith, nat_tests)
 
   -- a later state that isn't below it doesn't
-  pub other_behind : is_below t x s ≡ false → end_of t s ≤ x
-  other_behind h = let e = (end_is t tree s low).between x there in grind (arith, nat_tests)
+  pub other_after : is_below t x s ≡ false → end_of t s ≤ x
+  other_after h = let e = (end_is t tree s low).between x there in grind (arith, nat_tests)

@@ -38,7 +38,7 @@ pub(crate) fn test(lasting: Lasting) -> Cond
     }
 }
 
-/// Appends the code of a statement. Behind a send the life is tested.
+/// Appends the code of a statement. After a send the life is tested.
 fn put_stmt(
     alloc: Global,
     code: &mut List<Instr>,
@@ -55,14 +55,20 @@ fn put_stmt(
         (stmt_of stmt.now ∷ rest)) }
 {
     match stmt {
-        Stmt::Assign(v, e) => put(code, Instr::Assign(*v, copy_expr(alloc, e)?)),
-        Stmt::Emit(e) => put(code, Instr::Emit(*e)),
-        Stmt::Send(e) => {
-            put(code, Instr::Send(*e))?;
+        Stmt::Assign(variable, expr) => put(
+            code,
+            Instr::Assign(*variable, copy_expr(alloc, expr)?),
+        ),
+        Stmt::Emit(event) => put(code, Instr::Emit(*event)),
+        Stmt::Send(event) => {
+            put(code, Instr::Send(*event))?;
             put_require(code, test(lasting))
         }
-        Stmt::SendTo(e, s) => {
-            put(code, Instr::SendTo(*e, *s, numbering.process(*s)))?;
+        Stmt::SendTo(event, state) => {
+            put(
+                code,
+                Instr::SendTo(*event, *state, numbering.process(*state)),
+            )?;
             put_require(code, test(lasting))
         }
     }
@@ -109,21 +115,21 @@ fn append_trans_parts(
     alloc: Global,
     draft: &mut Draft,
     numbering: &Numbering<'_>,
-    t: &Trans,
+    trans: &Trans,
 ) -> Result<(), Memory>
     requires { IsNumbering numbering.now }
     ensures { OnOk result (procs_of draft.new ≡ procs_of draft.old
-        ++ map (body (chart_in numbering.now)) (keys.trans_keys (trans_seen t.now))) }
+        ++ map (body (chart_in numbering.now)) (keys.trans_keys (trans_seen trans.now))) }
 {
-    if let Some(guard) = &t.guard {
+    if let Some(guard) = &trans.guard {
         append_guard(alloc, draft, guard)?;
     }
-    if !t.cond.items().is_empty() {
-        append_block(alloc, draft, numbering, Lasting::On, t.cond.items())?;
-        append_block(alloc, draft, numbering, Lasting::Bare, t.cond.items())?;
+    if !trans.cond.items().is_empty() {
+        append_block(alloc, draft, numbering, Lasting::On, trans.cond.items())?;
+        append_block(alloc, draft, numbering, Lasting::Bare, trans.cond.items())?;
     }
-    if !t.act.items().is_empty() {
-        append_block(alloc, draft, numbering, Lasting::Bare, t.act.items())?;
+    if !trans.act.items().is_empty() {
+        append_block(alloc, draft, numbering, Lasting::Bare, trans.act.items())?;
     }
     Ok(())
 }
@@ -140,8 +146,8 @@ pub fn append_parts(
     ensures { OnOk result (procs_of draft.new ≡ procs_of draft.old
         ++ map (body (chart_in numbering.now)) (keys.parts_keys (list_seen list.now))) }
 {
-    for t in list {
-        append_trans_parts(alloc, draft, numbering, t)?;
+    for trans in list {
+        append_trans_parts(alloc, draft, numbering, trans)?;
     }
     Ok(())
 }

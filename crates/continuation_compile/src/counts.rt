@@ -28,8 +28,8 @@ pub(crate) fn below_counts(alloc: Global, shape: &Shape) -> Result<List<u32>, Me
         (items_of counts)) }
 {
     let mut counts = List::of(Vec::new(alloc));
-    for s in 0..shape.len() {
-        counts.push(below_count(shape, s))?;
+    for state in 0..shape.len() {
+        counts.push(below_count(shape, state))?;
     }
     Ok(counts)
 }
@@ -44,8 +44,8 @@ pub(crate) fn reached_counts(
         (state_count (chart_of chart.now).tree) JUNCTION_LIMIT (items_of counts)) }
 {
     let mut counts = List::of(Vec::new(alloc));
-    for s in 0..chart.shape().len() {
-        let found = reached(alloc, chart, chart.list(s, kind))?;
+    for state in 0..chart.shape().len() {
+        let found = reached(alloc, chart, chart.list(state, kind))?;
         counts.push(found.items().len() as u32)?;
     }
     Ok(counts)
@@ -81,8 +81,8 @@ pub(crate) fn state_parts_sizes(alloc: Global, chart: &Chart) -> Result<List<u32
         (state_count (chart_of chart.now).tree) limits.SIZE_LIMIT (items_of sizes)) }
 {
     let mut sizes = List::of(Vec::new(alloc));
-    for s in 0..chart.shape().len() {
-        sizes.push(state_parts_size(chart, s))?;
+    for state in 0..chart.shape().len() {
+        sizes.push(state_parts_size(chart, state))?;
     }
     Ok(sizes)
 }
@@ -105,8 +105,8 @@ pub(crate) fn junction_parts_sizes(alloc: Global, chart: &Chart) -> Result<List<
         (junction_count (chart_of chart.now)) limits.SIZE_LIMIT (items_of sizes)) }
 {
     let mut sizes = List::of(Vec::new(alloc));
-    for j in 0..chart.junctions() {
-        sizes.push(junction_parts_size(chart, j))?;
+    for junction in 0..chart.junctions() {
+        sizes.push(junction_parts_size(chart, junction))?;
     }
     Ok(sizes)
 }
@@ -128,8 +128,8 @@ pub(crate) fn group_sizes(
         (length (items_of below.now)) limits.SIZE_LIMIT (items_of sizes)) }
 {
     let mut sizes = List::of(Vec::new(alloc));
-    for s in 0..below.items().len() as u32 {
-        sizes.push(BELOW_SIZE * entry(below, s) + GROUP_SIZE + entry(default, s))?;
+    for state in 0..below.items().len() as u32 {
+        sizes.push(BELOW_SIZE * entry(below, state) + GROUP_SIZE + entry(default, state))?;
     }
     Ok(sizes)
 }
@@ -151,8 +151,8 @@ pub(crate) fn lists_sizes(
         (length (items_of outer.now)) limits.SIZE_LIMIT (items_of sizes)) }
 {
     let mut sizes = List::of(Vec::new(alloc));
-    for s in 0..outer.items().len() as u32 {
-        sizes.push(LISTS_SIZE + entry(outer, s) + entry(inner, s))?;
+    for state in 0..outer.items().len() as u32 {
+        sizes.push(LISTS_SIZE + entry(outer, state) + entry(inner, state))?;
     }
     Ok(sizes)
 }

@@ -8,48 +8,48 @@ ghost use Rattle.continuation_compile.specs.declared.number_limits.TheConstants 
 use checked_chart::{ListKind, Trans};
 
 /// The number of its guard's procedure, where the first of its parts has the number `first`.
-pub(crate) fn guard_number(t: &Trans, first: u32) -> Option<u32>
-    ensures { result ≡ (trans_numbers first (trans_seen t.now)).guard }
+pub(crate) fn guard_number(trans: &Trans, first: u32) -> Option<u32>
+    ensures { result ≡ (trans_numbers first (trans_seen trans.now)).guard }
 {
-    match t.guard {
+    match trans.guard {
         Some(_) => Some(first),
         None => None,
     }
 }
 
 /// The number of the first part after its guard.
-fn behind_guard(t: &Trans, first: u32) -> u32
+fn after_guard(trans: &Trans, first: u32) -> u32
     requires { first ≤ limits.PART_LIMIT }
-    ensures { result ≡ first + guard_count (trans_seen t.now).guard }
+    ensures { result ≡ first + guard_count (trans_seen trans.now).guard }
 {
-    match t.guard {
+    match trans.guard {
         Some(_) => first + 1,
         None => first,
     }
 }
 
 /// The number of the procedure of its condition action for a kind of list.
-pub(crate) fn condition_number(t: &Trans, kind: ListKind, first: u32) -> Option<u32>
+pub(crate) fn condition_number(trans: &Trans, kind: ListKind, first: u32) -> Option<u32>
     requires { first ≤ limits.PART_LIMIT }
-    ensures { result ≡ condition_of kind (trans_numbers first (trans_seen t.now)) }
+    ensures { result ≡ condition_of kind (trans_numbers first (trans_seen trans.now)) }
 {
-    if t.cond.items().is_empty() {
+    if trans.cond.items().is_empty() {
         return None;
     }
     match kind {
-        ListKind::Outer | ListKind::Inner => Some(behind_guard(t, first)),
-        ListKind::Default => Some(behind_guard(t, first) + 1),
+        ListKind::Outer | ListKind::Inner => Some(after_guard(trans, first)),
+        ListKind::Default => Some(after_guard(trans, first) + 1),
     }
 }
 
 /// The number of the procedure of its transition action.
-pub(crate) fn action_number(t: &Trans, first: u32) -> Option<u32>
+pub(crate) fn action_number(trans: &Trans, first: u32) -> Option<u32>
     requires { first ≤ limits.PART_LIMIT }
-    ensures { result ≡ (trans_numbers first (trans_seen t.now)).action }
+    ensures { result ≡ (trans_numbers first (trans_seen trans.now)).action }
 {
-    if t.act.items().is_empty() {
+    if trans.act.items().is_empty() {
         return None;
     }
-    let conditions = if t.cond.items().is_empty() { 0 } else { 2 };
-    Some(behind_guard(t, first) + conditions)
+    let conditions = if trans.cond.items().is_empty() { 0 } else { 2 };
+    Some(after_guard(trans, first) + conditions)
 }

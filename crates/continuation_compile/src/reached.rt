@@ -42,9 +42,9 @@ fn meet_all(found: &mut List<u32>, list: &[Trans]) -> Result<(), Memory>
     ensures { OnOk result (items_of found.new
         ≡ spec.meet (items_of found.old) (spec.junctions_to (list_seen list.now))) }
 {
-    for t in list {
-        if let Dest::Junction(j) = t.dest {
-            meet_one(found, j)?;
+    for trans in list {
+        if let Dest::Junction(junction) = trans.dest {
+            meet_one(found, junction)?;
         }
     }
     Ok(())
@@ -61,11 +61,11 @@ pub fn reached(alloc: Global, chart: &Chart, list: &[Trans]) -> Result<List<u32>
 {
     let mut found = List::of(Vec::new(alloc));
     meet_all(&mut found, list)?;
-    for i in 0..chart.junctions() as usize {
-        if i >= found.items().len() {
+    for place in 0..chart.junctions() as usize {
+        if place >= found.items().len() {
             break;
         }
-        let next = found.items()[i];
+        let next = found.items()[place];
         meet_all(&mut found, chart.junction(next))?;
     }
     Ok(found)

@@ -100,17 +100,17 @@ fn put_dest(
         ++ templates.dest_code (search_seen (chart_in numbering.now) search.now) note dest) }
 {
     match dest {
-        Dest::State(d) => {
+        Dest::State(target) => {
             put(
                 code,
-                Instr::Call(fire(numbering, search.state, search.kind, d), note),
+                Instr::Call(fire(numbering, search.state, search.kind, target), note),
             )?;
-            put_return(code, fired(numbering, search.state, search.kind, d))
+            put_return(code, fired(numbering, search.state, search.kind, target))
         }
-        Dest::Junction(j) => {
+        Dest::Junction(junction) => {
             put(
                 code,
-                Instr::Visit(search.first + 1 + place_of(search.found, j), note),
+                Instr::Visit(search.first + 1 + place_of(search.found, junction), note),
             )?;
             put(code, Instr::Pass)
         }
@@ -126,8 +126,8 @@ fn put_condition(
     ensures { OnOk result ((body : Instrs) → code_seen code.new ++ body
         ≡ code_seen code.old ++ templates.condition_code (test_of lasting) number body) }
 {
-    if let Some(p) = number {
-        put_call(code, p)?;
+    if let Some(procedure) = number {
+        put_call(code, procedure)?;
         put_require(code, test(lasting))?;
     }
     Ok(())
@@ -138,8 +138,8 @@ fn put_guard(code: &mut List<Instr>, number: Option<u32>, over: u32) -> Result<(
     ensures { OnOk result ((body : Instrs) → length body ≡ over → code_seen code.new ++ body
         ≡ code_seen code.old ++ templates.guarded_code number body) }
 {
-    if let Some(p) = number {
-        put_call(code, p)?;
+    if let Some(procedure) = number {
+        put_call(code, procedure)?;
         put(code, Instr::Unless(over, Cond::Result(GUARD_TRUE)))?;
     }
     Ok(())
@@ -150,8 +150,8 @@ fn put_event(code: &mut List<Instr>, event: Option<u32>, over: u32) -> Result<()
     ensures { OnOk result ((body : Instrs) → length body ≡ over → code_seen code.new ++ body
         ≡ code_seen code.old ++ templates.event_code event body) }
 {
-    if let Some(e) = event {
-        put(code, Instr::Unless(over, Cond::Current(e)))?;
+    if let Some(number) = event {
+        put(code, Instr::Unless(over, Cond::Current(number)))?;
     }
     Ok(())
 }
@@ -185,26 +185,26 @@ fn put_trans(
     code: &mut List<Instr>,
     numbering: &Numbering<'_>,
     search: &Search<'_>,
-    t: &Trans,
+    trans: &Trans,
     first: u32,
 ) -> Result<(), Memory>
     requires numbers { IsNumbering numbering.now }
     requires search { IsSearch (chart_in numbering.now) search.now }
-    requires dest { IsDest (chart_in numbering.now) t.now.dest }
+    requires dest { IsDest (chart_in numbering.now) trans.now.dest }
     requires low { first ≤ limits.PART_LIMIT }
     ensures { OnOk result (code_seen code.new ≡ code_seen code.old
-        ++ templates.trans_code (search_seen (chart_in numbering.now) search.now) (trans_seen t.now)
-        (places.trans_numbers first (trans_seen t.now))) }
+        ++ templates.trans_code (search_seen (chart_in numbering.now) search.now)
+        (trans_seen trans.now) (places.trans_numbers first (trans_seen trans.now))) }
 {
-    let guard = guard_number(t, first);
-    let condition = condition_number(t, search.kind, first);
-    let action = action_number(t, first);
+    let guard = guard_number(trans, first);
+    let condition = condition_number(trans, search.kind, first);
+    let action = action_number(trans, first);
     let lead = lead_length(condition);
     let passed = guarded_length(guard, lead);
-    put_event(code, t.event, passed)?;
+    put_event(code, trans.event, passed)?;
     put_guard(code, guard, lead)?;
     put_condition(code, lasting(search.kind), condition)?;
-    put_dest(code, numbering, search, action, t.dest)?;
+    put_dest(code, numbering, search, action, trans.dest)?;
     Ok(())
 }
 
@@ -226,9 +226,9 @@ fn put_list(
         (list_seen list.now) (places.parts_numbers first (list_seen list.now))) }
 {
     let mut number = first;
-    for t in list {
-        put_trans(code, numbering, search, t, number)?;
-        number += trans_size(t);
+    for trans in list {
+        put_trans(code, numbering, search, trans, number)?;
+        number += trans_size(trans);
     }
     put_return(code, NOTHING)?;
     Ok(())
@@ -244,7 +244,7 @@ fn put_empty(
     ensures { OnOk result (code_seen code.new ≡ code_seen code.old
         ++ templates.empty_code (search_seen (chart_in numbering.now) search.now).end) }
 {
-    // Only the contract reads the numbering.
+    // Only the proof reads the numbering: the contract names its chart.
     let _ = numbering;
     match search.kind {
         ListKind::Outer | ListKind::Inner => {

@@ -11,13 +11,13 @@ use checked_chart::Trans;
 
 /// How many procedures the parts of a transition have.
 #[tactic(auto, unfolding(chart_layout::specs::Places::trans_size))]
-pub(crate) fn trans_size(t: &Trans) -> u32
-    ensures size { result ≡ places.trans_size (trans_seen t.now) }
+pub(crate) fn trans_size(trans: &Trans) -> u32
+    ensures size { result ≡ places.trans_size (trans_seen trans.now) }
     ensures few { result ≤ 4 }
 {
-    let guard = if t.guard.is_some() { 1 } else { 0 };
-    let condition = if t.cond.items().is_empty() { 0 } else { 2 };
-    let action = if t.act.items().is_empty() { 0 } else { 1 };
+    let guard = if trans.guard.is_some() { 1 } else { 0 };
+    let condition = if trans.cond.items().is_empty() { 0 } else { 2 };
+    let action = if trans.act.items().is_empty() { 0 } else { 1 };
     guard + condition + action
 }
 
@@ -28,8 +28,8 @@ pub(crate) fn parts_size(list: &[Trans]) -> u32
     ensures { result ≡ places.parts_size (list_seen list.now) }
 {
     let mut size = 0;
-    for t in list {
-        size += trans_size(t);
+    for trans in list {
+        size += trans_size(trans);
     }
     size
 }

@@ -7,7 +7,7 @@ use Rattle.continuation_compile.specs.Numberings.{chart_in}
 use Rattle.continuation_compile.proofs.blocks.append_parts.Given as goal
 
 -- what is written and what is left are what was there and the parts of the whole list
-abbrev pub invariant-loop-t : goal.invariant-loop-t
-invariant-loop-t l =
-    procs_of l.draft ++ map (body (chart_in l.numbering)) (parts_keys (list_seen (drop l.t-index l.list)))
+abbrev pub invariant-loop-trans : goal.invariant-loop-trans
+invariant-loop-trans l =
+    procs_of l.draft ++ map (body (chart_in l.numbering)) (parts_keys (list_seen (drop l.trans-index l.list)))
     ≡ procs_of l.initial.draft ++ map (body (chart_in l.numbering)) (parts_keys (list_seen l.list))

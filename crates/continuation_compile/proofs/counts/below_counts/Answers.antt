@@ -6,15 +6,15 @@ use Rattle.continuation_compile.proofs.Limits.{below_low}
 use Rattle.continuation_compile.proofs.TableTurns.{table_more}
 use Rattle.continuation_compile.proofs.counts.below_counts.Goals as goal
 
-pub loop-s-preserved : goal.loop-s-preserved
-loop-s-preserved c =
+pub loop-state-preserved : goal.loop-state-preserved
+loop-state-preserved c =
     let t = c.args.shape.now in
-    let s = c.loop-s.s in
-    table_more (below_count t) s (s + 1) STATE_LIMIT c.below_count.result (items_of c.loop-s.counts) _ refl
-    c.loop-s.invariant c.below_count.ensures
+    let s = c.loop-state.state in
+    table_more (below_count t) s (s + 1) STATE_LIMIT c.below_count.result (items_of c.loop-state.counts) _ refl
+    c.loop-state.invariant c.below_count.ensures
     (omega (
       arith,
       c.below_count.ensures,
       below_low t c.requires.tree c.requires.few s
-          (omega (arith, c.loop-s-test.true, c.len-s-end.ensures.count)),
+          (omega (arith, c.loop-state-test.true, c.len-state-end.ensures.count)),
     )) c.in_ok-push.ensures.ok

@@ -5,6 +5,6 @@ use Rattle.continuation_compile.specs.Tables.{IsTable}
 use Rattle.continuation_compile.proofs.counts.below_counts.Given as goal
 
 -- those before the number are in the table
-abbrev pub invariant-loop-s : goal.invariant-loop-s
-invariant-loop-s l =
-    IsTable (below_count l.shape) l.s STATE_LIMIT (items_of l.counts)
+abbrev pub invariant-loop-state : goal.invariant-loop-state
+invariant-loop-state l =
+    IsTable (below_count l.shape) l.state STATE_LIMIT (items_of l.counts)

@@ -7,7 +7,7 @@ use Rattle.continuation_compile.specs.Tables.{IsTable}
 use Rattle.continuation_compile.proofs.counts.group_sizes.Given as goal
 
 -- those before the number are in the table
-abbrev pub invariant-loop-s : goal.invariant-loop-s
-invariant-loop-s l =
+abbrev pub invariant-loop-state : goal.invariant-loop-state
+invariant-loop-state l =
     IsTable (λ s. BELOW_SIZE * slice_index_or (items_of l.below) s 0 + GROUP_SIZE
-    + slice_index_or (items_of l.default) s 0) l.s SIZE_LIMIT (items_of l.sizes)
+    + slice_index_or (items_of l.default) s 0) l.state SIZE_LIMIT (items_of l.sizes)

@@ -6,6 +6,6 @@ use Rattle.continuation_compile.specs.Tables.{IsTable}
 use Rattle.continuation_compile.proofs.counts.junction_parts_sizes.Given as goal
 
 -- those before the number are in the table
-abbrev pub invariant-loop-j : goal.invariant-loop-j
-invariant-loop-j l =
-    IsTable (junction_parts_size (chart_of l.chart)) l.j SIZE_LIMIT (items_of l.sizes)
+abbrev pub invariant-loop-junction : goal.invariant-loop-junction
+invariant-loop-junction l =
+    IsTable (junction_parts_size (chart_of l.chart)) l.junction SIZE_LIMIT (items_of l.sizes)

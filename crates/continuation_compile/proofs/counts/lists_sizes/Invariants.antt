@@ -7,7 +7,7 @@ use Rattle.continuation_compile.specs.Tables.{IsTable}
 use Rattle.continuation_compile.proofs.counts.lists_sizes.Given as goal
 
 -- those before the number are in the table
-abbrev pub invariant-loop-s : goal.invariant-loop-s
-invariant-loop-s l =
-    IsTable (λ s. LISTS_SIZE + slice_index_or (items_of l.outer) s 0 + slice_index_or (items_of l.inner) s 0) l.s
+abbrev pub invariant-loop-state : goal.invariant-loop-state
+invariant-loop-state l =
+    IsTable (λ s. LISTS_SIZE + slice_index_or (items_of l.outer) s 0 + slice_index_or (items_of l.inner) s 0) l.state
     SIZE_LIMIT (items_of l.sizes)

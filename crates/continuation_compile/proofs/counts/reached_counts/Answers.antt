@@ -15,16 +15,16 @@ overflow_cast-items c =
     omega (
       arith,
       ap (λ xs. length xs) (c.items.ensures ∙ c.in_ok-found.ensures.reached ∙ ap (reached chart) c.list.ensures.list),
-      reached_count_low chart c.shape.ensures.valid c.loop-s.s c.args.kind,
+      reached_count_low chart c.shape.ensures.valid c.loop-state.state c.args.kind,
     )
 
-pub loop-s-preserved : goal.loop-s-preserved
+pub loop-state-preserved : goal.loop-state-preserved
 unfolding reached_count
-loop-s-preserved c =
+loop-state-preserved c =
     let chart = chart_of c.args.chart.now in
-    let s = c.loop-s.s in
+    let s = c.loop-state.state in
     let is =
     ap (λ xs. length xs) (c.items.ensures ∙ c.in_ok-found.ensures.reached ∙ ap (reached chart) c.list.ensures.list) in
     table_more (λ s. reached_count chart s c.args.kind) s (s + 1) JUNCTION_LIMIT (length c.items.result.now)
-    (items_of c.loop-s.counts) _ refl c.loop-s.invariant is
+    (items_of c.loop-state.counts) _ refl c.loop-state.invariant is
     (omega (arith, is, reached_count_low chart c.shape.ensures.valid s c.args.kind)) c.in_ok-push.ensures.ok

@@ -6,6 +6,6 @@ use Rattle.continuation_compile.specs.Tables.{IsTable}
 use Rattle.continuation_compile.proofs.counts.reached_counts.Given as goal
 
 -- those before the number are in the table
-abbrev pub invariant-loop-s : goal.invariant-loop-s
-invariant-loop-s l =
-    IsTable (λ s. reached_count (chart_of l.chart) s l.kind) l.s JUNCTION_LIMIT (items_of l.counts)
+abbrev pub invariant-loop-state : goal.invariant-loop-state
+invariant-loop-state l =
+    IsTable (λ s. reached_count (chart_of l.chart) s l.kind) l.state JUNCTION_LIMIT (items_of l.counts)

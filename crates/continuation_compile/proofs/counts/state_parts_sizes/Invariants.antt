@@ -6,6 +6,6 @@ use Rattle.continuation_compile.specs.Tables.{IsTable}
 use Rattle.continuation_compile.proofs.counts.state_parts_sizes.Given as goal
 
 -- those before the number are in the table
-abbrev pub invariant-loop-s : goal.invariant-loop-s
-invariant-loop-s l =
-    IsTable (state_parts_size (chart_of l.chart)) l.s SIZE_LIMIT (items_of l.sizes)
+abbrev pub invariant-loop-state : goal.invariant-loop-state
+invariant-loop-state l =
+    IsTable (state_parts_size (chart_of l.chart)) l.state SIZE_LIMIT (items_of l.sizes)

@@ -5,7 +5,7 @@ use Rattle.chart_layout.specs.ReachedJunctions.{meet, junctions_to}
 use Rattle.continuation_compile.proofs.reached.meet_all.Given as goal
 
 -- what is met, with what the rest leads to, is what was there with what the whole list leads to
-abbrev pub invariant-loop-t : goal.invariant-loop-t
-invariant-loop-t l =
-    meet (items_of l.found) (junctions_to (list_seen (drop l.t-index l.list)))
+abbrev pub invariant-loop-trans : goal.invariant-loop-trans
+invariant-loop-trans l =
+    meet (items_of l.found) (junctions_to (list_seen (drop l.trans-index l.list)))
     ≡ meet (items_of l.initial.found) (junctions_to (list_seen l.list))

@@ -8,10 +8,10 @@ use Rattle.chart_layout.specs.ReachedJunctions.{spread, junctions_to, reached}
 use Rattle.continuation_compile.proofs.reached.reached.Given as goal
 
 -- what is found, with what is left to look at, is what is reached; all are junctions of the chart
-abbrev pub invariant-loop-i : goal.invariant-loop-i
-invariant-loop-i l = record {
-  same : spread (λ j. junctions_to (junction (chart_of l.chart) j)) (junction_count (chart_of l.chart) - l.i) l.i
-      (items_of l.found)
+abbrev pub invariant-loop-place : goal.invariant-loop-place
+invariant-loop-place l = record {
+  same : spread (λ j. junctions_to (junction (chart_of l.chart) j)) (junction_count (chart_of l.chart) - l.place)
+      l.place (items_of l.found)
       ≡ reached (chart_of l.chart) (list_seen l.list);
   within : AllByRecursion (λ j. j < junction_count (chart_of l.chart)) (items_of l.found);
 }

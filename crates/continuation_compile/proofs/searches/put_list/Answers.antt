@@ -7,37 +7,38 @@ use Rattle.continuation_compile.proofs.searches.put_list.Goals as goal
 
 pub put_trans-requires-clause-dest : goal.put_trans-requires-clause-dest
 put_trans-requires-clause-dest c =
-    dest_at (chart_in c.args.numbering.now) c.args.list.now c.loop-t.t-index c.t-item.result c.requires.valid
-    (omega arith) c.t-item.is
+    dest_at (chart_in c.args.numbering.now) c.args.list.now c.loop-trans.trans-index c.trans-item.result
+    c.requires.valid (omega arith) c.trans-item.is
 
 pub put_trans-requires-clause-low : goal.put_trans-requires-clause-low
-put_trans-requires-clause-low c = omega (arith, c.loop-t.invariant.number, c.requires.low)
+put_trans-requires-clause-low c = omega (arith, c.loop-trans.invariant.number, c.requires.low)
 
 pub overflow_add-number : goal.overflow_add-number
 overflow_add-number c =
     omega (
       arith,
-      c.loop-t.invariant.number,
+      c.loop-trans.invariant.number,
       c.requires.low,
       c.trans_size-number.ensures.size,
-      size_there c.args.list.now c.loop-t.t-index c.t-item.result (omega arith) c.t-item.is,
+      size_there c.args.list.now c.loop-trans.trans-index c.trans-item.result (omega arith) c.trans-item.is,
     )
 
-pub loop-t-preserved : goal.loop-t-preserved
-loop-t-preserved c =
+pub loop-trans-preserved : goal.loop-trans-preserved
+loop-trans-preserved c =
     let S = search_seen (chart_in c.args.numbering.now) c.args.search.now in
     record {
       code =
-          list_turn S c.args.list.now c.loop-t.t-index c.loop-t.number c.trans_size-number.result c.t-item.result
-          (code_seen c.loop-t.code) _ _ (omega arith) c.t-item.is c.trans_size-number.ensures.size c.loop-t.invariant.code
-          c.in_ok-put_trans.ensures;
+          list_turn S c.args.list.now c.loop-trans.trans-index c.loop-trans.number c.trans_size-number.result
+          c.trans-item.result (code_seen c.loop-trans.code) _ _ (omega arith) c.trans-item.is
+          c.trans_size-number.ensures.size c.loop-trans.invariant.code c.in_ok-put_trans.ensures;
       number =
-          size_turn c.args.list.now c.loop-t.t-index c.loop-t.number c.trans_size-number.result _ c.t-item.result (omega arith)
-          c.t-item.is c.trans_size-number.ensures.size c.loop-t.invariant.number;
+          size_turn c.args.list.now c.loop-trans.trans-index c.loop-trans.number c.trans_size-number.result _
+          c.trans-item.result (omega arith) c.trans-item.is c.trans_size-number.ensures.size
+          c.loop-trans.invariant.number;
     }
 
 pub returns : goal.returns
 returns c =
     let S = search_seen (chart_in c.args.numbering.now) c.args.search.now in
-    list_done S c.args.list.now c.loop-t.t-index c.loop-t.number (code_seen c.loop-t.code) _ _ (omega arith)
-    c.loop-t.invariant.code c.in_ok-put_return.ensures
+    list_done S c.args.list.now c.loop-trans.trans-index c.loop-trans.number (code_seen c.loop-trans.code) _ _
+    (omega arith) c.loop-trans.invariant.code c.in_ok-put_return.ensures

@@ -8,15 +8,15 @@ use Rattle.continuation_compile.specs.Searches.{search_seen}
 use Rattle.continuation_compile.proofs.searches.put_list.Given as goal
 
 -- what is written and what is left are what was there and the whole list; the number is that of the next part
-abbrev pub invariant-loop-t : goal.invariant-loop-t
-invariant-loop-t l = record {
+abbrev pub invariant-loop-trans : goal.invariant-loop-trans
+invariant-loop-trans l = record {
   code :
       code_seen l.code
-      ++ list_code (search_seen (chart_in l.numbering) l.search) (list_seen (drop l.t-index l.list))
-      (parts_numbers l.number (list_seen (drop l.t-index l.list)))
+      ++ list_code (search_seen (chart_in l.numbering) l.search) (list_seen (drop l.trans-index l.list))
+      (parts_numbers l.number (list_seen (drop l.trans-index l.list)))
       ≡ code_seen l.initial.code
       ++ list_code (search_seen (chart_in l.numbering) l.search) (list_seen l.list)
       (parts_numbers l.first (list_seen l.list));
   number :
-      l.number + parts_size (list_seen (drop l.t-index l.list)) ≡ l.first + parts_size (list_seen l.list);
+      l.number + parts_size (list_seen (drop l.trans-index l.list)) ≡ l.first + parts_size (list_seen l.list);
 }

@@ -12,7 +12,7 @@ pub returns : goal.returns
 returns c =
     let chart = chart_in c.args.numbering.now in
     let S = search_seen chart c.args.search.now in
-    trans_turn S (trans_seen c.args.t.now) (trans_numbers c.args.first (trans_seen c.args.t.now))
+    trans_turn S (trans_seen c.args.trans.now) (trans_numbers c.args.first (trans_seen c.args.trans.now))
     (code_seen c.args.code.now) _ _ _ _ c.guard_number-guard.result c.condition_number-condition.result
     c.action_number-action.result c.guard_number-guard.ensures c.condition_number-condition.ensures
     c.action_number-action.ensures c.lead_length-lead.result c.guarded_length-passed.result

@@ -1,7 +1,7 @@
 use Rattle.std.proofs.Common.{◌∙◌, sym, arith}
 use Rattle.chart_layout.specs.Ends.{below_count}
 use Rattle.chart_layout.proofs.EndsLemmas.{end_is}
-use Rattle.continuation_compile.proofs.EndTurns.{below_before, other_behind}
+use Rattle.continuation_compile.proofs.EndTurns.{below_before, other_after}
 use Rattle.continuation_compile.proofs.sizes.below_count.Goals as goal
 use Rattle.continuation_compile.proofs.sizes.below_count.Goals.{then-loop-next-test+else-is_below, else-loop-next-test}
 
@@ -41,7 +41,7 @@ returns c =
           omega (
             arith,
             inv.within,
-            other_behind t c.requires.tree s c.loop-next.next c.requires.state
+            other_after t c.requires.tree s c.loop-next.next c.requires.state
                 (omega (arith, w.loop-next-test.true, c.len-count.ensures.count)) inv.after
                 (sym w.is_below.ensures ∙ w.if-is_below.false),
           )

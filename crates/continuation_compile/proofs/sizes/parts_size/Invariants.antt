@@ -4,5 +4,5 @@ use Rattle.chart_layout.specs.Places.{parts_size}
 use Rattle.continuation_compile.proofs.sizes.parts_size.Given as goal
 
 -- those that are counted and those of the rest are all
-abbrev pub invariant-loop-t : goal.invariant-loop-t
-invariant-loop-t l = l.size + parts_size (list_seen (drop l.t-index l.list)) ≡ parts_size (list_seen l.list)
+abbrev pub invariant-loop-trans : goal.invariant-loop-trans
+invariant-loop-trans l = l.size + parts_size (list_seen (drop l.trans-index l.list)) ≡ parts_size (list_seen l.list)

@@ -5,13 +5,14 @@ use Rattle.std.proofs.Common.{length, refl, sym, ap, ◌∙◌, arith}
 use Rattle.std.specs.List.{list_all}
 use Rattle.std.proofs.lemmas.Bool.Decides.{nat_tests}
 use Rattle.std.proofs.lemmas.List.{append-nil, append_assoc}
-use Rattle.c_subset.specs.Lines.{Else, else_lines, lines_of}
+use Rattle.c_subset.specs.Lines.{Line, Else, else_lines, lines_of}
 use Rattle.c_subset.specs.Running.{same_type}
 use Rattle.c_subset.specs.Trees.{CExpr, Block, End, If}
 use Rattle.c_subset.specs.declared.trees.CType.{CType}
 use Rattle.c_functions.specs.Plans.{word}
 use Rattle.c_loops.specs.Results.{is_local, is_end}
 use Rattle.c_loops.specs.Loops.{are_locals, are_words, is_some_of, leads_back, rests, again}
+use Rattle.c_loops.specs.Writing.{else_line}
 use Rattle.c_loops.proofs.Giving.{both-true}
 
 pub and-true : (b : Bool) → (b && true) ≡ b
@@ -68,7 +69,13 @@ if-again p e a b rest = at (leads_back p (rests p a) a b)
 
 pub ruleset again_if = (if-again)
 
-pub ruleset writes = (append_assoc, append-nil, else-is, else-none, lists)
+-- the line of an `else` and the lines after it
+pub else-on : (b : Block) (xs : List Line) → else_line (is_end b) ++ (lines_of b ++ xs) ≡ else_lines (lines_of b) ++ xs
+unfolding lines_of else_line
+else-on End xs = refl
+else-on b xs = refl
+
+pub ruleset writes = (append_assoc, append-nil, else-on, lists)
 
 -- the parameters are five
 locals-size : (es : List CExpr) (i : ℕ) → are_locals i es ≡ true → i + length es ≡ 5

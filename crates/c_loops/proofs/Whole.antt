@@ -9,7 +9,7 @@ use Rattle.c_subset.specs.declared.trees.Function as declared_function
 use Rattle.c_subset.specs.declared.trees.Line as declared_line
 use Rattle.c_subset.specs.Lines.{line_of, lines_in, lines_of, IsFunction}
 use Rattle.c_loops.specs.Reading.{statements_of}
-use Rattle.c_loops.specs.Loops.{loops, forever, again, turned, may_loop, looped}
+use Rattle.c_loops.specs.Loops.{turned, may_loop, looped}
 use Rattle.c_loops.proofs.ReadLemmas.{read-whole}
 
 -- a function has the types and as many lines as its lines say
@@ -22,13 +22,6 @@ may-same f g h =
     ∙ ap (λ (n : ℕ). may_loop g.result g.parameters n)
     (sym (length-map (items_of f.lines) line_of) ∙ ap length h.lines)
 
--- its lines are read as its body
-pub tree-is : (f : declared_function.Function) (g : Function) (ls : List declared_line.Line) (b : Block)
-    → b ≡ statements_of (lines_in ls) → ls ≡ items_of f.lines → IsFunction f g → b ≡ g.body
-tree-is f g ls b is same h =
-    is ∙ ap (λ (ls : List declared_line.Line). statements_of (lines_in ls)) same ∙ ap statements_of h.lines
-    ∙ read-whole g.body
-
 -- one that may not be a loop stays as it is
 pub plain-is : (f : declared_function.Function) (g : Function) (p : ℕ)
     → may_loop f.result (items_of f.parameters) (length (items_of f.lines)) ≡ false
@@ -37,35 +30,21 @@ plain-is f g p none h =
     subst (λ (b : Bool). IsFunction f (cond b (record g { body = turned p g.body }) g))
     (sym (sym (may-same f g h) ∙ none)) h
 
--- so does one that is none
-pub stays-is : (f : declared_function.Function) (g : Function) (p : ℕ) (b : Block) → b ≡ g.body
-    → loops p b ≡ false → IsFunction f g → IsFunction f (looped p g)
-stays-is f g p b same none h =
-    at (may_loop g.result g.parameters (length (lines_of g.body))) (loops p g.body)
-    (ap (λ (b : Block). loops p b) (sym same) ∙ none)
-  where
-    at : (a l : Bool) → l ≡ false
-        → IsFunction f (cond a (record g { body = cond l (forever (again p g.body)) g.body }) g)
-    at true true e = absurd cc
-    at true false e = h
-    at false l e = h
-
--- another has the lines of the loop
+-- another has the lines of its body, as a loop where it may be one
 pub loop-is : (f : declared_function.Function) (ls : Items declared_line.Line) (g : Function) (p : ℕ) (b : Block)
-    → b ≡ g.body → loops p b ≡ true
+    → b ≡ statements_of (lines_in (items_of f.lines))
     → may_loop f.result (items_of f.parameters) (length (items_of f.lines)) ≡ true
-    → lines_in (items_of ls) ≡ lines_of (forever (again p b)) → IsFunction f g
+    → lines_in (items_of ls) ≡ lines_of (turned p b) → IsFunction f g
     → IsFunction (record f { lines = ls }) (looped p g)
-loop-is f ls g p b same is may made h =
-    at (may_loop g.result g.parameters (length (lines_of g.body))) (loops p g.body)
-    (sym (may-same f g h) ∙ may) (ap (λ (b : Block). loops p b) (sym same) ∙ is)
+loop-is f ls g p b is may made h =
+    at (may_loop g.result g.parameters (length (lines_of g.body))) (sym (may-same f g h) ∙ may)
+    (is ∙ ap statements_of h.lines ∙ read-whole g.body)
   where
-    at : (a l : Bool) → a ≡ true → l ≡ true → IsFunction (record f { lines = ls })
-        (cond a (record g { body = cond l (forever (again p g.body)) g.body }) g)
-    at true true may is = record {
+    at : (a : Bool) → a ≡ true → b ≡ g.body
+        → IsFunction (record f { lines = ls }) (cond a (record g { body = turned p g.body }) g)
+    at true may same = record {
       result = h.result;
       parameters = h.parameters;
-      lines = made ∙ ap (λ (b : Block). lines_of (forever (again p b))) same;
+      lines = made ∙ ap (λ (b : Block). lines_of (turned p b)) same;
     }
-    at true false may is = absurd cc
-    at false l may is = absurd cc
+    at false may same = absurd cc

@@ -16,7 +16,7 @@ pub record Open : Type 0 where
 abbrev pub opens_of : Stack → List Open
 opens_of stacks.Empty = []
 opens_of (stacks.Top' tree has_else p below) =
-    record { block = block_of tree; has_else = has_else } ∷ opens_of below
+    record { block = block_of tree.value; has_else = has_else } ∷ opens_of below
 
 -- a statement without parts before others
 abbrev pub step : Line → Block → Block

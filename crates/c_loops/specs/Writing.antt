@@ -1,30 +1,16 @@
 -- Statements, a line at a time.
-use Rattle.std.specs.Prelude.{List, [], ◌∷◌, ◌++◌}
-use Rattle.c_subset.specs.Trees.{Block}
-use Rattle.c_subset.specs.Trees as c
-use Rattle.c_subset.specs.Lines.{Line, Set, Store, StoreAt, Call, Select, If, While, Close, Return}
-use Rattle.c_subset.specs.Lines.{else_lines, lines_of}
+use Rattle.std.specs.Prelude.{Bool, if◌then◌else◌, List, [], ◌∷◌, ◌++◌}
+use Rattle.c_subset.specs.Trees.{CExpr, Block}
+use Rattle.c_subset.specs.Lines.{Line, If, Else, While, Close, else_lines, lines_of}
 
--- the first line of statements; a closing one where there are none
-abbrev pub first_line : Block → Line
-first_line c.End = Close
-first_line (c.Set t k e rest) = Set t k e
-first_line (c.Store f e rest) = Store f e
-first_line (c.StoreAt a i e rest) = StoreAt a i e
-first_line (c.Call t k f args rest) = Call t k f args
-first_line (c.Select t k e cases args rest) = Select t k e cases args
-first_line (c.If e a b rest) = If e
-first_line (c.While e a rest) = While e
-first_line (c.Return e) = Return e
+-- The line between both parts of an `if`, unless the second one is empty
+unfoldable pub else_line : Bool → List Line
+else_line is_empty = if is_empty then [] else Else ∷ []
 
--- the lines of an `if` or a `while` with its parts, without those after it
-abbrev pub lines_with_parts : Block → List Line
-lines_with_parts c.End = []
-lines_with_parts (c.Set t k e rest) = []
-lines_with_parts (c.Store f e rest) = []
-lines_with_parts (c.StoreAt a i e rest) = []
-lines_with_parts (c.Call t k f args rest) = []
-lines_with_parts (c.Select t k e cases args rest) = []
-lines_with_parts (c.If e a b rest) = If e ∷ lines_of a ++ else_lines (lines_of b) ++ Close ∷ []
-lines_with_parts (c.While e a rest) = While e ∷ lines_of a ++ Close ∷ []
-lines_with_parts (c.Return e) = []
+-- the lines of an `if` with its parts
+abbrev pub if_lines : CExpr → Block → Block → List Line
+if_lines e a b = If e ∷ lines_of a ++ else_lines (lines_of b) ++ Close ∷ []
+
+-- the lines of a `while` with its part
+abbrev pub while_lines : CExpr → Block → List Line
+while_lines e a = While e ∷ lines_of a ++ Close ∷ []

@@ -8,13 +8,12 @@ ghost use Rattle.c_loops.specs.Loops as spec;
 ghost use Rattle.c_loops.specs.Loops.{looped};
 ghost use Rattle.c_loops.specs.Reading.{statements_of};
 
-use crate::copying::copy_lines;
 use crate::deciding::loops;
 use crate::expressions::is_word;
 use crate::reading::{Stack, read_lines};
 use crate::trees::Tree;
 use crate::turns::write_again;
-use crate::writing::put;
+use crate::writing::{put, write};
 use c_subset::{CExpr, CType, Function, Line};
 use flow_base::{List, Memory};
 use std::alloc::Global;
@@ -46,27 +45,47 @@ fn may_loop(function: &Function) -> bool
 }
 
 /// The lines as statements.
-fn tree_of(alloc: Global, lines: &[Line]) -> Result<Tree, Memory>
-    ensures { IfOk result (λ tree. block_of tree ≡ statements_of (lines_in lines.now)) }
+fn tree_of(alloc: Global, lines: List<Line>) -> Result<Tree, Memory>
+    ensures { IfOk result (λ tree. block_of tree ≡ statements_of (lines_in (items_of lines))) }
 {
-    let copies = copy_lines(alloc, lines)?;
-    match read_lines(alloc, copies)? {
+    match read_lines(alloc, lines.into_items())? {
         Stack::Empty => Ok(Tree::End),
-        Stack::Top(tree, _, _) => Ok(tree),
+        Stack::Top(tree, _, _) => Ok(Box::into_inner(tree)),
     }
+}
+
+/// The lines of the statements.
+fn lines_of_tree(alloc: Global, tree: Tree) -> Result<List<Line>, Memory>
+    ensures { IfOk result (λ made. lines_in (items_of made) ≡ lines_of (block_of tree)) }
+{
+    let mut made = List::of(Vec::new(alloc));
+    write(tree, &mut made)?;
+    Ok(made)
 }
 
 /// The lines of the loop whose turns are these statements.
 #[tactic(auto, using(crate::proofs::Lists::writes), unfolding(c_subset::specs::Lines::lines_of))]
-fn lines_of_loop(alloc: Global, number: u32, tree: &Tree) -> Result<List<Line>, Memory>
+fn lines_of_loop(alloc: Global, number: u32, tree: Tree) -> Result<List<Line>, Memory>
     ensures { IfOk result (λ made. lines_in (items_of made)
-        ≡ lines_of (spec.forever (spec.again number (block_of tree.now)))) }
+        ≡ lines_of (spec.forever (spec.again number (block_of tree)))) }
 {
     let mut made = List::of(Vec::new(alloc));
     put(&mut made, Line::While(CExpr::Const(CType::Truth, 1)))?;
-    write_again(alloc, number, tree, &mut made)?;
+    write_again(number, tree, &mut made)?;
     put(&mut made, Line::Close)?;
     Ok(made)
+}
+
+/// The lines of the statements, as a loop where they may be one.
+fn turned_lines(alloc: Global, number: u32, tree: Tree) -> Result<List<Line>, Memory>
+    ensures { IfOk result (λ made. lines_in (items_of made)
+        ≡ lines_of (spec.turned number (block_of tree))) }
+{
+    if loops(number, &tree) {
+        lines_of_loop(alloc, number, tree)
+    } else {
+        lines_of_tree(alloc, tree)
+    }
 }
 
 /// The function with this number, as a loop where it may be one: where it is of a procedure, isn't
@@ -81,11 +100,8 @@ pub fn with_loop(alloc: Global, number: u32, function: Function) -> Result<Funct
     if !may_loop(&function) {
         return Ok(function);
     }
-    let tree = tree_of(alloc, function.lines.items())?;
-    if !loops(number, &tree) {
-        return Ok(function);
-    }
-    let lines = lines_of_loop(alloc, number, &tree)?;
+    let tree = tree_of(alloc, function.lines)?;
+    let lines = turned_lines(alloc, number, tree)?;
     Ok(Function {
         result: function.result,
         parameters: function.parameters,

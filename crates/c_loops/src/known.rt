@@ -3,7 +3,7 @@ ghost use Rattle.std.specs.Prelude.{◌≡◌};
 ghost use Rattle.c_loops.specs.Results as spec;
 
 /// What is known of a result.
-#[derive(Clone, Copy, Debug, PartialEq, Eq)]
+#[derive(Clone, Copy)]
 pub enum Known {
     /// It is this number.
     Exactly(u32),
@@ -14,7 +14,7 @@ pub enum Known {
 }
 
 /// What an expression tests of the last result.
-#[derive(Clone, Copy, Debug, PartialEq, Eq)]
+#[derive(Clone, Copy)]
 pub enum Test {
     /// That it is this number.
     Equal(u32),

@@ -4,7 +4,6 @@
 //! pass.
 #![tactic(auto)]
 
-mod copying;
 mod deciding;
 mod expressions;
 mod functions;

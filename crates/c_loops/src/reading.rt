@@ -12,12 +12,12 @@ use flow_base::Memory;
 use std::alloc::Global;
 
 /// What is read of each block that is open, the innermost first.
-#[derive(Debug, Drop)]
+#[derive(Drop)]
 pub enum Stack {
     /// No block is open.
     Empty,
     /// A block, whether it is the first part of an `if` with a second one, and those around it.
-    Top(Tree, bool, Box<Stack>),
+    Top(Box<Tree>, bool, Box<Stack>),
 }
 
 /// The tree in a box.
@@ -35,30 +35,27 @@ fn opened(alloc: Global, has_else: bool, below: Stack) -> Result<Stack, Memory>
     ensures { IfOk result (λ stack. opens_of stack
         ≡ record { block = c.End; has_else = has_else } ∷ opens_of below) }
 {
+    let tree = boxed(alloc, Tree::End)?;
     match Box::new(alloc, below) {
-        Ok(holder) => Ok(Stack::Top(Tree::End, has_else, holder)),
+        Ok(holder) => Ok(Stack::Top(tree, has_else, holder)),
         Err(_) => Err(Memory),
     }
 }
 
 /// A statement without parts before others; another line changes nothing.
-fn step(alloc: Global, line: Line, rest: Tree) -> Result<Tree, Memory>
-    ensures { IfOk result (λ tree. block_of tree ≡ spec.step (line_of line) (block_of rest)) }
+fn step(line: Line, rest: Box<Tree>) -> Tree
+    ensures { block_of result ≡ spec.step (line_of line) (block_of rest.value) }
 {
     match line {
-        Line::Set(of, local, expr) => Ok(Tree::Set(of, local, expr, boxed(alloc, rest)?)),
-        Line::Store(field, expr) => Ok(Tree::Store(field, expr, boxed(alloc, rest)?)),
-        Line::StoreAt(row, index, expr) => {
-            Ok(Tree::StoreAt(row, index, expr, boxed(alloc, rest)?))
-        }
-        Line::Call(of, local, function, args) => {
-            Ok(Tree::Call(of, local, function, args, boxed(alloc, rest)?))
-        }
+        Line::Set(of, local, expr) => Tree::Set(of, local, expr, rest),
+        Line::Store(field, expr) => Tree::Store(field, expr, rest),
+        Line::StoreAt(row, index, expr) => Tree::StoreAt(row, index, expr, rest),
+        Line::Call(of, local, function, args) => Tree::Call(of, local, function, args, rest),
         Line::Select(of, local, expr, cases, args) => {
-            Ok(Tree::Select(of, local, expr, cases, args, boxed(alloc, rest)?))
+            Tree::Select(of, local, expr, cases, args, rest)
         }
-        Line::Return(expr) => Ok(Tree::Return(expr)),
-        Line::If(_) | Line::Else | Line::While(_) | Line::Close => Ok(rest),
+        Line::Return(expr) => Tree::Return(expr),
+        Line::If(_) | Line::Else | Line::While(_) | Line::Close => Box::into_inner(rest),
     }
 }
 
@@ -68,8 +65,9 @@ fn on_top(alloc: Global, line: Line, stack: Stack) -> Result<Stack, Memory>
 {
     match stack {
         Stack::Empty => Ok(Stack::Empty),
-        Stack::Top(tree, has_else, below) => {
-            Ok(Stack::Top(step(alloc, line, tree)?, has_else, below))
+        Stack::Top(rest, has_else, below) => {
+            let tree = boxed(alloc, step(line, rest))?;
+            Ok(Stack::Top(tree, has_else, below))
         }
     }
 }
@@ -78,28 +76,31 @@ fn on_top(alloc: Global, line: Line, stack: Stack) -> Result<Stack, Memory>
 fn close_after(
     alloc: Global,
     expr: CExpr,
-    first: Tree,
-    second: Tree,
+    first: Box<Tree>,
+    second: Box<Tree>,
     stack: Stack,
 ) -> Result<Stack, Memory>
-    ensures { IfOk result (λ next. opens_of next
-        ≡ spec.close_after (expr_of expr) (block_of first) (block_of second) (opens_of stack)) }
+    ensures { IfOk result (λ next. opens_of next ≡ spec.close_after (expr_of expr)
+        (block_of first.value) (block_of second.value) (opens_of stack)) }
 {
     match stack {
         Stack::Empty => Ok(Stack::Empty),
         Stack::Top(rest, has_else, below) => {
-            let first = boxed(alloc, first)?;
-            let second = boxed(alloc, second)?;
-            let tree = Tree::If(expr, first, second, boxed(alloc, rest)?);
+            let tree = boxed(alloc, Tree::If(expr, first, second, rest))?;
             Ok(Stack::Top(tree, has_else, below))
         }
     }
 }
 
 /// `if (e) { .. } else { .. }` before what comes after it.
-fn close_both(alloc: Global, expr: CExpr, first: Tree, stack: Stack) -> Result<Stack, Memory>
+fn close_both(
+    alloc: Global,
+    expr: CExpr,
+    first: Box<Tree>,
+    stack: Stack,
+) -> Result<Stack, Memory>
     ensures { IfOk result (λ next. opens_of next
-        ≡ spec.close_both (expr_of expr) (block_of first) (opens_of stack)) }
+        ≡ spec.close_both (expr_of expr) (block_of first.value) (opens_of stack)) }
 {
     match stack {
         Stack::Empty => Ok(Stack::Empty),
@@ -107,6 +108,20 @@ fn close_both(alloc: Global, expr: CExpr, first: Tree, stack: Stack) -> Result<S
             close_after(alloc, expr, first, second, Box::into_inner(below))
         }
     }
+}
+
+/// `if (e) { .. }` before what comes after it.
+fn close_first(
+    alloc: Global,
+    expr: CExpr,
+    first: Box<Tree>,
+    stack: Stack,
+) -> Result<Stack, Memory>
+    ensures { IfOk result (λ next. opens_of next
+        ≡ spec.close_after (expr_of expr) (block_of first.value) c.End (opens_of stack)) }
+{
+    let second = boxed(alloc, Tree::End)?;
+    close_after(alloc, expr, first, second, stack)
 }
 
 /// The line `if (e) {`.
@@ -119,22 +134,26 @@ fn close_if(alloc: Global, expr: CExpr, stack: Stack) -> Result<Stack, Memory>
             if has_else {
                 close_both(alloc, expr, first, Box::into_inner(below))
             } else {
-                close_after(alloc, expr, first, Tree::End, Box::into_inner(below))
+                close_first(alloc, expr, first, Box::into_inner(below))
             }
         }
     }
 }
 
 /// `while (e) { .. }` before what comes after it.
-fn close_loop(alloc: Global, expr: CExpr, first: Tree, stack: Stack) -> Result<Stack, Memory>
+fn close_loop(
+    alloc: Global,
+    expr: CExpr,
+    first: Box<Tree>,
+    stack: Stack,
+) -> Result<Stack, Memory>
     ensures { IfOk result (λ next. opens_of next
-        ≡ spec.close_loop (expr_of expr) (block_of first) (opens_of stack)) }
+        ≡ spec.close_loop (expr_of expr) (block_of first.value) (opens_of stack)) }
 {
     match stack {
         Stack::Empty => Ok(Stack::Empty),
         Stack::Top(rest, has_else, below) => {
-            let first = boxed(alloc, first)?;
-            let tree = Tree::While(expr, first, boxed(alloc, rest)?);
+            let tree = boxed(alloc, Tree::While(expr, first, rest))?;
             Ok(Stack::Top(tree, has_else, below))
         }
     }

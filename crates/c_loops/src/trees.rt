@@ -3,7 +3,7 @@ use c_subset::{CExpr, CType, Case};
 use flow_base::List;
 
 /// Statements, each with those after it.
-#[derive(Debug, Drop)]
+#[derive(Drop)]
 pub enum Tree {
     /// None.
     End,

@@ -24,6 +24,13 @@ impl<T> List<T> {
     {
         &self.items
     }
+
+    /// The items, by value. It takes no memory.
+    pub fn into_items(self) -> Vec<T>
+        ensures { result.items ≡ items_of self }
+    {
+        self.items
+    }
 }
 
 impl<T: Drop> List<T> {

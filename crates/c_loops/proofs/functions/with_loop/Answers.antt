@@ -1,6 +1,6 @@
 use Rattle.std.proofs.Common.{sym, ◌∙◌}
 use Rattle.c_loops.specs.Blocks.{block_of}
-use Rattle.c_loops.proofs.Whole.{tree-is, plain-is, stays-is, loop-is}
+use Rattle.c_loops.proofs.Whole.{plain-is, loop-is}
 use Rattle.c_loops.proofs.functions.with_loop.Goals as goal
 
 -- it may not be a loop
@@ -8,17 +8,8 @@ pub returns-then-not-may_loop : goal.returns-then-not-may_loop
 returns-then-not-may_loop c =
     λ g h. plain-is c.args.function g c.args.number (sym c.may_loop.ensures ∙ c.if-not-may_loop.true) h
 
--- it is none
-pub returns-then-not-loops : goal.returns-then-not-loops
-returns-then-not-loops c =
-    λ g h. stays-is c.args.function g c.args.number (block_of c.in_ok-tree.tree)
-    (tree-is c.args.function g c.items.result.now (block_of c.in_ok-tree.tree) c.in_ok-tree.ensures c.items.ensures h)
-    (sym c.loops.ensures ∙ c.if-not-loops.true) h
-
--- it is one
+-- it may
 pub returns : goal.returns
 returns c =
     λ g h. loop-is c.args.function c.in_ok-lines.lines g c.args.number (block_of c.in_ok-tree.tree)
-    (tree-is c.args.function g c.items.result.now (block_of c.in_ok-tree.tree) c.in_ok-tree.ensures c.items.ensures h)
-    (sym c.loops.ensures ∙ c.if-not-loops.false) (sym c.may_loop.ensures ∙ c.if-not-may_loop.false)
-    c.in_ok-lines.ensures h
+    c.in_ok-tree.ensures (sym c.may_loop.ensures ∙ c.if-not-may_loop.false) c.in_ok-lines.ensures h

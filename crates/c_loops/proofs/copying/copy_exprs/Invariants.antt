@@ -1,8 +1,0 @@
-use Rattle.std.proofs.Common.{◌≡◌, take}
-use Rattle.flow_base.specs.Lists.{items_of}
-use Rattle.c_subset.specs.Lines.{exprs_of}
-use Rattle.c_loops.proofs.copying.copy_exprs.Given as goal
-
--- the expressions so far are copied
-abbrev pub invariant-loop-expr : goal.invariant-loop-expr
-invariant-loop-expr l = exprs_of (items_of l.copies) ≡ exprs_of (take l.expr-index l.exprs)

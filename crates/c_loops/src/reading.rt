@@ -93,12 +93,7 @@ fn close_after(
 }
 
 /// `if (e) { .. } else { .. }` before what comes after it.
-fn close_both(
-    alloc: Global,
-    expr: CExpr,
-    first: Box<Tree>,
-    stack: Stack,
-) -> Result<Stack, Memory>
+fn close_both(alloc: Global, expr: CExpr, first: Box<Tree>, stack: Stack) -> Result<Stack, Memory>
     ensures { IfOk result (λ next. opens_of next
         ≡ spec.close_both (expr_of expr) (block_of first.value) (opens_of stack)) }
 {
@@ -111,12 +106,7 @@ fn close_both(
 }
 
 /// `if (e) { .. }` before what comes after it.
-fn close_first(
-    alloc: Global,
-    expr: CExpr,
-    first: Box<Tree>,
-    stack: Stack,
-) -> Result<Stack, Memory>
+fn close_first(alloc: Global, expr: CExpr, first: Box<Tree>, stack: Stack) -> Result<Stack, Memory>
     ensures { IfOk result (λ next. opens_of next
         ≡ spec.close_after (expr_of expr) (block_of first.value) c.End (opens_of stack)) }
 {
@@ -141,12 +131,7 @@ fn close_if(alloc: Global, expr: CExpr, stack: Stack) -> Result<Stack, Memory>
 }
 
 /// `while (e) { .. }` before what comes after it.
-fn close_loop(
-    alloc: Global,
-    expr: CExpr,
-    first: Box<Tree>,
-    stack: Stack,
-) -> Result<Stack, Memory>
+fn close_loop(alloc: Global, expr: CExpr, first: Box<Tree>, stack: Stack) -> Result<Stack, Memory>
     ensures { IfOk result (λ next. opens_of next
         ≡ spec.close_loop (expr_of expr) (block_of first.value) (opens_of stack)) }
 {

@@ -36,12 +36,7 @@ fn is_end_again(number: u32, tree: &Tree) -> bool
 
 /// Appends the lines of an `if` with its parts.
 #[tactic(auto, using(crate::proofs::Lists::writes))]
-fn write_if(
-    expr: CExpr,
-    first: Tree,
-    second: Tree,
-    lines: &mut List<Line>,
-) -> Result<(), Memory>
+fn write_if(expr: CExpr, first: Tree, second: Tree, lines: &mut List<Line>) -> Result<(), Memory>
     ensures { OnOk result (lines_in (items_of lines.new) ≡ lines_in (items_of lines.old)
         ++ if_lines (expr_of expr) (block_of first) (block_of second)) }
 {

@@ -1,4 +1,5 @@
 //! Text that contracts see as its bytes.
+use std::alloc::{AllocError, Global};
 use std::marker::Model;
 
 /// A text. A contract sees its bytes.
@@ -16,7 +17,7 @@ impl Model for Text {
 }
 
 impl Text {
-    ghost use Rattle.std.specs.Prelude.{◌≡◌, string_bytes};
+    ghost use Rattle.std.specs.Prelude.{◌≡◌, IfOk, string_bytes};
 
     /// Keeps the text that it is given. It takes no memory.
     pub fn of(text: String) -> Text
@@ -30,5 +31,12 @@ impl Text {
         ensures { result.now ≡ self.now }
     {
         self.text.as_str()
+    }
+
+    /// A text of the same bytes. An error only where memory was refused.
+    pub fn copied(&self, alloc: Global) -> Result<Text, AllocError>
+        ensures { IfOk result (λ copy. copy ≡ self.now) }
+    {
+        Ok(Text::of(String::from_str(alloc, self.text())?))
     }
 }

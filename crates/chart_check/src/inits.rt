@@ -10,7 +10,7 @@ use crate::expressions::signed_literal;
 use actions::{Sort, Var};
 use chart_tree::InitText;
 use fixed_point::exact;
-use flow_base::{List, Text};
+use flow_base::List;
 use std::alloc::{AllocError, Global};
 
 /// The mantissa of the first value of a datum of that sort, and 0 where the sort has no such value.
@@ -31,20 +31,13 @@ fn init_mantissa(sort: Sort, init: InitText) -> i128
     }
 }
 
-/// An equal text.
-fn copied(alloc: Global, text: &Text) -> Result<Text, AllocError>
-    ensures { IfOk result (λ copy. copy ≡ text.now) }
-{
-    Ok(Text::of(String::from_str(alloc, text.text())?))
-}
-
 /// A datum with its first value.
 fn with_init(alloc: Global, var: &Var, init: InitText) -> Result<Var, AllocError>
     requires { IsInit init }
     ensures { IfOk result (λ made. made ≡ plain.with_init var.now init) }
 {
     Ok(Var {
-        name: copied(alloc, &var.name)?,
+        name: var.name.copied(alloc)?,
         kind: var.kind,
         sort: var.sort,
         mode: var.mode,

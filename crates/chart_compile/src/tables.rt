@@ -6,18 +6,8 @@ ghost use Rattle.code_language.specs.Code.{tree_of_states};
 
 use checked_chart::Chart;
 use code_language::RawState;
-use flow_base::{List, Memory, Text};
+use flow_base::{List, Memory};
 use std::alloc::Global;
-
-/// An equal text.
-fn copied(alloc: Global, text: &Text) -> Result<Text, Memory>
-    ensures { IfOk result (λ copy. copy ≡ text.now) }
-{
-    match String::from_str(alloc, text.text()) {
-        Ok(copy) => Ok(Text::of(copy)),
-        Err(_) => Err(Memory),
-    }
-}
 
 /// The states of a chart, each with its parent, its composition and its name.
 pub(crate) fn states(alloc: Global, chart: &Chart) -> Result<List<RawState>, Memory>
@@ -33,7 +23,7 @@ pub(crate) fn states(alloc: Global, chart: &Chart) -> Result<List<RawState>, Mem
         states.push(RawState {
             parent: shape.parent(state),
             comp: shape.comp(state),
-            name: copied(alloc, &names[state as usize])?,
+            name: names[state as usize].copied(alloc)?,
         })?;
     }
     Ok(states)

@@ -16,13 +16,6 @@ use fixed_point::Mode;
 use flow_base::{List, Text};
 use std::alloc::{AllocError, Global};
 
-/// A text of the same bytes.
-fn copied(alloc: Global, text: &Text) -> Result<Text, AllocError>
-    ensures { IfOk result (λ copy. copy ≡ text.now) }
-{
-    Ok(Text::of(String::from_str(alloc, text.text())?))
-}
-
 /// The kind of an event that a word names.
 fn event_kind(word: EventWord) -> EventKind
     ensures { result ≡ spec.event_kind word }
@@ -52,7 +45,7 @@ pub(crate) fn events(alloc: Global, texts: &[EventText]) -> Result<List<EventDec
     let mut events = Vec::new(alloc);
     for text in texts {
         events.push(EventDecl {
-            name: copied(alloc, &text.name.text)?,
+            name: text.name.text.copied(alloc)?,
             kind: event_kind(text.kind),
         })?;
     }
@@ -69,7 +62,7 @@ fn var(alloc: Global, text: &VarText) -> Result<Var, AllocError>
         SortText::Number(scale, mode) => (Sort::Number(scale), mode),
     };
     Ok(Var {
-        name: copied(alloc, &text.name.text)?,
+        name: text.name.text.copied(alloc)?,
         kind: var_kind(text.kind),
         sort,
         mode,
@@ -112,7 +105,7 @@ pub(crate) fn state_names(
 {
     let mut names = Vec::new(alloc);
     for placed in states {
-        names.push(copied(alloc, &placed.state.name.text)?)?;
+        names.push(placed.state.name.text.copied(alloc)?)?;
     }
     Ok(List::of(names))
 }

@@ -6,18 +6,8 @@ ghost use Rattle.code_language.specs.Code.{code_of};
 
 use actions::{EventDecl, Var};
 use code_language::{Instr, RawCode, RawState};
-use flow_base::{List, Memory, Text};
+use flow_base::{List, Memory};
 use std::alloc::Global;
-
-/// An equal text.
-fn copy_text(alloc: Global, text: &Text) -> Result<Text, Memory>
-    ensures { IfOk result (λ copy. copy ≡ text.now) }
-{
-    match String::from_str(alloc, text.text()) {
-        Ok(text) => Ok(Text::of(text)),
-        Err(_) => Err(Memory),
-    }
-}
 
 /// A list of equal states.
 fn copy_states(alloc: Global, states: &[RawState]) -> Result<List<RawState>, Memory>
@@ -28,7 +18,7 @@ fn copy_states(alloc: Global, states: &[RawState]) -> Result<List<RawState>, Mem
         copies.push(RawState {
             parent: state.parent,
             comp: state.comp,
-            name: copy_text(alloc, &state.name)?,
+            name: state.name.copied(alloc)?,
         })?;
     }
     Ok(copies)
@@ -41,7 +31,7 @@ fn copy_vars(alloc: Global, vars: &[Var]) -> Result<List<Var>, Memory>
     let mut copies = List::of(Vec::new(alloc));
     for var in vars {
         copies.push(Var {
-            name: copy_text(alloc, &var.name)?,
+            name: var.name.copied(alloc)?,
             kind: var.kind,
             sort: var.sort,
             mode: var.mode,
@@ -58,7 +48,7 @@ fn copy_events(alloc: Global, events: &[EventDecl]) -> Result<List<EventDecl>, M
     let mut copies = List::of(Vec::new(alloc));
     for event in events {
         copies.push(EventDecl {
-            name: copy_text(alloc, &event.name)?,
+            name: event.name.copied(alloc)?,
             kind: event.kind,
         })?;
     }

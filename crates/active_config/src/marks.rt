@@ -1,5 +1,6 @@
 //! The active configuration.
 use crate::bit_list::BitList;
+use crate::comp::Comp;
 use crate::shape::Shape;
 use crate::tables::no_states;
 use flow_base::Memory;
@@ -96,6 +97,27 @@ impl Marks {
         // The parent of an active state is active, so the first active one below is a child.
         let end = shape.subtree_end(state);
         self.flags.first_on(state + 1, end)
+    }
+
+    /// Whether a state can become active: it isn't active, and its parent, if it has one, is, and
+    /// is bare where it is an OR.
+    #[tactic(auto, unfolding(crate::specs::Marks::can_mark))]
+    #[inline(always)]
+    pub fn can_mark(&self, shape: &Shape, state: u32) -> bool
+        requires state { state < state_count shape.now }
+        requires consistent { spec.IsConsistent shape.now self.now }
+        ensures { result ≡ spec.can_mark shape.now state self.now }
+    {
+        if self.on(state) {
+            return false;
+        }
+        match shape.parent(state) {
+            None => true,
+            Some(parent) => match shape.comp(parent) {
+                Comp::Or => self.bare(shape, parent),
+                Comp::And | Comp::Leaf => self.on(parent),
+            },
+        }
     }
 
     /// Makes a state active that isn't active. Its parent, if it has one, must be active, and bare

@@ -7,8 +7,8 @@ use Rattle.flow_base.specs.declared.fault.Fault.{Fault}
 use Rattle.flow_base.specs.declared.fault.Fault.TheVariants.{Steps}
 use Rattle.active_config.specs.declared.comp.Comp.{Comp}
 use Rattle.active_config.specs.Tree.{Tree, parent_of, comp_of}
-use Rattle.active_config.specs.Marks.{Configuration, IsConsistent, is_on, can_mark, takes_child, parent_takes_child}
-use Rattle.std.specs.Prelude.{not, ◌&&◌}
+use Rattle.active_config.specs.Marks.{Configuration, IsConsistent}
+use Rattle.std.specs.Prelude.{◌&&◌}
 use Rattle.active_config.specs.declared.comp.Comp.TheVariants.{Or}
 use Rattle.active_config.specs.Marks.{is_last, last_of}
 use Rattle.std.specs.Prelude.{Option, IfSome}
@@ -79,26 +79,6 @@ assigned_fits t n w v value vals fits can e = record {
   sorts = sorts-assigned w.vals vals v value e fits.sorts can;
   outputs = fits.outputs;
 }
-
--- ---- whether a state can be marked
-
--- an active state can't be marked
-pub can_on : (t : Tree) (s : ℕ) (m : Configuration) → is_on s m ≡ true → can_mark t s m ≡ false
-unfolding can_mark
-can_on t s m e = ap (λ b. not b && parent_takes_child t (parent_of t s) m) e
-
--- a root that isn't active can be marked
-pub can_root : (t : Tree) (s : ℕ) (m : Configuration) → is_on s m ≡ false → parent_of t s ≡ None → can_mark t s m ≡ true
-unfolding can_mark
-can_root t s m e f = ap (λ b. not b && parent_takes_child t (parent_of t s) m) e ∙ ap (λ o. parent_takes_child t o m) f
-
--- whether a state that isn't active can be marked depends on whether its parent takes a child
-pub can_below : (t : Tree) (s p : ℕ) (o : Comp) (m : Configuration) → is_on s m ≡ false → parent_of t s ≡ Some p
-    → comp_of t p ≡ o → can_mark t s m ≡ takes_child t p o m
-unfolding can_mark
-can_below t s p o m e f g =
-    ap (λ b. not b && parent_takes_child t (parent_of t s) m) e ∙ ap (λ o. parent_takes_child t o m) f
-    ∙ ap (λ o. takes_child t p o m) g
 
 -- ---- paying, assigning and testing
 

@@ -2,16 +2,15 @@
 ghost use Rattle.std.specs.Prelude.{◌≡◌};
 ghost use Rattle.actions.specs.Names.{Names};
 ghost use Rattle.code_costs.specs.Moments.{IsEvent};
-ghost use Rattle.code_machine.specs.Engine.{halted};
 ghost use Rattle.code_machine.specs.Frames.{event_of, IsSmall};
 
 use crate::loaded::LoadedCode;
 use crate::loading::making::{load, new_state};
 use crate::runs::running::process;
 use crate::state::MachineState;
-use actions::{Engine, Event, Halt, Value, View, store};
+use actions::{Engine, Event, Halt, Value, View, halting, store};
 use code_language::Code;
-use flow_base::{Bounds, Fault, Memory};
+use flow_base::{Bounds, Memory};
 use std::alloc::Global;
 use std::marker::Model;
 
@@ -39,16 +38,6 @@ impl Phase {
             Ok(()) => Phase::Running,
             Err(_) => Phase::Over,
         }
-    }
-}
-
-/// A fault ends the run.
-fn halting(answer: Result<(), Fault>) -> Result<(), Halt>
-    ensures { result ≡ halted answer }
-{
-    match answer {
-        Ok(()) => Ok(()),
-        Err(fault) => Err(Halt::Fault(fault)),
     }
 }
 

@@ -24,14 +24,14 @@ use Rattle.sos_rules.specs.Moves.{entered_in, remembered}
 use Rattle.sos_rules.proofs.MarkedStates.{remembering_parent, history_or, entered_done}
 use Rattle.actions.specs.declared.expr.Value.{Value}
 use Rattle.actions.specs.Data.{Datum, HaveTheirSorts, datum, assigned, CanTake}
-use Rattle.actions.specs.Engines.{IsInputSet}
+use Rattle.actions.specs.Engines.{IsInputSet, halted}
 use Rattle.actions.specs.Exprs.{Expr}
 use Rattle.actions.specs.Names.{Names}
 use Rattle.actions.specs.declared.names.Var.{Var}
 use Rattle.actions.specs.declared.engine.Halt.{Halt}
 use Rattle.actions.specs.Changes.{paid_in, assigned_in, truth_of, assigned_value, with_data, truth}
 use Rattle.actions.specs.Work.{Ended, Faulted, flag_or_fault, change_or_fault}
-use Rattle.sos_interpreter.specs.Gives.{Does, halted}
+use Rattle.sos_interpreter.specs.Gives.{Does}
 use Rattle.sos_rules.specs.Searches.{pay, assign}
 use Rattle.std.specs.Prelude.{slice_get}
 use Rattle.actions.specs.Values.{Valued, value_of, flag_of}

@@ -1,6 +1,5 @@
 -- The answer and the world after a call are what a run gives, unless memory ran out.
 use Rattle.std.specs.Prelude.{◌≡◌, ℕ, Result, Ok, Err}
-use Rattle.flow_base.specs.declared.fault.Fault.{Fault}
 use Rattle.actions.specs.declared.engine.Halt.{Halt}
 use Rattle.actions.specs.declared.engine.Halt.TheVariants as halts
 use Rattle.actions.specs.World.{World}
@@ -18,8 +17,3 @@ abbrev pub Gives : {A B : Type 0} → (A → B) → (ℕ → Run B) → Result A
 Gives view m (Ok a) w = Settled m (Ended (view a) w)
 Gives view m (Err (halts.Fault x)) w = Settled m (Faulted x w)
 Gives view m (Err halts.Memory) w = Unit {0}
-
--- a fault ends the run
-abbrev pub halted : Result (Unit {0}) Fault → Result (Unit {0}) Halt
-halted (Ok a) = Ok tt
-halted (Err x) = Err (halts.Fault x)

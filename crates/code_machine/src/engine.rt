@@ -8,38 +8,11 @@ use crate::loaded::LoadedCode;
 use crate::loading::making::{load, new_state};
 use crate::runs::running::process;
 use crate::state::MachineState;
-use actions::{Engine, Event, Halt, Value, View, halting, store};
+use actions::{Engine, Event, Halt, Phase, Value, View, halting, store};
 use code_language::Code;
 use flow_base::{Bounds, Memory};
 use std::alloc::Global;
 use std::marker::Model;
-
-/// How far the run of a machine is.
-#[derive(Clone, Copy)]
-enum Phase {
-    /// Before the start.
-    Fresh,
-    /// Between two events.
-    Running,
-    /// Its run has ended.
-    Over,
-}
-
-impl Phase {
-    ghost use Rattle.std.specs.Prelude.{◌≡◌};
-    ghost use Rattle.actions.specs.Engines.{stage_after};
-    ghost use Rattle.code_machine.specs.Engine.{stage_of};
-
-    /// The phase after an answer.
-    fn after(answer: &Result<(), Halt>) -> Phase
-        ensures { stage_of result ≡ stage_after answer.now }
-    {
-        match answer {
-            Ok(()) => Phase::Running,
-            Err(_) => Phase::Over,
-        }
-    }
-}
 
 /// The number of an event as the machine keeps it.
 fn number_of(event: Event) -> u32
@@ -64,7 +37,8 @@ pub struct Machine {
 impl Model for Machine {
     ghost use Rattle.std.specs.Coded.{codes};
     ghost use Rattle.actions.specs.contracts.expr.Expr as e;
-    ghost use Rattle.code_machine.specs.Engine.{stage_of, EngineState, IsMachine};
+    ghost use Rattle.actions.specs.Engines.{stage_of};
+    ghost use Rattle.code_machine.specs.Engine.{EngineState, IsMachine};
     ghost use Rattle.code_machine.specs.States.{world_of};
 
     ghost Value = { EngineState };

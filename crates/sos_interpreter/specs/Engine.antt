@@ -3,14 +3,12 @@ use Rattle.std.specs.Prelude.{◌≡◌, Option}
 use Rattle.flow_base.specs.declared.bounds.Bounds.{Bounds}
 use Rattle.flow_base.specs.declared.fault.Fault.{Fault}
 use Rattle.actions.specs.declared.event.Event.{Event}
-use Rattle.actions.specs.Engines.{Stage, Fresh, Running, Over}
+use Rattle.actions.specs.Engines.{Stage, Fresh}
 use Rattle.actions.specs.World.{World, world_before}
 use Rattle.checked_chart.specs.Chart.{Chart}
 use Rattle.checked_chart.specs.Kept.{Kept, chart_of}
 use Rattle.sos_rules.specs.Reactions as rules
 use Rattle.sos_interpreter.specs.Charts.{FitsChart}
-use Rattle.sos_interpreter.specs.declared.engine.Phase.{Phase}
-use Rattle.sos_interpreter.specs.declared.engine.Phase.TheVariants as phases
 
 -- a chart, and the bounds of each event
 pub record Program : Type 0 where
@@ -35,12 +33,6 @@ pub record EngineState : Type 0 where
 -- the program of an engine
 abbrev pub program_of : EngineState → Program
 program_of e = record { chart = chart_of e.chart; bounds = e.bounds }
-
--- the stage that a phase of the code is
-abbrev pub stage_of : Phase → Stage
-stage_of phases.Fresh = Fresh
-stage_of phases.Running = Running
-stage_of phases.Over = Over
 
 -- the world before the start of a chart
 abbrev pub first_world : Chart → World

@@ -1,38 +1,11 @@
 //! The engine that runs a chart by the rules.
 use crate::reactions;
 use crate::world::LiveWorld;
-use actions::{Engine, Event, Halt, Value, View};
+use actions::{Engine, Event, Halt, Phase, Value, View};
 use checked_chart::Chart;
 use flow_base::{Bounds, Memory};
 use std::alloc::Global;
 use std::marker::Model;
-
-/// How far the run of an engine is.
-#[derive(Clone, Copy)]
-enum Phase {
-    /// Before the start.
-    Fresh,
-    /// Between two events.
-    Running,
-    /// Its run has ended.
-    Over,
-}
-
-impl Phase {
-    ghost use Rattle.std.specs.Prelude.{◌≡◌};
-    ghost use Rattle.actions.specs.Engines.{stage_after};
-    ghost use Rattle.sos_interpreter.specs.Engine.{stage_of};
-
-    /// The phase after an answer.
-    fn after(answer: &Result<(), Halt>) -> Phase
-        ensures { stage_of result ≡ stage_after answer.now }
-    {
-        match answer {
-            Ok(()) => Phase::Running,
-            Err(_) => Phase::Over,
-        }
-    }
-}
 
 /// Runs a chart by the rules. `Memory` may come from a search through junctions, from collecting
 /// the actions of a firing, and from putting an event out.
@@ -48,7 +21,8 @@ pub struct Rules {
 impl Model for Rules {
     ghost use Rattle.std.specs.Coded.{codes};
     ghost use Rattle.actions.specs.contracts.expr.Expr as e;
-    ghost use Rattle.sos_interpreter.specs.Engine.{stage_of, EngineState, IsEngine};
+    ghost use Rattle.actions.specs.Engines.{stage_of};
+    ghost use Rattle.sos_interpreter.specs.Engine.{EngineState, IsEngine};
 
     ghost Value = { EngineState };
 

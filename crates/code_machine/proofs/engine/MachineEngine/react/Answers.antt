@@ -1,6 +1,6 @@
 use Rattle.std.proofs.Common.{sym, subst}
-use Rattle.actions.specs.Engines.{CanReactTo}
-use Rattle.code_machine.specs.Engine.{EngineState, stage_of}
+use Rattle.actions.specs.Engines.{CanReactTo, stage_of}
+use Rattle.code_machine.specs.Engine.{EngineState}
 use Rattle.code_machine.specs.States.{code_in}
 use Rattle.code_machine.proofs.EngineLemmas.{reaction_moment, reaction_room}
 use Rattle.code_machine.proofs.engine.MachineEngine.react.Goals as goal

@@ -1,5 +1,6 @@
 use Rattle.std.proofs.Common.{ap}
-use Rattle.code_machine.specs.Engine.{EngineState, stage_of}
+use Rattle.actions.specs.Engines.{stage_of}
+use Rattle.code_machine.specs.Engine.{EngineState}
 use Rattle.code_machine.specs.States.{world_of}
 use Rattle.code_machine.proofs.EngineLemmas.{machine_input, machine_set, input_set}
 use Rattle.code_machine.proofs.engine.MachineEngine.set_input.Goals as goal

@@ -1,5 +1,6 @@
 use Rattle.std.proofs.Common.{ap, ◌∙◌}
-use Rattle.code_machine.specs.Engine.{EngineState, stage_of}
+use Rattle.actions.specs.Engines.{stage_of}
+use Rattle.code_machine.specs.Engine.{EngineState}
 use Rattle.code_machine.proofs.EngineLemmas.{start_moment, start_room}
 use Rattle.code_machine.proofs.engine.MachineEngine.start.Goals as goal
 

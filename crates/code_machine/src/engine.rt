@@ -2,8 +2,8 @@
 ghost use Rattle.std.specs.Prelude.{◌≡◌};
 ghost use Rattle.actions.specs.Names.{Names};
 ghost use Rattle.code_costs.specs.Moments.{IsEvent};
-ghost use Rattle.code_machine.specs.Frames.{event_of, IsSmall};
 
+use crate::encoding::number_of;
 use crate::loaded::LoadedCode;
 use crate::loading::making::{load, new_state};
 use crate::runs::running::process;
@@ -13,18 +13,6 @@ use code_language::Code;
 use flow_base::{Bounds, Memory};
 use std::alloc::Global;
 use std::marker::Model;
-
-/// The number of an event as the machine keeps it.
-fn number_of(event: Event) -> u32
-    requires { IsSmall event }
-    ensures { event_of result ≡ event }
-{
-    match event {
-        Event::Start => 0,
-        Event::Tick => 1,
-        Event::Named(number) => number + 2,
-    }
-}
 
 /// Runs well-formed code. Once it is made it takes no memory.
 #[derive(Drop)]

@@ -13,7 +13,8 @@
 //! and stand one after the other are passed over by one look-up.
 //!
 //! - `loaded` has the code as the machine keeps it, which no run changes; `state` has all that a
-//!   run changes but the top frame; `frames` says how the frames lie on the stack.
+//!   run changes but the top frame; `frames` says how the frames lie on the stack, and `encoding`
+//!   how events and notes are numbers there.
 //! - `loading` makes these, and alone takes memory.
 //! - `instructions` has what each instruction does, by kind, and knows of no other instruction but
 //!   `notes`, whose `Play` asks whether a state is bare.
@@ -21,6 +22,7 @@
 //! - `engine` has the machine.
 #![tactic(auto)]
 
+mod encoding;
 mod engine;
 mod frames;
 mod instructions;

@@ -19,7 +19,7 @@ pub(crate) struct MachineState {
     pub outputs: Vec<u32>,
     /// The steps that are used.
     pub used: u32,
-    /// The current event: 0 for the start, 1 for a tick, and the number of an event plus 2.
+    /// The number of the current event, as `encoding` has it.
     pub event: u32,
     /// How deep the current event was sent.
     pub depth: u32,

@@ -7,8 +7,8 @@ use std::alloc::Global;
 /// The number of the list without notes.
 pub(crate) const NO_NOTES: u32 = 0;
 
-/// The greatest number of lists.
-const LIST_LIMIT: usize = 65_536;
+/// The most lists of notes that a table has.
+const NOTE_LIST_LIMIT: usize = 65_536;
 
 /// The lists, with the numbers of those that have one more note than each.
 #[derive(Drop)]
@@ -100,7 +100,7 @@ impl Table {
         if let Some(found) = self.found(list, note) {
             return Ok(Some(found));
         }
-        if self.notes(list).len() >= NOTE_LIMIT || self.lists.len() >= LIST_LIMIT {
+        if self.notes(list).len() >= NOTE_LIMIT || self.lists.len() >= NOTE_LIST_LIMIT {
             return Ok(None);
         }
         Ok(Some(self.add_longer(alloc, list, note)?))

@@ -3,8 +3,8 @@
 use crate::call::{Call, read_call};
 use crate::conditions::{can_align, can_divide, can_fit, can_multiply, can_write, is_within};
 use fixed_point::{
-    Num, NumFault, Overflow, Scale, TEXT_LIMIT, Zero, add, compare, div, exact, fit, mul, neg,
-    read_decimal, sub, write_decimal,
+    DECIMAL_TEXT_LIMIT, Num, NumFault, Overflow, Scale, Zero, add, compare, div, exact, fit, mul,
+    neg, read_decimal, sub, write_decimal,
 };
 use std::cmp::Ordering;
 use std::fmt;
@@ -19,7 +19,7 @@ pub enum Answer {
     /// The order of two numbers.
     Order(Ordering),
     /// The decimal text, and the number of its bytes.
-    Text([u8; TEXT_LIMIT], usize),
+    Text([u8; DECIMAL_TEXT_LIMIT], usize),
     /// A scale, as `s8.0` or `u8.4`.
     Made(Scale),
     /// The divisor is 0.
@@ -57,7 +57,7 @@ impl fmt::Display for Answer {
 /// The first bytes of a text, and how many they are.
 fn write_text<W: fmt::Write>(
     f: &mut fmt::Formatter<W>,
-    buf: &[u8; TEXT_LIMIT],
+    buf: &[u8; DECIMAL_TEXT_LIMIT],
     len: usize,
 ) -> fmt::Result {
     for byte in buf.iter().take(len) {
@@ -111,7 +111,7 @@ fn answer_call(call: Call) -> Answer {
         },
         Call::Exact(a, to) => exact(a, to).map_or(Answer::Nothing, Answer::Mantissa),
         Call::Write(a) if can_write(a) => {
-            let mut buf = [0; TEXT_LIMIT];
+            let mut buf = [0; DECIMAL_TEXT_LIMIT];
             let len = write_decimal(a.mantissa, a.frac, &mut buf);
             Answer::Text(buf, len)
         }

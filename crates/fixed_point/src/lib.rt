@@ -25,4 +25,4 @@ pub use reading::{
 };
 pub use rounding::READ_LIMIT;
 pub use scale::{PLACES_LIMIT, Scale, WIDTH_LIMIT};
-pub use writing::{TEXT_LIMIT, write_decimal};
+pub use writing::{DECIMAL_TEXT_LIMIT, write_decimal};

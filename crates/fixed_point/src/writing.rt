@@ -3,12 +3,12 @@ ghost use Rattle.std.specs.Prelude.{◌≡◌, ◌≤◌, ◌<◌, ◌+◌, ◌^
 ghost use Rattle.fixed_point.specs.Text as spec;
 ghost use Rattle.fixed_point.specs.Told as told;
 ghost use Rattle.fixed_point.specs.declared.num.TheConstants.{MAGNITUDE_LIMIT, FRACTION_LIMIT};
-ghost use Rattle.fixed_point.specs.declared.writing.TheConstants.{TEXT_LIMIT};
+ghost use Rattle.fixed_point.specs.declared.writing.TheConstants.{DECIMAL_TEXT_LIMIT};
 
 use crate::power::unsigned_power;
 
 /// The most bytes of the decimal text of a number.
-pub const TEXT_LIMIT: usize = 128;
+pub const DECIMAL_TEXT_LIMIT: usize = 128;
 
 /// Writes a byte after the first `at` bytes of the buffer, and answers how many bytes there are
 /// now.
@@ -67,10 +67,10 @@ fn put_behind(buf: &mut [u8], at: usize, number: u128, frac: u32) -> usize
 pub fn write_decimal(mantissa: i128, frac: u32, buf: &mut [u8]) -> usize
     requires size { unsigned_abs mantissa ≤ MAGNITUDE_LIMIT }
     requires frac { frac ≤ FRACTION_LIMIT }
-    requires room { TEXT_LIMIT ≤ length buf.old }
+    requires room { DECIMAL_TEXT_LIMIT ≤ length buf.old }
     ensures text { take result buf.new ≡ spec.decimal_text mantissa frac }
     ensures end { result ≡ length (spec.decimal_text mantissa frac) }
-    ensures within { result ≤ TEXT_LIMIT }
+    ensures within { result ≤ DECIMAL_TEXT_LIMIT }
 
     // The text denotes the value as texts are read, and no shorter text does.
     ensures exact { told.TellsExactly mantissa frac (spec.decimal_text mantissa frac) }

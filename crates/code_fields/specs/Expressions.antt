@@ -1,5 +1,5 @@
 -- Expressions, read from the front of a text.
-use Rattle.std.specs.Prelude.{ℕ, zero, suc, ◌+◌, ◌^◌, nat_lt, pos, Bool, true, false, List, codes}
+use Rattle.std.specs.Prelude.{ℕ, zero, suc, ◌+◌, nat_lt, pos, Bool, true, false, List, codes}
 use Rattle.std.specs.Prelude.{Option, Some, None, option_and_then, option_map, if◌then◌else◌}
 use Rattle.std.specs.Str.{bytes_eq}
 use Rattle.flow_base.specs.declared.chart_limits.TheConstants.{OPERATOR_LIMIT}
@@ -52,9 +52,9 @@ frac_of token = option_and_then (kept (λ n. nat_lt n (PLACES_LIMIT + 1))) (numb
 abbrev pub literal_with : List ℕ → ℕ → Option Num
 literal_with text mantissa = option_map (λ frac. record { mantissa = pos mantissa; frac = frac }) (frac_of text)
 
--- a literal of a mantissa below 2^99 and a fraction
+-- a literal of a mantissa below `READ_LIMIT` and a fraction
 abbrev pub literal_parts : Parts → Option Num
-literal_parts parts = option_and_then (literal_with parts.rest) (numeral (2 ^ 99) parts.front)
+literal_parts parts = option_and_then (literal_with parts.rest) (numeral READ_LIMIT parts.front)
 
 -- a literal without its sign `#`
 unfoldable pub literal_of : List ℕ → Option Num

@@ -6,10 +6,7 @@ ghost use Rattle.code_fields.specs.Expressions as spec;
 use crate::cuts::cut_at;
 use crate::numbers::{behind, number_behind, number_of, numeral};
 use actions::{Expr, Op};
-use fixed_point::{Num, PLACES_LIMIT};
-
-/// The first mantissa beyond those of literals.
-const MANTISSA_END: u128 = 1 << 99;
+use fixed_point::{Num, PLACES_LIMIT, READ_LIMIT};
 
 /// An operator with one or two operands.
 #[derive(Clone, Copy, Debug, PartialEq, Eq)]
@@ -99,13 +96,13 @@ pub fn atom_of(token: &[u8]) -> Option<Expr>
     Some(Expr::Lit(literal))
 }
 
-/// A literal without its sign `#`: a mantissa below 2^99, and a fraction of at most 32.
+/// A literal without its sign `#`: a mantissa below `READ_LIMIT`, and a fraction of at most 32.
 #[tactic(auto, unfolding(crate::specs::Expressions::literal_of))]
 fn literal_of(text: &[u8]) -> Option<Num>
     ensures { result ≡ spec.literal_of text.now }
 {
     let parts = cut_at(text, b':')?;
-    let mantissa = numeral(parts.front, MANTISSA_END)?;
+    let mantissa = numeral(parts.front, READ_LIMIT)?;
     let frac = frac_of(parts.rest)?;
     Some(Num {
         mantissa: mantissa as i128,

@@ -1,10 +1,11 @@
 -- Which code is well formed: the first fault, in the order in which faults are looked for.
-use Rattle.std.specs.Prelude.{◌≡◌, ◌+◌, ◌^◌, ℕ, nat_lt, pos, int_lt, int_le, Bool, true, false, not, ◌&&◌, ◌||◌}
+use Rattle.std.specs.Prelude.{◌≡◌, ◌+◌, ℕ, nat_lt, pos, int_lt, int_le, Bool, true, false, not, ◌&&◌, ◌||◌}
 use Rattle.std.specs.Prelude.{List, [], ◌∷◌, length, Option, Some, None, Ok, Err, slice_get, if◌then◌else◌}
 use Rattle.std.specs.List.{list_any}
 use Rattle.std.specs.Option.{option_map_or}
 use Rattle.flow_base.specs.declared.chart_limits.TheConstants.{OPERATOR_LIMIT}
 use Rattle.fixed_point.specs.declared.num.Num.{Num}
+use Rattle.fixed_point.specs.declared.rounding.TheConstants.{READ_LIMIT}
 use Rattle.fixed_point.specs.declared.scale.TheConstants.{PLACES_LIMIT}
 use Rattle.active_config.specs.Tree.{Tree, state_count, parent_of, comp_of}
 use Rattle.actions.specs.declared.names.EventDecl.{EventDecl}
@@ -160,9 +161,9 @@ calls_lower p (Ret r) = true
 
 -- ---- CodeTypes
 
--- a literal whose mantissa is at least 0 and below 2^99, and whose fraction is at most 32
+-- a literal whose mantissa is at least 0 and below `READ_LIMIT`, and whose fraction is at most 32
 abbrev pub is_literal : Num → Bool
-is_literal n = int_le (pos 0) n.mantissa && (int_lt n.mantissa (pos (2 ^ 99)) && nat_lt n.frac (PLACES_LIMIT + 1))
+is_literal n = int_le (pos 0) n.mantissa && (int_lt n.mantissa (pos READ_LIMIT) && nat_lt n.frac (PLACES_LIMIT + 1))
 
 -- every literal of an expression is such
 unfoldable pub has_literals : Expr → Bool

@@ -13,17 +13,16 @@ use actions::{
     EventKind, Expr, ExprFault, ExprSort, Sort, VarKind, assignment_fault, binary_sort,
     literal_sort, negative_sort, not_sort,
 };
-use fixed_point::{Num, PLACES_LIMIT};
+use fixed_point::{Num, PLACES_LIMIT, READ_LIMIT};
 use flow_base::chart_limits::OPERATOR_LIMIT;
 
-/// The least mantissa that is too great for a literal.
-const MANTISSA_END: i128 = 1 << 99;
-
-/// Whether a literal is in range.
+/// Whether a literal is in range: its mantissa is one that is read, and so is its fraction.
 fn is_literal(number: Num) -> bool
     ensures { result ≡ spec.is_literal number }
 {
-    0 <= number.mantissa && number.mantissa < MANTISSA_END && number.frac <= u32::from(PLACES_LIMIT)
+    0 <= number.mantissa
+        && number.mantissa < READ_LIMIT as i128
+        && number.frac <= u32::from(PLACES_LIMIT)
 }
 
 /// Whether every literal of an expression is in range.

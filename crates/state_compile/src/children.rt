@@ -18,9 +18,9 @@ pub(crate) fn children(alloc: Global, shape: &Shape, state: u32) -> Result<List<
 {
     let mut list = List::of(Vec::new(alloc));
     let mut next = shape.first_child(state);
-    while let Some(x) = next {
-        list.push(x)?;
-        next = shape.next_sibling(x);
+    while let Some(child) = next {
+        list.push(child)?;
+        next = shape.next_sibling(child);
     }
     Ok(list)
 }

@@ -18,6 +18,8 @@ use crate::firings::put_toward;
 use active_config::Comp;
 use checked_chart::ListKind;
 use code_language::{Cond, Instr};
+use continuation_compile::number_offsets::{ACTION_COUNT, ENTRY_START};
+use continuation_compile::results::DONE;
 use continuation_compile::{
     Draft, Numbering, append, put, put_call, put_refuse, put_require, put_return,
 };
@@ -33,7 +35,7 @@ fn entry_action(numbering: &Numbering<'_>, state: u32) -> u32
 {
     // Only the proof reads the number of states: it is small.
     let _ = numbering.states();
-    1 + state * 3
+    ENTRY_START + state * ACTION_COUNT
 }
 
 /// The number of the procedure of the default list of a state.
@@ -143,7 +145,7 @@ fn put_enters(
         let inner = numbering.chart.path_in(*child, dest);
         put_call(code, numbering.enter(*child, inner))?;
     }
-    put_return(code, 1)
+    put_return(code, DONE)
 }
 
 /// Appends what is inside a state that was entered on the way to another one.
@@ -162,7 +164,7 @@ fn put_inside(
         state dest (trees.comp_of (chart_in numbering.now).tree state)) }
 {
     match numbering.chart.comp(state) {
-        Comp::Leaf => put_return(code, 1),
+        Comp::Leaf => put_return(code, DONE),
         Comp::Or => put_toward(code, numbering, state, dest),
         Comp::And => {
             let list = children(alloc, numbering.chart.shape(), state)?;
@@ -250,7 +252,7 @@ fn put_return_to(
     for child in children {
         put(code, Instr::Unless(2, Cond::Last(*child)))?;
         put_call(code, numbering.enter(*child, *child))?;
-        put_return(code, 1)?;
+        put_return(code, DONE)?;
     }
     Ok(())
 }
@@ -263,7 +265,7 @@ fn put_search(code: &mut List<Instr>, numbering: &Numbering<'_>, state: u32) -> 
         ++ templates.search_code (numbers (chart_in numbering.now)) state) }
 {
     put_call(code, default_list(numbering, state))?;
-    put_return(code, 1)
+    put_return(code, DONE)
 }
 
 /// Appends the procedure by which a state is entered by default.

@@ -13,6 +13,8 @@ ghost use Rattle.continuation_compile.specs.Numberings.{chart_in, IsNumbering};
 use crate::children::children;
 use active_config::Comp;
 use code_language::{Cond, Instr};
+use continuation_compile::number_offsets::{ACTION_COUNT, EXIT_ACTION_START, EXIT_OFFSET};
+use continuation_compile::results::DONE;
 use continuation_compile::{Draft, Numbering, append, put, put_call, put_require, put_return};
 use flow_base::{List, Memory};
 use std::alloc::Global;
@@ -26,7 +28,7 @@ fn exit_action(numbering: &Numbering<'_>, state: u32) -> u32
 {
     // Only the proof reads the number of states: it is small.
     let _ = numbering.states();
-    3 + state * 3
+    EXIT_ACTION_START + state * ACTION_COUNT
 }
 
 /// The number of the procedure by which the children of a state are left.
@@ -46,10 +48,10 @@ fn exit(numbering: &Numbering<'_>, state: u32) -> u32
     requires state { state < state_count (chart_in numbering.now).tree }
     ensures { result ≡ (numbers (chart_in numbering.now)).exit state }
 {
-    numbering.group(state) + 1
+    numbering.group(state) + EXIT_OFFSET
 }
 
-/// Appends how a child is left where it is active. Behind that the procedure returns.
+/// Appends how a child is left where it is active. After that the procedure returns.
 fn put_where_active(
     code: &mut List<Instr>,
     numbering: &Numbering<'_>,
@@ -59,11 +61,11 @@ fn put_where_active(
     requires child { child < state_count (chart_in numbering.now).tree }
     ensures { OnOk result (code_seen code.new ≡ code_seen code.old
         ++ instrs.Unless 2 (instrs.On child)
-        ∷ templates.call ((numbers (chart_in numbering.now)).exit child) ∷ instrs.Ret 1 ∷ []) }
+        ∷ templates.call ((numbers (chart_in numbering.now)).exit child) ∷ instrs.Ret DONE ∷ []) }
 {
     put(code, Instr::Unless(2, Cond::On(child)))?;
     put_call(code, exit(numbering, child))?;
-    put_return(code, 1)
+    put_return(code, DONE)
 }
 
 /// Appends how the first of these states that is active is left.
@@ -80,7 +82,7 @@ fn put_active(
     for state in states {
         put_where_active(code, numbering, *state)?;
     }
-    put_return(code, 1)
+    put_return(code, DONE)
 }
 
 /// Appends how each of these states is left, the last one first.
@@ -93,7 +95,7 @@ fn put_each(code: &mut List<Instr>, numbering: &Numbering<'_>, states: &[u32]) -
     for place in (0..states.len()).rev() {
         put_call(code, exit(numbering, states[place]))?;
     }
-    put_return(code, 1)
+    put_return(code, DONE)
 }
 
 /// Appends how the children of a state are left: of an OR the active one, of an AND all of them.
@@ -112,7 +114,7 @@ fn put_leave(
         state (comp_of (chart_in numbering.now).tree state)) }
 {
     match numbering.chart.comp(state) {
-        Comp::Leaf => put_return(code, 1),
+        Comp::Leaf => put_return(code, DONE),
         Comp::Or => put_active(code, numbering, states),
         Comp::And => put_each(code, numbering, states),
     }
@@ -161,11 +163,11 @@ fn put_exit_end(code: &mut List<Instr>, numbering: &Numbering<'_>, state: u32) -
     requires state { state < state_count (chart_in numbering.now).tree }
     ensures { OnOk result (code_seen code.new ≡ code_seen code.old
         ++ templates.call ((numbers (chart_in numbering.now)).exit_action state)
-        ∷ instrs.Clear state ∷ instrs.Ret 1 ∷ []) }
+        ∷ instrs.Clear state ∷ instrs.Ret DONE ∷ []) }
 {
     put_call(code, exit_action(numbering, state))?;
     put(code, Instr::Clear(state))?;
-    put_return(code, 1)
+    put_return(code, DONE)
 }
 
 /// Appends the code by which a state is left.

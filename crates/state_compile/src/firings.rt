@@ -8,6 +8,7 @@ ghost use Rattle.continuation_compile.specs.Drafts.{code_seen, procs_of};
 ghost use Rattle.continuation_compile.specs.Numberings.{chart_in, IsNumbering};
 
 use code_language::{Cond, Instr};
+use continuation_compile::results::DONE;
 use continuation_compile::{Draft, Numbering, append, put, put_call, put_require, put_return};
 use flow_base::{List, Memory};
 use std::alloc::Global;
@@ -29,13 +30,13 @@ pub(crate) fn put_toward(
 {
     if state == dest {
         put_call(code, numbering.defaults(state))?;
-        return put_return(code, 1);
+        return put_return(code, DONE);
     }
     match numbering.chart.child_toward(state, dest) {
-        None => put_return(code, 1),
+        None => put_return(code, DONE),
         Some(child) => {
             put_call(code, numbering.enter(child, dest))?;
-            put_return(code, 1)
+            put_return(code, DONE)
         }
     }
 }
@@ -81,6 +82,6 @@ pub(crate) fn append_take(
     let mut code = List::of(Vec::new(alloc));
     put_call(&mut code, numbering.group(state))?;
     put_call(&mut code, numbering.arrive(state, dest))?;
-    put_return(&mut code, 1)?;
+    put_return(&mut code, DONE)?;
     append(draft, code)
 }

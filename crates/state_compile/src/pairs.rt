@@ -1,5 +1,6 @@
 //! The procedures of a state for the states at or below it.
 ghost use Rattle.std.specs.Prelude.{◌≡◌, ◌<◌, ◌≤◌, ◌-◌, ◌++◌, ◌∷◌, [], map, OnOk};
+ghost use Rattle.flow_base.specs.declared.chart_limits.TheConstants.{STATE_LIMIT};
 ghost use Rattle.active_config.specs.Tree.{state_count};
 ghost use Rattle.chart_layout.specs.Bodies.{body};
 ghost use Rattle.chart_layout.specs.Ends.{end_of};
@@ -52,7 +53,7 @@ fn end(numbering: &Numbering<'_>, state: u32) -> u32
     requires numbers { IsNumbering numbering.now }
     requires state { state < state_count (chart_in numbering.now).tree }
     ensures end { result ≡ end_of (chart_in numbering.now).tree state }
-    ensures few { result ≤ 1024 }
+    ensures few { result ≤ STATE_LIMIT }
 {
     // Only the proof reads the number of states: it is small.
     let _ = numbering.states();

@@ -15,6 +15,8 @@ use crate::children::children;
 use active_config::Comp;
 use checked_chart::ListKind;
 use code_language::{Cond, Instr};
+use continuation_compile::number_offsets::{ACTION_COUNT, DURING_START};
+use continuation_compile::results::{DONE, FIRST_HOME};
 use continuation_compile::{
     Draft, Numbering, append, put, put_call, put_require, put_return, put_unless_found,
 };
@@ -30,7 +32,7 @@ fn during(numbering: &Numbering<'_>, state: u32) -> u32
 {
     // Only the proof reads the number of states: it is small.
     let _ = numbering.states();
-    2 + state * 3
+    DURING_START + state * ACTION_COUNT
 }
 
 /// The number of the procedure of a list.
@@ -51,7 +53,7 @@ fn out(numbering: &Numbering<'_>, home: u32) -> u32
 {
     // Only the proof reads the number of states: it is small.
     let _ = numbering.states();
-    3 + home
+    FIRST_HOME + home
 }
 
 /// Appends how a child of an OR is processed where it is active. A firing with the OR as its home
@@ -68,12 +70,12 @@ fn put_child(
         ++ instrs.Unless 4 (instrs.On child)
         ∷ templates.call ((numbers (chart_in numbering.now)).process child)
         ∷ instrs.Unless 1 (instrs.Result (templates.went_result (Out state)))
-        ∷ instrs.Ret 1 ∷ instrs.Pass ∷ []) }
+        ∷ instrs.Ret DONE ∷ instrs.Pass ∷ []) }
 {
     put(code, Instr::Unless(4, Cond::On(child)))?;
     put_call(code, numbering.process(child))?;
     put(code, Instr::Unless(1, Cond::Result(out(numbering, state))))?;
-    put_return(code, 1)?;
+    put_return(code, DONE)?;
     put(code, Instr::Pass)
 }
 
@@ -92,7 +94,7 @@ fn put_active_child(
     for child in states {
         put_child(code, numbering, state, *child)?;
     }
-    put_return(code, 1)
+    put_return(code, DONE)
 }
 
 /// Appends how a child of an AND is processed where it is active. A firing that leads out of it is
@@ -102,11 +104,11 @@ fn put_region(code: &mut List<Instr>, numbering: &Numbering<'_>, child: u32) -> 
     ensures { OnOk result (code_seen code.new ≡ code_seen code.old
         ++ instrs.Unless 4 (instrs.On child)
         ∷ templates.call ((numbers (chart_in numbering.now)).process child)
-        ∷ instrs.Unless 1 (instrs.Result 1) ∷ instrs.Skip 1 ∷ instrs.Pass ∷ []) }
+        ∷ instrs.Unless 1 (instrs.Result DONE) ∷ instrs.Skip 1 ∷ instrs.Pass ∷ []) }
 {
     put(code, Instr::Unless(4, Cond::On(child)))?;
     put_call(code, numbering.process(child))?;
-    put(code, Instr::Unless(1, Cond::Result(1)))?;
+    put(code, Instr::Unless(1, Cond::Result(DONE)))?;
     put(code, Instr::Skip(1))?;
     put(code, Instr::Pass)
 }
@@ -124,7 +126,7 @@ fn put_regions(
     for child in states {
         put_region(code, numbering, *child)?;
     }
-    put_return(code, 1)
+    put_return(code, DONE)
 }
 
 /// Appends how the children of a state are processed.
@@ -142,7 +144,7 @@ fn put_children(
         state (comp_of (chart_in numbering.now).tree state)) }
 {
     match numbering.chart.comp(state) {
-        Comp::Leaf => put_return(code, 1),
+        Comp::Leaf => put_return(code, DONE),
         Comp::Or => put_active_child(code, numbering, state, states),
         Comp::And => put_regions(code, numbering, states),
     }

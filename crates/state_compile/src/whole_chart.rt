@@ -10,6 +10,7 @@ ghost use Rattle.continuation_compile.specs.Numberings.{chart_in, IsNumbering};
 
 use crate::regions::{StateKeys, append_ascending, append_descending, append_junction_parts};
 use code_language::Instr;
+use continuation_compile::results::EMPTY_JUNCTION;
 use continuation_compile::{Draft, Numbering, append, put_return};
 use flow_base::{List, Memory};
 use std::alloc::Global;
@@ -19,7 +20,7 @@ fn append_end_mark(alloc: Global, draft: &mut Draft) -> Result<(), Memory>
     ensures { OnOk result (procs_of draft.new ≡ procs_of draft.old ++ templates.end_code ∷ []) }
 {
     let mut code = List::of(Vec::new(alloc));
-    put_return(&mut code, 2)?;
+    put_return(&mut code, EMPTY_JUNCTION)?;
     append(draft, code)
 }
 

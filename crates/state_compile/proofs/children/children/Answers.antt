@@ -27,14 +27,14 @@ loop-next-init c =
 
 pub loop-next-smaller : goal.loop-next-smaller
 loop-next-smaller c =
-    ahead_falls c.args.shape.now c.in-Some.x c.loop-next.next _ c.in-Some.is
-    (c.loop-next.invariant.stands.child c.in-Some.x c.in-Some.is).within c.next_sibling-next.ensures.after
+    ahead_falls c.args.shape.now c.in-Some.child c.loop-next.next _ c.in-Some.is
+    (c.loop-next.invariant.stands.child c.in-Some.child c.in-Some.is).within c.next_sibling-next.ensures.after
 
 pub loop-next-preserved : goal.loop-next-preserved
 loop-next-preserved c =
     let t = c.args.shape.now in
     let s = c.args.state in
-    let x = c.in-Some.x in
+    let x = c.in-Some.child in
     let inv = c.loop-next.invariant in
     let old = items_of c.loop-next.list in
     let step = c.in_ok-push.ensures.ok in
@@ -62,4 +62,4 @@ returns-clause-children c =
     ∙ c.loop-next.invariant.same
 
 pub next_sibling-next-requires : goal.next_sibling-next-requires
-next_sibling-next-requires c = (c.loop-next.invariant.stands.child c.in-Some.x c.in-Some.is).within
+next_sibling-next-requires c = (c.loop-next.invariant.stands.child c.in-Some.child c.in-Some.is).within

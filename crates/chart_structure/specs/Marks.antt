@@ -17,6 +17,10 @@ IsIn xs j = (i : ℕ) × (i < length xs) × (slice_index xs i ≡ j)
 abbrev pub greatest_count : ℕ
 greatest_count = 2 ^ 64 - 1
 
+-- a tree has fewer states than this, so that each of its lists has a mark of 32 bits
+abbrev pub state_bound : ℕ
+state_bound = 2 ^ 30
+
 -- exactly the junctions in `found` have the mark, each of them is reached from the list, and `pairs` is how many
 -- transitions stand in the list or in one of them
 pub record IsWalk (n : Net) (list : List Arrow) (mark : ℕ) (marks found : List ℕ) (pairs : ℕ) : Type 0 where

@@ -1,8 +1,9 @@
 //! The pass over the structure of a chart.
-ghost use Rattle.std.specs.Prelude.{◌≡◌, ◌+◌, ◌*◌, ◌≤◌, ◌<◌, ◌^◌, ◌↔◌, ℕ, length, slice_index, IfOk, OnOk, None};
+ghost use Rattle.std.specs.Prelude.{◌≡◌, ◌+◌, ◌*◌, ◌≤◌, ◌<◌, ◌↔◌, ℕ, length, slice_index, IfOk, OnOk, None};
 ghost use Rattle.active_config.specs.Tree.{state_count};
 ghost use Rattle.chart_tree.specs.declared.first.Found.{Found};
 ghost use Rattle.chart_tree.specs.First.{IsFirst, IsOne, Passed};
+ghost use Rattle.chart_structure.specs.Marks.{state_bound};
 ghost use Rattle.chart_structure.specs.Net as spec;
 ghost use Rattle.chart_structure.specs.Structure.{StructureFault};
 ghost use Rattle.chart_structure.specs.Valid.{IsValid};
@@ -32,7 +33,7 @@ pub struct Structure {
 ///
 /// Fails only where memory does.
 pub fn find_faults(alloc: Global, net: &Net<'_>) -> Result<Structure, AllocError>
-    requires { state_count net.now.tree < 2 ^ 30 }
+    requires { state_count net.now.tree < state_bound }
     ensures first { IfOk result (λ r. IsFirst (StructureFault net.now) r.fault) }
     ensures pairs { IfOk result (λ r. CountsPairs net.now r.pairs) }
 {
@@ -45,7 +46,7 @@ pub fn find_faults(alloc: Global, net: &Net<'_>) -> Result<Structure, AllocError
 ///
 /// Fails only where memory does.
 pub fn first_fault(alloc: Global, net: &Net<'_>) -> Result<Structure, AllocError>
-    requires { state_count net.now.tree < 2 ^ 30 }
+    requires { state_count net.now.tree < state_bound }
     ensures first { IfOk result (λ found. IsAnswer net.now found.fault) }
     ensures valid { IfOk result (λ found. (found.fault ≡ None) ↔ IsValid net.now) }
     ensures pairs { IfOk result (λ found. CountsPairs net.now found.pairs) }
@@ -68,7 +69,7 @@ pub fn first_fault(alloc: Global, net: &Net<'_>) -> Result<Structure, AllocError
 
 /// All states. No junction has a mark yet.
 fn with_states(alloc: Global, net: &Net<'_>, marks: &mut [u32]) -> Result<Structure, AllocError>
-    requires few { state_count net.now.tree < 2 ^ 30 }
+    requires few { state_count net.now.tree < state_bound }
     requires sized { length marks.old ≡ spec.junction_count net.now }
     requires fresh { (j : ℕ) → slice_index marks.old j ≡ 0 }
     ensures first { IfOk result (λ r. IsFirst (StructureFault net.now) r.fault) }
@@ -93,7 +94,7 @@ fn with_lists(
     before: Structure,
 ) -> Result<Structure, AllocError>
     requires state { state < state_count net.now.tree }
-    requires few { state_count net.now.tree < 2 ^ 30 }
+    requires few { state_count net.now.tree < state_bound }
     requires sized { length marks.old ≡ spec.junction_count net.now }
     requires fresh { (j : ℕ) → slice_index marks.old j ≤ 3 * state }
     requires one { IsOne (StructureFault net.now) before.fault }

@@ -18,7 +18,7 @@ use Rattle.chart_structure.specs.Net.{Node, JunctionNode, Net, nowhere, no_node,
 use Rattle.chart_structure.specs.Charts.{arrow_of_trans, node_of_state, node_of_junction, net_of_chart}
 use Rattle.chart_structure.specs.Erased.{erase, erase_node, erase_junction, erased}
 use Rattle.chart_check.specs.Nets.{arrow_of, node_of, junction_node_of, net_of}
-use Rattle.chart_check.proofs.BareLemmas.{node_at as bare_at}
+use Rattle.chart_structure.proofs.ErasedLemmas.{node_at as bare_at}
 use Rattle.chart_check.proofs.NetLemmas.{state_at, net_node, word_is, chart_node}
 
 -- ---- transitions

@@ -1,6 +1,5 @@
 -- The pairs of the net of a sound resolved chart are those of the chart for which it stands.
 use Rattle.std.proofs.Common.{◌≡◌, ℕ, ◌≤◌, arith, sym, subst}
-use Rattle.active_config.specs.Tree.{state_count}
 use Rattle.checked_chart.specs.declared.limits.TheConstants.{PAIR_LIMIT}
 use Rattle.checked_chart.specs.Chart.{Chart}
 use Rattle.checked_chart.specs.Reached.{ChartPairs}
@@ -13,8 +12,8 @@ use Rattle.chart_structure.specs.Net.{Net}
 use Rattle.chart_structure.specs.Pass.{CountsPairs}
 use Rattle.chart_structure.specs.Reached.{NetPairs}
 use Rattle.chart_structure.specs.Valid.{IsValid}
-use Rattle.chart_structure.proofs.ChartLemmas.{below_back}
-use Rattle.chart_structure.proofs.ErasedLemmas.{below_back as erased_back}
+use Rattle.chart_structure.proofs.ChartLemmas.{pairs_back}
+use Rattle.chart_structure.proofs.ErasedLemmas.{pairs_back as erased_back}
 use Rattle.chart_structure.proofs.PairLemmas.{one_number_of_net}
 use Rattle.chart_check.specs.Check.{IsSound}
 use Rattle.chart_check.specs.Nets.{net_of}
@@ -28,7 +27,7 @@ pub record ArePairs (c : Chart) (pairs : ℕ) : Type 0 where
 -- the pairs of a net without places are those of the net
 net_pairs : (n bare : Net) (count : ℕ) → erased n ≡ bare → NetPairs bare count → NetPairs n count
 net_pairs n bare count same are =
-    erased_back n (state_count n.tree) count (subst (λ m. NetPairs m count) (sym same) are)
+    erased_back n count (subst (λ m. NetPairs m count) (sym same) are)
 
 -- what is counted in a valid net, which has at most the limit, is the number of its pairs
 counted : (n : Net) (pairs count : ℕ) → IsValid n → CountsPairs n pairs → NetPairs n count → pairs ≡ count
@@ -49,6 +48,5 @@ pairs_are r pairs res s c =
     let of_net = net_pairs (net_of r) (net_of_chart (chart_of r)) one.0 (bare_net r res v) one.1 in
     let same = counted (net_of r) pairs one.0 v c of_net in
     let few = v.pairs one.0 of_net in
-    let are : ChartPairs (chart_of r) one.0 =
-    below_back (chart_of r) (state_count (chart_of r).tree) one.0 (omega arith) one.1 in
+    let are : ChartPairs (chart_of r) one.0 = pairs_back (chart_of r) one.0 one.1 in
     record { are = subst (ChartPairs (chart_of r)) (sym same) are; few = omega (arith, few, same) }

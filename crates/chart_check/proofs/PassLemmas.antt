@@ -2,6 +2,7 @@
 use Rattle.std.proofs.Common.{◌≡◌, ◌<◌, List, [], Option, Some, None, sym, subst, arith, ⊎_elim}
 use Rattle.active_config.specs.Tree.{state_count}
 use Rattle.chart_tree.specs.declared.first.Found.{Found}
+use Rattle.chart_structure.specs.Marks.{state_bound}
 use Rattle.chart_structure.specs.Net.{Net}
 use Rattle.chart_structure.specs.Pass as structure
 use Rattle.checked_chart.specs.Chart.{Chart}
@@ -17,9 +18,10 @@ use Rattle.chart_check.proofs.ChartLemmas.{chart_valid}
 use Rattle.chart_check.specs.Check.{IsSound, IsFirstOf, OfTypes, OfStructure, OfPairs, IsAnswer}
 
 -- the net of a resolved chart has no more states than a chart may have
-pub few_states : (r : Resolved) (n : Net) → KeepsPromise r → n ≡ net_of r → state_count n.tree < 1073741824
+pub few_states : (r : Resolved) (n : Net) → KeepsPromise r → n ≡ net_of r → state_count n.tree < state_bound
 unfolding net_of chart_of
-few_states r n h e = subst (λ m. state_count m.tree < 1073741824) (sym e) (let few = h.small.states in omega (arith, few))
+few_states r n h e =
+    subst (λ m. state_count m.tree < state_bound) (sym e) (let few = h.small.states in omega (arith, few))
 
 -- where there is no fault of types, the answer for the net is that for the chart
 pub of_net : (r : Resolved) (n : Net) (fault : Option Found) → first_of (type_faults r) ≡ None → n ≡ net_of r

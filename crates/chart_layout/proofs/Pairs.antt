@@ -5,7 +5,7 @@ use Rattle.checked_chart.specs.declared.parts.Dest.{Dest}
 use Rattle.checked_chart.specs.declared.parts.Dest.TheVariants.{State, Junction}
 use Rattle.checked_chart.specs.declared.parts.ListKind.TheVariants.{Outer, Inner, Default}
 use Rattle.checked_chart.specs.Chart.{Chart, Trans, list_of, junction, junction_count}
-use Rattle.checked_chart.specs.Reached.{ArePairs, PairsBelow, ChartPairs}
+use Rattle.checked_chart.specs.Reached.{links_of, ArePairs, PairsBelow, ChartPairs}
 use Rattle.checked_chart.specs.Valid.{IsValid, AreTrans}
 use Rattle.chart_layout.specs.Orders.{sum_to}
 use Rattle.chart_layout.specs.Places.{reached_count, reached_total}
@@ -26,7 +26,7 @@ to_few (t ∷ ts) = at t.dest (to_few ts)
 
 module _ (c : Chart) (valid : IsValid c) where
   -- those of a list
-  list_pairs : (list : List Trans) (count : ℕ) → AreTrans c list → ArePairs c list count
+  list_pairs : (list : List Trans) (count : ℕ) → AreTrans c list → ArePairs (links_of c) list count
       → length (reached c list) ≤ count
   list_pairs list count are pairs =
       let all = reached c list in
@@ -47,7 +47,7 @@ module _ (c : Chart) (valid : IsValid c) where
   of_state s = reached_count c s Outer + reached_count c s Inner + reached_count c s Default
 
   -- those of the first states
-  pairs_below : (n count : ℕ) → PairsBelow c n count → sum_to of_state n ≤ count
+  pairs_below : (n count : ℕ) → PairsBelow (links_of c) n count → sum_to of_state n ≤ count
   unfolding sum_to reached_count
   pairs_below zero count e = omega (arith, e)
   pairs_below (suc s) count h =

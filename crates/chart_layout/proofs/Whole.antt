@@ -6,7 +6,7 @@ use Rattle.active_config.specs.Tree.{state_count}
 use Rattle.actions.specs.Runs.{EventWithInputs, Moment}
 use Rattle.checked_chart.specs.declared.parts.ListKind.{ListKind}
 use Rattle.checked_chart.specs.Chart.{Chart, list_of, junction}
-use Rattle.checked_chart.specs.Reached.{Reached}
+use Rattle.checked_chart.specs.Reached.{links_of, Reached}
 use Rattle.checked_chart.specs.Valid.{IsValid}
 use Rattle.sos_rules.specs.Reactions.{RulesRun}
 use Rattle.code_language.specs.Code.{Procedures}
@@ -87,7 +87,7 @@ module _ (c : Chart) where
         each_at c (search_of N M c.tree s kind) (list_of c s kind) (M.parts s kind) (list_parts_stand c s kind lt)
 
     -- those of a junction that is reached from it
-    junction_parts : (s : ℕ) (kind : ListKind) (j : ℕ) → Reached c (list_of c s kind) j
+    junction_parts : (s : ℕ) (kind : ListKind) (j : ℕ) → Reached (links_of c) (list_of c s kind) j
         → EachAt K N (search_of N M c.tree s kind) (junction c j) (M.junction_parts j)
     junction_parts s kind j r =
         each_at c (search_of N M c.tree s kind) (junction c j) (M.junction_parts j)

@@ -5,7 +5,7 @@ use Rattle.std.specs.List.{AllByRecursion}
 use Rattle.checked_chart.specs.declared.parts.Dest.{Dest}
 use Rattle.checked_chart.specs.declared.parts.Dest.TheVariants.{State, Junction}
 use Rattle.checked_chart.specs.Chart.{Chart, Trans, junction, junction_count}
-use Rattle.checked_chart.specs.Reached.{Reached}
+use Rattle.checked_chart.specs.Reached.{links_of, Reached}
 
 -- ---- numbers in lists
 
@@ -69,6 +69,6 @@ reached c list =
 
 -- all has each junction that is reached from the list, and no other, once, and each is a junction of the chart
 pub record AreReached (c : Chart) (list : List Trans) (all : List ℕ) : Type 0 where
-  pub exact : (j : ℕ) → IsTrue (has all j) ↔ Reached c list j
+  pub exact : (j : ℕ) → IsTrue (has all j) ↔ Reached (links_of c) list j
   pub once : Distinct all
   pub within : AllByRecursion (λ j. j < junction_count c) all

@@ -12,7 +12,7 @@ use Rattle.checked_chart.specs.declared.parts.ListKind.{ListKind}
 use Rattle.checked_chart.specs.declared.parts.ListKind.TheVariants.{Outer, Inner, Default}
 use Rattle.checked_chart.specs.Homes.{home_of}
 use Rattle.checked_chart.specs.Valid.{IsValid}
-use Rattle.checked_chart.specs.Reached.{Reached}
+use Rattle.checked_chart.specs.Reached.{links_of, Reached}
 use Rattle.sos_rules.specs.Parts.{Found, Fire, DeadEnd, No, Stop, Parts}
 use Rattle.sos_rules.specs.Rules.{upto}
 use Rattle.code_language.specs.Code.{Procedures}
@@ -133,7 +133,7 @@ module _ (c : Chart) (valid : IsValid c) (b : Bounds) (k : Procedures) (N : Numb
     by = λ n blocks. record {
       by = λ s kind lt w ok l now r tag base fs.
           let h = L.by s kind lt in
-          let J = Reached c (list_of c s kind) in
+          let J = Reached (links_of c) (list_of c s kind) in
           let does =
           lists c valid.tree b k (meaning_of c.tree k N s kind J) (search_of N M c.tree s kind) (results_of s kind)
           M.junction_parts (λ j reached. junction_by c valid k N M s kind lt h j reached) n

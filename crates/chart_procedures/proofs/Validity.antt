@@ -18,7 +18,7 @@ use Rattle.checked_chart.specs.declared.parts.ListKind.{ListKind}
 use Rattle.checked_chart.specs.declared.parts.ListKind.TheVariants.{Outer, Inner, Default}
 use Rattle.checked_chart.specs.Chart.{Chart, Trans, node, list_of, junction}
 use Rattle.checked_chart.specs.Homes.{common_above, or_root, home_of}
-use Rattle.checked_chart.specs.Reached.{LeadsTo, Reached, Directly, Through, Meets, Itself, AtJunction}
+use Rattle.checked_chart.specs.Reached.{links_of, LeadsTo, Reached, Directly, Through, Meets, Itself, AtJunction}
 use Rattle.checked_chart.specs.Valid.{IsValid, AreStmts, AreTrans, IsDest, Closes, MayLead, LeadsWell}
 use Rattle.checked_chart.proofs.PartsLemmas.{node_valid, junction_valid}
 use Rattle.checked_chart.proofs.Walks.{below_is}
@@ -138,17 +138,17 @@ destination t tree s Default d lt le or h = record {
 -- ---- lists that are met
 
 -- no junction is reached from a list without transitions
-nothing_reached : (c : Chart) (list : List Trans) → list ≡ [] → (j : ℕ) → Reached c list j → ⊥
+nothing_reached : (c : Chart) (list : List Trans) → list ≡ [] → (j : ℕ) → Reached (links_of c) list j → ⊥
 nothing_reached c list e j (Directly _ leads) =
     let n = ap length e in let i = leads.within.1 in omega (arith, i, n)
 nothing_reached c list e j (Through k _ r leads) = nothing_reached c list e k r
 
 -- a transition that is met from a default list belongs to an OR
 default_or : (c : Chart) → IsValid c → (s : ℕ) → s < state_count c.tree → (l : List Trans)
-    → Meets c (list_of c s Default) l → (t : Trans) (ts : List Trans) → l ≡ t ∷ ts → comp_of c.tree s ≡ Or
+    → Meets (links_of c) (list_of c s Default) l → (t : Trans) (ts : List Trans) → l ≡ t ∷ ts → comp_of c.tree s ≡ Or
 default_or c valid s lt l m t ts e = go (comp_of c.tree s) refl
   where
-    met : (list l : List Trans) → list ≡ [] → Meets c list l → l ≡ t ∷ ts → ⊥
+    met : (list l : List Trans) → list ≡ [] → Meets (links_of c) list l → l ≡ t ∷ ts → ⊥
     met list _ none Itself e = absurd cc
     met list _ none (AtJunction j r) e = nothing_reached c list none j r
 
@@ -160,14 +160,14 @@ default_or c valid s lt l m t ts e = go (comp_of c.tree s) refl
 -- the same for every kind of list
 home_is_or : (c : Chart) → IsValid c → (s : ℕ) (kind : ListKind) → s < state_count c.tree
     → (t : Trans) (ts : List Trans)
-    → Meets c (list_of c s kind) (t ∷ ts) → IsHomeOf c.tree s kind
+    → Meets (links_of c) (list_of c s kind) (t ∷ ts) → IsHomeOf c.tree s kind
 home_is_or c valid s Outer lt t ts m = tt
 home_is_or c valid s Inner lt t ts m = tt
 home_is_or c valid s Default lt t ts m = default_or c valid s lt (t ∷ ts) m t ts refl
 
 -- the transitions of a list that is met are those of a chart
-met_trans : (c : Chart) → IsValid c → (s : ℕ) (kind : ListKind) (l : List Trans) → Meets c (list_of c s kind) l
-    → AreTrans c l
+met_trans : (c : Chart) → IsValid c → (s : ℕ) (kind : ListKind) (l : List Trans)
+    → Meets (links_of c) (list_of c s kind) l → AreTrans c l
 met_trans c valid s kind _ (AtJunction j r) = junction_valid c valid j
 met_trans c valid s Outer _ Itself = (node_valid c valid s).outer
 met_trans c valid s Inner _ Itself = (node_valid c valid s).inner
@@ -180,7 +180,7 @@ closes_some (t ∷ ts) h = tt
 
 -- no junction that is reached from a default list is empty
 may_end : (c : Chart) → IsValid c → (N : Numbers) (s : ℕ) (kind : ListKind) (j : ℕ) → s < state_count c.tree
-    → Reached c (list_of c s kind) j → MayEnd (context_of N c.tree s kind).end (junction c j)
+    → Reached (links_of c) (list_of c s kind) j → MayEnd (context_of N c.tree s kind).end (junction c j)
 may_end c valid N s Outer j lt r = tt
 may_end c valid N s Inner j lt r = tt
 may_end c valid N s Default j lt r = closes_some (junction c j) (valid.structure.junctions s j lt r)
@@ -193,7 +193,7 @@ module _ (c : Chart) (valid : IsValid c) (k : Procedures) (N : Numbers) (M : Lis
 
   -- the junctions that are reached from the list
   abbrev Comes : ℕ → Type 0
-  Comes = Reached c (list_of c s kind)
+  Comes = Reached (links_of c) (list_of c s kind)
 
   -- what is known of the parts
   abbrev P : Meaning
@@ -207,8 +207,8 @@ module _ (c : Chart) (valid : IsValid c) (k : Procedures) (N : Numbers) (M : Lis
 
   -- the procedures of the transitions of a list that leads to what is reached
   each_by : (ts : List Trans) (qs : List TransNumbers) → IsHomeOf c.tree s kind → AreTrans c ts
-      → AllByRecursion (λ (t : Trans). LeadsWell c.tree s kind t.dest) ts → ((j : ℕ) → LeadsTo ts j → Comes j)
-      → EachAt k N S ts qs → EachBy P kind ts qs
+      → AllByRecursion (λ (t : Trans). LeadsWell c.tree s kind t.dest) ts
+      → ((j : ℕ) → LeadsTo (links_of c) ts j → Comes j) → EachAt k N S ts qs → EachBy P kind ts qs
   each_by [] qs or are well comes h = tt
   each_by (t ∷ ts) qs or are well comes h = (
     record {
@@ -227,8 +227,8 @@ module _ (c : Chart) (valid : IsValid c) (k : Procedures) (N : Numbers) (M : Lis
   )
 
   -- the procedures of a list that is met
-  met_by : (ts : List Trans) (qs : List TransNumbers) → Meets c (list_of c s kind) ts
-      → ((j : ℕ) → LeadsTo ts j → Comes j) → EachAt k N S ts qs → EachBy P kind ts qs
+  met_by : (ts : List Trans) (qs : List TransNumbers) → Meets (links_of c) (list_of c s kind) ts
+      → ((j : ℕ) → LeadsTo (links_of c) ts j → Comes j) → EachAt k N S ts qs → EachBy P kind ts qs
   met_by [] qs m comes h = tt
   met_by (t ∷ ts) qs m comes h =
       each_by (t ∷ ts) qs (home_is_or c valid s kind lt t ts m) (met_trans c valid s kind (t ∷ ts) m)

@@ -4,7 +4,7 @@ use Rattle.active_config.specs.Tree.{state_count, comp_of}
 use Rattle.actions.specs.Exprs.{Expr, Stmt}
 use Rattle.checked_chart.specs.declared.parts.ListKind.{ListKind}
 use Rattle.checked_chart.specs.Chart.{Chart, Trans, node, list_of, junction, life_of, is_remembered, may_return}
-use Rattle.checked_chart.specs.Reached.{Reached}
+use Rattle.checked_chart.specs.Reached.{links_of, Reached}
 use Rattle.code_language.specs.Code.{Procedures}
 use Rattle.code_language.specs.Instrs.{Cond}
 use Rattle.code_language.specs.Instrs as instrs
@@ -72,9 +72,9 @@ pub record ListCompiled (c : Chart) (k : Procedures) (N : Numbers) (M : ListNumb
     (S : Search) : Type 0 where
   pub list : HasAt k (N.search s kind) 0 (instrs.Begin ∷ list_code S (list_of c s kind) (M.parts s kind))
   pub parts : EachAt k N S (list_of c s kind) (M.parts s kind)
-  pub junctions : (j : ℕ) → Reached c (list_of c s kind) j
+  pub junctions : (j : ℕ) → Reached (links_of c) (list_of c s kind) j
       → HasAt k (S.junction j) 0 (junction_code S (junction c j) (M.junction_parts j))
-  pub junction_parts : (j : ℕ) → Reached c (list_of c s kind) j
+  pub junction_parts : (j : ℕ) → Reached (links_of c) (list_of c s kind) j
       → EachAt k N S (junction c j) (M.junction_parts j)
 
 -- the procedures of all lists stand at their numbers

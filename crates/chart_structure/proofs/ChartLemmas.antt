@@ -1,7 +1,7 @@
 -- A checked chart has its structure exactly where its net is valid.
 use Rattle.std.proofs.Common.{◌≡◌, ◌≢◌, ℕ, zero, suc, ◌+◌, ◌≤◌, ◌<◌, List, [], ◌∷◌, length, map, get_or, Option, Some}
 use Rattle.std.proofs.Common.{None, Bool, true, false, cond, refl, sym, ap, ◌∙◌, subst, arith}
-use Rattle.std.specs.Prelude.{◌||◌, Contains, IsSomeAnd, slice_get}
+use Rattle.std.specs.Prelude.{◌||◌, IsSomeAnd, slice_get}
 use Rattle.std.specs.List.{AllByRecursion, last_or, range_with_len}
 use Rattle.std.specs.Option.{is_some}
 use Rattle.std.proofs.lemmas.List.{length-map}
@@ -20,40 +20,21 @@ use Rattle.checked_chart.specs.declared.parts.ListKind.TheVariants.{Outer, Inner
 use Rattle.checked_chart.specs.Chart as charts
 use Rattle.checked_chart.specs.Chart.{Chart, Trans, node, junction}
 use Rattle.checked_chart.specs.Reached as chart_reached
-use Rattle.checked_chart.specs.Reached.{weight}
+use Rattle.checked_chart.specs.Reached.{ChartPairs}
 use Rattle.checked_chart.specs.Valid as chart_valid
 use Rattle.checked_chart.specs.Valid.{MayLead, LeadsWell, HasStructure}
 use Rattle.chart_structure.specs.declared.net.Arrow.{Arrow}
 use Rattle.chart_structure.specs.Net.{Net, nowhere, no_node, no_junction, node_list, word_of, history_of, list_of}
 use Rattle.chart_structure.specs.Net.{junction_count, junction_list}
-use Rattle.chart_structure.specs.Reached.{Reached, Directly, Through, LeadsTo, Meets, Itself, AtJunction}
-use Rattle.chart_structure.specs.Reached.{size_of, ArePairs, StatePairs, PairsBelow, NetPairs}
+use Rattle.chart_structure.specs.Reached.{links_of, NetPairs}
 use Rattle.chart_structure.specs.Structure.{Leads}
 use Rattle.chart_structure.specs.Valid.{Closes, IsValid}
 use Rattle.chart_structure.specs.Charts.{arrow_of_trans, node_of_state, node_of_junction, net_of_chart}
 use Rattle.chart_structure.proofs.MapLemmas.{Comes, from_map, into_map, map_empty, last_get}
-use Rattle.chart_structure.proofs.WeightLemmas.{weight_by}
+use Rattle.chart_structure.proofs.LinkLemmas.{IsImage, kind_reached_back, kind_reached_on, kind_meets_back}
+use Rattle.chart_structure.proofs.LinkLemmas.{kind_meets_on, below_back, below_on}
 
 -- ---- lists
-
-contains_at : (list : List Trans) (i : ℕ) (t : Trans) → slice_get list i ≡ Some t → Contains list t
-contains_at list i t e = (i, slice_get_within list i t e, get_or_from_slice_get list i t t e)
-
-leads_back : (list : List Trans) (j : ℕ) → LeadsTo (map arrow_of_trans list) j → chart_reached.LeadsTo list j
-leads_back list j h =
-    let r = from_map arrow_of_trans list h.1.0 h.0 h.1.1 in
-    record {
-      trans = r.item;
-      within = contains_at list h.1.0 r.item r.is;
-      leads = ap (λ (a : Arrow). a.to) r.same ∙ h.2;
-    }
-
-leads_on : (list : List Trans) (j : ℕ) → chart_reached.LeadsTo list j → LeadsTo (map arrow_of_trans list) j
-leads_on list j h =
-    let k = h.within.0 in
-    let at : slice_get list k ≡ Some h.trans = slice_get-get_or list k h.trans h.within.1 ∙ ap
-    (λ t. Some t) h.within.2 in
-    (arrow_of_trans h.trans, (k, into_map arrow_of_trans list k h.trans at), h.leads)
 
 -- a transition that isn't open has neither event nor guard
 closed_trans : (e : Option ℕ) (g : Option Expr) → (is_some e || is_some g) ≡ false → (e ≡ None) × (g ≡ None)
@@ -137,128 +118,22 @@ module _ (c : Chart) where
   unfolding junction_count charts.junction_count
   count_same = length-map c.junctions node_of_junction
 
-  -- ---- what is reached
-
-  reached_back : (list : List Trans) (j : ℕ) → Reached (net_of_chart c) (map arrow_of_trans list) j
-      → chart_reached.Reached c list j
-  reached_back list _ (Directly j h) = chart_reached.Directly j (leads_back list j h)
-  reached_back list _ (Through k j r h) =
-      chart_reached.Through k j (reached_back list k r)
-      (leads_back (junction c k) j (subst (λ l. LeadsTo l j) (junctions_same k) h))
-
-  reached_on : (list : List Trans) (j : ℕ) → chart_reached.Reached c list j
-      → Reached (net_of_chart c) (map arrow_of_trans list) j
-  reached_on list _ (chart_reached.Directly j h) = Directly j (leads_on list j h)
-  reached_on list _ (chart_reached.Through k j r h) =
-      Through k j (reached_on list k r)
-      (subst (λ l. LeadsTo l j) (sym (junctions_same k)) (leads_on (junction c k) j h))
-
-  -- a list of the net that is met is one of the chart that is met
-  record MeetsBack (base : List Trans) (list : List Arrow) : Type 0 where
-    own : List Trans
-    met : chart_reached.Meets c base own
-    same : list ≡ map arrow_of_trans own
-
-  meets_back : (base : List Trans) (list : List Arrow) → Meets (net_of_chart c) (map arrow_of_trans base) list
-      → MeetsBack base list
-  meets_back base _ Itself = record { own = base; met = chart_reached.Itself; same = refl }
-  meets_back base _ (AtJunction j r) = record {
-    own = junction c j;
-    met = chart_reached.AtJunction j (reached_back base j r);
-    same = junctions_same j;
-  }
-
-  meets_on : (base list : List Trans) → chart_reached.Meets c base list
-      → Meets (net_of_chart c) (map arrow_of_trans base) (map arrow_of_trans list)
-  meets_on base _ chart_reached.Itself = Itself
-  meets_on base _ (chart_reached.AtJunction j r) =
-      subst (Meets (net_of_chart c) (map arrow_of_trans base)) (junctions_same j) (AtJunction j (reached_on base j r))
+  -- the transitions of the net come from those of the chart
+  image : IsImage arrow_of_trans (chart_reached.links_of c) (links_of (net_of_chart c)) (state_count c.tree)
+  image = record { dests = λ t. refl; each = junctions_same; count = count_same; lists = lists_same }
 
   -- ---- pairs
 
-  size_same : (j : ℕ) → size_of (net_of_chart c) j ≡ length (junction c j)
-  size_same j = ap length (junctions_same j) ∙ length-map (junction c j) arrow_of_trans
+  pub pairs_back : (count : ℕ) → NetPairs (net_of_chart c) count → ChartPairs c count
+  pairs_back count are = below_back image (state_count c.tree) count (omega arith) are
 
-  weight_is : (p : ℕ → Bool) → weight p (size_of (net_of_chart c)) (junction_count (net_of_chart c))
-      ≡ weight p (λ j. length (junction c j)) (charts.junction_count c)
-  weight_is p =
-      ap (weight p (size_of (net_of_chart c))) count_same
-      ∙ weight_by p (size_of (net_of_chart c)) (λ j. length (junction c j)) size_same (charts.junction_count c)
-
-  pairs_back : (list : List Trans) (count : ℕ) → ArePairs (net_of_chart c) (map arrow_of_trans list) count
-      → chart_reached.ArePairs c list count
-  pairs_back list count a = record {
-    within = a.within;
-    exact = λ j. ((λ h. reached_back list j ((a.exact j).0 h)), (λ r. (a.exact j).1 (reached_on list j r)));
-    sum = omega (arith, a.sum, weight_is a.within, length-map list arrow_of_trans);
-  }
-
-  pairs_on : (list : List Trans) (count : ℕ) → chart_reached.ArePairs c list count
-      → ArePairs (net_of_chart c) (map arrow_of_trans list) count
-  pairs_on list count a = record {
-    within = a.within;
-    exact = λ j. ((λ h. reached_on list j ((a.exact j).0 h)), (λ r. (a.exact j).1 (reached_back list j r)));
-    sum = omega (arith, a.sum, weight_is a.within, length-map list arrow_of_trans);
-  }
-
-  kind_back : (s : ℕ) (kind : ListKind) (count : ℕ) → s < state_count c.tree
-      → ArePairs (net_of_chart c) (list_of (net_of_chart c) s kind) count
-      → chart_reached.ArePairs c (charts.list_of c s kind) count
-  kind_back s kind count lt a =
-      pairs_back (charts.list_of c s kind) count
-      (subst (λ l. ArePairs (net_of_chart c) l count) (lists_same s kind lt) a)
-
-  kind_on : (s : ℕ) (kind : ListKind) (count : ℕ) → s < state_count c.tree
-      → chart_reached.ArePairs c (charts.list_of c s kind) count
-      → ArePairs (net_of_chart c) (list_of (net_of_chart c) s kind) count
-  kind_on s kind count lt a =
-      subst (λ l. ArePairs (net_of_chart c) l count) (sym (lists_same s kind lt))
-      (pairs_on (charts.list_of c s kind) count a)
-
-  pub below_back : (s count : ℕ) → s ≤ state_count c.tree → PairsBelow (net_of_chart c) s count
-      → chart_reached.PairsBelow c s count
-  below_back zero count le a = a
-  below_back (suc s) count le a =
-      let lt : s < state_count c.tree = omega arith in (
-        a.0,
-        a.1,
-        record {
-          outer = a.2.outer;
-          inner = a.2.inner;
-          default = a.2.default;
-          of_outer = kind_back s Outer a.2.outer lt a.2.of_outer;
-          of_inner = kind_back s Inner a.2.inner lt a.2.of_inner;
-          of_default = kind_back s Default a.2.default lt a.2.of_default;
-          sum = a.2.sum;
-        },
-        below_back s a.1 (omega arith) a.3,
-        a.4,
-      )
-
-  pub below_on : (s count : ℕ) → s ≤ state_count c.tree → chart_reached.PairsBelow c s count
-      → PairsBelow (net_of_chart c) s count
-  below_on zero count le a = a
-  below_on (suc s) count le a =
-      let lt : s < state_count c.tree = omega arith in (
-        a.0,
-        a.1,
-        record {
-          outer = a.2.outer;
-          inner = a.2.inner;
-          default = a.2.default;
-          of_outer = kind_on s Outer a.2.outer lt a.2.of_outer;
-          of_inner = kind_on s Inner a.2.inner lt a.2.of_inner;
-          of_default = kind_on s Default a.2.default lt a.2.of_default;
-          sum = a.2.sum;
-        },
-        below_on s a.1 (omega arith) a.3,
-        a.4,
-      )
+  pub pairs_on : (count : ℕ) → ChartPairs c count → NetPairs (net_of_chart c) count
+  pairs_on count are = below_on image (state_count c.tree) count (omega arith) are
 
   -- ---- from the net to the chart
 
-  pub few_pairs : IsValid (net_of_chart c) → (count : ℕ) → chart_reached.ChartPairs c count → count ≤ PAIR_LIMIT
-  few_pairs v count are = v.pairs count (below_on (state_count c.tree) count (omega arith) are)
+  pub few_pairs : IsValid (net_of_chart c) → (count : ℕ) → ChartPairs c count → count ≤ PAIR_LIMIT
+  few_pairs v count are = v.pairs count (pairs_on count are)
 
   pub structure_of : IsTree c.tree → IsValid (net_of_chart c) → HasStructure c
   structure_of tree v = record {
@@ -269,21 +144,19 @@ module _ (c : Chart) where
         λ s lt e. closes_back (charts.list_of c s Default)
         (subst Closes (lists_same s Default lt) (v.default s lt e));
     junctions = λ s j lt r. closes_back (junction c j) (subst Closes (junctions_same j)
-        (v.junctions s j lt (subst (λ l. Reached (net_of_chart c) l j) (sym (lists_same s Default lt))
-        (reached_on (charts.list_of c s Default) j r))));
+        (v.junctions s j lt (kind_reached_on image s Default j lt r)));
     history = λ s lt e. v.history s nowhere lt
         (history_same s lt ∙ ap (λ b. cond b (Some nowhere) None) e);
     leads = λ s kind list lt m. recursion_from_All (λ (t : Trans). LeadsWell c.tree s kind t.dest) list
         (λ k d in_. let t : Trans = get_or list k d in
         let at = into_map arrow_of_trans list k t (slice_get-get_or list k d in_) in
         dest_well c.tree s kind t.dest (λ x e. v.leads s kind (map arrow_of_trans list) (arrow_of_trans t) x lt
-        (subst (λ l. Meets (net_of_chart c) l (map arrow_of_trans list)) (sym (lists_same s kind lt))
-        (meets_on (charts.list_of c s kind) list m)) (record { has = (k, at); to = e })));
+        (kind_meets_on image s kind list lt m) (record { has = (k, at); to = e })));
   }
 
   -- ---- from the chart to the net
 
-  pub valid_net : IsTree c.tree → HasStructure c → ((count : ℕ) → chart_reached.ChartPairs c count → count ≤ PAIR_LIMIT)
+  pub valid_net : IsTree c.tree → HasStructure c → ((count : ℕ) → ChartPairs c count → count ≤ PAIR_LIMIT)
       → IsValid (net_of_chart c)
   valid_net tree h few = record {
     words = words_same;
@@ -293,12 +166,10 @@ module _ (c : Chart) where
         λ s lt e. subst Closes (sym (lists_same s Default lt))
         (closes_on (charts.list_of c s Default) (h.default s lt e));
     junctions = λ s j lt r. subst Closes (sym (junctions_same j)) (closes_on (junction c j) (h.junctions s j lt
-        (reached_back (charts.list_of c s Default) j
-        (subst (λ l. Reached (net_of_chart c) l j) (lists_same s Default lt) r))));
+        (kind_reached_back image s Default j lt r)));
     history = λ s at lt is. h.history s lt (history_true (node c s).history at (sym (history_same s lt) ∙ is));
     leads = λ s kind list a d lt m l.
-        let b = meets_back (charts.list_of c s kind) list
-        (subst (λ base. Meets (net_of_chart c) base list) (lists_same s kind lt) m) in
+        let b = kind_meets_back image s kind list lt m in
         let r = from_map arrow_of_trans b.own l.has.0 a (subst (λ x. slice_get x l.has.0 ≡ Some a) b.same l.has.1) in
         let all = All-from_recursion (λ (t : Trans). LeadsWell c.tree s kind t.dest) b.own
         (h.leads s kind b.own lt b.met) in
@@ -306,5 +177,5 @@ module _ (c : Chart) where
         let e = get_or_from_slice_get b.own l.has.0 r.item r.item r.is in
         let to : r.item.dest ≡ State d = ap (λ (x : Arrow). x.to) r.same ∙ l.to in
         subst (LeadsWell c.tree s kind) (ap (λ (t : Trans). t.dest) e ∙ to) here;
-    pairs = λ count are. few count (below_back (state_count c.tree) count (omega arith) are);
+    pairs = λ count are. few count (pairs_back count are);
   }

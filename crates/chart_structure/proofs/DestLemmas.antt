@@ -17,9 +17,10 @@ use Rattle.checked_chart.specs.declared.parts.Dest.TheVariants.{State, Junction}
 use Rattle.checked_chart.specs.declared.parts.ListKind.{ListKind}
 use Rattle.checked_chart.specs.declared.parts.ListKind.TheVariants.{Outer, Inner, Default}
 use Rattle.checked_chart.specs.Homes.{home_of}
+use Rattle.checked_chart.specs.Reached.{Meets}
 use Rattle.chart_structure.specs.declared.net.Arrow.{Arrow}
 use Rattle.chart_structure.specs.Net.{Net, word_of, list_of}
-use Rattle.chart_structure.specs.Reached.{Meets}
+use Rattle.chart_structure.specs.Reached.{links_of}
 use Rattle.chart_structure.specs.Structure.{Leads, ListFault, LeavesDefault, LeavesInner, CrossesInner, CrossesOuter}
 use Rattle.chart_structure.specs.Structure.{StructureFault, OfList}
 use Rattle.chart_structure.specs.Tests.{crossing, dest_fault, IsDestFault, with_dest}
@@ -107,7 +108,7 @@ module _ (n : Net) (s : ℕ) (kind : ListKind) (list : List Arrow) where
 
   -- one transition more
   pub dests_more : (i : ℕ) (first kept next : Option Found) (x : Arrow) → DestsSoFar n s kind list i first kept
-      → s < state_count n.tree → Meets n (list_of n s kind) list → slice_get list i ≡ Some x
+      → s < state_count n.tree → Meets (links_of n) (list_of n s kind) list → slice_get list i ≡ Some x
       → next ≡ with_dest n s kind x.to x.to_at kept → DestsSoFar n s kind list (i + 1) first next
   dests_more i first kept next x so lt met is e = subst (DestsSoFar n s kind list (i + 1) first) (sym e) (record {
     one = with_dest_one x.to x.to_at kept so.one

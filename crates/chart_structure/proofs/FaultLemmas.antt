@@ -16,14 +16,16 @@ use Rattle.checked_chart.specs.declared.parts.Dest.TheVariants.{State}
 use Rattle.checked_chart.specs.declared.parts.ListKind.{ListKind}
 use Rattle.checked_chart.specs.declared.parts.ListKind.TheVariants.{Outer, Inner, Default}
 use Rattle.checked_chart.specs.Homes.{home_of}
+use Rattle.checked_chart.specs.Reached.{Reached, Directly, Through, Meets, Itself, AtJunction}
 use Rattle.chart_structure.specs.declared.net.Arrow.{Arrow}
 use Rattle.chart_structure.specs.Net.{Net, IsNet, IsDest, word_of, name_of, history_of, list_of}
 use Rattle.chart_structure.specs.Net.{junction_count, junction_list, junction_name}
-use Rattle.chart_structure.specs.Reached.{Reached, Directly, Through, Meets, Itself, AtJunction}
+use Rattle.chart_structure.specs.Reached.{links_of}
 use Rattle.chart_structure.specs.Structure.{Leads, StateFault, EmptyState, EmptyChart, Missing, Unwanted}
 use Rattle.chart_structure.specs.Structure.{UnwantedHistory}
 use Rattle.chart_structure.specs.Structure.{ListFault, Open, LeavesDefault, LeavesInner, CrossesInner, CrossesOuter}
 use Rattle.chart_structure.specs.Structure.{StructureFault, OfState, OfList, OfEmpty}
+use Rattle.chart_structure.proofs.LinkLemmas.{stands_at}
 use Rattle.chart_structure.proofs.PairLemmas.{found, has_reached}
 use Rattle.chart_structure.proofs.FirstLemmas.{Decided, both, contrary, HasFirst, like, of_one, of_two, where_holds}
 use Rattle.chart_structure.proofs.FirstLemmas.{of_below, of_some, of_list, of_state}
@@ -253,22 +255,25 @@ module _ (n : Net) (s : ℕ) where
 module _ (n : Net) (net : IsNet n) where
   -- ---- what is reached
 
-  reached_decided : (list : List Arrow) (j : ℕ) → Decided (Reached n list j)
+  reached_decided : (list : List Arrow) (j : ℕ) → Decided (Reached (links_of n) list j)
   reached_decided list j = at ((found n list).within j) refl
     where
-      at : (b : Bool) → (found n list).within j ≡ b → Decided (Reached n list j)
+      at : (b : Bool) → (found n list).within j ≡ b → Decided (Reached (links_of n) list j)
       at true e = inl ((found n list).sound j e)
       at false e = inr (λ r. let there = has_reached n list j r in absurd (cc (there, e)))
 
   -- what is reached from a list of a state is a junction
-  reached_within : (s : ℕ) (kind : ListKind) (j : ℕ) → Reached n (list_of n s kind) j → j < junction_count n
-  reached_within s kind _ (Directly j l) = subst (IsDest n) l.2 (net.lists s kind l.0 l.1)
-  reached_within s kind _ (Through k j r l) = subst (IsDest n) l.2 (net.junctions k l.0 l.1)
+  reached_within : (s : ℕ) (kind : ListKind) (j : ℕ) → Reached (links_of n) (list_of n s kind) j → j < junction_count n
+  reached_within s kind _ (Directly j l) =
+      subst (IsDest n) l.leads
+      (net.lists s kind l.trans (l.within.0, stands_at (list_of n s kind) l.trans l.within))
+  reached_within s kind _ (Through k j r l) =
+      subst (IsDest n) l.leads (net.junctions k l.trans (l.within.0, stands_at (junction_list n k) l.trans l.within))
 
   -- ---- the faults of the lists that are met from a list of a state
 
   abbrev AtReached : ℕ → ListKind → ℕ → Found → Type 0
-  AtReached s kind j f = Reached n (list_of n s kind) j × ListFault n s (junction_list n j) kind f
+  AtReached s kind j f = Reached (links_of n) (list_of n s kind) j × ListFault n s (junction_list n j) kind f
 
   abbrev AtJunctions : ℕ → ListKind → Found → Type 0
   AtJunctions s kind f = (j : ℕ) × (j < junction_count n) × AtReached s kind j f
@@ -276,7 +281,7 @@ module _ (n : Net) (net : IsNet n) where
   abbrev KindCase : ℕ → ListKind → Found → Type 0
   KindCase s kind f = ListFault n s (list_of n s kind) kind f ⊎ AtJunctions s kind f
 
-  kind_case : (s : ℕ) (kind : ListKind) (list : List Arrow) (f : Found) → Meets n (list_of n s kind) list
+  kind_case : (s : ℕ) (kind : ListKind) (list : List Arrow) (f : Found) → Meets (links_of n) (list_of n s kind) list
       → ListFault n s list kind f → KindCase s kind f
   kind_case s kind _ f Itself h = inl h
   kind_case s kind _ f (AtJunction j r) h = inr (j, reached_within s kind j r, (r, h))
@@ -289,14 +294,14 @@ module _ (n : Net) (net : IsNet n) where
   kind_first s kind =
       of_two (ListFault n s (list_of n s kind) kind) (AtJunctions s kind) (list_first n s (list_of n s kind) kind)
       (of_below (AtReached s kind)
-      (λ j. where_holds (Reached n (list_of n s kind) j) (ListFault n s (junction_list n j) kind)
+      (λ j. where_holds (Reached (links_of n) (list_of n s kind) j) (ListFault n s (junction_list n j) kind)
       (reached_decided (list_of n s kind) j) (list_first n s (junction_list n j) kind))
       (junction_count n))
 
   -- ---- empty junctions
 
   abbrev IsEmptied : ℕ → ℕ → Found → Type 0
-  IsEmptied s j f = (Reached n (list_of n s Default) j × (junction_list n j ≡ []))
+  IsEmptied s j f = (Reached (links_of n) (list_of n s Default) j × (junction_list n j ≡ []))
       × (f ≡ at_place kinds.DefaultOpen (junction_name n j))
 
   abbrev Emptied : ℕ → Found → Type 0
@@ -304,9 +309,10 @@ module _ (n : Net) (net : IsNet n) where
 
   emptied : (s : ℕ) → HasFirst (Emptied s)
   emptied s = of_below (IsEmptied s)
-      (λ j. where_holds (Reached n (list_of n s Default) j × (junction_list n j ≡ []))
+      (λ j. where_holds (Reached (links_of n) (list_of n s Default) j × (junction_list n j ≡ []))
       (λ f. f ≡ at_place kinds.DefaultOpen (junction_name n j))
-      (both (Reached n (list_of n s Default) j) (junction_list n j ≡ []) (reached_decided (list_of n s Default) j)
+      (both (Reached (links_of n) (list_of n s Default) j) (junction_list n j ≡ [])
+      (reached_decided (list_of n s Default) j)
       (is_empty (junction_list n j)))
       (of_one (at_place kinds.DefaultOpen (junction_name n j))))
       (junction_count n)

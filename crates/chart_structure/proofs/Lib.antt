@@ -8,6 +8,7 @@ pub mod WalkLemmas
 pub mod PassLemmas
 pub mod ValidLemmas
 pub mod MapLemmas
+pub mod LinkLemmas
 pub mod ErasedLemmas
 pub mod ChartLemmas
 pub mod LeastLemmas

@@ -10,10 +10,11 @@ use Rattle.chart_tree.specs.declared.first.Found.{Found}
 use Rattle.chart_tree.specs.First.{at_place, IsOne, Passed}
 use Rattle.checked_chart.specs.declared.parts.ListKind.{ListKind}
 use Rattle.checked_chart.specs.declared.parts.ListKind.TheVariants.{Outer, Inner, Default}
+use Rattle.checked_chart.specs.Reached.{Reached, Meets}
 use Rattle.chart_structure.specs.declared.net.Arrow.{Arrow}
 use Rattle.chart_structure.specs.Net.{Net, word_of, list_of, junction_list, junction_name}
 use Rattle.chart_structure.specs.Marks.{IsIn}
-use Rattle.chart_structure.specs.Reached.{Reached, Meets}
+use Rattle.chart_structure.specs.Reached.{links_of}
 use Rattle.chart_structure.specs.Structure.{IsLast, ListFault, Open, LeavesDefault, LeavesInner, CrossesInner}
 use Rattle.chart_structure.specs.Structure.{CrossesOuter, StructureFault, OfList, OfEmpty}
 use Rattle.chart_structure.specs.Tests.{crossing}
@@ -84,7 +85,7 @@ last_is list d a lt h =
     cc
 
 pub last_fault : (n : Net) (s : ℕ) (list : List Arrow) (d : Arrow) → s < state_count n.tree
-    → Meets n (list_of n s Default) list → 0 < length list → (get_or list (length list - 1) d).«open» ≡ true
+    → Meets (links_of n) (list_of n s Default) list → 0 < length list → (get_or list (length list - 1) d).«open» ≡ true
     → StructureFault n (at_place kinds.DefaultOpen (get_or list (length list - 1) d).at)
 last_fault n s list d lt met some on =
     OfList s Default list _ lt met
@@ -97,9 +98,10 @@ not_open x a e f g = absurd (let h = ap (λ (y : Arrow). y.«open») e in cc)
 
 -- an empty junction that is reached from a default list is a fault
 pub empty_fault : (n : Net) (s j : ℕ) (kind : ListKind) (list : List Arrow) → s < state_count n.tree
-    → kind ≡ Default → Reached n (list_of n s kind) j → list ≡ junction_list n j → list ≡ []
+    → kind ≡ Default → Reached (links_of n) (list_of n s kind) j → list ≡ junction_list n j → list ≡ []
     → StructureFault n (at_place kinds.DefaultOpen (junction_name n j))
-empty_fault n s j kind list lt d r e f = OfEmpty s j lt (subst (λ k. Reached n (list_of n s k) j) d r) (sym e ∙ f)
+empty_fault n s j kind list lt d r e f =
+    OfEmpty s j lt (subst (λ k. Reached (links_of n) (list_of n s k) j) d r) (sym e ∙ f)
 
 -- what is known when the first i junctions were looked at
 pub record JunctionsSoFar (n : Net) (s : ℕ) (kind : ListKind) (found : List ℕ) (i : ℕ) (first kept : Option Found)

@@ -9,16 +9,16 @@ use Rattle.checked_chart.specs.declared.parts.Dest.{Dest}
 use Rattle.checked_chart.specs.declared.parts.Dest.TheVariants.{State, Junction}
 use Rattle.checked_chart.specs.declared.parts.ListKind.TheVariants.{Outer, Inner, Default}
 use Rattle.checked_chart.specs.Chart.{Chart}
-use Rattle.checked_chart.specs.Reached as chart_reached
-use Rattle.checked_chart.specs.Reached.{weight}
+use Rattle.checked_chart.specs.Reached.{LeadsTo, Reached, Directly, Through, weight, ArePairs, StatePairs, PairsBelow}
+use Rattle.checked_chart.specs.Reached.{ChartPairs}
 use Rattle.chart_structure.specs.declared.net.Arrow.{Arrow}
 use Rattle.chart_structure.specs.Net.{Net, JunctionNode, no_junction, list_of, junction_count, junction_list}
-use Rattle.chart_structure.specs.Reached.{Reached, Directly, Through, LeadsTo}
-use Rattle.chart_structure.specs.Reached.{size_of, ArePairs, StatePairs, PairsBelow, NetPairs}
+use Rattle.chart_structure.specs.Reached.{links_of, NetPairs}
 use Rattle.chart_structure.specs.Charts.{net_of_chart}
 use Rattle.chart_structure.proofs.LeastLemmas.{eq_same, eq_is, Least, least}
 use Rattle.chart_structure.proofs.PassLemmas.{below_same}
-use Rattle.chart_structure.proofs.ChartLemmas.{below_back, below_on}
+use Rattle.chart_structure.proofs.ChartLemmas.{pairs_back, pairs_on}
+use Rattle.chart_structure.proofs.LinkLemmas.{stands_at}
 
 -- ---- where a list leads
 
@@ -38,14 +38,20 @@ is_junction (State s) j h = absurd (cc h)
 is_junction (Junction k) j h = ap Junction (eq_is k j h)
 
 -- a list that passes the test leads there
-pub leads_to : (list : List Arrow) (j : ℕ) → leads list j ≡ true → LeadsTo list j
-leads_to [] j h = absurd (cc h)
-leads_to (x ∷ xs) j h = at (is_to x.to j) refl h (leads_to xs j)
+pub leads_to : (n : Net) (list : List Arrow) (j : ℕ) → leads list j ≡ true → LeadsTo (links_of n) list j
+leads_to n [] j h = absurd (cc h)
+leads_to n (x ∷ xs) j h = at (is_to x.to j) refl h (leads_to n xs j)
   where
-    at : (b : Bool) → is_to x.to j ≡ b → (b || leads xs j) ≡ true → (leads xs j ≡ true → LeadsTo xs j)
-        → LeadsTo (x ∷ xs) j
-    at true e h rest = (x, (0, refl), is_junction x.to j e)
-    at false e h rest = let r = rest h in (r.0, (suc r.1.0, r.1.1), r.2)
+    at : (b : Bool) → is_to x.to j ≡ b → (b || leads xs j) ≡ true → (leads xs j ≡ true → LeadsTo (links_of n) xs j)
+        → LeadsTo (links_of n) (x ∷ xs) j
+    at true e h rest = record { trans = x; within = (0, omega arith, refl); leads = is_junction x.to j e }
+    at false e h rest =
+        let r = rest h in
+        record {
+          trans = r.trans;
+          within = (suc r.within.0, omega (arith, r.within.1), r.within.2);
+          leads = r.leads;
+        }
 
 -- a list leads where one of its transitions does
 leads_at : (list : List Arrow) (i j : ℕ) (a : Arrow) → slice_get list i ≡ Some a → a.to ≡ Junction j
@@ -58,8 +64,8 @@ leads_at (x ∷ xs) zero j a e t =
 leads_at (x ∷ xs) (suc i) j a e t = or_right (is_to x.to j) (leads xs j) (leads_at xs i j a e t)
 
 -- and so passes the test
-pub leads_test : (list : List Arrow) (j : ℕ) → LeadsTo list j → leads list j ≡ true
-leads_test list j l = leads_at list l.1.0 j l.0 l.1.1 l.2
+pub leads_test : (n : Net) (list : List Arrow) (j : ℕ) → LeadsTo (links_of n) list j → leads list j ≡ true
+leads_test n list j l = leads_at list l.within.0 j l.trans (stands_at list l.trans l.within) l.leads
 
 module _ (n : Net) where
   -- what leads anywhere is a junction
@@ -75,24 +81,24 @@ module _ (n : Net) where
 
   -- the set of the junctions that are reached
   pub found : (list : List Arrow)
-      → Least (junction_count n) (leads list) (λ k. leads (junction_list n k)) (Reached n list)
-  found list = least (junction_count n) (leads list) (λ k. leads (junction_list n k)) (Reached n list)
-      (λ j h. Directly j (leads_to list j h))
-      (λ k j r h. Through k j r (leads_to (junction_list n k) j h))
+      → Least (junction_count n) (leads list) (λ k. leads (junction_list n k)) (Reached (links_of n) list)
+  found list = least (junction_count n) (leads list) (λ k. leads (junction_list n k)) (Reached (links_of n) list)
+      (λ j h. Directly j (leads_to n list j h))
+      (λ k j r h. Through k j r (leads_to n (junction_list n k) j h))
       from_junction
 
   -- has each of them
-  pub has_reached : (list : List Arrow) (j : ℕ) → Reached n list j → (found list).within j ≡ true
-  has_reached list _ (Directly j l) = (found list).begins j (leads_test list j l)
+  pub has_reached : (list : List Arrow) (j : ℕ) → Reached (links_of n) list j → (found list).within j ≡ true
+  has_reached list _ (Directly j l) = (found list).begins j (leads_test n list j l)
   has_reached list _ (Through k j r l) =
-      (found list).goes_on k j (has_reached list k r) (leads_test (junction_list n k) j l)
+      (found list).goes_on k j (has_reached list k r) (leads_test n (junction_list n k) j l)
 
   -- ---- the number of pairs
 
   -- of a list
-  list_pairs : (list : List Arrow) → (count : ℕ) × ArePairs n list count
+  list_pairs : (list : List Arrow) → (count : ℕ) × ArePairs (links_of n) list count
   list_pairs list = (
-    length list + weight (found list).within (size_of n) (junction_count n),
+    length list + weight (found list).within (λ j. length (junction_list n j)) (junction_count n),
     record {
       within = (found list).within;
       exact = λ j. ((found list).sound j, has_reached list j);
@@ -101,7 +107,7 @@ module _ (n : Net) where
   )
 
   -- of the lists of a state
-  state_pairs : (s : ℕ) → (count : ℕ) × StatePairs n s count
+  state_pairs : (s : ℕ) → (count : ℕ) × StatePairs (links_of n) s count
   state_pairs s =
       let outer = list_pairs (list_of n s Outer) in
       let inner = list_pairs (list_of n s Inner) in
@@ -119,7 +125,7 @@ module _ (n : Net) where
       )
 
   -- of the first states
-  pairs_below : (s : ℕ) → (count : ℕ) × PairsBelow n s count
+  pairs_below : (s : ℕ) → (count : ℕ) × PairsBelow (links_of n) s count
   pairs_below zero = (0, refl)
   pairs_below (suc s) =
       let own = state_pairs s in
@@ -134,10 +140,10 @@ module _ (n : Net) where
 
 -- the number of pairs of a chart is that of its net
 pub one_number_of_chart : (c : Chart)
-    → (count : ℕ) × chart_reached.ChartPairs c count × ((other : ℕ) → chart_reached.ChartPairs c other → other ≡ count)
+    → (count : ℕ) × ChartPairs c count × ((other : ℕ) → ChartPairs c other → other ≡ count)
 one_number_of_chart c =
     let of_net = one_number_of_net (net_of_chart c) in (
       of_net.0,
-      below_back c (state_count c.tree) of_net.0 (omega arith) of_net.1,
-      λ other are. of_net.2 other (below_on c (state_count c.tree) other (omega arith) are),
+      pairs_back c of_net.0 of_net.1,
+      λ other are. of_net.2 other (pairs_on c other are),
     )

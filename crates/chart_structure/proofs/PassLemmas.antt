@@ -8,13 +8,13 @@ use Rattle.active_config.specs.Tree.{state_count}
 use Rattle.chart_tree.specs.declared.fault.FormKind.TheVariants as kinds
 use Rattle.chart_tree.specs.declared.first.Found.{Found}
 use Rattle.chart_structure.specs.declared.net.Arrow.{Arrow}
-use Rattle.checked_chart.specs.Reached.{weight}
+use Rattle.checked_chart.specs.Reached.{Reached, Meets, Itself, AtJunction, ArePairs, StatePairs, PairsBelow, weight}
 use Rattle.checked_chart.specs.declared.limits.TheConstants.{PAIR_LIMIT}
 use Rattle.checked_chart.specs.declared.parts.ListKind.{ListKind}
 use Rattle.checked_chart.specs.declared.parts.ListKind.TheVariants.{Outer, Inner, Default}
 use Rattle.chart_structure.specs.Net.{Net, name_of, list_of, junction_count, junction_list, junction_name}
 use Rattle.chart_structure.specs.Marks.{has_mark, IsIn, greatest_count, IsWalk}
-use Rattle.chart_structure.specs.Reached.{Reached, Meets, Itself, AtJunction, size_of, ArePairs, StatePairs, PairsBelow}
+use Rattle.chart_structure.specs.Reached.{links_of}
 use Rattle.chart_tree.specs.First.{at_place, IsFirst, IsOne, Passed}
 use Rattle.chart_structure.specs.Structure.{StateFault, ListFault, StructureFault, OfState, OfList, OfEmpty}
 use Rattle.chart_structure.specs.Structure.{PairFault, TooMany}
@@ -24,10 +24,10 @@ use Rattle.chart_structure.proofs.WeightLemmas.{weight_where}
 
 module _ (n : Net) (s : ℕ) (kind : ListKind) (list : List Arrow) (mark : ℕ) (marks found : List ℕ) (pairs : ℕ)
     (l : list ≡ list_of n s kind) (w : IsWalk n list mark marks found pairs)
-    (all : (j : ℕ) → Reached n list j → has_mark marks mark j ≡ true) where
+    (all : (j : ℕ) → Reached (links_of n) list j → has_mark marks mark j ≡ true) where
   -- what is reached was found
-  reached_in : (j : ℕ) → Reached n (list_of n s kind) j → IsIn found j
-  reached_in j r = w.all j (all j (subst (λ m. Reached n m j) (sym l) r))
+  reached_in : (j : ℕ) → Reached (links_of n) (list_of n s kind) j → IsIn found j
+  reached_in j r = w.all j (all j (subst (λ m. Reached (links_of n) m j) (sym l) r))
 
   -- the faults of the list, and those of each junction that was found, are all that are met from it
   pub kind_passed : (own fault : Option Found) (items : List ℕ) → items ≡ found
@@ -42,7 +42,8 @@ module _ (n : Net) (s : ℕ) (kind : ListKind) (list : List Arrow) (mark : ℕ) 
     empty = λ d j r none. empty d j (subst (λ m. IsIn m j) (sym e) (reached_in j r)) none;
   }
     where
-      go : (m : List Arrow) → Meets n (list_of n s kind) m → (f : Found) → ListFault n s m kind f → Passed fault f
+      go : (m : List Arrow) → Meets (links_of n) (list_of n s kind) m → (f : Found) → ListFault n s m kind f
+          → Passed fault f
       go _ Itself f h = old f (here f (subst (λ m. ListFault n s m kind f) (sym l) h))
       go _ (AtJunction j r) f h = new j (subst (λ m. IsIn m j) (sym e) (reached_in j r)) f h
 
@@ -50,24 +51,28 @@ module _ (n : Net) (s : ℕ) (kind : ListKind) (list : List Arrow) (mark : ℕ) 
   pub kind_pairs : (before after : ℕ) → after ≡ min (before + pairs) greatest_count
       → AddsPairs n (list_of n s kind) before after
   kind_pairs before after e = record {
-    count = length (list_of n s kind) + weight (has_mark marks mark) (size_of n) (junction_count n);
+    count =
+        length (list_of n s kind) + weight (has_mark marks mark) (λ j. length (junction_list n j)) (junction_count n);
     are = record {
       within = has_mark marks mark;
-      exact = λ j.
-          ((λ h. subst (λ m. Reached n m j) l (w.sound j h)), (λ r. all j (subst (λ m. Reached n m j) (sym l) r)));
+      exact = λ j. (
+        λ h. subst (λ m. Reached (links_of n) m j) l (w.sound j h),
+        λ r. all j (subst (λ m. Reached (links_of n) m j) (sym l) r),
+      );
       sum = refl;
     };
     sum = e ∙ ap (λ p. min (before + p) greatest_count)
         (w.total ∙ ap (λ (m : List Arrow).
-        min (length m + weight (has_mark marks mark) (size_of n) (junction_count n)) greatest_count) l);
+        min (length m + weight (has_mark marks mark) (λ j. length (junction_list n j)) (junction_count n))
+        greatest_count) l);
   }
 
   -- each found junction is there and reached
   pub found_reached : (items : List ℕ) → items ≡ found → (i : ℕ) → i < length items
-      → Reached n (list_of n s kind) (get_or items i 0)
+      → Reached (links_of n) (list_of n s kind) (get_or items i 0)
   found_reached items e i lt =
-      subst (λ m. Reached n m (get_or items i 0)) l
-      (subst (λ (v : List ℕ). Reached n list (get_or v i 0)) (sym e)
+      subst (λ m. Reached (links_of n) m (get_or items i 0)) l
+      (subst (λ (v : List ℕ). Reached (links_of n) list (get_or v i 0)) (sym e)
       (w.sound (get_or found i 0) (w.listed i (subst (λ (v : List ℕ). i < length v) e lt))))
 
 -- what was passed stays so
@@ -124,7 +129,7 @@ pub record StatesSoFar (n : Net) (s : ℕ) (marks : List ℕ) (fault : Option Fo
   pub one : IsOne (StructureFault n) fault
   pub passed : (t : ℕ) → t < s → StatePassed n t fault
   pub count : ℕ
-  pub are : PairsBelow n s count
+  pub are : PairsBelow (links_of n) s count
   pub bounded : pairs ≡ min count greatest_count
 
 pub states_start : (n : Net) (marks : List ℕ) → length marks ≡ junction_count n → ((j : ℕ) → get_or marks j 0 ≡ 0)
@@ -143,10 +148,10 @@ states_start n marks sized none = record {
 more_sum : (m p q c own : ℕ) → p ≡ min c m → q ≡ min (min p m + own) m → q ≡ min (c + own) m
 more_sum m p q c own e f = omega arith
 
-below_suc : (n : Net) (s count own below : ℕ) → StatePairs n s own → PairsBelow n s below → count ≡ below + own
-    → PairsBelow n (s + 1) count
+below_suc : (n : Net) (s count own below : ℕ) → StatePairs (links_of n) s own → PairsBelow (links_of n) s below
+    → count ≡ below + own → PairsBelow (links_of n) (s + 1) count
 below_suc n s count own below a b e =
-    let same : suc s ≡ s + 1 = omega arith in subst (λ m. PairsBelow n m count) same (own, below, a, b, e)
+    let same : suc s ≡ s + 1 = omega arith in subst (λ m. PairsBelow (links_of n) m count) same (own, below, a, b, e)
 
 -- one state more
 pub states_more : (n : Net) (s : ℕ) (marks more : List ℕ) (fault next : Option Found) (pairs total : ℕ)
@@ -179,24 +184,25 @@ states_first n s marks fault pairs le so = first_of_passed (StructureFault n) fa
 pub states_pairs : (n : Net) (s : ℕ) (marks : List ℕ) (fault : Option Found) (pairs : ℕ) → s ≡ state_count n.tree
     → StatesSoFar n s marks fault pairs → CountsPairs n pairs
 states_pairs n s marks fault pairs e so =
-    record { count = so.count; are = subst (λ m. PairsBelow n m so.count) e so.are; bounded = so.bounded }
+    record { count = so.count; are = subst (λ m. PairsBelow (links_of n) m so.count) e so.are; bounded = so.bounded }
 
 -- ---- there is one count
 
-pub pairs_same : (n : Net) (list : List Arrow) (a b : ℕ) → ArePairs n list a → ArePairs n list b → a ≡ b
+pub pairs_same : (n : Net) (list : List Arrow) (a b : ℕ) → ArePairs (links_of n) list a
+    → ArePairs (links_of n) list b → a ≡ b
 pairs_same n list a b x y =
-    let e = weight_where y.within x.within (size_of n) (junction_count n) (λ i h. (x.exact i).1 ((y.exact i).0 h))
-    (λ i h. (y.exact i).1 ((x.exact i).0 h)) in
+    let e = weight_where y.within x.within (λ j. length (junction_list n j)) (junction_count n)
+    (λ i h. (x.exact i).1 ((y.exact i).0 h)) (λ i h. (y.exact i).1 ((x.exact i).0 h)) in
     omega (arith, x.sum, y.sum)
 
-state_same : (n : Net) (s a b : ℕ) → StatePairs n s a → StatePairs n s b → a ≡ b
+state_same : (n : Net) (s a b : ℕ) → StatePairs (links_of n) s a → StatePairs (links_of n) s b → a ≡ b
 state_same n s a b x y =
     let o = pairs_same n _ _ _ x.of_outer y.of_outer in
     let i = pairs_same n _ _ _ x.of_inner y.of_inner in
     let d = pairs_same n _ _ _ x.of_default y.of_default in
     omega (arith, x.sum, y.sum)
 
-pub below_same : (n : Net) (s a b : ℕ) → PairsBelow n s a → PairsBelow n s b → a ≡ b
+pub below_same : (n : Net) (s a b : ℕ) → PairsBelow (links_of n) s a → PairsBelow (links_of n) s b → a ≡ b
 below_same n zero a b x y = omega arith
 below_same n (suc s) a b x y =
     let o = state_same n s x.0 y.0 x.2 y.2 in

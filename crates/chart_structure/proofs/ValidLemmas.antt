@@ -17,9 +17,10 @@ use Rattle.checked_chart.specs.declared.parts.ListKind.TheVariants.{Outer, Inner
 use Rattle.checked_chart.specs.Homes.{common_above, or_root, home_of}
 use Rattle.checked_chart.specs.Valid.{MayLead}
 use Rattle.checked_chart.proofs.Walks.{below_is}
+use Rattle.checked_chart.specs.Reached.{Meets, Itself, AtJunction}
 use Rattle.chart_structure.specs.declared.net.Arrow.{Arrow}
 use Rattle.chart_structure.specs.Net.{Net, IsNet, Has, IsDest, word_of, history_of, list_of}
-use Rattle.chart_structure.specs.Reached.{Reached, Directly, Through, Meets, Itself, AtJunction}
+use Rattle.chart_structure.specs.Reached.{links_of}
 use Rattle.chart_structure.specs.Structure.{IsLast, Leads, StateFault, EmptyState, EmptyChart, Missing, Unwanted}
 use Rattle.chart_structure.specs.Structure.{UnwantedHistory, ListFault, Open, LeavesDefault, LeavesInner, CrossesInner}
 use Rattle.chart_structure.specs.Structure.{CrossesOuter, StructureFault, OfState, OfList, OfEmpty, PairFault, TooMany}
@@ -87,7 +88,7 @@ home_within t tree s d lt = go (common_above t s d) refl
 
 -- a transition that is met leads to what is there
 dest_of : (n : Net) → IsNet n → (s : ℕ) (kind : ListKind) (list : List Arrow) (a : Arrow)
-    → Meets n (list_of n s kind) list → Has list a → IsDest n a.to
+    → Meets (links_of n) (list_of n s kind) list → Has list a → IsDest n a.to
 dest_of n net s kind _ a Itself h = net.lists s kind a h
 dest_of n net s kind _ a (AtJunction j r) h = net.junctions j a h
 
@@ -104,7 +105,7 @@ module _ (n : Net) (net : IsNet n) (none : (f : Found) → StructureFault n f �
   or_where s lt h = sym (words_are s lt) ∙ not_not_or (word_of n s) h
 
   may_lead : (s : ℕ) (kind : ListKind) (list : List Arrow) (a : Arrow) (d : ℕ) → s < state_count n.tree
-      → Meets n (list_of n s kind) list → Leads list a d → MayLead n.tree s kind d
+      → Meets (links_of n) (list_of n s kind) list → Leads list a d → MayLead n.tree s kind d
   may_lead s Outer list a d lt m l =
       let to = subst (IsDest n) l.to (dest_of n net s Outer list a m l.has) in
       or_where (home_of n.tree s Outer d) (home_within n.tree net.tree s d to.1)
@@ -116,7 +117,7 @@ module _ (n : Net) (net : IsNet n) (none : (f : Found) → StructureFault n f �
   may_lead s Default list a d lt m l =
       not_false (is_below n.tree d s) (λ off. none _ (OfList s Default list _ lt m (LeavesDefault a d l off)))
 
-  closed_last : (s : ℕ) (list : List Arrow) → s < state_count n.tree → Meets n (list_of n s Default) list
+  closed_last : (s : ℕ) (list : List Arrow) → s < state_count n.tree → Meets (links_of n) (list_of n s Default) list
       → (a : Arrow) → IsLast list a → a.«open» ≡ false
   closed_last s list lt m a last = not_true a.«open» (λ on. none _ (OfList s Default list _ lt m (Open a last on)))
 
@@ -159,7 +160,7 @@ module _ (n : Net) (net : IsNet n) (v : IsValid n) where
       absurd (let f : slice_get (list_of n s Default) 0 ≡ None = ap (λ (l : List Arrow). slice_get l 0) none in cc)
   no_state_fault s _ lt (UnwantedHistory at ne is) = other_comp s lt ne (v.history s at lt is)
 
-  last_closed : (s : ℕ) (list : List Arrow) → s < state_count n.tree → Meets n (list_of n s Default) list
+  last_closed : (s : ℕ) (list : List Arrow) → s < state_count n.tree → Meets (links_of n) (list_of n s Default) list
       → (a : Arrow) → IsLast list a → a.«open» ≡ false
   last_closed s _ lt Itself a l = ⊎_elim (λ e. (v.default s lt e).last a l)
       (λ ne. absurd (let f : slice_get (list_of n s Default) l.0 ≡ None = ap (λ (m : List Arrow). slice_get m l.0)
@@ -167,7 +168,7 @@ module _ (n : Net) (net : IsNet n) (v : IsValid n) where
   last_closed s _ lt (AtJunction j r) a l = (v.junctions s j lt r).last a l
 
   no_list_fault : (s : ℕ) (kind : ListKind) (list : List Arrow) (f : Found) → s < state_count n.tree
-      → Meets n (list_of n s kind) list → ListFault n s list kind f → ⊥
+      → Meets (links_of n) (list_of n s kind) list → ListFault n s list kind f → ⊥
   no_list_fault s _ list _ lt m (Open a last on) = absurd (let off = last_closed s list lt m a last in cc)
   no_list_fault s _ list _ lt m (LeavesDefault a d l off) = absurd (let f = v.leads s Default list a d lt m l in cc)
   no_list_fault s _ list _ lt m (LeavesInner a d l off) = absurd (let f = (v.leads s Inner list a d lt m l).0 in cc)

@@ -7,14 +7,15 @@ use Rattle.std.proofs.lemmas.Bool.Decides.{nat_tests}
 use Rattle.std.proofs.lemmas.List.{get_or-set_same, get_or-set_other, length-set, length-append}
 use Rattle.std.proofs.Math.ListN.{get_or-append, get_or-eq_default}
 use Rattle.std.proofs.Math.Seq.{get_or-append_seam}
-use Rattle.std.proofs.lemmas.Option.{slice_get-get_or, slice_get_within}
+use Rattle.std.proofs.lemmas.Option.{slice_get-get_or}
 use Rattle.checked_chart.specs.declared.parts.Dest.TheVariants.{State, Junction}
-use Rattle.checked_chart.specs.Reached.{weight}
+use Rattle.checked_chart.specs.Reached.{Reached, Directly, Through, LeadsTo, weight}
 use Rattle.chart_structure.specs.declared.net.Arrow.{Arrow}
 use Rattle.chart_structure.specs.Net.{Net, junction_count, junction_list, Has, IsDest}
-use Rattle.chart_structure.specs.Reached.{Reached, Directly, Through, LeadsTo, size_of}
+use Rattle.chart_structure.specs.Reached.{links_of}
 use Rattle.chart_structure.specs.Marks.{has_mark, IsIn, greatest_count, IsWalk, Grows, Marked}
 use Rattle.chart_structure.proofs.WeightLemmas.{weight_more, weight_ones}
+use Rattle.chart_structure.proofs.LinkLemmas.{contains_at, stands_at}
 
 same_test : (a b : ℕ) → a ≡ b → (a == b) ≡ true
 same_test a b e = grind (arith, nat_tests)
@@ -73,17 +74,18 @@ grows_then mark a b c x y z g h = record {
 
 module _ (n : Net) (root : List Arrow) (mark : ℕ) (marks found : List ℕ) (pairs j : ℕ) where
   -- a walk with one junction more, which is reached and has no mark yet
-  pub walk_more : IsWalk n root mark marks found pairs → Reached n root j → j < junction_count n
+  pub walk_more : IsWalk n root mark marks found pairs → Reached (links_of n) root j → j < junction_count n
       → get_or marks j 0 ≢ mark
-      → IsWalk n root mark (set marks j mark) (found ++ j ∷ []) (min (pairs + size_of n j) greatest_count)
+      → IsWalk n root mark (set marks j mark) (found ++ j ∷ [])
+      (min (pairs + length (junction_list n j)) greatest_count)
   walk_more w r lt ne =
       let inside : j < length marks = omega (arith, w.sized) in
       let off : has_mark marks mark j ≡ false = other_test _ _ ne in
       let on = marked_here marks mark j inside in
       let one = weight_more (has_mark marks mark) (has_mark (set marks j mark) mark) (λ _. 1) (junction_count n) j
       lt off on (marked_other marks mark j) in
-      let more = weight_more (has_mark marks mark) (has_mark (set marks j mark) mark) (size_of n) (junction_count n) j
-      lt off on (marked_other marks mark j) in
+      let more = weight_more (has_mark marks mark) (has_mark (set marks j mark) mark)
+      (λ j. length (junction_list n j)) (junction_count n) j lt off on (marked_other marks mark j) in
       record {
         sized = length-set marks j mark ∙ w.sized;
         below =
@@ -103,18 +105,19 @@ module _ (n : Net) (root : List Arrow) (mark : ℕ) (marks found : List ℕ) (pa
             (λ e. subst (IsIn (found ++ j ∷ [])) (sym e) (last_in found j))
             (λ old. still_in found j i (w.all i old)) h;
         sound =
-            λ i h. marked_cases marks mark j i (Reached n root i) (λ e. subst (Reached n root) (sym e) r)
+            λ i h. marked_cases marks mark j i (Reached (links_of n) root i)
+            (λ e. subst (Reached (links_of n) root) (sym e) r)
             (λ old. w.sound i old) h;
         count = omega (arith, length-append found (j ∷ []), w.count, one);
         total = omega (arith, w.total, more);
       }
 
   pub walk_more_at : (more longer : List ℕ) (count : ℕ) (list : List Arrow) → IsWalk n root mark marks found pairs
-      → Reached n root j → j < junction_count n → get_or marks j 0 ≢ mark
+      → Reached (links_of n) root j → j < junction_count n → get_or marks j 0 ≢ mark
       → more ≡ set marks j mark → longer ≡ found ++ j ∷ [] → list ≡ junction_list n j
       → count ≡ min (pairs + length list) greatest_count → IsWalk n root mark more longer count
   walk_more_at more longer count list w r lt ne e f g h =
-      let k : count ≡ min (pairs + size_of n j) greatest_count =
+      let k : count ≡ min (pairs + length (junction_list n j)) greatest_count =
       h ∙ ap (λ (l : List Arrow). min (pairs + length l) greatest_count) g in
       subst (λ m. IsWalk n root mark m longer count) (sym e)
       (subst (λ l. IsWalk n root mark (set marks j mark) l count) (sym f)
@@ -127,7 +130,7 @@ pub record FollowsSoFar (n : Net) (list : List Arrow) (mark i : ℕ) (marks more
     (pairs count : ℕ) : Type 0 where
   pub sized : length more ≡ junction_count n
   pub walk : (root : List Arrow) → IsWalk n root mark marks found pairs
-      → ((j : ℕ) → LeadsTo list j → Reached n root j) → IsWalk n root mark more longer count
+      → ((j : ℕ) → LeadsTo (links_of n) list j → Reached (links_of n) root j) → IsWalk n root mark more longer count
   pub grows : Grows mark marks more found longer
   pub marked : (k j : ℕ) (a : Arrow) → k < i → slice_get list k ≡ Some a → a.to ≡ Junction j
       → has_mark more mark j ≡ true
@@ -169,13 +172,17 @@ module _ (n : Net) (list : List Arrow) (mark i : ℕ) (marks more found longer :
       → FollowsSoFar n list mark i marks more found longer pairs count → i < length list
       → (get_or list i d).to ≡ Junction j
       → length marks2 ≡ length more
-      → ((root : List Arrow) → IsWalk n root mark more longer count → Reached n root j
+      → ((root : List Arrow) → IsWalk n root mark more longer count → Reached (links_of n) root j
       → IsWalk n root mark marks2 found2 count2)
       → Grows mark more marks2 longer found2 → has_mark marks2 mark j ≡ true
       → FollowsSoFar n list mark (i + 1) marks marks2 found found2 pairs count2
   follows_junction j marks2 found2 count2 f lt e len walk grows on = record {
     sized = len ∙ f.sized;
-    walk = λ root w r. walk root (f.walk root w r) (r j (get_or list i d, (i, slice_get-get_or list i d lt), e));
+    walk = λ root w r. walk root (f.walk root w r) (r j (record {
+      trans = get_or list i d;
+      within = contains_at list i (get_or list i d) (slice_get-get_or list i d lt);
+      leads = e;
+    }));
     grows = grows_then mark marks more marks2 found longer found2 f.grows grows;
     marked = λ k j2 a h g t. ⊎_elim (λ old. grows.kept j2 (f.marked k j2 a old g t))
         (λ new. let x = same_arrow list i k d a lt (omega arith) g in
@@ -186,9 +193,10 @@ module _ (n : Net) (list : List Arrow) (mark i : ℕ) (marks more found longer :
 -- at the end of the list all that it leads to has the mark
 pub follows_all : (n : Net) (list : List Arrow) (mark i : ℕ) (marks more found longer : List ℕ) (pairs count : ℕ)
     → length list ≤ i
-    → FollowsSoFar n list mark i marks more found longer pairs count → Marked mark more list
+    → FollowsSoFar n list mark i marks more found longer pairs count → Marked n mark more list
 follows_all n list mark i marks more found longer pairs count le f j h =
-    let lt = slice_get_within list h.1.0 h.0 h.1.1 in f.marked h.1.0 j h.0 (omega arith) h.1.1 h.2
+    let lt = h.within.1 in
+    f.marked h.within.0 j h.trans (omega arith) (stands_at list h.trans h.within) h.leads
 
 -- ---- the whole walk
 
@@ -207,7 +215,7 @@ walk_start n root mark marks found pairs sized fresh none count few =
     let off : (j : ℕ) → has_mark marks mark j ≡ false = λ j. other_test _ _ (λ e. absurd (omega (arith, fresh j))) in
     let no : length found ≡ 0 = ap length none in
     let ones = weight_none (has_mark marks mark) (λ _. 1) (junction_count n) off in
-    let sizes = weight_none (has_mark marks mark) (size_of n) (junction_count n) off in
+    let sizes = weight_none (has_mark marks mark) (λ j. length (junction_list n j)) (junction_count n) off in
     record {
       sized = sized;
       below = λ j. omega (arith, fresh j);
@@ -221,8 +229,8 @@ walk_start n root mark marks found pairs sized fresh none count few =
 -- what is known when the first junctions that were found, up to the next one, were followed
 pub record ReachesSoFar (n : Net) (list : List Arrow) (mark next : ℕ) (marks found : List ℕ) (pairs : ℕ) : Type 0 where
   pub walk : IsWalk n list mark marks found pairs
-  pub direct : Marked mark marks list
-  pub closed : (i : ℕ) → i < next → Marked mark marks (junction_list n (get_or found i 0))
+  pub direct : Marked n mark marks list
+  pub closed : (i : ℕ) → i < next → Marked n mark marks (junction_list n (get_or found i 0))
 
 -- no more junctions are found than there are
 pub found_few : (n : Net) (list : List Arrow) (mark : ℕ) (marks found : List ℕ) (pairs : ℕ)
@@ -244,9 +252,10 @@ found_within n list mark marks found pairs i j pos w lt e =
 -- after the list itself was followed
 pub reaches_start : (n : Net) (list : List Arrow) (mark : ℕ) (marks more found longer : List ℕ) (pairs count : ℕ)
     → IsWalk n list mark marks found pairs
-    → ((root : List Arrow) → IsWalk n root mark marks found pairs → ((j : ℕ) → LeadsTo list j → Reached n root j)
+    → ((root : List Arrow) → IsWalk n root mark marks found pairs
+    → ((j : ℕ) → LeadsTo (links_of n) list j → Reached (links_of n) root j)
     → IsWalk n root mark more longer count)
-    → Marked mark more list → ReachesSoFar n list mark 0 more longer count
+    → Marked n mark more list → ReachesSoFar n list mark 0 more longer count
 reaches_start n list mark marks more found longer pairs count w walk marked = record {
   walk = walk list w (λ j h. Directly j h);
   direct = marked;
@@ -257,29 +266,31 @@ reaches_start n list mark marks more found longer pairs count w walk marked = re
 pub reaches_more : (n : Net) (list : List Arrow) (mark next : ℕ) (marks more found longer : List ℕ)
     (pairs count j : ℕ) (own : List Arrow) → ReachesSoFar n list mark next marks found pairs
     → next < length found → j ≡ get_or found next 0 → own ≡ junction_list n j
-    → ((root : List Arrow) → IsWalk n root mark marks found pairs → ((j : ℕ) → LeadsTo own j → Reached n root j)
+    → ((root : List Arrow) → IsWalk n root mark marks found pairs
+    → ((j : ℕ) → LeadsTo (links_of n) own j → Reached (links_of n) root j)
     → IsWalk n root mark more longer count)
-    → Grows mark marks more found longer → Marked mark more own → ReachesSoFar n list mark (next + 1) more longer count
+    → Grows mark marks more found longer → Marked n mark more own
+    → ReachesSoFar n list mark (next + 1) more longer count
 reaches_more n list mark next marks more found longer pairs count j own r lt e f walk grows marked =
     let sound = r.walk.sound (get_or found next 0) (r.walk.listed next lt) in
-    let reached : Reached n list j = subst (Reached n list) (sym e) sound in
+    let reached : Reached (links_of n) list j = subst (Reached (links_of n) list) (sym e) sound in
     record {
-      walk = walk list r.walk (λ k h. Through j k reached (subst (λ l. LeadsTo l k) f h));
+      walk = walk list r.walk (λ k h. Through j k reached (subst (λ l. LeadsTo (links_of n) l k) f h));
       direct = λ k h. grows.kept k (r.direct k h);
       closed = λ i h. ⊎_elim
           (λ old. λ k to. grows.kept k
-          (r.closed i old k (subst (λ m. LeadsTo (junction_list n m) k) (grows.same i (omega arith)) to)))
+          (r.closed i old k (subst (λ m. LeadsTo (links_of n) (junction_list n m) k) (grows.same i (omega arith)) to)))
           (λ new. let at : i ≡ next = omega arith in
           let is : get_or longer i 0 ≡ j = grows.same i (omega arith) ∙ ap (λ m. get_or found m 0) at ∙ sym e in
-          λ k to. marked k (subst (λ l. LeadsTo l k) (ap (junction_list n) is ∙ sym f) to))
+          λ k to. marked k (subst (λ l. LeadsTo (links_of n) l k) (ap (junction_list n) is ∙ sym f) to))
           (cases_lt i next);
     }
 
 -- all that is reached has the mark
 pub reaches_all : (n : Net) (list : List Arrow) (mark next : ℕ) (marks found : List ℕ) (pairs : ℕ)
     → ReachesSoFar n list mark next marks found pairs → length found ≤ next
-    → (j : ℕ) → Reached n list j → has_mark marks mark j ≡ true
+    → (j : ℕ) → Reached (links_of n) list j → has_mark marks mark j ≡ true
 reaches_all n list mark next marks found pairs r le _ (Directly j h) = r.direct j h
 reaches_all n list mark next marks found pairs r le _ (Through k j h to) =
     let at = r.walk.all k (reaches_all n list mark next marks found pairs r le k h) in
-    r.closed at.0 (omega (arith, at.1)) j (subst (λ m. LeadsTo (junction_list n m) j) (sym at.2) to)
+    r.closed at.0 (omega (arith, at.1)) j (subst (λ m. LeadsTo (links_of n) (junction_list n m) j) (sym at.2) to)

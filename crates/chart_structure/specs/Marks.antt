@@ -1,9 +1,9 @@
 -- Marking the junctions that are reached from a list. Each list has a mark of its own, a number.
 use Rattle.std.specs.Prelude.{◌≡◌, ◌==◌, ◌+◌, ◌-◌, ◌^◌, ◌<◌, ◌≤◌, ℕ, Bool, true, List, length, min, slice_index}
-use Rattle.checked_chart.specs.Reached.{weight}
+use Rattle.checked_chart.specs.Reached.{Reached, LeadsTo, weight}
 use Rattle.chart_structure.specs.declared.net.Arrow.{Arrow}
-use Rattle.chart_structure.specs.Net.{Net, junction_count}
-use Rattle.chart_structure.specs.Reached.{Reached, LeadsTo, size_of}
+use Rattle.chart_structure.specs.Net.{Net, junction_count, junction_list}
+use Rattle.chart_structure.specs.Reached.{links_of}
 
 -- whether a junction has the mark
 abbrev pub has_mark : List ℕ → ℕ → ℕ → Bool
@@ -28,10 +28,11 @@ pub record IsWalk (n : Net) (list : List Arrow) (mark : ℕ) (marks found : List
   pub below : (j : ℕ) → slice_index marks j ≤ mark
   pub listed : (i : ℕ) → i < length found → has_mark marks mark (slice_index found i) ≡ true
   pub all : (j : ℕ) → has_mark marks mark j ≡ true → IsIn found j
-  pub sound : (j : ℕ) → has_mark marks mark j ≡ true → Reached n list j
+  pub sound : (j : ℕ) → has_mark marks mark j ≡ true → Reached (links_of n) list j
   pub count : length found ≡ weight (has_mark marks mark) (λ _. 1) (junction_count n)
   pub total : pairs
-      ≡ min (length list + weight (has_mark marks mark) (size_of n) (junction_count n)) greatest_count
+      ≡ min
+      (length list + weight (has_mark marks mark) (λ j. length (junction_list n j)) (junction_count n)) greatest_count
 
 -- a mark that was set stays, and what was found stays where it stands
 pub record Grows (mark : ℕ) (marks more found longer : List ℕ) : Type 0 where
@@ -40,5 +41,5 @@ pub record Grows (mark : ℕ) (marks more found longer : List ℕ) : Type 0 wher
   pub same : (i : ℕ) → i < length found → slice_index longer i ≡ slice_index found i
 
 -- the junctions that a list leads to have the mark
-abbrev pub Marked : ℕ → List ℕ → List Arrow → Type 0
-Marked mark marks list = (j : ℕ) → LeadsTo list j → has_mark marks mark j ≡ true
+abbrev pub Marked : Net → ℕ → List ℕ → List Arrow → Type 0
+Marked n mark marks list = (j : ℕ) → LeadsTo (links_of n) list j → has_mark marks mark j ≡ true

@@ -5,10 +5,11 @@ use Rattle.chart_tree.specs.declared.first.Found.{Found}
 use Rattle.chart_tree.specs.First.{at_place, Passed, IsFirst}
 use Rattle.checked_chart.specs.declared.parts.ListKind.{ListKind}
 use Rattle.checked_chart.specs.declared.parts.ListKind.TheVariants.{Default}
+use Rattle.checked_chart.specs.Reached.{Reached, Meets, ArePairs, StatePairs}
 use Rattle.chart_structure.specs.declared.net.Arrow.{Arrow}
 use Rattle.chart_structure.specs.Net.{Net, list_of, junction_list, junction_name}
 use Rattle.chart_structure.specs.Marks.{greatest_count}
-use Rattle.chart_structure.specs.Reached.{Reached, Meets, ArePairs, StatePairs, NetPairs}
+use Rattle.chart_structure.specs.Reached.{links_of, NetPairs}
 use Rattle.chart_structure.specs.Structure.{StateFault, ListFault, StructureFault, PairFault}
 
 -- ---- the answer
@@ -29,9 +30,9 @@ IsAnswer n (Some f) =
 
 -- every fault of the lists that are met from a list of a state is kept, or comes after the fault that is kept
 pub record KindPassed (n : Net) (s : ℕ) (kind : ListKind) (r : Option Found) : Type 0 where
-  pub lists : (list : List Arrow) → Meets n (list_of n s kind) list → (f : Found) → ListFault n s list kind f
+  pub lists : (list : List Arrow) → Meets (links_of n) (list_of n s kind) list → (f : Found) → ListFault n s list kind f
       → Passed r f
-  pub empty : kind ≡ Default → (j : ℕ) → Reached n (list_of n s kind) j → junction_list n j ≡ []
+  pub empty : kind ≡ Default → (j : ℕ) → Reached (links_of n) (list_of n s kind) j → junction_list n j ≡ []
       → Passed r (at_place kinds.DefaultOpen (junction_name n j))
 
 -- so is every fault of a state and of its lists
@@ -42,11 +43,11 @@ pub record StatePassed (n : Net) (s : ℕ) (r : Option Found) : Type 0 where
 -- the pairs of a list were added to a count, which stays at the greatest number once it is there
 pub record AddsPairs (n : Net) (list : List Arrow) (before after : ℕ) : Type 0 where
   pub count : ℕ
-  pub are : ArePairs n list count
+  pub are : ArePairs (links_of n) list count
   pub sum : after ≡ min (before + min count greatest_count) greatest_count
 
 -- the pairs of a state's lists were added to a count in that way
 pub record AddsStatePairs (n : Net) (s before after : ℕ) : Type 0 where
   pub count : ℕ
-  pub are : StatePairs n s count
+  pub are : StatePairs (links_of n) s count
   pub sum : after ≡ min (min before greatest_count + count) greatest_count

@@ -11,9 +11,10 @@ use Rattle.checked_chart.specs.declared.parts.Dest.TheVariants.{State}
 use Rattle.checked_chart.specs.declared.parts.ListKind.{ListKind}
 use Rattle.checked_chart.specs.declared.parts.ListKind.TheVariants.{Outer, Inner, Default}
 use Rattle.checked_chart.specs.Homes.{home_of}
+use Rattle.checked_chart.specs.Reached.{Reached, Meets}
 use Rattle.chart_structure.specs.declared.net.Arrow.{Arrow}
 use Rattle.chart_structure.specs.Net.{Net, Has, word_of, name_of, history_of, list_of, junction_list, junction_name}
-use Rattle.chart_structure.specs.Reached.{Reached, Meets, NetPairs}
+use Rattle.chart_structure.specs.Reached.{links_of, NetPairs}
 
 -- a is the last transition of the list
 abbrev pub IsLast : List Arrow → Arrow → Type 0
@@ -63,8 +64,8 @@ pub data ListFault (n : Net) (s : ℕ) (list : List Arrow) : ListKind → Found 
 pub data StructureFault (n : Net) : Found → Type 0 where
   OfState : (s : ℕ) (f : Found) → s < state_count n.tree → StateFault n s f → StructureFault n f
   OfList : (s : ℕ) (kind : ListKind) (list : List Arrow) (f : Found) → s < state_count n.tree
-      → Meets n (list_of n s kind) list → ListFault n s list kind f → StructureFault n f
-  OfEmpty : (s j : ℕ) → s < state_count n.tree → Reached n (list_of n s Default) j → junction_list n j ≡ []
+      → Meets (links_of n) (list_of n s kind) list → ListFault n s list kind f → StructureFault n f
+  OfEmpty : (s j : ℕ) → s < state_count n.tree → Reached (links_of n) (list_of n s Default) j → junction_list n j ≡ []
       → StructureFault n (at_place kinds.DefaultOpen (junction_name n j))
 
 -- there are too many pairs of a list and a transition: at the chart's name

@@ -7,9 +7,10 @@ use Rattle.checked_chart.specs.declared.limits.TheConstants.{PAIR_LIMIT}
 use Rattle.checked_chart.specs.declared.parts.ListKind.{ListKind}
 use Rattle.checked_chart.specs.declared.parts.ListKind.TheVariants.{Default}
 use Rattle.checked_chart.specs.Valid.{MayLead}
+use Rattle.checked_chart.specs.Reached.{Reached, Meets}
 use Rattle.chart_structure.specs.declared.net.Arrow.{Arrow}
 use Rattle.chart_structure.specs.Net.{Net, word_of, history_of, list_of, junction_list}
-use Rattle.chart_structure.specs.Reached.{Reached, Meets, NetPairs}
+use Rattle.chart_structure.specs.Reached.{links_of, NetPairs}
 use Rattle.chart_structure.specs.Structure.{IsLast, Leads}
 
 -- a list isn't empty, and its last transition has neither event nor guard
@@ -25,9 +26,9 @@ pub record IsValid (n : Net) : Type 0 where
   pub children : children_of n.tree 0 ≢ []
   pub no_default : (s : ℕ) → s < state_count n.tree → comp_of n.tree s ≢ Or → list_of n s Default ≡ []
   pub default : (s : ℕ) → s < state_count n.tree → comp_of n.tree s ≡ Or → Closes (list_of n s Default)
-  pub junctions : (s j : ℕ) → s < state_count n.tree → Reached n (list_of n s Default) j
+  pub junctions : (s j : ℕ) → s < state_count n.tree → Reached (links_of n) (list_of n s Default) j
       → Closes (junction_list n j)
   pub history : (s : ℕ) (at : Span) → s < state_count n.tree → history_of n s ≡ Some at → comp_of n.tree s ≡ Or
   pub leads : (s : ℕ) (kind : ListKind) (list : List Arrow) (a : Arrow) (d : ℕ) → s < state_count n.tree
-      → Meets n (list_of n s kind) list → Leads list a d → MayLead n.tree s kind d
+      → Meets (links_of n) (list_of n s kind) list → Leads list a d → MayLead n.tree s kind d
   pub pairs : (count : ℕ) → NetPairs n count → count ≤ PAIR_LIMIT

@@ -6,9 +6,10 @@ ghost use Rattle.chart_tree.specs.declared.fault.FormKind.{FormKind};
 ghost use Rattle.chart_tree.specs.declared.first.Found.{Found};
 ghost use Rattle.chart_tree.specs.First.{at_place, IsOne, Passed};
 ghost use Rattle.checked_chart.specs.Chart as charts;
+ghost use Rattle.checked_chart.specs.Reached.{Meets};
 ghost use Rattle.chart_structure.specs.declared.net.Arrow.{Arrow};
 ghost use Rattle.chart_structure.specs.Net as spec;
-ghost use Rattle.chart_structure.specs.Reached.{Meets};
+ghost use Rattle.chart_structure.specs.Reached.{links_of};
 ghost use Rattle.chart_structure.specs.Structure.{StructureFault};
 ghost use Rattle.chart_structure.specs.Tests as tests;
 
@@ -103,7 +104,7 @@ pub fn with_dests(
 ) -> Option<Found>
     requires state { state < state_count net.now.tree }
     requires dests { (a : Arrow) → spec.Has list.now a → spec.IsDest net.now a.to }
-    requires met { Meets net.now (spec.list_of net.now state kind) list.now }
+    requires met { Meets (links_of net.now) (spec.list_of net.now state kind) list.now }
     requires one { IsOne (StructureFault net.now) first }
     ensures one { IsOne (StructureFault net.now) result }
     ensures old { (f : Found) → Passed first f → Passed result f }

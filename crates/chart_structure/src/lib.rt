@@ -2,7 +2,8 @@
 //! destinations, and the number of pairs of a list and a transition.
 //!
 //! Read `specs/Net.antt` and `specs/Structure.antt` first: what a net is, and when it is at fault.
-//! `specs/Valid.antt` says what a chart without faults has.
+//! `specs/Valid.antt` says what a chart without faults has. Which junctions a list reaches is
+//! defined in `specs/Reached.antt` of `checked_chart`, for charts and for nets alike.
 #![tactic(auto)]
 
 mod dests;

@@ -5,10 +5,11 @@ ghost use Rattle.chart_tree.specs.declared.fault.FormKind.TheVariants as kinds;
 ghost use Rattle.chart_tree.specs.declared.first.Found.{Found};
 ghost use Rattle.chart_tree.specs.First.{at_place, IsOne, Passed};
 ghost use Rattle.checked_chart.specs.declared.parts.ListKind.TheVariants.{Default};
+ghost use Rattle.checked_chart.specs.Reached.{Reached, Meets};
 ghost use Rattle.chart_structure.specs.declared.net.Arrow.{Arrow};
 ghost use Rattle.chart_structure.specs.Marks.{IsIn};
 ghost use Rattle.chart_structure.specs.Net as spec;
-ghost use Rattle.chart_structure.specs.Reached.{Reached, Meets};
+ghost use Rattle.chart_structure.specs.Reached.{links_of};
 ghost use Rattle.chart_structure.specs.Structure.{IsLast, ListFault, StructureFault};
 
 use crate::dests::with_dests;
@@ -33,7 +34,7 @@ fn is_open(arrow: Arrow) -> bool
 /// The first fault, with that of the last transition of a list that is met from a default list.
 fn with_last(net: &Net<'_>, state: u32, list: &[Arrow], first: Option<Found>) -> Option<Found>
     requires state { state < state_count net.now.tree }
-    requires met { Meets net.now (spec.list_of net.now state Default) list.now }
+    requires met { Meets (links_of net.now) (spec.list_of net.now state Default) list.now }
     requires one { IsOne (StructureFault net.now) first }
     ensures one { IsOne (StructureFault net.now) result }
     ensures old { (f : Found) → Passed first f → Passed result f }
@@ -65,7 +66,7 @@ pub fn with_list(
 ) -> Option<Found>
     requires state { state < state_count net.now.tree }
     requires dests { (a : Arrow) → spec.Has list.now a → spec.IsDest net.now a.to }
-    requires met { Meets net.now (spec.list_of net.now state kind) list.now }
+    requires met { Meets (links_of net.now) (spec.list_of net.now state kind) list.now }
     requires one { IsOne (StructureFault net.now) first }
     ensures one { IsOne (StructureFault net.now) result }
     ensures old { (f : Found) → Passed first f → Passed result f }
@@ -89,7 +90,7 @@ fn with_junction(
 ) -> Option<Found>
     requires state { state < state_count net.now.tree }
     requires within { junction < spec.junction_count net.now }
-    requires reached { Reached net.now (spec.list_of net.now state kind) junction }
+    requires reached { Reached (links_of net.now) (spec.list_of net.now state kind) junction }
     requires one { IsOne (StructureFault net.now) first }
     ensures one { IsOne (StructureFault net.now) result }
     ensures old { (f : Found) → Passed first f → Passed result f }
@@ -126,7 +127,7 @@ pub fn with_junctions(
     requires state { state < state_count net.now.tree }
     requires within { (i : ℕ) → i < length found.now → slice_index found.now i < spec.junction_count net.now }
     requires reached { (i : ℕ) → i < length found.now →
-        Reached net.now (spec.list_of net.now state kind) (slice_index found.now i) }
+        Reached (links_of net.now) (spec.list_of net.now state kind) (slice_index found.now i) }
     requires one { IsOne (StructureFault net.now) first }
     ensures one { IsOne (StructureFault net.now) result }
     ensures old { (f : Found) → Passed first f → Passed result f }

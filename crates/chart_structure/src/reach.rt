@@ -1,9 +1,10 @@
 //! Which junctions are reached from a list.
 ghost use Rattle.std.specs.Prelude.{◌≡◌, ◌≤◌, ◌<◌, ◌↔◌, ℕ, List, length, slice_index, true, IfOk, OnOk};
+ghost use Rattle.checked_chart.specs.Reached.{Reached, LeadsTo};
 ghost use Rattle.chart_structure.specs.declared.net.Arrow.{Arrow};
 ghost use Rattle.chart_structure.specs.Net as spec;
 ghost use Rattle.chart_structure.specs.Marks.{has_mark, IsIn, IsWalk, Grows, Marked};
-ghost use Rattle.chart_structure.specs.Reached.{Reached, LeadsTo};
+ghost use Rattle.chart_structure.specs.Reached.{links_of};
 
 use crate::net::{Arrow, Net};
 use checked_chart::Dest;
@@ -33,7 +34,7 @@ pub fn reached_from(
     requires fresh { (j : ℕ) → slice_index marks.old j < mark }
     requires dests { (a : Arrow) → spec.Has list.now a → spec.IsDest net.now a.to }
     ensures walk { IfOk result (λ r. IsWalk net.now list.now mark marks.new r.found.items r.pairs) }
-    ensures all { OnOk result ((j : ℕ) → Reached net.now list.now j → has_mark marks.new mark j ≡ true) }
+    ensures all { OnOk result ((j : ℕ) → Reached (links_of net.now) list.now j → has_mark marks.new mark j ≡ true) }
 {
     let mut found = Vec::new(alloc);
     let mut pairs = follow(net, list, mark, marks, &mut found, list.len() as u64)?;
@@ -58,10 +59,10 @@ fn follow(
     requires sized { length marks.old ≡ spec.junction_count net.now }
     requires dests { (a : Arrow) → spec.Has list.now a → spec.IsDest net.now a.to }
     ensures walk { IfOk result (λ count. (root : List Arrow) → IsWalk net.now root mark marks.old found.old.items pairs
-        → ((j : ℕ) → LeadsTo list.now j → Reached net.now root j)
+        → ((j : ℕ) → LeadsTo (links_of net.now) list.now j → Reached (links_of net.now) root j)
         → IsWalk net.now root mark marks.new found.new.items count) }
     ensures grows { OnOk result (Grows mark marks.old marks.new found.old.items found.new.items) }
-    ensures marked { OnOk result (Marked mark marks.new list.now) }
+    ensures marked { OnOk result (Marked net.now mark marks.new list.now) }
 {
     let mut count = pairs;
     for arrow in list {
@@ -87,7 +88,7 @@ fn visit(
     requires sized { length marks.old ≡ spec.junction_count net.now }
     requires within { junction < spec.junction_count net.now }
     ensures walk { IfOk result (λ count. (root : List Arrow) → IsWalk net.now root mark marks.old found.old.items pairs
-        → Reached net.now root junction → IsWalk net.now root mark marks.new found.new.items count) }
+        → Reached (links_of net.now) root junction → IsWalk net.now root mark marks.new found.new.items count) }
     ensures grows { OnOk result (Grows mark marks.old marks.new found.old.items found.new.items) }
     ensures marked { OnOk result (has_mark marks.new mark junction ≡ true) }
 {

@@ -28,7 +28,7 @@ use Rattle.checked_chart.specs.Chart.{Chart, Node, Trans, node, list_of, junctio
 use Rattle.checked_chart.specs.Counts.{IsWithinLimits}
 use Rattle.checked_chart.specs.Expressions.{LiteralsFit, operator_count}
 use Rattle.checked_chart.specs.Homes.{home_of}
-use Rattle.checked_chart.specs.Reached.{Reached, Meets}
+use Rattle.checked_chart.specs.Reached.{links_of, Reached, Meets}
 
 -- ---- names and declarations
 
@@ -156,10 +156,11 @@ pub record HasStructure (c : Chart) : Type 0 where
   pub children : comp_of c.tree 0 ≢ Leaf
   pub no_default : (s : ℕ) → s < state_count c.tree → comp_of c.tree s ≢ Or → list_of c s Default ≡ []
   pub default : (s : ℕ) → s < state_count c.tree → comp_of c.tree s ≡ Or → Closes (list_of c s Default)
-  pub junctions : (s j : ℕ) → s < state_count c.tree → Reached c (list_of c s Default) j → Closes (junction c j)
+  pub junctions : (s j : ℕ) → s < state_count c.tree → Reached (links_of c) (list_of c s Default) j
+      → Closes (junction c j)
   pub history : (s : ℕ) → s < state_count c.tree → (node c s).history ≡ true → comp_of c.tree s ≡ Or
   pub leads : (s : ℕ) (kind : ListKind) (list : List Trans) → s < state_count c.tree
-      → Meets c (list_of c s kind) list → AllByRecursion (λ (t : Trans). LeadsWell c.tree s kind t.dest) list
+      → Meets (links_of c) (list_of c s kind) list → AllByRecursion (λ (t : Trans). LeadsWell c.tree s kind t.dest) list
 
 -- ---- valid charts
 

@@ -9,7 +9,7 @@ use Rattle.checked_chart.specs.declared.parts.ListKind.{ListKind}
 use Rattle.checked_chart.specs.declared.parts.ListKind.TheVariants.{Outer, Inner, Default}
 use Rattle.checked_chart.specs.Chart.{Chart, Trans, list_of, junction}
 use Rattle.checked_chart.specs.Homes.{home_of}
-use Rattle.checked_chart.specs.Reached.{Reached}
+use Rattle.checked_chart.specs.Reached.{links_of, Reached}
 use Rattle.checked_chart.specs.Valid.{IsValid}
 use Rattle.code_language.specs.Code.{Procedures}
 use Rattle.chart_procedures.specs.Compiled.{GuardBy, PartBy, ListCompiled}
@@ -95,7 +95,7 @@ module _ (c : Chart) (valid : IsValid c) where
 
   -- a listed junction is reached
   pub is_reached : (s : ℕ) (kind : ListKind) (j : ℕ) → has (reached c (list_of c s kind)) j ≡ true
-      → Reached c (list_of c s kind) j
+      → Reached (links_of c) (list_of c s kind) j
   is_reached s kind j h = ((are_reached c valid (list_of c s kind) (list_valid c valid s kind)).exact j).0 h
 
   module _ (s : ℕ) (kind : ListKind) (lt : s < state_count c.tree) (P : ℕ → Type 0)
@@ -106,7 +106,7 @@ module _ (c : Chart) (valid : IsValid c) where
 
     -- what is known of its parts
     abbrev W : Meaning
-    W = meaning_of c.tree K N s kind (Reached c (list_of c s kind))
+    W = meaning_of c.tree K N s kind (Reached (links_of c) (list_of c s kind))
 
     -- the procedures of the list stand at their numbers
     abbrev L : ListCompiled c K N M s kind S
@@ -128,7 +128,7 @@ module _ (c : Chart) (valid : IsValid c) where
     list_fires = each_fires (list_of c s kind) (M.parts s kind) (list_by c valid K N M s kind lt L)
 
     -- those of a junction that is reached from it
-    pub junction_fires : (j : ℕ) → Reached c (list_of c s kind) j
+    pub junction_fires : (j : ℕ) → Reached (links_of c) (list_of c s kind) j
         → EachTrans (λ t q. FiringCalls S P t.dest) (junction c j) (M.junction_parts j)
     junction_fires j r =
         each_fires (junction c j) (M.junction_parts j) (junction_by c valid K N M s kind lt L j r).parts
@@ -156,7 +156,7 @@ module _ (c : Chart) (valid : IsValid c) where
       list_calls = each_calls (list_of c s kind) (M.parts s kind) (list_parts_stand c s kind lt) list_fires
 
       -- what a junction calls that is reached from it
-      pub junction_calls : (j : ℕ) → Reached c (list_of c s kind) j
+      pub junction_calls : (j : ℕ) → Reached (links_of c) (list_of c s kind) j
           → ListCalls S P (junction c j) (M.junction_parts j)
       junction_calls j r =
           let there = reached_within c valid (list_of c s kind) (list_valid c valid s kind) j r in

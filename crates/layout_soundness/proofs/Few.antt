@@ -8,7 +8,7 @@ use Rattle.checked_chart.specs.declared.parts.ListKind.{ListKind}
 use Rattle.checked_chart.specs.declared.parts.ListKind.TheVariants.{Outer, Inner, Default}
 use Rattle.checked_chart.specs.Chart.{Chart, list_of, junction, junction_count}
 use Rattle.checked_chart.specs.Counts.{transition_count}
-use Rattle.checked_chart.specs.Reached.{weight, ArePairs, PairsBelow, ChartPairs}
+use Rattle.checked_chart.specs.Reached.{links_of, weight, ArePairs, PairsBelow, ChartPairs}
 use Rattle.checked_chart.specs.Valid.{IsValid}
 use Rattle.code_language.specs.declared.limits.TheConstants.{PROC_LIMIT, INSTR_LIMIT}
 use Rattle.code_language.specs.Instrs.{Instr}
@@ -55,7 +55,7 @@ module _ (c : Chart) (valid : IsValid c) where
       + weight (has (reached c (list_of c s kind))) (λ j. length (junction c j)) (junction_count c)
 
   -- they are its pairs
-  are_pairs : (s : ℕ) (kind : ListKind) → ArePairs c (list_of c s kind) (list_pairs s kind)
+  are_pairs : (s : ℕ) (kind : ListKind) → ArePairs (links_of c) (list_of c s kind) (list_pairs s kind)
   are_pairs s kind = record {
     within = has (reached c (list_of c s kind));
     exact = (are_reached c valid (list_of c s kind) (list_valid c valid s kind)).exact;
@@ -63,7 +63,7 @@ module _ (c : Chart) (valid : IsValid c) where
   }
 
   -- the pairs of the first states
-  pairs_below : (n : ℕ) → (count : ℕ) × PairsBelow c n count
+  pairs_below : (n : ℕ) → (count : ℕ) × PairsBelow (links_of c) n count
   pairs_below zero = (0, refl)
   pairs_below (suc s) =
       let below = pairs_below s in

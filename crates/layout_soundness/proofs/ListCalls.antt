@@ -10,7 +10,7 @@ use Rattle.checked_chart.specs.declared.parts.ListKind.{ListKind}
 use Rattle.checked_chart.specs.declared.parts.ListKind.TheVariants.{Outer, Inner, Default}
 use Rattle.checked_chart.specs.Chart.{Chart, Trans, list_of, junction}
 use Rattle.checked_chart.specs.Homes.{home_of}
-use Rattle.checked_chart.specs.Reached.{Reached}
+use Rattle.checked_chart.specs.Reached.{links_of, Reached}
 use Rattle.checked_chart.specs.Valid.{IsValid}
 use Rattle.chart_procedures.specs.Kinds.{IsDestination}
 use Rattle.chart_procedures.specs.ListProcedures.{Search, context_of, search_of}
@@ -52,7 +52,7 @@ module _ (c : Chart) (valid : IsValid c) where
     list = list_of c s kind
 
     abbrev Comes : ℕ → Type 0
-    Comes = Reached c list
+    Comes = Reached (links_of c) list
 
     abbrev S : Search
     S = search_of N M c.tree s kind

@@ -8,7 +8,7 @@ use Rattle.actions.specs.Exprs.{Expr, Stmt}
 use Rattle.actions.specs.World.{On, Bare}
 use Rattle.checked_chart.specs.declared.parts.ListKind.{ListKind}
 use Rattle.checked_chart.specs.Chart.{Chart, Trans, node, list_of, junction}
-use Rattle.checked_chart.specs.Reached.{Reached}
+use Rattle.checked_chart.specs.Reached.{links_of, Reached}
 use Rattle.checked_chart.specs.Valid.{IsValid, IsTrans, HasGuard, AreStmts}
 use Rattle.checked_chart.proofs.PartsLemmas.{node_valid, junction_valid}
 use Rattle.code_language.specs.Sound.{IsProc, AreProcs}
@@ -121,7 +121,7 @@ module _ (c : Chart) (valid : IsValid c) where
       (junction_valid c valid j) (junction_calls c valid s kind lt j r) (junction_names c valid s kind lt j r)
       (junction_ends c valid s kind lt j r)
     where
-      r : Reached c (list_of c s kind) j
+      r : Reached (links_of c) (list_of c s kind) j
       r = ((are_reached c valid (list_of c s kind) (list_valid c valid s kind)).exact j).0 h
 
   -- each kind of procedure is sound at its number

@@ -3,7 +3,7 @@ use Rattle.std.proofs.Common.{ℕ, zero, suc, ◌+◌, ◌≤◌, List, length, 
 use Rattle.active_config.specs.Tree.{state_count}
 use Rattle.checked_chart.specs.declared.parts.ListKind.TheVariants.{Outer, Inner, Default}
 use Rattle.checked_chart.specs.Chart.{Chart, Trans, list_of, junction, junction_count}
-use Rattle.checked_chart.specs.Reached.{ArePairs, StatePairs, PairsBelow}
+use Rattle.checked_chart.specs.Reached.{links_of, ArePairs, StatePairs, PairsBelow}
 use Rattle.checked_chart.specs.Valid.{IsValid, AreTrans}
 use Rattle.chart_layout.specs.Orders.{sum_to}
 use Rattle.chart_layout.specs.ReachedJunctions.{has, reached, sum_over}
@@ -22,7 +22,7 @@ module _ (c : Chart) (valid : IsValid c) where
   pairs_of list = length list + sum_over at_junction (reached c list)
 
   -- they are the pairs of the list
-  list_pairs : (list : List Trans) → AreTrans c list → ArePairs c list (pairs_of list)
+  list_pairs : (list : List Trans) → AreTrans c list → ArePairs (links_of c) list (pairs_of list)
   unfolding pairs_of
   list_pairs list are =
       let facts = are_reached c valid list are in
@@ -37,7 +37,7 @@ module _ (c : Chart) (valid : IsValid c) where
   abbrev pub state_pairs : ℕ → ℕ
   state_pairs s = pairs_of (list_of c s Outer) + pairs_of (list_of c s Inner) + pairs_of (list_of c s Default)
 
-  of_state : (s : ℕ) → StatePairs c s (state_pairs s)
+  of_state : (s : ℕ) → StatePairs (links_of c) s (state_pairs s)
   of_state s = record {
     outer = pairs_of (list_of c s Outer);
     inner = pairs_of (list_of c s Inner);
@@ -49,7 +49,7 @@ module _ (c : Chart) (valid : IsValid c) where
   }
 
   -- those of the first states
-  below : (n : ℕ) → PairsBelow c n (sum_to state_pairs n)
+  below : (n : ℕ) → PairsBelow (links_of c) n (sum_to state_pairs n)
   unfolding sum_to
   below zero = refl {a = 0}
   below (suc s) = (state_pairs s, sum_to state_pairs s, of_state s, below s, refl)

@@ -11,7 +11,7 @@ use Rattle.checked_chart.specs.declared.parts.ListKind.{ListKind}
 use Rattle.checked_chart.specs.declared.parts.ListKind.TheVariants.{Outer, Inner, Default}
 use Rattle.checked_chart.specs.Chart.{Chart, Trans, list_of, junction}
 use Rattle.checked_chart.specs.Homes.{home_of}
-use Rattle.checked_chart.specs.Reached.{Reached}
+use Rattle.checked_chart.specs.Reached.{links_of, Reached}
 use Rattle.checked_chart.specs.Valid.{IsValid}
 use Rattle.code_language.specs.Measures.{work_by}
 use Rattle.chart_procedures.specs.Compiled.{GuardBy, PartBy, ListCompiled}
@@ -131,7 +131,7 @@ module _ (c : Chart) (valid : IsValid c) (w : ℕ → ℕ) (keeps : Keeps c w) w
 
     -- what is known of its parts
     abbrev P : Meaning
-    P = meaning_of c.tree (procedures_of c) N s kind (Reached c (list_of c s kind))
+    P = meaning_of c.tree (procedures_of c) N s kind (Reached (links_of c) (list_of c s kind))
 
     -- where it stands
     stands : ListCompiled c (procedures_of c) N M s kind S
@@ -166,7 +166,7 @@ module _ (c : Chart) (valid : IsValid c) (w : ℕ → ℕ) (keeps : Keeps c w) w
     junction_keeps j h =
         let ts = junction c j in
         let qs = M.junction_parts j in
-        let r : Reached c (list_of c s kind) j =
+        let r : Reached (links_of c) (list_of c s kind) j =
         ((are_reached c valid (list_of c s kind) (list_valid c valid s kind)).exact j).0 h in
         let known : EachBy P kind ts qs =
         (junction_by c valid (procedures_of c) N M s kind lt stands j r).parts in

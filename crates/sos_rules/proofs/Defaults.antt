@@ -11,7 +11,7 @@ use Rattle.sos_rules.specs.Searches.{event_fits, guard_holds, is_enabled, after_
 use Rattle.sos_rules.specs.Searches.{after_condition}
 use Rattle.sos_rules.specs.Rules.{upto}
 use Rattle.checked_chart.specs.Chart.{Chart, Trans, junction, list_of}
-use Rattle.checked_chart.specs.Reached.{LeadsTo, Reached, Directly, Through}
+use Rattle.checked_chart.specs.Reached.{links_of, LeadsTo, Reached, Directly, Through}
 use Rattle.checked_chart.specs.Valid.{IsValid, Closes}
 use Rattle.checked_chart.specs.declared.parts.ListKind.TheVariants.{Default}
 use Rattle.active_config.specs.declared.comp.Comp.TheVariants.{Or}
@@ -106,17 +106,17 @@ module _ (c : Chart) (b : Bounds) (good : ℕ → Type 0) (closed : (j : ℕ) �
 -- ---- default lists of valid charts
 
 -- a list that closes goes on where each junction that it leads to is good
-closes_goes : (good : ℕ → Type 0) (list : List Trans) → Closes list
-    → ((j : ℕ) → LeadsTo list j → good j) → AlwaysGoes good list
-closes_goes good [] h leads = absurd h
-closes_goes good (t ∷ []) h leads = (h.0, h.1, into t.dest refl)
+closes_goes : (c : Chart) (good : ℕ → Type 0) (list : List Trans) → Closes list
+    → ((j : ℕ) → LeadsTo (links_of c) list j → good j) → AlwaysGoes good list
+closes_goes c good [] h leads = absurd h
+closes_goes c good (t ∷ []) h leads = (h.0, h.1, into t.dest refl)
   where
     into : (d : Dest) → t.dest ≡ d → LeadsInto good d
     into (State s) e = tt
     into (Junction j) e = leads j (record { trans = t; within = (0, omega arith, refl); leads = e })
-closes_goes good (t ∷ u ∷ ts) h leads = (
+closes_goes c good (t ∷ u ∷ ts) h leads = (
   into t.dest refl,
-  closes_goes good (u ∷ ts) h (λ j l. leads j (record {
+  closes_goes c good (u ∷ ts) h (λ j l. leads j (record {
     trans = l.trans;
     within = (suc l.within.0, omega (arith, l.within.1), l.within.2);
     leads = l.leads;
@@ -131,8 +131,8 @@ closes_goes good (t ∷ u ∷ ts) h leads = (
 pub defaults_find : (c : Chart) → IsValid c → (b : Bounds) (n s : ℕ) → s < state_count c.tree → comp_of c.tree s ≡ Or
     → (life : Life) (now : Now) (w : World) → Finds ((upto c b n).search life (list_of c s Default) now w)
 defaults_find c v b n s lt or life now w =
-    let good : ℕ → Type 0 = Reached c (list_of c s Default) in
+    let good : ℕ → Type 0 = Reached (links_of c) (list_of c s Default) in
     search_finds c b good
-    (λ j r. closes_goes good (junction c j) (v.structure.junctions s j lt r) (λ k l. Through j k r l))
+    (λ j r. closes_goes c good (junction c j) (v.structure.junctions s j lt r) (λ k l. Through j k r l))
     n life (list_of c s Default) now w
-    (closes_goes good (list_of c s Default) (v.structure.default s lt or) (λ j l. Directly j l))
+    (closes_goes c good (list_of c s Default) (v.structure.default s lt or) (λ j l. Directly j l))

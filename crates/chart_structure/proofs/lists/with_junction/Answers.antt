@@ -1,6 +1,7 @@
 use Rattle.std.proofs.Common.{subst, sym}
 use Rattle.chart_tree.specs.declared.fault.FormKind.TheVariants.{DefaultOpen}
-use Rattle.chart_structure.specs.Reached.{Meets, AtJunction}
+use Rattle.checked_chart.specs.Reached.{Meets, AtJunction}
+use Rattle.chart_structure.specs.Reached.{links_of}
 use Rattle.chart_structure.specs.Structure.{ListFault, StructureFault}
 use Rattle.chart_tree.specs.First.{Passed, at_place}
 use Rattle.chart_structure.specs.Net.{list_of}
@@ -10,7 +11,8 @@ use Rattle.chart_structure.proofs.lists.with_junction.Goals as goal
 
 pub with_list-kept-requires-clause-met : goal.with_list-kept-requires-clause-met
 with_list-kept-requires-clause-met c =
-    subst (Meets c.args.net.now (list_of c.args.net.now c.args.state c.args.kind)) (sym c.junction-list.ensures.list)
+    subst (Meets (links_of c.args.net.now) (list_of c.args.net.now c.args.state c.args.kind))
+    (sym c.junction-list.ensures.list)
     (AtJunction _ c.requires.reached)
 
 pub returns-then-is_empty-clause-one : goal.returns-then-is_empty-clause-one

@@ -1,12 +1,13 @@
 use Rattle.std.proofs.Common.{subst, sym}
+use Rattle.checked_chart.specs.Reached.{Meets, Itself}
 use Rattle.chart_structure.specs.Net.{list_of}
-use Rattle.chart_structure.specs.Reached.{Meets, Itself}
+use Rattle.chart_structure.specs.Reached.{links_of}
 use Rattle.chart_structure.proofs.PassLemmas.{kind_passed, kind_pairs}
 use Rattle.chart_structure.proofs.pass.with_kind.Goals as goal
 
 pub with_list-own-requires-clause-met : goal.with_list-own-requires-clause-met
 with_list-own-requires-clause-met c =
-    subst (Meets c.args.net.now (list_of c.args.net.now c.args.state c.args.kind))
+    subst (Meets (links_of c.args.net.now) (list_of c.args.net.now c.args.state c.args.kind))
     (sym c.list-list.ensures.list) Itself
 
 pub returns-clause-new : goal.returns-clause-new

@@ -21,7 +21,7 @@ pub(crate) struct Typed {
 }
 
 /// The operator of a word with two operands.
-fn op_of(word: BinWord) -> Op
+pub fn op_of(word: BinWord) -> Op
     ensures { result ≡ plain.op_of word }
 {
     match word {

@@ -1,7 +1,6 @@
 //! Expressions and statements without their places.
-ghost use Rattle.std.specs.Prelude.{◌≡◌, ◌≤◌, IfOk};
+ghost use Rattle.std.specs.Prelude.{◌≡◌, IfOk};
 ghost use Rattle.std.specs.List.{AllByRecursion};
-ghost use Rattle.fixed_point.specs.declared.reading.TheConstants.{DIGIT_LIMIT};
 ghost use Rattle.flow_base.specs.Lists.{items_of};
 ghost use Rattle.actions.specs.Trees as seen;
 ghost use Rattle.resolved_tree.specs.Plain as plain;
@@ -10,59 +9,12 @@ ghost use Rattle.resolved_tree.specs.Resolved.{Resolved};
 ghost use Rattle.resolved_tree.specs.Views.{expr_of, stmt_of, block_of};
 ghost use Rattle.checked_chart.specs.Views.{block_seen};
 
-use actions::{Expr, Op, Stmt};
-use chart_tree::{BinWord, LitText, UnWord};
-use fixed_point::{Num, frac_of, number_of};
+use actions::{Expr, Stmt};
+use chart_tree::UnWord;
+use chart_types::{op_of, signed_literal};
 use flow_base::List;
 use resolved_tree::{ResolvedExpr, ResolvedStmt};
 use std::alloc::{AllocError, Global};
-
-/// The bits that a literal's `q` asks for, where it has one.
-fn bits_of(q: Option<u8>) -> Option<u32>
-    ensures { result ≡ q }
-{
-    match q {
-        None => None,
-        Some(bits) => Some(u32::from(bits)),
-    }
-}
-
-/// The number of that sign that a literal denotes, and 0 where it denotes none.
-#[tactic(auto, unfolding(resolved_tree::specs::Plain::signed_literal))]
-pub fn signed_literal(negative: bool, lit: LitText) -> Num
-    requires { lit.places ≤ DIGIT_LIMIT }
-    ensures { result ≡ plain.signed_literal negative lit }
-{
-    let places = u32::from(lit.places);
-    let frac = frac_of(bits_of(lit.q), lit.units, places);
-    match number_of(negative, lit.units, places, frac) {
-        Ok(number) => number,
-        Err(_) => Num {
-            mantissa: 0,
-            frac: 0,
-        },
-    }
-}
-
-/// The operator of a word with two operands.
-fn op_of(word: BinWord) -> Op
-    ensures { result ≡ plain.op_of word }
-{
-    match word {
-        BinWord::Or => Op::Or,
-        BinWord::And => Op::And,
-        BinWord::Eq => Op::Eq,
-        BinWord::Ne => Op::Ne,
-        BinWord::Lt => Op::Lt,
-        BinWord::Le => Op::Le,
-        BinWord::Gt => Op::Gt,
-        BinWord::Ge => Op::Ge,
-        BinWord::Add => Op::Add,
-        BinWord::Sub => Op::Sub,
-        BinWord::Mul => Op::Mul,
-        BinWord::Div => Op::Div,
-    }
-}
 
 /// An expression without its places. Its literals are in range.
 pub fn plain_expr(alloc: Global, expr: &ResolvedExpr) -> Result<Expr, AllocError>

@@ -6,9 +6,9 @@ ghost use Rattle.actions.specs.Data.{mantissa_in};
 ghost use Rattle.resolved_tree.specs.Plain as plain;
 ghost use Rattle.resolved_tree.specs.Promise.{IsInit};
 
-use crate::expressions::signed_literal;
 use actions::{Sort, Var};
 use chart_tree::InitText;
+use chart_types::signed_literal;
 use fixed_point::exact;
 use flow_base::List;
 use std::alloc::{AllocError, Global};

@@ -2,6 +2,7 @@ pub mod TokenLemmas
 pub mod BlockLemmas
 pub mod TransLemmas
 pub mod WordLemmas
+pub mod NumberLemmas
 pub mod RefusalLemmas
 pub mod OperandLemmas
 pub mod Ranks

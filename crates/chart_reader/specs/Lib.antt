@@ -1,4 +1,5 @@
 pub mod Named
+pub mod Numbers
 pub mod Counts
 pub mod Groups
 pub mod Operands

@@ -9,7 +9,6 @@ ghost use Rattle.chart_reader.specs.Parts as parts;
 
 use crate::group::Group;
 use crate::reader::Reader;
-use crate::words::lit_of;
 use chart_tree::{EventText, EventWord, InitText, LitText, NameText, SortText, VarText, VarWord};
 use token_grammar::{Kind, ReadError, Span};
 
@@ -83,8 +82,8 @@ impl<'t, 'a> Reader<'t, 'a> {
             ((spec.positive_init usual).reads (lexemes self.old.rest.now)) }
         ensures counts { self.new.counts ≡ self.old.counts }
     {
-        let token = self.number()?;
-        Ok(plain_init(false, lit_of(token.text), token.at))
+        let number = self.number()?;
+        Ok(plain_init(false, number.lit, number.token.at))
     }
 
     /// A number after a minus sign, as a first value.
@@ -95,8 +94,8 @@ impl<'t, 'a> Reader<'t, 'a> {
         ensures counts { self.new.counts ≡ self.old.counts }
     {
         let sign = self.token(Kind::Minus)?;
-        let token = self.number()?;
-        Ok(plain_init(true, lit_of(token.text), sign.at))
+        let number = self.number()?;
+        Ok(plain_init(true, number.lit, sign.at))
     }
 
     /// A flag as a first value.

@@ -12,6 +12,7 @@ mod group;
 mod items;
 mod laws;
 mod lists;
+mod numbers;
 mod operands;
 mod reader;
 mod statements;

@@ -13,7 +13,6 @@ ghost use Rattle.chart_reader.specs.Operands.{group_of};
 use crate::counts::one_more;
 use crate::group::Group;
 use crate::reader::Reader;
-use crate::words::lit_of;
 use chart_operands::Operand;
 use chart_tree::ExprText;
 use token_grammar::{Kind, ReadError, Thing, Token};
@@ -81,9 +80,9 @@ impl<'t, 'a> Reader<'t, 'a> {
             ((grammar.literal usual before).reads (lexemes self.old.rest.now)) }
         ensures counts { self.new.counts ≡ self.old.counts }
     {
-        let token = self.number()?;
+        let number = self.number()?;
         Ok(Operand {
-            expr: ExprText::Lit(lit_of(token.text), token.at),
+            expr: ExprText::Lit(number.lit, number.token.at),
             operators: before,
         })
     }

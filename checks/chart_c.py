@@ -12,7 +12,7 @@ the trace, over their first 1,000 events. With `--table` the table of a chart is
 
 The program ends with status 1 where anything differs, where a compiler has a warning, and where there is no chart.
 
-The driver shows of the struct what the page docs/C.md offers to a user: the fields of data, the events that were put out, the tests of
+The driver shows of the struct what the page docs/C.md offers to a user: the fields of data, the events that were emitted, the tests of
 active states, and the fault. The struct has no byte 0 before the start."""
 import os
 import sys

@@ -30,7 +30,7 @@ before every other refusal and before the count of events.
 A trace line is `INDEX EVENT [STATES] VALUES OUTPUTS RESULT` and byte 10. The index is 0 for the start and then grows by one
 for each event. The event is `start`, `tick` or a name. The states are the active ones without the root by their numbers,
 each as the path of names from a child of the root, joined by commas. The values are all data as NAME=VALUE, joined by
-commas, or `-` where there are none. The outputs are the names of the events put out, joined by commas, or `-`. The result is
+commas, or `-` where there are none. The outputs are the names of the events emitted, joined by commas, or `-`. The result is
 `ok`, `depth`, `steps`, `zero`, or `overflow NAME`. A flag is `true` or `false`. A number is its exact decimal, with a minus
 where it is negative, without zeros at the end after the point, and without a point where it is whole.
 

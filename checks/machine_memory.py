@@ -219,7 +219,7 @@ def a_start_takes_nothing(counter):
             return ['%s: %s' % (name, status_text(answer))]
         befores.append(notes.first)
         lengths.append(len(answer.out))
-    wrong = [] if lengths[1] > 2 * lengths[0] else ['the start that works puts out no more than the other']
+    wrong = [] if lengths[1] > 2 * lengths[0] else ['the start that works emits no more than the other']
     return wrong + ([] if befores[0] == befores[1] else ['a start: %d requests more' % (befores[1] - befores[0])])
 
 
@@ -247,7 +247,7 @@ def starts_of_nets_take_nothing(counter):
             return ['%s in a net: %s' % (name, status_text(answer))]
         befores.append(notes.first)
         lengths.append(len(answer.out))
-    wrong = [] if lengths[1] > 2 * lengths[0] else ['the start in a net that works puts out no more than the other']
+    wrong = [] if lengths[1] > 2 * lengths[0] else ['the start in a net that works emits no more than the other']
     return wrong + ([] if befores[0] == befores[1] else ['a start in a net: %d requests more' % (befores[1] - befores[0])])
 
 

@@ -36,7 +36,7 @@ bool chart_react(uint32_t event);
 /* Shows the path of each active state but the root, in the order of the text. */
 void show_active(void (*show)(const char *path));
 
-/* The events that were put out. */
+/* The events that were emitted. */
 uint32_t output_count(void);
 uint32_t output_at(uint32_t place);
 

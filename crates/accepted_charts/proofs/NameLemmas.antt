@@ -9,7 +9,7 @@ use Rattle.std.proofs.lemmas.Slice.Eq.{bytes_eq-Decides}
 use Rattle.chart_lexer.specs.Words.{is_name}
 use Rattle.active_config.specs.Tree.{state_count, parent_of, is_child, children_of, children_below}
 use Rattle.active_config.proofs.ChildLemmas.{parent_of_child}
-use Rattle.chart_tree.specs.declared.first.Found.{Found}
+use Rattle.chart_tree.specs.declared.first.FaultAt.{FaultAt}
 use Rattle.chart_tree.specs.declared.name.NameText.{NameText}
 use Rattle.chart_places.specs.Scopes.{Scopes, Meaning, Event, Datum, is_named, child_named, number_from, meaning_of}
 use Rattle.chart_scope.specs.Names.{unless_own, means_event, means_datum, is_number, doubled_events, doubled_vars}
@@ -20,7 +20,7 @@ use Rattle.accepted_charts.proofs.DistinctLemmas.{Distinct, IsNone, AtOwn, texts
 use Rattle.accepted_charts.proofs.DistinctLemmas.{first_distinct}
 
 -- where there is no fault, the name is its own
-own_of : (own : Bool) (x : NameText) (rest : List Found) → unless_own own x ++ rest ≡ [] → (own ≡ true) × (rest ≡ [])
+own_of : (own : Bool) (x : NameText) (rest : List FaultAt) → unless_own own x ++ rest ≡ [] → (own ≡ true) × (rest ≡ [])
 own_of true x rest e = (refl, e)
 own_of false x rest e = absurd cc
 

@@ -14,7 +14,7 @@ use Rattle.actions.specs.declared.names.Sort.TheVariants as sorts
 use Rattle.actions.specs.declared.names.Var.{Var}
 use Rattle.actions.specs.declared.names.VarKind.{VarKind}
 use Rattle.chart_tree.specs.declared.fault.FormKind.{FormKind}
-use Rattle.chart_tree.specs.declared.first.Found.{Found}
+use Rattle.chart_tree.specs.declared.first.FaultAt.{FaultAt}
 use Rattle.chart_tree.specs.declared.sort.InitText.{InitText}
 use Rattle.chart_tree.specs.First.{at_place}
 use Rattle.chart_tree.specs.Trees as trees
@@ -117,7 +117,7 @@ same_resolved text r s a b =
 
 -- faults at places are one where kind and place are
 same_found : (kind other : FormKind) (at there : Span) → at_place kind at ≡ at_place other there → (kind ≡ other) × (at ≡ there)
-same_found kind other at there e = (ap (λ (f : Found). f.kind) e, ap (λ (f : Found). f.at) e)
+same_found kind other at there e = (ap (λ (f : FaultAt). f.kind) e, ap (λ (f : FaultAt). f.at) e)
 
 -- a chart text has one first fault of its names
 one_of_names : (c : trees.Chart) (kind other : FormKind) (at there : Span) → first_of (name_faults c) ≡ Some (at_place kind at)
@@ -127,7 +127,7 @@ one_of_names c kind other at there a b =
     same_found kind other at there (cc e)
 
 -- a text whose names have a fault has no resolved chart
-not_both : (text : List ℕ) (tree : trees.Chart) (r : Resolved) (f : Found) → Spells text tree → first_of (name_faults tree) ≡ Some f
+not_both : (text : List ℕ) (tree : trees.Chart) (r : Resolved) (f : FaultAt) → Spells text tree → first_of (name_faults tree) ≡ Some f
     → IsResolvedText text r → ⊥
 unfolding first_of first_with
 not_both text tree r f spells n i =

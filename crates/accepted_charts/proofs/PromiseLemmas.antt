@@ -31,7 +31,7 @@ use Rattle.resolved_tree.specs.Resolved as resolved
 use Rattle.resolved_tree.specs.Resolved.{Resolved}
 use Rattle.resolved_tree.specs.Plain.{with_inits, plain_node, plain_list, chart_of}
 use Rattle.resolved_tree.specs.Promise as promise
-use Rattle.resolved_tree.specs.Promise.{IsSmall}
+use Rattle.resolved_tree.specs.Promise.{CountsFit}
 use Rattle.chart_scope.specs.Names.{name_faults, doubled_events, doubled_vars, doubled_states, doubled_junctions}
 use Rattle.chart_scope.specs.Names.{used_in_states, used_in_junctions}
 use Rattle.chart_scope.specs.Resolution.{AreVarsOf, event_decl, resolved_states, resolved_junction, IsResolutionOf}
@@ -259,7 +259,7 @@ module _ (c : trees.Chart) (r : Resolved) (is : IsChart c) (res : IsResolutionOf
       omega arith
 
   -- its counts are within their limits
-  pub is_small : IsSmall (chart_of r)
+  pub is_small : CountsFit (chart_of r)
   unfolding chart_of junction_count
   is_small =
       let p = scopes_of c in

@@ -8,7 +8,7 @@ use Rattle.actions.specs.declared.names.Sort.{Sort}
 use Rattle.actions.specs.declared.names.Sort.TheVariants as sorts
 use Rattle.actions.specs.declared.names.Var.{Var}
 use Rattle.chart_tree.specs.declared.fault.FormKind.{FormKind}
-use Rattle.chart_tree.specs.declared.first.Found.{Found}
+use Rattle.chart_tree.specs.declared.first.FaultAt.{FaultAt}
 use Rattle.chart_tree.specs.Trees as trees
 use Rattle.chart_tree.specs.Trees.{FlagSort, NumberSort}
 use Rattle.canonical_text.specs.Terms.{IsSort, IsVar, IsChart}
@@ -25,7 +25,7 @@ use Rattle.resolved_tree.proofs.FirstLemmas.{none_found}
 use Rattle.chart_scope.specs.Names.{name_faults}
 use Rattle.chart_scope.specs.Resolution.{type_of, var_kind, event_decl, resolved_states, resolved_junction, IsVarOf}
 use Rattle.chart_scope.specs.Resolution.{AreVarsOf, IsResolved}
-use Rattle.chart_check.specs.Check.{IsSound, IsFirstOf}
+use Rattle.chart_check.specs.Check.{HasNoFaults, IsFirstOf}
 use Rattle.chart_check.proofs.FirstLemmas.{sound_or_faulty}
 use Rattle.accepted_charts.specs.Accepted.{IsResolvedText, IsAccepted, IsFirstFault, OfText, OfNames, OfChart}
 use Rattle.accepted_charts.proofs.AcceptLemmas.{promised}
@@ -101,14 +101,14 @@ abbrev pub IsAnswered : List ℕ → Type 0
 IsAnswered text = ((c : Chart) × IsAccepted text c) ⊎ ((kind : FormKind) × (at : Span) × IsFirstFault text kind at)
 
 -- with a resolved chart
-by_check : (text : List ℕ) (r : Resolved) → IsResolvedText text r → IsSound r ⊎ ((f : Found) × IsFirstOf r f)
+by_check : (text : List ℕ) (r : Resolved) → IsResolvedText text r → HasNoFaults r ⊎ ((f : FaultAt) × IsFirstOf r f)
     → IsAnswered text
 by_check text r read (inl sound) =
     inl (chart_of r, record { resolved = r; read = read; checked = record { sound = sound; chart = refl } })
 by_check text r read (inr h) = inr (h.0.kind, h.0.at, OfChart r read h.1)
 
 -- with the chart that it spells
-by_names : (text : List ℕ) (tree : trees.Chart) → Spells text tree → (o : Option Found)
+by_names : (text : List ℕ) (tree : trees.Chart) → Spells text tree → (o : Option FaultAt)
     → first_of (name_faults tree) ≡ o → IsAnswered text
 by_names text tree spells (Some f) e = inr (f.kind, f.at, OfNames tree spells e)
 by_names text tree spells None e =

@@ -1,5 +1,6 @@
 -- What the values of an expression's parts are, where the expression has a sort.
-use Rattle.std.proofs.Common.{◌≡◌, ℕ, ℤ, ◌^◌, ◌≤◌, true, false, List, Some, Ok, Err, IsOk, is_ok, IfOk, if◌then◌else◌, unsigned_abs, refl, sym, ap, ◌∙◌, subst}
+use Rattle.std.proofs.Common.{◌≡◌, ℕ, ℤ, ◌^◌, ◌≤◌, true, false, List, Some, Ok, Err, IsOk, is_ok}
+use Rattle.std.proofs.Common.{IfOk, if◌then◌else◌, unsigned_abs, refl, sym, ap, ◌∙◌, subst}
 use Rattle.std.proofs.lemmas.Result.{IfOk-at_ok}
 use Rattle.fixed_point.specs.declared.num.Num.{Num}
 use Rattle.active_config.specs.Marks.{Configuration}
@@ -12,7 +13,8 @@ use Rattle.actions.specs.declared.sort.ExprSort.{ExprSort}
 use Rattle.actions.specs.declared.sort.ExprSort.TheVariants as kinds
 use Rattle.actions.specs.Exprs.{Expr, Lit, Flag, Read, Active, Neg, Not, Bin}
 use Rattle.actions.specs.Sorts.{Scope, Sorted, IsNarrow, with_sort, negative_sort, binary_sort, of_flags, sort_of}
-use Rattle.actions.specs.Values.{Valued, HasSort, with_value, applied, decides, number_of, leaf_value, value_of, scope_at}
+use Rattle.actions.specs.Values.{Valued, HasSort, with_value, applied, decides}
+use Rattle.actions.specs.Values.{number_of, leaf_value, value_of, scope_at}
 use Rattle.actions.specs.Data.{Datum, datum, IsValueAt}
 use Rattle.actions.specs.Trees.{expr_of}
 use Rattle.actions.specs.Operands.{AreOperands}

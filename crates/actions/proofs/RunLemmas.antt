@@ -1,12 +1,14 @@
 -- Runs over events with inputs: there is at most one, its front is one, and it is one by relations that give the same.
-use Rattle.std.proofs.Common.{◌≡◌, ℕ, suc, ◌+◌, List, [], ◌∷◌, ◌++◌, length, Option, Some, None, refl, sym, ap, ◌∙◌, subst}
+use Rattle.std.proofs.Common.{◌≡◌, ℕ, suc, ◌+◌, List, [], ◌∷◌, ◌++◌, length}
+use Rattle.std.proofs.Common.{Option, Some, None, refl, sym, ap, ◌∙◌, subst}
 use Rattle.std.specs.Prelude.{take}
 use Rattle.flow_base.specs.declared.fault.Fault.{Fault}
 use Rattle.actions.specs.declared.event.Event.{Event}
 use Rattle.actions.specs.declared.expr.Value.{Value}
 use Rattle.actions.specs.Data.{Datum}
 use Rattle.actions.specs.Engines.{IsInputSet}
-use Rattle.actions.specs.Runs.{EventWithInputs, StartRelation, ReactionRelation, Moment, AreSet, ReactsWithInputs, UnlessFaulted, GoesOn, Runs}
+use Rattle.actions.specs.Runs.{EventWithInputs, StartRelation, ReactionRelation, Moment}
+use Rattle.actions.specs.Runs.{AreSet, ReactsWithInputs, UnlessFaulted, GoesOn, Runs}
 use Rattle.actions.specs.World.{World}
 
 -- setting an input gives one world

@@ -1,5 +1,6 @@
 -- Values of a datum's sort, which are stored as they are.
-use Rattle.std.proofs.Common.{◌≡◌, ℕ, zero, suc, ℤ, pos, negsuc, int_lt, Bool, true, false, cond, ◌&&◌, List, Option, Some, None, Ok, IsTrue, refl, sym, ap, ◌∙◌, subst, arith}
+use Rattle.std.proofs.Common.{◌≡◌, ℕ, zero, suc, ℤ, pos, negsuc, int_lt, Bool, true, false, cond, ◌&&◌}
+use Rattle.std.proofs.Common.{List, Option, Some, None, Ok, IsTrue, refl, sym, ap, ◌∙◌, subst, arith}
 use Rattle.std.proofs.lemmas.Int.{ints}
 use Rattle.std.specs.Prelude.{IsSome}
 use Rattle.fixed_point.proofs.Floors.{is_whole-raised}
@@ -12,7 +13,8 @@ use Rattle.actions.specs.declared.expr.Value.{Value}
 use Rattle.actions.specs.declared.expr.Value.TheVariants as values
 use Rattle.actions.specs.declared.names.Sort.{Sort}
 use Rattle.actions.specs.declared.names.Sort.TheVariants as sorts
-use Rattle.actions.specs.Data.{Datum, is_mantissa_of, datum, value_at, with_mantissa, kept, assigned, mantissa_in, IsValueOf}
+use Rattle.actions.specs.Data.{Datum, is_mantissa_of, datum, value_at, with_mantissa}
+use Rattle.actions.specs.Data.{kept, assigned, mantissa_in, IsValueOf}
 use Rattle.actions.proofs.AssignmentLemmas.{assigned_kept}
 use Rattle.actions.proofs.SizeLemmas.{floored_at_own}
 

@@ -1,5 +1,6 @@
--- The world of a run: what is active, what the data are, what was put out, and what it has cost.
-use Rattle.std.specs.Prelude.{◌≡◌, ℕ, ◌+◌, ◌<◌, nat_le, Bool, List, [], ◌∷◌, ◌++◌, length, Result, Ok, Err, if◌then◌else◌, map}
+-- The world of a run: what is active, what the data are, what was emitted, and what it has cost.
+use Rattle.std.specs.Prelude.{◌≡◌, ℕ, ◌+◌, ◌<◌, nat_le, Bool, List, [], ◌∷◌}
+use Rattle.std.specs.Prelude.{◌++◌, length, Result, Ok, Err, if◌then◌else◌, map}
 use Rattle.std.specs.List.{AllByRecursion}
 use Rattle.flow_base.specs.declared.bounds.Bounds.{Bounds}
 use Rattle.flow_base.specs.declared.fault.Fault.{Fault}
@@ -12,7 +13,7 @@ use Rattle.actions.specs.declared.names.Var.{Var}
 use Rattle.actions.specs.declared.names.Sort.{Sort}
 use Rattle.fixed_point.specs.declared.fitting.Mode.{Mode}
 
--- what is active and what is remembered, the data, the events put out in this event, and the steps used in it
+-- what is active and what is remembered, the data, the events emitted in this event, and the steps used in it
 pub record World : Type 0 where
   pub marks : Configuration
   pub vals : List Datum
@@ -20,11 +21,11 @@ pub record World : Type 0 where
   pub used : ℕ
 
 -- what a start begins with: no state is active and none remembers a child, the data have their first values, nothing
--- is put out, and no step is used
+-- is emitted, and no step is used
 abbrev pub world_before : Tree → Names → World
 world_before t n = record { marks = no_marks t; vals = initial n; outputs = []; used = 0 }
 
--- what a reaction begins with, once the inputs are set: nothing is put out yet and no step is used; what is active and
+-- what a reaction begins with, once the inputs are set: nothing is emitted yet and no step is used; what is active and
 -- what is remembered stay, and so do the data
 abbrev pub begun : World → World
 begun w = record w { outputs = []; used = 0 }
@@ -33,9 +34,9 @@ begun w = record w { outputs = []; used = 0 }
 abbrev pub paid : Bounds → World → Result World Fault
 paid bounds w = if nat_le bounds.steps w.used then Err Steps else Ok (record w { used = w.used + 1 })
 
--- the event is put out
-abbrev pub put_out : ℕ → World → World
-put_out event w = record w { outputs = w.outputs ++ event ∷ [] }
+-- the event is emitted
+abbrev pub emitted : ℕ → World → World
+emitted event w = record w { outputs = w.outputs ++ event ∷ [] }
 
 -- the condition under which a piece of work continues: a state is active, or a state is active and has no active child
 pub data Life : Type 0 where

@@ -1,16 +1,19 @@
 -- The search for an active child, what it says of a bare state, and the search for an active state.
 use Rattle.std.proofs.Common.{◌≡◌, ◌≢◌, ℕ, ◌+◌, ◌-◌, ◌≤◌, ◌<◌, List, [], ◌∷◌, Option, Some, None, Bool}
-use Rattle.std.proofs.Common.{true, false, cond, not, ◌&&◌, ◌||◌, refl, sym, ap, ◌∙◌, arith, inl, inr, ⊎_elim, get_or, length}
+use Rattle.std.proofs.Common.{true, false, cond, not, ◌&&◌, ◌||◌, refl, sym}
+use Rattle.std.proofs.Common.{ap, ◌∙◌, arith, inl, inr, ⊎_elim, get_or, length}
 use Rattle.std.proofs.lemmas.Bool.{cases_lt}
 use Rattle.std.proofs.lemmas.Bool.Decides.{nat_tests}
 use Rattle.std.specs.Prelude.{◌⊎◌, nat_lt, is_some, IfSome}
 use Rattle.std.specs.List.{find, list_any, range_with_len}
-use Rattle.active_config.specs.Tree.{Tree, IsTree, state_count, parent_of, is_child, is_below, children_of, children_below}
+use Rattle.active_config.specs.Tree.{Tree, IsTree, state_count, parent_of, is_child}
+use Rattle.active_config.specs.Tree.{is_below, children_of, children_below}
 use Rattle.active_config.specs.Shape.{IsEnd}
 use Rattle.active_config.specs.BitList.{first_on}
 use Rattle.active_config.specs.Marks.{Configuration, mark_count, is_on, is_bare, active_child, next_on, IsConsistent}
 use Rattle.active_config.proofs.ParentLemmas.{child_within}
-use Rattle.active_config.proofs.PathLemmas.{Above, above_of_below, path_le, parent_lt, is_below-step, is_at_or_below-same}
+use Rattle.active_config.proofs.PathLemmas.{Above, above_of_below, path_le, parent_lt}
+use Rattle.active_config.proofs.PathLemmas.{is_below-step, is_at_or_below-same}
 use Rattle.active_config.proofs.RangeLemmas.{find-filter, find-none, find-first}
 use Rattle.active_config.proofs.SiblingLemmas.{IsFirst, is_first, is_none}
 use Rattle.active_config.proofs.ChildLemmas.{parent_of_child, child_of_parent}

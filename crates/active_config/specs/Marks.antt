@@ -1,5 +1,6 @@
 -- The active configuration: the states that are active, and the child that each OR remembers.
-use Rattle.std.specs.Prelude.{◌≡◌, ◌==◌, ◌&&◌, ℕ, ◌-◌, List, length, replicate, Option, Some, None, Bool, true, false, not, slice_index_or, slice_set}
+use Rattle.std.specs.Prelude.{◌≡◌, ◌==◌, ◌&&◌, ℕ, ◌-◌, List, length, replicate, Option}
+use Rattle.std.specs.Prelude.{Some, None, Bool, true, false, not, slice_index_or, slice_set}
 use Rattle.std.specs.List.{find, list_any, range_with_len}
 use Rattle.std.specs.Option.{option_map_or}
 use Rattle.active_config.specs.declared.comp.Comp.{Comp}

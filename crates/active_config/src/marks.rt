@@ -129,6 +129,7 @@ impl Marks {
         ensures marked { self.new ≡ spec.with_mark state true self.old }
         ensures consistent { spec.IsConsistent shape.now self.new }
     {
+        // Only the contract reads the shape.
         let _ = shape;
         self.flags.turn_on(state);
     }
@@ -141,6 +142,7 @@ impl Marks {
         ensures cleared { self.new ≡ spec.with_mark state false self.old }
         ensures consistent { spec.IsConsistent shape.now self.new }
     {
+        // Only the contract reads the shape.
         let _ = shape;
         self.flags.turn_off(state);
     }
@@ -167,6 +169,7 @@ impl Marks {
         ensures within { IfSome result (λ child. (parent_of shape.now child ≡ Some state)
             × (child < state_count shape.now)) }
     {
+        // Only the contract reads the shape.
         let _ = shape;
         self.last[state as usize]
     }

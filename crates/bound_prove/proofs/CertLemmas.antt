@@ -1,5 +1,6 @@
 -- Certificates of the code: new ones, and one cell changed.
-use Rattle.std.proofs.Common.{◌≡◌, ◌≢◌, ℕ, ◌<◌, List, [], ◌∷◌, ◌++◌, length, Option, Some, None, ◌⊎◌, inl, inr, ⊎_elim, refl, sym}
+use Rattle.std.proofs.Common.{◌≡◌, ◌≢◌, ℕ, ◌<◌, List, [], ◌∷◌, ◌++◌, length}
+use Rattle.std.proofs.Common.{Option, Some, None, ◌⊎◌, inl, inr, ⊎_elim, refl, sym}
 use Rattle.std.proofs.Common.{ap, ◌∙◌, subst, arith}
 use Rattle.std.specs.Prelude.{slice_get, slice_set, slice_index_or, IsSomeAnd}
 use Rattle.active_config.proofs.TableLemmas.{same_or_other}
@@ -11,11 +12,13 @@ use Rattle.bound_prove.specs.declared.cert.Cert.{Cert}
 use Rattle.bound_prove.specs.declared.need.Need.{Need}
 use Rattle.bound_prove.specs.declared.need.Part.{Part}
 use Rattle.bound_prove.specs.declared.need.Part.TheVariants as parts
-use Rattle.bound_prove.specs.Certs.{row_part, row_need, need_at, cells_of, HasCell, IsMadeFor, AreAll, IsFirstRow, IsFilled}
+use Rattle.bound_prove.specs.Certs.{row_part, row_need, need_at, cells_of, HasCell}
+use Rattle.bound_prove.specs.Certs.{IsMadeFor, AreAll, IsFirstRow, IsFilled}
 use Rattle.bound_prove.specs.Certs.{SetsInRow, SetsOnly}
 use Rattle.bound_prove.specs.Searches.{the_ends, IsSame}
 use Rattle.bound_prove.specs.Tables.{event_index, event_count, part_count, IsInTable}
-use Rattle.bound_prove.proofs.Rows.{each_pushed, not_missing, get_changed, get_others, get_within, within_or_default, same_cell}
+use Rattle.bound_prove.proofs.Rows.{each_pushed, not_missing, get_changed, get_others}
+use Rattle.bound_prove.proofs.Rows.{get_within, within_or_default, same_cell}
 
 -- ---- new certificates
 

@@ -1,5 +1,6 @@
 -- Colours of cells: new ones, and one cell changed.
-use Rattle.std.proofs.Common.{◌≡◌, ◌≢◌, ℕ, ◌<◌, List, [], ◌∷◌, ◌++◌, length, Option, Some, None, ◌⊎◌, inl, inr, ⊎_elim, refl, sym}
+use Rattle.std.proofs.Common.{◌≡◌, ◌≢◌, ℕ, ◌<◌, List, [], ◌∷◌, ◌++◌, length}
+use Rattle.std.proofs.Common.{Option, Some, None, ◌⊎◌, inl, inr, ⊎_elim, refl, sym}
 use Rattle.std.proofs.Common.{ap, ◌∙◌, subst, arith}
 use Rattle.std.specs.Prelude.{slice_get, slice_set, slice_index_or, IsSomeAnd}
 use Rattle.active_config.proofs.TableLemmas.{same_or_other}
@@ -12,11 +13,13 @@ use Rattle.bound_prove.specs.declared.cell.Colour.{Colour}
 use Rattle.bound_prove.specs.declared.cell.Colour.TheVariants.{White}
 use Rattle.bound_prove.specs.declared.need.Part.{Part}
 use Rattle.bound_prove.specs.declared.need.Part.TheVariants as parts
-use Rattle.bound_prove.specs.Colourings.{row_part, row_colour, colour_at, colours_of, HasCell, AreFor, AreWhite, IsWhiteRow}
+use Rattle.bound_prove.specs.Colourings.{row_part, row_colour, colour_at, colours_of}
+use Rattle.bound_prove.specs.Colourings.{HasCell, AreFor, AreWhite, IsWhiteRow}
 use Rattle.bound_prove.specs.Colourings.{SetsInRow, SetsOnly}
 use Rattle.bound_prove.specs.Searches.{IsSame}
 use Rattle.bound_prove.specs.Tables.{event_index, event_count, part_count, IsInTable}
-use Rattle.bound_prove.proofs.Rows.{each_pushed, not_missing, get_changed, get_others, get_within, within_or_default, same_cell}
+use Rattle.bound_prove.proofs.Rows.{each_pushed, not_missing, get_changed, get_others}
+use Rattle.bound_prove.proofs.Rows.{get_within, within_or_default, same_cell}
 
 -- ---- new colours
 

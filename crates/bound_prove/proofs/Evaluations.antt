@@ -1,5 +1,6 @@
 -- Pieces of work that are evaluated one after another.
-use Rattle.std.proofs.Common.{◌≡◌, ◌∙◌, ℕ, zero, suc, ◌+◌, ◌<◌, ◌≤◌, List, [], ◌∷◌, ◌++◌, length, map, drop, get_or, inl, inr}
+use Rattle.std.proofs.Common.{◌≡◌, ◌∙◌, ℕ, zero, suc, ◌+◌, ◌<◌, ◌≤◌, List, []}
+use Rattle.std.proofs.Common.{◌∷◌, ◌++◌, length, map, drop, get_or, inl, inr}
 use Rattle.std.proofs.Common.{append_assoc, append-nil, refl, sym, ap, subst, arith}
 use Rattle.std.specs.Prelude.{Contains, slice_index_or}
 use Rattle.std.specs.List.{AllByRecursion}
@@ -8,7 +9,8 @@ use Rattle.bound_prove.specs.declared.cell.Cell.{Cell}
 use Rattle.bound_prove.specs.declared.lookup.Lookup.{Lookup}
 use Rattle.bound_prove.specs.declared.need.Need.{Need}
 use Rattle.bound_prove.specs.declared.need.Part.{Part}
-use Rattle.bound_prove.specs.Lookups.{cell_at, cells_in, IsDone, IsMet, IsLedTo, chart_in, IsKnown, Grows, AreIn, Evaluated}
+use Rattle.bound_prove.specs.Lookups.{cell_at, cells_in, IsDone, IsMet, IsLedTo}
+use Rattle.bound_prove.specs.Lookups.{chart_in, IsKnown, Grows, AreIn, Evaluated}
 use Rattle.bound_prove.specs.Needs.{nothing_needed, one_step, in_turn, sent}
 use Rattle.bound_prove.proofs.Sums.{IsSum, drop_item, drop_none}
 

@@ -19,7 +19,8 @@ use Rattle.bound_prove.specs.declared.cell.Cell.{Cell}
 use Rattle.bound_prove.specs.declared.lookup.Lookup.{Lookup}
 use Rattle.bound_prove.specs.declared.need.Need.{Need}
 use Rattle.bound_prove.specs.declared.need.Part.{Part}
-use Rattle.bound_prove.specs.Cells.{Cells, stmt_need, block_need, action_need, dest_need, trans_need, fit_need, list_need}
+use Rattle.bound_prove.specs.Cells.{Cells, stmt_need, block_need, action_need}
+use Rattle.bound_prove.specs.Cells.{dest_need, trans_need, fit_need, list_need}
 use Rattle.bound_prove.specs.Cells.{children_need, firing_need}
 use Rattle.bound_prove.specs.Homes.{IsHome}
 use Rattle.bound_prove.specs.Reaches.{Reaches}

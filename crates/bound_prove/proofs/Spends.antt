@@ -13,15 +13,17 @@ use Rattle.active_config.specs.Marks.{is_on, is_bare, can_mark, active_child, is
 use Rattle.actions.specs.declared.event.Event.{Event}
 use Rattle.actions.specs.declared.event.Event.TheVariants.{Named}
 use Rattle.actions.specs.Exprs.{Stmt, Assign, Send, SendTo, Emit}
-use Rattle.actions.specs.World.{World, put_out, Life, On, Bare, lives}
+use Rattle.actions.specs.World.{World, emitted, Life, On, Bare, lives}
 use Rattle.actions.specs.Changes.{set_mark, keep_in}
 use Rattle.actions.specs.Work.{Run, Work, ◌>>=◌, ◌>>◌, then_do, give, nothing, fault, change}
 use Rattle.actions.specs.Work.{choose, if_some, if_done, End, Done, Cut, Now, deeper}
 use Rattle.sos_rules.specs.Moves.{if_bare, keep_if, entered_in, exit_active, exit_children, exit_rule, exit_each_rule}
-use Rattle.sos_rules.specs.Moves.{enter_toward, enter_inside, enter_rule, enter_each_rule, after_default, default_search}
+use Rattle.sos_rules.specs.Moves.{enter_toward, enter_inside, enter_rule}
+use Rattle.sos_rules.specs.Moves.{enter_each_rule, after_default, default_search}
 use Rattle.sos_rules.specs.Moves.{defaults_rule, remembered, take_rule}
 use Rattle.sos_rules.specs.Parts.{Found, Fire, DeadEnd, No, Stop, Went, Stay, Out, Parts}
-use Rattle.sos_rules.specs.Processing.{from_child, process_children, after_inner, go_on_inside, after_outer, process_rule}
+use Rattle.sos_rules.specs.Processing.{from_child, process_children, after_inner}
+use Rattle.sos_rules.specs.Processing.{go_on_inside, after_outer, process_rule}
 use Rattle.sos_rules.specs.Processing.{after_region, process_each_rule}
 use Rattle.sos_rules.specs.Rules.{rules, upto}
 use Rattle.sos_rules.specs.Searches.{pay, while_alive, receiver, receives, event_fits, guard_holds}
@@ -41,7 +43,8 @@ use Rattle.bound_prove.specs.Cells.{Cells, stmt_need, block_need, action_need, d
 use Rattle.bound_prove.specs.Cells.{children_need, process_need, firing_need, IsGood}
 use Rattle.bound_prove.specs.Cells.{OfList, OfExit, OfEntry, OfChildren, OfOuter, OfInner}
 use Rattle.bound_prove.proofs.Rooms.{Limits, Room, covers_each, covered, still, first, second, swap, regroup}
-use Rattle.bound_prove.proofs.Rooms.{exchange, pull, less, alone, skip, front, fired, sent_step, sent_work, sent_depth, backward}
+use Rattle.bound_prove.proofs.Rooms.{exchange, pull, less, alone, skip, front, fired}
+use Rattle.bound_prove.proofs.Rooms.{sent_step, sent_work, sent_depth, backward}
 use Rattle.bound_prove.proofs.Rooms.{Within, ends, faults, over, Any, then_within, choose_within, if_done_within}
 use Rattle.bound_prove.proofs.Rooms.{if_some_within}
 use Rattle.bound_prove.proofs.Others.{assign_within, guard_within, pay_within}
@@ -196,7 +199,7 @@ module _ (l : Limits) (c : Chart) (g : Cells) (b : Bounds) (given : Given l c g 
     statement_within life (Assign v e) now w m r =
         then_within (assign_within v e w m (still l r)) (λ _ u le _. ends Done u le tt)
     statement_within life (Emit e) now w m r =
-        then_within (pay_one w m now.depth r) (λ _ u le _. ends Done (put_out e u) le tt)
+        then_within (pay_one w m now.depth r) (λ _ u le _. ends Done (emitted e u) le tt)
     statement_within life (Send e) now w m r =
         then_within (h.send e None now w m r) (λ _ u le _. alive_within life u m le)
     statement_within life (SendTo e s) now w m r =

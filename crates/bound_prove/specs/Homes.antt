@@ -1,5 +1,6 @@
 -- The homes of the firings from a list, as a walk through its junctions finds them.
-use Rattle.std.specs.Prelude.{◌≡◌, ◌≤◌, ◌<◌, ◌+◌, ◌⊎◌, ◌==◌, ℕ, List, [], ◌∷◌, Bool, true, false, length, slice_index, Contains}
+use Rattle.std.specs.Prelude.{◌≡◌, ◌≤◌, ◌<◌, ◌+◌, ◌⊎◌, ◌==◌, ℕ, List, [], ◌∷◌}
+use Rattle.std.specs.Prelude.{Bool, true, false, length, slice_index, Contains}
 use Rattle.std.specs.List.{AllByRecursion}
 use Rattle.active_config.specs.Tree.{state_count}
 use Rattle.actions.specs.declared.event.Event.{Event}

@@ -160,6 +160,7 @@ impl Cert {
             → IsSame cell.event cell.part cell.index e part i
             ⊎ (spec.cells_of self.new e part i ≡ spec.cells_of self.old e part i) }
     {
+        // Only the contract reads the chart.
         let _ = chart;
         self.change(event_index(cell.event), cell.part, cell.index, need);
     }

@@ -128,6 +128,7 @@ impl Colours {
             → IsSame cell.event cell.part cell.index e part i
             ⊎ (spec.colours_of self.new e part i ≡ spec.colours_of self.old e part i) }
     {
+        // Only the contract reads the chart.
         let _ = chart;
         self.change(event_index(cell.event), cell.part, cell.index, colour);
     }

@@ -90,7 +90,7 @@ impl Marks {
             (spec.GoesOn (chart_in look.now) look.now.cell.event s kind self.old self.new) }
         ensures marked { OnOk result (spec.IsMarked self.new j) }
     {
-        // Only the contract speaks of the list that is walked.
+        // Only the contract reads the list that is walked.
         let _ = look;
         let _ = (s, kind);
         if self.walks[j as usize] == self.stamp {
@@ -103,7 +103,7 @@ impl Marks {
         Ok(())
     }
 
-    /// Notes the home of a firing to a state.
+    /// Marks the home of a firing to a state.
     fn meet_state(&mut self, look: &Lookup, s: u32, kind: ListKind, d: u32) -> Result<(), Memory>
         requires state { s < state_count (chart_in look.now).tree }
         requires dest { d < state_count (chart_in look.now).tree }

@@ -1,5 +1,6 @@
 -- How the code of operands and of their operator make the code of an expression.
-use Rattle.std.proofs.Common.{◌≡◌, ◌≢◌, ℕ, ◌+◌, ◌==◌, Bool, true, false, not, List, [], ◌∷◌, ◌++◌, refl, sym, ap, ◌∙◌, append_assoc, arith}
+use Rattle.std.proofs.Common.{◌≡◌, ◌≢◌, ℕ, ◌+◌, ◌==◌, Bool, true, false, not, List}
+use Rattle.std.proofs.Common.{[], ◌∷◌, ◌++◌, refl, sym, ap, ◌∙◌, append_assoc, arith}
 use Rattle.std.proofs.lemmas.Grind.{common_steps}
 use Rattle.flow_base.specs.declared.fault.Fault.{Fault}
 use Rattle.flow_base.specs.declared.fault.Fault.TheVariants.{Zero as ZeroDivisor}
@@ -16,7 +17,8 @@ use Rattle.c_subset.specs.declared.trees.Line.{Line}
 use Rattle.c_subset.specs.declared.trees.Width.{Width}
 use Rattle.c_subset.specs.declared.trees.CType.TheVariants.{Signed, Truth}
 use Rattle.c_expressions.specs.Code.{CCode, Then, Set, Divide, FaultIf, If, written}
-use Rattle.c_expressions.specs.Translation.{Flat, is_nothing, operator_c, operator_flat, eager_flat, quotient_flat, lazy_flat}
+use Rattle.c_expressions.specs.Translation.{Flat, is_nothing, operator_c, operator_flat}
+use Rattle.c_expressions.specs.Translation.{eager_flat, quotient_flat, lazy_flat}
 use Rattle.c_expressions.specs.Translation.{division_width, dividend_c, is_zero_c}
 use Rattle.c_functions.specs.Plans.{Shape, helper, faulted}
 use Rattle.c_expression_writer.specs.declared.operand.Operand.{Operand}

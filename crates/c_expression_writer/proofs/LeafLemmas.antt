@@ -1,11 +1,13 @@
 -- Expressions whose code is nothing.
-use Rattle.std.proofs.Common.{◌≡◌, ◌<◌, ◌++◌, ℕ, ℤ, Bool, true, false, List, Ok, Err, IsOk, pos, refl, ap, ◌∙◌, if◌then◌else◌, unsigned_abs}
+use Rattle.std.proofs.Common.{◌≡◌, ◌<◌, ◌++◌, ℕ, ℤ, Bool, true, false, List, Ok, Err}
+use Rattle.std.proofs.Common.{IsOk, pos, refl, ap, ◌∙◌, if◌then◌else◌, unsigned_abs}
 use Rattle.fixed_point.specs.declared.num.Num.{Num}
 use Rattle.actions.specs.declared.sort.ExprSort.{ExprSort}
 use Rattle.actions.specs.declared.sort.ExprSort.TheVariants as kinds
 use Rattle.actions.specs.declared.sort.ExprFault.TheVariants as faults
 use Rattle.actions.specs.Exprs as exprs
-use Rattle.actions.specs.Sorts.{Sorted, IsNarrow, is_wide, number_within, least_size, literal_sort, datum_sort, state_sort, scope_of, sort_of}
+use Rattle.actions.specs.Sorts.{Sorted, IsNarrow, is_wide, number_within, least_size}
+use Rattle.actions.specs.Sorts.{literal_sort, datum_sort, state_sort, scope_of, sort_of}
 use Rattle.std.specs.Prelude.{slice_get, nat_lt}
 use Rattle.std.proofs.Common.{sym, arith}
 use Rattle.std.proofs.lemmas.Bool.Decides.{nat_tests}

@@ -1,5 +1,6 @@
 -- How many ORs stand before each state, counted from the first state on.
-use Rattle.std.proofs.Common.{◌≡◌, ℕ, ◌+◌, ◌<◌, ◌≤◌, Bool, true, false, List, [], ◌∷◌, ◌++◌, length, get_or, cond, count_by, refl, ap, sym, subst, ◌∙◌, arith, below_more}
+use Rattle.std.proofs.Common.{◌≡◌, ℕ, ◌+◌, ◌<◌, ◌≤◌, Bool, true, false, List, [], ◌∷◌, ◌++◌, length}
+use Rattle.std.proofs.Common.{get_or, cond, count_by, refl, ap, sym, subst, ◌∙◌, arith, below_more}
 use Rattle.std.proofs.lemmas.List.{take_all, get_or_push, get_or_append_left, length-append}
 use Rattle.std.proofs.lemmas.List.Sums.{sum_by_more}
 use Rattle.active_config.specs.Tree.{Tree, IsTree, state_count, comp_of}

@@ -1,5 +1,6 @@
 -- What is written of an operand and then of its operator is what is written of the expression.
-use Rattle.std.proofs.Common.{◌≡◌, ◌+◌, ◌*◌, ◌<◌, ◌≤◌, ◌^◌, ℕ, Bool, true, false, List, [], ◌∷◌, ◌++◌, IsOk, refl, sym, ap, subst, ◌∙◌, arith, if◌then◌else◌}
+use Rattle.std.proofs.Common.{◌≡◌, ◌+◌, ◌*◌, ◌<◌, ◌≤◌, ◌^◌, ℕ, Bool, true, false, List, []}
+use Rattle.std.proofs.Common.{◌∷◌, ◌++◌, IsOk, refl, sym, ap, subst, ◌∙◌, arith, if◌then◌else◌}
 use Rattle.actions.specs.declared.expr.Op.{Op}
 use Rattle.actions.specs.declared.expr.Op.TheVariants as ops
 use Rattle.actions.specs.declared.sort.ExprSort.{ExprSort}
@@ -25,7 +26,8 @@ use Rattle.actions.specs.declared.expr.Expr.{Expr as Kept}
 use Rattle.c_expression_writer.specs.Locals.{is_lazy, going_on, own_locals, locals_of}
 use Rattle.c_expression_writer.specs.Written.{IsWritten, flat_at, sort_at, seen, negative_of, denial_of}
 use Rattle.c_expression_writer.proofs.LocalLemmas.{flat_next, flat_nothing}
-use Rattle.c_expression_writer.proofs.SortLemmas.{CanWrite, Operands, operands, negated_operand, denied_operand, negated_sort, denied_sort}
+use Rattle.c_expression_writer.proofs.SortLemmas.{CanWrite, Operands, operands, negated_operand}
+use Rattle.c_expression_writer.proofs.SortLemmas.{denied_operand, negated_sort, denied_sort}
 use Rattle.c_expression_writer.proofs.LeafLemmas.{state_there}
 use Rattle.c_expression_writer.proofs.Composed.{IsDecided, join_written, lazy_written}
 

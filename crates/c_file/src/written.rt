@@ -29,7 +29,7 @@ pub(crate) struct Written {
     pub limits: Bounds,
     /// Which faults it tests.
     pub tests: Tests,
-    /// How many events it has room to put out.
+    /// How many events it has room to emit.
     pub outputs: u32,
 }
 
@@ -46,7 +46,7 @@ fn shrunk_code(alloc: Global, chart: &Chart) -> Result<Shrunk, Memory>
 /// faster, where a send that never finds depth left leads to a procedure that calls nothing. Where
 /// it is known that no event of the code takes as much as a bound allows, its limit is the most
 /// that one takes. A limit is tested unless this is known, and the result of a call where the
-/// procedure can fail. There is room for what an event puts out under the limits. The smaller code
+/// procedure can fail. There is room for what an event emits under the limits. The smaller code
 /// is dropped.
 pub(crate) fn written_code(alloc: Global, chart: &Chart, bounds: Bounds) -> Result<Written, Memory>
     ensures { IfOk result (IsWrittenUnder (chart_of chart.now) bounds) }

@@ -52,7 +52,7 @@ use Rattle.c_expressions.proofs.Correct.{ends_as_value, value_has_sort}
 use Rattle.c_expressions.proofs.Running.{agree-itself, agree-less}
 use Rattle.c_expressions.proofs.Writing.{written-goes, written-faults}
 use Rattle.c_procedures.specs.States.{States, c_on}
-use Rattle.c_procedures.specs.Statements.{Memory, Locals as Inner, Out}
+use Rattle.c_procedures.specs.Statements.{CMemory, Locals as Inner, Out}
 use Rattle.c_procedures.specs.Statements as plan
 use Rattle.c_procedures.specs.Meaning as p
 use Rattle.c_procedures.specs.Meaning.{exec}
@@ -178,7 +178,7 @@ fault_number-small (faults.Overflow v) = omega arith
 fault_number-small faults.Zero = omega arith
 
 -- the struct shows a fault that was told
-fault-shows : (K : Shape) (m : Memory) (s : Store) (x : Fault) → Represents K None m s
+fault-shows : (K : Shape) (m : CMemory) (s : Store) (x : Fault) → Represents K None m s
     → length m.vals ≡ length K.names.vars → fault_datum (Some x) < 2 ^ 32 → Represents K (Some x) m (told_c K x s)
 fault-shows K m s x h long small =
     subst (λ (d : ℕ). Represents K (Some x) m
@@ -201,25 +201,25 @@ told-count K st = length-map-range_with_len (λ (s : ℕ). c_on K.tree K.numbers
 module _ (K : Shape) (int : Width) (fit : IsFit K int) (bodies : ℕ → plan.Block) (call : p.Calls) (turns_left : ℕ)
     (calls : Calls) (k : ℕ) (c0 u0 : ℕ) (f0 p0 : Bool) (now : Now) (h : ℕ → ℕ) (most : ℕ)
     (has : HasCalls K h most call calls) where
-  abbrev X : plan.Block → Memory → Inner → Out
+  abbrev X : plan.Block → CMemory → Inner → Out
   X a m l = exec (program_c K bodies) call turns_left now a m l
 
   abbrev Y : Block → Store → Locals → Outcome
   Y a s loc = outcome int calls k a s loc
 
-  abbrev At : ℕ → Memory → Inner → Store → Locals → Type 0
+  abbrev At : ℕ → CMemory → Inner → Store → Locals → Type 0
   At c m l s loc = IsAt K c0 u0 p0 now c m l s loc
 
-  abbrev Goes : ℕ → (Memory → Inner → Store → Locals → Type 0) → plan.Block → Type 0
+  abbrev Goes : ℕ → (CMemory → Inner → Store → Locals → Type 0) → plan.Block → Type 0
   Goes c R a = Follows K c0 u0 f0 (At c) R (X a) (Y (plan_c K a))
 
-  abbrev EndsIn : (Memory → Inner → Store → Locals → Type 0) → Out → Outcome → Type 0
+  abbrev EndsIn : (CMemory → Inner → Store → Locals → Type 0) → Out → Outcome → Type 0
   EndsIn R o o' = Ends K c0 u0 f0 R o o'
 
   abbrev tests : ℕ → CExpr
   tests = on_c K.tree (layout K) K.numbers
 
-  active : (m : Memory) (s : Store) → Represents K None m s
+  active : (m : CMemory) (s : Store) → Represents K None m s
       → ShowsActive int (on_c K.tree (layout K) K.numbers) (told K.tree K.numbers m.states) s
   active m s shows q l lt =
       let count = told-count K m.states in
@@ -229,7 +229,7 @@ module _ (K : Shape) (int : Width) (fit : IsFit K int) (bodies : ℕ → plan.Bl
       (on-has int s l K.tree K.numbers (layout K) m.states q fit.most
       (is_layout K int fit bodies call turns_left calls k c0 u0 f0 p0 now) shows.states within)
 
-  scope-same : (m : Memory) → IsFine K m → scope_at m.vals (told K.tree K.numbers m.states) ≡ scope_of K.names
+  scope-same : (m : CMemory) → IsFine K m → scope_at m.vals (told K.tree K.numbers m.states) ≡ scope_of K.names
   scope-same m fine =
       ap (λ (l : List Sort). record { sorts = l; states = mark_count (told K.tree K.numbers m.states) })
       (scope_sorts m.vals K.names fine.declared)
@@ -237,7 +237,7 @@ module _ (K : Shape) (int : Width) (fit : IsFit K int) (bodies : ℕ → plan.Bl
       (told-count K m.states ∙ sym fit.named)
 
   -- an assignment
-  pub assign-ends : (R : Memory → Inner → Store → Locals → Type 0) (c v : ℕ) (x : Expr) (rest : plan.Block)
+  pub assign-ends : (R : CMemory → Inner → Store → Locals → Type 0) (c v : ℕ) (x : Expr) (rest : plan.Block)
       → ((is_error (declared_at K.names v).mode || divides x) ≡ true → f0 ≡ true) → IsTyped K.names v x → Goes c R rest
       → Goes c R (plan.Store v x rest)
   unfolding exec plan_c assigned_in
@@ -360,7 +360,7 @@ module _ (K : Shape) (int : Width) (fit : IsFit K int) (bodies : ℕ → plan.Bl
       by (Ok value) is sort gives end = data_by value sort (assigned m.vals v value) refl end
 
   -- a test of an expression
-  pub arithmetic-ends : (R : Memory → Inner → Store → Locals → Type 0) (e : Expr) (x y rest : plan.Block)
+  pub arithmetic-ends : (R : CMemory → Inner → Store → Locals → Type 0) (e : Expr) (x y rest : plan.Block)
       → (divides e ≡ true → f0 ≡ true) → sort_of (scope_of K.names) e ≡ Ok kinds.Flag → Goes c0 (At c0) x
       → Goes c0 (At c0) y → Goes c0 R rest
       → Goes c0 R (plan.If (plan.Arithmetic e) x y rest)

@@ -23,7 +23,7 @@ use Rattle.c_expressions.specs.Claims.{Has}
 use Rattle.c_expressions.proofs.Quotients.{local-has}
 use Rattle.c_expressions.proofs.Running.{agree-set, set-there}
 use Rattle.c_procedures.specs.States.{c_on, c_bare}
-use Rattle.c_procedures.specs.Statements.{Memory, Locals as Inner, Out, Fell, Left, Failed, Starved, Wrong}
+use Rattle.c_procedures.specs.Statements.{CMemory, Locals as Inner, Out, Fell, Left, Failed, Starved, Wrong}
 use Rattle.c_procedures.specs.Statements as plan
 use Rattle.c_procedures.specs.Meaning as p
 use Rattle.c_procedures.specs.Meaning.{exec}
@@ -50,8 +50,8 @@ pub more-room : (u v most : ℕ) → u ≤ v → suc u * suc most ≤ suc v * su
 more-room u v most le = grind arith
 
 -- one turn, and then the others
-turn-on : (b : Bool) (x : Fault) (m : Memory) (call : p.Calls) (o : Option ℕ) (now : Now) (v : Memory) (l : Inner)
-    (go : Memory → Inner → Out)
+turn-on : (b : Bool) (x : Fault) (m : CMemory) (call : p.Calls) (o : Option ℕ) (now : Now) (v : CMemory) (l : Inner)
+    (go : CMemory → Inner → Out)
     → p.unless_met b x m (p.turn call o now v l go) ≡ p.and_on (p.unless_met b x m (p.turn call o now v l Fell)) go
 turn-on true x m call o now v l go = refl
 turn-on false x m call None now v l go = refl
@@ -69,24 +69,24 @@ module _ (K : Shape) (int : Width) (fit : IsFit K int) (bodies : ℕ → plan.Bl
     (calls : Calls) (k : ℕ) (c0 u0 : ℕ) (f0 p0 : Bool) (now : Now) (h : ℕ → ℕ) (most : ℕ) (low : (q : ℕ) → h q ≤ most)
     (room : HasRoomFor K most) (has : HasCalls K h most call calls)
     (event_small : event_number K.names now.event < 2 ^ 17) (depth_small : now.depth ≤ K.bounds.depth) where
-  abbrev X : plan.Block → Memory → Inner → Out
+  abbrev X : plan.Block → CMemory → Inner → Out
   X a m l = exec (program_c K bodies) call turns_left now a m l
 
   abbrev Y : Block → Store → Locals → Outcome
   Y a s loc = outcome int calls k a s loc
 
-  abbrev At : ℕ → Memory → Inner → Store → Locals → Type 0
+  abbrev At : ℕ → CMemory → Inner → Store → Locals → Type 0
   At c m l s loc = IsAt K c0 u0 p0 now c m l s loc
 
-  abbrev Goes : ℕ → (Memory → Inner → Store → Locals → Type 0) → plan.Block → Type 0
+  abbrev Goes : ℕ → (CMemory → Inner → Store → Locals → Type 0) → plan.Block → Type 0
   Goes c R a = Follows K c0 u0 f0 (At c) R (X a) (Y (plan_c K a))
 
-  abbrev EndsIn : (Memory → Inner → Store → Locals → Type 0) → Out → Outcome → Type 0
+  abbrev EndsIn : (CMemory → Inner → Store → Locals → Type 0) → Out → Outcome → Type 0
   EndsIn R o o' = Ends K c0 u0 f0 R o o'
 
   -- a call
-  pub call-ends : (R : Memory → Inner → Store → Locals → Type 0) (c q : ℕ) (rest : plan.Block)
-      → (K.tests.after q ≡ true → f0 ≡ true) → q < K.procs → c0 ≤ c → Goes c R rest → (m : Memory) (l : Inner)
+  pub call-ends : (R : CMemory → Inner → Store → Locals → Type 0) (c q : ℕ) (rest : plan.Block)
+      → (K.tests.after q ≡ true → f0 ≡ true) → q < K.procs → c0 ≤ c → Goes c R rest → (m : CMemory) (l : Inner)
       (s : Store) (loc : Locals) → At c m l s loc
       → c + suc (h q) ≤ suc m.used * suc most
       → EndsIn R (X (plan.Call q rest) m l) (Y (plan_c K (plan.Call q rest)) s loc)
@@ -130,9 +130,9 @@ module _ (K : Shape) (int : Width) (fit : IsFit K int) (bodies : ℕ → plan.Bl
       }))) (exec-keeps K bodies call has.keep turns_left now rest) go)
 
   -- a call with a note or none
-  pub noted-ends : (R : Memory → Inner → Store → Locals → Type 0) (q : ℕ) (tag : Option ℕ) (rest : plan.Block)
+  pub noted-ends : (R : CMemory → Inner → Store → Locals → Type 0) (q : ℕ) (tag : Option ℕ) (rest : plan.Block)
       → (K.tests.after q ≡ true → f0 ≡ true) → q < K.procs → ((b : ℕ) → tag ≡ Some b → IsIn K.noted b) → Goes c0 R rest
-      → (m : Memory) (l : Inner) (s : Store) (loc : Locals) → At c0 m l s loc
+      → (m : CMemory) (l : Inner) (s : Store) (loc : Locals) → At c0 m l s loc
       → c0 + suc (suc (h q)) ≤ suc m.used * suc most
       → EndsIn R (X (noted_call q tag rest) m l) (Y (plan_c K (noted_call q tag rest)) s loc)
   noted-ends R q None rest fails lt noted go m l s loc at space =
@@ -148,10 +148,10 @@ module _ (K : Shape) (int : Width) (fit : IsFit K int) (bodies : ℕ → plan.Bl
       (record m { notes = m.notes ++ b ∷ [] }) l s' loc at' (omega (arith, space)))
 
   -- a send
-  pub send-ends : (R : Memory → Inner → Store → Locals → Type 0) (e q : ℕ) (rest : plan.Block)
+  pub send-ends : (R : CMemory → Inner → Store → Locals → Type 0) (e q : ℕ) (rest : plan.Block)
       → (K.tests.after q ≡ true → f0 ≡ true) → q < K.procs
       → e < length K.names.events → now.depth < K.bounds.depth → Goes c0 R rest
-      → (m : Memory) (l : Inner) (s : Store) (loc : Locals) → At c0 m l s loc
+      → (m : CMemory) (l : Inner) (s : Store) (loc : Locals) → At c0 m l s loc
       → c0 + suc (h q) ≤ suc m.used * suc most
       → EndsIn R (X (plan.Send e q rest) m l) (Y (plan_c K (plan.Send e q rest)) s loc)
   unfolding exec plan_c outcome
@@ -200,11 +200,11 @@ module _ (K : Shape) (int : Width) (fit : IsFit K int) (bodies : ℕ → plan.Bl
   -- ---- play
 
   -- at the test of `while`
-  abbrev pub Tested : Memory → Inner → Store → Locals → Type 0
+  abbrev pub Tested : CMemory → Inner → Store → Locals → Type 0
   Tested m l s loc = At c0 m l s loc × (loc Truth 6 ≡ Some (one_if (c_bare K.tree K.numbers l.home m.states)))
 
   -- the question about the home, and other statements
-  asked : (m : Memory) (l : Inner) (s : Store) (loc : Locals) (rest : Block) → At c0 m l s loc
+  asked : (m : CMemory) (l : Inner) (s : Store) (loc : Locals) (rest : Block) → At c0 m l s loc
       → Y (ask_home (bare_function K) rest) s loc
       ≡ Y rest s (with_local loc Truth 6 (one_if (c_bare K.tree K.numbers l.home m.states)))
   asked m l s loc rest at =
@@ -212,7 +212,7 @@ module _ (K : Shape) (int : Width) (fit : IsFit K int) (bodies : ℕ → plan.Bl
       (c_bare K.tree K.numbers l.home m.states) rest s loc
       (has.asks_bare m.states s l.home at.shows.states at.home_is) at.home
 
-  asked-at : (m : Memory) (l : Inner) (s : Store) (loc : Locals) → At c0 m l s loc
+  asked-at : (m : CMemory) (l : Inner) (s : Store) (loc : Locals) → At c0 m l s loc
       → Tested m l s (with_local loc Truth 6 (one_if (c_bare K.tree K.numbers l.home m.states)))
   asked-at m l s loc at = (
     at-locals K int fit bodies call turns_left calls k c0 u0 f0 p0 now c0 m l s loc _
@@ -221,7 +221,7 @@ module _ (K : Shape) (int : Width) (fit : IsFit K int) (bodies : ℕ → plan.Bl
   )
 
   -- the cursor is set
-  cursor-at : (m : Memory) (l : Inner) (s : Store) (loc : Locals) (i : ℕ) → At c0 m l s loc → i ≤ c0
+  cursor-at : (m : CMemory) (l : Inner) (s : Store) (loc : Locals) (i : ℕ) → At c0 m l s loc → i ≤ c0
       → At c0 m (record l { cursor = i }) s (with_local loc word 5 (pos i))
   cursor-at m l s loc i at le = record {
     shows = at.shows;
@@ -240,7 +240,7 @@ module _ (K : Shape) (int : Width) (fit : IsFit K int) (bodies : ℕ → plan.Bl
     cursor_le = le;
   }
 
-  cursor-same : (m : Memory) (l : Inner) (s : Store) (loc : Locals) → At c0 m l s loc
+  cursor-same : (m : CMemory) (l : Inner) (s : Store) (loc : Locals) → At c0 m l s loc
       → At c0 m (record l { cursor = l.cursor }) s loc
   cursor-same m l s loc at = record {
     shows = at.shows;
@@ -260,7 +260,7 @@ module _ (K : Shape) (int : Width) (fit : IsFit K int) (bodies : ℕ → plan.Bl
   }
 
   -- the note at the cursor
-  note-means : (m : Memory) (l : Inner) (s : Store) (loc : Locals) (i q : ℕ) → Represents K None m s
+  note-means : (m : CMemory) (l : Inner) (s : Store) (loc : Locals) (i q : ℕ) → Represents K None m s
       → loc word 5 ≡ Some (pos (suc i)) → suc i < 2 ^ 32 → slice_get m.notes i ≡ Some q
       → meaning int s loc (Element note_row (Calc Less cursor_local (number 1))) ≡ gives word (pos q)
   unfolding meaning
@@ -287,7 +287,7 @@ module _ (K : Shape) (int : Width) (fit : IsFit K int) (bodies : ℕ → plan.Bl
   end-falls s loc = refl
 
   -- one turn
-  turn-ends : p0 ≡ true → f0 ≡ true → c0 + 1 ≤ suc u0 * suc most → (m : Memory) (l : Inner) (s : Store) (loc : Locals)
+  turn-ends : p0 ≡ true → f0 ≡ true → c0 + 1 ≤ suc u0 * suc most → (m : CMemory) (l : Inner) (s : Store) (loc : Locals)
       → Tested m l s loc → l.cursor < length m.notes
       → EndsIn Tested (p.pay K.bounds m (λ v. p.turn call (slice_get v.notes l.cursor) now v
       (record l { cursor = suc l.cursor }) Fell)) (Y (turn_c K) s loc)
@@ -306,7 +306,7 @@ module _ (K : Shape) (int : Width) (fit : IsFit K int) (bodies : ℕ → plan.Bl
       there : (q : ℕ) × (slice_get m.notes l.cursor ≡ Some q)
       there = got m.notes l.cursor lt
 
-      v : Memory
+      v : CMemory
       v = record m { used = m.used + 1 }
 
       l' : Inner
@@ -388,7 +388,7 @@ module _ (K : Shape) (int : Width) (fit : IsFit K int) (bodies : ℕ → plan.Bl
           }))) (λ w z n room. room) answered))
 
   -- the test of `while`
-  test-has : p0 ≡ true → (m : Memory) (l : Inner) (s : Store) (loc : Locals) → Tested m l s loc
+  test-has : p0 ≡ true → (m : CMemory) (l : Inner) (s : Store) (loc : Locals) → Tested m l s loc
       → Has int s loc (Both (Compare IsBelow cursor_local (Field (noted_field K))) tested_local)
       (one_if (nat_lt l.cursor (length m.notes) && c_bare K.tree K.numbers l.home m.states))
   test-has sets m l s loc t =
@@ -407,7 +407,7 @@ module _ (K : Shape) (int : Width) (fit : IsFit K int) (bodies : ℕ → plan.Bl
   and_left false b e = absurd cc
 
   -- the turns
-  loop-ends : p0 ≡ true → f0 ≡ true → c0 + 1 ≤ suc u0 * suc most → (j n : ℕ) → j < n → (m : Memory) (l : Inner)
+  loop-ends : p0 ≡ true → f0 ≡ true → c0 + 1 ≤ suc u0 * suc most → (j n : ℕ) → j < n → (m : CMemory) (l : Inner)
       (s : Store) (loc : Locals) → Tested m l s loc
       → EndsIn (At c0) (p.turns (program_c K bodies) call j now m l)
       (turns n (λ v z. meaning int v z (Both (Compare IsBelow cursor_local (Field (noted_field K))) tested_local))
@@ -427,7 +427,7 @@ module _ (K : Shape) (int : Width) (fit : IsFit K int) (bodies : ℕ → plan.Bl
       (at b refl (λ m l s loc t. loop-ends sets failing space j n (omega (arith, lt)) m l s loc t))
     where
       at : (b : Bool) → (nat_lt l.cursor (length m.notes) && c_bare K.tree K.numbers l.home m.states) ≡ b
-          → ((m : Memory) (l : Inner) (s : Store) (loc : Locals) → Tested m l s loc
+          → ((m : CMemory) (l : Inner) (s : Store) (loc : Locals) → Tested m l s loc
           → EndsIn (At c0) (p.turns (program_c K bodies) call j now m l) (turns n
           (λ v z. meaning int v z (Both (Compare IsBelow cursor_local (Field (noted_field K))) tested_local))
           (λ v z. Y (turn_c K) v z) s loc))
@@ -458,7 +458,7 @@ module _ (K : Shape) (int : Width) (fit : IsFit K int) (bodies : ℕ → plan.Bl
           (turns-keep K bodies call has.keep j now) more)
 
   -- the turns from the base on
-  pub play-ends : (R : Memory → Inner → Store → Locals → Type 0) (rest : plan.Block) → turns_left < k
+  pub play-ends : (R : CMemory → Inner → Store → Locals → Type 0) (rest : plan.Block) → turns_left < k
       → c0 + 1 ≤ suc u0 * suc most → p0 ≡ true → f0 ≡ true → Goes c0 R rest → Goes c0 R (plan.Play rest)
   unfolding exec plan_c outcome
   play-ends R rest fuel space sets failing go m l s loc at =
@@ -515,7 +515,7 @@ module _ (K : Shape) (int : Width) (fit : IsFit K int) (bodies : ℕ → plan.Bl
 
   -- ---- tests of the home
 
-  pub home_on-ends : (R : Memory → Inner → Store → Locals → Type 0) (x y rest : plan.Block) → Goes c0 (At c0) x
+  pub home_on-ends : (R : CMemory → Inner → Store → Locals → Type 0) (x y rest : plan.Block) → Goes c0 (At c0) x
       → Goes c0 (At c0) y → Goes c0 R rest → Goes c0 R (plan.If plan.HomeOn x y rest)
   unfolding exec plan_c
   home_on-ends R x y rest one other go m l s loc at =
@@ -531,7 +531,7 @@ module _ (K : Shape) (int : Width) (fit : IsFit K int) (bodies : ℕ → plan.Bl
       (local-has int s after Truth 6 (one_if b) (set-there loc Truth 6 (one_if b))) (λ t. one m l s after at')
       (λ t. other m l s after at') has.keep go)
 
-  pub home_bare-ends : (R : Memory → Inner → Store → Locals → Type 0) (x y rest : plan.Block) → Goes c0 (At c0) x
+  pub home_bare-ends : (R : CMemory → Inner → Store → Locals → Type 0) (x y rest : plan.Block) → Goes c0 (At c0) x
       → Goes c0 (At c0) y → Goes c0 R rest → Goes c0 R (plan.If plan.HomeBare x y rest)
   unfolding exec plan_c
   home_bare-ends R x y rest one other go m l s loc at =

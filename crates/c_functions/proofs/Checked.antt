@@ -16,7 +16,7 @@ use Rattle.c_expressions.specs.Claims.{Has}
 use Rattle.c_expressions.proofs.Operators.{bang-has}
 use Rattle.c_expressions.proofs.Storing.{flag-const}
 use Rattle.c_procedures.specs.States.{is_or, or_parent}
-use Rattle.c_procedures.specs.Statements.{Memory, Locals as Inner, Check}
+use Rattle.c_procedures.specs.Statements.{CMemory, Locals as Inner, Check}
 use Rattle.c_procedures.specs.Statements as plan
 use Rattle.c_procedures.specs.Meaning as p
 use Rattle.c_procedures.specs.Meaning.{check}
@@ -67,7 +67,7 @@ event_test K e events.Tick lt = apart (length K.names.events) e lt
 event_test K e events.Start lt = apart (length K.names.events + 1) e (omega (arith, lt))
 
 module _ (K : Shape) (int : Width) (fit : IsFit K int) (bodies : ℕ → plan.Block) (call : p.Calls) (turns_left : ℕ)
-    (calls : Calls) (k : ℕ) (c0 u0 : ℕ) (f0 p0 : Bool) (now : Now) (m : Memory) (l : Inner) (s : Store) (loc : Locals)
+    (calls : Calls) (k : ℕ) (c0 u0 : ℕ) (f0 p0 : Bool) (now : Now) (m : CMemory) (l : Inner) (s : Store) (loc : Locals)
     (c : ℕ) (h : IsAt K c0 u0 p0 now c m l s loc) where
   -- the C of a test gives what the test gives
   abbrev pub Tells : Check → Type 0

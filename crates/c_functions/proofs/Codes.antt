@@ -24,7 +24,7 @@ use Rattle.code_language.specs.declared.fault.CodeKind.{CodeKind}
 use Rattle.code_language.specs.declared.fault.CodeKind.TheVariants as code_kinds
 use Rattle.code_language.specs.Code.{Code, instructions, fetch}
 use Rattle.code_language.specs.Instrs.{Instr}
-use Rattle.code_language.specs.Machine.{Machine, run}
+use Rattle.code_language.specs.Machine.{CodeState, run}
 use Rattle.code_language.specs.Measures.{greatest, heights}
 use Rattle.code_language.specs.Reactions.{first_frame, program_of, Leads}
 use Rattle.code_language.specs.Sound.{AreSound}
@@ -39,7 +39,7 @@ use Rattle.c_subset.specs.Trees.{File}
 use Rattle.c_subset.specs.declared.trees.Width.{Width}
 use Rattle.c_subset.specs.Meaning.{bits, Store}
 use Rattle.c_subset.specs.Running.{Outcome, call}
-use Rattle.c_procedures.specs.Statements.{Memory, Out, Fell, Left, Failed, Starved, Wrong}
+use Rattle.c_procedures.specs.Statements.{CMemory, Out, Fell, Left, Failed, Starved, Wrong}
 use Rattle.c_procedures.specs.Statements as plan
 use Rattle.c_procedures.specs.Meaning.{call_fn}
 use Rattle.c_procedures.specs.Runs.{Stands}
@@ -201,7 +201,7 @@ none-got [] zero q e h = absurd cc
 none-got [] (suc j) q e h = absurd cc
 none-got (x ∷ xs) j q e h = absurd cc
 
-fine-of : (k : Code) (T : Tests) (b : Bounds) (room : ℕ) (m : Memory) (w : World) → IsWorld k b w
+fine-of : (k : Code) (T : Tests) (b : Bounds) (room : ℕ) (m : CMemory) (w : World) → IsWorld k b w
     → Stands k.tree (λ x. suc x) m w → m.notes ≡ []
     → IsFine (shape_of k T b room) m
 fine-of k T b room m w world st notes =
@@ -229,7 +229,7 @@ event-small k (events.Named e) is few = omega (arith, few, is)
 -- ---- a call from outside
 
 module _ (k : Code) (T : Tests) (b : Bounds) (room : ℕ) (file : File) (int : Width) (fuel p : ℕ) (now : Now)
-    (start : Machine) (s : Store) (c0 u0 : ℕ) (f0 : Bool)
+    (start : CodeState) (s : Store) (c0 u0 : ℕ) (f0 : Bool)
     (ends : (moment : Moment) → Leads (program_of k b) start moment → MayEndIn T room moment) where
   -- the plan ends as code, and C as the plan
   joined : (o : Out) (o' : Outcome) → runs.EndsAsCode (program_of k b) (λ x. suc x) start o
@@ -279,7 +279,7 @@ module _ (k : Code) (T : Tests) (b : Bounds) (room : ℕ) (file : File) (int : W
 
 -- the function of a procedure ends as a run from the procedure's first frame
 pub ends-as-code : (k : Code) (T : Tests) (b : Bounds) (room : ℕ) (bodies : ℕ → plan.Block) (file : File) (int : Width)
-    (fuel p : ℕ) (now : Now) (m : Memory) (w : World) (s : Store) → IsCode k → HasStateNames k → HasSmallResults k
+    (fuel p : ℕ) (now : Now) (m : CMemory) (w : World) (s : Store) → IsCode k → HasStateNames k → HasSmallResults k
     → AfterIsRight T k → AreWritten k.tree (λ x. suc x) k.procedures bodies
     → BeginsWith file (functions_c (shape_of k T b room) bodies)
     → bits int ≤ 32 → IsMoment k b (first_frame p w now)

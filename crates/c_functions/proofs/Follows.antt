@@ -20,7 +20,7 @@ use Rattle.c_subset.specs.Running.{outcome}
 use Rattle.c_expressions.specs.Claims.{Has}
 use Rattle.c_expressions.specs.Code.{Returning}
 use Rattle.c_procedures.specs.States.{States, is_or, or_parent, choose_child, set_flag}
-use Rattle.c_procedures.specs.Statements.{Memory, Locals as Inner, Out, Fell, Left, Failed, Starved, Wrong}
+use Rattle.c_procedures.specs.Statements.{CMemory, Locals as Inner, Out, Fell, Left, Failed, Starved, Wrong}
 use Rattle.c_procedures.specs.Statements as plan
 use Rattle.c_procedures.specs.Meaning as p
 use Rattle.c_procedures.specs.Meaning.{CProgram, exec, with_states}
@@ -68,7 +68,7 @@ pub record HasRoomFor (K : Shape) (most : ℕ) : Type 0 where
   pub few : suc K.bounds.steps * suc most < 2 ^ 31
 
 -- memory of a run: data of their sorts as declared, outputs that were paid, notes that are those of the shape
-pub record IsFine (K : Shape) (m : Memory) : Type 0 where
+pub record IsFine (K : Shape) (m : CMemory) : Type 0 where
   pub chosen : length m.states.chosen ≡ state_count K.tree
   pub flags : length m.states.flags ≡ state_count K.tree
   pub kept : length m.states.kept ≡ state_count K.tree
@@ -79,9 +79,9 @@ pub record IsFine (K : Shape) (m : Memory) : Type 0 where
   pub used : m.used ≤ K.bounds.steps
   pub noted : (i q : ℕ) → slice_get m.notes i ≡ Some q → IsIn K.noted q
 
--- ---- what is put out
+-- ---- what is emitted
 
--- a plan ended, and at most so many events are put out
+-- a plan ended, and at most so many events are emitted
 abbrev pub HasRoom : ℕ → Out → Type 0
 HasRoom n (Fell m l) = length m.outputs ≤ n
 HasRoom n (Left m r) = length m.outputs ≤ n
@@ -89,16 +89,16 @@ HasRoom n (Failed m x) = length m.outputs ≤ n
 HasRoom n Starved = ⊥
 HasRoom n Wrong = ⊥
 
--- no more were put out at first than at the end
-abbrev pub Keeps : Memory → Out → Type 0
+-- no more were emitted at first than at the end
+abbrev pub Keeps : CMemory → Out → Type 0
 Keeps m o = (n : ℕ) → HasRoom n o → length m.outputs ≤ n
 
 -- so from whatever memory statements begin, and calls
-abbrev pub StatementsKeep : (Memory → Inner → Out) → Type 0
-StatementsKeep f = (m : Memory) (l : Inner) → Keeps m (f m l)
+abbrev pub StatementsKeep : (CMemory → Inner → Out) → Type 0
+StatementsKeep f = (m : CMemory) (l : Inner) → Keeps m (f m l)
 
 abbrev pub CallsKeep : p.Calls → Type 0
-CallsKeep call = (q : ℕ) (now : Now) (base home r : ℕ) (m : Memory) → Keeps m (call q now base home r m)
+CallsKeep call = (q : ℕ) (now : Now) (base home r : ℕ) (m : CMemory) → Keeps m (call q now base home r m)
 
 -- ---- plans
 
@@ -127,7 +127,7 @@ not-tested T on off = not-both T.steps on off
 
 module _ (K : Shape) (c0 u0 : ℕ) where
   -- between statements, with c notes; the function sets the cursor only where its plan plays, as p0 tells
-  pub record IsAt (p0 : Bool) (now : Now) (c : ℕ) (m : Memory) (l : Inner) (s : Store) (loc : Locals) : Type 0 where
+  pub record IsAt (p0 : Bool) (now : Now) (c : ℕ) (m : CMemory) (l : Inner) (s : Store) (loc : Locals) : Type 0 where
     pub shows : Represents K None m s
     pub fine : IsFine K m
     pub notes : length m.notes ≡ c
@@ -144,7 +144,7 @@ module _ (K : Shape) (c0 u0 : ℕ) where
     pub cursor_le : l.cursor ≤ c0
 
   -- after a return
-  pub record HasLeft (m : Memory) (r : ℕ) (s : Store) : Type 0 where
+  pub record HasLeft (m : CMemory) (r : ℕ) (s : Store) : Type 0 where
     pub shows : Represents K None m s
     pub fine : IsFine K m
     pub notes : length m.notes ≡ c0
@@ -152,7 +152,7 @@ module _ (K : Shape) (c0 u0 : ℕ) where
     pub result_is : r < bad
 
   -- memory and struct changed, and no local
-  pub at-memory : (p0 : Bool) (now : Now) (c c' : ℕ) (m m' : Memory) (l : Inner) (s s' : Store) (loc : Locals)
+  pub at-memory : (p0 : Bool) (now : Now) (c c' : ℕ) (m m' : CMemory) (l : Inner) (s s' : Store) (loc : Locals)
       → IsAt p0 now c m l s loc → Represents K None m' s' → IsFine K m' → length m'.notes ≡ c' → u0 ≤ m'.used
       → IsAt p0 now c' m' l s' loc
   at-memory p0 now c c' m m' l s s' loc h shows fine notes used = record {
@@ -176,7 +176,7 @@ module _ (K : Shape) (c0 u0 : ℕ) where
 module _ (K : Shape) (c0 u0 : ℕ) (f0 : Bool) where
   -- C ends as the plan, with a claim where both fall through; where the plan meets a bound that isn't tested nothing is
   -- said, and after another fault the result is one that callers test
-  abbrev pub EndsAlike : (Memory → Inner → Store → Locals → Type 0) → Out → Outcome → Type 0
+  abbrev pub EndsAlike : (CMemory → Inner → Store → Locals → Type 0) → Out → Outcome → Type 0
   EndsAlike Q (Fell m l) o = (s : Store) × (loc : Locals) × (o ≡ Falls s loc) × Q m l s loc
   EndsAlike Q (Left m r) o = (s : Store) × (o ≡ Returns s (unsigned W32 r)) × HasLeft K c0 u0 m r s
   EndsAlike Q (Failed m x) o =
@@ -185,8 +185,8 @@ module _ (K : Shape) (c0 u0 : ℕ) (f0 : Bool) where
   EndsAlike Q Starved o = Unit {0}
   EndsAlike Q Wrong o = Unit {0}
 
-  -- so it ends where out[] has room for what the plan puts out until its end
-  abbrev pub Ends : (Memory → Inner → Store → Locals → Type 0) → Out → Outcome → Type 0
+  -- so it ends where out[] has room for what the plan emits until its end
+  abbrev pub Ends : (CMemory → Inner → Store → Locals → Type 0) → Out → Outcome → Type 0
   Ends Q o o' = HasRoom K.outputs o → EndsAlike Q o o'
 
   -- the same of a call, which doesn't fall through
@@ -194,11 +194,11 @@ module _ (K : Shape) (c0 u0 : ℕ) (f0 : Bool) where
   EndsCall o o' = Ends (λ m l s loc. Unit {0}) o o'
 
   -- from wherever C stands to the plan
-  abbrev pub Follows : (Memory → Inner → Store → Locals → Type 0) → (Memory → Inner → Store → Locals → Type 0)
-      → (Memory → Inner → Out) → (Store → Locals → Outcome) → Type 0
-  Follows Q R f g = (m : Memory) (l : Inner) (s : Store) (loc : Locals) → Q m l s loc → Ends R (f m l) (g s loc)
+  abbrev pub Follows : (CMemory → Inner → Store → Locals → Type 0) → (CMemory → Inner → Store → Locals → Type 0)
+      → (CMemory → Inner → Out) → (Store → Locals → Outcome) → Type 0
+  Follows Q R f g = (m : CMemory) (l : Inner) (s : Store) (loc : Locals) → Q m l s loc → Ends R (f m l) (g s loc)
 
-  pub ends-on : (Q R : Memory → Inner → Store → Locals → Type 0) (o : Out) (o' : Outcome) (f : Memory → Inner → Out)
+  pub ends-on : (Q R : CMemory → Inner → Store → Locals → Type 0) (o : Out) (o' : Outcome) (f : CMemory → Inner → Out)
       (g : Store → Locals → Outcome) → Ends Q o o' → StatementsKeep f → Follows Q R f g
       → Ends R (p.and_on o f) (and_on o' g)
   ends-on Q R (Fell m l) o' f g h keep go = λ room.
@@ -211,7 +211,7 @@ module _ (K : Shape) (c0 u0 : ℕ) (f0 : Bool) where
   ends-on Q R Wrong o' f g h keep go = λ room. tt
 
 -- memory with other states of the same lengths
-pub fine-states : (K : Shape) (m : Memory) (st : States) → IsFine K m → length st.chosen ≡ length m.states.chosen
+pub fine-states : (K : Shape) (m : CMemory) (st : States) → IsFine K m → length st.chosen ≡ length m.states.chosen
     → length st.flags ≡ length m.states.flags → length st.kept ≡ length m.states.kept → IsFine K (with_states st m)
 fine-states K m st f a b c = record {
   chosen = a ∙ f.chosen;
@@ -233,21 +233,21 @@ module _ (K : Shape) (int : Width) (fit : IsFit K int) (bodies : ℕ → plan.Bl
   P = program_c K bodies
 
   -- an expression of the plan's next statements
-  abbrev pub X : plan.Block → Memory → Inner → Out
+  abbrev pub X : plan.Block → CMemory → Inner → Out
   X a m l = exec (program_c K bodies) call turns_left now a m l
 
   abbrev pub Y : Block → Store → Locals → Outcome
   Y a s loc = outcome int calls k a s loc
 
   -- with c notes
-  abbrev pub At : ℕ → Memory → Inner → Store → Locals → Type 0
+  abbrev pub At : ℕ → CMemory → Inner → Store → Locals → Type 0
   At c m l s loc = IsAt K c0 u0 p0 now c m l s loc
 
   -- statements and their C, from c notes to a claim
-  abbrev pub Goes : ℕ → (Memory → Inner → Store → Locals → Type 0) → plan.Block → Type 0
+  abbrev pub Goes : ℕ → (CMemory → Inner → Store → Locals → Type 0) → plan.Block → Type 0
   Goes c R a = Follows K c0 u0 f0 (At c) R (X a) (Y (plan_c K a))
 
-  abbrev pub EndsIn : (Memory → Inner → Store → Locals → Type 0) → Out → Outcome → Type 0
+  abbrev pub EndsIn : (CMemory → Inner → Store → Locals → Type 0) → Out → Outcome → Type 0
   EndsIn R o o' = Ends K c0 u0 f0 R o o'
 
   pub is_layout : IsLayout K.tree K.numbers (layout K)
@@ -274,7 +274,7 @@ module _ (K : Shape) (int : Width) (fit : IsFit K int) (bodies : ℕ → plan.Bl
       fault_small faults.Zero = omega arith
 
   -- a fault of the plan
-  pub faulted-ends : (R : Memory → Inner → Store → Locals → Type 0) (c : ℕ) (m : Memory) (l : Inner) (s : Store)
+  pub faulted-ends : (R : CMemory → Inner → Store → Locals → Type 0) (c : ℕ) (m : CMemory) (l : Inner) (s : Store)
       (loc : Locals) (x : Fault) → At c m l s loc → fault_datum (Some x) < 2 ^ 32 → f0 ≡ true
       → EndsIn R (Failed m x) (outcome int calls k (faulted K x) s loc)
   faulted-ends R c m l s loc x h small fails = λ room t. (
@@ -299,8 +299,8 @@ module _ (K : Shape) (int : Width) (fit : IsFit K int) (bodies : ℕ → plan.Bl
   returning s a d ha hd x l = faulted-goes s l a d ha hd x
 
   -- a step is paid
-  pub pay-ends : (R : Memory → Inner → Store → Locals → Type 0) (c : ℕ) (m : Memory) (l : Inner) (s : Store)
-      (loc : Locals) (f : Memory → Out) (rest : Block) → (K.tests.steps ≡ true → f0 ≡ true) → At c m l s loc
+  pub pay-ends : (R : CMemory → Inner → Store → Locals → Type 0) (c : ℕ) (m : CMemory) (l : Inner) (s : Store)
+      (loc : Locals) (f : CMemory → Out) (rest : Block) → (K.tests.steps ≡ true → f0 ≡ true) → At c m l s loc
       → ((s' : Store) → At c (record m { used = m.used + 1 }) l s' loc → length m.outputs < m.used + 1
       → EndsIn R (f (record m { used = m.used + 1 })) (outcome int calls k rest s' loc))
       → EndsIn R (p.pay K.bounds m f) (outcome int calls k (pay_c K rest) s loc)
@@ -381,7 +381,7 @@ module _ (K : Shape) (int : Width) (fit : IsFit K int) (bodies : ℕ → plan.Bl
       by false off = untold off (nat_le K.bounds.steps m.used) refl
 
   -- the number of an active child
-  pub choose-ends : (R : Memory → Inner → Store → Locals → Type 0) (c q i : ℕ) (rest : plan.Block)
+  pub choose-ends : (R : CMemory → Inner → Store → Locals → Type 0) (c q i : ℕ) (rest : plan.Block)
       → is_or (comp_of K.tree q) ≡ true → q < state_count K.tree → i < 2 ^ 16 → Goes c R rest
       → Goes c R (plan.Choose q i rest)
   unfolding exec plan_c
@@ -395,7 +395,7 @@ module _ (K : Shape) (int : Width) (fit : IsFit K int) (bodies : ℕ → plan.Bl
       (fine-states K m (choose_child q i m.states) h.fine (length-set m.states.chosen q i) refl refl) h.notes h.used))
 
   -- the number of a remembered child
-  pub keep-ends : (R : Memory → Inner → Store → Locals → Type 0) (c q i : ℕ) (rest : plan.Block)
+  pub keep-ends : (R : CMemory → Inner → Store → Locals → Type 0) (c q i : ℕ) (rest : plan.Block)
       → is_or (comp_of K.tree q) ≡ true → q < state_count K.tree → i < 2 ^ 16 → Goes c R rest
       → Goes c R (plan.Keep q i rest)
   unfolding exec plan_c
@@ -409,7 +409,7 @@ module _ (K : Shape) (int : Width) (fit : IsFit K int) (bodies : ℕ → plan.Bl
       (fine-states K m st h.fine refl refl (length-set m.states.kept q i)) h.notes h.used))
 
   -- the bit of a state
-  pub mark-ends : (R : Memory → Inner → Store → Locals → Type 0) (c q : ℕ) (b : Bool) (rest : plan.Block)
+  pub mark-ends : (R : CMemory → Inner → Store → Locals → Type 0) (c q : ℕ) (b : Bool) (rest : plan.Block)
       → q < state_count K.tree → or_parent K.tree (parent_of K.tree q) ≡ None → Goes c R rest
       → Goes c R (plan.Mark q b rest)
   unfolding exec plan_c
@@ -421,9 +421,9 @@ module _ (K : Shape) (int : Width) (fit : IsFit K int) (bodies : ℕ → plan.Bl
       (states-put K None m s h.shows h.fine.long (set_flag q b m.states) _ ch.value (omega arith) ch.holds)
       (fine-states K m (set_flag q b m.states) h.fine refl (length-set m.states.flags q b) refl) h.notes h.used))
 
-  -- an event is put out, after a step was paid
-  pub put-ends : (R : Memory → Inner → Store → Locals → Type 0) (c e : ℕ) (rest : plan.Block) → e < 2 ^ 16
-      → StatementsKeep (X rest) → Goes c R rest → (m : Memory) (l : Inner) (s : Store) (loc : Locals)
+  -- an event is emitted, after a step was paid
+  pub put-ends : (R : CMemory → Inner → Store → Locals → Type 0) (c e : ℕ) (rest : plan.Block) → e < 2 ^ 16
+      → StatementsKeep (X rest) → Goes c R rest → (m : CMemory) (l : Inner) (s : Store) (loc : Locals)
       → At c m l s loc → length m.outputs < m.used
       → EndsIn R (X (plan.Put e rest) m l) (Y (plan_c K (plan.Put e rest)) s loc)
   unfolding exec plan_c
@@ -463,8 +463,8 @@ module _ (K : Shape) (int : Width) (fit : IsFit K int) (bodies : ℕ → plan.Bl
       }) h.notes h.used) room)
 
   -- a note is pushed
-  pub push-ends : (R : Memory → Inner → Store → Locals → Type 0) (c q : ℕ) (rest : plan.Block) → IsIn K.noted q
-      → c < K.notes → c < 2 ^ 31 → (m : Memory) (l : Inner) (s : Store) (loc : Locals) → At c m l s loc
+  pub push-ends : (R : CMemory → Inner → Store → Locals → Type 0) (c q : ℕ) (rest : plan.Block) → IsIn K.noted q
+      → c < K.notes → c < 2 ^ 31 → (m : CMemory) (l : Inner) (s : Store) (loc : Locals) → At c m l s loc
       → ((s' : Store) → At (c + 1) (record m { notes = m.notes ++ q ∷ [] }) l s' loc
       → EndsIn R (X rest (record m { notes = m.notes ++ q ∷ [] }) l) (Y (plan_c K rest) s' loc))
       → EndsIn R (X (plan.Push q rest) m l) (Y (plan_c K (plan.Push q rest)) s loc)
@@ -505,7 +505,7 @@ module _ (K : Shape) (int : Width) (fit : IsFit K int) (bodies : ℕ → plan.Bl
       }) (length-push m.notes q ∙ ap (λ (z : ℕ). z + 1) h.notes) h.used))
 
   -- the last note is dropped
-  pub pop-ends : (R : Memory → Inner → Store → Locals → Type 0) (c : ℕ) (rest : plan.Block) → Goes c R rest
+  pub pop-ends : (R : CMemory → Inner → Store → Locals → Type 0) (c : ℕ) (rest : plan.Block) → Goes c R rest
       → Goes (c + 1) R (plan.Pop rest)
   unfolding exec plan_c
   pop-ends R c rest go m l s loc h =

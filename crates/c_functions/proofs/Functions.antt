@@ -21,7 +21,7 @@ use Rattle.c_subset.specs.Helpers.{floor_function}
 use Rattle.c_subset.proofs.TypeLemmas.{truth-stays}
 use Rattle.c_expressions.specs.Claims.{Has}
 use Rattle.c_expressions.proofs.Writing.{file-divides}
-use Rattle.c_procedures.specs.Statements.{Memory, Locals as Inner, Out, Fell, Left, Failed, Starved, Wrong}
+use Rattle.c_procedures.specs.Statements.{CMemory, Locals as Inner, Out, Fell, Left, Failed, Starved, Wrong}
 use Rattle.c_procedures.specs.Statements as plan
 use Rattle.c_procedures.specs.Meaning as p
 use Rattle.c_procedures.specs.Meaning.{begins, call_fn, exec}
@@ -196,7 +196,7 @@ module _ (K : Shape) (int : Width) (fit : IsFit K int) (bodies : ℕ → plan.Bl
     (written : (q : ℕ) → Written K.tree K.numbers k.react (instructions k q) [] (bodies q))
     (good : (q : ℕ) → q < K.procs → AreGood K k.react (K.tests.after q) h (h q) (instructions k q)) where
   -- what a function gives of what its body did
-  closed-ends : (c0 u0 : ℕ) (f0 : Bool) (Q : Memory → Inner → Store → Locals → Type 0) (o : Out) (o' : Outcome)
+  closed-ends : (c0 u0 : ℕ) (f0 : Bool) (Q : CMemory → Inner → Store → Locals → Type 0) (o : Out) (o' : Outcome)
       → Ends K c0 u0 f0 Q o o' → EndsCall K c0 u0 f0 (p.closed o) (returned word o')
   closed-ends c0 u0 f0 Q (Fell m l) o' e = λ room. tt
   closed-ends c0 u0 f0 Q (Left m r) o' e = λ room.
@@ -230,7 +230,7 @@ module _ (K : Shape) (int : Width) (fit : IsFit K int) (bodies : ℕ → plan.Bl
   begun false e d b h r = given e d b h r
 
   -- a call of a plan's function doesn't fall through
-  call-closes : (j q base home r : ℕ) (now : Now) (m : Memory)
+  call-closes : (j q base home r : ℕ) (now : Now) (m : CMemory)
       → p.closed (call_fn (program_c K bodies) j q now base home r m)
       ≡ call_fn (program_c K bodies) j q now base home r m
   unfolding call_fn
@@ -299,7 +299,7 @@ module _ (K : Shape) (int : Width) (fit : IsFit K int) (bodies : ℕ → plan.Bl
       ∙ ap (returned word) (cursor-set calls (suc j) (plays body) (plan_c K body) e d b z r s)
 
   -- where a body begins
-  at-begin : (plays : Bool) (now : Now) (m : Memory) (base home r : ℕ) (s : Store) → Represents K None m s → IsFine K m
+  at-begin : (plays : Bool) (now : Now) (m : CMemory) (base home r : ℕ) (s : Store) → Represents K None m s → IsFine K m
       → base ≤ length m.notes → home < state_count K.tree → r < bad
       → IsAt K (length m.notes) m.used plays now (length m.notes) m (begins base home r) s
       (begun plays (event_number K.names now.event) now.depth base home r)

@@ -1,4 +1,4 @@
--- What a plan puts out stays until its end: where there is room for all of it then, there was room for it before.
+-- What a plan emits stays until its end: where there is room for all of it then, there was room for it before.
 use Rattle.std.proofs.Common.{ℕ, zero, suc, ◌+◌, nat_le, nat_lt, Bool, true, false, cond, ◌&&◌}
 use Rattle.std.proofs.Common.{List, [], ◌∷◌, ◌++◌, length, Option, Some, None, Result, Ok, Err, slice_get, slice_set}
 use Rattle.std.proofs.Common.{arith}
@@ -9,7 +9,7 @@ use Rattle.actions.specs.World.{World}
 use Rattle.actions.specs.Changes.{assigned_in}
 use Rattle.actions.specs.Work.{Now, deeper}
 use Rattle.c_procedures.specs.States.{c_bare, choose_child, set_flag}
-use Rattle.c_procedures.specs.Statements.{Memory, Locals as Inner, Out, Fell, Left, Failed, Starved, Wrong}
+use Rattle.c_procedures.specs.Statements.{CMemory, Locals as Inner, Out, Fell, Left, Failed, Starved, Wrong}
 use Rattle.c_procedures.specs.Statements as plan
 use Rattle.c_procedures.specs.Meaning as p
 use Rattle.c_procedures.specs.Meaning.{begins, call_fn, exec, truth_c, with_states}
@@ -21,7 +21,7 @@ use Rattle.c_functions.proofs.Follows.{Keeps, StatementsKeep, CallsKeep, program
 -- ---- what goes on
 
 -- after a statement that fell through
-and_on-keeps : (m : Memory) (o : Out) (f : Memory → Inner → Out) → Keeps m o → StatementsKeep f
+and_on-keeps : (m : CMemory) (o : Out) (f : CMemory → Inner → Out) → Keeps m o → StatementsKeep f
     → Keeps m (p.and_on o f)
 and_on-keeps m (Fell v z) f here later n room = here n (later v z n room)
 and_on-keeps m (Left v r) f here later n room = here n room
@@ -30,7 +30,7 @@ and_on-keeps m Starved f here later n room = absurd room
 and_on-keeps m Wrong f here later n room = absurd room
 
 -- with what a function returned
-and_with-keeps : (m : Memory) (o : Out) (f : Memory → ℕ → Out) → Keeps m o → ((v : Memory) (r : ℕ) → Keeps v (f v r))
+and_with-keeps : (m : CMemory) (o : Out) (f : CMemory → ℕ → Out) → Keeps m o → ((v : CMemory) (r : ℕ) → Keeps v (f v r))
     → Keeps m (p.and_with o f)
 and_with-keeps m (Fell v z) f here later n room = absurd room
 and_with-keeps m (Left v r) f here later n room = here n (later v r n room)
@@ -39,18 +39,18 @@ and_with-keeps m Starved f here later n room = absurd room
 and_with-keeps m Wrong f here later n room = absurd room
 
 -- unless a bound is met
-unless_met-keeps : (b : Bool) (x : Fault) (m : Memory) (o : Out) → Keeps m o → Keeps m (p.unless_met b x m o)
+unless_met-keeps : (b : Bool) (x : Fault) (m : CMemory) (o : Out) → Keeps m o → Keeps m (p.unless_met b x m o)
 unless_met-keeps true x m o here n room = room
 unless_met-keeps false x m o here n room = here n room
 
 -- with other data
-stored-keeps : (m : Memory) (r : Result World Fault) (f : Memory → Out)
+stored-keeps : (m : CMemory) (r : Result World Fault) (f : CMemory → Out)
     → ((vals : List Datum) → Keeps m (f (record m { vals = vals }))) → Keeps m (p.and_stored (with_vals m r) m f)
 stored-keeps m (Ok w) f later n room = later w.vals n room
 stored-keeps m (Err x) f later n room = room
 
 -- one of two ways
-branch-keeps : (m : Memory) (r : Result Bool Fault) (a b : Out) → Keeps m a → Keeps m b → Keeps m (p.branch r m a b)
+branch-keeps : (m : CMemory) (r : Result Bool Fault) (a b : Out) → Keeps m a → Keeps m b → Keeps m (p.branch r m a b)
 branch-keeps m (Ok true) a b one other n room = one n room
 branch-keeps m (Ok false) a b one other n room = other n room
 branch-keeps m (Err x) a b one other n room = room
@@ -60,7 +60,7 @@ branch-keeps m (Err x) a b one other n room = room
 module _ (K : Shape) (bodies : ℕ → plan.Block) where
   module _ (call : p.Calls) (keep : CallsKeep call) where
     -- a turn's call, and the turns after it
-    turn-keeps : (o : Option ℕ) (now : Now) (m : Memory) (l : Inner) (f : Memory → Inner → Out) → StatementsKeep f
+    turn-keeps : (o : Option ℕ) (now : Now) (m : CMemory) (l : Inner) (f : CMemory → Inner → Out) → StatementsKeep f
         → Keeps m (p.turn call o now m l f)
     turn-keeps None now m l f later n room = absurd room
     turn-keeps (Some q) now m l f later n room =

@@ -20,7 +20,7 @@ use Rattle.actions.specs.Work.{Now, from_outside}
 use Rattle.actions.proofs.InputLemmas.{input_value, IsInputSet-fits}
 use Rattle.actions.proofs.StoredLemmas.{stored, mantissa_there}
 use Rattle.code_language.specs.Code.{Code}
-use Rattle.code_language.specs.Machine.{Machine, Next, Goes, Stops, Over, and_then, step, run}
+use Rattle.code_language.specs.Machine.{CodeState, Next, Goes, Stops, Over, and_then, step, run}
 use Rattle.code_language.specs.Reactions.{program_of, start_machine, react_machine, Starts, Reacts}
 use Rattle.code_language.specs.Reactions.{CodeRun, Leads}
 use Rattle.code_language.specs.WellFormed.{IsCode}
@@ -42,7 +42,7 @@ use Rattle.c_subset.specs.Running.{returned, run as run_c, outcome, call}
 use Rattle.c_expressions.specs.Claims.{ShowsData, field_type}
 use Rattle.c_expressions.proofs.Assigning.{set-shows}
 use Rattle.c_procedures.specs.States.{Shows}
-use Rattle.c_procedures.specs.Statements.{Memory}
+use Rattle.c_procedures.specs.Statements.{CMemory}
 use Rattle.c_procedures.specs.Statements as plan
 use Rattle.c_procedures.specs.Runs.{Stands}
 use Rattle.c_procedures.specs.Written.{AreWritten}
@@ -68,7 +68,7 @@ use Rattle.c_functions.proofs.Starting.{all-go, first-stay, first-shows, memory_
 -- ---- moments
 
 -- a run of well-formed code ends in a world that fits
-over-world : (k : Code) (b : Bounds) → IsCode k → (n : ℕ) (m : Machine) (w : World) (x : Option Fault)
+over-world : (k : Code) (b : Bounds) → IsCode k → (n : ℕ) (m : CodeState) (w : World) (x : Option Fault)
     → IsMoment k b m → run (program_of k b) n m ≡ Over w x → IsWorld k b w
 over-world k b is zero m w x h e = absurd cc
 over-world k b is (suc n) m w x h e =
@@ -76,7 +76,7 @@ over-world k b is (suc n) m w x h e =
     (λ m' h' e'. over-world k b is n m' w x h' e')
   where
     at : (o : Next) → StaysSound k b o → and_then o (run (program_of k b) n) ≡ Over w x
-        → ((m' : Machine) → IsMoment k b m' → run (program_of k b) n m' ≡ Over w x → IsWorld k b w) → IsWorld k b w
+        → ((m' : CodeState) → IsMoment k b m' → run (program_of k b) n m' ≡ Over w x → IsWorld k b w) → IsWorld k b w
     at (Goes m') h e more = more m' h e
     at (Stops w' y) h e more =
         let same : w' ≡ w = cc in subst (λ (w : World). IsWorld k b w) same h.0
@@ -93,7 +93,7 @@ tells-small (Some x) r e = omega (arith, e)
 -- ---- inputs
 
 -- the struct with stored inputs
-record HasStored (K : Shape) (m : Memory) (v : ℕ) (inputs : List (Option Value)) (w w' : World) (s : Store)
+record HasStored (K : Shape) (m : CMemory) (v : ℕ) (inputs : List (Option Value)) (w w' : World) (s : Store)
     : Type 0 where
   set : Store
   stored_are : AreStored K.names v inputs s set
@@ -101,7 +101,7 @@ record HasStored (K : Shape) (m : Memory) (v : ℕ) (inputs : List (Option Value
   fits_still : Fits K.tree K.names w'
   marks : w'.marks ≡ w.marks
 
-same-vals : (K : Shape) (m : Memory) (s : Store) (vals : List Datum) → Represents K None m s → m.vals ≡ vals
+same-vals : (K : Shape) (m : CMemory) (s : Store) (vals : List Datum) → Represents K None m s → m.vals ≡ vals
     → Represents K None (record m { vals = vals }) s
 same-vals K m s vals h e = record {
   states = h.states;
@@ -115,7 +115,7 @@ same-vals K m s vals h e = record {
   note = h.note;
 }
 
-inputs-stored : (K : Shape) (inputs : List (Option Value)) (v : ℕ) (w w' : World) (m : Memory) (s : Store)
+inputs-stored : (K : Shape) (inputs : List (Option Value)) (v : ℕ) (w w' : World) (m : CMemory) (s : Store)
     → Fits K.tree K.names w → AreInputValues K.names v inputs → AreSet v inputs w w' → m.vals ≡ w.vals
     → Represents K None m s → HasStored K m v inputs w w' s
 inputs-stored K [] v w w' m s fit values sets e h = record {
@@ -163,7 +163,7 @@ inputs-stored K (Some value ∷ inputs) v w w' m s fit values sets e h =
     }
 
 -- no step is used yet, and the struct says so where steps are counted
-cleared-goes : (K : Shape) (int : Width) → bits int ≤ 32 → (calls : Calls) (k : ℕ) (rest : Block) (m : Memory)
+cleared-goes : (K : Shape) (int : Width) → bits int ≤ 32 → (calls : Calls) (k : ℕ) (rest : Block) (m : CMemory)
     (s : Store) (l : Locals) → Represents K None m s → length m.vals ≡ length K.names.vars
     → (s' : Store) × (outcome int calls k (clear_used_c K rest) s l ≡ outcome int calls k rest s' l)
     × Represents K None (record m { used = 0 }) s'
@@ -223,7 +223,7 @@ module _ (k : Code) (T : Tests) (b : Bounds) (room : ℕ) (bodies : ℕ → plan
       (length k.procedures.procs + 8) 1 count
 
   -- what is returned, for the moment to which code leads
-  told-same : (now : Now) (fuel p : ℕ) (start : Machine) (s : Store)
+  told-same : (now : Now) (fuel p : ℕ) (start : CodeState) (s : Store)
       (e : EndsAsCode k T b room (file_of k T b room bodies) int fuel p now start s) (m : Moment) → e.moment ≡ m
       → Returns e.after (record { type = Truth; value = one_if (not (nat_eq e.result bad)) })
       ≡ Returns e.after (record { type = Truth; value = one_if (not (is_some m.fault)) })
@@ -232,7 +232,7 @@ module _ (k : Code) (T : Tests) (b : Bounds) (room : ℕ) (bodies : ℕ → plan
       (tells-same e.moment.fault e.result e.tells ∙ ap (λ (m : Moment). is_some m.fault) same)
 
   -- where a run leads to a moment it may end so
-  only-ends : (start : Machine) (m : Moment) → Leads (program_of k b) start m → MayEndIn T room m
+  only-ends : (start : CodeState) (m : Moment) → Leads (program_of k b) start m → MayEndIn T room m
       → (moment : Moment) → Leads (program_of k b) start moment → MayEndIn T room moment
   only-ends start m leads may moment other =
       subst (λ (m : Moment). MayEndIn T room m) (sym (one_end other leads)) may

@@ -13,7 +13,7 @@ use Rattle.c_subset.specs.declared.trees.CType.{CType}
 use Rattle.c_subset.specs.Meaning.{bits, CValue, Meaning, gives, converted, promoted, Store, Locals, meaning}
 use Rattle.c_subset.specs.Running.{Outcome, Returns, Calls, with_value, with_local, no_locals, with_values, called}
 use Rattle.c_subset.specs.Running.{selected, returned, run, outcome, call}
-use Rattle.c_procedures.specs.Statements.{Memory, Out, Fell, Left, Failed, Starved, Wrong}
+use Rattle.c_procedures.specs.Statements.{CMemory, Out, Fell, Left, Failed, Starved, Wrong}
 use Rattle.c_procedures.specs.Meaning as p
 use Rattle.c_functions.specs.Plans.{Shape, noted_function, event_number, bad, word}
 use Rattle.c_functions.specs.Plans.{event_local, depth_local, base_local, home_local, result_local, cases_of}
@@ -171,7 +171,7 @@ module _ (K : Shape) (int : Width) (fit : IsFit K int) (file : File)
 
   -- with one unit of fuel more than the procedures
   pub notes-follow : (h : ℕ → ℕ) (most : ℕ) (plans : p.Calls) (n : ℕ)
-      → ((q base home r : ℕ) (now : Now) (m : Memory)
+      → ((q base home r : ℕ) (now : Now) (m : CMemory)
       → p.closed (plans q now base home r m) ≡ plans q now base home r m)
       → ProceduresFollow K h most plans (call file int n) → NotesFollow K h most plans (call file int (suc n))
   notes-follow h most plans n closes follow q base home r now m s is can =

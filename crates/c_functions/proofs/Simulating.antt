@@ -18,7 +18,7 @@ use Rattle.c_subset.specs.Meaning.{one_if, Store, Locals}
 use Rattle.c_subset.specs.Running.{Outcome, Calls, outcome}
 use Rattle.c_expressions.specs.Claims.{Has}
 use Rattle.c_procedures.specs.States.{is_or, or_parent}
-use Rattle.c_procedures.specs.Statements.{Memory, Locals as Inner, Check, Out}
+use Rattle.c_procedures.specs.Statements.{CMemory, Locals as Inner, Check, Out}
 use Rattle.c_procedures.specs.Statements as plan
 use Rattle.c_procedures.specs.Meaning as p
 use Rattle.c_procedures.specs.Meaning.{check, exec}
@@ -122,13 +122,13 @@ module _ (K : Shape) (int : Width) (fit : IsFit K int) (bodies : ℕ → plan.Bl
     (fuel : turns_left < k) (react : ℕ) (react_there : react < K.procs)
     (parents : (s q : ℕ) → s < state_count K.tree → parent_of K.tree s ≡ Some q → q < state_count K.tree)
     (height : ℕ) (space : c0 + suc height ≤ suc u0 * suc most) where
-  abbrev X : plan.Block → Memory → Inner → Out
+  abbrev X : plan.Block → CMemory → Inner → Out
   X a m l = exec (program_c K bodies) call turns_left now a m l
 
   abbrev Y : Block → Store → Locals → Outcome
   Y a s loc = outcome int calls k a s loc
 
-  abbrev At : Memory → Inner → Store → Locals → Type 0
+  abbrev At : CMemory → Inner → Store → Locals → Type 0
   At m l s loc = IsAt K c0 u0 p0 now c0 m l s loc
 
   -- statements and their C
@@ -162,7 +162,7 @@ module _ (K : Shape) (int : Width) (fit : IsFit K int) (bodies : ℕ → plan.Bl
 
   -- an `if` over a test without arithmetic
   if-does : (a : Check) (x y rest : plan.Block)
-      → ((m : Memory) (l : Inner) (s : Store) (loc : Locals) → At m l s loc
+      → ((m : CMemory) (l : Inner) (s : Store) (loc : Locals) → At m l s loc
       → Has int s loc (check_c K a) (one_if (check (program_c K bodies) a m now l)))
       → Does x → Does y → Does rest → Does (plan.If (plan.Simple a) x y rest)
   if-does a x y rest tells one other go m l s loc at =
@@ -218,7 +218,7 @@ module _ (K : Shape) (int : Width) (fit : IsFit K int) (bodies : ℕ → plan.Bl
       q tag rest fails lt noted go m l s loc at (omega (arith, space, more, lower))
 
   -- room for one more call after a step
-  paid-room : (m : Memory) (q : ℕ) → u0 ≤ m.used → c0 + suc (suc (h q)) ≤ suc (m.used + 1) * suc most
+  paid-room : (m : CMemory) (q : ℕ) → u0 ≤ m.used → c0 + suc (suc (h q)) ≤ suc (m.used + 1) * suc most
   paid-room m q u =
       let more = more-room u0 m.used most u in
       let twice : suc (m.used + 1) * suc most ≡ suc m.used * suc most + suc most = grind arith in
@@ -283,7 +283,7 @@ module _ (K : Shape) (int : Width) (fit : IsFit K int) (bodies : ℕ → plan.Bl
 
   -- ---- results
 
-  left-at : (m : Memory) (l : Inner) (s : Store) (loc : Locals) (r : ℕ) → At m l s loc → r < bad
+  left-at : (m : CMemory) (l : Inner) (s : Store) (loc : Locals) (r : ℕ) → At m l s loc → r < bad
       → HasLeft K c0 u0 m r s
   left-at m l s loc r at small = record {
     shows = at.shows;

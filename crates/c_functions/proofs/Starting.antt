@@ -29,7 +29,7 @@ use Rattle.c_subset.proofs.TypeLemmas.{truth-stays}
 use Rattle.c_expressions.specs.Claims.{field_type, Has}
 use Rattle.c_expressions.proofs.Fields.{field-takes}
 use Rattle.c_procedures.specs.States.{no_fields}
-use Rattle.c_procedures.specs.Statements.{Memory}
+use Rattle.c_procedures.specs.Statements.{CMemory}
 use Rattle.c_functions.specs.Layout.{HoldsStates, or_count, or_rank}
 use Rattle.c_functions.specs.Plans.{Shape, layout, word, number, bad, result_local, out_row, note_row}
 use Rattle.c_functions.specs.Files.{HasWord, HasRow, Represents}
@@ -201,7 +201,7 @@ falses-or (suc n) zero = refl
 falses-or (suc n) (suc p) = falses-or n p
 
 -- the memory before the start
-abbrev pub memory_before : Shape → Memory
+abbrev pub memory_before : Shape → CMemory
 memory_before K = record {
   states = no_fields K.tree;
   vals = initial K.names;

@@ -17,7 +17,7 @@ use Rattle.c_subset.proofs.TypeLemmas.{truth-stays}
 use Rattle.c_expressions.specs.Claims.{Has, AgreeBelow}
 use Rattle.c_expressions.specs.Code.{Divides}
 use Rattle.c_procedures.specs.States.{States, c_on, c_bare}
-use Rattle.c_procedures.specs.Statements.{Memory, Locals as Inner, Check, Out, Fell, Left, Failed, Starved, Wrong}
+use Rattle.c_procedures.specs.Statements.{CMemory, Locals as Inner, Check, Out, Fell, Left, Failed, Starved, Wrong}
 use Rattle.c_procedures.specs.Statements as plan
 use Rattle.c_procedures.specs.Meaning as p
 use Rattle.c_procedures.specs.Meaning.{check, exec}
@@ -51,7 +51,7 @@ six a b c d e q =
     unsigned W32 a ∷ unsigned W32 b ∷ unsigned W32 c ∷ unsigned W32 d ∷ unsigned W32 e ∷ unsigned W32 q ∷ []
 
 -- what a call needs: its notes leave room for the calls that it can make, by the heights h of procedures
-pub record CanCall (K : Shape) (h : ℕ → ℕ) (most : ℕ) (q base home r : ℕ) (now : Now) (m : Memory) (s : Store)
+pub record CanCall (K : Shape) (h : ℕ → ℕ) (most : ℕ) (q base home r : ℕ) (now : Now) (m : CMemory) (s : Store)
     : Type 0 where
   pub proc : q < K.procs
   pub shows : Represents K None m s
@@ -65,19 +65,19 @@ pub record CanCall (K : Shape) (h : ℕ → ℕ) (most : ℕ) (q base home r : �
 
 -- functions of procedures do what the plans do
 abbrev pub ProceduresFollow : Shape → (ℕ → ℕ) → ℕ → p.Calls → Calls → Type 0
-ProceduresFollow K h most call calls = (q base home r : ℕ) (now : Now) (m : Memory) (s : Store)
+ProceduresFollow K h most call calls = (q base home r : ℕ) (now : Now) (m : CMemory) (s : Store)
     → CanCall K h most q base home r now m s
     → EndsCall K (length m.notes) m.used (K.tests.after q) (call q now base home r m)
     (calls q (five (event_number K.names now.event) now.depth base home r) s)
 
 -- the function that calls a noted procedure does what that procedure's plan does
 abbrev pub NotesFollow : Shape → (ℕ → ℕ) → ℕ → p.Calls → Calls → Type 0
-NotesFollow K h most call calls = (q base home r : ℕ) (now : Now) (m : Memory) (s : Store) → IsIn K.noted q
+NotesFollow K h most call calls = (q base home r : ℕ) (now : Now) (m : CMemory) (s : Store) → IsIn K.noted q
     → CanCall K h most q base home r now m s
     → EndsCall K (length m.notes) m.used (K.tests.after q) (call q now base home r m)
     (calls (noted_function K) (six (event_number K.names now.event) now.depth base home r q) s)
 
--- the calls of a file: those of procedures, which keep what was put out, of noted ones, of the home, and of flow_divW
+-- the calls of a file: those of procedures, which keep what was emitted, of noted ones, of the home, and of flow_divW
 pub record HasCalls (K : Shape) (h : ℕ → ℕ) (most : ℕ) (call : p.Calls) (calls : Calls) : Type 0 where
   pub procedures : ProceduresFollow K h most call calls
   pub keep : CallsKeep call
@@ -103,23 +103,23 @@ self-same a = grind (arith, nat_tests)
 
 module _ (K : Shape) (int : Width) (fit : IsFit K int) (bodies : ℕ → plan.Block) (call : p.Calls) (turns_left : ℕ)
     (calls : Calls) (k : ℕ) (c0 u0 : ℕ) (f0 p0 : Bool) (now : Now) where
-  abbrev X : plan.Block → Memory → Inner → Out
+  abbrev X : plan.Block → CMemory → Inner → Out
   X a m l = exec (program_c K bodies) call turns_left now a m l
 
   abbrev Y : Block → Store → Locals → Outcome
   Y a s loc = outcome int calls k a s loc
 
-  abbrev At : ℕ → Memory → Inner → Store → Locals → Type 0
+  abbrev At : ℕ → CMemory → Inner → Store → Locals → Type 0
   At c m l s loc = IsAt K c0 u0 p0 now c m l s loc
 
-  abbrev Goes : ℕ → (Memory → Inner → Store → Locals → Type 0) → plan.Block → Type 0
+  abbrev Goes : ℕ → (CMemory → Inner → Store → Locals → Type 0) → plan.Block → Type 0
   Goes c R a = Follows K c0 u0 f0 (At c) R (X a) (Y (plan_c K a))
 
-  abbrev EndsIn : (Memory → Inner → Store → Locals → Type 0) → Out → Outcome → Type 0
+  abbrev EndsIn : (CMemory → Inner → Store → Locals → Type 0) → Out → Outcome → Type 0
   EndsIn R o o' = Ends K c0 u0 f0 R o o'
 
   -- other locals that agree
-  pub at-locals : (c : ℕ) (m : Memory) (l : Inner) (s : Store) (loc after : Locals) → AgreeBelow 6 loc after
+  pub at-locals : (c : ℕ) (m : CMemory) (l : Inner) (s : Store) (loc after : Locals) → AgreeBelow 6 loc after
       → At c m l s loc → At c m l s after
   at-locals c m l s loc after agree h = record {
     shows = h.shows;
@@ -139,7 +139,7 @@ module _ (K : Shape) (int : Width) (fit : IsFit K int) (bodies : ℕ → plan.Bl
   }
 
   -- a result that a call gave
-  pub at-result : (c : ℕ) (m v : Memory) (l : Inner) (s s' : Store) (loc : Locals) (r : ℕ) → At c m l s loc
+  pub at-result : (c : ℕ) (m v : CMemory) (l : Inner) (s s' : Store) (loc : Locals) (r : ℕ) → At c m l s loc
       → HasLeft K c m.used v r s' → At c v (record l { result = r }) s' (with_local loc word 4 (pos r))
   at-result c m v l s s' loc r h left = record {
     shows = left.shows;
@@ -192,9 +192,9 @@ module _ (K : Shape) (int : Width) (fit : IsFit K int) (bodies : ℕ → plan.Bl
 
   -- a call, the test of what it gave, and other statements; the called function is one whose result is tested, as f1
   -- tells
-  pub called-ends : (R : Memory → Inner → Store → Locals → Type 0) (b f1 : Bool) → (f1 ≡ true → b ≡ true)
-      → (f1 ≡ true → f0 ≡ true) → (c : ℕ) (o : Out) (o' : Outcome) (m : Memory) (l : Inner) (s : Store) (loc : Locals)
-      (f : Memory → Inner → Out) (rest : Block) → At c m l s loc → EndsCall K c m.used f1 o o' → StatementsKeep f
+  pub called-ends : (R : CMemory → Inner → Store → Locals → Type 0) (b f1 : Bool) → (f1 ≡ true → b ≡ true)
+      → (f1 ≡ true → f0 ≡ true) → (c : ℕ) (o : Out) (o' : Outcome) (m : CMemory) (l : Inner) (s : Store) (loc : Locals)
+      (f : CMemory → Inner → Out) (rest : Block) → At c m l s loc → EndsCall K c m.used f1 o o' → StatementsKeep f
       → Follows K c0 u0 f0 (At c) R f (Y rest)
       → EndsIn R (p.and_with o (λ v r. f v (record l { result = r })))
       (called o' word 4 loc (λ v z. Y (cond b (unless_bad rest) rest) v z))
@@ -225,8 +225,8 @@ module _ (K : Shape) (int : Width) (fit : IsFit K int) (bodies : ℕ → plan.Bl
   -- ---- branches
 
   -- one of two ways, and other statements
-  pub branch-ends : (R : Memory → Inner → Store → Locals → Type 0) (e : CExpr) (b : Bool) (x y rest : plan.Block)
-      (m : Memory) (l : Inner) (s : Store) (loc : Locals) → Has int s loc e (one_if b)
+  pub branch-ends : (R : CMemory → Inner → Store → Locals → Type 0) (e : CExpr) (b : Bool) (x y rest : plan.Block)
+      (m : CMemory) (l : Inner) (s : Store) (loc : Locals) → Has int s loc e (one_if b)
       → (b ≡ true → EndsIn (At c0) (X x m l) (Y (plan_c K x) s loc))
       → (b ≡ false → EndsIn (At c0) (X y m l) (Y (plan_c K y) s loc)) → CallsKeep call → Goes c0 R rest
       → EndsIn R (p.and_on (p.branch (Ok b) m (X x m l) (X y m l)) (X rest))
@@ -243,7 +243,7 @@ module _ (K : Shape) (int : Width) (fit : IsFit K int) (bodies : ℕ → plan.Bl
       at true e = one e
       at false e = other e
 
-  pub if-ends : (R : Memory → Inner → Store → Locals → Type 0) (a : Check) (x y rest : plan.Block) (m : Memory)
+  pub if-ends : (R : CMemory → Inner → Store → Locals → Type 0) (a : Check) (x y rest : plan.Block) (m : CMemory)
       (l : Inner) (s : Store) (loc : Locals)
       → Has int s loc (check_c K a) (one_if (check (program_c K bodies) a m now l))
       → (check (program_c K bodies) a m now l ≡ true → EndsIn (At c0) (X x m l) (Y (plan_c K x) s loc))
@@ -267,7 +267,7 @@ module _ (K : Shape) (int : Width) (fit : IsFit K int) (bodies : ℕ → plan.Bl
       ∙ ap (λ (c : Bool). Y rest s (with_local loc Truth 6 (one_if c))) (truth-stays b)
 
   -- a test of depth
-  pub deep-ends : (R : Memory → Inner → Store → Locals → Type 0) (c : ℕ) (rest : plan.Block) (m : Memory) (l : Inner)
+  pub deep-ends : (R : CMemory → Inner → Store → Locals → Type 0) (c : ℕ) (rest : plan.Block) (m : CMemory) (l : Inner)
       (s : Store) (loc : Locals) → (K.tests.depth ≡ true → f0 ≡ true) → At c m l s loc → now.depth ≤ K.bounds.depth
       → (now.depth < K.bounds.depth → EndsIn R (X rest m l) (Y (plan_c K rest) s loc))
       → EndsIn R (X (plan.Deep rest) m l) (Y (plan_c K (plan.Deep rest)) s loc)
@@ -305,7 +305,7 @@ module _ (K : Shape) (int : Width) (fit : IsFit K int) (bodies : ℕ → plan.Bl
       by false off = untold off (nat_le K.bounds.depth now.depth) refl
 
   -- the home is set
-  pub home-ends : (R : Memory → Inner → Store → Locals → Type 0) (c q : ℕ) (rest : plan.Block)
+  pub home-ends : (R : CMemory → Inner → Store → Locals → Type 0) (c q : ℕ) (rest : plan.Block)
       → q < state_count K.tree → Goes c R rest → Goes c R (plan.SetHome q rest)
   unfolding exec plan_c
   home-ends R c q rest lt go m l s loc h =
@@ -330,7 +330,7 @@ module _ (K : Shape) (int : Width) (fit : IsFit K int) (bodies : ℕ → plan.Bl
       }))
 
   -- the base is set
-  pub base-ends : (R : Memory → Inner → Store → Locals → Type 0) (rest : plan.Block) → Goes c0 R rest
+  pub base-ends : (R : CMemory → Inner → Store → Locals → Type 0) (rest : plan.Block) → Goes c0 R rest
       → Goes c0 R (plan.SetBase rest)
   unfolding exec plan_c
   base-ends R rest go m l s loc h =

@@ -9,7 +9,7 @@ use Rattle.c_subset.specs.Meaning.{CValue, Object, Store}
 use Rattle.c_subset.specs.Running.{object_of, with_field, with_element}
 use Rattle.c_expressions.specs.Claims.{ShowsData}
 use Rattle.c_procedures.specs.States.{States}
-use Rattle.c_procedures.specs.Statements.{Memory}
+use Rattle.c_procedures.specs.Statements.{CMemory}
 use Rattle.c_procedures.specs.Meaning.{front}
 use Rattle.c_functions.specs.Layout.{HoldsStates}
 use Rattle.c_functions.specs.Plans.{Shape, layout, used_field, outs_field, noted_field, fault_field, fault_datum_field}
@@ -48,7 +48,7 @@ data-kept : (K : Shape) (vals : List Datum) (s : Store) (f : ℕ) (v : CValue) �
 data-kept K vals s f v above h =
     λ u lt. set-other s.fields f u (object_of v) (λ e. absurd (omega (arith, lt, above, e))) ∙ h u lt
 
-module _ (K : Shape) (x : Option Fault) (m : Memory) (s : Store) (h : Represents K x m s)
+module _ (K : Shape) (x : Option Fault) (m : CMemory) (s : Store) (h : Represents K x m s)
     (long : length m.vals ≡ length K.names.vars) where
   -- a step more is used
   pub used-put : (a : ℕ) → a < 2 ^ 32
@@ -79,7 +79,7 @@ module _ (K : Shape) (x : Option Fault) (m : Memory) (s : Store) (h : Represents
     note = h.note;
   }
 
-  -- an event is put out
+  -- an event is emitted
   pub out-put : (e : ℕ) → length m.outputs < K.outputs → length m.outputs + 1 < 2 ^ 32
       → Represents K x (record m { outputs = m.outputs ++ e ∷ [] })
       (with_field (with_element s out_row (pos (length m.outputs)) (unsigned W32 e)) (outs_field K)
@@ -135,7 +135,7 @@ module _ (K : Shape) (x : Option Fault) (m : Memory) (s : Store) (h : Represents
     note = row-front s.rows note_row K.notes m.notes h.note;
   }
 
-  -- nothing is put out yet
+  -- nothing is emitted yet
   pub out-clear : Represents K x (record m { outputs = [] }) (with_field s (outs_field K) (unsigned W32 0))
   out-clear = record {
     states = states-kept K m.states s (outs_field K) (unsigned W32 0) s.rows (omega arith) h.states;

@@ -16,7 +16,7 @@ use Rattle.c_subset.specs.Trees as c
 use Rattle.c_subset.specs.Meaning.{Object, Store}
 use Rattle.c_subset.specs.Helpers.{floor_function}
 use Rattle.c_expressions.specs.Claims.{ShowsData}
-use Rattle.c_procedures.specs.Statements.{Memory}
+use Rattle.c_procedures.specs.Statements.{CMemory}
 use Rattle.c_procedures.specs.Statements as plan
 use Rattle.c_functions.specs.Layout.{HoldsStates, on_c, bare_c}
 use Rattle.c_functions.specs.Notes.{noted_in}
@@ -105,7 +105,7 @@ pub record HasRow (rows : List (List Object)) (a size : ℕ) (xs : List ℕ) : T
       → slice_get row i ≡ Some (record { type = word; value = Some (pos x) })
 
 -- the struct shows the memory of a plan, but for steps that aren't counted, and a fault or none
-pub record Represents (K : Shape) (fault : Option Fault) (m : Memory) (s : Store) : Type 0 where
+pub record Represents (K : Shape) (fault : Option Fault) (m : CMemory) (s : Store) : Type 0 where
   pub states : HoldsStates K.tree (layout K) m.states s
   pub vals : ShowsData m.vals s
   pub used : K.tests.steps ≡ true → HasWord s.fields (used_field K) m.used

@@ -7,13 +7,13 @@ use Rattle.actions.specs.Runs.{Moment}
 use Rattle.actions.specs.Work.{Now}
 use Rattle.code_language.specs.Code.{Code, fetch}
 use Rattle.code_language.specs.Instrs.{Unless, Result, Ret}
-use Rattle.code_language.specs.Machine.{Machine}
+use Rattle.code_language.specs.Machine.{CodeState}
 use Rattle.code_language.specs.Reactions.{Leads, program_of}
 use Rattle.c_subset.specs.Trees.{Function, File}
 use Rattle.c_subset.specs.declared.trees.Width.{Width}
 use Rattle.c_subset.specs.Meaning.{CValue, Store}
 use Rattle.c_subset.specs.Running.{Returns, call}
-use Rattle.c_procedures.specs.Statements.{Memory}
+use Rattle.c_procedures.specs.Statements.{CMemory}
 use Rattle.c_procedures.specs.Runs.{Stands}
 use Rattle.c_functions.specs.Plans.{Shape, Tests, event_number, word, bad}
 use Rattle.c_functions.specs.Files.{Represents, shape_of}
@@ -31,7 +31,7 @@ MayEnd T (Some faults.Steps) = T.steps ≡ true
 MayEnd T (Some (faults.Overflow v)) = Unit {0}
 MayEnd T (Some faults.Zero) = Unit {0}
 
--- a run may end in that moment: so, and where out[] has room for what was put out
+-- a run may end in that moment: so, and where out[] has room for what was emitted
 pub record MayEndIn (T : Tests) (room : ℕ) (moment : Moment) : Type 0 where
   pub fault : MayEnd T moment.fault
   pub outputs : length moment.world.outputs ≤ room
@@ -43,7 +43,7 @@ pub record BeginsWith (file : File) (functions : List Function) : Type 0 where
 
 -- the struct shows a moment: some memory stands for its world, and the struct shows that memory and the fault
 pub record ShowsMoment (K : Shape) (moment : Moment) (s : Store) : Type 0 where
-  pub memory : Memory
+  pub memory : CMemory
   pub stands : Stands K.tree K.numbers memory moment.world
   pub represents : Represents K moment.fault memory s
 
@@ -64,7 +64,7 @@ arguments_c e d b h r =
 -- code leads to a moment, and the call of the procedure's function returns, tells whether there was a fault, and leaves
 -- a struct that shows the moment
 pub record EndsAsCode (k : Code) (T : Tests) (b : Bounds) (room : ℕ) (file : File) (int : Width) (fuel p : ℕ)
-    (now : Now) (start : Machine) (s : Store) : Type 0 where
+    (now : Now) (start : CodeState) (s : Store) : Type 0 where
   pub moment : Moment
   pub leads : Leads (program_of k b) start moment
   pub after : Store

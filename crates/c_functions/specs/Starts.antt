@@ -70,7 +70,7 @@ start_c K p = record {
 abbrev pub clear_used_c : Shape → Block → Block
 clear_used_c K rest = if K.tests.steps then c.Store (used_field K) (number 0) rest else rest
 
--- a reaction has no step used, nothing put out and no notes, and calls its procedure for the event
+-- a reaction has no step used, nothing emitted and no notes, and calls its procedure for the event
 abbrev pub react_c : Shape → ℕ → Function
 react_c K p = record {
   result = Truth;

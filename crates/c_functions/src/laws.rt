@@ -21,7 +21,7 @@ ghost use Rattle.std.specs.List.{AllByRecursion};
 ghost use Rattle.code_language.specs.WellFormed.{IsCode};
 ghost use Rattle.code_costs.specs.Ahead.{IsOver};
 ghost use Rattle.code_costs.specs.Moments.{HasStateNames, IsMoment};
-ghost use Rattle.c_procedures.specs.Statements.{Memory, Block as Plan};
+ghost use Rattle.c_procedures.specs.Statements.{CMemory, Block as Body};
 ghost use Rattle.c_procedures.specs.Runs.{Stands};
 ghost use Rattle.c_procedures.specs.Written.{AreWritten};
 ghost use Rattle.c_functions.specs.Files.{Represents, shape_of, functions_c};
@@ -89,11 +89,11 @@ pub fn states_have_places()
 /// it is never wrong. Twice, because a noted procedure is called through one more function. The
 /// call leaves a struct that shows the moment to which the run leads, and returns a result below
 /// BAD, or BAD where the moment has a fault. So it is where the run isn't ended by a bound that
-/// isn't tested, `out[]` has room for what it puts out, and the result of each procedure that can
+/// isn't tested, `out[]` has room for what it emits, and the result of each procedure that can
 /// fail is tested.
 pub fn functions_end_as_code()
-    ensures { (k : Code) (T : Tests) (b : Bounds) (room : ℕ) (bodies : ℕ → Plan) (file : File)
-        (int : Width) (fuel p : ℕ) (now : Now) (m : Memory) (w : World) (s : Store) → IsCode k →
+    ensures { (k : Code) (T : Tests) (b : Bounds) (room : ℕ) (bodies : ℕ → Body) (file : File)
+        (int : Width) (fuel p : ℕ) (now : Now) (m : CMemory) (w : World) (s : Store) → IsCode k →
         HasStateNames k → HasSmallResults k → AfterIsRight T k →
         AreWritten k.tree (λ x. suc x) k.procedures bodies →
         BeginsWith file (functions_c (shape_of k T b room) bodies) → bits int ≤ 32 →
@@ -113,7 +113,7 @@ pub fn functions_end_as_code()
 /// out, and the result of each procedure that can fail is tested. A struct without values is such a
 /// struct.
 pub fn files_run_as_code()
-    ensures runs { (k : Code) (T : Tests) (b : Bounds) (room : ℕ) (bodies : ℕ → Plan) (int : Width)
+    ensures runs { (k : Code) (T : Tests) (b : Bounds) (room : ℕ) (bodies : ℕ → Body) (int : Width)
         (s : Store) (events : List EventWithInputs) (moments : List Moment) → IsCode k →
         HasStateNames k → HasSmallResults k →
         AreWritten k.tree (λ x. suc x) k.procedures bodies → bits int ≤ 32 →
@@ -121,6 +121,6 @@ pub fn files_run_as_code()
         AllGiven k.names events → CodeRun k b events moments →
         AllByRecursion (MayEndIn T room) moments →
         RunsOn (shape_of k T b room) (file_of k T b room bodies) int s events moments }
-    ensures unset { (k : Code) (T : Tests) (b : Bounds) (room : ℕ) (bodies : ℕ → Plan) →
+    ensures unset { (k : Code) (T : Tests) (b : Bounds) (room : ℕ) (bodies : ℕ → Body) →
         HasShape (shape_of k T b room) (no_values (file_of k T b room bodies)) }
 {}

@@ -35,7 +35,7 @@ fn print_tick(out: &mut String, chart: &str, events: &[EventDecl]) -> Result<(),
     print_define(out, chart, "_", "TICK", events.len() as u64)
 }
 
-/// Appends the numbers of events that come from outside or are put out.
+/// Appends the numbers of events that come from outside or are emitted.
 fn print_event_lines(out: &mut String, chart: &str, events: &[EventDecl]) -> Result<(), AllocError>
     ensures { OnOk result (string_bytes out.new
         ≡ string_bytes out.old ++ spec.event_lines chart.now 0 events.now) }

@@ -16,7 +16,7 @@ use Rattle.actions.specs.Values.{Valued, value_of}
 use Rattle.actions.specs.World.{World}
 use Rattle.actions.specs.Changes.{truth_of, assigned_in, assigned_value, with_data}
 use Rattle.c_procedures.specs.States.{States, Numbers, Shows, number, c_on}
-use Rattle.c_procedures.specs.Statements.{Memory}
+use Rattle.c_procedures.specs.Statements.{CMemory}
 use Rattle.c_procedures.specs.Runs.{Stands, Stored, Agree, told, world_of, with_vals, own_sums}
 use Rattle.c_procedures.proofs.Showing.{on_is, same_self, differ}
 
@@ -58,7 +58,7 @@ module _ (t : Tree) (n : ℕ → ℕ) (num : Numbers t n) where
         (λ l. record { flags = m.flags; last = l }) (sym b)
 
   -- memory tells the world that it stands for
-  pub world_is : (m : Memory) (w : World) → Stands t n m w → world_of t n m ≡ w
+  pub world_is : (m : CMemory) (w : World) → Stands t n m w → world_of t n m ≡ w
   world_is m w h =
       ap (λ x. record { marks = x; vals = m.vals; outputs = m.outputs; used = m.used })
       (told_is m.states w.marks h.consistent h.states)
@@ -66,7 +66,7 @@ module _ (t : Tree) (n : ℕ → ℕ) (num : Numbers t n) where
       ∙ ap (λ x. record { marks = w.marks; vals = w.vals; outputs = x; used = m.used }) h.outputs
       ∙ ap (λ x. record { marks = w.marks; vals = w.vals; outputs = w.outputs; used = x }) h.used
 
-  stored_is : (v : ℕ) (x : Expr) (m : Memory) (w : World) → Stands t n m w
+  stored_is : (v : ℕ) (x : Expr) (m : CMemory) (w : World) → Stands t n m w
       → Stored t n m (with_vals m (assigned_in v x w)) (assigned_in v x w)
   unfolding assigned_in
   stored_is v x m w h = by (value_of w.vals w.marks x)

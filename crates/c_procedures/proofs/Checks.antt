@@ -7,12 +7,12 @@ use Rattle.active_config.specs.Tree.{parent_of, comp_of, children_of}
 use Rattle.actions.specs.Work.{Now}
 use Rattle.c_procedures.specs.States.{is_or, or_parent, c_on, on_by, c_bare, childless_by, c_last, last_by, c_takes}
 use Rattle.c_procedures.specs.States.{c_set, c_unset, c_mark, c_clear}
-use Rattle.c_procedures.specs.Statements.{Memory, Locals, Check, Out, Fell, End, Both, Not, Flag}
+use Rattle.c_procedures.specs.Statements.{CMemory, Locals, Check, Out, Fell, End, Both, Not, Flag}
 use Rattle.c_procedures.specs.Meaning.{CProgram, Calls, check, exec, branch, and_on, with_states}
 use Rattle.c_procedures.specs.Written.{and_no_flag, on_under, on_check, and_childless, bare_check, last_under, takes_if}
 use Rattle.c_procedures.specs.Written.{takes_check, set_block, unset_block}
 
-module _ (P : CProgram) (m : Memory) (now : Now) (l : Locals) where
+module _ (P : CProgram) (m : CMemory) (now : Now) (l : Locals) where
   -- a test and the flags after it
   and_no_flag_is : (a : Check) (xs : List ℕ) → check P (and_no_flag a xs) m now l
       ≡ (check P a m now l && not (list_any (λ x. slice_index_or m.states.flags x false) xs))
@@ -69,7 +69,7 @@ module _ (P : CProgram) (m : Memory) (now : Now) (l : Locals) where
   takes_test None = refl
   takes_test (Some p) = takes_if_is p (is_or (comp_of P.tree p))
 
-  module _ (call : Calls) (k : ℕ) (go : Memory → Locals → Out) where
+  module _ (call : Calls) (k : ℕ) (go : CMemory → Locals → Out) where
     set_runs : (s : ℕ) (o : Option ℕ) → exec P call k now (set_block P.numbers s o) m l ≡ Fell
         (with_states (c_set P.numbers s o m.states) m) l
     unfolding exec

@@ -6,13 +6,13 @@ use Rattle.active_config.specs.Tree.{Tree, state_count}
 use Rattle.actions.specs.World.{World}
 use Rattle.actions.specs.Work.{Now}
 use Rattle.code_language.specs.Code.{Procedures, instructions}
-use Rattle.code_language.specs.Machine.{Program, Machine, fresh}
+use Rattle.code_language.specs.Machine.{Program, CodeState, fresh}
 use Rattle.code_language.specs.Reactions.{first_frame}
 use Rattle.code_simulation.specs.Reach.{pending}
 use Rattle.code_simulation.proofs.Endings.{reached_leads, falls_leads}
 use Rattle.code_simulation.proofs.Notes.{pending_at, pending_past}
 use Rattle.c_procedures.specs.States.{Numbers}
-use Rattle.c_procedures.specs.Statements.{Memory, Block, Out, Fell, Left, Failed, Starved, Wrong}
+use Rattle.c_procedures.specs.Statements.{CMemory, Block, Out, Fell, Left, Failed, Starved, Wrong}
 use Rattle.c_procedures.specs.Meaning.{Sums, call_fn, begins}
 use Rattle.c_procedures.specs.Written.{AreWritten}
 use Rattle.c_procedures.specs.Runs.{Stands, Agree, IsAt, DoesCall, EndsWith}
@@ -29,7 +29,7 @@ no_notes zero p = pending_at 0 (fresh p None 0 0 None) [] (omega arith) ∙ ap (
 no_notes (suc j) p = pending_past (suc j) (fresh p None 0 0 None) [] (omega arith)
 
 -- the first frame
-first_at : (t : Tree) (n : ℕ → ℕ) (k : Procedures) (p : ℕ) (m : Memory) (w : World) → Stands t n m w → m.notes ≡ []
+first_at : (t : Tree) (n : ℕ → ℕ) (k : Procedures) (p : ℕ) (m : CMemory) (w : World) → Stands t n m w → m.notes ≡ []
     → IsAt t n k None None (instructions k p) m (begins 0 0 0) w 0 (fresh p None 0 0 None) []
 first_at t n k p m w h e = record {
   code = refl;
@@ -51,7 +51,7 @@ module _ (t : Tree) (n : ℕ → ℕ) (k : Procedures) (b : Bounds) where
   abbrev pub code : Program
   code = record { tree = t; bounds = b; procedures = k }
 
-  ends_with : (least : ℕ) (now : Now) (start : Machine) (o : Out) → DoesCall code n least now None None [] start o
+  ends_with : (least : ℕ) (now : Now) (start : CodeState) (o : Out) → DoesCall code n least now None None [] start o
       → EndsWith code n least start o
   ends_with least now start (Fell m l) h = h
   ends_with least now start (Left m r) h = record {
@@ -70,7 +70,7 @@ module _ (t : Tree) (n : ℕ → ℕ) (k : Procedures) (b : Bounds) where
   -- a call from outside
   pub called_outside : (num : Numbers t n) (same : length t.comps ≡ state_count t) (sums : Sums)
       (agree : Agree t n sums)
-      (bodies : ℕ → Block) (written : AreWritten t n k bodies) (fuel p : ℕ) (now : Now) (m : Memory) (w : World)
+      (bodies : ℕ → Block) (written : AreWritten t n k bodies) (fuel p : ℕ) (now : Now) (m : CMemory) (w : World)
       → Stands t n m w → m.notes ≡ []
       → EndsWith code n (pred fuel) (first_frame p w now)
       (call_fn (record { sums = sums; tree = t; numbers = n; bounds = b; bodies = bodies }) fuel p now 0 0 0 m)

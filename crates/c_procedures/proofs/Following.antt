@@ -7,13 +7,13 @@ use Rattle.actions.specs.declared.event.Event.{Event}
 use Rattle.actions.specs.Work.{Now}
 use Rattle.code_language.specs.Code.{Procedures, instructions, fetch}
 use Rattle.code_language.specs.Instrs.{Instr}
-use Rattle.code_language.specs.Machine.{Program, Frame, Machine, machine, later, Goes, step}
+use Rattle.code_language.specs.Machine.{Program, Frame, CodeState, machine, later, Goes, step}
 use Rattle.code_simulation.specs.Reach.{Reaches, with_note, pending, ReachesIn}
 use Rattle.code_simulation.proofs.Joins.{on_to, falls_on}
 use Rattle.code_simulation.proofs.Notes.{pending_at}
 use Rattle.actions.specs.World.{World}
 use Rattle.active_config.specs.Tree.{Tree}
-use Rattle.c_procedures.specs.Statements.{Memory, Locals, Out, Fell, Left, Failed, Starved, Wrong}
+use Rattle.c_procedures.specs.Statements.{CMemory, Locals, Out, Fell, Left, Failed, Starved, Wrong}
 use Rattle.c_procedures.specs.Meaning.{and_on}
 use Rattle.c_procedures.specs.Runs.{Stands, IsAt, GoesFor, Returned, Lost, Stuck}
 use Rattle.code_simulation.proofs.Steps.{one_step}
@@ -125,7 +125,7 @@ past_none (x ∷ xs) (suc j) e = omega (arith, past_none xs j e)
 
 module _ (C : Program) (n : ℕ → ℕ) (now : Now) (note : Option ℕ) (saved : Option Event) (fs : List Frame) where
   -- statements that fell through: code comes from the start to where these instructions follow
-  pub record Passed (start : Machine) (ys : List Instr) (m : Memory) (l : Locals) : Type 0 where
+  pub record Passed (start : CodeState) (ys : List Instr) (m : CMemory) (l : Locals) : Type 0 where
     pub world : World
     pub result : ℕ
     pub frame : Frame
@@ -135,7 +135,7 @@ module _ (C : Program) (n : ℕ → ℕ) (now : Now) (note : Option ℕ) (saved 
 module _ (C : Program) (n : ℕ → ℕ) (least : ℕ) (now : Now) (note : Option ℕ) (saved : Option Event)
     (fs : List Frame) where
   -- code does what statements did, from a start; where they were starved it goes on for so many steps
-  abbrev pub Does : Machine → List Instr → Out → Type 0
+  abbrev pub Does : CodeState → List Instr → Out → Type 0
   Does start ys (Fell m l) = Passed C n now note saved fs start ys m l
   Does start ys (Left m r) = Returned C n now note saved fs start m r
   Does start ys (Failed m x) = Lost C n now note saved fs start m x
@@ -145,14 +145,14 @@ module _ (C : Program) (n : ℕ → ℕ) (least : ℕ) (now : Now) (note : Optio
 -- ---- after some steps
 
 -- one stretch after another is no shorter than the second
-longer : (C : Program) (i j : ℕ) (m m' m'' : Machine) → ReachesIn C i m m' → ReachesIn C j m' m''
+longer : (C : Program) (i j : ℕ) (m m' m'' : CodeState) → ReachesIn C i m m' → ReachesIn C j m' m''
     → (x : ℕ) × ReachesIn C x m m'' × (j ≤ x)
 longer C zero j m m' m'' a b = (j, subst (λ x. ReachesIn C j x m'') (sym a) b, omega arith)
 longer C (suc i) j m m' m'' a b =
     let x = longer C i j a.0 m' m'' a.2 b in (suc x.0, (a.0, a.1, x.1), omega (arith, x.2))
 
 -- code that goes on goes on from before
-goes_on : (C : Program) (least : ℕ) (s s' : Machine) → Reaches C s s' → GoesFor C least s' → GoesFor C least s
+goes_on : (C : Program) (least : ℕ) (s s' : CodeState) → Reaches C s s' → GoesFor C least s' → GoesFor C least s
 goes_on C least s s' way h =
     let x = longer C way.steps h.steps s s' h.last way.by h.by in
     record { steps = x.0; last = h.last; by = x.1; enough = omega (arith, x.2, h.enough) }
@@ -160,7 +160,7 @@ goes_on C least s s' way h =
 module _ (C : Program) (n : ℕ → ℕ) (least : ℕ) (now : Now) (note : Option ℕ) (saved : Option Event)
     (fs : List Frame) where
   -- code comes to the start before
-  pub does_on : (s s' : Machine) (ys : List Instr) (o : Out) → Reaches C s s' → Does C n least now note saved fs s' ys o
+  pub does_on : (s s' : CodeState) (ys : List Instr) (o : Out) → Reaches C s s' → Does C n least now note saved fs s' ys o
       → Does C n least now note saved fs s ys o
   does_on s s' ys (Fell m l) way h =
       record { world = h.world; result = h.result; frame = h.frame; at = h.at; reached = on_to way h.reached }
@@ -172,7 +172,7 @@ module _ (C : Program) (n : ℕ → ℕ) (least : ℕ) (now : Now) (note : Optio
       record { last = h.last; reached = on_to way h.reached; frames = h.frames; stops = h.stops }
 
   -- by one step, which counts
-  pub does_step : (before : ℕ) (s s' : Machine) (ys : List Instr) (o : Out) → before ≤ suc least → step C s ≡ Goes s'
+  pub does_step : (before : ℕ) (s s' : CodeState) (ys : List Instr) (o : Out) → before ≤ suc least → step C s ≡ Goes s'
       → Does C n least now note saved fs s' ys o → Does C n before now note saved fs s ys o
   does_step before s s' ys (Fell m l) le e h = does_on s s' ys (Fell m l) (one_step e) h
   does_step before s s' ys (Left m r) le e h = does_on s s' ys (Left m r) (one_step e) h
@@ -182,7 +182,7 @@ module _ (C : Program) (n : ℕ → ℕ) (least : ℕ) (now : Now) (note : Optio
   does_step before s s' ys Wrong le e h = does_on s s' ys Wrong (one_step e) h
 
   -- fewer steps are asked for
-  pub does_less : (fewer : ℕ) (s : Machine) (ys : List Instr) (o : Out) → fewer ≤ least
+  pub does_less : (fewer : ℕ) (s : CodeState) (ys : List Instr) (o : Out) → fewer ≤ least
       → Does C n least now note saved fs s ys o → Does C n fewer now note saved fs s ys o
   does_less fewer s ys (Fell m l) le h = h
   does_less fewer s ys (Left m r) le h = h
@@ -197,9 +197,9 @@ module _ (C : Program) (n : ℕ → ℕ) (least : ℕ) (now : Now) (note : Optio
   does_less fewer s ys Wrong le h = h
 
   -- first some statements and then others
-  pub does_then : (s : Machine) (mid ys : List Instr) (o : Out) (go : Memory → Locals → Out)
+  pub does_then : (s : CodeState) (mid ys : List Instr) (o : Out) (go : CMemory → Locals → Out)
       → Does C n least now note saved fs s mid o
-      → ((m : Memory) (l : Locals) (w : World) (r : ℕ) (f : Frame)
+      → ((m : CMemory) (l : Locals) (w : World) (r : ℕ) (f : Frame)
       → IsAt C.tree n C.procedures note saved mid m l w r f fs
       → Does C n least now note saved fs (machine w now r (f ∷ fs)) ys (go m l))
       → Does C n least now note saved fs s ys (and_on o go)
@@ -214,10 +214,10 @@ module _ (C : Program) (n : ℕ → ℕ) (least : ℕ) (now : Now) (note : Optio
 -- ---- the function further on
 
 module _ (t : Tree) (n : ℕ → ℕ) (k : Procedures) (note : Option ℕ) (saved : Option Event) (xs ys : List Instr)
-    (m : Memory)
+    (m : CMemory)
     (l : Locals) (w : World) (r : ℕ) (f : Frame) (fs : List Frame) (h : IsAt t n k note saved xs m l w r f fs) where
   -- at another place, in another world with the same notes
-  pub moved : (i : ℕ) (m' : Memory) (w' : World) → drop i (instructions k f.proc) ≡ ys → Stands t n m' w' → m'.notes
+  pub moved : (i : ℕ) (m' : CMemory) (w' : World) → drop i (instructions k f.proc) ≡ ys → Stands t n m' w' → m'.notes
       ≡ m.notes
       → IsAt t n k note saved ys m' l w' r (record f { place = i }) fs
   moved i m' w' code stands same = record {

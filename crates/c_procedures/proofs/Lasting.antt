@@ -2,7 +2,7 @@
 use Rattle.std.proofs.Common.{◌≡◌, ℕ, zero, suc, ◌≤◌, refl, ap, ◌∙◌, subst, arith}
 use Rattle.flow_base.specs.declared.bounds.Bounds.{Bounds}
 use Rattle.code_language.specs.Code.{Code}
-use Rattle.code_language.specs.Machine.{Program, Machine, Next, Going, and_then, run}
+use Rattle.code_language.specs.Machine.{Program, CodeState, Next, Going, and_then, run}
 use Rattle.code_language.specs.Reactions.{program_of}
 use Rattle.code_language.specs.WellFormed.{IsCode}
 use Rattle.code_costs.specs.Ahead.{IsOver}
@@ -13,7 +13,7 @@ use Rattle.c_procedures.specs.Runs.{GoesFor, EndsWith, EndsAsCode}
 use Rattle.c_procedures.proofs.Staying.{never_stuck}
 
 -- a run of no more steps than were made goes on
-still_going : (C : Program) (least steps : ℕ) (m m' : Machine) → least ≤ steps → ReachesIn C steps m m'
+still_going : (C : Program) (least steps : ℕ) (m m' : CodeState) → least ≤ steps → ReachesIn C steps m m'
     → run C least m ≡ Going
 still_going C zero steps m m' le way = refl
 still_going C (suc least) zero m m' le way = absurd (omega (arith, le))
@@ -22,11 +22,11 @@ still_going C (suc least) (suc steps) m m' le way =
     ∙ still_going C least steps way.0 m' (omega (arith, le)) way.2
 
 -- a run that is over by then doesn't go on so long
-not_for : (C : Program) (least : ℕ) (m : Machine) → IsOver (run C least m) → GoesFor C least m → ⊥
+not_for : (C : Program) (least : ℕ) (m : CodeState) → IsOver (run C least m) → GoesFor C least m → ⊥
 not_for C least m over goes = subst IsOver (still_going C least goes.steps m goes.last goes.enough goes.by) over
 
 -- so a call from outside ends as code
-pub ends_as_code : (k : Code) (n : ℕ → ℕ) (b : Bounds) (least : ℕ) (start : Machine) (o : Out) → IsCode k
+pub ends_as_code : (k : Code) (n : ℕ → ℕ) (b : Bounds) (least : ℕ) (start : CodeState) (o : Out) → IsCode k
     → IsMoment k b start
     → IsOver (run (program_of k b) least start) → EndsWith (program_of k b) n least start o → EndsAsCode
     (program_of k b) n start o

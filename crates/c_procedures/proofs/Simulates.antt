@@ -14,7 +14,7 @@ use Rattle.active_config.specs.declared.comp.Comp.{Comp}
 use Rattle.active_config.specs.declared.comp.Comp.TheVariants.{Leaf, Or, And}
 use Rattle.active_config.proofs.MarksLemmas.{marked, cleared, remembered}
 use Rattle.actions.specs.declared.event.Event.{Event}
-use Rattle.actions.specs.World.{World, put_out}
+use Rattle.actions.specs.World.{World, emitted}
 use Rattle.actions.specs.Changes.{paid_in, assigned_in, mark_in, clear_in, keep_in, set_mark}
 use Rattle.actions.specs.Work.{Now, deeper}
 use Rattle.code_language.specs.Code.{Procedures, instructions, fetch}
@@ -22,7 +22,7 @@ use Rattle.code_language.specs.Instrs.{Cond, Instr}
 use Rattle.code_language.specs.Instrs as i
 use Rattle.code_language.specs.Machine as mach
 use Rattle.actions.specs.Exprs.{Expr}
-use Rattle.code_language.specs.Machine.{Program, Frame, Machine, machine, later, fresh, next, past, returned, holds}
+use Rattle.code_language.specs.Machine.{Program, Frame, CodeState, machine, later, fresh, next, past, returned, holds}
 use Rattle.code_simulation.specs.Reach.{Reaches, Falls, with_note, pending}
 use Rattle.code_simulation.proofs.Joins.{here}
 use Rattle.code_simulation.proofs.Notes.{pending_at, pending_past, IsHead, noted_head}
@@ -31,7 +31,7 @@ use Rattle.code_simulation.proofs.Steps.{go_pass_zero}
 use Rattle.code_simulation.proofs.Steps.{go_unless_true, go_unless_false, fall_unless, one_step, one_fall, go_play_none}
 use Rattle.code_simulation.proofs.Steps.{go_play_lame}
 use Rattle.c_procedures.specs.States.{Numbers, Shows, is_or, c_mark, c_clear, c_keep, keep_by}
-use Rattle.c_procedures.specs.Statements.{Memory, Locals, Block, Out, Fell, Left, Failed, Starved, Wrong}
+use Rattle.c_procedures.specs.Statements.{CMemory, Locals, Block, Out, Fell, Left, Failed, Starved, Wrong}
 use Rattle.c_procedures.specs.Statements as c
 use Rattle.c_procedures.specs.Meaning.{Sums, pay, turn, CProgram, Calls, check, truth_c, exec, branch, and_on, and_with}
 use Rattle.c_procedures.specs.Meaning.{and_stored, unless_met, turns, from_base, front, closed, with_states, begins}
@@ -60,7 +60,7 @@ module _ (t : Tree) (n : ℕ → ℕ) (num : Numbers t n) (same : length t.comps
 
   -- ---- changes of states
 
-  mark_stands : (s : ℕ) (m : Memory) (w : World) → s < state_count t → Stands t n m w
+  mark_stands : (s : ℕ) (m : CMemory) (w : World) → s < state_count t → Stands t n m w
       → Stands t n (with_states (c_mark t n s m.states) m) (mark_in t s w)
   unfolding mark_in
   mark_stands s m w lt h = at (can_mark t s w.marks) refl
@@ -80,7 +80,7 @@ module _ (t : Tree) (n : ℕ → ℕ) (num : Numbers t n) (same : length t.comps
       at false e sh =
           record { states = sh; consistent = h.consistent; vals = h.vals; outputs = h.outputs; used = h.used }
 
-  clear_stands : (s : ℕ) (m : Memory) (w : World) → s < state_count t → Stands t n m w
+  clear_stands : (s : ℕ) (m : CMemory) (w : World) → s < state_count t → Stands t n m w
       → Stands t n (with_states (c_clear t n s m.states) m) (clear_in t s w)
   unfolding clear_in
   clear_stands s m w lt h = at (is_bare t s w.marks) refl
@@ -105,7 +105,7 @@ module _ (t : Tree) (n : ℕ → ℕ) (num : Numbers t n) (same : length t.comps
   or_of Or h = refl
   or_of And h = absurd cc
 
-  keep_stands : (s : ℕ) (m : Memory) (w : World) → IsOrChild t s → Stands t n m w
+  keep_stands : (s : ℕ) (m : CMemory) (w : World) → IsOrChild t s → Stands t n m w
       → Stands t n (with_states (c_keep t n s m.states) m) (keep_in t s w)
   unfolding keep_in
   keep_stands s m w o h = record {
@@ -118,7 +118,7 @@ module _ (t : Tree) (n : ℕ → ℕ) (num : Numbers t n) (same : length t.comps
 
   -- ---- conditions
 
-  test_is : (x : Cond) (note : Option ℕ) (saved : Option Event) (xs : List Instr) (m : Memory) (l : Locals) (w : World)
+  test_is : (x : Cond) (note : Option ℕ) (saved : Option Event) (xs : List Instr) (m : CMemory) (l : Locals) (w : World)
       (now : Now) (r : ℕ) (f : Frame) (fs : List Frame)
       → IsAt t n k note saved xs m l w r f fs → truth_c prog (test_of t n x) m now l ≡ holds t x w now r f.home
   unfolding holds
@@ -140,11 +140,11 @@ module _ (t : Tree) (n : ℕ → ℕ) (num : Numbers t n) (same : length t.comps
       (calls : CallsDo code n less call) (now : Now) (note : Option ℕ) (saved : Option Event) (fs : List Frame) where
     -- from where some instructions follow, code does what these statements do, up to where the others follow
     abbrev pub Rest : List Instr → List Instr → Block → Type 0
-    Rest xs ys a = (m : Memory) (l : Locals) (w : World) (r : ℕ) (f : Frame) → IsAt t n k note saved xs m l w r f fs
+    Rest xs ys a = (m : CMemory) (l : Locals) (w : World) (r : ℕ) (f : Frame) → IsAt t n k note saved xs m l w r f fs
         → Does code n fuel now note saved fs (machine w now r (f ∷ fs)) ys (exec prog call fuel now a m l)
 
     -- the statements after one
-    abbrev after : Block → Memory → Locals → Out
+    abbrev after : Block → CMemory → Locals → Out
     after a v u = exec prog call fuel now a v u
 
     step_mark : (s : ℕ) (rest ys : List Instr) (a : Block) → s < state_count t → Rest rest ys a
@@ -173,7 +173,7 @@ module _ (t : Tree) (n : ℕ → ℕ) (num : Numbers t n) (same : length t.comps
         (with_states (c_clear t n s m.states) m) (clear_in t s w)
         (onward (instructions k f.proc) f.place (i.Clear s) rest h.code) (clear_stands s m w lt h.stands) refl)))
 
-    keep_runs : (s : ℕ) (o : Option ℕ) (a : Block) (m : Memory) (l : Locals)
+    keep_runs : (s : ℕ) (o : Option ℕ) (a : Block) (m : CMemory) (l : Locals)
         → after (keep_block n s o a) m l ≡ after a (with_states (keep_by n s o m.states) m) l
     unfolding exec
     keep_runs s None a m l = refl
@@ -243,7 +243,7 @@ module _ (t : Tree) (n : ℕ → ℕ) (num : Numbers t n) (same : length t.comps
               (omega (arith, (later_over f.cursor (suc (length fs))).1)));
         }))
 
-    pass_by : (x : ℕ) (rest ys : List Instr) (a : Block) → Rest rest ys a → (m : Memory) (l : Locals) (w : World)
+    pass_by : (x : ℕ) (rest ys : List Instr) (a : Block) → Rest rest ys a → (m : CMemory) (l : Locals) (w : World)
         (f : Frame)
         → IsAt t n k note saved (i.Pass ∷ rest) m l w x f fs
         → Does code n fuel now note saved fs (machine w now x (f ∷ fs)) ys
@@ -278,7 +278,7 @@ module _ (t : Tree) (n : ℕ → ℕ) (num : Numbers t n) (same : length t.comps
     -- ---- calls
 
     -- the frame of a procedure that is called, with its note
-    called : (p : ℕ) (tag : Option ℕ) (x : Instr) (rest : List Instr) (m m' : Memory) (l : Locals) (w w' : World)
+    called : (p : ℕ) (tag : Option ℕ) (x : Instr) (rest : List Instr) (m m' : CMemory) (l : Locals) (w w' : World)
         (r : ℕ) (f : Frame)
         → IsAt t n k note saved (x ∷ rest) m l w r f fs → Stands t n m' w' → m'.notes ≡ m.notes ++ with_note tag []
         → IsAt t n k tag None (instructions k p) m' (begins l.base l.home l.result) w' l.result
@@ -319,8 +319,8 @@ module _ (t : Tree) (n : ℕ → ℕ) (num : Numbers t n) (same : length t.comps
     acts w r f x e = ap (λ o. mach.act code o w now r f fs) e
 
     -- a step is paid
-    pays : (least later : ℕ) → least ≤ suc later → (s : Machine) (ys : List Instr) (m : Memory) (w : World)
-        (go : Memory → Out) (to : World → Machine) → Stands t n m w
+    pays : (least later : ℕ) → least ≤ suc later → (s : CodeState) (ys : List Instr) (m : CMemory) (w : World)
+        (go : CMemory → Out) (to : World → CodeState) → Stands t n m w
         → mach.step code s ≡ mach.if_ok (paid_in b w) w (λ v. mach.Goes (to v))
         → ((v : World) → Stands t n (record m { used = m.used + 1 }) v
         → Does code n later now note saved fs (to v) ys (go (record m { used = m.used + 1 })))
@@ -347,8 +347,8 @@ module _ (t : Tree) (n : ℕ → ℕ) (num : Numbers t n) (same : length t.comps
             }))
 
     -- where a depth is left, a step is paid
-    deeps : (least later : ℕ) → least ≤ suc later → (d : Bool) (s : Machine) (ys : List Instr) (m : Memory) (w : World)
-        (go : Memory → Out) (to : World → Machine) → Stands t n m w
+    deeps : (least later : ℕ) → least ≤ suc later → (d : Bool) (s : CodeState) (ys : List Instr) (m : CMemory) (w : World)
+        (go : CMemory → Out) (to : World → CodeState) → Stands t n m w
         → mach.step code s ≡ mach.if_deep d w (mach.if_ok (paid_in b w) w (λ v. mach.Goes (to v)))
         → ((v : World) → Stands t n (record m { used = m.used + 1 }) v
         → Does code n later now note saved fs (to v) ys (go (record m { used = m.used + 1 })))
@@ -357,10 +357,10 @@ module _ (t : Tree) (n : ℕ → ℕ) (num : Numbers t n) (same : length t.comps
     deeps least later le false s ys m w go to h e rest = pays least later le s ys m w go to h e rest
 
     -- a store
-    stores : (s : Machine) (ys : List Instr) (m : Memory) (w : World) (go : Memory → Out) (to : World → Machine)
-        (o : Result Memory Fault) (q : Result World Fault) → Stands t n m w → Stored t n m o q
+    stores : (s : CodeState) (ys : List Instr) (m : CMemory) (w : World) (go : CMemory → Out) (to : World → CodeState)
+        (o : Result CMemory Fault) (q : Result World Fault) → Stands t n m w → Stored t n m o q
         → mach.step code s ≡ mach.if_ok q w (λ v. mach.Goes (to v))
-        → ((u : Memory) (v : World) → Stands t n u v → u.notes ≡ m.notes → Does code n fuel now note saved fs (to v) ys
+        → ((u : CMemory) (v : World) → Stands t n u v → u.notes ≡ m.notes → Does code n fuel now note saved fs (to v) ys
         (go u))
         → Does code n fuel now note saved fs s ys (and_stored o m go)
     stores s ys m w go to (Ok u) (Ok v) h st e rest = does_on code n fuel now note saved fs _ _ ys (go u) (one_step e)
@@ -387,11 +387,11 @@ module _ (t : Tree) (n : ℕ → ℕ) (num : Numbers t n) (same : length t.comps
     unfolding straight exec
     step_emit x rest ys a go m l w r f h =
         pays fuel fuel (omega arith) _ ys m w (λ u. after a (record u { outputs = u.outputs ++ x ∷ [] }) l)
-        (λ u. machine (put_out x u) now r (next f ∷ fs)) h.stands
+        (λ u. machine (emitted x u) now r (next f ∷ fs)) h.stands
         (acts w r f (i.Emit x) (fetched k f.proc f.place (i.Emit x ∷ rest) h.code))
-        (λ v st. go (record m { used = m.used + 1; outputs = m.outputs ++ x ∷ [] }) l (put_out x v) r (next f)
+        (λ v st. go (record m { used = m.used + 1; outputs = m.outputs ++ x ∷ [] }) l (emitted x v) r (next f)
         (moved t n k note saved (i.Emit x ∷ rest) rest m l w r f fs h (f.place + 1)
-        (record m { used = m.used + 1; outputs = m.outputs ++ x ∷ [] }) (put_out x v)
+        (record m { used = m.used + 1; outputs = m.outputs ++ x ∷ [] }) (emitted x v)
         (onward (instructions k f.proc) f.place (i.Emit x) rest h.code)
         (record {
           states = st.states;
@@ -405,9 +405,9 @@ module _ (t : Tree) (n : ℕ → ℕ) (num : Numbers t n) (same : length t.comps
     -- ---- after a call
 
     after_call : (least : ℕ) → least ≤ less → (now' : Now) (saved' : Option Event) (tag : Option ℕ) (up : List Frame)
-        (s : Machine) (ys : List Instr) (o : Out) (go : Memory → ℕ → Out)
+        (s : CodeState) (ys : List Instr) (o : Out) (go : CMemory → ℕ → Out)
         → mach.now_after saved' now' ≡ now → DoesCall code n less now' tag saved' up s o
-        → ((v : Memory) (x : ℕ) (w : World) → Stands t n v w → v.notes ≡ pending 0 up ++ with_note tag []
+        → ((v : CMemory) (x : ℕ) (w : World) → Stands t n v w → v.notes ≡ pending 0 up ++ with_note tag []
         → Does code n least now note saved fs (machine w now x up) ys (go v x))
         → Does code n least now note saved fs s ys (and_with o go)
     after_call least le now' saved' tag up s ys (Fell m l) go back h rest = absurd h
@@ -421,12 +421,12 @@ module _ (t : Tree) (n : ℕ → ℕ) (num : Numbers t n) (same : length t.comps
     after_call least le now' saved' tag up s ys Wrong go back h rest = h
 
     -- after a call fewer steps are asked for
-    low : (s : Machine) (ys : List Instr) (o : Out) → Does code n fuel now note saved fs s ys o
+    low : (s : CodeState) (ys : List Instr) (o : Out) → Does code n fuel now note saved fs s ys o
         → Does code n less now note saved fs s ys o
     low s ys o h = does_less code n fuel now note saved fs less s ys o under h
 
     -- the function at the next place, with the result of a call
-    resulted : (x : Instr) (rest : List Instr) (m v : Memory) (l : Locals) (w u : World) (r y : ℕ) (f : Frame)
+    resulted : (x : Instr) (rest : List Instr) (m v : CMemory) (l : Locals) (w u : World) (r y : ℕ) (f : Frame)
         → IsAt t n k note saved (x ∷ rest) m l w r f fs → Stands t n v u → v.notes ≡ m.notes
         → IsAt t n k note saved rest v (record l { result = y }) u y (next f) fs
     resulted x rest m v l w u r y f h st e =
@@ -453,14 +453,14 @@ module _ (t : Tree) (n : ℕ → ℕ) (num : Numbers t n) (same : length t.comps
     front_push (x ∷ y ∷ xs) q = ap (λ l. x ∷ l) (front_push (y ∷ xs) q)
 
     -- the notes below are those at the place
-    same_notes : (m : Memory) (x : Instr) (rest : List Instr) (l : Locals) (w : World) (r : ℕ) (f : Frame)
+    same_notes : (m : CMemory) (x : Instr) (rest : List Instr) (l : Locals) (w : World) (r : ℕ) (f : Frame)
         → IsAt t n k note saved (x ∷ rest) m l w r f fs
         → pending 0 (next f ∷ fs) ≡ m.notes
     same_notes m x rest l w r f h = sym (h.notes ∙ same_pending 0 f (next f) fs refl)
 
     -- a call, from the frame of the procedure on
     call_rest : (p : ℕ) (tag : Option ℕ) (x : Instr) (rest ys : List Instr) (a : Block) → Rest rest ys a
-        → (m v : Memory) (l : Locals) (w u : World) (r : ℕ) (f : Frame) → IsAt t n k note saved (x ∷ rest) m l w r f fs
+        → (m v : CMemory) (l : Locals) (w u : World) (r : ℕ) (f : Frame) → IsAt t n k note saved (x ∷ rest) m l w r f fs
         → Stands t n v u → v.notes ≡ m.notes
         → Does code n less now note saved fs (machine u now r (fresh p tag f.base f.home None ∷ next f ∷ fs)) ys
         (after (noted_call p tag a) v l)
@@ -528,7 +528,7 @@ module _ (t : Tree) (n : ℕ → ℕ) (num : Numbers t n) (same : length t.comps
     -- ---- sends
 
     -- the frame of a procedure to which an event is sent
-    sent_at : (e p : ℕ) (x : Instr) (rest : List Instr) (m v : Memory) (l : Locals) (w u : World) (r : ℕ) (f : Frame)
+    sent_at : (e p : ℕ) (x : Instr) (rest : List Instr) (m v : CMemory) (l : Locals) (w u : World) (r : ℕ) (f : Frame)
         → IsAt t n k note saved (x ∷ rest) m l w r f fs → Stands t n v u → v.notes ≡ m.notes
         → IsAt t n k None (Some now.event) (instructions k p) v (begins (length v.notes) 0 l.result) u l.result
         (fresh p None (suc (length fs)) 0 (Some now.event)) (next f ∷ fs)
@@ -560,7 +560,7 @@ module _ (t : Tree) (n : ℕ → ℕ) (num : Numbers t n) (same : length t.comps
             ∙ sym (pending_at 0 (fresh p None (suc (length fs)) 0 (Some now.event)) (next f ∷ fs) (omega arith))
 
     send_rest : (e p : ℕ) (x : Instr) (rest ys : List Instr) (a : Block) → Rest rest ys a
-        → (m v : Memory) (l : Locals) (w u : World) (r : ℕ) (f : Frame) → IsAt t n k note saved (x ∷ rest) m l w r f fs
+        → (m v : CMemory) (l : Locals) (w u : World) (r : ℕ) (f : Frame) → IsAt t n k note saved (x ∷ rest) m l w r f fs
         → Stands t n v u → v.notes ≡ m.notes
         → Does code n less now note saved fs (mach.sent true e p u now r f fs) ys (after (c.Send e p a) v l)
     unfolding exec
@@ -592,7 +592,7 @@ module _ (t : Tree) (n : ℕ → ℕ) (num : Numbers t n) (same : length t.comps
     stops_at xs m l w r f h = record { world = w; result = r; frame = f; at = h; reached = here }
 
     heard_by : (d : Bool) (e s p : ℕ) (x : Instr) (rest ys : List Instr) (a : Block) → Rest rest ys a
-        → (m v : Memory) (l : Locals) (w u : World) (r : ℕ) (f : Frame) → IsAt t n k note saved (x ∷ rest) m l w r f fs
+        → (m v : CMemory) (l : Locals) (w u : World) (r : ℕ) (f : Frame) → IsAt t n k note saved (x ∷ rest) m l w r f fs
         → Stands t n v u → v.notes ≡ m.notes
         → Does code n less now note saved fs (mach.sent d e p u now r f fs) ys
         (and_on (branch (Ok d) v (after (c.Send e p c.End) v l) (after c.End v l)) (after a))
@@ -625,7 +625,7 @@ module _ (t : Tree) (n : ℕ → ℕ) (num : Numbers t n) (same : length t.comps
     -- ---- `Play`
 
     -- the frame of a noted procedure
-    played_at : (p j : ℕ) (x : Instr) (rest : List Instr) (m v : Memory) (l : Locals) (w u : World) (r : ℕ) (f : Frame)
+    played_at : (p j : ℕ) (x : Instr) (rest : List Instr) (m v : CMemory) (l : Locals) (w u : World) (r : ℕ) (f : Frame)
         → IsAt t n k note saved (x ∷ rest) m l w r f fs → Stands t n v u → v.notes ≡ m.notes
         → IsAt t n k None None (instructions k p) v (begins (length v.notes) l.home l.result) u l.result
         (fresh p None (suc (length fs)) f.home None) (record f { cursor = j } ∷ fs)
@@ -659,7 +659,7 @@ module _ (t : Tree) (n : ℕ → ℕ) (num : Numbers t n) (same : length t.comps
             (omega arith))
 
     -- the function before the next turn
-    turned_at : (q p : ℕ) (rest : List Instr) (m o : Memory) (l : Locals) (w z : World) (r y : ℕ) (f : Frame)
+    turned_at : (q p : ℕ) (rest : List Instr) (m o : CMemory) (l : Locals) (w z : World) (r y : ℕ) (f : Frame)
         → IsAt t n k note saved (i.Play ∷ rest) m l w r f fs → Stands t n o z → o.notes ≡ m.notes
         → l.base ≤ l.cursor → suc f.base ≤ q → drop l.cursor m.notes ≡ p ∷ pending (suc q) (f ∷ fs)
         → IsAt t n k note saved (i.Play ∷ rest) o (record l { cursor = suc l.cursor; result = y }) z y
@@ -687,7 +687,7 @@ module _ (t : Tree) (n : ℕ → ℕ) (num : Numbers t n) (same : length t.comps
     }
 
     -- where `Play` ends, the next place follows
-    ends_at : (rest : List Instr) (m : Memory) (l : Locals) (w : World) (r : ℕ) (f : Frame) → IsAt t n k note saved
+    ends_at : (rest : List Instr) (m : CMemory) (l : Locals) (w : World) (r : ℕ) (f : Frame) → IsAt t n k note saved
         (i.Play ∷ rest) m l w r f fs
         → Reaches code (machine w now r (f ∷ fs)) (machine w now r (next f ∷ fs))
         → Does code n fuel now note saved fs (machine w now r (f ∷ fs)) rest (Fell m l)
@@ -701,9 +701,9 @@ module _ (t : Tree) (n : ℕ → ℕ) (num : Numbers t n) (same : length t.comps
     }
 
     -- one turn, by what `Play` finds and whether the home is bare
-    turn_by : (j : ℕ) → suc j ≤ fuel → (rest : List Instr) (m : Memory) (l : Locals) (w : World) (r : ℕ) (f : Frame)
+    turn_by : (j : ℕ) → suc j ≤ fuel → (rest : List Instr) (m : CMemory) (l : Locals) (w : World) (r : ℕ) (f : Frame)
         → IsAt t n k note saved (i.Play ∷ rest) m l w r f fs → l.base ≤ l.cursor
-        → ((o : Memory) (l' : Locals) (z : World) (y : ℕ) (g : Frame) → IsAt t n k note saved
+        → ((o : CMemory) (l' : Locals) (z : World) (y : ℕ) (g : Frame) → IsAt t n k note saved
         (i.Play ∷ rest) o l' z y g fs → l'.base ≤ l'.cursor
         → Does code n j now note saved fs (machine z now y (g ∷ fs)) rest (turns prog call j now o l'))
         → (q : Option (ℕ × ℕ)) → mach.noted (later f.cursor (suc f.base)) (f ∷ fs) ≡ q → IsHead
@@ -768,7 +768,7 @@ module _ (t : Tree) (n : ℕ → ℕ) (num : Numbers t n) (same : length t.comps
         (omega (arith, le))))))
 
     -- the turns of `while`
-    turns_do : (j : ℕ) → j ≤ fuel → (rest : List Instr) (m : Memory) (l : Locals) (w : World) (r : ℕ) (f : Frame)
+    turns_do : (j : ℕ) → j ≤ fuel → (rest : List Instr) (m : CMemory) (l : Locals) (w : World) (r : ℕ) (f : Frame)
         → IsAt t n k note saved (i.Play ∷ rest) m l w r f fs → l.base ≤ l.cursor
         → Does code n j now note saved fs (machine w now r (f ∷ fs)) rest (turns prog call j now m l)
     unfolding turns
@@ -852,7 +852,7 @@ module _ (t : Tree) (n : ℕ → ℕ) (num : Numbers t n) (same : length t.comps
         (further (instructions k f.proc) f.place j (i.Skip j) rest h.code) h.stands refl))
 
     fork_by : (j : ℕ) (x : Cond) (rest mid : List Instr) (a d : Block) → Rest rest mid a → Rest (drop j rest) mid d
-        → (m : Memory) (l : Locals) (w : World) (r : ℕ) (f : Frame) → IsAt t n k note saved
+        → (m : CMemory) (l : Locals) (w : World) (r : ℕ) (f : Frame) → IsAt t n k note saved
         (i.Unless j x ∷ rest) m l w r f fs
         → (o : Result Bool Fault) → holds t x w now r f.home ≡ o
         → Does code n fuel now note saved fs (machine w now r (f ∷ fs)) mid (branch o m (after a m l) (after d m l))
@@ -898,7 +898,7 @@ module _ (t : Tree) (n : ℕ → ℕ) (num : Numbers t n) (same : length t.comps
   -- ---- functions
 
   -- what a function did, from what its body did
-  closed_does : (least : ℕ) (now : Now) (note : Option ℕ) (saved : Option Event) (fs : List Frame) (s : Machine)
+  closed_does : (least : ℕ) (now : Now) (note : Option ℕ) (saved : Option Event) (fs : List Frame) (s : CodeState)
       (o : Out)
       → Does code n least now note saved fs s [] o → DoesCall code n least now note saved fs s (closed o)
   closed_does least now note saved fs s (Fell m l) h = record {

@@ -10,7 +10,8 @@ use Rattle.actions.specs.Work.{Now}
 use Rattle.code_language.specs.Code.{Code}
 use Rattle.code_language.specs.Instrs.{Instr}
 use Rattle.code_language.specs.Instrs as i
-use Rattle.code_language.specs.Machine.{Program, Frame, Machine, Next, Goes, Stops, if_ok, if_deep, test_next, pass_on}
+use Rattle.code_language.specs.Machine.{Program, Frame, CodeState, Next, Goes}
+use Rattle.code_language.specs.Machine.{Stops, if_ok, if_deep, test_next, pass_on}
 use Rattle.code_language.specs.Machine.{holds, noted, later, machine, fresh, next, play_next, act, step}
 use Rattle.code_language.specs.Reactions.{program_of}
 use Rattle.code_language.specs.WellFormed.{IsCode}
@@ -27,16 +28,16 @@ GoesOrFaults (Goes m) = Unit {0}
 GoesOrFaults (Stops w None) = ⊥
 GoesOrFaults (Stops w (Some x)) = Unit {0}
 
-ok_goes : (r : Result World Fault) (w : World) (go : World → Machine) → GoesOrFaults (if_ok r w (λ v. Goes (go v)))
+ok_goes : (r : Result World Fault) (w : World) (go : World → CodeState) → GoesOrFaults (if_ok r w (λ v. Goes (go v)))
 ok_goes (Ok v) w go = tt
 ok_goes (Err x) w go = tt
 
-deep_goes : (d : Bool) (r : Result World Fault) (w : World) (go : World → Machine)
+deep_goes : (d : Bool) (r : Result World Fault) (w : World) (go : World → CodeState)
     → GoesOrFaults (if_deep d w (if_ok r w (λ v. Goes (go v))))
 deep_goes true r w go = tt
 deep_goes false r w go = ok_goes r w go
 
-test_goes : (r : Result Bool Fault) (w : World) (a b : Machine) → GoesOrFaults (test_next r w (Goes a) (Goes b))
+test_goes : (r : Result Bool Fault) (w : World) (a b : CodeState) → GoesOrFaults (test_next r w (Goes a) (Goes b))
 test_goes (Ok true) w a b = tt
 test_goes (Ok false) w a b = tt
 test_goes (Err x) w a b = tt
@@ -78,14 +79,14 @@ act_goes C (i.Ret x) w now r f fs = tt
 -- ---- a run
 
 -- each step of a run of well-formed code leads to a moment
-pub moments_on : (k : Code) (b : Bounds) → IsCode k → (n : ℕ) (m m' : Machine) → IsMoment k b m
+pub moments_on : (k : Code) (b : Bounds) → IsCode k → (n : ℕ) (m m' : CodeState) → IsMoment k b m
     → ReachesIn (program_of k b) n m m' → IsMoment k b m'
-moments_on k b is zero m m' h e = subst (λ (x : Machine). IsMoment k b x) e h
+moments_on k b is zero m m' h e = subst (λ (x : CodeState). IsMoment k b x) e h
 moments_on k b is (suc n) m m' h way =
     moments_on k b is n way.0 m' (subst (λ (x : Next). StaysSound k b x) way.1 (step_sound k b is m h)) way.2
 
 -- so it isn't stuck
-pub never_stuck : (k : Code) (b : Bounds) (m : Machine) → IsCode k → IsMoment k b m → Stuck (program_of k b) m → ⊥
+pub never_stuck : (k : Code) (b : Bounds) (m : CodeState) → IsCode k → IsMoment k b m → Stuck (program_of k b) m → ⊥
 never_stuck k b m is h stuck = at stuck.last.frames refl
   where
     C : Program

@@ -10,13 +10,13 @@ use Rattle.active_config.specs.Tree.{Tree}
 use Rattle.actions.specs.Exprs.{Expr}
 use Rattle.actions.specs.Work.{Now, is_event, deeper}
 use Rattle.c_procedures.specs.States.{States, c_on, c_bare, choose_child, set_flag}
-use Rattle.c_procedures.specs.Statements.{Memory, Locals, Check, Test, Block, Out}
+use Rattle.c_procedures.specs.Statements.{CMemory, Locals, Check, Test, Block, Out}
 use Rattle.c_procedures.specs.Statements as c
 
 -- the arithmetic of C, which stands elsewhere: the truth of an expression, and a store into a datum
 pub record Sums : Type 0 where
-  pub truth : Expr → Memory → Result Bool Fault
-  pub store : ℕ → Expr → Memory → Result Memory Fault
+  pub truth : Expr → CMemory → Result Bool Fault
+  pub store : ℕ → Expr → CMemory → Result CMemory Fault
 
 -- a program: the arithmetic, the tree and the numbers of states that its text was made of, the bounds, and the body of
 -- each function
@@ -28,7 +28,7 @@ pub record CProgram : Type 0 where
   pub bodies : ℕ → Block
 
 -- memory with other fields of states
-abbrev pub with_states : States → Memory → Memory
+abbrev pub with_states : States → CMemory → CMemory
 with_states st m = record m { states = st }
 
 -- notes without the last
@@ -38,7 +38,7 @@ front (x ∷ []) = []
 front (x ∷ y ∷ ys) = x ∷ front (y ∷ ys)
 
 -- a test
-abbrev pub check : CProgram → Check → Memory → Now → Locals → Bool
+abbrev pub check : CProgram → Check → CMemory → Now → Locals → Bool
 check P c.Yes m now l = true
 check P c.No m now l = false
 check P (c.Chosen p i) m now l = slice_index_or m.states.chosen p 0 == i
@@ -50,20 +50,20 @@ check P (c.Both a b) m now l = check P a m now l && check P b m now l
 check P (c.Not a) m now l = not (check P a m now l)
 
 -- what `if` tests
-abbrev pub truth_c : CProgram → Test → Memory → Now → Locals → Result Bool Fault
+abbrev pub truth_c : CProgram → Test → CMemory → Now → Locals → Result Bool Fault
 truth_c P (c.Simple a) m now l = Ok (check P a m now l)
 truth_c P c.HomeOn m now l = Ok (c_on P.tree P.numbers l.home m.states)
 truth_c P c.HomeBare m now l = Ok (c_bare P.tree P.numbers l.home m.states)
 truth_c P (c.Arithmetic e) m now l = P.sums.truth e m
 
 -- one of two ways
-abbrev pub branch : Result Bool Fault → Memory → Out → Out → Out
+abbrev pub branch : Result Bool Fault → CMemory → Out → Out → Out
 branch (Ok true) m a b = a
 branch (Ok false) m a b = b
 branch (Err x) m a b = c.Failed m x
 
 -- goes on where a statement fell through
-abbrev pub and_on : Out → (Memory → Locals → Out) → Out
+abbrev pub and_on : Out → (CMemory → Locals → Out) → Out
 and_on (c.Fell m l) go = go m l
 and_on (c.Left m r) go = c.Left m r
 and_on (c.Failed m x) go = c.Failed m x
@@ -71,7 +71,7 @@ and_on c.Starved go = c.Starved
 and_on c.Wrong go = c.Wrong
 
 -- goes on with what a function returned
-abbrev pub and_with : Out → (Memory → ℕ → Out) → Out
+abbrev pub and_with : Out → (CMemory → ℕ → Out) → Out
 and_with (c.Fell m l) go = c.Wrong
 and_with (c.Left m r) go = go m r
 and_with (c.Failed m x) go = c.Failed m x
@@ -79,31 +79,31 @@ and_with c.Starved go = c.Starved
 and_with c.Wrong go = c.Wrong
 
 -- goes on with memory that a store gave
-abbrev pub and_stored : Result Memory Fault → Memory → (Memory → Out) → Out
+abbrev pub and_stored : Result CMemory Fault → CMemory → (CMemory → Out) → Out
 and_stored (Ok m') m go = go m'
 and_stored (Err x) m go = c.Failed m x
 
 -- a fault where a bound is met
-abbrev pub unless_met : Bool → Fault → Memory → Out → Out
+abbrev pub unless_met : Bool → Fault → CMemory → Out → Out
 unless_met true x m go = c.Failed m x
 unless_met false x m go = go
 
 -- one step is paid
-abbrev pub pay : Bounds → Memory → (Memory → Out) → Out
+abbrev pub pay : Bounds → CMemory → (CMemory → Out) → Out
 pay b m go = unless_met (nat_le b.steps m.used) faults.Steps m (go (record m { used = m.used + 1 }))
 
 -- a call of a function: with the event and its depth, base, home and last result
 abbrev pub Calls : Type 0
-Calls = ℕ → Now → ℕ → ℕ → ℕ → Memory → Out
+Calls = ℕ → Now → ℕ → ℕ → ℕ → CMemory → Out
 
 -- one turn's call, where there is a note at the cursor
-abbrev pub turn : Calls → Option ℕ → Now → Memory → Locals → (Memory → Locals → Out) → Out
+abbrev pub turn : Calls → Option ℕ → Now → CMemory → Locals → (CMemory → Locals → Out) → Out
 turn call None now m l go = c.Wrong
 turn call (Some p) now m l go = and_with (call p now (length m.notes) l.home l.result m)
     (λ m' r. go m' (record l { result = r }))
 
 -- the `while` of `Play`
-unfoldable pub turns : CProgram → Calls → ℕ → Now → Memory → Locals → Out
+unfoldable pub turns : CProgram → Calls → ℕ → Now → CMemory → Locals → Out
 turns P call zero now m l = c.Starved
 turns P call (suc k) now m l =
     if nat_lt l.cursor (length m.notes) && c_bare P.tree P.numbers l.home m.states
@@ -116,7 +116,7 @@ abbrev pub from_base : Locals → Locals
 from_base l = record l { cursor = if nat_lt l.cursor l.base then l.base else l.cursor }
 
 -- statements
-unfoldable pub exec : CProgram → Calls → ℕ → Now → Block → Memory → Locals → Out
+unfoldable pub exec : CProgram → Calls → ℕ → Now → Block → CMemory → Locals → Out
 exec P call k now c.End m l = c.Fell m l
 exec P call k now (c.Choose p i rest) m l = exec P call k now rest (with_states (choose_child p i m.states) m) l
 exec P call k now (c.Mark s on rest) m l = exec P call k now rest (with_states (set_flag s on m.states) m) l

@@ -6,7 +6,7 @@ use Rattle.actions.specs.Exprs.{Expr}
 use Rattle.c_procedures.specs.States.{States}
 
 -- the struct: the fields of states, the data, `out[]` up to `outs`, `used`, and `note[]` up to `noted`
-pub record Memory : Type 0 where
+pub record CMemory : Type 0 where
   pub states : States
   pub vals : List Datum
   pub outputs : List ℕ
@@ -89,8 +89,8 @@ pub data Block : Type 0 where
 
 -- how a statement ends, and a function (which doesn't fall through)
 pub data Out : Type 0 where
-  Fell : Memory → Locals → Out
-  Left : Memory → ℕ → Out
-  Failed : Memory → Fault → Out
+  Fell : CMemory → Locals → Out
+  Left : CMemory → ℕ → Out
+  Failed : CMemory → Fault → Out
   Starved : Out
   Wrong : Out

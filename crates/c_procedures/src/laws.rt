@@ -6,14 +6,14 @@ ghost use Rattle.active_config.specs.Marks.{Configuration, is_on, is_bare, is_la
 ghost use Rattle.active_config.specs.Marks.{with_mark, with_last, no_marks, IsConsistent};
 ghost use Rattle.flow_base.specs.declared.bounds.Bounds.{Bounds};
 ghost use Rattle.code_language.specs.Code.{Procedures, Code};
-ghost use Rattle.code_language.specs.Machine.{Machine, run};
+ghost use Rattle.code_language.specs.Machine.{CodeState, run};
 ghost use Rattle.code_language.specs.WellFormed.{IsCode};
 ghost use Rattle.code_costs.specs.Ahead.{IsOver};
 ghost use Rattle.code_costs.specs.Moments.{IsMoment};
 ghost use Rattle.code_language.specs.Reactions.{first_frame, program_of};
 ghost use Rattle.actions.specs.World.{World};
 ghost use Rattle.actions.specs.Work.{Now};
-ghost use Rattle.c_procedures.specs.Statements.{Block, Memory};
+ghost use Rattle.c_procedures.specs.Statements.{Block, CMemory};
 ghost use Rattle.c_procedures.specs.Meaning.{Sums, call_fn};
 ghost use Rattle.c_procedures.specs.Written.{AreWritten};
 ghost use Rattle.c_procedures.specs.Writer.{plans_of};
@@ -88,7 +88,7 @@ pub fn plans_are_written_for_their_code()
 pub fn calls_from_outside_end_as_code()
     ensures { (t : Tree) (n : ℕ → ℕ) (k : Procedures) (b : Bounds) (sums : Sums)
         (bodies : ℕ → Block) (fuel p : ℕ)
-        (now : Now) (m : Memory) (w : World) → Numbers t n
+        (now : Now) (m : CMemory) (w : World) → Numbers t n
         → length t.comps ≡ state_count t → Agree t n sums → AreWritten t n k bodies → Stands t n m w
         → m.notes ≡ []
         → EndsWith (record { tree = t; bounds = b; procedures = k }) n (pred fuel)
@@ -108,14 +108,14 @@ pub fn zeros_show_no_marks()
 /// Memory tells the world that it stands for; so code's own arithmetic on that world agrees with
 /// itself.
 pub fn memory_tells_its_world()
-    ensures world { (t : Tree) (n : ℕ → ℕ) (m : Memory) (w : World) → Numbers t n → Stands t n m w
+    ensures world { (t : Tree) (n : ℕ → ℕ) (m : CMemory) (w : World) → Numbers t n → Stands t n m w
         → world_of t n m ≡ w }
     ensures agrees { (t : Tree) (n : ℕ → ℕ) → Numbers t n → Agree t n (own_sums t n) }
 {}
 
 /// Well-formed code never comes to a place without an instruction: each moment of its run has one.
 pub fn code_is_never_stuck()
-    ensures { (k : Code) (b : Bounds) (m : Machine) → IsCode k → IsMoment k b m → Stuck
+    ensures { (k : Code) (b : Bounds) (m : CodeState) → IsCode k → IsMoment k b m → Stuck
         (program_of k b) m → ⊥ }
 {}
 
@@ -126,7 +126,7 @@ pub fn code_is_never_stuck()
 pub fn calls_of_well_formed_code_end_as_it()
     ensures { (k : Code) (n : ℕ → ℕ) (b : Bounds) (sums : Sums) (bodies : ℕ → Block) (fuel p : ℕ)
         (now : Now)
-        (m : Memory) (w : World) → IsCode k → IsMoment k b (first_frame p w now)
+        (m : CMemory) (w : World) → IsCode k → IsMoment k b (first_frame p w now)
         → IsOver (run (program_of k b) fuel (first_frame p w now)) → Numbers k.tree n
         → length k.tree.comps ≡ state_count k.tree → Agree k.tree n sums
         → AreWritten k.tree n k.procedures bodies

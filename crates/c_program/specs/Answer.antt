@@ -32,7 +32,7 @@ CallEnds command call ending = Ends command call ending ⊎ EndsAtOnce call endi
 
 -- the answer: the call ends in one way, which fixes its status and its line on standard error, all of which stands
 -- there where no write of it fails; other files than that of the command keep what they have left
-pub record Answer (command : Option Command) (call : Call) (errors_before errors_after : Output)
+pub record CAnswer (command : Option Command) (call : Call) (errors_before errors_after : Output)
     (status : Status) : Type 0 where
   pub ending : Ending
   pub ends : CallEnds command call ending

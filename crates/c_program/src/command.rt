@@ -3,7 +3,7 @@ ghost use Rattle.std.specs.Prelude.{◌≡◌, ◌⊎◌, Some, None, option_map
 ghost use Rattle.c_words.specs.Seen.{command_seen};
 ghost use Rattle.c_words.specs.Words.{command_of};
 ghost use Rattle.commands.specs.Call.{output_of, call_of};
-ghost use Rattle.c_program.specs.Answer.{Ends, CallEnds, OthersKeep, Answer};
+ghost use Rattle.c_program.specs.Answer.{Ends, CallEnds, OthersKeep, CAnswer};
 
 use crate::ending::Ending;
 use crate::report::report;
@@ -30,7 +30,7 @@ pub fn c_main<I: Inputs, O: Sink, E: Sink>(
     ensures usage { result ≡ Status.Usage → command_of words.now ≡ None }
     ensures no_command { command_of words.now ≡ None
         → (result ≡ Status.Usage) ⊎ (result ≡ Status.Memory) }
-    ensures answer { Answer (command_of words.now)
+    ensures answer { CAnswer (command_of words.now)
         (call_of I.Inputs O.Sink inputs.old inputs.new out.old out.new)
         (output_of E.Sink err.old) (output_of E.Sink err.new) result }
 {

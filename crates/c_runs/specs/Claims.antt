@@ -27,7 +27,7 @@ pub record FitsChart (c : Chart) (k : Code) : Type 0 where
   pub results : KeepsResults (code_of_chart c).procedures k.procedures
 
 -- Under the limits code runs as the chart does under its bounds, no run is ended by a bound that isn't tested, and
--- there is room for what each event puts out.
+-- there is room for what each event emits.
 pub record Serves (c : Chart) (b : Bounds) (k : Code) (T : Tests) (limits : Bounds) (room : ℕ) : Type 0 where
   pub runs : (events : List EventWithInputs) (moments : List Moment) → RulesRun c b events moments
       → CodeRun k limits events moments

@@ -16,7 +16,7 @@ use Rattle.command_words.proofs.ProgramWalk.{names, enters, no_words_fail, unkno
 use Rattle.c_words.specs.Commands.{Command, Header, Source}
 use Rattle.c_words.specs.Words.{command_of_texts, text_command}
 use Rattle.c_words.specs.Parser.{program_app}
-use Rattle.c_words.specs.Found.{command_found, text_found}
+use Rattle.c_words.specs.Asked.{command_found, text_found}
 use Rattle.c_words.proofs.TextLeaf.{text_leaf}
 use Rattle.c_words.proofs.TextAnswers.{text_answers}
 

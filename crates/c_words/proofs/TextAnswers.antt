@@ -9,12 +9,12 @@ use Rattle.command_words.specs.Numbers.{Text, number_of}
 use Rattle.command_words.specs.Commands.{RunBounds}
 use Rattle.command_words.specs.Reading.{Given}
 use Rattle.command_words.specs.Words.{with_one}
-use Rattle.command_words.specs.Found.{number_at}
+use Rattle.command_words.specs.Asked.{number_at}
 use Rattle.command_words.proofs.GivenRows.{Agrees, Holds, exactly}
 use Rattle.command_words.proofs.LeafAnswers.{Answers, bounds_are, first_is, numbers_are}
 use Rattle.c_words.specs.Commands.{Command}
 use Rattle.c_words.specs.Words.{asked_of}
-use Rattle.c_words.specs.Found.{asked_found, text_found}
+use Rattle.c_words.specs.Asked.{asked_found, text_found}
 
 -- there is a number where there is a text
 number_there : (o : Option Text) → is_some (option_map number_of o) ≡ is_some o

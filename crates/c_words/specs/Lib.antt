@@ -2,4 +2,4 @@ pub mod Commands
 pub mod Words
 pub mod Seen
 pub mod Parser
-pub mod Found
+pub mod Asked

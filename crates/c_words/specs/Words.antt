@@ -9,7 +9,7 @@ use Rattle.command_words.specs.Reading.{Given, nothing, read_words}
 use Rattle.command_words.specs.Words.{bounds_of, with_one}
 use Rattle.c_words.specs.Commands.{Command, Header, Source}
 
--- the bounds that the options set, and the usual ones where only one option stands there; none where no option does
+-- the bounds that the options set, and the default ones where only one option stands there; none where no option does
 abbrev pub asked_of : Given → Option RunBounds
 asked_of given = if is_some given.depth || is_some given.steps then Some (bounds_of given) else None
 

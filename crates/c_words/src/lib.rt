@@ -3,7 +3,7 @@
 //! The public call is `command_from`. Its clause says for every list of words which command it asks
 //! for, or that it is refused: read `specs/Commands.antt` and `specs/Words.antt`, which go on from
 //! `specs/Reading.antt` and `specs/Options.antt` of `command_words` and don't speak of `clap`.
-//! `specs/Parser.antt` and `specs/Found.antt` are the parser as `clap` sees it and what its answers
+//! `specs/Parser.antt` and `specs/Asked.antt` are the parser as `clap` sees it and what its answers
 //! stand for.
 #![tactic(auto)]
 

@@ -2,7 +2,7 @@
 ghost use Rattle.std.specs.Prelude.{◌≡◌, IfOk, option_map};
 ghost use Rattle.clap.specs.Words.{found_of, rows_of, subcommand_rows_of};
 ghost use Rattle.c_words.specs.Commands as spec;
-ghost use Rattle.c_words.specs.Found.{asked_found, command_found, found_named, text_found};
+ghost use Rattle.c_words.specs.Asked.{asked_found, command_found, found_named, text_found};
 ghost use Rattle.c_words.specs.Seen.{asked_seen, command_seen};
 ghost use Rattle.c_words.specs.Words.{command_of};
 
@@ -25,8 +25,8 @@ pub enum CCommand<'a> {
 
 /// What the words ask for; none where they are no list of words of the program.
 ///
-/// Both commands take `--depth V` (1 to `DEPTH_LIMIT`, usually 8) and `--steps V` (1 to
-/// `STEP_LIMIT`, usually 10,000), each at most once. Any list of words may end in `Memory`.
+/// Both commands take `--depth V` (1 to `DEPTH_LIMIT`, default 8) and `--steps V` (1 to
+/// `STEP_LIMIT`, default 10,000), each at most once. Any list of words may end in `Memory`.
 pub fn command_from<'a>(alloc: Global, words: &'a [String]) -> Result<Option<CCommand<'a>>, Memory>
     ensures { IfOk result (λ command. option_map command_seen command ≡ command_of words.now) }
 {
@@ -80,7 +80,7 @@ fn source_in<'a>(given: &ArgMatches<'a>) -> Option<CCommand<'a>>
     Some(CCommand::Source(chart, asked_in(given)))
 }
 
-/// The bounds that the options set, with the usual ones where only one option stands there; none
+/// The bounds that the options set, with the default ones where only one option stands there; none
 /// where no option does.
 fn asked_in(given: &ArgMatches<'_>) -> Option<Bounds>
     ensures { asked_seen result ≡ asked_found (rows_of (found_of given.now)) }

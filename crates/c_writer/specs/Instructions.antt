@@ -5,7 +5,7 @@ use Rattle.c_procedures.specs.Statements as plan
 use Rattle.c_procedures.specs.Written.{on_check}
 use Rattle.c_functions.specs.Plans.{Shape}
 
--- an event is put out
+-- an event is emitted
 abbrev pub emit_plan : ℕ → Block → Block
 emit_plan e rest = plan.Pay (plan.Put e rest)
 

@@ -23,7 +23,7 @@ use code_language::Instr;
 use flow_base::{List, Memory};
 use std::alloc::Global;
 
-/// Appends that an event is put out.
+/// Appends that an event is emitted.
 #[tactic(auto, unfolding(c_functions::specs::Plans::plan_c))]
 fn put_emit(
     alloc: Global,

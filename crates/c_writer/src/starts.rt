@@ -125,7 +125,7 @@ fn put_clear_used(shape: &FileShape<'_>, lines: &mut List<Line>) -> Result<(), M
     }
 }
 
-/// Appends that no step is used, nothing is put out and there are no notes.
+/// Appends that no step is used, nothing is emitted and there are no notes.
 fn put_clear_counts(shape: &FileShape<'_>, lines: &mut List<Line>) -> Result<(), Memory>
     ensures { OnOk result (Appends (items_of lines.old) (items_of lines.new)
         (clear_counts (shape_seen shape.now))) }

@@ -23,7 +23,7 @@ use Rattle.canonical_text.specs.Claims.{AreCut, TransitionClaims, Adds, behind}
 use Rattle.canonical_text.proofs.Counts.{sum-none, one_block, one_event, one_variable}
 use Rattle.canonical_text.proofs.Cut.{cut_first, cut_second}
 use Rattle.canonical_text.proofs.PartsSpelled.{IsNested}
-use Rattle.canonical_text.proofs.SortedItems.{Found}
+use Rattle.canonical_text.proofs.SortedItems.{IsNextItem}
 
 -- ---- in general
 
@@ -42,10 +42,10 @@ first_in set k u t q e same passes =
 -- what is made of one counted value
 counted_has : {X : Type 0} (deep : ℕ) (may : Item → Type 0) (z : Seen) (kind : X → Item) (g : Grammar (Counted X))
     (u : List Lexeme) (x : Counted Item)
-    → AreCut u → ((p : List Lexeme) (v : Counted X) → AreCut p → g.spells p v → Found deep may z (counted_as kind v))
-    → (g >>= λ v. give (counted_as kind v)).spells u x → Found deep may z x
+    → AreCut u → ((p : List Lexeme) (v : Counted X) → AreCut p → g.spells p v → IsNextItem deep may z (counted_as kind v))
+    → (g >>= λ v. give (counted_as kind v)).spells u x → IsNextItem deep may z x
 counted_has deep may z kind g u x cut has w =
-    subst (Found deep may z) (sym w.second.1) (has w.p w.x (cut_first w cut) w.first)
+    subst (IsNextItem deep may z) (sym w.second.1) (has w.p w.x (cut_first w cut) w.first)
 
 -- an action that may come has not been seen
 is_new : (seen : Bool) → (not seen || false) ≡ true → seen ≡ false
@@ -92,21 +92,21 @@ module _ (t : TransitionClaims) (deep : ℕ) (st : StateGrammar) (states : State
   -- an action, which stands where a token of the set may
   action_has : (may : Item → Type 0) (set : Kind → Bool) (k : Kind) (kind : List Stmt → Item)
       → ((b : List Stmt) → IsBlock b → (IsWithin z.counts → IsWithin (z.counts ⊕ size_of_block b)) → set k ≡ true
-      → Found deep may z (behind (kind b) (z.counts ⊕ size_of_block b)))
+      → IsNextItem deep may z (behind (kind b) (z.counts ⊕ size_of_block b)))
       → first_refused (λ j. true) (unexpected set) u ≡ None → (action_item usual k kind z.counts).spells u x
-      → Found deep may z x
+      → IsNextItem deep may z x
   unfolding action_item token
   action_has may set k kind found passes w =
       let rest = w.second in
       let has = t.block_has z.counts rest.p rest.x (cut_first rest (cut_second w cut)) rest.first in
       let begun : u ≡ w.x ∷ w.q = w.parts ∙ ap (λ (p : List Lexeme). p ++ w.q) w.first.0 in
       let is = rest.second.1 ∙ ap (λ (m : Counts). behind (kind rest.x) m) (one_block z.counts rest.x) in
-      subst (Found deep may z) (sym is) (found rest.x has.0 has.1 (first_in set k u w.x w.q begun w.first.1 passes))
+      subst (IsNextItem deep may z) (sym is) (found rest.x has.0 has.1 (first_in set k u w.x w.q begun w.first.1 passes))
 
   entry_has : (may : Item → Type 0) → ((b : List Stmt) → may (Entry b)) → (set : Kind → Bool)
       → (set kinds.Entry ≡ true → z.entry ≡ false)
       → first_refused (λ j. true) (unexpected set) u ≡ None
-      → (action_item usual kinds.Entry Entry z.counts).spells u x → Found deep may z x
+      → (action_item usual kinds.Entry Entry z.counts).spells u x → IsNextItem deep may z x
   entry_has may place set new =
       action_has may set kinds.Entry Entry (λ b fine within there.
       record { fine = fine; place = place b; adds = record { count = refl; within = within }; once = new there })
@@ -114,30 +114,30 @@ module _ (t : TransitionClaims) (deep : ℕ) (st : StateGrammar) (states : State
   during_has : (may : Item → Type 0) → ((b : List Stmt) → may (During b)) → (set : Kind → Bool)
       → (set kinds.During ≡ true → z.during ≡ false)
       → first_refused (λ j. true) (unexpected set) u ≡ None
-      → (action_item usual kinds.During During z.counts).spells u x → Found deep may z x
+      → (action_item usual kinds.During During z.counts).spells u x → IsNextItem deep may z x
   during_has may place set new =
       action_has may set kinds.During During (λ b fine within there.
       record { fine = fine; place = place b; adds = record { count = refl; within = within }; once = new there })
 
   exit_has : first_refused (λ j. true) (unexpected (item_heads z)) u ≡ None
       → (action_item usual kinds.Exit Exit z.counts).spells u x
-      → Found deep InState z x
+      → IsNextItem deep InState z x
   exit_has =
       action_has InState (item_heads z) kinds.Exit Exit (λ b fine within there.
       record { fine = fine; place = record {}; adds = record { count = refl; within = within }; once = is_new z.exit there })
 
   -- the word `history`
   history_has : (may : Item → Type 0) → ((at : Span) → may (History at)) → (history_item z.counts).spells u x
-      → Found deep may z x
+      → IsNextItem deep may z x
   unfolding history_item
   history_has may place w =
       let adds : Adds z.counts none z.counts = record { count = sym (sum-none z.counts); within = λ h. h } in
-      let found : Found deep may z (behind (History w.x.at) z.counts) =
+      let found : IsNextItem deep may z (behind (History w.x.at) z.counts) =
       record { fine = record {}; place = place w.x.at; adds = adds; once = record {} } in
-      subst (Found deep may z) (sym w.second.second.1) found
+      subst (IsNextItem deep may z) (sym w.second.second.1) found
 
   -- transitions
-  outer_has : (trans_item usual kinds.Outer Outer z.counts).spells u x → Found deep InState z x
+  outer_has : (trans_item usual kinds.Outer Outer z.counts).spells u x → IsNextItem deep InState z x
   unfolding trans_item
   outer_has w =
       counted_has deep InState z Outer (keyword_trans usual (is kinds.Outer) z.counts) u x cut (λ p v c s.
@@ -145,7 +145,7 @@ module _ (t : TransitionClaims) (deep : ℕ) (st : StateGrammar) (states : State
       record { fine = h.0; place = record {}; adds = h.1; once = record {} }) w
 
   inner_has : (may : Item → Type 0) → ((v : Trans) → may (Inner v))
-      → (trans_item usual kinds.Inner Inner z.counts).spells u x → Found deep may z x
+      → (trans_item usual kinds.Inner Inner z.counts).spells u x → IsNextItem deep may z x
   unfolding trans_item
   inner_has may place w =
       counted_has deep may z Inner (keyword_trans usual (is kinds.Inner) z.counts) u x cut (λ p v c s.
@@ -154,7 +154,7 @@ module _ (t : TransitionClaims) (deep : ℕ) (st : StateGrammar) (states : State
 
   default_has : (may : Item → Type 0) → ((v : Trans) → may (Default v))
       → (trans_item usual kinds.Default Default z.counts).spells u x
-      → Found deep may z x
+      → IsNextItem deep may z x
   unfolding trans_item
   default_has may place w =
       counted_has deep may z Default (keyword_trans usual (is kinds.Default) z.counts) u x cut (λ p v c s.
@@ -163,7 +163,7 @@ module _ (t : TransitionClaims) (deep : ℕ) (st : StateGrammar) (states : State
 
   -- junctions and states
   junction_has : (may : Item → Type 0) → ((v : Junction) → may (JunctionItem v))
-      → (junction_item usual z.counts).spells u x → Found deep may z x
+      → (junction_item usual z.counts).spells u x → IsNextItem deep may z x
   unfolding junction_item
   junction_has may place w =
       counted_has deep may z JunctionItem (junction usual z.counts) u x cut (λ p v c s.
@@ -172,35 +172,35 @@ module _ (t : TransitionClaims) (deep : ℕ) (st : StateGrammar) (states : State
 
   state_has : (may : Item → Type 0) → ((v : State) → may (StateItem v))
       → (st z.counts >>= λ v. give (counted_as StateItem v)).spells u x
-      → Found deep may z x
+      → IsNextItem deep may z x
   state_has may place w =
       counted_has deep may z StateItem (st z.counts) u x cut (λ p v c s.
       let h = states z.counts p v c s in
       record { fine = h.0; place = place v.value; adds = h.1; once = record {} }) w
 
   -- declarations
-  event_has : (event_item usual z.counts).spells u x → Found deep InChart z x
+  event_has : (event_item usual z.counts).spells u x → IsNextItem deep InChart z x
   unfolding event_item
   event_has w =
       let h = t.event_has z.counts w.p w.x (cut_first w cut) w.first in
-      let found : Found deep InChart z (behind (EventItem w.x) (after_event z.counts)) =
+      let found : IsNextItem deep InChart z (behind (EventItem w.x) (after_event z.counts)) =
       record { fine = h.0; place = record {}; adds = record { count = one_event z.counts; within = h.1 }; once = record {} } in
-      subst (Found deep InChart z) (sym w.second.1) found
+      subst (IsNextItem deep InChart z) (sym w.second.1) found
 
-  variable_has : (variable_item usual z.counts).spells u x → Found deep InChart z x
+  variable_has : (variable_item usual z.counts).spells u x → IsNextItem deep InChart z x
   unfolding variable_item
   variable_has w =
       let h = t.variable_has z.counts w.p w.x (cut_first w cut) w.first in
-      let found : Found deep InChart z (behind (VarItem w.x) (after_variable z.counts)) =
+      let found : IsNextItem deep InChart z (behind (VarItem w.x) (after_variable z.counts)) =
       record { fine = h.0; place = record {}; adds = record { count = one_variable z.counts; within = h.1 }; once = record {} } in
-      subst (Found deep InChart z) (sym w.second.1) found
+      subst (IsNextItem deep InChart z) (sym w.second.1) found
 
   -- an item of a state
-  pub item_has : (next_item usual st z).spells u x → Found deep InState z x
+  pub item_has : (next_item usual st z).spells u x → IsNextItem deep InState z x
   unfolding item
   item_has w = of w.1
     where
-      of : (item usual st z).spells u x → Found deep InState z x
+      of : (item usual st z).spells u x → IsNextItem deep InState z x
       of (inl a) = entry_has InState (λ b. record {}) (item_heads z) (is_new z.entry) w.0 a
       of (inr (inl a)) = during_has InState (λ b. record {}) (item_heads z) (is_new z.during) w.0 a
       of (inr (inr (inl a))) = exit_has w.0 a
@@ -212,11 +212,11 @@ module _ (t : TransitionClaims) (deep : ℕ) (st : StateGrammar) (states : State
       of (inr (inr (inr (inr (inr (inr (inr (inr a)))))))) = state_has InState (λ v. record {}) a
 
   -- an item of a chart
-  pub chart_item_has : (next_chart_item usual st z).spells u x → Found deep InChart z x
+  pub chart_item_has : (next_chart_item usual st z).spells u x → IsNextItem deep InChart z x
   unfolding chart_item
   chart_item_has w = of w.1
     where
-      of : (chart_item usual st z).spells u x → Found deep InChart z x
+      of : (chart_item usual st z).spells u x → IsNextItem deep InChart z x
       of (inl a) = entry_has InChart (λ b. record {}) (chart_heads z) (is_new z.entry) w.0 a
       of (inr (inl a)) = during_has InChart (λ b. record {}) (chart_heads z) (is_new z.during) w.0 a
       of (inr (inr (inl a))) = history_has InChart (λ at. record {}) a

@@ -2,7 +2,7 @@
 use Rattle.std.proofs.Common.{◌≡◌, true, false, ◌∷◌, List, Bool, Option, None, refl, ap}
 use Rattle.token_grammar.specs.declared.token.Kind.{Kind}
 use Rattle.token_grammar.specs.declared.token.Kind.TheVariants as kinds
-use Rattle.token_grammar.specs.declared.fault.Fault.{Fault}
+use Rattle.token_grammar.specs.declared.fault.TokenFault.{TokenFault}
 use Rattle.token_grammar.specs.Token.{Lexeme}
 use Rattle.token_grammar.specs.Grammar.{Grammar, is, token, one_of, allowed, ◌>>=◌, ◌>>◌}
 use Rattle.chart_grammar.specs.Expressions.{flag_heads}
@@ -19,7 +19,7 @@ spell_word k p = spell_then (spell_token k (kind_bytes k)) (λ v e. p)
 
 -- the same where the keyword is allowed
 pub spell_allowed_word : {Y B : Type 0} {h : Grammar Y} {view : Y → B} {b : List Word} {y : B} (k : Kind)
-    {said : Option Fault}
+    {said : Option TokenFault}
     → said ≡ None → WordsSpell h view b y
     → WordsSpell (allowed (is k) (λ t. said) (token k) >> h) view (keyword k ∷ b) y
 spell_allowed_word k free p = spell_then (spell_allowed (is k) free (spell_token k (kind_bytes k))) (λ v e. p)
@@ -35,7 +35,7 @@ spell_kind set k there p =
 -- the same where it is allowed
 pub spell_allowed_kind : {Y B : Type 0} {h : Lexeme → Grammar Y} {view : Y → B} {b : List Word} {y : B}
     (set : Kind → Bool) (k : Kind)
-    {said : Option Fault} → set k ≡ true → said ≡ None → ((t : Lexeme) → t.kind ≡ k → WordsSpell (h t) view b y)
+    {said : Option TokenFault} → set k ≡ true → said ≡ None → ((t : Lexeme) → t.kind ≡ k → WordsSpell (h t) view b y)
     → WordsSpell (allowed set (λ t. said) (one_of set) >>= h) view (keyword k ∷ b) y
 spell_allowed_kind set k there free p =
     spell_then (spell_allowed set free (spell_one_of set k (kind_bytes k) there))

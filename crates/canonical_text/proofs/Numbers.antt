@@ -4,7 +4,7 @@
 -- which that is so spell it.
 use Rattle.std.proofs.Common.{◌≡◌, List, [], ◌∷◌, Option, Some, None, refl, ap, subst, ◌∙◌}
 use Rattle.token_grammar.specs.declared.token.Kind.TheVariants as kinds
-use Rattle.token_grammar.specs.declared.fault.Fault.{Fault}
+use Rattle.token_grammar.specs.declared.fault.TokenFault.{TokenFault}
 use Rattle.token_grammar.specs.Token.{Lexeme}
 use Rattle.token_grammar.specs.Grammar.{token, is, first_refused}
 use Rattle.fixed_point.specs.Reading.{number_read}
@@ -20,7 +20,7 @@ use Rattle.canonical_text.proofs.Cut.{cut_token}
 use Rattle.canonical_text.proofs.Spelled.{spell_token, spell_tested, spell_seen}
 
 -- where nothing is refused, there was no fault
-no_fault : (said : Option Fault) → unless_lifted usual said ≡ None → said ≡ None
+no_fault : (said : Option TokenFault) → unless_lifted usual said ≡ None → said ≡ None
 no_fault None h = refl
 no_fault (Some f) h = absurd (let bad = rw (usual_kept f) at h in cc)
 

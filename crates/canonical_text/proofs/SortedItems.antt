@@ -65,7 +65,7 @@ IsNew z (EventItem e) = Unit {0}
 IsNew z (VarItem v) = Unit {0}
 
 -- an item after what was seen, with the counts after it
-pub record Found (deep : ℕ) (may : Item → Type 0) (z : Seen) (x : Counted Item) : Type 0 where
+pub record IsNextItem (deep : ℕ) (may : Item → Type 0) (z : Seen) (x : Counted Item) : Type 0 where
   pub fine : IsItem deep x.value
   pub place : may x.value
   pub adds : Adds z.counts (size_of_item x.value) x.counts
@@ -241,7 +241,7 @@ nothing_gathered deep may name comp named z = record {
 -- an item in front
 one_gathered : (deep : ℕ) (may : Item → Type 0) (name : NameText) (comp : CompText) (z : Seen) (x : Counted Item)
     (xs : List (Counted Item))
-    → Found deep may z x → Gathered deep may name comp (after_item z x) xs → Gathered deep may name comp z (x ∷ xs)
+    → IsNextItem deep may z x → Gathered deep may name comp (after_item z x) xs → Gathered deep may name comp z (x ∷ xs)
 one_gathered deep may name comp z x xs f g =
     let s : Sorted = sorted name comp (values xs) in
     let there : (after_item z x).counts ≡ x.counts = after_counts z x.value x.counts in
@@ -263,7 +263,7 @@ one_gathered deep may name comp z x xs f g =
 
 module _ (deep : ℕ) (may : Item → Type 0) (name : NameText) (comp : CompText)
     (spells : Seen → List Lexeme → Counted Item → Type 0)
-    (has : (z : Seen) (u : List Lexeme) (x : Counted Item) → AreCut u → spells z u x → Found deep may z x) where
+    (has : (z : Seen) (u : List Lexeme) (x : Counted Item) → AreCut u → spells z u x → IsNextItem deep may z x) where
   -- all of them, where each item has what it should
   pub gathered : (z : Seen) (u : List Lexeme) (xs : List (Counted Item)) → IsNamed name → AreCut u
       → many_from_spells spells after_item z u xs

@@ -4,7 +4,7 @@ use Rattle.std.proofs.Common.{◌∙◌, inl, inr, eq-eqb, append-nil, if◌then
 use Rattle.std.specs.Option.{option_map}
 use Rattle.token_grammar.specs.declared.token.Kind.{Kind}
 use Rattle.token_grammar.specs.declared.token.Span.{Span}
-use Rattle.token_grammar.specs.declared.fault.Fault.{Fault}
+use Rattle.token_grammar.specs.declared.fault.TokenFault.{TokenFault}
 use Rattle.token_grammar.specs.Token.{Lexeme, kind_eq}
 use Rattle.token_grammar.specs.Grammar.{Grammar, token, one_of, give, ◌>>=◌, either, optional, allowed, at_first}
 use Rattle.token_grammar.specs.Grammar.{many, many_from, first_refused}
@@ -140,13 +140,13 @@ spell_some set p = spell_left set (spell_made p (λ v l. ap Some l))
 -- ---- where a token is allowed
 
 -- what refuses nothing of a token refuses nothing, whether the token is looked at or not
-none_refused : (looked : Bool) {said : Option Fault} → said ≡ None → (if looked then said else None) ≡ None
+none_refused : (looked : Bool) {said : Option TokenFault} → said ≡ None → (if looked then said else None) ≡ None
 none_refused true free = free
 none_refused false free = refl
 
 -- where the test says the same of each token
 pub spell_allowed : {X Y : Type 0} {g : Grammar X} {view : X → Y} {w : List Word} {y : Y} (set : Kind → Bool)
-    {said : Option Fault}
+    {said : Option TokenFault}
     → said ≡ None → WordsSpell g view w y → WordsSpell (allowed set (λ t. said) g) view w y
 spell_allowed set {said} free p u e = let s =
     p u e in record { value = s.value; spelled = (passes u, s.spelled); looks = s.looks }
@@ -157,7 +157,7 @@ spell_allowed set {said} free p u e = let s =
 
 -- where it looks at the first word
 pub spell_tested : {X Y : Type 0} {g : Grammar X} {view : X → Y} {w : List Word} {y : Y} (set : Kind → Bool)
-    (test : Lexeme → Option Fault)
+    (test : Lexeme → Option TokenFault)
     (k : Kind) (text : List ℕ) → ((t : Lexeme) → t.kind ≡ k → t.text ≡ text → test t ≡ None)
     → WordsSpell g view (record { kind = k; text = text } ∷ w) y
     → WordsSpell (allowed set test g) view (record { kind = k; text = text } ∷ w) y

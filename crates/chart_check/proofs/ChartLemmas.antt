@@ -2,7 +2,7 @@
 use Rattle.std.proofs.Common.{◌≡◌, ℕ, ◌<◌, [], ◌++◌, flat_map, ap, ◌∙◌, subst}
 use Rattle.std.proofs.lemmas.List.{length-map}
 use Rattle.active_config.specs.Tree.{IsTree, state_count, comp_of}
-use Rattle.chart_tree.specs.declared.first.Found.{Found}
+use Rattle.chart_tree.specs.declared.first.FaultAt.{FaultAt}
 use Rattle.checked_chart.specs.Chart as charts
 use Rattle.checked_chart.specs.Counts.{IsWithinLimits}
 use Rattle.checked_chart.specs.Valid as valid
@@ -33,7 +33,7 @@ module _ (r : Resolved) (res : KeepsPromise r) where
   words_are v = v.words
 
   -- a net without faults is valid
-  pub sound_net : ((f : Found) → StructureFault (net_of r) f → ⊥) → ((f : Found) → PairFault (net_of r) f → ⊥)
+  pub sound_net : ((f : FaultAt) → StructureFault (net_of r) f → ⊥) → ((f : FaultAt) → PairFault (net_of r) f → ⊥)
       → nets.IsValid (net_of r)
   sound_net = valid_where (net_of r) (is_net r res)
 
@@ -41,7 +41,7 @@ module _ (r : Resolved) (res : KeepsPromise r) where
   pub bare_net : nets.IsValid (net_of r) → erased (net_of r) ≡ net_of_chart (chart_of r)
   bare_net v = net_same r res (words_are v)
 
-  net_valid : ((f : Found) → StructureFault (net_of r) f → ⊥) → ((f : Found) → PairFault (net_of r) f → ⊥)
+  net_valid : ((f : FaultAt) → StructureFault (net_of r) f → ⊥) → ((f : FaultAt) → PairFault (net_of r) f → ⊥)
       → nets.IsValid (net_of_chart (chart_of r))
   net_valid sound few =
       let v = sound_net sound few in
@@ -110,8 +110,8 @@ module _ (r : Resolved) (res : KeepsPromise r) where
   unfolding chart_of
   tree_valid = res.tree
 
-  pub chart_valid : type_faults r ≡ [] → ((f : Found) → StructureFault (net_of r) f → ⊥)
-      → ((f : Found) → PairFault (net_of r) f → ⊥) → valid.IsValid (chart_of r)
+  pub chart_valid : type_faults r ≡ [] → ((f : FaultAt) → StructureFault (net_of r) f → ⊥)
+      → ((f : FaultAt) → PairFault (net_of r) f → ⊥) → valid.IsValid (chart_of r)
   chart_valid none sound few =
       let net = net_valid sound few in
       valid_by (no_faults none) (structure_of (chart_of r) tree_valid net) (within_limits net) root_list root_exit

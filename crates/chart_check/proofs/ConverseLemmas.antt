@@ -1,7 +1,7 @@
 -- The net of a resolved chart that stands for a valid chart has no fault, where words are compositions.
 use Rattle.std.proofs.Common.{◌≡◌, ℕ, ◌<◌, sym, subst}
 use Rattle.active_config.specs.Tree.{state_count, comp_of}
-use Rattle.chart_tree.specs.declared.first.Found.{Found}
+use Rattle.chart_tree.specs.declared.first.FaultAt.{FaultAt}
 use Rattle.checked_chart.specs.Valid as valid
 use Rattle.resolved_tree.specs.Resolved.{Resolved}
 use Rattle.resolved_tree.specs.Plain.{chart_of}
@@ -24,8 +24,8 @@ module _ (r : Resolved) (res : KeepsPromise r)
       let bare = valid_net (chart_of r) v.tree v.structure v.limits.pairs in
       valid_by_erased (net_of r) (subst nets.IsValid (sym (net_same r res words)) bare)
 
-  pub no_structure_fault : (f : Found) → StructureFault (net_of r) f → ⊥
+  pub no_structure_fault : (f : FaultAt) → StructureFault (net_of r) f → ⊥
   no_structure_fault f h = no_fault (net_of r) (is_net r res) net_valid f h
 
-  pub few_pairs : (f : Found) → PairFault (net_of r) f → ⊥
+  pub few_pairs : (f : FaultAt) → PairFault (net_of r) f → ⊥
   few_pairs f h = no_pair_fault (net_of r) (is_net r res) net_valid f h

@@ -32,13 +32,13 @@ part_kept part kept (v ∷ vs) [] = ap (λ xs. part v ∷ xs) (part_kept part ke
 part_kept part kept (v ∷ vs) (i ∷ is) = ap₂ (λ x xs. x ∷ xs) (kept v i) (part_kept part kept vs is)
 
 -- a datum is declared with its kind and its sort
-pub record IsKept (vs : List Var) (is : List InitText) (i : ℕ) (v : Var) : Type 0 where
+pub record IsDeclaredAs (vs : List Var) (is : List InitText) (i : ℕ) (v : Var) : Type 0 where
   pub decl : Var
   pub declared : slice_get (with_inits vs is) i ≡ Some decl
   pub kind : decl.kind ≡ v.kind
   pub sort : decl.sort ≡ v.sort
 
-pub decl_kept : (vs : List Var) (is : List InitText) (i : ℕ) (v : Var) → slice_get vs i ≡ Some v → IsKept vs is i v
+pub decl_kept : (vs : List Var) (is : List InitText) (i : ℕ) (v : Var) → slice_get vs i ≡ Some v → IsDeclaredAs vs is i v
 decl_kept [] is i v e = absurd cc
 decl_kept (x ∷ xs) [] zero v e =
     let same : x ≡ v = cc in

@@ -6,7 +6,7 @@ use Rattle.token_grammar.specs.declared.token.Span.{Span}
 use Rattle.chart_tree.specs.declared.expr.UnWord.{UnWord}
 use Rattle.chart_tree.specs.declared.expr.UnWord.TheVariants as unary
 use Rattle.chart_tree.specs.declared.expr.BinWord.{BinWord}
-use Rattle.chart_tree.specs.declared.first.Found.{Found}
+use Rattle.chart_tree.specs.declared.first.FaultAt.{FaultAt}
 use Rattle.actions.specs.declared.names.EventDecl.{EventDecl}
 use Rattle.actions.specs.declared.names.EventKind.{EventKind}
 use Rattle.actions.specs.declared.names.EventKind.TheVariants as events
@@ -35,11 +35,11 @@ use Rattle.chart_check.proofs.DeclLemmas.{decl_kept, scope_kept}
 
 -- ---- lists of faults
 
-both : (xs ys : List Found) → xs ≡ [] → ys ≡ [] → xs ++ ys ≡ []
-both xs ys a b = ap₂ (λ (x y : List Found). x ++ y) a b
+both : (xs ys : List FaultAt) → xs ≡ [] → ys ≡ [] → xs ++ ys ≡ []
+both xs ys a b = ap₂ (λ (x y : List FaultAt). x ++ y) a b
 
 -- no item has a fault where none has one that f makes something of with P
-none_where : {X Y : Type 0} (faults : X → List Found) (Q : X → Type 0) (P : Y → Type 0) (f : X → Y)
+none_where : {X Y : Type 0} (faults : X → List FaultAt) (Q : X → Type 0) (P : Y → Type 0) (f : X → Y)
     → ((x : X) → Q x → P (f x) → faults x ≡ []) → (xs : List X) → AllByRecursion Q xs → AllByRecursion P (map f xs)
     → flat_map faults xs ≡ []
 none_where faults Q P f each [] q p = refl

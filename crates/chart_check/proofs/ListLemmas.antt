@@ -2,7 +2,7 @@
 use Rattle.std.proofs.Common.{◌≡◌, ℕ, zero, suc, ◌<◌, List, [], ◌∷◌, ◌++◌, length, map, Some, slice_get, flat_map}
 use Rattle.std.proofs.Common.{refl, subst, arith}
 use Rattle.std.specs.List.{AllByRecursion}
-use Rattle.chart_tree.specs.declared.first.Found.{Found}
+use Rattle.chart_tree.specs.declared.first.FaultAt.{FaultAt}
 
 -- two lists that are empty together are empty
 pub neither : {X : Type 0} (xs ys : List X) → xs ++ ys ≡ [] → (xs ≡ []) × (ys ≡ [])
@@ -23,7 +23,7 @@ one_of P (y ∷ ys) zero x all e = let same : y ≡ x = cc in subst P same all.0
 one_of P (y ∷ ys) (suc i) x all e = one_of P ys i x all.1 e
 
 -- what f makes of each item without faults has P, and none of the items has a fault
-pub all_faultless : {X Y : Type 0} (faults : X → List Found) (Q : X → Type 0) (P : Y → Type 0) (f : X → Y)
+pub all_faultless : {X Y : Type 0} (faults : X → List FaultAt) (Q : X → Type 0) (P : Y → Type 0) (f : X → Y)
     → ((x : X) → Q x → faults x ≡ [] → P (f x)) → (xs : List X) → AllByRecursion Q xs → flat_map faults xs ≡ []
     → AllByRecursion P (map f xs)
 all_faultless faults Q P f each [] all none = tt

@@ -15,7 +15,7 @@ use Rattle.chart_structure.specs.Valid.{IsValid}
 use Rattle.chart_structure.proofs.ChartLemmas.{pairs_back}
 use Rattle.chart_structure.proofs.ErasedLemmas.{pairs_back as erased_back}
 use Rattle.chart_structure.proofs.PairLemmas.{one_number_of_net}
-use Rattle.chart_check.specs.Check.{IsSound}
+use Rattle.chart_check.specs.Check.{HasNoFaults}
 use Rattle.chart_check.specs.Nets.{net_of}
 use Rattle.chart_check.proofs.ChartLemmas.{sound_net, bare_net}
 
@@ -40,7 +40,7 @@ counted n pairs count v c are =
     omega (arith, here, there, few, bounded)
 
 -- what is counted in the net of a sound resolved chart is the number of pairs of its chart
-pub pairs_are : (r : Resolved) (pairs : ℕ) → KeepsPromise r → IsSound r → CountsPairs (net_of r) pairs
+pub pairs_are : (r : Resolved) (pairs : ℕ) → KeepsPromise r → HasNoFaults r → CountsPairs (net_of r) pairs
     → ArePairs (chart_of r) pairs
 pairs_are r pairs res s c =
     let v = sound_net r res s.structure s.pairs in

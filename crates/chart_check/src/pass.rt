@@ -8,13 +8,13 @@ ghost use Rattle.resolved_tree.specs.Promise.{KeepsPromise};
 ghost use Rattle.resolved_tree.specs.Views.{resolved_of};
 ghost use Rattle.chart_structure.specs.Pass.{CountsPairs};
 ghost use Rattle.chart_types.specs.Types.{type_faults};
-ghost use Rattle.chart_check.specs.Check.{IsAnswer, IsChecked, IsSound, Refuses};
+ghost use Rattle.chart_check.specs.Check.{IsAnswer, IsChecked, HasNoFaults, Refuses};
 ghost use Rattle.chart_check.specs.Nets as nets;
 
 use crate::parts::chart_parts;
 use crate::resolved_net::net_of;
 use chart_structure::{Structure, first_fault};
-use chart_tree::{FormFault, Found};
+use chart_tree::{FaultAt, FormFault};
 use chart_types::first_type_fault;
 use checked_chart::Chart;
 use flow_base::Memory;
@@ -51,14 +51,14 @@ fn structure_of(alloc: Global, resolved: &Resolved) -> Result<Structure, Memory>
 fn structure_pairs(alloc: Global, resolved: &Resolved) -> Result<u32, FormFault>
     requires resolved { KeepsPromise (resolved_of resolved.now) }
     requires types { first_of (type_faults (resolved_of resolved.now)) ≡ None }
-    ensures sound { IfOk result (λ pairs. IsSound (resolved_of resolved.now)) }
+    ensures sound { IfOk result (λ pairs. HasNoFaults (resolved_of resolved.now)) }
     ensures pairs { IfOk result (λ pairs.
         ChartPairs (plain.chart_of (resolved_of resolved.now)) pairs) }
     ensures refused { IfErr result (Refuses (resolved_of resolved.now)) }
 {
     match structure_of(alloc, resolved) {
         Ok(found) => match found.fault {
-            Some(Found { kind, at }) => Err(FormFault::At(kind, at)),
+            Some(FaultAt { kind, at }) => Err(FormFault::At(kind, at)),
             None => Ok(found.pairs as u32),
         },
         Err(Memory) => Err(FormFault::Memory),
@@ -68,13 +68,13 @@ fn structure_pairs(alloc: Global, resolved: &Resolved) -> Result<u32, FormFault>
 /// The number of pairs of a sound resolved chart, or the first fault of another one.
 fn sound_pairs(alloc: Global, resolved: &Resolved) -> Result<u32, FormFault>
     requires { KeepsPromise (resolved_of resolved.now) }
-    ensures sound { IfOk result (λ pairs. IsSound (resolved_of resolved.now)) }
+    ensures sound { IfOk result (λ pairs. HasNoFaults (resolved_of resolved.now)) }
     ensures pairs { IfOk result (λ pairs.
         ChartPairs (plain.chart_of (resolved_of resolved.now)) pairs) }
     ensures refused { IfErr result (Refuses (resolved_of resolved.now)) }
 {
     match first_type_fault(resolved) {
-        Some(Found { kind, at }) => Err(FormFault::At(kind, at)),
+        Some(FaultAt { kind, at }) => Err(FormFault::At(kind, at)),
         None => structure_pairs(alloc, resolved),
     }
 }
@@ -82,7 +82,7 @@ fn sound_pairs(alloc: Global, resolved: &Resolved) -> Result<u32, FormFault>
 /// The chart for which a sound resolved chart stands.
 fn chart_from(alloc: Global, resolved: Resolved) -> Result<Chart, Memory>
     requires resolved { KeepsPromise (resolved_of resolved) }
-    requires sound { IsSound (resolved_of resolved) }
+    requires sound { HasNoFaults (resolved_of resolved) }
     ensures { IfOk result (λ c. IsChecked (resolved_of resolved) (chart_of c)) }
 {
     let parts = chart_parts(alloc, resolved)?;

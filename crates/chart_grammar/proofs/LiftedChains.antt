@@ -3,7 +3,7 @@
 -- says so too, and that x has a spelling. `starts_x` says that each token of a set begins x, and `expects_x` that no
 -- other does.
 use Rattle.std.proofs.Common.{◌≡◌, ℕ, ◌+◌, true, false}
-use Rattle.token_grammar.specs.declared.fault.Fault.TheVariants as faults
+use Rattle.token_grammar.specs.declared.fault.TokenFault.TheVariants as faults
 use Rattle.token_grammar.specs.declared.fault.Thing.TheVariants as things
 use Rattle.token_grammar.proofs.Good.{Set}
 use Rattle.token_grammar.proofs.Fine.{Fine}

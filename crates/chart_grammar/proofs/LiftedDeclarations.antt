@@ -6,8 +6,8 @@ use Rattle.std.proofs.Common.{◌≡◌, ℕ, Bool, true, false, Option, Some, N
 use Rattle.fixed_point.specs.declared.fitting.Mode.TheVariants as modes
 use Rattle.token_grammar.specs.declared.token.Kind.TheVariants as kinds
 use Rattle.token_grammar.specs.declared.token.Span.{Span}
-use Rattle.token_grammar.specs.declared.fault.Fault.{Fault}
-use Rattle.token_grammar.specs.declared.fault.Fault.TheVariants as faults
+use Rattle.token_grammar.specs.declared.fault.TokenFault.{TokenFault}
+use Rattle.token_grammar.specs.declared.fault.TokenFault.TheVariants as faults
 use Rattle.token_grammar.specs.declared.fault.Thing.TheVariants as things
 use Rattle.token_grammar.specs.Token.{Lexeme}
 use Rattle.token_grammar.specs.Grammar.{Grammar, is, token, allowed, unless_lifted as unless_out}
@@ -32,15 +32,15 @@ use Rattle.chart_grammar.proofs.LiftedWords.{eased_name, eased_number}
 -- ---- a test whose only fault is Expected
 
 -- no fault of the test is lifted, where none but Expected is
-expected_alone : (lifts : Fault → Bool) → lifts faults.Expected ≡ false → (said : Option Fault)
-    → ((f : Fault) → said ≡ Some f → faults.Expected ≡ f) → said ≡ unless_out lifts said
+expected_alone : (lifts : TokenFault → Bool) → lifts faults.Expected ≡ false → (said : Option TokenFault)
+    → ((f : TokenFault) → said ≡ Some f → faults.Expected ≡ f) → said ≡ unless_out lifts said
 expected_alone lifts kept None only = refl
 expected_alone lifts kept (Some f) only = rw (subst (λ z. lifts z ≡ false) (only f refl) kept) refl
 
 -- a test whose only fault is Expected lifts no limit
 pub lifted_expected : {X : Type 0} {k : ℕ} {l : Limits} {g g' : Grammar X} → Comparison k l
-    → (set : Set) (test : Lexeme → Option Fault)
-    → ((t : Lexeme) (f : Fault) → test t ≡ Some f → faults.Expected ≡ f) → Lifted (lifts_from k) g g'
+    → (set : Set) (test : Lexeme → Option TokenFault)
+    → ((t : Lexeme) (f : TokenFault) → test t ≡ Some f → faults.Expected ≡ f) → Lifted (lifts_from k) g g'
     → Lifted (lifts_from k) (allowed set test g) (allowed set test g')
 lifted_expected {X} {k} c set test only a =
     lifted_allowed_kept set test test a (λ t there. expected_alone (lifts_from k) (expected c) (test t) (only t))
@@ -49,7 +49,7 @@ lifted_expected {X} {k} c set test only a =
 -- ---- types
 
 -- a word that names no type is Expected
-only_expected : (word : Option TypeWord) (f : Fault) → no_type word ≡ Some f → faults.Expected ≡ f
+only_expected : (word : Option TypeWord) (f : TokenFault) → no_type word ≡ Some f → faults.Expected ≡ f
 only_expected None f said = cc
 only_expected (Some word) f said = absurd cc
 

@@ -4,8 +4,8 @@
 -- other does.
 use Rattle.std.proofs.Common.{◌≡◌, ℕ, zero, suc, ◌+◌, true, false, Some, refl}
 use Rattle.token_grammar.specs.declared.token.Kind.TheVariants as kinds
-use Rattle.token_grammar.specs.declared.fault.Fault.{Fault}
-use Rattle.token_grammar.specs.declared.fault.Fault.TheVariants as faults
+use Rattle.token_grammar.specs.declared.fault.TokenFault.{TokenFault}
+use Rattle.token_grammar.specs.declared.fault.TokenFault.TheVariants as faults
 use Rattle.token_grammar.specs.declared.fault.Thing.TheVariants as things
 use Rattle.token_grammar.specs.Grammar.{is, allowed}
 use Rattle.token_grammar.proofs.Good.{nothing}
@@ -159,7 +159,7 @@ module _ {k : ℕ} {l : Limits} (c : Comparison k l) where
       lifted_allowed_kept nested_heads too_nested too_nested (lifted_nested c plain_operands n)
       (λ t there. rw kept refl) (λ t f said. same f said)
     where
-      same : (f : Fault) → Some (faults.TooMany things.Operators) ≡ Some f → lifts_from k f ≡ false
+      same : (f : TokenFault) → Some (faults.TooMany things.Operators) ≡ Some f → lifts_from k f ≡ false
       same f said = let e : faults.TooMany things.Operators ≡ f = cc in rw (← e) kept
 
   -- and on the left alone

@@ -6,8 +6,8 @@ use Rattle.std.proofs.Common.{◌≡◌, ℕ, true, false, List, Some, inl, inr}
 use Rattle.std.proofs.lemmas.Bool.{cases_Bool}
 use Rattle.token_grammar.specs.declared.token.Kind.{Kind}
 use Rattle.token_grammar.specs.declared.token.Kind.TheVariants as kinds
-use Rattle.token_grammar.specs.declared.fault.Fault.{Fault}
-use Rattle.token_grammar.specs.declared.fault.Fault.TheVariants as faults
+use Rattle.token_grammar.specs.declared.fault.TokenFault.{TokenFault}
+use Rattle.token_grammar.specs.declared.fault.TokenFault.TheVariants as faults
 use Rattle.token_grammar.specs.declared.fault.Thing.TheVariants as things
 use Rattle.token_grammar.specs.Token.{Lexeme}
 use Rattle.token_grammar.specs.Grammar.{Grammar, is, give, ◌>>=◌}
@@ -34,7 +34,7 @@ use Rattle.chart_grammar.proofs.LiftedDeclarations.{lifted_expected, lifted_even
 use Rattle.chart_grammar.proofs.LiftedTransitions.{eased_block, lifted_junction_trans, lifted_keyword_trans}
 
 -- a token out of the set is Expected
-only_expected : (set : Set) (t : Lexeme) (f : Fault) → unexpected set t ≡ Some f → faults.Expected ≡ f
+only_expected : (set : Set) (t : Lexeme) (f : TokenFault) → unexpected set t ≡ Some f → faults.Expected ≡ f
 only_expected set t f said =
     elim (cases_Bool (set t.kind)) [
       | inl there ↦ absurd (let bad = rw there at said in cc)

@@ -4,8 +4,8 @@
 -- other does.
 use Rattle.std.proofs.Common.{◌≡◌, ℕ, zero, suc, ◌≤◌, true, false, Some, refl}
 use Rattle.token_grammar.specs.declared.token.Kind.TheVariants as kinds
-use Rattle.token_grammar.specs.declared.fault.Fault.{Fault}
-use Rattle.token_grammar.specs.declared.fault.Fault.TheVariants as faults
+use Rattle.token_grammar.specs.declared.fault.TokenFault.{TokenFault}
+use Rattle.token_grammar.specs.declared.fault.TokenFault.TheVariants as faults
 use Rattle.token_grammar.specs.declared.fault.Thing.TheVariants as things
 use Rattle.token_grammar.specs.Grammar.{Grammar, is, give, ◌>>=◌}
 use Rattle.token_grammar.proofs.Good.{nothing, Good}
@@ -98,7 +98,7 @@ module _ {k : ℕ} {l : Limits} (c : Comparison k l) where
       eased_then (eased_name c) (λ name.
       eased_give _))
     where
-      same : (f : Fault) → Some faults.NestTooDeep ≡ Some f → lifts_from k f ≡ false
+      same : (f : TokenFault) → Some faults.NestTooDeep ≡ Some f → lifts_from k f ≡ false
       same f said = let e : faults.NestTooDeep ≡ f = cc in rw (← e) kept
 
   -- and on the left alone

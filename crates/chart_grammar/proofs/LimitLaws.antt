@@ -2,8 +2,8 @@
 use Rattle.std.proofs.Common.{◌≡◌, ℕ, zero, suc, ◌≤◌, ◌<◌, Bool, true, false, Option, Some, None, inl, inr, refl, sym}
 use Rattle.std.proofs.Common.{subst, ltb, arith}
 use Rattle.std.proofs.lemmas.Bool.{cases_Bool, leb-true, le-leb, lt-leb}
-use Rattle.token_grammar.specs.declared.fault.Fault.{Fault}
-use Rattle.token_grammar.specs.declared.fault.Fault.TheVariants as faults
+use Rattle.token_grammar.specs.declared.fault.TokenFault.{TokenFault}
+use Rattle.token_grammar.specs.declared.fault.TokenFault.TheVariants as faults
 use Rattle.token_grammar.specs.declared.fault.Thing.{Thing}
 use Rattle.token_grammar.specs.declared.fault.Thing.TheVariants as things
 use Rattle.token_grammar.specs.Token.{Lexeme}
@@ -25,7 +25,7 @@ expected {k} c = lt-leb k 0 (omega (arith, c.some))
 -- ---- one fault
 
 -- all of the usual limits count
-pub usual_kept : (f : Fault) → is_lifted usual f ≡ false
+pub usual_kept : (f : TokenFault) → is_lifted usual f ≡ false
 usual_kept faults.Expected = refl
 usual_kept faults.LiteralTooLong = refl
 usual_kept faults.LiteralNotBinary = refl
@@ -40,7 +40,7 @@ usual_kept (faults.TooMany things.Operators) = refl
 usual_kept (faults.TooMany things.Items) = refl
 
 -- what is refused usually is refused, unless it is lifted
-pub said_alike : {k : ℕ} {l : Limits} → Comparison k l → (said : Option Fault)
+pub said_alike : {k : ℕ} {l : Limits} → Comparison k l → (said : Option TokenFault)
     → unless_lifted l said ≡ unless_out (lifts_from k) (unless_lifted usual said)
 said_alike c None = refl
 said_alike c (Some f) = rw (usual_kept f, c.from.from) refl
@@ -72,8 +72,8 @@ one_more_free c thing count lift =
 -- ---- the first of two faults
 
 -- where the second is lifted with the first
-first_alike : (lifts : Fault → Bool) (a b : Option Fault)
-    → ((f g : Fault) → a ≡ Some f → b ≡ Some g → lifts f ≡ true → lifts g ≡ true)
+first_alike : (lifts : TokenFault → Bool) (a b : Option TokenFault)
+    → ((f g : TokenFault) → a ≡ Some f → b ≡ Some g → lifts f ≡ true → lifts g ≡ true)
     → first_of (unless_out lifts a) (unless_out lifts b) ≡ unless_out lifts (first_of a b)
 first_alike lifts None b h = refl
 first_alike lifts (Some f) None h =
@@ -111,7 +111,7 @@ pub states_too : (k : ℕ) → lifts_from k faults.NestTooDeep ≡ true → lift
 states_too k lift = let low = leb-true k 3 lift in le-leb k 4 (omega arith)
 
 -- one more of a thing has the fault of that thing
-one_more_says : (thing : Thing) (count : ℕ) (f : Fault) → one_more usual thing count ≡ Some f → faults.TooMany thing ≡ f
+one_more_says : (thing : Thing) (count : ℕ) (f : TokenFault) → one_more usual thing count ≡ Some f → faults.TooMany thing ≡ f
 one_more_says thing count f e =
     elim (cases_Bool (ltb count (most thing))) [
       | inl room ↦ absurd (let bad = rw room at e in cc)

@@ -5,7 +5,7 @@
 -- spelling.
 use Rattle.std.proofs.Common.{ℕ, zero, suc, true, false, Some, refl}
 use Rattle.token_grammar.specs.declared.token.Kind.TheVariants as kinds
-use Rattle.token_grammar.specs.declared.fault.Fault.TheVariants as faults
+use Rattle.token_grammar.specs.declared.fault.TokenFault.TheVariants as faults
 use Rattle.token_grammar.specs.Grammar.{is}
 use Rattle.token_grammar.proofs.Good.{nothing, Good}
 use Rattle.token_grammar.proofs.Leaves.{good_token}

@@ -3,8 +3,8 @@ use Rattle.std.proofs.Common.{◌≡◌, ◌≢◌, ℕ, ◌+◌, ◌≤◌, ◌
 use Rattle.std.proofs.Common.{Ok, Err, refl, sym, ap, subst, ◌∙◌, append_assoc, inl, inr, ◌⊎◌, arith}
 use Rattle.std.proofs.lemmas.List.{append-nil, append_cancel_right}
 use Rattle.std.proofs.lemmas.Bool.{le-leb, lt-leb, cases_lt}
-use Rattle.token_grammar.specs.declared.fault.Fault.{Fault}
-use Rattle.token_grammar.specs.declared.fault.Fault.TheVariants as faults
+use Rattle.token_grammar.specs.declared.fault.TokenFault.{TokenFault}
+use Rattle.token_grammar.specs.declared.fault.TokenFault.TheVariants as faults
 use Rattle.token_grammar.specs.declared.fault.Thing.TheVariants as things
 use Rattle.token_grammar.specs.Token.{Lexeme}
 use Rattle.token_grammar.specs.Grammar.{Grammar, Continues, FirstFault, whole_reads}
@@ -20,7 +20,7 @@ use Rattle.chart_grammar.proofs.LiftedStates.{eased_chart}
 -- ---- ranks
 
 -- a fault of a limit has a rank of its own
-limit_rank : (f : Fault) → f ≢ faults.Expected → 1 ≤ rank f
+limit_rank : (f : TokenFault) → f ≢ faults.Expected → 1 ≤ rank f
 limit_rank faults.Expected other = absurd (other refl)
 limit_rank faults.LiteralTooLong other = omega arith
 limit_rank faults.LiteralNotBinary other = omega arith
@@ -35,7 +35,7 @@ limit_rank (faults.TooMany things.Operators) other = omega arith
 limit_rank (faults.TooMany things.Items) other = omega arith
 
 -- the fault of a rank
-abbrev of_rank : ℕ → Fault
+abbrev of_rank : ℕ → TokenFault
 of_rank n =
     if n == 0 then faults.Expected else
     if n == 1 then faults.LiteralTooLong else
@@ -51,7 +51,7 @@ of_rank n =
     faults.TooMany things.Items
 
 -- each fault is that of its rank
-of_rank-rank : (f : Fault) → of_rank (rank f) ≡ f
+of_rank-rank : (f : TokenFault) → of_rank (rank f) ≡ f
 of_rank-rank faults.Expected = refl
 of_rank-rank faults.LiteralTooLong = refl
 of_rank-rank faults.LiteralNotBinary = refl
@@ -66,15 +66,15 @@ of_rank-rank (faults.TooMany things.Operators) = refl
 of_rank-rank (faults.TooMany things.Items) = refl
 
 -- two faults don't share a rank
-rank_one : (f g : Fault) → rank f ≡ rank g → f ≡ g
+rank_one : (f g : TokenFault) → rank f ≡ rank g → f ≡ g
 rank_one f g e = sym (of_rank-rank f) ∙ ap of_rank e ∙ of_rank-rank g
 
 -- a fault of a rank above 0 isn't Expected
-other_than_expected : (f : Fault) → 1 ≤ rank f → f ≢ faults.Expected
+other_than_expected : (f : TokenFault) → 1 ≤ rank f → f ≢ faults.Expected
 other_than_expected f some e = let zero : rank f ≡ 0 = ap rank e in omega arith
 
 -- the limits from a fault's rank on have its own
-lifts_own : (f : Fault) → lifts_from (rank f) f ≡ true
+lifts_own : (f : TokenFault) → lifts_from (rank f) f ≡ true
 lifts_own f = le-leb (rank f) (rank f) (omega arith)
 
 -- Expected has the rank 0
@@ -135,7 +135,7 @@ continues_front : {X : Type 0} (g : Grammar X) (u v : List Lexeme) (t : Lexeme) 
     → Continues g (u ++ t ∷ []) → Continues g (v ++ t ∷ [])
 continues_front g u v t q e c = subst (λ z. Continues g (z ++ t ∷ [])) (append_cancel_right u v (t ∷ q) e) c
 
-module _ (s : List Lexeme) (t : Lexeme) (q : List Lexeme) (f : Fault) (e : whole_reads (chart usual) s ≡ Err (f, t ∷ q))
+module _ (s : List Lexeme) (t : Lexeme) (q : List Lexeme) (f : TokenFault) (e : whole_reads (chart usual) s ≡ Err (f, t ∷ q))
     (stops : FirstFault (chart usual) s (t ∷ q)) where
   -- where limits up to that of the fault don't count, the token goes on
   passes_lifted : (k : ℕ) (l : Limits) → 1 ≤ k → k ≤ rank f → LiftedFrom k l
@@ -159,7 +159,7 @@ module _ (s : List Lexeme) (t : Lexeme) (q : List Lexeme) (f : Fault) (e : whole
   }
 
   -- and no other
-  pub text_one_fault : (g : Fault) → IsFaultOf stops.before t g → f ≡ g
+  pub text_one_fault : (g : TokenFault) → IsFaultOf stops.before t g → f ≡ g
   text_one_fault g is =
       elim (cases_lt (rank f) (rank g)) [
         | inl high ↦
@@ -176,26 +176,26 @@ module _ (s : List Lexeme) (t : Lexeme) (q : List Lexeme) (f : Fault) (e : whole
       ]
 
 -- where reading stops is the first fault
-pub text_stops : (s r : List Lexeme) (f : Fault) → whole_reads (chart usual) s ≡ Err (f, r)
+pub text_stops : (s r : List Lexeme) (f : TokenFault) → whole_reads (chart usual) s ≡ Err (f, r)
     → FirstFault (chart usual) s r
 text_stops s r f e = whole_fault (fine_chart usual) s r f e
 
 -- a text that ends too early is at no limit
-not_at_limit : (s : List Lexeme) (f : Fault) → whole_reads (chart usual) s ≡ Err (f, []) → f ≢ faults.Expected → ⊥
+not_at_limit : (s : List Lexeme) (f : TokenFault) → whole_reads (chart usual) s ≡ Err (f, []) → f ≢ faults.Expected → ⊥
 not_at_limit s f e other =
     let some = limit_rank f other in
     let eased = eased_chart (rank f) (limits_from (rank f)) some (lifted_limits (rank f)) in
     whole_ends eased.lifted (keeps_expected (rank f) some) s f e (lifts_own f)
 
 -- at the end of a text the fault is Expected
-pub text_ends : (s : List Lexeme) (f : Fault) → whole_reads (chart usual) s ≡ Err (f, []) → f ≡ faults.Expected
+pub text_ends : (s : List Lexeme) (f : TokenFault) → whole_reads (chart usual) s ≡ Err (f, []) → f ≡ faults.Expected
 text_ends s f e =
     elim (expected_or_not f) [
       | inl same ↦ same
       | inr other ↦ absurd (not_at_limit s f e other)
     ]
   where
-    expected_or_not : (f : Fault) → (f ≡ faults.Expected) ⊎ (f ≢ faults.Expected)
+    expected_or_not : (f : TokenFault) → (f ≡ faults.Expected) ⊎ (f ≢ faults.Expected)
     expected_or_not faults.Expected = inl refl
     expected_or_not faults.LiteralTooLong = inr (λ e. cc)
     expected_or_not faults.LiteralNotBinary = inr (λ e. cc)

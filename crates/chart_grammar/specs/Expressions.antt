@@ -3,8 +3,8 @@ use Rattle.std.specs.Prelude.{ℕ, zero, suc, ◌+◌, Bool, ◌||◌, List, [],
 use Rattle.token_grammar.specs.declared.token.Kind.{Kind}
 use Rattle.token_grammar.specs.declared.token.Kind.TheVariants as kinds
 use Rattle.token_grammar.specs.declared.token.Span.{Span}
-use Rattle.token_grammar.specs.declared.fault.Fault.{Fault}
-use Rattle.token_grammar.specs.declared.fault.Fault.TheVariants as faults
+use Rattle.token_grammar.specs.declared.fault.TokenFault.{TokenFault}
+use Rattle.token_grammar.specs.declared.fault.TokenFault.TheVariants as faults
 use Rattle.token_grammar.specs.declared.fault.Thing.TheVariants as things
 use Rattle.token_grammar.specs.Token.{Lexeme}
 use Rattle.token_grammar.specs.Grammar.{Grammar, is, token, one_of, allowed, give, either, optional, many_from, ◌>>=◌}
@@ -204,7 +204,7 @@ unfoldable pub nested : Limits → Operands → ℕ → Grammar Operand
 nested l unary before = either sign_heads (signed l unary before) (parens l unary before)
 
 -- one operator or parenthesis more than may be nested
-abbrev pub too_nested : Lexeme → Option Fault
+abbrev pub too_nested : Lexeme → Option TokenFault
 too_nested t = Some (faults.TooMany things.Operators)
 
 -- unary := ('-' | '!') unary | '(' expr ')' | an operand without an operator; the first number is

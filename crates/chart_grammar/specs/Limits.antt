@@ -3,13 +3,13 @@ use Rattle.std.specs.Prelude.{◌≡◌, ℕ, ◌+◌, ◌<◌, nat_lt, nat_le, 
 use Rattle.flow_base.specs.declared.chart_limits.TheConstants.{STATE_DEPTH_LIMIT, STATE_LIMIT, JUNCTION_LIMIT}
 use Rattle.flow_base.specs.declared.chart_limits.TheConstants.{TRANSITION_LIMIT, VARIABLE_LIMIT, EVENT_LIMIT}
 use Rattle.flow_base.specs.declared.chart_limits.TheConstants.{STATEMENT_LIMIT, OPERATOR_LIMIT, ITEM_LIMIT}
-use Rattle.token_grammar.specs.declared.fault.Fault.{Fault}
-use Rattle.token_grammar.specs.declared.fault.Fault.TheVariants as faults
+use Rattle.token_grammar.specs.declared.fault.TokenFault.{TokenFault}
+use Rattle.token_grammar.specs.declared.fault.TokenFault.TheVariants as faults
 use Rattle.token_grammar.specs.declared.fault.Thing.{Thing}
 use Rattle.token_grammar.specs.declared.fault.Thing.TheVariants as things
 
 -- the rank of a fault: of two faults of one token the one of lower rank is named
-abbrev pub rank : Fault → ℕ
+abbrev pub rank : TokenFault → ℕ
 rank faults.Expected = 0
 rank faults.LiteralTooLong = 1
 rank faults.LiteralNotBinary = 2
@@ -35,7 +35,7 @@ abbrev pub usual : Limits
 usual = record { depth = STATE_DEPTH_LIMIT; nesting = OPERATOR_LIMIT; lifted_from = 12 }
 
 -- whether the limit of a fault is lifted
-abbrev pub is_lifted : Limits → Fault → Bool
+abbrev pub is_lifted : Limits → TokenFault → Bool
 is_lifted l fault = nat_le l.lifted_from (rank fault)
 
 -- how many of a thing there may be
@@ -50,17 +50,17 @@ most things.Operators = OPERATOR_LIMIT
 most things.Items = ITEM_LIMIT
 
 -- a fault, unless its limit is lifted
-abbrev pub unless_lifted : Limits → Option Fault → Option Fault
+abbrev pub unless_lifted : Limits → Option TokenFault → Option TokenFault
 unless_lifted l None = None
 unless_lifted l (Some fault) = if is_lifted l fault then None else Some fault
 
 -- the fault of one more of a thing of which there are `count`
-abbrev pub one_more : Limits → Thing → ℕ → Option Fault
+abbrev pub one_more : Limits → Thing → ℕ → Option TokenFault
 one_more l thing count =
     if nat_lt count (most thing) then None else unless_lifted l (Some (faults.TooMany thing))
 
 -- the first of two faults
-abbrev pub first_of : Option Fault → Option Fault → Option Fault
+abbrev pub first_of : Option TokenFault → Option TokenFault → Option TokenFault
 first_of None later = later
 first_of (Some fault) later = Some fault
 
@@ -99,37 +99,37 @@ abbrev pub after_event : Counts → Counts
 after_event n = record n { events = n.events + 1; items = n.items + 1 }
 
 -- the fault of one more of a thing where there are `count`, which is one more item too
-abbrev pub one_more_item : Limits → Thing → ℕ → Counts → Option Fault
+abbrev pub one_more_item : Limits → Thing → ℕ → Counts → Option TokenFault
 one_more_item l thing count n = first_of (one_more l thing count) (one_more l things.Items n.items)
 
 -- the fault of one more state
-abbrev pub state_refused : Limits → Counts → Option Fault
+abbrev pub state_refused : Limits → Counts → Option TokenFault
 state_refused l n = one_more_item l things.States n.states n
 
 -- the fault of one more junction
-abbrev pub junction_refused : Limits → Counts → Option Fault
+abbrev pub junction_refused : Limits → Counts → Option TokenFault
 junction_refused l n = one_more_item l things.Junctions n.junctions n
 
 -- the fault of one more transition
-abbrev pub transition_refused : Limits → Counts → Option Fault
+abbrev pub transition_refused : Limits → Counts → Option TokenFault
 transition_refused l n = one_more_item l things.Transitions n.transitions n
 
 -- the fault of one more datum
-abbrev pub variable_refused : Limits → Counts → Option Fault
+abbrev pub variable_refused : Limits → Counts → Option TokenFault
 variable_refused l n = one_more_item l things.Variables n.variables n
 
 -- the fault of one more event
-abbrev pub event_refused : Limits → Counts → Option Fault
+abbrev pub event_refused : Limits → Counts → Option TokenFault
 event_refused l n = one_more_item l things.Events n.events n
 
 -- the fault of one more statement in a block that has `before` of them
-abbrev pub statement_refused : Limits → ℕ → Counts → Option Fault
+abbrev pub statement_refused : Limits → ℕ → Counts → Option TokenFault
 statement_refused l before n = one_more_item l things.Statements before n
 
 -- ---- lifted limits
 
 -- the faults of rank k and above
-abbrev pub lifts_from : ℕ → Fault → Bool
+abbrev pub lifts_from : ℕ → TokenFault → Bool
 lifts_from k fault = nat_le k (rank fault)
 
 -- a bound on nesting is the usual one, or a greater one where it is lifted

@@ -4,8 +4,8 @@ use Rattle.std.specs.Prelude.{if◌then◌else◌}
 use Rattle.token_grammar.specs.declared.token.Kind.{Kind}
 use Rattle.token_grammar.specs.declared.token.Kind.TheVariants as kinds
 use Rattle.token_grammar.specs.declared.token.Span.{Span}
-use Rattle.token_grammar.specs.declared.fault.Fault.{Fault}
-use Rattle.token_grammar.specs.declared.fault.Fault.TheVariants as faults
+use Rattle.token_grammar.specs.declared.fault.TokenFault.{TokenFault}
+use Rattle.token_grammar.specs.declared.fault.TokenFault.TheVariants as faults
 use Rattle.token_grammar.specs.Token.{Lexeme}
 use Rattle.token_grammar.specs.Grammar.{Grammar, is, token, allowed, give, either, many_from, ◌>>=◌, ◌>>◌}
 use Rattle.chart_tree.specs.declared.name.NameText.{NameText}
@@ -184,7 +184,7 @@ chart_item l state z =
     (state z.counts >>= λ found. give (counted_as StateItem found)))))))))
 
 -- the fault of a token that isn't in the set
-abbrev pub unexpected : (Kind → Bool) → Lexeme → Option Fault
+abbrev pub unexpected : (Kind → Bool) → Lexeme → Option TokenFault
 unexpected set t = if set t.kind then None else Some faults.Expected
 
 -- g, where it begins with a token of the set

@@ -7,8 +7,8 @@ use Rattle.fixed_point.specs.declared.fitting.Mode.TheVariants as modes
 use Rattle.fixed_point.specs.Reading.{value_of, leading_digits, after_digits}
 use Rattle.token_grammar.specs.declared.token.Kind.{Kind}
 use Rattle.token_grammar.specs.declared.token.Kind.TheVariants as kinds
-use Rattle.token_grammar.specs.declared.fault.Fault.{Fault}
-use Rattle.token_grammar.specs.declared.fault.Fault.TheVariants as faults
+use Rattle.token_grammar.specs.declared.fault.TokenFault.{TokenFault}
+use Rattle.token_grammar.specs.declared.fault.TokenFault.TheVariants as faults
 use Rattle.token_grammar.specs.Token.{Lexeme}
 use Rattle.token_grammar.specs.Grammar.{Grammar, is, token, one_of, allowed, give, either, ◌>>=◌}
 use Rattle.chart_tree.specs.Trees.{Sort, FlagSort, NumberSort, ScaleParts}
@@ -71,12 +71,12 @@ unfoldable pub type_word : List ℕ → Option TypeWord
 type_word word = if bytes_eq word (codes "bool") then Some FlagWord else scale_word (scale_of word)
 
 -- a word that names no type doesn't continue
-abbrev pub no_type : Option TypeWord → Option Fault
+abbrev pub no_type : Option TypeWord → Option TokenFault
 no_type None = Some faults.Expected
 no_type (Some word) = None
 
 -- the fault of a word that names no type
-abbrev pub type_refused : Lexeme → Option Fault
+abbrev pub type_refused : Lexeme → Option TokenFault
 type_refused t = no_type (type_word t.text)
 
 -- the type of a word that names one

@@ -1,8 +1,8 @@
 -- Names, paths and numbers.
 use Rattle.std.specs.Prelude.{ℕ, List, ◌∷◌, ◌++◌, length, Option, Some, None, Ok, Err, Result}
 use Rattle.token_grammar.specs.declared.token.Kind.TheVariants as kinds
-use Rattle.token_grammar.specs.declared.fault.Fault.{Fault}
-use Rattle.token_grammar.specs.declared.fault.Fault.TheVariants as faults
+use Rattle.token_grammar.specs.declared.fault.TokenFault.{TokenFault}
+use Rattle.token_grammar.specs.declared.fault.TokenFault.TheVariants as faults
 use Rattle.token_grammar.specs.Token.{Lexeme}
 use Rattle.token_grammar.specs.Grammar.{Grammar, is, token, allowed, give, many, ◌>>=◌, ◌>>◌}
 use Rattle.fixed_point.specs.declared.num.Num.{Num}
@@ -49,14 +49,14 @@ lit_of text = record {
 
 -- the fault of a number token, from what reading its text gives. NotNumber doesn't arise for a token of kind Number; it
 -- is given Expected
-abbrev pub fault_of_number : Result Num NumFault → Option Fault
+abbrev pub fault_of_number : Result Num NumFault → Option TokenFault
 fault_of_number (Ok n) = None
 fault_of_number (Err num_faults.NotNumber) = Some faults.Expected
 fault_of_number (Err num_faults.TooLong) = Some faults.LiteralTooLong
 fault_of_number (Err num_faults.NotBinary) = Some faults.LiteralNotBinary
 
 -- what is wrong with a number token
-abbrev pub literal_refused : Limits → Lexeme → Option Fault
+abbrev pub literal_refused : Limits → Lexeme → Option TokenFault
 literal_refused l t = unless_lifted l (fault_of_number (number_read t.text))
 
 -- NUMBER

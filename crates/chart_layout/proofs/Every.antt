@@ -25,7 +25,7 @@ use Rattle.chart_layout.proofs.Segments.{span_length}
 use Rattle.chart_layout.proofs.EachFrom.{EachFrom, from_get, from_at, from_append, from_ascending, from_descending}
 use Rattle.chart_layout.proofs.EachFrom.{from_span, from_map}
 use Rattle.chart_layout.proofs.EndsLemmas.{end_after}
-use Rattle.chart_layout.proofs.Found.{has_at, distinct_place}
+use Rattle.chart_layout.proofs.Members.{has_at, distinct_place}
 use Rattle.chart_layout.proofs.ReachedLemmas.{are_reached, list_valid}
 use Rattle.chart_layout.proofs.Sizes.{actions_length, process_length, state_parts_length, junction_parts_length}
 use Rattle.chart_layout.proofs.Sizes.{search_length, lists_length, group_length, all_actions_length}

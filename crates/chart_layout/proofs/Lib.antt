@@ -2,7 +2,7 @@ pub mod Sums
 pub mod Segments
 pub mod EachFrom
 pub mod EndsLemmas
-pub mod Found
+pub mod Members
 pub mod Weights
 pub mod Spreads
 pub mod ReachedLemmas

@@ -30,7 +30,8 @@ use Rattle.chart_layout.specs.Places.{numbers, list_numbers}
 use Rattle.chart_layout.proofs.EachFrom.{EachFrom, from_append}
 use Rattle.chart_layout.proofs.Every.{Every, every}
 use Rattle.chart_layout.proofs.ReachedLemmas.{list_valid}
-use Rattle.chart_layout.proofs.Results.{TestBelow, ResultBelow, ResultsBelow, results_append, no, yes, ended, block_results}
+use Rattle.chart_layout.proofs.Results.{TestBelow, ResultBelow, ResultsBelow}
+use Rattle.chart_layout.proofs.Results.{results_append, no, yes, ended, block_results}
 use Rattle.chart_layout.proofs.Results.{guard_results, leave_results, exit_results, enter_results, defaults_results}
 use Rattle.chart_layout.proofs.Results.{arrive_results, take_results, process_results}
 

@@ -22,7 +22,7 @@ use Rattle.chart_layout.specs.Keys.{Key, Guard, ConditionOn, ConditionBare, Acti
 use Rattle.chart_layout.specs.Keys.{layout}
 use Rattle.chart_layout.specs.Places.{list_at, numbers, list_numbers}
 use Rattle.chart_layout.specs.Bodies.{body, procedures_of}
-use Rattle.chart_layout.proofs.Found.{place_get}
+use Rattle.chart_layout.proofs.Members.{place_get}
 use Rattle.chart_layout.proofs.Segments.{holds_get, holds_first}
 use Rattle.chart_layout.proofs.StateStands.{StandsAt, search_stands}
 use Rattle.chart_layout.proofs.PartStands.{PartsStand, EachStands}

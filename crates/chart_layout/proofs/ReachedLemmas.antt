@@ -13,7 +13,7 @@ use Rattle.checked_chart.specs.Valid.{IsValid, IsDest, AreTrans}
 use Rattle.checked_chart.proofs.PartsLemmas.{node_valid, junction_valid}
 use Rattle.chart_layout.specs.ReachedJunctions.{has, place_of, sum_over, with_junction, junctions_to, reached}
 use Rattle.chart_layout.specs.ReachedJunctions.{AreReached}
-use Rattle.chart_layout.proofs.Found.{eq_same, all_has, place_get}
+use Rattle.chart_layout.proofs.Members.{eq_same, all_has, place_get}
 use Rattle.chart_layout.proofs.Spreads.{Leads, ReachedFrom, reaches, all_below}
 
 -- ---- what lists lead to

@@ -8,8 +8,10 @@ use Rattle.active_config.specs.declared.comp.Comp.TheVariants.{Leaf, Or, And}
 use Rattle.active_config.specs.Tree.{Tree, parent_of, comp_of, children_of}
 use Rattle.actions.specs.Exprs.{Stmt, Expr, Assign as Assigns, Send as Sends, SendTo as SendsTo, Emit as Emits}
 use Rattle.checked_chart.specs.Homes.{child_toward}
-use Rattle.code_language.specs.Instrs.{Cond, On, Bare, OnHome, BareHome, Current, Result, Test, Last, Instr, Assign, Emit}
-use Rattle.code_language.specs.Instrs.{Mark, Clear, Keep, Unless, Skip, Call, Visit, Send, SendTo, Play, Home, Begin, Pass}
+use Rattle.code_language.specs.Instrs.{Cond, On, Bare, OnHome, BareHome, Current}
+use Rattle.code_language.specs.Instrs.{Result, Test, Last, Instr, Assign, Emit}
+use Rattle.code_language.specs.Instrs.{Mark, Clear, Keep, Unless, Skip, Call, Visit}
+use Rattle.code_language.specs.Instrs.{Send, SendTo, Play, Home, Begin, Pass}
 use Rattle.code_language.specs.Instrs.{Ret}
 use Rattle.chart_procedures.specs.Numbers.{Numbers}
 use Rattle.chart_procedures.specs.StateProcedures.{block_code, guard_code, active_code, each_code, leave_code}

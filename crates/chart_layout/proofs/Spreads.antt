@@ -8,7 +8,7 @@ use Rattle.std.specs.List.{AllByRecursion}
 use Rattle.std.proofs.lemmas.Bool.{cases_lt}
 use Rattle.chart_layout.specs.ReachedJunctions.{has, Distinct, sum_over, meet_one, meet, on_some, spread}
 use Rattle.chart_layout.proofs.Weights.{at_most_all}
-use Rattle.chart_layout.proofs.Found.{eq_is, has_front, has_last, has_at, all_has, all_more, distinct_more}
+use Rattle.chart_layout.proofs.Members.{eq_is, has_front, has_last, has_at, all_has, all_more, distinct_more}
 
 -- ---- longer lists
 
@@ -73,7 +73,7 @@ drop_sum f (x ∷ xs) (suc i) j e = drop_sum f xs i j e
 -- ---- meeting
 
 -- what is known of numbers that were found: none stands twice, and all have P
-pub record Found (P : ℕ → Type 0) (found : List ℕ) : Type 0 where
+pub record AreFound (P : ℕ → Type 0) (found : List ℕ) : Type 0 where
   pub once : Distinct found
   pub each : AllByRecursion P found
 
@@ -82,18 +82,18 @@ record Met (P : ℕ → Type 0) (found : List ℕ) (j : ℕ) (new : List ℕ) : 
   pub extends : Extends found new
   pub there : has new j ≡ true
   pub few : length new ≤ suc (length found)
-  pub keeps : Found P new
+  pub keeps : AreFound P new
 
 -- numbers more, those that are new
 record MetAll (P : ℕ → Type 0) (found js new : List ℕ) : Type 0 where
   pub extends : Extends found new
   pub there : (j : ℕ) → has js j ≡ true → has new j ≡ true
   pub few : length new ≤ length found + length js
-  pub keeps : Found P new
+  pub keeps : AreFound P new
 
 module _ (P : ℕ → Type 0) where
   -- one number is met
-  met_one : (found : List ℕ) (j : ℕ) → P j → Found P found → Met P found j (meet_one found j)
+  met_one : (found : List ℕ) (j : ℕ) → P j → AreFound P found → Met P found j (meet_one found j)
   met_one found j p f = at (has found j) refl
     where
       at : (b : Bool) → has found j ≡ b → Met P found j (if b then found else found ++ j ∷ [])
@@ -106,7 +106,7 @@ module _ (P : ℕ → Type 0) where
       }
 
   -- numbers are met
-  met_all : (found js : List ℕ) → AllByRecursion P js → Found P found → MetAll P found js (meet found js)
+  met_all : (found js : List ℕ) → AllByRecursion P js → AreFound P found → MetAll P found js (meet found js)
   unfolding meet has
   met_all found [] a f =
       record { extends = extends_same found; there = λ j h. cc; few = omega arith; keeps = f }
@@ -142,7 +142,7 @@ module _ (next : ℕ → List ℕ) (n : ℕ) (P : ℕ → Type 0) (leads : Leads
   all_below (x ∷ xs) a = (leads.below x a.0, all_below xs a.1)
 
   -- no more were found than there are
-  found_few : (found : List ℕ) → Found P found → length found ≤ n
+  found_few : (found : List ℕ) → AreFound P found → length found ≤ n
   found_few found f = at_most_all found n f.once (all_below found f.each)
 
   -- what the numbers before the i-th lead to is there
@@ -153,12 +153,12 @@ module _ (next : ℕ → List ℕ) (n : ℕ) (P : ℕ → Type 0) (leads : Leads
   -- all that is found, with what it leads to
   pub record Spread (i : ℕ) (found all : List ℕ) : Type 0 where
     pub extends : Extends found all
-    pub keeps : Found P all
+    pub keeps : AreFound P all
     pub closed : ClosedTo (length all) all
     pub few : length all ≤ length found + sum_over (λ j. length (next j)) (drop i all)
 
   -- nothing is left to look at
-  spread_done : (i : ℕ) (found : List ℕ) → Found P found → ClosedTo i found → length found ≤ i → Spread i found found
+  spread_done : (i : ℕ) (found : List ℕ) → AreFound P found → ClosedTo i found → length found ≤ i → Spread i found found
   spread_done i found f c h = record {
     extends = extends_same found;
     keeps = f;
@@ -184,7 +184,7 @@ module _ (next : ℕ → List ℕ) (n : ℕ) (P : ℕ → Type 0) (leads : Leads
   ]
 
   -- from the i-th number on
-  spreads : (m i : ℕ) (found : List ℕ) → n ≤ m + i → Found P found → ClosedTo i found
+  spreads : (m i : ℕ) (found : List ℕ) → n ≤ m + i → AreFound P found → ClosedTo i found
       → Spread i found (spread next m i found)
   unfolding spread
   spreads zero i found h f c = spread_done i found f c (omega (arith, found_few found f))
@@ -192,7 +192,7 @@ module _ (next : ℕ → List ℕ) (n : ℕ) (P : ℕ → Type 0) (leads : Leads
       at (slice_get found i) refl (λ found' f' c'. spreads m (suc i) found' (omega arith) f' c')
     where
       at : (o : Option ℕ) → slice_get found i ≡ o
-          → ((found' : List ℕ) → Found P found' → ClosedTo (suc i) found'
+          → ((found' : List ℕ) → AreFound P found' → ClosedTo (suc i) found'
           → Spread (suc i) found' (spread next m (suc i) found'))
           → Spread i found (on_some o found (λ j. spread next m (suc i) (meet found (next j))))
       at None e ih = spread_done i found f c (get_none found i e)
@@ -213,7 +213,7 @@ module _ (next : ℕ → List ℕ) (n : ℕ) (P : ℕ → Type 0) (leads : Leads
 
   -- what is reached from the first ones
   pub record ReachedFrom (first all : List ℕ) : Type 0 where
-    pub keeps : Found P all
+    pub keeps : AreFound P all
     pub starts : (x : ℕ) → has first x ≡ true → has all x ≡ true
     pub closed : (k j x : ℕ) → slice_get all k ≡ Some j → has (next j) x ≡ true → has all x ≡ true
     pub few : length all ≤ length first + sum_over (λ j. length (next j)) all
@@ -221,7 +221,7 @@ module _ (next : ℕ → List ℕ) (n : ℕ) (P : ℕ → Type 0) (leads : Leads
   -- it is found
   pub reaches : (first : List ℕ) → AllByRecursion P first → ReachedFrom first (spread next n 0 (meet [] first))
   reaches first a =
-      let none : Found P [] = record { once = tt; each = tt } in
+      let none : AreFound P [] = record { once = tt; each = tt } in
       let start = met_all P [] first a none in
       let found = meet [] first in
       let all = spread next n 0 found in

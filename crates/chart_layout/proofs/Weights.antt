@@ -6,7 +6,7 @@ use Rattle.std.specs.List.{AllByRecursion}
 use Rattle.std.proofs.lemmas.Bool.Decides.{nat_tests}
 use Rattle.checked_chart.specs.Reached.{weight}
 use Rattle.chart_layout.specs.ReachedJunctions.{has, Distinct, sum_over}
-use Rattle.chart_layout.proofs.Found.{eq_is}
+use Rattle.chart_layout.proofs.Members.{eq_is}
 
 -- the weight of a number that is there
 abbrev part : Bool → ℕ → ℕ

@@ -1,5 +1,7 @@
 -- No line ends inside a token.
-use Rattle.std.proofs.Common.{◌≡◌, ℕ, zero, suc, ◌+◌, ◌<◌, Bool, true, false, ◌&&◌, List, [], ◌∷◌, Option, Some, None, take, drop, get_or, refl, sym, ap, ◌∙◌, inl, inr, cond, eqb, ltb, ◌-◌, ◌≤◌, ◌⊎◌, not, nat_lt, arith}
+use Rattle.std.proofs.Common.{◌≡◌, ℕ, zero, suc, ◌+◌, ◌<◌, Bool, true, false, ◌&&◌, List, []}
+use Rattle.std.proofs.Common.{◌∷◌, Option, Some, None, take, drop, get_or, refl, sym, ap, ◌∙◌}
+use Rattle.std.proofs.Common.{inl, inr, cond, eqb, ltb, ◌-◌, ◌≤◌, ◌⊎◌, not, nat_lt, arith}
 use Rattle.std.specs.List.{prefix_len}
 use Rattle.std.proofs.Math.Bool.{and-false}
 use Rattle.std.proofs.lemmas.Bool.{cases_Bool, eqb-true, ltb-true, ltb-false}
@@ -14,7 +16,8 @@ use Rattle.chart_lexer.specs.Bytes.{is_blank, is_allowed, is_letter, is_digit, i
 use Rattle.chart_lexer.specs.Words.{name_length, word_kind}
 use Rattle.chart_lexer.specs.Numbers.{digits_length, fraction_length, scale_length, decimal_length, number_length}
 use Rattle.chart_lexer.specs.Symbols.{pair_kind, single_kind}
-use Rattle.chart_lexer.specs.Lex.{is_comment_byte, comment_length, begins_comment, longer_symbol, word_front, number_front, symbol_front, front_of}
+use Rattle.chart_lexer.specs.Lex.{is_comment_byte, comment_length, begins_comment, longer_symbol}
+use Rattle.chart_lexer.specs.Lex.{word_front, number_front, symbol_front, front_of}
 
 -- no line ends in the first k bytes
 abbrev pub OneLine : ℕ → List ℕ → Type 0

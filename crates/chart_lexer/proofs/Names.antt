@@ -1,7 +1,10 @@
 -- A text is a name exactly where it is cut as one.
-use Rattle.std.proofs.Common.{◌≡◌, ℕ, zero, suc, ◌<◌, ◌≤◌, Bool, true, false, ◌&&◌, List, [], ◌∷◌, Option, Some, None, length, take, drop, get_or, refl, sym, ap, ◌∙◌, inl, inr, cond, eqb, leb, ltb, eq-eqb, not, ◌↔◌, IsTrue, arith}
+use Rattle.std.proofs.Common.{◌≡◌, ℕ, zero, suc, ◌<◌, ◌≤◌, Bool, true, false, ◌&&◌, List, [], ◌∷◌}
+use Rattle.std.proofs.Common.{Option, Some, None, length, take, drop, get_or, refl, sym, ap, ◌∙◌}
+use Rattle.std.proofs.Common.{inl, inr, cond, eqb, leb, ltb, eq-eqb, not, ◌↔◌, IsTrue, arith}
 use Rattle.std.specs.Str.{byte, IsAscii}
-use Rattle.std.proofs.lemmas.Bool.{cases_Bool, eqb-true, leb-true, and_parts, and_from, ltb-false, le-ltb, le-leb, cond_both}
+use Rattle.std.proofs.lemmas.Bool.{cases_Bool, eqb-true, leb-true, and_parts}
+use Rattle.std.proofs.lemmas.Bool.{and_from, ltb-false, le-ltb, le-leb, cond_both}
 use Rattle.std.proofs.lemmas.Bool.Decides.{nat_tests}
 use Rattle.std.proofs.lemmas.List.{get_or-take}
 use Rattle.std.proofs.lemmas.List.Sums.{prefix_len_passes, prefix_len_is}
@@ -19,7 +22,8 @@ use Rattle.chart_lexer.specs.Bytes.{is_blank, is_allowed, is_letter, is_digit, i
 use Rattle.chart_lexer.specs.Words.{name_length, word_kind, is_name}
 use Rattle.chart_lexer.specs.Numbers.{number_length}
 use Rattle.chart_lexer.specs.Symbols.{pair_kind, single_kind, first_pair, first_single}
-use Rattle.chart_lexer.specs.Lex.{comment_length, begins_comment, longer_symbol, word_front, number_front, symbol_front, front_of, IsOneName}
+use Rattle.chart_lexer.specs.Lex.{comment_length, begins_comment, longer_symbol, word_front}
+use Rattle.chart_lexer.specs.Lex.{number_front, symbol_front, front_of, IsOneName}
 
 -- a byte that passes a test isn't one that fails it
 other_byte : (p : ℕ → Bool) (b c : ℕ) → p b ≡ true → p c ≡ false → eqb b c ≡ false

@@ -1,5 +1,6 @@
 -- How many bytes at the front of a text are a number.
-use Rattle.std.specs.Prelude.{ℕ, ◌+◌, ◌-◌, ◌*◌, ◌&&◌, Bool, true, false, nat_eq, nat_lt, nat_le, List, [], ◌∷◌, take, drop, if◌then◌else◌}
+use Rattle.std.specs.Prelude.{ℕ, ◌+◌, ◌-◌, ◌*◌, ◌&&◌, Bool, true, false, nat_eq}
+use Rattle.std.specs.Prelude.{nat_lt, nat_le, List, [], ◌∷◌, take, drop, if◌then◌else◌}
 use Rattle.std.specs.List.{prefix_len}
 use Rattle.std.specs.Str.{byte}
 use Rattle.fixed_point.specs.declared.scale.TheConstants.{PLACES_LIMIT}

@@ -19,7 +19,7 @@ use Rattle.actions.specs.declared.event.Event.TheVariants as events
 use Rattle.chart_net.specs.Changes.{At}
 use Rattle.chart_net.specs.Holding.{Sent, Wait}
 use Rattle.chart_net.specs.Nets.{ChartState, NetWorld, RouteState}
-use Rattle.chart_net.specs.NetParts.{AreAt, ChartStands, HasOver, IsSound, StandsFor, charts_of, net_shown, routes_of}
+use Rattle.chart_net.specs.NetParts.{AreAt, ChartStands, HasOver, PartsFit, StandsFor, charts_of, net_shown, routes_of}
 use Rattle.chart_net.specs.NetParts.{started_below}
 use Rattle.chart_net.specs.NetRuns.{NetStep, NetMoment, Moved, ChartGives, Moves, Does, after_move, took_also}
 use Rattle.chart_net.specs.NetTraces.{Why, ByFault, ByFull, ByEmpty, chart_line, event_at, moment_word, why_moved}
@@ -217,8 +217,8 @@ module _ {G : Type 0} (members : Engine G) (old new : Parts G) (c : ℕ) (before
   }
 
   -- the parts still fit each other
-  pub sound_moved : routes_of new ≡ routes_of old → new.rings.items ≡ old.rings.items → IsSound members old
-      → IsSound members new
+  pub sound_moved : routes_of new ≡ routes_of old → new.rings.items ≡ old.rings.items → PartsFit members old
+      → PartsFit members new
   sound_moved routes rings sound =
       sound_with members old new charts_moved routes
       (λ k. subst (λ (l : List (Seat G)). At l k (IsSeat members)) (sym seats)

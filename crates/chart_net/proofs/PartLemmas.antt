@@ -15,7 +15,7 @@ use Rattle.actions.specs.declared.engine.Engine.{Ghosts as Engine}
 use Rattle.chart_net.specs.Changes.{At}
 use Rattle.chart_net.specs.Holding.{HaveRoom}
 use Rattle.chart_net.specs.Nets.{Net, ChartOf, net_of, replaced, start_of, reaction_of}
-use Rattle.chart_net.specs.NetParts.{CanTakeAll, IsSound, charts_of, net_shown, routes_of}
+use Rattle.chart_net.specs.NetParts.{CanTakeAll, PartsFit, charts_of, net_shown, routes_of}
 use Rattle.chart_net.specs.NetRuns.{ChartGives}
 use Rattle.chart_net.specs.Rings.{Queue}
 use Rattle.chart_net.specs.Routes.{IsRoute}
@@ -165,7 +165,7 @@ pub sound_with : {G : Type 0} (members : Engine G) (old new : Parts G) → chart
     → ((r : ℕ) (route : Route) (ring : Queue) → slice_get old.routes.items r ≡ Some route → slice_get new.rings.items r
     ≡ Some ring
     → CanTakeAll (net_shown members old) route ring)
-    → IsSound members old → IsSound members new
+    → PartsFit members old → PartsFit members new
 sound_with members old new charts routes seats room items sound = record {
   charts_few = subst (λ n. n ≤ 16) (sym (same_count members old new charts)) sound.charts_few;
   routes_few = subst (λ n. n ≤ 64) (sym (ap (λ (rs : List Route). length rs) routes)) sound.routes_few;

@@ -15,7 +15,7 @@ use Rattle.event_file.specs.declared.fault.LineFault.{LineFault}
 use Rattle.event_file.specs.declared.fault.LineFault.TheVariants as faults
 use Rattle.chart_net.specs.Changes.{At}
 use Rattle.chart_net.specs.Nets.{Net}
-use Rattle.chart_net.specs.NetParts.{ChartStands, IsKept, charts_of, net_shown}
+use Rattle.chart_net.specs.NetParts.{ChartStands, NetIsKept, charts_of, net_shown}
 use Rattle.chart_net.specs.Moving.{ReadsGiven}
 use Rattle.chart_net.specs.Schedules.{giving, giving_step, giving_to, step_of_line, step_of_tokens, taking_step}
 use Rattle.chart_net.specs.Seats.{IsSeat, chart_of, names_at}
@@ -93,7 +93,7 @@ module _ (net : Net) (tokens : List (List ℕ)) (name rest : List ℕ) (is : tok
 -- ---- what is kept where a line was read
 
 -- nothing changed
-pub all_kept : {G : Type 0} (members : Engine G) (net : Parts G) → IsKept members net net
+pub all_kept : {G : Type 0} (members : Engine G) (net : Parts G) → NetIsKept members net net
 all_kept members net = record {
   charts = refl;
   routes = refl;
@@ -108,7 +108,7 @@ pub values_kept : {G : Type 0} (members : Engine G) (old new : Parts G) (c : ℕ
     → new.seats.items ≡ set old.seats.items c after → new.routes.items ≡ old.routes.items
     → new.rings.items ≡ old.rings.items
     → after.name ≡ before.name → after.engine ≡ before.engine → after.index ≡ before.index → IsSeat members after
-    → IsKept members old new
+    → NetIsKept members old new
 values_kept {G} members old new c before after there seats routes rings name engine index is =
     let chart : chart_of members after ≡ chart_of members before =
     ap (λ (n : List ℕ). record { name = n; program = members.program after.engine }) name

@@ -17,7 +17,7 @@ use Rattle.actions.specs.declared.engine.Engine.{Ghosts as Engine}
 use Rattle.actions.specs.declared.names.Sort.{Sort}
 use Rattle.chart_net.specs.Holding.{HaveSources, Sent, Wait}
 use Rattle.chart_net.specs.Nets.{Item, RouteState}
-use Rattle.chart_net.specs.NetParts.{IsSound, net_shown}
+use Rattle.chart_net.specs.NetParts.{PartsFit, net_shown}
 use Rattle.chart_net.specs.Rings.{Queue, later, oldest}
 use Rattle.chart_net.specs.Routes.{CanTake}
 use Rattle.net_text.specs.Routes.{DataJoined}
@@ -81,7 +81,7 @@ item_taken from to (Some v) (Some x) t w joins fits =
     )
 
 module _ {G : Type 0} (members : Engine G) (net : Parts G) (c : ℕ) (seat : Seat G) (t : Tree) (w : World)
-    (sound : IsSound members net)
+    (sound : PartsFit members net)
     (there : slice_get net.seats.items c ≡ Some seat) (fits : Fits t (names_at members seat) w) where
   -- what a route from the chart joins
   joins : (r : ℕ) (route : Route) → slice_get net.routes.items r ≡ Some route → route.from ≡ c

@@ -11,7 +11,7 @@ use Rattle.actions.specs.World.{World}
 use Rattle.actions.specs.declared.engine.Engine.{Ghosts as Engine}
 use Rattle.actions.specs.declared.expr.Value.{Value}
 use Rattle.chart_net.specs.Nets.{Net, ChartOf, Item, NetWorld}
-use Rattle.chart_net.specs.NetParts.{CanTakeAll, IsSound, charts_of, net_shown}
+use Rattle.chart_net.specs.NetParts.{CanTakeAll, PartsFit, charts_of, net_shown}
 use Rattle.chart_net.specs.NetRuns.{Does, Moves, NetMoment, Takes, TakesFrom, TakesItem, WasEmpty, event_of_item}
 use Rattle.chart_net.specs.NetRuns.{inputs_of_item, next_item, with_got}
 use Rattle.chart_net.specs.Rings.{Queue, later}
@@ -98,7 +98,7 @@ TakesAll members net n q = (route : Route) → slice_get net.routes.items n ≡ 
 
 -- what waits can be taken after the oldest item was
 pub all_after_taking : {G : Type 0} (members : Engine G) (net : Parts G) (r : ℕ) (ring after : Queue)
-    → IsSound members net
+    → PartsFit members net
     → slice_get net.rings.items r ≡ Some ring → after ≡ record { items = later ring.items; cap = ring.cap }
     → (k : ℕ) (route : Route) (other : Queue) → slice_get net.routes.items k ≡ Some route
     → slice_get (set net.rings.items r after) k ≡ Some other

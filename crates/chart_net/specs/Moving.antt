@@ -23,8 +23,8 @@ use Rattle.chart_net.specs.Sending.{sends}
 use Rattle.chart_net.specs.declared.driver.NetEnd.{NetEnd}
 use Rattle.chart_net.specs.declared.driver.NetEnd.TheVariants as ends
 use Rattle.chart_net.specs.declared.net.Net.{Net as Parts}
-use Rattle.chart_net.specs.declared.schedule.Step.{Step}
-use Rattle.chart_net.specs.declared.schedule.Step.TheVariants as steps
+use Rattle.chart_net.specs.declared.schedule.ScheduleStep.{ScheduleStep}
+use Rattle.chart_net.specs.declared.schedule.ScheduleStep.TheVariants as steps
 use Rattle.chart_net.specs.declared.seat.Seat.{Seat}
 
 -- the answer for a run that ended so
@@ -63,7 +63,7 @@ abbrev pub StepEnds : Net → NetWorld → NetStep → ℕ → (NetWorld → Typ
 StepEnds net now step p stands puts failed result =
     UnlessMemory (is_memory result) (puts []) (StepDone net now step p stands puts failed result)
 
--- What a chart put out at a move that left that world and fault was sent, and the line of the move was put.
+-- What a chart emitted at a move that left that world and fault was sent, and the line of the move was put.
 pub record MoveEnds (net : Net) (p c index : ℕ) (event : Event) (w : World) (fault : Option Fault)
     (states : ℕ → RouteState) (rings : List Queue) (puts : List ℕ → Type 0) (failed : Bool)
     (result : Result (Unit {0}) NetEnd) : Type 0 where
@@ -97,7 +97,7 @@ seat_line members p seat event fault full =
 -- ---- a line of a schedule
 
 -- the step of a line that was read, with the values that are with its chart
-abbrev pub IsStep : {G : Type 0} → (members : Engine G) → Parts G → Step → NetStep → Type 0
+abbrev pub IsStep : {G : Type 0} → (members : Engine G) → Parts G → ScheduleStep → NetStep → Type 0
 IsStep {G} members net (steps.Give c event) step =
     (seat : Seat G) × (slice_get net.seats.items c ≡ Some seat)
     × (step ≡ Gives c (record { event = event; inputs = seat.vals.values }))
@@ -106,7 +106,7 @@ IsStep members net (steps.Take r) step = (step ≡ Takes r) × (r < length net.r
 
 -- What a line says was read.
 abbrev pub ReadsStep : {G : Type 0} → (members : Engine G) → Parts G → Result (Option NetStep) LineFault
-    → Result (Option Step) LineFault → Type 0
+    → Result (Option ScheduleStep) LineFault → Type 0
 ReadsStep members net said (Ok None) = said ≡ Ok None
 ReadsStep members net said (Ok (Some read)) = (step : NetStep) × (said ≡ Ok (Some step)) × IsStep members net read step
 ReadsStep members net said (Err fault) = said ≡ Err fault

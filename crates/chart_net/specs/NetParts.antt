@@ -33,7 +33,7 @@ CanTakeAll net route ring = AllByRecursion (CanTake (net.declared route.to) rout
 
 -- The parts of a net fit each other: there are not too many, each chart has what its steps need, each route is one
 -- that the net may have, and has a ring whose items its chart can take.
-pub record IsSound {G : Type 0} (members : Engine G) (net : Parts G) : Type 0 where
+pub record PartsFit {G : Type 0} (members : Engine G) (net : Parts G) : Type 0 where
   pub charts_few : length net.seats.items ≤ CHART_LIMIT
   pub routes_few : length net.routes.items ≤ ROUTE_LIMIT
   pub seats : (c : ℕ) → At net.seats.items c (IsSeat members)
@@ -68,7 +68,7 @@ pub record HasOver {G : Type 0} (members : Engine G) (net : Parts G) : Type 0 wh
 
 -- A net that isn't driven yet: its parts fit each other, no chart is started, and nothing was sent.
 pub record IsNet {G : Type 0} (members : Engine G) (net : Parts G) : Type 0 where
-  pub sound : IsSound members net
+  pub sound : PartsFit members net
   pub fresh : AreAt members net all_fresh 0
   pub empty : (r : ℕ) → At net.rings.items r (λ ring. ring.items ≡ [])
 
@@ -90,9 +90,9 @@ pub record StandsFor {G : Type 0} (members : Engine G) (net : Parts G) (now : Ne
 
 -- What is said of a net is kept: its charts and routes, that its parts fit each other, its stages, and the worlds
 -- that it stands for.
-pub record IsKept {G : Type 0} (members : Engine G) (old new : Parts G) : Type 0 where
+pub record NetIsKept {G : Type 0} (members : Engine G) (old new : Parts G) : Type 0 where
   pub charts : charts_of members new ≡ charts_of members old
   pub routes : routes_of new ≡ routes_of old
-  pub sound : IsSound members old → IsSound members new
+  pub sound : PartsFit members old → PartsFit members new
   pub stages : (stages : ℕ → Stage) (p : ℕ) → AreAt members old stages p → AreAt members new stages p
   pub stands : (now : NetWorld) → StandsFor members old now → StandsFor members new now

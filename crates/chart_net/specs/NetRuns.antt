@@ -45,7 +45,7 @@ abbrev pub took_also : List EventWithInputs → Option EventWithInputs → List 
 took_also took None = took
 took_also took (Some given) = took ++ given ∷ []
 
--- the net after a chart moved: its world is that of the moment, and what it put out was sent
+-- the net after a chart moved: its world is that of the moment, and what it emitted was sent
 abbrev pub after_move : Net → NetWorld → ℕ → Option EventWithInputs → Moment → NetWorld
 after_move net before c given m = record {
   charts = replaced before.charts c (record { world = Some m.world; took = took_also (before.charts c).took given });

@@ -9,7 +9,7 @@ ghost use Rattle.chart_net.specs.Changes.{At, ChangesAt};
 ghost use Rattle.chart_net.specs.Holding.{Sent, Took, Wait};
 ghost use Rattle.chart_net.specs.Causes.{is_read, is_write};
 ghost use Rattle.chart_net.specs.Moving as spec;
-ghost use Rattle.chart_net.specs.NetParts.{AreAt, HasOver, IsSound, StandsFor, all_running};
+ghost use Rattle.chart_net.specs.NetParts.{AreAt, HasOver, PartsFit, StandsFor, all_running};
 ghost use Rattle.chart_net.specs.NetParts.{charts_of, net_shown, routes_of, started_below};
 ghost use Rattle.chart_net.specs.NetRuns.{Gives, Starts, Takes, inputs_of_item};
 ghost use Rattle.chart_net.specs.NetTraces.{why_moved};
@@ -29,14 +29,14 @@ use net_text::Route;
 use trace_text::Pieces;
 
 impl<G: Engine> Net<G> {
-    /// Starts a chart, sends what it put out, and puts the line of that.
+    /// Starts a chart, sends what it emitted, and puts the line of that.
     pub(crate) fn start_chart<O: Sink>(
         &mut self,
         c: u32,
         pieces: &mut Pieces,
         out: &mut O,
     ) -> Result<(), NetEnd>
-        requires sound { IsSound G.Engine self.old }
+        requires sound { PartsFit G.Engine self.old }
         requires there { c < length self.old.seats.items }
         requires stages { AreAt G.Engine self.old (started_below c) 0 }
         requires usable { pieces.old.failed ≡ false }
@@ -48,7 +48,7 @@ impl<G: Engine> Net<G> {
         ensures failed { pieces.new.failed ≡ is_write result }
         ensures charts { charts_of G.Engine self.new ≡ charts_of G.Engine self.old }
         ensures routes { routes_of self.new ≡ routes_of self.old }
-        ensures sound { IsSound G.Engine self.new }
+        ensures sound { PartsFit G.Engine self.new }
         ensures stages { OnOk result (AreAt G.Engine self.new (started_below (c + 1)) 0) }
         ensures reads { is_read result ≡ false }
         ensures over { result ≡ Err NetEnd.Memory → HasOver G.Engine self.new }
@@ -58,7 +58,7 @@ impl<G: Engine> Net<G> {
         self.end_move::<O>(0, c, Event::Start, end, pieces, out)
     }
 
-    /// Gives a chart an event, with the values that are kept for its inputs, sends what it put out,
+    /// Gives a chart an event, with the values that are kept for its inputs, sends what it emitted,
     /// and puts the line of that. The number is that of the last step.
     pub(crate) fn give_event<O: Sink>(
         &mut self,
@@ -68,7 +68,7 @@ impl<G: Engine> Net<G> {
         pieces: &mut Pieces,
         out: &mut O,
     ) -> Result<(), NetEnd>
-        requires sound { IsSound G.Engine self.old }
+        requires sound { PartsFit G.Engine self.old }
         requires there { c < length self.old.seats.items }
         requires given { At self.old.seats.items c (λ seat.
             CanBeGiven (names_at G.Engine seat) (record { event = event; inputs = seat.vals.values })) }
@@ -85,7 +85,7 @@ impl<G: Engine> Net<G> {
         ensures failed { pieces.new.failed ≡ is_write result }
         ensures charts { charts_of G.Engine self.new ≡ charts_of G.Engine self.old }
         ensures routes { routes_of self.new ≡ routes_of self.old }
-        ensures sound { IsSound G.Engine self.new }
+        ensures sound { PartsFit G.Engine self.new }
         ensures stages { OnOk result (AreAt G.Engine self.new all_running (p + 1)) }
         ensures reads { is_read result ≡ false }
         ensures over { result ≡ Err NetEnd.Memory → HasOver G.Engine self.new }
@@ -96,7 +96,7 @@ impl<G: Engine> Net<G> {
     }
 
     /// Takes the oldest item of a route, gives it to the chart at the end of the route, sends what
-    /// that put out, and puts the line of that. The number is that of the last step.
+    /// that emitted, and puts the line of that. The number is that of the last step.
     pub(crate) fn take_route<O: Sink>(
         &mut self,
         p: u64,
@@ -104,7 +104,7 @@ impl<G: Engine> Net<G> {
         pieces: &mut Pieces,
         out: &mut O,
     ) -> Result<(), NetEnd>
-        requires sound { IsSound G.Engine self.old }
+        requires sound { PartsFit G.Engine self.old }
         requires there { r < length self.old.routes.items }
         requires stages { AreAt G.Engine self.old all_running p }
         requires few { p < FILE_EVENT_LIMIT }
@@ -117,7 +117,7 @@ impl<G: Engine> Net<G> {
         ensures failed { pieces.new.failed ≡ is_write result }
         ensures charts { charts_of G.Engine self.new ≡ charts_of G.Engine self.old }
         ensures routes { routes_of self.new ≡ routes_of self.old }
-        ensures sound { IsSound G.Engine self.new }
+        ensures sound { PartsFit G.Engine self.new }
         ensures stages { OnOk result (AreAt G.Engine self.new all_running (p + 1)) }
         ensures reads { is_read result ≡ false }
         ensures over { result ≡ Err NetEnd.Memory → HasOver G.Engine self.new }
@@ -135,13 +135,13 @@ impl<G: Engine> Net<G> {
 
     /// Takes the oldest item that waits on a route. None where none waits.
     fn item_from(&mut self, r: usize) -> Option<Option<Value>>
-        requires sound { IsSound G.Engine self.old }
+        requires sound { PartsFit G.Engine self.old }
         requires there { r < length self.old.routes.items }
         ensures taken { (states : ℕ → RouteState) → Wait self.old.rings.items states
             → Took r states self.new.rings.items result }
         ensures seats { self.new.seats ≡ self.old.seats }
         ensures routes { self.new.routes ≡ self.old.routes }
-        ensures sound { IsSound G.Engine self.new }
+        ensures sound { PartsFit G.Engine self.new }
         ensures item { At self.new.routes.items r (λ route. IfSome result
             (CanTake ((net_shown G.Engine self.new).declared route.to) route.target)) }
     {
@@ -203,7 +203,7 @@ impl<G: Engine> Net<G> {
         seat.take(route.event, route.target, item)
     }
 
-    /// Sends what a chart put out at a move that ended so, and puts the line of the move.
+    /// Sends what a chart emitted at a move that ended so, and puts the line of the move.
     fn end_move<O: Sink>(
         &mut self,
         p: u64,
@@ -213,7 +213,7 @@ impl<G: Engine> Net<G> {
         pieces: &mut Pieces,
         out: &mut O,
     ) -> Result<(), NetEnd>
-        requires sound { IsSound G.Engine self.old }
+        requires sound { PartsFit G.Engine self.old }
         requires there { c < length self.old.seats.items }
         requires event { At self.old.seats.items c (λ seat. IsEventOf (names_at G.Engine seat) event) }
         requires fault { At self.old.seats.items c (λ seat. IsFaultOf (names_at G.Engine seat) (fault_of end)) }
@@ -228,7 +228,7 @@ impl<G: Engine> Net<G> {
         ensures failed { pieces.new.failed ≡ is_write result }
         ensures seats { self.new.seats ≡ self.old.seats }
         ensures routes { self.new.routes ≡ self.old.routes }
-        ensures sound { IsSound G.Engine self.new }
+        ensures sound { PartsFit G.Engine self.new }
         ensures ok { result ≡ Ok tt → end ≡ Ok tt }
         ensures reads { is_read result ≡ false }
         ensures memory { result ≡ Err NetEnd.Memory → end ≡ Err Halt.Memory }
@@ -240,7 +240,7 @@ impl<G: Engine> Net<G> {
         }
     }
 
-    /// Sends what a chart put out at a move that ended in that fault or none, and puts the line of
+    /// Sends what a chart emitted at a move that ended in that fault or none, and puts the line of
     /// the move.
     fn end_with<O: Sink>(
         &mut self,
@@ -251,7 +251,7 @@ impl<G: Engine> Net<G> {
         pieces: &mut Pieces,
         out: &mut O,
     ) -> Result<(), NetEnd>
-        requires sound { IsSound G.Engine self.old }
+        requires sound { PartsFit G.Engine self.old }
         requires there { c < length self.old.seats.items }
         requires event { At self.old.seats.items c (λ seat. IsEventOf (names_at G.Engine seat) event) }
         requires fault { At self.old.seats.items c (λ seat. IsFaultOf (names_at G.Engine seat) fault) }
@@ -265,7 +265,7 @@ impl<G: Engine> Net<G> {
         ensures failed { pieces.new.failed ≡ is_write result }
         ensures seats { self.new.seats ≡ self.old.seats }
         ensures routes { self.new.routes ≡ self.old.routes }
-        ensures sound { IsSound G.Engine self.new }
+        ensures sound { PartsFit G.Engine self.new }
         ensures ok { result ≡ Ok tt → fault ≡ None }
         ensures reads { is_read result ≡ false }
         ensures memory { result ≢ Err NetEnd.Memory }
@@ -274,10 +274,10 @@ impl<G: Engine> Net<G> {
         self.put_move::<O>(p, c, event, fault, full, pieces, out)
     }
 
-    /// Sends what a chart put out, unless its move ended in a fault. It answers the route that was
+    /// Sends what a chart emitted, unless its move ended in a fault. It answers the route that was
     /// full when an item was to be sent on it.
     fn send_from(&mut self, c: u32, fault: Option<Fault>) -> Option<u32>
-        requires sound { IsSound G.Engine self.old }
+        requires sound { PartsFit G.Engine self.old }
         requires there { c < length self.old.seats.items }
         ensures sent { At self.old.seats.items c
             (λ seat. (states : ℕ → RouteState) → Wait self.old.rings.items states
@@ -285,7 +285,7 @@ impl<G: Engine> Net<G> {
             self.new.rings.items result) }
         ensures seats { self.new.seats ≡ self.old.seats }
         ensures routes { self.new.routes ≡ self.old.routes }
-        ensures sound { IsSound G.Engine self.new }
+        ensures sound { PartsFit G.Engine self.new }
     {
         if fault.is_some() {
             return None;

@@ -7,7 +7,8 @@ ghost use Rattle.event_file.specs.EventLines.{event_of_line, tokens_of};
 ghost use Rattle.trace_text.specs.Pieces.{Puts};
 ghost use Rattle.chart_net.specs.Causes.{is_read, is_write};
 ghost use Rattle.chart_net.specs.Moving as spec;
-ghost use Rattle.chart_net.specs.NetParts.{AreAt, HasOver, IsKept, IsSound, StandsFor, all_running};
+ghost use Rattle.chart_net.specs.NetParts.{AreAt, HasOver, NetIsKept};
+ghost use Rattle.chart_net.specs.NetParts.{PartsFit, StandsFor, all_running};
 ghost use Rattle.chart_net.specs.NetParts.{charts_of, net_shown, routes_of};
 ghost use Rattle.chart_net.specs.NetRuns.{NetStep};
 ghost use Rattle.chart_net.specs.Nets.{NetWorld};
@@ -25,7 +26,7 @@ use trace_text::Pieces;
 
 /// A step of a schedule. The values that an event gives to inputs are kept with its chart.
 #[derive(Clone, Copy, Debug, PartialEq, Eq)]
-pub(crate) enum Step {
+pub(crate) enum ScheduleStep {
     /// The chart of that number is given the event.
     Give(u32, Event),
     /// An item of the route of that number is taken.
@@ -43,7 +44,7 @@ impl<G: Engine> Net<G> {
         pieces: &mut Pieces,
         out: &mut O,
     ) -> Result<u64, NetEnd>
-        requires sound { IsSound G.Engine self.old }
+        requires sound { PartsFit G.Engine self.old }
         requires stages { AreAt G.Engine self.old all_running p }
         requires few { p ≤ FILE_EVENT_LIMIT }
         requires usable { pieces.old.failed ≡ false }
@@ -56,7 +57,7 @@ impl<G: Engine> Net<G> {
         ensures failed { pieces.new.failed ≡ is_write result }
         ensures charts { charts_of G.Engine self.new ≡ charts_of G.Engine self.old }
         ensures routes { routes_of self.new ≡ routes_of self.old }
-        ensures sound { IsSound G.Engine self.new }
+        ensures sound { PartsFit G.Engine self.new }
         ensures stages { IfOk result (AreAt G.Engine self.new all_running) }
         ensures reads { is_read result ≡ false }
         ensures over { result ≡ Err NetEnd.Memory → HasOver G.Engine self.new }
@@ -79,12 +80,12 @@ impl<G: Engine> Net<G> {
     /// Does a step, whose values are with its chart. The number is that of the last step.
     fn do_step<O: Sink>(
         &mut self,
-        step: Step,
+        step: ScheduleStep,
         p: u64,
         pieces: &mut Pieces,
         out: &mut O,
     ) -> Result<(), NetEnd>
-        requires sound { IsSound G.Engine self.old }
+        requires sound { PartsFit G.Engine self.old }
         requires stages { AreAt G.Engine self.old all_running p }
         requires few { p < FILE_EVENT_LIMIT }
         requires usable { pieces.old.failed ≡ false }
@@ -98,25 +99,25 @@ impl<G: Engine> Net<G> {
         ensures failed { pieces.new.failed ≡ is_write result }
         ensures charts { charts_of G.Engine self.new ≡ charts_of G.Engine self.old }
         ensures routes { routes_of self.new ≡ routes_of self.old }
-        ensures sound { IsSound G.Engine self.new }
+        ensures sound { PartsFit G.Engine self.new }
         ensures stages { OnOk result (AreAt G.Engine self.new all_running (p + 1)) }
         ensures reads { is_read result ≡ false }
         ensures over { result ≡ Err NetEnd.Memory → HasOver G.Engine self.new }
         ensures memory { IsTrue G.never_wants_memory → result ≢ Err NetEnd.Memory }
     {
         match step {
-            Step::Give(c, event) => self.give_event::<O>(p, c, event, pieces, out),
-            Step::Take(r) => self.take_route::<O>(p, r, pieces, out),
+            ScheduleStep::Give(c, event) => self.give_event::<O>(p, c, event, pieces, out),
+            ScheduleStep::Take(r) => self.take_route::<O>(p, r, pieces, out),
         }
     }
 
     /// Reads a line of a schedule. None where the line is skipped. The values that it gives to
     /// inputs are kept with the chart, and nothing else of the net changes.
-    fn read_step(&mut self, line: &[u8]) -> Result<Option<Step>, LineFault>
-        requires { IsSound G.Engine self.old }
+    fn read_step(&mut self, line: &[u8]) -> Result<Option<ScheduleStep>, LineFault>
+        requires { PartsFit G.Engine self.old }
         ensures read { spec.ReadsStep G.Engine self.new
             (step_of_line (net_shown G.Engine self.old) line.now) result }
-        ensures kept { IsKept G.Engine self.old self.new }
+        ensures kept { NetIsKept G.Engine self.old self.new }
     {
         let Some(first) = next_token(line) else {
             return Ok(None);
@@ -135,11 +136,11 @@ impl<G: Engine> Net<G> {
 
     /// Reads what comes after `ev`: the name of a chart, and an event line for it that isn't
     /// skipped.
-    fn read_event(&mut self, text: &[u8]) -> Result<Option<Step>, LineFault>
-        requires { IsSound G.Engine self.old }
+    fn read_event(&mut self, text: &[u8]) -> Result<Option<ScheduleStep>, LineFault>
+        requires { PartsFit G.Engine self.old }
         ensures read { spec.ReadsStep G.Engine self.new
             (giving_step (net_shown G.Engine self.old) (tokens_of text.now)) result }
-        ensures kept { IsKept G.Engine self.old self.new }
+        ensures kept { NetIsKept G.Engine self.old self.new }
     {
         let Some(name) = next_token(text) else {
             return Err(LineFault::BadStep);
@@ -148,15 +149,15 @@ impl<G: Engine> Net<G> {
             return Err(LineFault::BadStep);
         };
         match self.read_given(c, name.rest) {
-            Ok(Some(event)) => Ok(Some(Step::Give(c as u32, event))),
+            Ok(Some(event)) => Ok(Some(ScheduleStep::Give(c as u32, event))),
             Ok(None) => Err(LineFault::BadStep),
             Err(fault) => Err(fault),
         }
     }
 
     /// Reads what comes after `take`: the number of a route, and nothing else.
-    fn read_take(&self, text: &[u8]) -> Result<Option<Step>, LineFault>
-        requires { IsSound G.Engine self.now }
+    fn read_take(&self, text: &[u8]) -> Result<Option<ScheduleStep>, LineFault>
+        requires { PartsFit G.Engine self.now }
         ensures { spec.ReadsStep G.Engine self.now
             (taking_step (net_shown G.Engine self.now) (tokens_of text.now)) result }
     {
@@ -167,7 +168,7 @@ impl<G: Engine> Net<G> {
             return Err(LineFault::BadStep);
         }
         match route_number(word.token, self.routes.len()) {
-            Some(r) => Ok(Some(Step::Take(r as u32))),
+            Some(r) => Ok(Some(ScheduleStep::Take(r as u32))),
             None => Err(LineFault::BadStep),
         }
     }
@@ -182,11 +183,11 @@ impl<G: Engine> Net<G> {
 
     /// Reads an event line for a chart.
     fn read_given(&mut self, c: usize, text: &[u8]) -> Result<Option<Event>, LineFault>
-        requires sound { IsSound G.Engine self.old }
+        requires sound { PartsFit G.Engine self.old }
         requires there { c < length self.old.seats.items }
         ensures read { spec.ReadsGiven G.Engine self.new c
             (event_of_line ((net_shown G.Engine self.old).declared c) text.now) result }
-        ensures kept { IsKept G.Engine self.old self.new }
+        ensures kept { NetIsKept G.Engine self.old self.new }
     {
         let seat = &mut self.seats[c];
         seat.read(text)

@@ -1,4 +1,4 @@
-//! How the events that a chart put out are sent on the routes of a net.
+//! How the events that a chart emitted are sent on the routes of a net.
 ghost use Rattle.std.specs.Prelude.{◌≡◌, ◌<◌, ◌^◌, ℕ, length, IfSome};
 ghost use Rattle.chart_net.specs.Changes.{ChangesAt};
 ghost use Rattle.chart_net.specs.Holding.{HaveRoom, HaveSources, Sent, Took, Wait, finds_full};
@@ -11,7 +11,7 @@ use crate::ring::Ring;
 use actions::{Vals, Value};
 use net_text::Route;
 
-/// Sends the events that a chart put out, one after the other, each on every route from the chart
+/// Sends the events that a chart emitted, one after the other, each on every route from the chart
 /// that carries it, in order of the routes. It answers the number of the route that was full when
 /// an item was to be sent on it; what comes before was sent.
 pub(crate) fn send_events(

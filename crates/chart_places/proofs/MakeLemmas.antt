@@ -7,7 +7,8 @@ use Rattle.chart_tree.specs.Trees.{Var, Chart}
 use Rattle.chart_places.specs.Placed.{Placed, Owned, placed_states, placed_tree, placed_junctions}
 use Rattle.chart_places.specs.Scopes as scopes
 use Rattle.chart_places.specs.Scopes.{Scopes, JunctionName, scopes_of}
-use Rattle.chart_places.specs.Tables.{Declared, state_name, junction_name, event_name, var_name, names_in, junction_entry, scopes_seen, IsOwned, IsFree, AreTables}
+use Rattle.chart_places.specs.Tables.{Declared, state_name, junction_name, event_name, var_name}
+use Rattle.chart_places.specs.Tables.{names_in, junction_entry, scopes_seen, IsOwned, IsFree, AreTables}
 
 map_map : {X Y Z : Type 0} (f : X → Y) (g : Y → Z) (xs : List X) → map g (map f xs) ≡ map (λ x. g (f x)) xs
 map_map f g [] = refl

@@ -1,5 +1,6 @@
 -- What tables of names answer is what the names mean.
-use Rattle.std.proofs.Common.{◌≡◌, ℕ, zero, suc, ◌+◌, ◌<◌, List, [], ◌∷◌, length, map, get_or, Option, Some, None, Bool, true, false, cond, refl, sym, ap, ◌∙◌, subst, arith}
+use Rattle.std.proofs.Common.{◌≡◌, ℕ, zero, suc, ◌+◌, ◌<◌, List, [], ◌∷◌, length, map, get_or, Option}
+use Rattle.std.proofs.Common.{Some, None, Bool, true, false, cond, refl, sym, ap, ◌∙◌, subst, arith}
 use Rattle.std.proofs.Common.{◌&&◌, nat_eq}
 use Rattle.std.specs.Prelude.{bytes_eq, slice_get, IfSome}
 use Rattle.std.specs.List.{AllByRecursion, find, range_with_len}
@@ -8,12 +9,16 @@ use Rattle.std.proofs.lemmas.Bool.{eqb-true, eq-eqb}
 use Rattle.std.proofs.lemmas.List.{length-map}
 use Rattle.std.proofs.lemmas.Option.{slice_get-map, get_or_from_slice_get}
 use Rattle.std.proofs.lemmas.Slice.Eq.{bytes_eq-Decides}
-use Rattle.active_config.specs.Tree.{Tree, IsTree, state_count, parent_of, is_child, children_below, children_of, ancestors}
+use Rattle.active_config.specs.Tree.{Tree, IsTree, state_count, parent_of, is_child}
+use Rattle.active_config.specs.Tree.{children_below, children_of, ancestors}
 use Rattle.active_config.proofs.RangeLemmas.{find-filter}
 use Rattle.checked_chart.proofs.Walks.{and_above, parent_and_above}
 use Rattle.chart_tree.specs.declared.name.NameText.{NameText}
-use Rattle.chart_places.specs.Scopes.{JunctionName, Scopes, or_else, is_named, child_named, named_in, state_named, is_junction_of, junction_named, junction_in, junction_at, number_from, place_of, nowhere}
-use Rattle.chart_places.specs.Tables.{Declared, is_declared, declared_from, declared_in, names_in, owners_in, junction_entry, scopes_seen, IsOwned, IsFree, AreTables}
+use Rattle.chart_places.specs.Scopes.{JunctionName, Scopes, or_else, is_named, child_named}
+use Rattle.chart_places.specs.Scopes.{named_in, state_named, is_junction_of, junction_named}
+use Rattle.chart_places.specs.Scopes.{junction_in, junction_at, number_from, place_of, nowhere}
+use Rattle.chart_places.specs.Tables.{Declared, is_declared, declared_from, declared_in, names_in}
+use Rattle.chart_places.specs.Tables.{owners_in, junction_entry, scopes_seen, IsOwned, IsFree, AreTables}
 
 -- ---- tests from both sides
 

@@ -1,5 +1,6 @@
 -- One name more in a table.
-use Rattle.std.proofs.Common.{◌≡◌, ℕ, suc, ◌+◌, List, [], ◌∷◌, ◌++◌, length, Option, Some, None, Bool, true, false, cond, Bor, refl, sym, ap, ◌∙◌, arith}
+use Rattle.std.proofs.Common.{◌≡◌, ℕ, suc, ◌+◌, List, [], ◌∷◌, ◌++◌, length, Option, Some}
+use Rattle.std.proofs.Common.{None, Bool, true, false, cond, Bor, refl, sym, ap, ◌∙◌, arith}
 use Rattle.std.proofs.Common.{◌&&◌, nat_eq, not}
 use Rattle.std.specs.Prelude.{bytes_eq, option_copied}
 use Rattle.std.specs.Option.{option_eq, is_some}

@@ -1,5 +1,6 @@
 -- The tree of the states of a chart text is a tree in pre-order.
-use Rattle.std.proofs.Common.{◌≡◌, ◌≢◌, ℕ, zero, suc, ◌+◌, ◌≤◌, ◌<◌, List, [], ◌∷◌, ◌++◌, map, length, get_or, Option, Some, None, true, refl, sym, ap, ◌∙◌, subst, arith, inl, inr, length-append}
+use Rattle.std.proofs.Common.{◌≡◌, ◌≢◌, ℕ, zero, suc, ◌+◌, ◌≤◌, ◌<◌, List, [], ◌∷◌, ◌++◌, map, length, get_or}
+use Rattle.std.proofs.Common.{Option, Some, None, true, refl, sym, ap, ◌∙◌, subst, arith, inl, inr, length-append}
 use Rattle.std.proofs.lemmas.Bool.{cases_lt}
 use Rattle.std.proofs.lemmas.List.{length-map}
 use Rattle.std.specs.Prelude.{◌⊎◌, IsTrue, IsSomeAnd, slice_get, if◌then◌else◌}
@@ -12,7 +13,8 @@ use Rattle.active_config.proofs.ChildLemmas.{children_of-none, first_child-next}
 use Rattle.chart_tree.specs.declared.state.CompText.{CompText}
 use Rattle.chart_tree.specs.declared.state.CompText.TheVariants as words
 use Rattle.chart_tree.specs.Trees.{Parts, State, StateOf, States, NoState, MoreStates}
-use Rattle.chart_places.specs.Placed.{Placed, is_any, placed_from, placed_below, placed_states, parent_comp, placed_comp, placed_tree}
+use Rattle.chart_places.specs.Placed.{Placed, is_any, placed_from, placed_below}
+use Rattle.chart_places.specs.Placed.{placed_states, parent_comp, placed_comp, placed_tree}
 
 -- ---- states of a tree
 

@@ -18,9 +18,9 @@ use Rattle.sos_rules.proofs.MarkedStates.{on_is_state, root_on}
 use Rattle.sos_rules.proofs.Keeps.{Keeps, Consistent, consistent_closed, statement_finishes}
 use Rattle.code_language.specs.Instrs.{Instr}
 use Rattle.code_language.specs.Code.{Procedures, fetch}
-use Rattle.code_language.specs.Machine.{Program, Frame, Machine, machine, fresh, next, sent}
+use Rattle.code_language.specs.Machine.{Program, Frame, CodeState, machine, fresh, next, sent}
 use Rattle.code_language.specs.Instrs as instrs
-use Rattle.code_simulation.specs.Reach.{Aim, Meets, returns, Any, HasAt}
+use Rattle.code_simulation.specs.Reach.{Aim, MeetsAim, returns, Any, HasAt}
 use Rattle.code_simulation.proofs.Joins.{here, on_to, meets_end, then_meets, then_meets_with, choose_meets}
 use Rattle.code_simulation.proofs.Steps.{go_skip, go_ret, go_assign, go_emit, go_send, go_send_to}
 use Rattle.chart_procedures.specs.Numbers.{Numbers}
@@ -48,7 +48,7 @@ module _ (c : Chart) (b : Bounds) (k : Procedures) (N : Numbers) (valid : IsVali
   -- the receiver is processed; then the event and the depth are as before
   received : (s : ℕ) → s < state_count c.tree → (e : ℕ) (f : Frame) (fs : List Frame) (w : World) → Consistent c w
       → is_on s w.marks ≡ true → (now : Now) (r : ℕ)
-      → Meets C (machine w (deeper e now) r
+      → MeetsAim C (machine w (deeper e now) r
       (fresh (N.process s) None (suc (length fs)) 0 (Some now.event) ∷ next f ∷ fs)) (returns now
       (next f ∷ fs) Any) ((p.process s (deeper e now) >> nothing) w)
   received s lt e f fs w ok on now r =
@@ -58,18 +58,18 @@ module _ (c : Chart) (b : Bounds) (k : Procedures) (N : Numbers) (valid : IsVali
   -- an event is sent to the whole chart
   chart_sent : (e : ℕ) (f : Frame) (fs : List Frame) → fetch k f.proc f.place ≡ Some (instrs.Send e) → (w : World)
       → Consistent c w → is_on 0 w.marks ≡ true → (now : Now) (r : ℕ)
-      → Meets C (machine w now r (f ∷ fs)) (returns now (next f ∷ fs) Any) (send_rule c b p e None now w)
+      → MeetsAim C (machine w now r (f ∷ fs)) (returns now (next f ∷ fs) Any) (send_rule c b p e None now w)
   chart_sent e f fs h w ok on now r =
       go_send h (λ u m.
       let same = kept w (paid_keeps b w) m in
-      subst (λ q. Meets C (machine u (deeper e now) r (fresh q None (suc (length fs)) 0 (Some now.event) ∷ next f ∷ fs))
+      subst (λ q. MeetsAim C (machine u (deeper e now) r (fresh q None (suc (length fs)) 0 (Some now.event) ∷ next f ∷ fs))
       (returns now (next f ∷ fs) Any) ((p.process 0 (deeper e now) >> nothing) u)) (sym K.react)
       (received 0 valid.tree.some e f fs u (subst (IsConsistent c.tree) (sym same) ok) (ap (is_on 0) same ∙ on) now r))
 
   -- the receiver hears where it is active
   heard : (e s : ℕ) (f : Frame) (fs : List Frame) → s < state_count c.tree → (w : World) → Consistent c w
       → (now : Now) (r : ℕ) (on : Bool) → is_on s w.marks ≡ on
-      → Meets C (sent on e (N.process s) w now r f fs) (returns now (next f ∷ fs) Any)
+      → MeetsAim C (sent on e (N.process s) w now r f fs) (returns now (next f ∷ fs) Any)
       (choose on (p.process s (deeper e now) >> nothing) nothing w)
   heard e s f fs lt w ok now r true on = received s lt e f fs w ok on now r
   heard e s f fs lt w ok now r false on = done r here
@@ -77,7 +77,7 @@ module _ (c : Chart) (b : Bounds) (k : Procedures) (N : Numbers) (valid : IsVali
   -- an event is sent to a state
   state_sent : (e s : ℕ) (f : Frame) (fs : List Frame) → fetch k f.proc f.place ≡ Some (instrs.SendTo e s (N.process s))
       → s < state_count c.tree → (w : World) → Consistent c w → (now : Now) (r : ℕ)
-      → Meets C (machine w now r (f ∷ fs)) (returns now (next f ∷ fs) Any) (send_rule c b p e (Some s) now w)
+      → MeetsAim C (machine w now r (f ∷ fs)) (returns now (next f ∷ fs) Any) (send_rule c b p e (Some s) now w)
   state_sent e s f fs h lt w ok now r =
       go_send_to h (λ u m. heard e s f fs lt u (subst (IsConsistent c.tree) (sym (kept w (paid_keeps b w) m)) ok) now r
       (is_on s u.marks) refl)
@@ -99,7 +99,7 @@ module _ (c : Chart) (b : Bounds) (k : Procedures) (N : Numbers) (valid : IsVali
       pub good : Tells a (lives c.tree life w.marks)
 
     -- where the code stands after a statement
-    abbrev statement_at : (j : ℕ) (a : End) (w : World) → StatementEnds a w → Machine
+    abbrev statement_at : (j : ℕ) (a : End) (w : World) → StatementEnds a w → CodeState
     statement_at j Done w y = machine w now y.number (at j ∷ fs)
     statement_at j Cut w y = machine w now 1 fs
 
@@ -109,7 +109,7 @@ module _ (c : Chart) (b : Bounds) (k : Procedures) (N : Numbers) (valid : IsVali
 
     -- the life's test after a send
     alive_runs : (i : ℕ) (rest : List Instr) → HasAt k q i (require (life_test life) rest) → (w : World) (r : ℕ)
-        → Meets C (machine w now r (at i ∷ fs)) (Behind (i + 1 + 1 + 1)) (while_alive c.tree life w)
+        → MeetsAim C (machine w now r (at i ∷ fs)) (Behind (i + 1 + 1 + 1)) (while_alive c.tree life w)
     alive_runs i rest h w r =
         choose_meets (lives c.tree life w.marks) (give Done) (give Cut) w
         (λ e. meets_end (record { number = r; good = e }) (on_to (yes_life life refl h.0 e) (go_skip h.1.0)))
@@ -118,7 +118,7 @@ module _ (c : Chart) (b : Bounds) (k : Procedures) (N : Numbers) (valid : IsVali
     -- after one statement come the others
     rest_runs : (rest : List Stmt) (j : ℕ) → HasAt k q j (block_code N (life_test life) rest) → Targets c.tree rest
         → (a : End) (w : World) → Consistent c w → (y : StatementEnds a w)
-        → Meets C (statement_at j a w y) (returns now fs (λ a v x. Tells a (lives c.tree life v.marks)))
+        → MeetsAim C (statement_at j a w y) (returns now fs (λ a v x. Tells a (lives c.tree life v.marks)))
         (if_done a Cut (p.block life rest now) w)
     rest_runs rest j h t Done w ok y = low.block.by life rest q j h t w ok y.good now y.number tag base fs
     rest_runs rest j h t Cut w ok y = meets_end (record { number = 1; good = y.good }) here
@@ -126,11 +126,11 @@ module _ (c : Chart) (b : Bounds) (k : Procedures) (N : Numbers) (valid : IsVali
     -- the statements of a block
     block_runs : (ss : List Stmt) (i : ℕ) → HasAt k q i (block_code N (life_test life) ss) → Targets c.tree ss
         → (w : World) → Consistent c w → lives c.tree life w.marks ≡ true → (r : ℕ)
-        → Meets C (machine w now r (at i ∷ fs)) (returns now fs (λ a v x. Tells a (lives c.tree life v.marks)))
+        → MeetsAim C (machine w now r (at i ∷ fs)) (returns now fs (λ a v x. Tells a (lives c.tree life v.marks)))
         (block_rule c b p life ss now w)
     block_runs [] i h t w ok e r = meets_end (record { number = 1; good = e }) (go_ret h.0)
     block_runs (Assign v x ∷ rest) i h t w ok e r =
-        let one : Meets C (machine w now r (at i ∷ fs)) (Behind (i + 1)) (statement c b p life (Assign v x) now w) =
+        let one : MeetsAim C (machine w now r (at i ∷ fs)) (Behind (i + 1)) (statement c b p life (Assign v x) now w) =
         go_assign h.0 (λ u m. meets_end (record {
           number = r;
           good = ap (lives c.tree life)
@@ -139,7 +139,7 @@ module _ (c : Chart) (b : Bounds) (k : Procedures) (N : Numbers) (valid : IsVali
         then_meets_with (keeping (statement_finishes c valid.tree b (Consistent c) (consistent_closed c b) p keep life
         (Assign v x) now w ok)) one (λ a u y ok'. rest_runs rest (i + 1) h.1 t a u ok' y)
     block_runs (Emit x ∷ rest) i h t w ok e r =
-        let one : Meets C (machine w now r (at i ∷ fs)) (Behind (i + 1)) (statement c b p life (Emit x) now w) =
+        let one : MeetsAim C (machine w now r (at i ∷ fs)) (Behind (i + 1)) (statement c b p life (Emit x) now w) =
         go_emit h.0 (λ u m. meets_end (record {
           number = r;
           good = ap (lives c.tree life) (kept w (paid_keeps b w) m)
@@ -148,14 +148,14 @@ module _ (c : Chart) (b : Bounds) (k : Procedures) (N : Numbers) (valid : IsVali
         then_meets_with (keeping (statement_finishes c valid.tree b (Consistent c) (consistent_closed c b) p keep life
         (Emit x) now w ok)) one (λ a u y ok'. rest_runs rest (i + 1) h.1 t a u ok' y)
     block_runs (Send x ∷ rest) i h t w ok e r =
-        let one : Meets C (machine w now r (at i ∷ fs)) (Behind (i + 1 + 1 + 1 + 1))
+        let one : MeetsAim C (machine w now r (at i ∷ fs)) (Behind (i + 1 + 1 + 1 + 1))
         (statement c b p life (Send x) now w) =
         then_meets (low.send.chart x (at i) fs h.0 w ok (root_alive life w ok e) now r)
         (λ a u y. alive_runs (i + 1) (block_code N (life_test life) rest) h.1 u y.number) in
         then_meets_with (keeping (statement_finishes c valid.tree b (Consistent c) (consistent_closed c b) p keep life
         (Send x) now w ok)) one (λ a u y ok'. rest_runs rest (i + 1 + 1 + 1 + 1) h.1.1.1.1 t a u ok' y)
     block_runs (SendTo x s ∷ rest) i h t w ok e r =
-        let one : Meets C (machine w now r (at i ∷ fs)) (Behind (i + 1 + 1 + 1 + 1))
+        let one : MeetsAim C (machine w now r (at i ∷ fs)) (Behind (i + 1 + 1 + 1 + 1))
         (statement c b p life (SendTo x s) now w) =
         then_meets (low.send.state x s (at i) fs h.0 t.0 w ok now r)
         (λ a u y. alive_runs (i + 1) (block_code N (life_test life) rest) h.1 u y.number) in

@@ -26,7 +26,7 @@ use Rattle.sos_rules.proofs.Keeps.{Keeps, Consistent}
 use Rattle.code_language.specs.Code.{Procedures, fetch}
 use Rattle.code_language.specs.Machine.{Program, Frame, machine, fresh, next, past}
 use Rattle.code_language.specs.Instrs as instrs
-use Rattle.code_simulation.specs.Reach.{Reaches, Meets, returns, Any, HasAt}
+use Rattle.code_simulation.specs.Reach.{Reaches, MeetsAim, returns, Any, HasAt}
 use Rattle.code_simulation.proofs.Joins.{on_to, meets_on, meets_more, then_meets_with, choose_meets}
 use Rattle.code_simulation.proofs.Steps.{go_call, go_home, go_mark, go_keep, go_skip, go_ret}
 use Rattle.code_simulation.proofs.Tests.{yes_on, no_on, yes_bare, no_bare, yes_on_home, no_on_home, yes_bare_home}
@@ -81,7 +81,7 @@ module _ (c : Chart) (b : Bounds) (k : Procedures) (N : Numbers) (valid : IsVali
       → HasAt k q i (toward_code N s d same o) → s < state_count c.tree → comp_of c.tree s ≡ Or
       → (w : World) → Consistent c w → is_bare c.tree s w.marks ≡ true
       → (now : Now) (r : ℕ) (tag : Option ℕ) (base home cursor : ℕ) (fs : List Frame)
-      → Meets C (machine w now r (aimed (running q i tag base home None) cursor ∷ fs)) (returns now fs Any)
+      → MeetsAim C (machine w now r (aimed (running q i tag base home None) cursor ∷ fs)) (returns now fs Any)
       (choose same (p.defaults s now) (if_some o nothing (λ x. p.enter x d now)) w)
   toward_by s d q i true o way h lt is_or w ok bare now r tag base home cursor fs =
       meets_on (go_call h.0) (meets_more (low.defaults.by s lt is_or w ok bare now r None base home
@@ -98,7 +98,7 @@ module _ (c : Chart) (b : Bounds) (k : Procedures) (N : Numbers) (valid : IsVali
       → s < state_count c.tree → comp_of c.tree s ≡ Or
       → (w : World) → Consistent c w → is_bare c.tree s w.marks ≡ true
       → (now : Now) (r : ℕ) (tag : Option ℕ) (base home cursor : ℕ) (fs : List Frame)
-      → Meets C (machine w now r (aimed (running q i tag base home None) cursor ∷ fs)) (returns now fs Any)
+      → MeetsAim C (machine w now r (aimed (running q i tag base home None) cursor ∷ fs)) (returns now fs Any)
       (enter_toward c p s d now w)
   toward_runs s d q i h lt is_or w ok bare now r tag base home cursor fs =
       toward_by s d q i (s == d) (child_toward c.tree s d) refl h lt is_or w ok bare now r tag base home cursor fs
@@ -116,7 +116,7 @@ module _ (c : Chart) (b : Bounds) (k : Procedures) (N : Numbers) (valid : IsVali
       → s < state_count c.tree
       → (w : World) → Consistent c w → is_bare c.tree s w.marks ≡ true
       → (now : Now) (r : ℕ) (tag : Option ℕ) (base home : ℕ) (fs : List Frame)
-      → Meets C (machine w now r (running q i tag base home None ∷ fs)) (returns now fs Any)
+      → MeetsAim C (machine w now r (running q i tag base home None ∷ fs)) (returns now fs Any)
       (enter_inside c p s d now o w)
   inside_by s d q i Leaf is h lt w ok bare now r tag base home fs = done 1 (go_ret h.0)
   inside_by s d q i Or is h lt w ok bare now r tag base home fs =
@@ -141,7 +141,7 @@ module _ (c : Chart) (b : Bounds) (k : Procedures) (N : Numbers) (valid : IsVali
     -- after the entry action
     entered : (i : ℕ) → HasAt k (N.enter s d) i (active_entry_code N c.tree s d) → (a : End) (w : World) (r : ℕ)
         → Consistent c w → Tells a (is_bare c.tree s w.marks)
-        → Meets C (machine w now r (on_s (i + 1) ∷ fs)) (returns now fs Any)
+        → MeetsAim C (machine w now r (on_s (i + 1) ∷ fs)) (returns now fs Any)
         (if_done a tt (enter_inside c p s d now (comp_of c.tree s)) w)
     entered i h Done w r ok e =
         meets_on (on_to (yes_bare_home h.1.0 e) (go_skip h.1.1.0))
@@ -152,7 +152,7 @@ module _ (c : Chart) (b : Bounds) (k : Procedures) (N : Numbers) (valid : IsVali
     -- the entry action, and what is inside
     active_runs : (i : ℕ) → HasAt k (N.enter s d) i (active_entry_code N c.tree s d) → (w : World) (r : ℕ)
         → Consistent c w → is_bare c.tree s w.marks ≡ true
-        → Meets C (machine w now r (on_s i ∷ fs)) (returns now fs Any) (active_work w)
+        → MeetsAim C (machine w now r (on_s i ∷ fs)) (returns now fs Any) (active_work w)
     active_runs i h w r ok bare =
         meets_on (go_call h.0) (then_meets_with (keeping (keep.block (Bare s) (node c s).entry now w ok))
         (low.block.by (Bare s) (node c s).entry (N.entry s) 0 (K.entry s path.state)
@@ -163,14 +163,14 @@ module _ (c : Chart) (b : Bounds) (k : Procedures) (N : Numbers) (valid : IsVali
     kept : (i : ℕ) (h : Bool) → HasAt k (N.enter s d) i (keep_code h s (active_entry_code N c.tree s d))
         → (w : World) (r : ℕ) → Consistent c (keep_if h c.tree s w)
         → is_bare c.tree s (keep_if h c.tree s w).marks ≡ true
-        → Meets C (machine w now r (on_s i ∷ fs)) (returns now fs Any) (active_work (keep_if h c.tree s w))
+        → MeetsAim C (machine w now r (on_s i ∷ fs)) (returns now fs Any) (active_work (keep_if h c.tree s w))
     kept i true h w r ok bare = meets_on (go_keep h.0) (active_runs (i + 1) h.1 (keep_in c.tree s w) r ok bare)
     kept i false h w r ok bare = active_runs i h w r ok bare
 
     -- a state that can be marked is marked, and a parent with history remembers it
     marked_runs : (i : ℕ) → HasAt k (N.enter s d) i (entry_code N c.tree s d (is_remembered c s)) → (w : World) (r : ℕ)
         → Consistent c w → can_mark c.tree s w.marks ≡ true
-        → Meets C (machine w now r (on_s i ∷ fs)) (returns now fs Any) (entry_work w)
+        → MeetsAim C (machine w now r (on_s i ∷ fs)) (returns now fs Any) (entry_work w)
     unfolding entered_in
     marked_runs i h w r ok can =
         let way : Reaches C (machine w now r (on_s i ∷ fs)) (machine (set_mark s true w) now r (on_s (i + 1) ∷ fs)) =
@@ -183,7 +183,7 @@ module _ (c : Chart) (b : Bounds) (k : Procedures) (N : Numbers) (valid : IsVali
     tested : (o : Option ℕ) → parent_of c.tree s ≡ o
         → HasAt k (N.enter s d) 3 (parent_test c.tree o (entry_code N c.tree s d (is_remembered c s)))
         → (w : World) (r : ℕ) → Consistent c w → is_on s w.marks ≡ false
-        → Meets C (machine w now r (on_s 3 ∷ fs)) (returns now fs Any)
+        → MeetsAim C (machine w now r (on_s 3 ∷ fs)) (returns now fs Any)
         (choose (can_mark c.tree s w.marks) entry_work nothing w)
     tested None up h w r ok off =
         choose_meets (can_mark c.tree s w.marks) entry_work nothing w (λ can. marked_runs 3 h w r ok can)
@@ -197,7 +197,7 @@ module _ (c : Chart) (b : Bounds) (k : Procedures) (N : Numbers) (valid : IsVali
 
     -- a state that is on is passed over
     off_or_on : (w : World) (r : ℕ) → Consistent c w → (on : Bool) → is_on s w.marks ≡ on
-        → Meets C (machine w now r (on_s 1 ∷ fs)) (returns now fs Any)
+        → MeetsAim C (machine w now r (on_s 1 ∷ fs)) (returns now fs Any)
         (choose (can_mark c.tree s w.marks) entry_work nothing w)
     off_or_on w r ok true e =
         let h = K.enter s d path in
@@ -210,7 +210,7 @@ module _ (c : Chart) (b : Bounds) (k : Procedures) (N : Numbers) (valid : IsVali
   -- a state is entered
   enter_runs : (s d : ℕ) → IsPath c.tree s d → (w : World) → Consistent c w
       → (now : Now) (r : ℕ) (tag : Option ℕ) (base home : ℕ) (fs : List Frame)
-      → Meets C (machine w now r (fresh (N.enter s d) tag base home None ∷ fs)) (returns now fs Any)
+      → MeetsAim C (machine w now r (fresh (N.enter s d) tag base home None ∷ fs)) (returns now fs Any)
       (enter_rule c p s d now w)
   enter_runs s d path w ok now r tag base home fs =
       meets_on (go_home (K.enter s d path).0) (off_or_on s d path now tag base fs w r ok (is_on s w.marks) refl)
@@ -219,7 +219,7 @@ module _ (c : Chart) (b : Bounds) (k : Procedures) (N : Numbers) (valid : IsVali
   each_runs : (xs : List ℕ) (d q i : ℕ) → HasAt k q i (enters_code N c.tree d xs)
       → AllByRecursion (λ x. IsPath c.tree x (path_in c.tree x d)) xs
       → (w : World) → Consistent c w → (now : Now) (r : ℕ) (tag : Option ℕ) (base home : ℕ) (fs : List Frame)
-      → Meets C (machine w now r (running q i tag base home None ∷ fs)) (returns now fs Any)
+      → MeetsAim C (machine w now r (running q i tag base home None ∷ fs)) (returns now fs Any)
       (enter_each_rule c p xs d now w)
   each_runs [] d q i h all w ok now r tag base home fs = done 1 (go_ret h.0)
   each_runs (x ∷ xs) d q i h all w ok now r tag base home fs =

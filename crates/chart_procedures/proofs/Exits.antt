@@ -21,7 +21,7 @@ use Rattle.sos_rules.proofs.MarkedStates.{all_reverse}
 use Rattle.sos_rules.proofs.Keeps.{Keeps, Consistent, exit_children_finishes, consistent_closed}
 use Rattle.code_language.specs.Code.{Procedures}
 use Rattle.code_language.specs.Machine.{Program, Frame, machine, fresh}
-use Rattle.code_simulation.specs.Reach.{Reaches, Meets, returns, Any, HasAt}
+use Rattle.code_simulation.specs.Reach.{Reaches, MeetsAim, returns, Any, HasAt}
 use Rattle.code_simulation.proofs.Joins.{on_to, meets_on, meets_more, then_meets, then_meets_with, choose_meets}
 use Rattle.code_simulation.proofs.Steps.{go_call, go_home, go_clear, go_skip, go_ret}
 use Rattle.code_simulation.proofs.Tests.{yes_on, no_on, yes_on_home, no_on_home, yes_bare_home, no_bare_home}
@@ -48,10 +48,10 @@ module _ (c : Chart) (b : Bounds) (k : Procedures) (N : Numbers) (valid : IsVali
     -- the test of one child, and then those of the others
     active_if : (x : ℕ) (xs : List ℕ) (i : ℕ) (w : World) (r : ℕ) → HasAt k q i (active_code N.exit (x ∷ xs))
         → (0 < x) × (x < state_count c.tree) → Consistent c w
-        → Meets C (machine w now r (at (i + 1 + 2) ∷ fs)) (returns now fs Any)
+        → MeetsAim C (machine w now r (at (i + 1 + 2) ∷ fs)) (returns now fs Any)
         (if_some (find (λ x. is_on x w.marks) xs) nothing (λ x. p.exit x now) w)
         → (on : Bool) → is_on x w.marks ≡ on
-        → Meets C (machine w now r (at i ∷ fs)) (returns now fs Any)
+        → MeetsAim C (machine w now r (at i ∷ fs)) (returns now fs Any)
         (if_some (cond on (Some x) (find (λ x. is_on x w.marks) xs)) nothing (λ x. p.exit x now) w)
     active_if x xs i w r h lt ok rest true e =
         meets_on (on_to (yes_on h.0 e) (go_call h.1.0)) (meets_more
@@ -62,7 +62,7 @@ module _ (c : Chart) (b : Bounds) (k : Procedures) (N : Numbers) (valid : IsVali
     -- the first active child of an OR is left
     active_runs : (xs : List ℕ) (i : ℕ) (w : World) (r : ℕ) → HasAt k q i (active_code N.exit xs)
         → AllByRecursion (λ x. (0 < x) × (x < state_count c.tree)) xs → Consistent c w
-        → Meets C (machine w now r (at i ∷ fs)) (returns now fs Any)
+        → MeetsAim C (machine w now r (at i ∷ fs)) (returns now fs Any)
         (if_some (find (λ x. is_on x w.marks) xs) nothing (λ x. p.exit x now) w)
     active_runs [] i w r h all ok = done 1 (go_ret h.0)
     active_runs (x ∷ xs) i w r h all ok =
@@ -81,7 +81,7 @@ module _ (c : Chart) (b : Bounds) (k : Procedures) (N : Numbers) (valid : IsVali
   -- the children of a state are left, by how it is composed
   leave_by : (s : ℕ) (o : Comp) → HasAt k (N.leave s) 0 (leave_code N c.tree s o) → (w : World) → Consistent c w
       → (now : Now) (r : ℕ) (tag : Option ℕ) (base home : ℕ) (fs : List Frame)
-      → Meets C (machine w now r (fresh (N.leave s) tag base home None ∷ fs)) (returns now fs Any)
+      → MeetsAim C (machine w now r (fresh (N.leave s) tag base home None ∷ fs)) (returns now fs Any)
       (exit_children c p s now o w)
   unfolding active_child
   leave_by s Leaf h w ok now r tag base home fs = done 1 (go_ret h.0)
@@ -95,7 +95,7 @@ module _ (c : Chart) (b : Bounds) (k : Procedures) (N : Numbers) (valid : IsVali
   -- the children of a state are left
   pub leave_runs : (s : ℕ) → s < state_count c.tree → (w : World) → Consistent c w
       → (now : Now) (r : ℕ) (tag : Option ℕ) (base home : ℕ) (fs : List Frame)
-      → Meets C (machine w now r (fresh (N.leave s) tag base home None ∷ fs)) (returns now fs Any)
+      → MeetsAim C (machine w now r (fresh (N.leave s) tag base home None ∷ fs)) (returns now fs Any)
       (exit_children c p s now (comp_of c.tree s) w)
   leave_runs s lt w ok now r tag base home fs = leave_by s (comp_of c.tree s) (K.leave s lt) w ok now r tag base home fs
 
@@ -108,7 +108,7 @@ module _ (c : Chart) (b : Bounds) (k : Procedures) (N : Numbers) (valid : IsVali
 
     -- after the exit action: where all of it was run, the state becomes inactive
     cleared : (a : End) (w : World) (r : ℕ) → Tells a (is_bare c.tree s w.marks)
-        → Meets C (machine w now r (on_s 9 ∷ fs)) (returns now fs Any)
+        → MeetsAim C (machine w now r (on_s 9 ∷ fs)) (returns now fs Any)
         (if_done a tt (if_bare c.tree s (change (set_mark s false))) w)
     cleared Done w r e =
         let h = (K.exit s lt).1.1.1.1.1.1.1.1.1 in
@@ -125,7 +125,7 @@ module _ (c : Chart) (b : Bounds) (k : Procedures) (N : Numbers) (valid : IsVali
         (clear_not c.tree s w e) way)
 
     -- after the children
-    left : (w : World) (r : ℕ) → Consistent c w → Meets C (machine w now r (on_s 5 ∷ fs)) (returns now fs Any)
+    left : (w : World) (r : ℕ) → Consistent c w → MeetsAim C (machine w now r (on_s 5 ∷ fs)) (returns now fs Any)
         (if_bare c.tree s (p.block (Bare s) (node c s).exit now >>=
         (λ a. if_done a tt (if_bare c.tree s (change (set_mark s false))))) w)
     left w r ok =
@@ -140,7 +140,7 @@ module _ (c : Chart) (b : Bounds) (k : Procedures) (N : Numbers) (valid : IsVali
   -- a state is left
   exit_runs : (s : ℕ) → 0 < s → s < state_count c.tree → (w : World) → Consistent c w
       → (now : Now) (r : ℕ) (tag : Option ℕ) (base home : ℕ) (fs : List Frame)
-      → Meets C (machine w now r (fresh (N.exit s) tag base home None ∷ fs)) (returns now fs Any)
+      → MeetsAim C (machine w now r (fresh (N.exit s) tag base home None ∷ fs)) (returns now fs Any)
       (exit_rule c p s now w)
   exit_runs s pos lt w ok now r tag base home fs =
       let h = K.exit s lt in
@@ -156,7 +156,7 @@ module _ (c : Chart) (b : Bounds) (k : Procedures) (N : Numbers) (valid : IsVali
   each_runs : (xs : List ℕ) (q i : ℕ) → HasAt k q i (each_code N.exit xs)
       → AllByRecursion (λ x. (0 < x) × (x < state_count c.tree)) xs
       → (w : World) → Consistent c w → (now : Now) (r : ℕ) (tag : Option ℕ) (base home : ℕ) (fs : List Frame)
-      → Meets C (machine w now r (running q i tag base home None ∷ fs)) (returns now fs Any)
+      → MeetsAim C (machine w now r (running q i tag base home None ∷ fs)) (returns now fs Any)
       (exit_each_rule c p xs now w)
   each_runs [] q i h all w ok now r tag base home fs = done 1 (go_ret h.0)
   each_runs (x ∷ xs) q i h all w ok now r tag base home fs =

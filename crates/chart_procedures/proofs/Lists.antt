@@ -17,7 +17,7 @@ use Rattle.sos_rules.specs.Parts.{Found, Fire, DeadEnd, No, Stop, Parts}
 use Rattle.sos_rules.specs.Rules.{upto}
 use Rattle.code_language.specs.Code.{Procedures}
 use Rattle.code_language.specs.Machine.{Program, Frame, machine, fresh}
-use Rattle.code_simulation.specs.Reach.{Reaches, Arrives, Meets, HasAt, with_note, pending}
+use Rattle.code_simulation.specs.Reach.{Reaches, Arrives, MeetsAim, HasAt, with_note, pending}
 use Rattle.code_simulation.proofs.Joins.{here, on_to, meets_on, meets_end, meets_fall, meets_more}
 use Rattle.code_simulation.proofs.Steps.{go_begin, go_ret}
 use Rattle.code_simulation.proofs.Tests.{yes_test, no_test, fall_test}
@@ -45,7 +45,7 @@ guard_does C q e h = record { by = λ w now r tag base home fs. at w now r tag b
     -- by how the guard ends
     at : (w : World) (now : Now) (r : ℕ) (tag : Option ℕ) (base home : ℕ) (fs : List Frame) (o : Result Bool Fault)
         → truth_of e w ≡ o
-        → Meets C (machine w now r (fresh q tag base home None ∷ fs))
+        → MeetsAim C (machine w now r (fresh q tag base home None ∷ fs))
         (record { Facts = λ a v. v.marks ≡ w.marks; stands = λ a v i. machine v now (flag_number a) fs })
         (flag_or_fault o w)
     at w now r tag base home fs (Ok true) t = meets_end refl (on_to (yes_test h.0 t) (go_ret h.1.0))

@@ -5,9 +5,9 @@ use Rattle.actions.specs.World.{World, Life, On, Bare, lives}
 use Rattle.actions.specs.Work.{Run, Ended, Now}
 use Rattle.sos_rules.proofs.Keeps.{Finishes, ended, faulted, unfinished}
 use Rattle.code_language.specs.Code.{fetch}
-use Rattle.code_language.specs.Machine.{Program, Frame, Machine, machine, next, past}
+use Rattle.code_language.specs.Machine.{Program, Frame, CodeState, machine, next, past}
 use Rattle.code_language.specs.Instrs as instrs
-use Rattle.code_simulation.specs.Reach.{Reaches, Arrives, Meets, returns, Any}
+use Rattle.code_simulation.specs.Reach.{Reaches, Arrives, MeetsAim, returns, Any}
 use Rattle.code_simulation.proofs.Joins.{meets_end, Leaves, Leaving}
 use Rattle.code_simulation.proofs.Tests.{yes_on_home, no_on_home, yes_bare_home, no_bare_home}
 use Rattle.chart_procedures.specs.StateProcedures.{life_test, state_of_life}
@@ -28,12 +28,12 @@ module _ {C : Program} {w : World} {now : Now} {r : ℕ} {f : Frame} {fs : List 
   no_life (Bare s) q h e = no_bare_home h (ap (λ x. is_bare C.tree x w.marks) q ∙ e)
 
 -- any result at the end
-pub done : {A : Type 0} {C : Program} {m : Machine} {w : World} {now : Now} {fs : List Frame} {a : A} (x : ℕ)
-    → Reaches C m (machine w now x fs) → Meets C m (returns now fs Any) (Ended a w)
+pub done : {A : Type 0} {C : Program} {m : CodeState} {w : World} {now : Now} {fs : List Frame} {a : A} (x : ℕ)
+    → Reaches C m (machine w now x fs) → MeetsAim C m (returns now fs Any) (Ended a w)
 done x s = meets_end (record { number = x; good = tt }) s
 
 -- the same after a piece of work
-pub then_done : {A : Type 0} {C : Program} {m : Machine} {w : World} {now : Now} {fs : List Frame} {a : A} (x : ℕ)
+pub then_done : {A : Type 0} {C : Program} {m : CodeState} {w : World} {now : Now} {fs : List Frame} {a : A} (x : ℕ)
     → Reaches C m (machine w now x fs) → Arrives C m (returns now fs Any) a w
 then_done x s = record { facts = record { number = x; good = tt }; reached = s }
 

@@ -20,7 +20,7 @@ use Rattle.sos_rules.proofs.Keeps.{Keeps, Consistent}
 use Rattle.code_language.specs.Code.{Procedures, fetch}
 use Rattle.code_language.specs.Machine.{Program, Frame, machine, later, noted}
 use Rattle.code_language.specs.Instrs as instrs
-use Rattle.code_simulation.specs.Reach.{Meets, pending}
+use Rattle.code_simulation.specs.Reach.{MeetsAim, pending}
 use Rattle.code_simulation.proofs.Notes.{IsHead, noted_head}
 use Rattle.code_simulation.proofs.Joins.{meets_end, then_meets_with}
 use Rattle.code_simulation.proofs.Steps.{go_play_none, go_play_lame, go_play}
@@ -57,7 +57,7 @@ module _ (c : Chart) (b : Bounds) (k : Procedures) (N : Numbers) (valid : IsVali
     -- no note is left
     none : (cursor r : ℕ) (w : World) → is_bare c.tree f.home w.marks ≡ true → (o : Option (ℕ × ℕ))
         → noted (from cursor) (f ∷ fs) ≡ o → IsHead (from cursor) (f ∷ fs) o → pending (from cursor) (f ∷ fs) ≡ []
-        → Meets C (machine w now r (aimed f cursor ∷ fs)) (behind c.tree f fs now) (play_rule c b p f.home [] now w)
+        → MeetsAim C (machine w now r (aimed f cursor ∷ fs)) (behind c.tree f fs now) (play_rule c b p f.home [] now w)
     none cursor r w bare None q y n =
         meets_end (record { cursor = cursor; number = r; good = bare })
         (go_play_none has (noted_aimed (from cursor) cursor f fs ∙ q))
@@ -66,7 +66,7 @@ module _ (c : Chart) (b : Bounds) (k : Procedures) (N : Numbers) (valid : IsVali
     -- after a noted procedure has returned
     played : (i : ℕ) (actions : List (List Stmt)) → f.base < i → AreNotes c.tree k N (pending i (f ∷ fs)) actions
         → (a : End) (w : World) (r : ℕ) → Consistent c w → Tells a (is_bare c.tree f.home w.marks)
-        → Meets C (machine w now r (aimed f i ∷ fs)) (behind c.tree f fs now)
+        → MeetsAim C (machine w now r (aimed f i ∷ fs)) (behind c.tree f fs now)
         (if_done a Cut (p.play f.home actions now) w)
     played i actions le notes Done w r ok e =
         low.play.by f fs has lt actions i (subst (λ n. AreNotes c.tree k N (pending n (f ∷ fs)) actions)
@@ -80,7 +80,7 @@ module _ (c : Chart) (b : Bounds) (k : Procedures) (N : Numbers) (valid : IsVali
         → (cursor r : ℕ) (w : World) → Consistent c w → is_bare c.tree f.home w.marks ≡ true
         → (o : Option (ℕ × ℕ)) → noted (from cursor) (f ∷ fs) ≡ o → IsHead (from cursor) (f ∷ fs) o
         → pending (from cursor) (f ∷ fs) ≡ q ∷ ps
-        → Meets C (machine w now r (aimed f cursor ∷ fs)) (behind c.tree f fs now)
+        → MeetsAim C (machine w now r (aimed f cursor ∷ fs)) (behind c.tree f fs now)
         (play_rule c b p f.home ((s ∷ ss) ∷ actions) now w)
     some s ss actions q ps block notes cursor r w ok bare None e y n = absurd (cc (y, n))
     some s ss actions q ps block notes cursor r w ok bare (Some x) e y n =
@@ -101,7 +101,7 @@ module _ (c : Chart) (b : Bounds) (k : Procedures) (N : Numbers) (valid : IsVali
     plays_by : (actions : List (List Stmt)) (ps : List ℕ) (cursor : ℕ) → pending (from cursor) (f ∷ fs) ≡ ps
         → AreNotes c.tree k N ps actions
         → (w : World) → Consistent c w → is_bare c.tree f.home w.marks ≡ true → (r : ℕ)
-        → Meets C (machine w now r (aimed f cursor ∷ fs)) (behind c.tree f fs now)
+        → MeetsAim C (machine w now r (aimed f cursor ∷ fs)) (behind c.tree f fs now)
         (play_rule c b p f.home actions now w)
     plays_by [] [] cursor e notes w ok bare r =
         none cursor r w bare (noted (from cursor) (f ∷ fs)) refl (noted_head (from cursor) (f ∷ fs)) e

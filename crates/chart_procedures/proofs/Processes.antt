@@ -24,7 +24,7 @@ use Rattle.sos_rules.specs.Rules.{rules}
 use Rattle.sos_rules.proofs.Keeps.{Keeps, Consistent}
 use Rattle.code_language.specs.Code.{Procedures}
 use Rattle.code_language.specs.Machine.{Program, Frame, machine, fresh}
-use Rattle.code_simulation.specs.Reach.{Reaches, Aim, Meets, leaves, HasAt}
+use Rattle.code_simulation.specs.Reach.{Reaches, Aim, MeetsAim, leaves, HasAt}
 use Rattle.code_simulation.proofs.Joins.{on_to, meets_on, meets_end, then_meets, then_meets_with, choose_meets}
 use Rattle.code_simulation.proofs.Steps.{go_call, go_home, go_skip, go_ret, go_pass, go_pass_zero}
 use Rattle.code_simulation.proofs.Tests.{yes_on, no_on, yes_on_home, no_on_home, yes_result, no_result}
@@ -75,7 +75,7 @@ module _ (c : Chart) (b : Bounds) (k : Procedures) (N : Numbers) (valid : IsVali
 
     -- after the call of a child of s: a firing with s as its home ends there
     out_of : (i s x : ℕ) (xs : List ℕ) → HasAt k q i (active_child_code N s (x ∷ xs)) → (a : Went) (w : World)
-        → Meets C (machine w now (went_result a) (at (i + 1 + 1) ∷ fs)) ReturnAim (from_child s a w)
+        → MeetsAim C (machine w now (went_result a) (at (i + 1 + 1) ∷ fs)) ReturnAim (from_child s a w)
     out_of i s x xs h Stay w =
         meets_end (record { number = 1; good = refl }) (on_to (no_result h.1.1.0 (stay_out s)) (go_pass h.1.1.1.1.0))
     out_of i s x xs h (Out d) w =
@@ -88,23 +88,23 @@ module _ (c : Chart) (b : Bounds) (k : Procedures) (N : Numbers) (valid : IsVali
     -- the test of one child, and then those of the others
     active_if : (s x : ℕ) (xs : List ℕ) (i : ℕ) (w : World) (r : ℕ) → HasAt k q i (active_child_code N s (x ∷ xs))
         → x < state_count c.tree → Consistent c w
-        → Meets C (machine w now r (at (i + 1 + 4) ∷ fs)) ReturnAim
+        → MeetsAim C (machine w now r (at (i + 1 + 4) ∷ fs)) ReturnAim
         (if_some (find (λ x. is_on x w.marks) xs) (give Stay) (λ x. p.process x now >>= from_child s) w)
         → (on : Bool) → is_on x w.marks ≡ on
-        → Meets C (machine w now r (at i ∷ fs)) ReturnAim
+        → MeetsAim C (machine w now r (at i ∷ fs)) ReturnAim
         (if_some (cond on (Some x) (find (λ x. is_on x w.marks) xs)) (give Stay) (λ x. p.process x now >>= from_child s)
         w)
     active_if s x xs i w r h lt ok rest true e =
         meets_on (on_to (yes_on h.0 e) (go_call h.1.0)) (then_meets
         (low.process.by x lt w ok e now r None base home None (at (i + 1 + 1) ∷ fs))
-        (λ a v y. subst (λ n. Meets C (machine v now n (at (i + 1 + 1) ∷ fs)) ReturnAim (from_child s a v)) (sym y.good)
+        (λ a v y. subst (λ n. MeetsAim C (machine v now n (at (i + 1 + 1) ∷ fs)) ReturnAim (from_child s a v)) (sym y.good)
         (out_of i s x xs h a v)))
     active_if s x xs i w r h lt ok rest false e = meets_on (no_on h.0 e) rest
 
     -- the first active child of an OR is processed
     active_runs : (s : ℕ) (xs : List ℕ) (i : ℕ) (w : World) (r : ℕ) → HasAt k q i (active_child_code N s xs)
         → AllByRecursion (λ x. x < state_count c.tree) xs → Consistent c w
-        → Meets C (machine w now r (at i ∷ fs)) ReturnAim
+        → MeetsAim C (machine w now r (at i ∷ fs)) ReturnAim
         (if_some (find (λ x. is_on x w.marks) xs) (give Stay) (λ x. p.process x now >>= from_child s) w)
     active_runs s [] i w r h all ok = meets_end (record { number = 1; good = refl }) (go_ret h.0)
     active_runs s (x ∷ xs) i w r h all ok =
@@ -117,7 +117,7 @@ module _ (c : Chart) (b : Bounds) (k : Procedures) (N : Numbers) (valid : IsVali
     -- after the call of a region
     region_went : (i x : ℕ) (xs : List ℕ) → HasAt k q i (regions_code N (x ∷ xs))
         → AllByRecursion (λ x. x < state_count c.tree) xs → (a : Went) (w : World) → Consistent c w
-        → Meets C (machine w now (went_result a) (at (i + 1 + 1) ∷ fs)) ReturnAim (after_region c p xs now a w)
+        → MeetsAim C (machine w now (went_result a) (at (i + 1 + 1) ∷ fs)) ReturnAim (after_region c p xs now a w)
     region_went i x xs h all Stay w ok =
         meets_on (on_to (yes_result h.1.1.0 refl) (go_skip h.1.1.1.0))
         (low.process_each.by xs q (i + 1 + 1 + 1 + 1 + 1) h.1.1.1.1.1 all w ok now 1 tag base home saved fs)
@@ -128,14 +128,14 @@ module _ (c : Chart) (b : Bounds) (k : Procedures) (N : Numbers) (valid : IsVali
     -- the regions of an AND are processed
     regions_run : (xs : List ℕ) (i : ℕ) → HasAt k q i (regions_code N xs)
         → AllByRecursion (λ x. x < state_count c.tree) xs → (w : World) → Consistent c w → (r : ℕ)
-        → Meets C (machine w now r (at i ∷ fs)) ReturnAim (process_each_rule c p xs now w)
+        → MeetsAim C (machine w now r (at i ∷ fs)) ReturnAim (process_each_rule c p xs now w)
     regions_run [] i h all w ok r = meets_end (record { number = 1; good = refl }) (go_ret h.0)
     regions_run (x ∷ xs) i h all w ok r =
         choose_meets (is_on x w.marks) (p.process x now >>= after_region c p xs now) (p.process_each xs now) w
         (λ e. meets_on (on_to (yes_on h.0 e) (go_call h.1.0))
         (then_meets_with (keeping (keep.process x now w ok))
         (low.process.by x all.0 w ok e now r None base home None (at (i + 1 + 1) ∷ fs))
-        (λ a v y ok'. subst (λ n. Meets C (machine v now n (at (i + 1 + 1) ∷ fs)) ReturnAim
+        (λ a v y ok'. subst (λ n. MeetsAim C (machine v now n (at (i + 1 + 1) ∷ fs)) ReturnAim
         (after_region c p xs now a v)) (sym y.good) (region_went i x xs h all.1 a v ok'))))
         (λ e. let same : i + 1 + 1 + 1 + 1 + 1 ≡ i + 1 + 4 = omega arith in
         meets_on (no_on h.0 e) (low.process_each.by xs q (i + 1 + 4)
@@ -161,7 +161,7 @@ module _ (c : Chart) (b : Bounds) (k : Procedures) (N : Numbers) (valid : IsVali
 
     -- the children are processed, by how the state is composed
     children_by : (o : Comp) → HasAt k (N.process s) 13 (children_code N c.tree s o) → (w : World) → Consistent c w
-        → (r : ℕ) → Meets C (machine w now r (on_s 13 ∷ fs)) ProcessAim (process_children c p s now o w)
+        → (r : ℕ) → MeetsAim C (machine w now r (on_s 13 ∷ fs)) ProcessAim (process_children c p s now o w)
     unfolding active_child
     children_by Leaf h w ok r = meets_end (record { number = 1; good = refl }) (go_ret h.0)
     children_by Or h w ok r =
@@ -171,7 +171,7 @@ module _ (c : Chart) (b : Bounds) (k : Procedures) (N : Numbers) (valid : IsVali
 
     -- the children of the state are processed
     children_run : (w : World) → Consistent c w → (r : ℕ)
-        → Meets C (machine w now r (on_s 13 ∷ fs)) ProcessAim (process_children c p s now (comp_of c.tree s) w)
+        → MeetsAim C (machine w now r (on_s 13 ∷ fs)) ProcessAim (process_children c p s now (comp_of c.tree s) w)
     children_run w ok r = children_by (comp_of c.tree s) (K.process s lt).1.1.1.1.1.1.1.1.1.1.1.1.1 w ok r
 
     -- the end procedure returns its result
@@ -182,7 +182,7 @@ module _ (c : Chart) (b : Bounds) (k : Procedures) (N : Numbers) (valid : IsVali
 
     -- what the inner list found
     inner_found : (f : Found) (w : World) → Consistent c w → (y : FoundFacts C N s Inner now (on_s 10 ∷ fs) f w)
-        → Meets C (found_at C N s Inner now (on_s 10 ∷ fs) f w y) ProcessAim (after_inner c p s now f w)
+        → MeetsAim C (found_at C N s Inner now (on_s 10 ∷ fs) f w y) ProcessAim (after_inner c p s now f w)
     inner_found No w ok y =
         let h = (K.process s lt).1.1.1.1.1.1.1.1.1.1 in meets_on (on_to (no_result h.0 refl) (go_pass_zero h.1.1.0))
         (children_run w ok 0)
@@ -201,7 +201,7 @@ module _ (c : Chart) (b : Bounds) (k : Procedures) (N : Numbers) (valid : IsVali
 
     -- after the during action
     during_ended : (a : End) (w : World) (r : ℕ) → Consistent c w → Tells a (is_on s w.marks)
-        → Meets C (machine w now r (on_s 6 ∷ fs)) ProcessAim
+        → MeetsAim C (machine w now r (on_s 6 ∷ fs)) ProcessAim
         (if_done a Stay (p.search (On s) (node c s).inner now >>= after_inner c p s now) w)
     during_ended Done w r ok e =
         let h = (K.process s lt).1.1.1.1.1.1 in
@@ -214,7 +214,7 @@ module _ (c : Chart) (b : Bounds) (k : Procedures) (N : Numbers) (valid : IsVali
 
     -- the during action, the inner list, and the children
     inside_runs : (w : World) (r : ℕ) → Consistent c w → is_on s w.marks ≡ true
-        → Meets C (machine w now r (on_s 5 ∷ fs)) ProcessAim (go_on_inside c p s now w)
+        → MeetsAim C (machine w now r (on_s 5 ∷ fs)) ProcessAim (go_on_inside c p s now w)
     inside_runs w r ok e =
         let h = (K.process s lt).1.1.1.1.1 in
         meets_on (go_call h.0) (then_meets_with (keeping (keep.block (On s) (node c s).during now w ok))
@@ -224,7 +224,7 @@ module _ (c : Chart) (b : Bounds) (k : Procedures) (N : Numbers) (valid : IsVali
 
     -- what the outer list found
     outer_found : (f : Found) (w : World) → Consistent c w → (y : FoundFacts C N s Outer now (on_s 2 ∷ fs) f w)
-        → Meets C (found_at C N s Outer now (on_s 2 ∷ fs) f w y) ProcessAim (after_outer c p s now f w)
+        → MeetsAim C (found_at C N s Outer now (on_s 2 ∷ fs) f w y) ProcessAim (after_outer c p s now f w)
     outer_found No w ok y =
         let h = (K.process s lt).1.1 in meets_on (on_to (no_result h.0 refl) (go_pass_zero h.1.1.0))
         (inside_runs w 0 ok y)
@@ -245,7 +245,7 @@ module _ (c : Chart) (b : Bounds) (k : Procedures) (N : Numbers) (valid : IsVali
   -- an active state is processed
   process_runs : (s : ℕ) → s < state_count c.tree → (w : World) → Consistent c w → is_on s w.marks ≡ true
       → (now : Now) (r : ℕ) (tag : Option ℕ) (base home : ℕ) (saved : Option Event) (fs : List Frame)
-      → Meets C (machine w now r (fresh (N.process s) tag base home saved ∷ fs)) (leaves saved now fs Says)
+      → MeetsAim C (machine w now r (fresh (N.process s) tag base home saved ∷ fs)) (leaves saved now fs Says)
       (process_rule c p s now w)
   process_runs s lt w ok on now r tag base home saved fs =
       let h = K.process s lt in

@@ -20,10 +20,10 @@ use Rattle.sos_rules.specs.Rules.{upto}
 use Rattle.sos_rules.specs.Reactions as rules
 use Rattle.sos_rules.proofs.Reactions.{one_start, one_reaction, start_keeps, reaction_keeps}
 use Rattle.code_language.specs.Code.{Code, Procedures}
-use Rattle.code_language.specs.Machine.{Program, Machine, machine, fresh}
+use Rattle.code_language.specs.Machine.{Program, CodeState, machine, fresh}
 use Rattle.code_language.specs.Reactions.{Leads, first_frame, CodeRun}
 use Rattle.code_language.specs.Reactions as code
-use Rattle.code_simulation.specs.Reach.{Meets, returns, Any}
+use Rattle.code_simulation.specs.Reach.{MeetsAim, returns, Any}
 use Rattle.code_simulation.proofs.Endings.{reached_leads, falls_leads, one_end}
 use Rattle.chart_procedures.specs.Compiled.{Compiled, ListsCompiled}
 use Rattle.chart_procedures.specs.Kinds.{program, AllDo}
@@ -35,8 +35,8 @@ use Rattle.chart_procedures.proofs.Whole.{all_do}
 -- ---- one start or reaction
 
 -- code that meets work leads to the moment that the work leads to
-said : {A : Type 0} (C : Program) (m : Machine) (now : Now) (Q : A → World → ℕ → Type 0) (o : Run A)
-    → Meets C m (returns now [] Q) o → (r : Moment) → moment_of o ≡ Some r → Leads C m r
+said : {A : Type 0} (C : Program) (m : CodeState) (now : Now) (Q : A → World → ℕ → Type 0) (o : Run A)
+    → MeetsAim C m (returns now [] Q) o → (r : Moment) → moment_of o ≡ Some r → Leads C m r
 said C m now Q (Ended a w) h r e =
     let f : record { world = w; fault = None } ≡ r = cc in subst (Leads C m) f (reached_leads h.by.reached refl)
 said C m now Q (Faulted x w) h r e =
@@ -44,7 +44,7 @@ said C m now Q (Faulted x w) h r e =
 said C m now Q Unfinished h r e = absurd cc
 
 -- where there is one moment, which code leads to, code leads to no other
-back : (P : Moment → Type 0) (C : Program) (m : Machine) → HasOne P → ((r : Moment) → P r → Leads C m r)
+back : (P : Moment → Type 0) (C : Program) (m : CodeState) → HasOne P → ((r : Moment) → P r → Leads C m r)
     → (r : Moment) → Leads C m r → P r
 back P C m one to r leads = subst P (one_end (to one.moment one.holds) leads) one.holds
 
@@ -59,11 +59,11 @@ module _ (c : Chart) (valid : IsValid c) (b : Bounds) (k : Procedures) (N : Numb
   each_does n = all_do c b k N valid K (searches_do c valid b k N M L) n
 
   -- the code begins the start
-  abbrev starting : Machine
+  abbrev starting : CodeState
   starting = first_frame k.start (world_before c.tree c.names) (from_outside Start)
 
   -- the code begins an event
-  abbrev reacting : World → Event → Machine
+  abbrev reacting : World → Event → CodeState
   reacting w e = first_frame k.react (begun w) (from_outside e)
 
   -- what the rules do at the start, the code does
@@ -77,7 +77,7 @@ module _ (c : Chart) (valid : IsValid c) (b : Bounds) (k : Procedures) (N : Numb
       (no_marks_consistent c.tree) now
       0 None 0 0 [] in
       said C starting now Any (start_upto c b x.height)
-      (subst (λ q. Meets C (machine w now 0 (fresh q None 0 0 None ∷ [])) (returns now [] Any)
+      (subst (λ q. MeetsAim C (machine w now 0 (fresh q None 0 0 None ∷ [])) (returns now [] Any)
       (start_upto c b x.height))
       (sym K.start) does) r x.gives
 
@@ -89,7 +89,7 @@ module _ (c : Chart) (valid : IsValid c) (b : Bounds) (k : Procedures) (N : Numb
       let does =
       (each_does x.height).process.by 0 valid.tree.some (begun w) h.consistent h.root now 0 None 0 0 None [] in
       said C (reacting w e) now (λ a v x. x ≡ went_result a) (react_upto c b w e x.height)
-      (subst (λ q. Meets C (machine (begun w) now 0 (fresh q None 0 0 None ∷ []))
+      (subst (λ q. MeetsAim C (machine (begun w) now 0 (fresh q None 0 0 None ∷ []))
       (returns now [] (λ a v x. x ≡ went_result a))
       (react_upto c b w e x.height)) (sym K.react) does) r x.gives
 

@@ -18,9 +18,9 @@ use Rattle.sos_rules.specs.Rules.{upto}
 use Rattle.sos_rules.proofs.Keeps.{Keeps, Consistent, consistent_closed, upto_keep}
 use Rattle.code_language.specs.Instrs.{Instr}
 use Rattle.code_language.specs.Code.{Procedures, fetch}
-use Rattle.code_language.specs.Machine.{Program, Frame, Machine, machine, fresh}
+use Rattle.code_language.specs.Machine.{Program, Frame, CodeState, machine, fresh}
 use Rattle.code_language.specs.Instrs as instrs
-use Rattle.code_simulation.specs.Reach.{Reaches, Aim, Arrives, Meets, HasAt, with_note, Answer}
+use Rattle.code_simulation.specs.Reach.{Reaches, Aim, Arrives, MeetsAim, HasAt, with_note, HasResult}
 use Rattle.code_simulation.proofs.Places.{has_front, has_back}
 use Rattle.code_simulation.proofs.Joins.{here, on_to, meets_on, meets_end, meets_unfinished, meets_more, then_meets}
 use Rattle.code_simulation.proofs.Joins.{then_meets_with, choose_meets}
@@ -46,8 +46,8 @@ IdleFacts w Cut v = ⊥
 
 -- a block without statements does nothing
 pub record IsIdle (p : Parts) : Type 0 where
-  pub by : (life : Life) (now : Now) (w : World) (C : Program) (m : Machine)
-      → Meets C m (record { Facts = IdleFacts w; stands = λ a v i. m }) (p.block life [] now w)
+  pub by : (life : Life) (now : Now) (w : World) (C : Program) (m : CodeState)
+      → MeetsAim C m (record { Facts = IdleFacts w; stands = λ a v i. m }) (p.block life [] now w)
 
 -- the rules have this at every height
 idle_upto : (c : Chart) (b : Bounds) (n : ℕ) → IsIdle (upto c b n)
@@ -59,7 +59,7 @@ pub record DoesList (C : Program) (P : Meaning) (S : Search) (p : Parts) : Type 
   pub by : (ts : List Trans) (qs : List TransNumbers) (R : Searcher) (i : ℕ) → EachBy P S.kind ts qs
       → HasAt C.procedures R.proc i (list_code S ts qs)
       → (w : World) → IsConsistent C.tree w.marks → lives C.tree (life_of S.state S.kind) w.marks ≡ true → (r : ℕ)
-      → Meets C (machine w R.now r (searching S R i ∷ R.below)) (finds_from C P S R)
+      → MeetsAim C (machine w R.now r (searching S R i ∷ R.below)) (finds_from C P S R)
       (p.search (life_of S.state S.kind) ts R.now w)
 
 module _ (c : Chart) (b : Bounds) (k : Procedures) (P : Meaning) (S : Search) (results : HasResults S)
@@ -84,7 +84,7 @@ module _ (c : Chart) (b : Bounds) (k : Procedures) (P : Meaning) (S : Search) (r
     frame i = searching S R i
 
     -- the code at a place
-    abbrev stand : World → ℕ → ℕ → Machine
+    abbrev stand : World → ℕ → ℕ → CodeState
     stand w r i = machine w R.now r (frame i ∷ R.below)
 
     -- where the search leads
@@ -98,7 +98,7 @@ module _ (c : Chart) (b : Bounds) (k : Procedures) (P : Meaning) (S : Search) (r
     -- what the rest of the list does, from the place after a transition
     abbrev Rest : ℕ → List Trans → Type 0
     Rest i rest =
-        (w : World) → Consistent c w → Alive w → (r : ℕ) → Meets C (stand w r i) SearchAim (p.search life rest R.now w)
+        (w : World) → Consistent c w → Alive w → (r : ℕ) → MeetsAim C (stand w r i) SearchAim (p.search life rest R.now w)
 
     -- the rest, from a place that is written in another way
     moved : (i j : ℕ) (rest : List Trans) → i ≡ j → Rest j rest → Rest i rest
@@ -148,7 +148,7 @@ module _ (c : Chart) (b : Bounds) (k : Procedures) (P : Meaning) (S : Search) (r
     answered : (action : List Stmt) (tag : Option ℕ) (q i : ℕ) (rest : List Trans) → PartBy P.action action tag
         → fetch k R.proc i ≡ Some instrs.Pass → Rest (i + 1) rest
         → (f : Found) (w : World) → Consistent c w → (y : FactsFrom C P S (into q tag i) f w)
-        → Meets C (found_from C P S (into q tag i) f w y) SearchAim (after_junction c b p life action rest R.now f w)
+        → MeetsAim C (found_from C P S (into q tag i) f w y) SearchAim (after_junction c b p life action rest R.now f w)
     answered action tag q i rest is pass others No w ok y = meets_on (go_pass_zero pass) (others w ok y 0)
     answered action tag q i rest is pass others Stop w ok y = meets_end tt (go_pass pass)
     answered action tag q i rest is pass others (Fire d actions) w ok y =
@@ -170,7 +170,7 @@ module _ (c : Chart) (b : Bounds) (k : Procedures) (P : Meaning) (S : Search) (r
         → fetch k R.proc i ≡ Some instrs.Pass → Rest (i + 1) rest
         → (ts : List Trans) (qs : List TransNumbers) → HasAt k q 0 (junction_code S ts qs) → EachBy P S.kind ts qs
         → MayEnd S.end ts → (w : World) → Consistent c w → Alive w → (r : ℕ)
-        → Meets C (machine w R.now r (fresh q tag R.base S.state None ∷ frame i ∷ R.below)) SearchAim
+        → MeetsAim C (machine w R.now r (fresh q tag R.base S.state None ∷ frame i ∷ R.below)) SearchAim
         (visit c b p life action rest R.now ts w)
     visited action tag q i rest is pass others [] qs h each may w ok l r =
         let z = end_now w r q tag i pass l S.end h may in meets_end z.0 z.1
@@ -184,7 +184,7 @@ module _ (c : Chart) (b : Bounds) (k : Procedures) (P : Meaning) (S : Search) (r
         → DestBy P.dest P.junction dest
         → HasAt k R.proc i (dest_code S tag dest) → Rest (i + 1 + 1) rest → (w : World) → Consistent c w → Alive w
         → (r : ℕ)
-        → Meets C (stand w r i) SearchAim (at_dest c b p life action rest R.now dest w)
+        → MeetsAim C (stand w r i) SearchAim (at_dest c b p life action rest R.now dest w)
     leads action tag (State d) i rest is to h others w ok l r =
         meets_end (record {
           result = r;
@@ -214,7 +214,7 @@ module _ (c : Chart) (b : Bounds) (k : Procedures) (P : Meaning) (S : Search) (r
         → DestBy P.dest P.junction t.dest
         → HasAt k R.proc i (require (life_test life) (dest_code S tag t.dest)) → Rest (i + 1 + 1 + 1 + 1 + 1) rest
         → (a : End) (w : World) (r : ℕ) → Consistent c w → Tells a (lives c.tree life w.marks)
-        → Meets C (stand w r i) SearchAim (after_condition c b p life t rest R.now a w)
+        → MeetsAim C (stand w r i) SearchAim (after_condition c b p life t rest R.now a w)
     ended t tag i rest is to h others Done w r ok l =
         meets_on (on_to (yes_life life (sym (home_is S.state S.kind)) h.0 l) (go_skip h.1.0))
         (leads t.action tag t.dest (i + 1 + 1 + 1) rest is to h.1.1.1 others w ok l r)
@@ -226,9 +226,9 @@ module _ (c : Chart) (b : Bounds) (k : Procedures) (P : Meaning) (S : Search) (r
         → DestBy P.dest P.junction t.dest
         → HasAt k R.proc i (dest_code S tag t.dest) → Rest (i + 1 + 1) rest → (w : World) → Consistent c w → Alive w
         → (r : ℕ) (a : End) (v : World) → IdleFacts w a v
-        → Meets C (stand w r i) SearchAim (after_condition c b p life t rest R.now a v)
+        → MeetsAim C (stand w r i) SearchAim (after_condition c b p life t rest R.now a v)
     idled t tag i rest is to h others w ok l r Done v e =
-        subst (λ u. Meets C (stand w r i) SearchAim (after_condition c b p life t rest R.now Done u)) e
+        subst (λ u. MeetsAim C (stand w r i) SearchAim (after_condition c b p life t rest R.now Done u)) e
         (leads t.action tag t.dest i rest is to h others w ok l r)
     idled t tag i rest is to h others w ok l r Cut v e = absurd e
 
@@ -238,7 +238,7 @@ module _ (c : Chart) (b : Bounds) (k : Procedures) (P : Meaning) (S : Search) (r
         → HasAt k R.proc i (condition_code (life_test life) part (dest_code S tag t.dest))
         → i + length (condition_code (life_test life) part (dest_code S tag t.dest)) ≡ j → Rest j rest
         → (w : World) → Consistent c w → Alive w → (r : ℕ)
-        → Meets C (stand w r i) SearchAim
+        → MeetsAim C (stand w r i) SearchAim
         (then_do (p.block life cond R.now w) (after_condition c b p life t rest R.now))
     conditions t [] None tag i j rest is act to h e others w ok l r =
         then_meets (idle.by life R.now w C (stand w r i)) (λ a v y. idled t tag i rest act to h
@@ -249,9 +249,9 @@ module _ (c : Chart) (b : Bounds) (k : Procedures) (P : Meaning) (S : Search) (r
         let others' = moved (i + 1 + 1 + 1 + 1 + 1 + 1) j rest (omega (arith, two_long tag t.dest)) others in
         let part = (does.condition q (s ∷ ss) is).by w ok l R.now r None R.base (frame (i + 1) ∷ R.below) in
         meets_on (go_call h.0) (then_meets_with (keeping (keep.block life (s ∷ ss) R.now w ok))
-        (subst (λ h. Meets C (machine w R.now r (running q 0 None R.base h None ∷ frame (i + 1) ∷ R.below))
+        (subst (λ h. MeetsAim C (machine w R.now r (running q 0 None R.base h None ∷ frame (i + 1) ∷ R.below))
         (record {
-          Facts = λ a v. Answer (λ a v x. Tells a (lives c.tree life v.marks)) a v;
+          Facts = λ a v. HasResult (λ a v x. Tells a (lives c.tree life v.marks)) a v;
           stands =
               λ a v y. machine v R.now y.number (frame (i + 1) ∷ R.below);
         }) (p.block life (s ∷ ss) R.now w))
@@ -266,7 +266,7 @@ module _ (c : Chart) (b : Bounds) (k : Procedures) (P : Meaning) (S : Search) (r
       pub same : v.marks ≡ w.marks
 
     -- where the code stands after a test
-    abbrev test_at : (w : World) (i j : ℕ) (a : Bool) (v : World) → TestEnds w v → Machine
+    abbrev test_at : (w : World) (i j : ℕ) (a : Bool) (v : World) → TestEnds w v → CodeState
     test_at w i j true v y = machine v R.now y.number (frame i ∷ R.below)
     test_at w i j false v y = machine v R.now y.number (frame j ∷ R.below)
 
@@ -295,7 +295,7 @@ module _ (c : Chart) (b : Bounds) (k : Procedures) (P : Meaning) (S : Search) (r
     -- the guard, if there is one
     guards : (g : Option Expr) (gp : Option ℕ) (body : List Instr) (i n j : ℕ) → GuardBy P.guard g gp
         → HasAt k R.proc i (guarded_code gp body) → i + length (guarded_code gp body) ≡ j → n + length body ≡ j
-        → (w : World) (r : ℕ) → Meets C (stand w r i) (Tested w n j) (guard_holds g w)
+        → (w : World) (r : ℕ) → MeetsAim C (stand w r i) (Tested w n j) (guard_holds g w)
     guards None None body i n j is h e f w r =
         let same : i ≡ n = omega arith in meets_end (record { number = r; same = refl })
         (subst (λ x. Reaches C (stand w r i) (stand w r x)) same here)
@@ -309,7 +309,7 @@ module _ (c : Chart) (b : Bounds) (k : Procedures) (P : Meaning) (S : Search) (r
     enabled : (ev : Option ℕ) (g : Option Expr) (gp : Option ℕ) (body : List Instr) (i n j : ℕ) → GuardBy P.guard g gp
         → HasAt k R.proc i (event_code ev (guarded_code gp body))
         → i + length (event_code ev (guarded_code gp body)) ≡ j → n + length body ≡ j
-        → (w : World) (r : ℕ) → Meets C (stand w r i) (Tested w n j)
+        → (w : World) (r : ℕ) → MeetsAim C (stand w r i) (Tested w n j)
         (choose (event_fits ev R.now.event) (guard_holds g) (give false) w)
     enabled None g gp body i n j is h e f w r = guards g gp body i n j is h e f w r
     enabled (Some x) g gp body i n j is h e f w r =
@@ -339,7 +339,7 @@ module _ (c : Chart) (b : Bounds) (k : Procedures) (P : Meaning) (S : Search) (r
     chosen : (t : Trans) (q : TransNumbers) (rest : List Trans) (n j : ℕ) → PartsBy P S.kind t q
         → HasAt k R.proc n (lead_code S t q) → n + length (lead_code S t q) ≡ j → Rest j rest
         → (w : World) → Consistent c w → Alive w → (a : Bool) (v : World) (y : TestEnds w v)
-        → Meets C (test_at w n j a v y) SearchAim
+        → MeetsAim C (test_at w n j a v y) SearchAim
         (choose a (p.block life t.condition R.now >>= after_condition c b p life t rest R.now)
         (p.search life rest R.now) v)
     chosen t q rest n j are h e others w ok l true v y =
@@ -359,7 +359,7 @@ module _ (c : Chart) (b : Bounds) (k : Procedures) (P : Meaning) (S : Search) (r
     -- the transitions of a list in order
     list_runs : (ts : List Trans) (qs : List TransNumbers) (i : ℕ) → EachBy P S.kind ts qs
         → HasAt k R.proc i (list_code S ts qs) → (w : World) → Consistent c w → Alive w → (r : ℕ)
-        → Meets C (stand w r i) SearchAim (search_rule c b p life ts R.now w)
+        → MeetsAim C (stand w r i) SearchAim (search_rule c b p life ts R.now w)
     list_runs [] qs i each h w ok l r = meets_end l (go_ret h.0)
     list_runs (t ∷ ts) qs i each h w ok l r =
         let q = first_of_parts qs in

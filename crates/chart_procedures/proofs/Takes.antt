@@ -27,7 +27,7 @@ use Rattle.sos_rules.proofs.MarkedStates.{may_return_are}
 use Rattle.sos_rules.proofs.Keeps.{Keeps, Consistent, consistent_closed, exit_active_finishes}
 use Rattle.code_language.specs.Code.{Procedures}
 use Rattle.code_language.specs.Machine.{Program, Frame, machine, fresh, later}
-use Rattle.code_simulation.specs.Reach.{Reaches, Meets, returns, Any, pending, with_note, HasAt}
+use Rattle.code_simulation.specs.Reach.{Reaches, MeetsAim, returns, Any, pending, with_note, HasAt}
 use Rattle.code_simulation.proofs.Joins.{on_to, meets_on, meets_more, then_meets_with, choose_meets}
 use Rattle.code_simulation.proofs.Steps.{go_call, go_home, go_skip, go_ret, go_play_lame}
 use Rattle.code_simulation.proofs.Tests.{yes_last, no_last, yes_bare_home, no_bare_home}
@@ -82,10 +82,10 @@ module _ (c : Chart) (b : Bounds) (k : Procedures) (N : Numbers) (valid : IsVali
 
     -- after `Play`: g is what the rules do then
     behind_play : (g : Work (Unit {0}))
-        → ((w : World) (r cursor : ℕ) → Consistent c w → is_bare c.tree s w.marks ≡ true → Meets C
+        → ((w : World) (r cursor : ℕ) → Consistent c w → is_bare c.tree s w.marks ≡ true → MeetsAim C
         (machine w now r (aimed (on_s 5) cursor ∷ fs)) (returns now fs Any) (g w))
         → (a : End) (w : World) (r cursor : ℕ) → Consistent c w → Tells a (is_bare c.tree s w.marks)
-        → Meets C (machine w now r (aimed (on_s 2) cursor ∷ fs)) (returns now fs Any) (if_done a tt g w)
+        → MeetsAim C (machine w now r (aimed (on_s 2) cursor ∷ fs)) (returns now fs Any) (if_done a tt g w)
     behind_play g rest Done w r cursor ok e =
         let h = (K.arrive s d path).1.1 in meets_on (on_to (yes_bare_home h.0 e) (go_skip h.1.0)) (rest w r cursor ok e)
     behind_play g rest Cut w r cursor ok e =
@@ -93,12 +93,12 @@ module _ (c : Chart) (b : Bounds) (k : Procedures) (N : Numbers) (valid : IsVali
 
     -- the notes run where the home is bare, and then g
     arrive_by : (g : Work (Unit {0}))
-        → ((w : World) (r cursor : ℕ) → Consistent c w → is_bare c.tree s w.marks ≡ true → Meets C
+        → ((w : World) (r cursor : ℕ) → Consistent c w → is_bare c.tree s w.marks ≡ true → MeetsAim C
         (machine w now r (aimed (on_s 5) cursor ∷ fs)) (returns now fs Any) (g w))
         → (actions : List (List Stmt))
         → AreNotes c.tree k N (pending (suc base) (fresh (N.arrive s d) tag base home None ∷ fs)) actions
         → (w : World) (r : ℕ) → Consistent c w → is_bare c.tree s w.marks ≡ true
-        → Meets C (machine w now r (fresh (N.arrive s d) tag base home None ∷ fs)) (returns now fs Any)
+        → MeetsAim C (machine w now r (fresh (N.arrive s d) tag base home None ∷ fs)) (returns now fs Any)
         (then_do (p.play s actions now w) (λ a. if_done a tt g))
     arrive_by g rest actions notes w r ok bare =
         let h = K.arrive s d path in
@@ -130,7 +130,7 @@ module _ (c : Chart) (b : Bounds) (k : Procedures) (N : Numbers) (valid : IsVali
       → (actions : List (List Stmt))
       → AreNotes c.tree k N (pending (suc base) (fresh (N.arrive s d) tag base home None ∷ fs)) actions → (w : World)
       → Consistent c w
-      → Meets C (machine w now r (fresh (N.arrive s d) tag base home None ∷ fs)) (returns now fs Any)
+      → MeetsAim C (machine w now r (fresh (N.arrive s d) tag base home None ∷ fs)) (returns now fs Any)
       (if_bare c.tree s (home_work s d actions now) w)
   arrive_runs s d is_or path now r tag base home fs actions notes w ok =
       choose_meets (is_bare c.tree s w.marks) (home_work s d actions now) nothing w
@@ -145,10 +145,10 @@ module _ (c : Chart) (b : Bounds) (k : Procedures) (N : Numbers) (valid : IsVali
   -- the active child of an OR is left
   leave_or : (s : ℕ) → comp_of c.tree s ≡ Or → s < state_count c.tree → (w : World) → Consistent c w
       → (now : Now) (r : ℕ) (tag : Option ℕ) (base home : ℕ) (fs : List Frame)
-      → Meets C (machine w now r (fresh (N.leave s) tag base home None ∷ fs)) (returns now fs Any)
+      → MeetsAim C (machine w now r (fresh (N.leave s) tag base home None ∷ fs)) (returns now fs Any)
       (exit_active c p s now w)
   leave_or s is_or lt w ok now r tag base home fs =
-      subst (λ o. Meets C (machine w now r (fresh (N.leave s) tag base home None ∷ fs)) (returns now fs Any)
+      subst (λ o. MeetsAim C (machine w now r (fresh (N.leave s) tag base home None ∷ fs)) (returns now fs Any)
       (exit_children c p s now o w)) is_or (leave_runs c b k N valid K p keep low s lt w ok now r tag base home fs)
 
   -- a firing is taken
@@ -157,7 +157,7 @@ module _ (c : Chart) (b : Bounds) (k : Procedures) (N : Numbers) (valid : IsVali
       → (actions : List (List Stmt))
       → AreNotes c.tree k N (pending (suc base) (fresh (N.take s d) tag base home None ∷ fs)) actions → (w : World)
       → Consistent c w
-      → Meets C (machine w now r (fresh (N.take s d) tag base home None ∷ fs)) (returns now fs Any)
+      → MeetsAim C (machine w now r (fresh (N.take s d) tag base home None ∷ fs)) (returns now fs Any)
       (take_rule c p s d actions now w)
   take_runs s d is_or path now r tag base home fs actions notes w ok =
       let h = K.take s d path in
@@ -188,7 +188,7 @@ module _ (c : Chart) (b : Bounds) (k : Procedures) (N : Numbers) (valid : IsVali
     module _ (i : ℕ) (h : HasAt k (N.defaults s) i (search_code N s)) where
       -- after the search of the default list
       defaulted : (f : Found) (w : World) → Consistent c w → (y : FoundFacts C N s Default now (at (i + 1) ∷ fs) f w)
-          → Meets C (found_at C N s Default now (at (i + 1) ∷ fs) f w y) (returns now fs Any)
+          → MeetsAim C (found_at C N s Default now (at (i + 1) ∷ fs) f w y) (returns now fs Any)
           (after_default c p s now f w)
       defaulted No w ok y = done 1 (go_ret h.1.0)
       defaulted Stop w ok y = done 1 (go_ret h.1.0)
@@ -197,7 +197,7 @@ module _ (c : Chart) (b : Bounds) (k : Procedures) (N : Numbers) (valid : IsVali
           let path = y.leads.path in
           meets_more (arrive_by s d path now y.tag y.base s y.below
           (if_some (child_toward c.tree s d) nothing (λ x. p.enter x d now)) (λ v x cursor ok' bare'.
-          subst (λ t. Meets C (machine v now x (aimed (running (N.arrive s d) 5 y.tag y.base s None) cursor ∷ y.below))
+          subst (λ t. MeetsAim C (machine v now x (aimed (running (N.arrive s d) 5 y.tag y.base s None) cursor ∷ y.below))
           (returns now y.below Any) (choose t (p.defaults s now)
           (if_some (child_toward c.tree s d) nothing (λ x. p.enter x d now)) v)) y.leads.below
           (toward_runs c b k N valid K p keep low s d (N.arrive s d) 5 (K.arrive s d path).1.1.1.1.1 path.state
@@ -206,7 +206,7 @@ module _ (c : Chart) (b : Bounds) (k : Procedures) (N : Numbers) (valid : IsVali
 
       -- the default list is searched
       search_runs : (w : World) → Consistent c w → is_bare c.tree s w.marks ≡ true → (r : ℕ)
-          → Meets C (machine w now r (at i ∷ fs)) (returns now fs Any) (default_search c p s now w)
+          → MeetsAim C (machine w now r (at i ∷ fs)) (returns now fs Any) (default_search c p s now w)
       search_runs w ok bare r =
           meets_on (go_call h.0) (then_meets_with (keeping (keep.search (Bare s) (node c s).default now w ok))
           (low.search.by s Default lt w ok bare now r None base (at (i + 1) ∷ fs)) (λ f v y ok'. defaulted f v ok' y))
@@ -214,10 +214,10 @@ module _ (c : Chart) (b : Bounds) (k : Procedures) (N : Numbers) (valid : IsVali
     -- the tests of the remembered child, and the search after them
     return_if : (x : ℕ) (xs : List ℕ) (i : ℕ) (w : World) (r : ℕ)
         → HasAt k (N.defaults s) i (return_code N (x ∷ xs) (search_code N s)) → x < state_count c.tree → Consistent c w
-        → Meets C (machine w now r (at (i + 1 + 2) ∷ fs)) (returns now fs Any)
+        → MeetsAim C (machine w now r (at (i + 1 + 2) ∷ fs)) (returns now fs Any)
         (if_some (find (λ x. is_last c.tree x w.marks) xs) (default_search c p s now) (λ x. p.enter x x now) w)
         → (last : Bool) → is_last c.tree x w.marks ≡ last
-        → Meets C (machine w now r (at i ∷ fs)) (returns now fs Any)
+        → MeetsAim C (machine w now r (at i ∷ fs)) (returns now fs Any)
         (if_some (cond last (Some x) (find (λ x. is_last c.tree x w.marks) xs)) (default_search c p s now)
         (λ x. p.enter x x now) w)
     return_if x xs i w r h within ok rest true e =
@@ -230,7 +230,7 @@ module _ (c : Chart) (b : Bounds) (k : Procedures) (N : Numbers) (valid : IsVali
     return_runs : (xs : List ℕ) (i : ℕ) (w : World) (r : ℕ)
         → HasAt k (N.defaults s) i (return_code N xs (search_code N s))
         → AllByRecursion (λ x. x < state_count c.tree) xs → Consistent c w → is_bare c.tree s w.marks ≡ true
-        → Meets C (machine w now r (at i ∷ fs)) (returns now fs Any)
+        → MeetsAim C (machine w now r (at i ∷ fs)) (returns now fs Any)
         (if_some (find (λ x. is_last c.tree x w.marks) xs) (default_search c p s now) (λ x. p.enter x x now) w)
     return_runs [] i w r h all ok bare = search_runs i h w ok bare r
     return_runs (x ∷ xs) i w r h all ok bare =
@@ -243,7 +243,7 @@ module _ (c : Chart) (b : Bounds) (k : Procedures) (N : Numbers) (valid : IsVali
   defaults_run : (s : ℕ) → s < state_count c.tree → comp_of c.tree s ≡ Or → (w : World) → Consistent c w
       → is_bare c.tree s w.marks ≡ true
       → (now : Now) (r : ℕ) (tag : Option ℕ) (base home : ℕ) (fs : List Frame)
-      → Meets C (machine w now r (fresh (N.defaults s) tag base home None ∷ fs)) (returns now fs Any)
+      → MeetsAim C (machine w now r (fresh (N.defaults s) tag base home None ∷ fs)) (returns now fs Any)
       (defaults_rule c p s now w)
   defaults_run s lt is_or w ok bare now r tag base home fs =
       let h = K.defaults s lt in

@@ -16,9 +16,9 @@ use Rattle.checked_chart.specs.Homes.{path_in, home_of}
 use Rattle.sos_rules.specs.Parts.{Found, Fire, DeadEnd, No, Stop, Parts}
 use Rattle.code_language.specs.Code.{Procedures, fetch}
 use Rattle.code_language.specs.Instrs.{Cond}
-use Rattle.code_language.specs.Machine.{Program, Frame, Machine, machine, fresh, next, later}
+use Rattle.code_language.specs.Machine.{Program, Frame, CodeState, machine, fresh, next, later}
 use Rattle.code_language.specs.Instrs as instrs
-use Rattle.code_simulation.specs.Reach.{Reaches, Aim, Meets, leaves, returns, Any, HasAt, pending}
+use Rattle.code_simulation.specs.Reach.{Reaches, Aim, MeetsAim, leaves, returns, Any, HasAt, pending}
 use Rattle.chart_procedures.specs.ListProcedures.{context_of, fired_result}
 use Rattle.chart_procedures.specs.Numbers.{Numbers}
 use Rattle.chart_procedures.specs.StateProcedures.{went_result, life_test, state_of_life, block_code, each_code}
@@ -119,7 +119,7 @@ EndFacts C (Some e) s kind now fs w = Ends C s kind now fs w
 
 -- where the search stands then
 abbrev pub end_at : (C : Program) (end : Option ℕ) (s : ℕ) (kind : ListKind) (now : Now) (fs : List Frame) (w : World)
-    → EndFacts C end s kind now fs w → Machine
+    → EndFacts C end s kind now fs w → CodeState
 end_at C None s kind now fs w i = absurd i
 end_at C (Some e) s kind now fs w i = machine w now i.result (fresh e i.tag i.base s None ∷ i.below)
 
@@ -132,7 +132,7 @@ FoundFacts C N s kind now fs DeadEnd w = EndFacts C (context_of N C.tree s kind)
 
 -- where the search stands then: its frame has returned 0 or 1, or a new frame stands on it
 abbrev pub found_at : (C : Program) (N : Numbers) (s : ℕ) (kind : ListKind) (now : Now) (fs : List Frame) (f : Found)
-    (w : World) → FoundFacts C N s kind now fs f w → Machine
+    (w : World) → FoundFacts C N s kind now fs f w → CodeState
 found_at C N s kind now fs No w i = machine w now 0 fs
 found_at C N s kind now fs Stop w i = machine w now 1 fs
 found_at C N s kind now fs (Fire d actions) w i =
@@ -151,32 +151,32 @@ pub record DoesBlock (C : Program) (N : Numbers) (p : Parts) : Type 0 where
       → Targets C.tree ss
       → (w : World) → IsConsistent C.tree w.marks → lives C.tree life w.marks ≡ true
       → (now : Now) (r : ℕ) (tag : Option ℕ) (base : ℕ) (fs : List Frame)
-      → Meets C (machine w now r (running q i tag base (state_of_life life) None ∷ fs))
+      → MeetsAim C (machine w now r (running q i tag base (state_of_life life) None ∷ fs))
       (returns now fs (λ a v x. Tells a (lives C.tree life v.marks))) (p.block life ss now w)
 
 -- the instruction of a send, in whatever frame
 pub record DoesSend (C : Program) (N : Numbers) (p : Parts) : Type 0 where
   pub chart : (e : ℕ) (f : Frame) (fs : List Frame) → fetch C.procedures f.proc f.place ≡ Some (instrs.Send e)
       → (w : World) → IsConsistent C.tree w.marks → is_on 0 w.marks ≡ true → (now : Now) (r : ℕ)
-      → Meets C (machine w now r (f ∷ fs)) (returns now (next f ∷ fs) Any) (p.send e None now w)
+      → MeetsAim C (machine w now r (f ∷ fs)) (returns now (next f ∷ fs) Any) (p.send e None now w)
   pub state : (e s : ℕ) (f : Frame) (fs : List Frame)
       → fetch C.procedures f.proc f.place ≡ Some (instrs.SendTo e s (N.process s))
       → s < state_count C.tree → (w : World) → IsConsistent C.tree w.marks → (now : Now) (r : ℕ)
-      → Meets C (machine w now r (f ∷ fs)) (returns now (next f ∷ fs) Any) (p.send e (Some s) now w)
+      → MeetsAim C (machine w now r (f ∷ fs)) (returns now (next f ∷ fs) Any) (p.send e (Some s) now w)
 
 -- the procedure of a list
 pub record DoesSearch (C : Program) (c : Chart) (N : Numbers) (p : Parts) : Type 0 where
   pub by : (s : ℕ) (kind : ListKind) → s < state_count C.tree
       → (w : World) → IsConsistent C.tree w.marks → lives C.tree (life_of s kind) w.marks ≡ true
       → (now : Now) (r : ℕ) (tag : Option ℕ) (base : ℕ) (fs : List Frame)
-      → Meets C (machine w now r (fresh (N.search s kind) tag base s None ∷ fs)) (finds C N s kind now fs)
+      → MeetsAim C (machine w now r (fresh (N.search s kind) tag base s None ∷ fs)) (finds C N s kind now fs)
       (p.search (life_of s kind) (list_of c s kind) now w)
 
 -- any state but the root is left
 pub record DoesExit (C : Program) (N : Numbers) (p : Parts) : Type 0 where
   pub by : (s : ℕ) → 0 < s → s < state_count C.tree → (w : World) → IsConsistent C.tree w.marks
       → (now : Now) (r : ℕ) (tag : Option ℕ) (base home : ℕ) (fs : List Frame)
-      → Meets C (machine w now r (fresh (N.exit s) tag base home None ∷ fs)) (returns now fs Any) (p.exit s now w)
+      → MeetsAim C (machine w now r (fresh (N.exit s) tag base home None ∷ fs)) (returns now fs Any) (p.exit s now w)
 
 -- states are left one after another, from the place where the code for them stands
 pub record DoesExitEach (C : Program) (N : Numbers) (p : Parts) : Type 0 where
@@ -184,13 +184,14 @@ pub record DoesExitEach (C : Program) (N : Numbers) (p : Parts) : Type 0 where
       → AllByRecursion (λ x. (0 < x) × (x < state_count C.tree)) xs
       → (w : World) → IsConsistent C.tree w.marks
       → (now : Now) (r : ℕ) (tag : Option ℕ) (base home : ℕ) (fs : List Frame)
-      → Meets C (machine w now r (running q i tag base home None ∷ fs)) (returns now fs Any) (p.exit_each xs now w)
+      → MeetsAim C (machine w now r (running q i tag base home None ∷ fs)) (returns now fs Any) (p.exit_each xs now w)
 
 -- a state is entered on the path to another one
 pub record DoesEnter (C : Program) (N : Numbers) (p : Parts) : Type 0 where
   pub by : (s d : ℕ) → IsPath C.tree s d → (w : World) → IsConsistent C.tree w.marks
       → (now : Now) (r : ℕ) (tag : Option ℕ) (base home : ℕ) (fs : List Frame)
-      → Meets C (machine w now r (fresh (N.enter s d) tag base home None ∷ fs)) (returns now fs Any) (p.enter s d now w)
+      → MeetsAim C (machine w now r (fresh (N.enter s d) tag base home None ∷ fs)) (returns now fs Any)
+      (p.enter s d now w)
 
 -- the children of an AND are entered one after another
 pub record DoesEnterEach (C : Program) (N : Numbers) (p : Parts) : Type 0 where
@@ -198,14 +199,15 @@ pub record DoesEnterEach (C : Program) (N : Numbers) (p : Parts) : Type 0 where
       → AllByRecursion (λ x. IsPath C.tree x (path_in C.tree x d)) xs
       → (w : World) → IsConsistent C.tree w.marks
       → (now : Now) (r : ℕ) (tag : Option ℕ) (base home : ℕ) (fs : List Frame)
-      → Meets C (machine w now r (running q i tag base home None ∷ fs)) (returns now fs Any) (p.enter_each xs d now w)
+      → MeetsAim C (machine w now r (running q i tag base home None ∷ fs)) (returns now fs Any)
+      (p.enter_each xs d now w)
 
 -- an OR that is bare is entered by default
 pub record DoesDefaults (C : Program) (N : Numbers) (p : Parts) : Type 0 where
   pub by : (s : ℕ) → s < state_count C.tree → comp_of C.tree s ≡ Or
       → (w : World) → IsConsistent C.tree w.marks → is_bare C.tree s w.marks ≡ true
       → (now : Now) (r : ℕ) (tag : Option ℕ) (base home : ℕ) (fs : List Frame)
-      → Meets C (machine w now r (fresh (N.defaults s) tag base home None ∷ fs)) (returns now fs Any)
+      → MeetsAim C (machine w now r (fresh (N.defaults s) tag base home None ∷ fs)) (returns now fs Any)
       (p.defaults s now w)
 
 -- after `Play`, whatever the cursor is then: the home is bare exactly where all notes were run
@@ -226,7 +228,7 @@ pub record DoesPlay (C : Program) (N : Numbers) (p : Parts) : Type 0 where
       → (actions : List (List Stmt)) (cursor : ℕ)
       → AreNotes C.tree C.procedures N (pending (later cursor (suc f.base)) (f ∷ fs)) actions
       → (w : World) → IsConsistent C.tree w.marks → is_bare C.tree f.home w.marks ≡ true → (now : Now) (r : ℕ)
-      → Meets C (machine w now r (aimed f cursor ∷ fs)) (behind C.tree f fs now) (p.play f.home actions now w)
+      → MeetsAim C (machine w now r (aimed f cursor ∷ fs)) (behind C.tree f fs now) (p.play f.home actions now w)
 
 -- a firing whose home is an OR, with the actions noted above the base
 pub record DoesTake (C : Program) (N : Numbers) (p : Parts) : Type 0 where
@@ -235,14 +237,14 @@ pub record DoesTake (C : Program) (N : Numbers) (p : Parts) : Type 0 where
       → (actions : List (List Stmt))
       → AreNotes C.tree C.procedures N (pending (suc base) (fresh (N.take s d) tag base home None ∷ fs)) actions
       → (w : World) → IsConsistent C.tree w.marks
-      → Meets C (machine w now r (fresh (N.take s d) tag base home None ∷ fs)) (returns now fs Any)
+      → MeetsAim C (machine w now r (fresh (N.take s d) tag base home None ∷ fs)) (returns now fs Any)
       (p.take s d actions now w)
 
 -- an active state is processed, also for a send: the frame may have a saved event
 pub record DoesProcess (C : Program) (N : Numbers) (p : Parts) : Type 0 where
   pub by : (s : ℕ) → s < state_count C.tree → (w : World) → IsConsistent C.tree w.marks → is_on s w.marks ≡ true
       → (now : Now) (r : ℕ) (tag : Option ℕ) (base home : ℕ) (saved : Option Event) (fs : List Frame)
-      → Meets C (machine w now r (fresh (N.process s) tag base home saved ∷ fs))
+      → MeetsAim C (machine w now r (fresh (N.process s) tag base home saved ∷ fs))
       (leaves saved now fs (λ a v x. x ≡ went_result a)) (p.process s now w)
 
 -- regions are processed one after another
@@ -251,7 +253,7 @@ pub record DoesProcessEach (C : Program) (N : Numbers) (p : Parts) : Type 0 wher
       → AllByRecursion (λ x. x < state_count C.tree) xs
       → (w : World) → IsConsistent C.tree w.marks
       → (now : Now) (r : ℕ) (tag : Option ℕ) (base home : ℕ) (saved : Option Event) (fs : List Frame)
-      → Meets C (machine w now r (running q i tag base home saved ∷ fs))
+      → MeetsAim C (machine w now r (running q i tag base home saved ∷ fs))
       (leaves saved now fs (λ a v x. x ≡ went_result a)) (p.process_each xs now w)
 
 -- all kinds

@@ -7,8 +7,8 @@ use Rattle.actions.specs.World.{World, lives}
 use Rattle.actions.specs.Work.{Now}
 use Rattle.checked_chart.specs.Chart.{Trans, life_of}
 use Rattle.sos_rules.specs.Parts.{Found, Fire, DeadEnd, No, Stop, Parts}
-use Rattle.code_language.specs.Machine.{Program, Frame, Machine, machine, fresh}
-use Rattle.code_simulation.specs.Reach.{Reaches, Aim, Meets, with_note}
+use Rattle.code_language.specs.Machine.{Program, Frame, CodeState, machine, fresh}
+use Rattle.code_simulation.specs.Reach.{Reaches, Aim, MeetsAim, with_note}
 use Rattle.chart_procedures.specs.Kinds.{running, NotesBy}
 use Rattle.chart_procedures.specs.ListProcedures.{Search}
 use Rattle.chart_procedures.specs.SearchParts.{Meaning}
@@ -66,7 +66,7 @@ EndFactsFrom C (Some e) S R w = EndsFrom C S R w
 
 -- where the search stands then
 abbrev pub end_from : (C : Program) (end : Option ℕ) (S : Search) (R : Searcher) (w : World) → EndFactsFrom C end S R w
-    → Machine
+    → CodeState
 end_from C None S R w i = absurd i
 end_from C (Some e) S R w i =
     machine w R.now i.result (fresh e None R.base S.state None ∷ onto i.between (searching S R i.place ∷ R.below))
@@ -80,7 +80,7 @@ FactsFrom C P S R DeadEnd w = EndFactsFrom C S.end S R w
 
 -- where the search stands then
 abbrev pub found_from : (C : Program) (P : Meaning) (S : Search) (R : Searcher) (f : Found) (w : World)
-    → FactsFrom C P S R f w → Machine
+    → FactsFrom C P S R f w → CodeState
 found_from C P S R No w i = machine w R.now 0 R.below
 found_from C P S R Stop w i = machine w R.now 1 R.below
 found_from C P S R (Fire d actions) w i =
@@ -97,6 +97,6 @@ finds_from C P S R = record { Facts = FactsFrom C P S R; stands = found_from C P
 pub record SearchesFrom (C : Program) (P : Meaning) (S : Search) (p : Parts) (proc : ℕ) (list : List Trans) : Type 0 where
   pub by : (w : World) → IsConsistent C.tree w.marks → lives C.tree (life_of S.state S.kind) w.marks ≡ true
       → (now : Now) (r : ℕ) (tag : Option ℕ) (base : ℕ) (fs : List Frame)
-      → Meets C (machine w now r (fresh proc tag base S.state None ∷ fs))
+      → MeetsAim C (machine w now r (fresh proc tag base S.state None ∷ fs))
       (finds_from C P S (record { proc = proc; tag = tag; base = length fs; now = now; below = fs }))
       (p.search (life_of S.state S.kind) list now w)

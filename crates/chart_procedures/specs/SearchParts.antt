@@ -17,7 +17,7 @@ use Rattle.sos_rules.specs.Rules.{upto}
 use Rattle.code_language.specs.Code.{Procedures}
 use Rattle.code_language.specs.Instrs as instrs
 use Rattle.code_language.specs.Machine.{Program, Frame, machine, fresh}
-use Rattle.code_simulation.specs.Reach.{Meets, returns, HasAt}
+use Rattle.code_simulation.specs.Reach.{MeetsAim, returns, HasAt}
 use Rattle.chart_procedures.specs.Compiled.{GuardBy, PartBy}
 use Rattle.chart_procedures.specs.Kinds.{Tells, program}
 use Rattle.chart_procedures.specs.ListProcedures.{Search, list_code, junction_code}
@@ -83,7 +83,7 @@ flag_number false = 0
 -- a guard's procedure returns 1 or 0, and the marks stay
 pub record DoesGuard (C : Program) (q : ℕ) (e : Expr) : Type 0 where
   pub by : (w : World) (now : Now) (r : ℕ) (tag : Option ℕ) (base home : ℕ) (fs : List Frame)
-      → Meets C (machine w now r (fresh q tag base home None ∷ fs))
+      → MeetsAim C (machine w now r (fresh q tag base home None ∷ fs))
       (record { Facts = λ a v. v.marks ≡ w.marks; stands = λ a v i. machine v now (flag_number a) fs })
       (flag_or_fault (truth_of e w) w)
 
@@ -91,7 +91,7 @@ pub record DoesGuard (C : Program) (q : ℕ) (e : Expr) : Type 0 where
 pub record DoesPart (C : Program) (p : Parts) (life : Life) (q : ℕ) (ss : List Stmt) : Type 0 where
   pub by : (w : World) → IsConsistent C.tree w.marks → lives C.tree life w.marks ≡ true
       → (now : Now) (r : ℕ) (tag : Option ℕ) (base : ℕ) (fs : List Frame)
-      → Meets C (machine w now r (fresh q tag base (state_of_life life) None ∷ fs))
+      → MeetsAim C (machine w now r (fresh q tag base (state_of_life life) None ∷ fs))
       (returns now fs (λ a v x. Tells a (lives C.tree life v.marks))) (p.block life ss now w)
 
 -- the procedures of guards and of condition actions do their work

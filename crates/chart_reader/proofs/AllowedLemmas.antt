@@ -2,12 +2,12 @@
 use Rattle.std.proofs.Common.{◌≡◌, Bool, List, [], ◌∷◌, Option, Some, None, Ok, inl, inr, refl}
 use Rattle.std.proofs.lemmas.Bool.{cases_Bool}
 use Rattle.token_grammar.specs.declared.token.Kind.{Kind}
-use Rattle.token_grammar.specs.declared.fault.Fault.{Fault}
+use Rattle.token_grammar.specs.declared.fault.TokenFault.{TokenFault}
 use Rattle.token_grammar.specs.Token.{Lexeme, kind_eq}
 use Rattle.token_grammar.specs.Grammar.{is, token, one_of, allowed}
 
 -- one of a kind
-pub token_allowed : (k : Kind) (refused : Option Fault) (s r : List Lexeme) (t : Lexeme)
+pub token_allowed : (k : Kind) (refused : Option TokenFault) (s r : List Lexeme) (t : Lexeme)
     → (allowed (is k) (λ t. refused) (token k)).reads s ≡ Ok (t, r) → refused ≡ None
 unfolding token
 token_allowed k None s r t e = refl
@@ -19,7 +19,7 @@ token_allowed k (Some f) (u ∷ s) r t e =
     ]
 
 -- one of a set
-pub one_allowed : (set : Kind → Bool) (refused : Option Fault) (s r : List Lexeme) (t : Lexeme)
+pub one_allowed : (set : Kind → Bool) (refused : Option TokenFault) (s r : List Lexeme) (t : Lexeme)
     → (allowed set (λ t. refused) (one_of set)).reads s ≡ Ok (t, r) → refused ≡ None
 unfolding one_of
 one_allowed set None s r t e = refl

@@ -4,7 +4,7 @@ use Rattle.std.proofs.Common.{sym, ap, ◌∙◌, arith}
 use Rattle.std.proofs.lemmas.List.{length-append}
 use Rattle.flow_base.specs.declared.chart_limits.TheConstants.{STATEMENT_LIMIT, ITEM_LIMIT}
 use Rattle.token_grammar.specs.declared.token.Kind.TheVariants as kinds
-use Rattle.token_grammar.specs.declared.fault.Fault.{Fault}
+use Rattle.token_grammar.specs.declared.fault.TokenFault.{TokenFault}
 use Rattle.token_grammar.specs.Token.{Lexeme}
 use Rattle.token_grammar.specs.Grammar.{Grammar, heads, token, allowed}
 use Rattle.token_grammar.proofs.Good.{Set}
@@ -13,7 +13,7 @@ use Rattle.chart_grammar.specs.Limits.{Counts, usual, statement_refused}
 use Rattle.chart_grammar.specs.Transitions.{Before, stmt_heads, stmt, next_stmt, after_stmts, stmts, block}
 
 -- what was read wasn't refused
-pub was_allowed : {X : Type 0} (g : Grammar X) (set : Set) (said : Option Fault) (s : List Lexeme) (x : X)
+pub was_allowed : {X : Type 0} (g : Grammar X) (set : Set) (said : Option TokenFault) (s : List Lexeme) (x : X)
     (r : List Lexeme)
     → heads set s ≡ true → (allowed set (λ t. said) g).reads s ≡ Ok (x, r) → said ≡ None
 was_allowed g set None s x r here read = refl

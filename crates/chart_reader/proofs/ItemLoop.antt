@@ -6,7 +6,7 @@ use Rattle.token_grammar.specs.declared.token.Kind.{Kind}
 use Rattle.token_grammar.specs.declared.token.Kind.TheVariants as kinds
 use Rattle.token_grammar.specs.declared.token.Token.{Token}
 use Rattle.token_grammar.specs.declared.fault.ReadError.{ReadError}
-use Rattle.token_grammar.specs.declared.fault.Fault.TheVariants as faults
+use Rattle.token_grammar.specs.declared.fault.TokenFault.TheVariants as faults
 use Rattle.token_grammar.specs.Token.{Lexeme, lexemes, Outcome, Fails}
 use Rattle.token_grammar.specs.Grammar.{Grammar, heads, is, many_from}
 use Rattle.token_grammar.proofs.Good.{Set, Good}

@@ -5,7 +5,7 @@ use Rattle.std.proofs.Common.{refl, sym, ap, ◌∙◌}
 use Rattle.std.proofs.lemmas.Bool.{cases_Bool}
 use Rattle.std.proofs.lemmas.Grind.{common_steps}
 use Rattle.token_grammar.specs.declared.token.Kind.TheVariants as kinds
-use Rattle.token_grammar.specs.declared.fault.Fault.{Fault}
+use Rattle.token_grammar.specs.declared.fault.TokenFault.{TokenFault}
 use Rattle.token_grammar.specs.Token.{Lexeme, kind_eq}
 use Rattle.token_grammar.specs.Grammar.{token, unless_refused}
 use Rattle.fixed_point.specs.declared.reading.TheConstants.{DIGIT_LIMIT}
@@ -24,7 +24,7 @@ use Rattle.chart_reader.proofs.WordLemmas.{value_or}
 
 -- the literal of at most DIGIT_LIMIT digits, or the fault of its number
 pub told_few : (negative : Bool) (whole behind : List ℕ) (bits frac : Option ℕ) (units places : ℕ)
-    (number : Result Num NumFault) (said : Option Fault)
+    (number : Result Num NumFault) (said : Option TokenFault)
     → length whole + length behind ≤ DIGIT_LIMIT → units ≡ value_after (value_after 0 whole) behind
     → places ≡ length behind → frac ≡ frac_of bits units places → number ≡ number_of negative units places frac
     → said ≡ fault_of_number number
@@ -46,7 +46,7 @@ told_few negative whole behind bits frac units places number said few units_is p
 -- ---- number tokens
 
 -- the fault of a first token that spells no literal
-pub number_fails : (s : List Lexeme) (fault : Fault) → first_literal s ≡ Err fault
+pub number_fails : (s : List Lexeme) (fault : TokenFault) → first_literal s ≡ Err fault
     → (number usual).reads s ≡ Err (fault, s)
 unfolding number token
 number_fails [] fault e = cc

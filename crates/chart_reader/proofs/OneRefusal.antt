@@ -3,7 +3,7 @@ use Rattle.std.proofs.Common.{◌≡◌, ◌≢◌, ℕ, ◌≤◌, List, [], �
 use Rattle.std.proofs.Common.{refl, sym, subst, ◌∙◌, append_assoc, arith}
 use Rattle.std.proofs.lemmas.Bool.{cases_lt}
 use Rattle.token_grammar.specs.declared.token.Span.{Span}
-use Rattle.token_grammar.specs.declared.fault.Fault.{Fault}
+use Rattle.token_grammar.specs.declared.fault.TokenFault.{TokenFault}
 use Rattle.token_grammar.specs.Token.{Lexeme, Outcome}
 use Rattle.token_grammar.specs.Grammar.{Continues, FirstFault, whole_reads}
 use Rattle.chart_lexer.specs.declared.front.Stop.{Stop}
@@ -68,14 +68,14 @@ module _ (text : List ℕ) where
   -- reading stops where a fault of reading comes
   read_stops : (r : List Lexeme) → FirstFault (chart usual) (tokens_of text) r → (o : Outcome Chart)
       → whole_reads (chart usual) (tokens_of text) ≡ o
-      → (f : Fault) × (whole_reads (chart usual) (tokens_of text) ≡ Err (f, r))
+      → (f : TokenFault) × (whole_reads (chart usual) (tokens_of text) ≡ Err (f, r))
   read_stops r stops (Ok x) w = absurd (stops.unfinished x.0 (text_found (tokens_of text) x.0 x.1 w))
   read_stops r stops (Err (f, q)) w =
       let same = one_stop (chart usual) (tokens_of text) q r (text_stops (tokens_of text) q f w) stops in
       (f, subst (λ z. whole_reads (chart usual) (tokens_of text) ≡ Err (f, z)) same w)
 
   -- a token that doesn't continue is answered with its fault
-  token_answered : (fault : Fault) (at : Span) → StopsAt text fault at
+  token_answered : (fault : TokenFault) (at : Span) → StopsAt text fault at
       → text_answer text ≡ refused_as (kind_of fault) at
   token_answered fault at h =
       let found = read_stops (h.first ∷ h.others) h.stops (whole_reads (chart usual) (tokens_of text)) refl in
@@ -90,7 +90,7 @@ module _ (text : List ℕ) where
       rw (found.1, h.whole, h.place) refl
 
   -- a fault of reading is answered with its kind
-  stops_answered : (fault : Fault) (at : Span) → Stops text fault at → text_answer text ≡ refused_as (kind_of fault) at
+  stops_answered : (fault : TokenFault) (at : Span) → Stops text fault at → text_answer text ≡ refused_as (kind_of fault) at
   stops_answered fault at (inl token) = token_answered fault at token
   stops_answered fault at (inr ended) = rw ended.0 (end_answered at ended.1)
 

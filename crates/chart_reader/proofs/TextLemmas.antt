@@ -5,8 +5,8 @@ use Rattle.std.proofs.lemmas.Bool.{and_from}
 use Rattle.std.specs.List.{filter, list_all}
 use Rattle.token_grammar.specs.declared.token.Kind.TheVariants as kinds
 use Rattle.token_grammar.specs.declared.token.Span.{Span}
-use Rattle.token_grammar.specs.declared.fault.Fault.{Fault}
-use Rattle.token_grammar.specs.declared.fault.Fault.TheVariants as reading
+use Rattle.token_grammar.specs.declared.fault.TokenFault.{TokenFault}
+use Rattle.token_grammar.specs.declared.fault.TokenFault.TheVariants as reading
 use Rattle.token_grammar.specs.declared.token.Token.{Token}
 use Rattle.token_grammar.specs.Token.{Lexeme, lexemes, Outcome, kind_eq}
 use Rattle.token_grammar.specs.Grammar.{Continues, FirstFault, whole_reads}
@@ -94,7 +94,7 @@ spelled_is_read text c spells = rw (spells.whole, text_only (tokens_of text) c s
 -- ---- refusals
 
 -- where a token is left
-stops_at : (text : List ℕ) (fault : Fault) (t : Lexeme) (r : List Lexeme)
+stops_at : (text : List ℕ) (fault : TokenFault) (t : Lexeme) (r : List Lexeme)
     → whole_reads (chart usual) (tokens_of text) ≡ Err (fault, t ∷ r)
     → StopsAt text fault t.at
 stops_at text fault t r w =
@@ -102,7 +102,7 @@ stops_at text fault t r w =
     record { first = t; others = r; stops = stops; kind = text_fault (tokens_of text) t r fault w stops; place = refl }
 
 -- it is refused with its fault
-token_refused : (text : List ℕ) (fault : Fault) (t : Lexeme) (r : List Lexeme) (stop : Stop) (at : Span)
+token_refused : (text : List ℕ) (fault : TokenFault) (t : Lexeme) (r : List Lexeme) (stop : Stop) (at : Span)
     → length text ≤ CHART_TEXT_LIMIT → StopsAt text fault t.at → IsRefusal text (fault_at fault (t ∷ r) stop at)
 token_refused text fault t r stop at short h =
     inr (short, inr (record { fault = fault; kind_is = refl; stops = inl h }))
@@ -123,7 +123,7 @@ none_refused text stop short s more continues =
     )
 
 -- no token is left
-end_refused : (text : List ℕ) (fault : Fault) (stop : Stop) → length text ≤ CHART_TEXT_LIMIT → (cut_of text).stop ≡ stop
+end_refused : (text : List ℕ) (fault : TokenFault) (stop : Stop) → length text ≤ CHART_TEXT_LIMIT → (cut_of text).stop ≡ stop
     → whole_reads (chart usual) (tokens_of text) ≡ Err (fault, [])
     → IsRefusal text (fault_at fault [] stop (cut_of text).at)
 end_refused text fault stop short s w = by_stop stop s
@@ -166,7 +166,7 @@ pub refuses : (text : List ℕ) (e : FormFault) → length text ≤ CHART_TEXT_L
     → answer (cut_of text).stop (cut_of text).at (whole_reads (chart usual) (tokens_of text)) ≡ Err e → IsRefusal text e
 refuses text e short h = by_read (whole_reads (chart usual) (tokens_of text)) refl h
   where
-    by_rest : (fault : Fault) (r : List Lexeme) → whole_reads (chart usual) (tokens_of text) ≡ Err (fault, r)
+    by_rest : (fault : TokenFault) (r : List Lexeme) → whole_reads (chart usual) (tokens_of text) ≡ Err (fault, r)
         → IsRefusal text (fault_at fault r (cut_of text).stop (cut_of text).at)
     by_rest fault [] w = end_refused text fault (cut_of text).stop short refl w
     by_rest fault (t ∷ r) w =

@@ -2,10 +2,10 @@
 use Rattle.std.proofs.Common.{◌≡◌, Bool, true, false, List, [], ◌∷◌, Ok, Err, refl}
 use Rattle.std.proofs.Common.{Option, Some, None, sym, ◌∙◌, inl, inr}
 use Rattle.std.proofs.lemmas.Bool.{cases_Bool}
-use Rattle.token_grammar.specs.declared.fault.Fault.{Fault}
+use Rattle.token_grammar.specs.declared.fault.TokenFault.{TokenFault}
 use Rattle.token_grammar.proofs.Allowed.{refused_always}
 use Rattle.token_grammar.specs.declared.token.Kind.{Kind}
-use Rattle.token_grammar.specs.declared.fault.Fault.TheVariants as faults
+use Rattle.token_grammar.specs.declared.fault.TokenFault.TheVariants as faults
 use Rattle.token_grammar.specs.Token.{Lexeme}
 use Rattle.token_grammar.specs.Grammar.{one_of, token, heads, is, allowed, first_refused}
 
@@ -45,7 +45,7 @@ token_refused [] k h = refl
 token_refused (t ∷ s) k h = rw h refl
 
 -- where a token was taken, no fault refused it
-pub allowed_passes : (k : Kind) (said : Option Fault) (s : List Lexeme) (t : Lexeme) (r : List Lexeme)
+pub allowed_passes : (k : Kind) (said : Option TokenFault) (s : List Lexeme) (t : Lexeme) (r : List Lexeme)
     → (allowed (is k) (λ t. said) (token k)).reads s ≡ Ok (t, r) → said ≡ None
 allowed_passes k None s t r e = refl
 allowed_passes k (Some f) s t r e =

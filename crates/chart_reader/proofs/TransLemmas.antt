@@ -2,7 +2,7 @@
 use Rattle.std.proofs.Common.{◌≡◌, Bool, true, false, ◌||◌, List, [], ◌∷◌, Err, refl}
 use Rattle.token_grammar.specs.declared.token.Kind.TheVariants as kinds
 use Rattle.token_grammar.specs.declared.token.Span.{Span}
-use Rattle.token_grammar.specs.declared.fault.Fault.TheVariants as faults
+use Rattle.token_grammar.specs.declared.fault.TokenFault.TheVariants as faults
 use Rattle.token_grammar.specs.Token.{Lexeme}
 use Rattle.token_grammar.specs.Grammar.{heads, is, token}
 use Rattle.token_grammar.proofs.Allowed.{refused_always}

@@ -2,7 +2,7 @@
 use Rattle.std.proofs.Common.{◌≡◌, List, [], ◌∷◌, Option, Some, None, Ok, Err, inl, inr, refl, ap, ◌∙◌}
 use Rattle.std.proofs.lemmas.Bool.{cases_Bool}
 use Rattle.token_grammar.specs.declared.token.Kind.TheVariants as kinds
-use Rattle.token_grammar.specs.declared.fault.Fault.TheVariants as faults
+use Rattle.token_grammar.specs.declared.fault.TokenFault.TheVariants as faults
 use Rattle.token_grammar.specs.declared.fault.ReadError.{ReadError}
 use Rattle.token_grammar.specs.declared.fault.ReadError.TheVariants as errors
 use Rattle.token_grammar.specs.Token.{Lexeme, kind_eq, Outcome, Fails}

@@ -1,7 +1,7 @@
 -- What reading all tokens of a text answers.
 use Rattle.std.specs.Prelude.{◌≡◌, List, [], ◌∷◌, Result, Ok, Err}
 use Rattle.token_grammar.specs.declared.token.Span.{Span}
-use Rattle.token_grammar.specs.declared.fault.Fault.{Fault}
+use Rattle.token_grammar.specs.declared.fault.TokenFault.{TokenFault}
 use Rattle.token_grammar.specs.Token.{Lexeme, Outcome}
 use Rattle.chart_lexer.specs.declared.front.Stop.{Stop}
 use Rattle.chart_lexer.specs.declared.front.Stop.TheVariants as stops
@@ -22,7 +22,7 @@ end_kind stops.BadToken = forms.BadToken
 
 -- a fault of reading at the first token that is left; where none is left, the fault of what stands
 -- after the last token
-abbrev pub fault_at : Fault → List Lexeme → Stop → Span → FormFault
+abbrev pub fault_at : TokenFault → List Lexeme → Stop → Span → FormFault
 fault_at fault [] stop at = faults.At (end_kind stop) at
 fault_at fault (t ∷ rest) stop at = faults.At (kind_of fault) t.at
 

@@ -3,8 +3,8 @@ use Rattle.std.specs.Prelude.{◌≡◌, ◌≢◌, ℕ, ◌≤◌, not, List, [
 use Rattle.std.specs.List.{filter}
 use Rattle.token_grammar.specs.declared.token.Kind.TheVariants as kinds
 use Rattle.token_grammar.specs.declared.token.Span.{Span}
-use Rattle.token_grammar.specs.declared.fault.Fault.{Fault}
-use Rattle.token_grammar.specs.declared.fault.Fault.TheVariants as reading
+use Rattle.token_grammar.specs.declared.fault.TokenFault.{TokenFault}
+use Rattle.token_grammar.specs.declared.fault.TokenFault.TheVariants as reading
 use Rattle.token_grammar.specs.Token.{Lexeme, kind_eq}
 use Rattle.token_grammar.specs.Grammar.{Continues, FirstFault}
 use Rattle.chart_lexer.specs.declared.front.Stop.TheVariants as stops
@@ -41,7 +41,7 @@ pub record EndsEarly (text : List ℕ) (at : Span) : Type 0 where
   pub place : at ≡ (cut_of text).at
 
 -- a token is the first that doesn't continue a chart within the limits, and has that fault
-pub record StopsAt (text : List ℕ) (fault : Fault) (at : Span) : Type 0 where
+pub record StopsAt (text : List ℕ) (fault : TokenFault) (at : Span) : Type 0 where
   pub first : Lexeme
   pub others : List Lexeme
   pub stops : FirstFault (chart usual) (tokens_of text) (first ∷ others)
@@ -50,7 +50,7 @@ pub record StopsAt (text : List ℕ) (fault : Fault) (at : Span) : Type 0 where
 
 -- when a fault of reading comes, and where: at the first token that doesn't continue, or, as Expected,
 -- at the end of a text that ends too early
-abbrev pub Stops : List ℕ → Fault → Span → Type 0
+abbrev pub Stops : List ℕ → TokenFault → Span → Type 0
 Stops text fault at = StopsAt text fault at ⊎ (fault ≡ reading.Expected) × EndsEarly text at
 
 -- after tokens that continue, no token begins, and the kind says what stands there: a byte that no chart text may have,
@@ -63,7 +63,7 @@ pub record NoToken (text : List ℕ) (kind : FormKind) (at : Span) : Type 0 wher
 
 -- reading stops there, and the kind is that of its fault
 pub record ReadingStops (text : List ℕ) (kind : FormKind) (at : Span) : Type 0 where
-  pub fault : Fault
+  pub fault : TokenFault
   pub kind_is : kind ≡ kind_of fault
   pub stops : Stops text fault at
 

@@ -9,7 +9,7 @@ use flow_base::chart_limits::{
     EVENT_LIMIT, ITEM_LIMIT, JUNCTION_LIMIT, OPERATOR_LIMIT, STATE_LIMIT, STATEMENT_LIMIT,
     TRANSITION_LIMIT, VARIABLE_LIMIT,
 };
-use token_grammar::{Fault, Thing};
+use token_grammar::{Thing, TokenFault};
 
 /// How many things have begun so far.
 #[derive(Clone, Copy, Debug, PartialEq, Eq)]
@@ -39,13 +39,13 @@ fn most(thing: Thing) -> u32
 }
 
 /// What is wrong with one more of a thing where there are `count`.
-pub(crate) fn one_more(thing: Thing, count: u32) -> Option<Fault>
+pub(crate) fn one_more(thing: Thing, count: u32) -> Option<TokenFault>
     ensures { result ≡ spec.one_more usual thing count }
 {
     if count < most(thing) {
         None
     } else {
-        Some(Fault::TooMany(thing))
+        Some(TokenFault::TooMany(thing))
     }
 }
 
@@ -65,7 +65,7 @@ impl Counts {
     }
 
     /// What is wrong with one more of a thing where there are `count`, which is one more item too.
-    fn one_more_item(self, thing: Thing, count: u32) -> Option<Fault>
+    fn one_more_item(self, thing: Thing, count: u32) -> Option<TokenFault>
         ensures { result ≡ spec.one_more_item usual thing count (counts_of self) }
     {
         match one_more(thing, count) {
@@ -75,42 +75,42 @@ impl Counts {
     }
 
     /// The fault of one more state.
-    pub fn state_refused(self) -> Option<Fault>
+    pub fn state_refused(self) -> Option<TokenFault>
         ensures { result ≡ spec.state_refused usual (counts_of self) }
     {
         self.one_more_item(Thing::States, self.states)
     }
 
     /// The fault of one more junction.
-    pub fn junction_refused(self) -> Option<Fault>
+    pub fn junction_refused(self) -> Option<TokenFault>
         ensures { result ≡ spec.junction_refused usual (counts_of self) }
     {
         self.one_more_item(Thing::Junctions, self.junctions)
     }
 
     /// The fault of one more transition.
-    pub fn transition_refused(self) -> Option<Fault>
+    pub fn transition_refused(self) -> Option<TokenFault>
         ensures { result ≡ spec.transition_refused usual (counts_of self) }
     {
         self.one_more_item(Thing::Transitions, self.transitions)
     }
 
     /// The fault of one more datum.
-    pub fn variable_refused(self) -> Option<Fault>
+    pub fn variable_refused(self) -> Option<TokenFault>
         ensures { result ≡ spec.variable_refused usual (counts_of self) }
     {
         self.one_more_item(Thing::Variables, self.variables)
     }
 
     /// The fault of one more event.
-    pub fn event_refused(self) -> Option<Fault>
+    pub fn event_refused(self) -> Option<TokenFault>
         ensures { result ≡ spec.event_refused usual (counts_of self) }
     {
         self.one_more_item(Thing::Events, self.events)
     }
 
     /// The fault of one more statement in a block that has `before` of them.
-    pub fn statement_refused(self, before: u32) -> Option<Fault>
+    pub fn statement_refused(self, before: u32) -> Option<TokenFault>
         ensures { result ≡ spec.statement_refused usual before (counts_of self) }
     {
         self.one_more_item(Thing::Statements, before)

@@ -14,7 +14,7 @@ use crate::reader::Reader;
 use chart_operands::{Operand, Tail, bin_word, un_word, with_tail};
 use chart_tree::ExprText;
 use flow_base::chart_limits::OPERATOR_LIMIT;
-use token_grammar::{Fault, Kind, ReadError, Thing};
+use token_grammar::{Kind, ReadError, Thing, TokenFault};
 
 impl<'t, 'a> Reader<'t, 'a> {
     /// An operator of the level and the operand after it.
@@ -97,7 +97,7 @@ impl<'t, 'a> Reader<'t, 'a> {
             return self.plain(before);
         }
         if depth == 0 {
-            return Err(ReadError::Fault(Fault::TooMany(Thing::Operators)));
+            return Err(ReadError::Fault(TokenFault::TooMany(Thing::Operators)));
         }
         self.nested(depth - 1, before)
     }

@@ -15,7 +15,7 @@ use chart_tree::LitText;
 use fixed_point::{
     DIGIT_LIMIT, Num, NumFault, Numeral, frac_of, number_of, split_number, value_after,
 };
-use token_grammar::{Fault, Kind, ReadError, Token};
+use token_grammar::{Kind, ReadError, Token, TokenFault};
 
 /// A number token, and the literal that it spells.
 #[derive(Clone, Copy, Debug)]
@@ -28,14 +28,14 @@ pub(crate) struct NumberToken<'a> {
 }
 
 /// The fault of what was read as a number.
-fn number_fault(number: Result<Num, NumFault>) -> Option<Fault>
+fn number_fault(number: Result<Num, NumFault>) -> Option<TokenFault>
     ensures { result ≡ words.fault_of_number number }
 {
     match number {
         Ok(_) => None,
-        Err(NumFault::NotNumber) => Some(Fault::Expected),
-        Err(NumFault::TooLong) => Some(Fault::LiteralTooLong),
-        Err(NumFault::NotBinary) => Some(Fault::LiteralNotBinary),
+        Err(NumFault::NotNumber) => Some(TokenFault::Expected),
+        Err(NumFault::TooLong) => Some(TokenFault::LiteralTooLong),
+        Err(NumFault::NotBinary) => Some(TokenFault::LiteralNotBinary),
     }
 }
 
@@ -51,7 +51,7 @@ fn short_bits(bits: Option<u32>) -> Option<u8>
 }
 
 /// The literal of a number's parts, or what is wrong with the number.
-fn literal_told(parts: Numeral<'_>) -> Result<LitText, Fault>
+fn literal_told(parts: Numeral<'_>) -> Result<LitText, TokenFault>
     requires whole { AllPass is_ascii_digit parts.whole.now }
     requires behind { AllPass is_ascii_digit parts.behind.now }
     requires bits { IfSome parts.bits (λ b. b ≤ PLACES_LIMIT) }
@@ -61,7 +61,7 @@ fn literal_told(parts: Numeral<'_>) -> Result<LitText, Fault>
         (spec.lit_told parts.entry.whole.now parts.entry.behind.now parts.entry.bits) }
 {
     if parts.whole.len() + parts.behind.len() > DIGIT_LIMIT {
-        return Err(Fault::LiteralTooLong);
+        return Err(TokenFault::LiteralTooLong);
     }
     let units = value_after(value_after(0, parts.whole), parts.behind);
     let places = parts.behind.len() as u32;
@@ -78,24 +78,24 @@ fn literal_told(parts: Numeral<'_>) -> Result<LitText, Fault>
 
 /// The literal that a text spells, or what is wrong with its number.
 #[tactic(auto, unfolding(fixed_point::specs::Reading::number_read))]
-fn literal_of(text: &[u8]) -> Result<LitText, Fault>
+fn literal_of(text: &[u8]) -> Result<LitText, TokenFault>
     ensures { result ≡ spec.or_fault (words.fault_of_number (number_read text.now))
         (words.lit_of text.now) }
 {
     match split_number(text) {
         Some(parts) => literal_told(parts),
-        None => Err(Fault::Expected),
+        None => Err(TokenFault::Expected),
     }
 }
 
 impl<'t, 'a> Reader<'t, 'a> {
     /// The literal that the token at hand spells, or the fault of the token.
-    fn literal_at_hand(&self) -> Result<LitText, Fault>
+    fn literal_at_hand(&self) -> Result<LitText, TokenFault>
         ensures { result ≡ spec.first_literal (lexemes self.now.rest.now) }
     {
         match self.rest {
             [token, ..] if self.is_at(Kind::Number) => literal_of(token.text),
-            _ => Err(Fault::Expected),
+            _ => Err(TokenFault::Expected),
         }
     }
 

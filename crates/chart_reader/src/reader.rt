@@ -9,7 +9,7 @@ ghost use Rattle.chart_reader.specs.Parts as parts;
 use crate::counts::Counts;
 use crate::group::Group;
 use std::alloc::Global;
-use token_grammar::{Cursor, Fault, Kind, ReadError, Token};
+use token_grammar::{Cursor, Kind, ReadError, Token, TokenFault};
 
 /// Reads the tokens of a chart text. It never moves past the token at which it stops.
 #[derive(Drop)]
@@ -63,7 +63,7 @@ impl<'t, 'a> Reader<'t, 'a> {
         if self.is_at(kind) {
             Ok(self.take())
         } else {
-            Err(ReadError::Fault(Fault::Expected))
+            Err(ReadError::Fault(TokenFault::Expected))
         }
     }
 
@@ -86,7 +86,7 @@ impl<'t, 'a> Reader<'t, 'a> {
         if self.is_at_one_of(group) {
             Ok(self.take())
         } else {
-            Err(ReadError::Fault(Fault::Expected))
+            Err(ReadError::Fault(TokenFault::Expected))
         }
     }
 
@@ -94,7 +94,7 @@ impl<'t, 'a> Reader<'t, 'a> {
     pub fn allowed_token(
         &mut self,
         kind: Kind,
-        refused: Option<Fault>,
+        refused: Option<TokenFault>,
     ) -> Result<Token<'a>, ReadError>
         ensures read { Gives lexeme result (lexemes self.new.rest.now)
             ((allowed (is kind) (λ t. refused) (token kind)).reads
@@ -104,7 +104,7 @@ impl<'t, 'a> Reader<'t, 'a> {
         match refused {
             None => self.token(kind),
             Some(fault) if self.is_at(kind) => Err(ReadError::Fault(fault)),
-            Some(_) => Err(ReadError::Fault(Fault::Expected)),
+            Some(_) => Err(ReadError::Fault(TokenFault::Expected)),
         }
     }
 
@@ -112,7 +112,7 @@ impl<'t, 'a> Reader<'t, 'a> {
     pub fn allowed_one_of(
         &mut self,
         group: Group,
-        refused: Option<Fault>,
+        refused: Option<TokenFault>,
     ) -> Result<Token<'a>, ReadError>
         ensures read { Gives lexeme result (lexemes self.new.rest.now)
             ((allowed (set_of group) (λ t. refused) (one_of (set_of group))).reads
@@ -122,7 +122,7 @@ impl<'t, 'a> Reader<'t, 'a> {
         match refused {
             None => self.one_of(group),
             Some(fault) if self.is_at_one_of(group) => Err(ReadError::Fault(fault)),
-            Some(_) => Err(ReadError::Fault(Fault::Expected)),
+            Some(_) => Err(ReadError::Fault(TokenFault::Expected)),
         }
     }
 }

@@ -11,7 +11,7 @@ use crate::group::Group;
 use crate::lists::Lists;
 use crate::reader::Reader;
 use chart_tree::{ChartText, CompText, StateText};
-use token_grammar::{Fault, Kind, ReadError};
+use token_grammar::{Kind, ReadError, TokenFault};
 
 impl<'t, 'a> Reader<'t, 'a> {
     /// `or` or `and`.
@@ -49,9 +49,9 @@ impl<'t, 'a> Reader<'t, 'a> {
             ((states.no_state (counts_of self.old.counts)).reads (lexemes self.old.rest.now)) }
     {
         if self.is_at(Kind::State) {
-            Err(ReadError::Fault(Fault::NestTooDeep))
+            Err(ReadError::Fault(TokenFault::NestTooDeep))
         } else {
-            Err(ReadError::Fault(Fault::Expected))
+            Err(ReadError::Fault(TokenFault::Expected))
         }
     }
 

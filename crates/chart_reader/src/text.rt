@@ -18,7 +18,7 @@ use crate::reader::Reader;
 use chart_lexer::{Stop, lex};
 use chart_tree::{CHART_TEXT_LIMIT, ChartText, FormFault, FormKind};
 use std::alloc::{AllocError, Global};
-use token_grammar::{Fault, Kind, ReadError, Span, Token};
+use token_grammar::{Kind, ReadError, Span, Token, TokenFault};
 
 impl<'t, 'a> Reader<'t, 'a> {
     /// A chart, and then the end.
@@ -29,7 +29,7 @@ impl<'t, 'a> Reader<'t, 'a> {
         let chart = self.chart()?;
         match self.rest {
             [] => Ok(chart),
-            [_, ..] => Err(ReadError::Fault(Fault::Expected)),
+            [_, ..] => Err(ReadError::Fault(TokenFault::Expected)),
         }
     }
 }
@@ -47,7 +47,7 @@ fn end_kind(stop: Stop) -> FormKind
 
 /// A fault of reading at the first token that is left; where none is left, the fault of what stands
 /// after the last token.
-fn fault_at(fault: Fault, rest: &[Token<'_>], stop: Stop, end: Span) -> FormFault
+fn fault_at(fault: TokenFault, rest: &[Token<'_>], stop: Stop, end: Span) -> FormFault
     ensures { result ≡ spec.fault_at fault (lexemes rest.now) stop end }
 {
     match rest {

@@ -15,7 +15,7 @@ use crate::group::Group;
 use crate::reader::Reader;
 use chart_tree::{DestText, GuardText, NameText, StmtText, TransText};
 use flow_base::List;
-use token_grammar::{Fault, Kind, ReadError, Span, Token};
+use token_grammar::{Kind, ReadError, Span, Token, TokenFault};
 
 impl<'t, 'a> Reader<'t, 'a> {
     #[tactic(auto, unfolding(chart_grammar::specs::Transitions::to_junction))]
@@ -215,7 +215,7 @@ impl<'t, 'a> Reader<'t, 'a> {
         match self.counts.transition_refused() {
             None => self.one_trans(),
             Some(fault) if self.is_at_one_of(Group::Transitions) => Err(ReadError::Fault(fault)),
-            Some(_) => Err(ReadError::Fault(Fault::Expected)),
+            Some(_) => Err(ReadError::Fault(TokenFault::Expected)),
         }
     }
 

@@ -10,7 +10,7 @@ use crate::group::Group;
 use crate::reader::Reader;
 use chart_tree::SortText;
 use fixed_point::{Mode, Scale, split_digits};
-use token_grammar::{Fault, Kind, ReadError};
+use token_grammar::{Kind, ReadError, TokenFault};
 
 /// The type that a word names.
 #[derive(Clone, Copy, Debug)]
@@ -164,7 +164,7 @@ impl<'t, 'a> Reader<'t, 'a> {
                 self.token(Kind::Name)?;
                 Ok(name)
             }
-            None => Err(ReadError::Fault(Fault::Expected)),
+            None => Err(ReadError::Fault(TokenFault::Expected)),
         }
     }
 

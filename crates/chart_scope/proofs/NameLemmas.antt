@@ -6,7 +6,7 @@ use Rattle.active_config.specs.Tree.{Tree}
 use Rattle.chart_tree.specs.declared.chart.ChartText.{ChartText}
 use Rattle.chart_tree.specs.declared.chart.EventText.{EventText}
 use Rattle.chart_tree.specs.declared.chart.VarText.{VarText}
-use Rattle.chart_tree.specs.declared.first.Found.{Found}
+use Rattle.chart_tree.specs.declared.first.FaultAt.{FaultAt}
 use Rattle.chart_tree.specs.declared.name.NameText.{NameText}
 use Rattle.chart_tree.specs.First.{kept, is_before}
 use Rattle.chart_tree.specs.Trees.{Chart, Var}
@@ -24,7 +24,7 @@ use Rattle.chart_scope.specs.Names.{used_in_states, used_in_junctions}
 -- ---- all faults
 
 -- the first of the faults of six parts
-six_found : (o a b d e f g : Option Found) (xs bs ds es fs gs : List Found) → a ≡ first_with o xs → b ≡ first_with a bs
+six_found : (o a b d e f g : Option FaultAt) (xs bs ds es fs gs : List FaultAt) → a ≡ first_with o xs → b ≡ first_with a bs
     → d ≡ first_with b ds → e ≡ first_with d es → f ≡ first_with e fs → g ≡ first_with f gs
     → g ≡ first_with o (xs ++ bs ++ ds ++ es ++ fs ++ gs)
 six_found o a b d e f g xs bs ds es fs gs ea eb ed ee ef eg =
@@ -36,7 +36,7 @@ six_found o a b d e f g xs bs ds es fs gs ea eb ed ee ef eg =
     cc
 
 -- the faults of a chart part by part are all of them
-all_found : (c : Chart) (p : Scopes) (a b d e f g : Option Found) → p ≡ scopes_of c
+all_found : (c : Chart) (p : Scopes) (a b d e f g : Option FaultAt) → p ≡ scopes_of c
     → a ≡ first_with None (doubled_events p 0 p.events)
     → b ≡ first_with a (doubled_vars p 0 p.vars)
     → d ≡ first_with b (doubled_states p 0 p.states)
@@ -76,7 +76,7 @@ module _ (c : ChartText) (p : Scopes) (is : p ≡ scopes_of (chart_of c)) where
 
   -- the first fault, part by part
   pub chart_found : (es : List EventText) (vs : List VarText) (xs : List PlacedState) (js : List OwnedJunction)
-      (a b d e f g : Option Found) → es ≡ items_of c.events → vs ≡ items_of c.vars
+      (a b d e f g : Option FaultAt) → es ≡ items_of c.events → vs ≡ items_of c.vars
       → map placed_of xs ≡ placed_states (chart_of c).root
       → map owned_of js ≡ placed_junctions (placed_states (chart_of c).root)
       → a ≡ first_with None (doubled_events p 0 (map (λ (e : EventText). e.name) es))

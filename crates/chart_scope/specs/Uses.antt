@@ -3,7 +3,7 @@ use Rattle.std.specs.Prelude.{ℕ, List, [], ◌∷◌, ◌++◌, map, Option, S
 use Rattle.std.specs.List.{flat_map}
 use Rattle.token_grammar.specs.declared.token.Span.{Span}
 use Rattle.chart_tree.specs.declared.fault.FormKind.TheVariants as kinds
-use Rattle.chart_tree.specs.declared.first.Found.{Found}
+use Rattle.chart_tree.specs.declared.first.FaultAt.{FaultAt}
 use Rattle.chart_tree.specs.declared.name.NameText.{NameText}
 use Rattle.chart_tree.specs.First.{at_place}
 use Rattle.chart_tree.specs.Trees.{Path, Expr, Lit, Flag, Name, Active, Unary, Binary, Stmt, Assign, Send, Emit}
@@ -17,24 +17,24 @@ use Rattle.resolved_tree.specs.Resolved as resolved
 -- ---- one name
 
 -- a name where an event is wanted: none is declared with it, or a datum is
-abbrev pub event_faults : Option Meaning → Span → List Found
+abbrev pub event_faults : Option Meaning → Span → List FaultAt
 event_faults None at = at_place kinds.UnknownName at ∷ []
 event_faults (Some (Event e)) at = []
 event_faults (Some (Datum v)) at = at_place kinds.WrongKind at ∷ []
 
 -- a name where a datum is wanted: none is declared with it, or an event is
-abbrev pub datum_faults : Option Meaning → Span → List Found
+abbrev pub datum_faults : Option Meaning → Span → List FaultAt
 datum_faults None at = at_place kinds.UnknownName at ∷ []
 datum_faults (Some (Event e)) at = at_place kinds.WrongKind at ∷ []
 datum_faults (Some (Datum v)) at = []
 
 -- a path: a name of it isn't found, at that name
-abbrev pub state_faults : Result ℕ Span → List Found
+abbrev pub state_faults : Result ℕ Span → List FaultAt
 state_faults (Ok s) = []
 state_faults (Err at) = at_place kinds.UnknownName at ∷ []
 
 -- a name where a junction is wanted: none is found
-abbrev pub junction_faults : Option ℕ → Span → List Found
+abbrev pub junction_faults : Option ℕ → Span → List FaultAt
 junction_faults None at = at_place kinds.UnknownName at ∷ []
 junction_faults (Some j) at = []
 
@@ -124,7 +124,7 @@ resolved_trans p s t = record {
 -- ---- the faults of the names in a part of the text
 
 -- those of an expression
-abbrev pub expr_faults : Scopes → ℕ → Expr → List Found
+abbrev pub expr_faults : Scopes → ℕ → Expr → List FaultAt
 expr_faults p s (Lit lit at) = []
 expr_faults p s (Flag value at) = []
 expr_faults p s (Name name) = datum_faults (meaning_of p name.text) name.at
@@ -133,41 +133,41 @@ expr_faults p s (Unary word e at) = expr_faults p s e
 expr_faults p s (Binary word l r at) = expr_faults p s l ++ expr_faults p s r
 
 -- those of the path to which an event is sent
-abbrev pub target_faults : Scopes → ℕ → Option Path → List Found
+abbrev pub target_faults : Scopes → ℕ → Option Path → List FaultAt
 target_faults p s None = []
 target_faults p s (Some path) = state_faults (state_at p s path)
 
 -- those of a statement
-abbrev pub stmt_faults : Scopes → ℕ → Stmt → List Found
+abbrev pub stmt_faults : Scopes → ℕ → Stmt → List FaultAt
 stmt_faults p s (Assign name value) = datum_faults (meaning_of p name.text) name.at ++ expr_faults p s value
 stmt_faults p s (Send name path) = event_faults (meaning_of p name.text) name.at ++ target_faults p s path
 stmt_faults p s (Emit name) = event_faults (meaning_of p name.text) name.at
 
 -- those of a block
-abbrev pub block_faults : Scopes → ℕ → List Stmt → List Found
+abbrev pub block_faults : Scopes → ℕ → List Stmt → List FaultAt
 block_faults p s stmts = flat_map (stmt_faults p s) stmts
 
 -- those of a trigger
-abbrev pub trigger_faults : Scopes → Option NameText → List Found
+abbrev pub trigger_faults : Scopes → Option NameText → List FaultAt
 trigger_faults p None = []
 trigger_faults p (Some name) = event_faults (meaning_of p name.text) name.at
 
 -- those of a guard
-abbrev pub guard_faults : Scopes → ℕ → Option Guard → List Found
+abbrev pub guard_faults : Scopes → ℕ → Option Guard → List FaultAt
 guard_faults p s None = []
 guard_faults p s (Some g) = expr_faults p s g.expr
 
 -- those of a destination
-abbrev pub dest_faults : Scopes → ℕ → Dest → List Found
+abbrev pub dest_faults : Scopes → ℕ → Dest → List FaultAt
 dest_faults p s (ToState path) = state_faults (state_at p s path)
 dest_faults p s (ToJunction name) = junction_faults (junction_at p s name.text) name.at
 
 -- those of a transition
-abbrev pub trans_faults : Scopes → ℕ → Trans → List Found
+abbrev pub trans_faults : Scopes → ℕ → Trans → List FaultAt
 trans_faults p s t =
     trigger_faults p t.event ++ guard_faults p s t.guard ++ block_faults p s t.cond ++ block_faults p s t.act
     ++ dest_faults p s t.dest
 
 -- those of a list of transitions
-abbrev pub list_faults : Scopes → ℕ → List Trans → List Found
+abbrev pub list_faults : Scopes → ℕ → List Trans → List FaultAt
 list_faults p s ts = flat_map (trans_faults p s) ts

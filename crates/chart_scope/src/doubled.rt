@@ -15,11 +15,11 @@ ghost use Rattle.chart_scope.specs.Names as spec;
 
 use crate::references::note;
 use chart_places::{Meaning, OwnedJunction, PlacedState, Scopes};
-use chart_tree::{EventText, FormKind, Found, NameText, VarText};
+use chart_tree::{EventText, FaultAt, FormKind, NameText, VarText};
 
 /// Keeps the fault of a name that means another thing.
 #[tactic(auto, unfolding(resolved_tree::specs::Faults::first_with))]
-fn unless_own(own: bool, name: &NameText, found: &mut Option<Found>)
+fn unless_own(own: bool, name: &NameText, found: &mut Option<FaultAt>)
     ensures { found.new ≡ first_with found.old (spec.unless_own own name.now) }
 {
     if !own {
@@ -61,7 +61,7 @@ fn is_number(number: u32, one: Option<u32>) -> bool
 
 /// Keeps the first fault of events whose name an earlier event or datum has.
 #[tactic(auto, using(crate::proofs::FoundLemmas::found_steps))]
-pub(crate) fn with_events(scopes: &Scopes<'_>, events: &[EventText], found: &mut Option<Found>)
+pub(crate) fn with_events(scopes: &Scopes<'_>, events: &[EventText], found: &mut Option<FaultAt>)
     requires few { length events.now < 2 ^ 32 }
     ensures { found.new ≡ first_with found.old
         (spec.doubled_events scopes.now 0 (map (λ (e : EventText). e.name) events.now)) }
@@ -74,7 +74,7 @@ pub(crate) fn with_events(scopes: &Scopes<'_>, events: &[EventText], found: &mut
 
 /// Keeps the first fault of data whose name an earlier event or datum has.
 #[tactic(auto, using(crate::proofs::FoundLemmas::found_steps))]
-pub(crate) fn with_vars(scopes: &Scopes<'_>, vars: &[VarText], found: &mut Option<Found>)
+pub(crate) fn with_vars(scopes: &Scopes<'_>, vars: &[VarText], found: &mut Option<FaultAt>)
     requires few { length vars.now < 2 ^ 32 }
     ensures { found.new ≡ first_with found.old
         (spec.doubled_vars scopes.now 0 (map (λ (v : trees.Var). v.name) (map var_of vars.now))) }
@@ -87,7 +87,7 @@ pub(crate) fn with_vars(scopes: &Scopes<'_>, vars: &[VarText], found: &mut Optio
 
 /// Keeps the fault of a state whose name an earlier child of its parent has.
 #[tactic(auto, using(crate::proofs::FoundLemmas::found_steps))]
-fn with_state(scopes: &Scopes<'_>, state: u32, name: &NameText, found: &mut Option<Found>)
+fn with_state(scopes: &Scopes<'_>, state: u32, name: &NameText, found: &mut Option<FaultAt>)
     requires { state < state_count scopes.now.tree }
     ensures { found.new ≡ first_with found.old
         (spec.doubled_state scopes.now state (parent_of scopes.now.tree state) name.now) }
@@ -106,7 +106,7 @@ fn with_state(scopes: &Scopes<'_>, state: u32, name: &NameText, found: &mut Opti
 pub(crate) fn with_states(
     scopes: &Scopes<'_>,
     states: &[PlacedState<'_>],
-    found: &mut Option<Found>,
+    found: &mut Option<FaultAt>,
 )
     requires few { length states.now < 2 ^ 32 }
     requires all { length states.now ≡ state_count scopes.now.tree }
@@ -124,7 +124,7 @@ pub(crate) fn with_states(
 pub(crate) fn with_junctions(
     scopes: &Scopes<'_>,
     junctions: &[OwnedJunction<'_>],
-    found: &mut Option<Found>,
+    found: &mut Option<FaultAt>,
 )
     requires few { length junctions.now < 2 ^ 32 }
     requires owners { All (λ (o : OwnedJunction). o.owner < state_count scopes.now.tree)

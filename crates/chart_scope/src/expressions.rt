@@ -8,7 +8,7 @@ ghost use Rattle.chart_scope.specs.Uses as spec;
 
 use crate::references;
 use chart_places::Scopes;
-use chart_tree::{ExprText, Found};
+use chart_tree::{ExprText, FaultAt};
 use resolved_tree::ResolvedExpr;
 use std::alloc::{AllocError, Global};
 
@@ -19,7 +19,7 @@ pub(crate) fn expr(
     scopes: &Scopes<'_>,
     state: u32,
     text: &ExprText,
-    found: &mut Option<Found>,
+    found: &mut Option<FaultAt>,
 ) -> Result<ResolvedExpr, AllocError>
     requires state { state < state_count scopes.now.tree }
     ensures built { IfOk result (λ r. views.expr_of r

@@ -8,20 +8,20 @@ ghost use Rattle.resolved_tree.specs.Faults.{first_with};
 ghost use Rattle.chart_scope.specs.Uses as spec;
 
 use chart_places::{Meaning, Scopes};
-use chart_tree::{FormKind, Found, NameText, PathText, Span, keep};
+use chart_tree::{FaultAt, FormKind, NameText, PathText, Span, keep};
 use resolved_tree::Ref;
 
 /// Keeps a fault, where none that was found is before it.
 #[tactic(auto, unfolding(resolved_tree::specs::Faults::first_with))]
-pub(crate) fn note(found: &mut Option<Found>, kind: FormKind, at: Span)
+pub(crate) fn note(found: &mut Option<FaultAt>, kind: FormKind, at: Span)
     ensures { found.new ≡ first_with found.old (at_place kind at ∷ []) }
 {
-    *found = keep(*found, Found { kind, at });
+    *found = keep(*found, FaultAt { kind, at });
 }
 
 /// The datum that a name denotes.
 #[tactic(auto, unfolding(resolved_tree::specs::Faults::first_with))]
-pub(crate) fn datum(scopes: &Scopes<'_>, name: &NameText, found: &mut Option<Found>) -> Ref
+pub(crate) fn datum(scopes: &Scopes<'_>, name: &NameText, found: &mut Option<FaultAt>) -> Ref
     ensures built { result ≡ spec.declared_ref scopes.now name.now }
     ensures kept { found.new ≡ first_with found.old
         (spec.datum_faults (meaning_of scopes.now name.now.text) name.now.at) }
@@ -45,7 +45,7 @@ pub(crate) fn datum(scopes: &Scopes<'_>, name: &NameText, found: &mut Option<Fou
 
 /// The event that a name denotes.
 #[tactic(auto, unfolding(resolved_tree::specs::Faults::first_with))]
-pub(crate) fn event(scopes: &Scopes<'_>, name: &NameText, found: &mut Option<Found>) -> Ref
+pub(crate) fn event(scopes: &Scopes<'_>, name: &NameText, found: &mut Option<FaultAt>) -> Ref
     ensures built { result ≡ spec.declared_ref scopes.now name.now }
     ensures kept { found.new ≡ first_with found.old
         (spec.event_faults (meaning_of scopes.now name.now.text) name.now.at) }
@@ -83,7 +83,7 @@ pub(crate) fn state(
     scopes: &Scopes<'_>,
     state: u32,
     path: &PathText,
-    found: &mut Option<Found>,
+    found: &mut Option<FaultAt>,
 ) -> Ref
     requires state { state < state_count scopes.now.tree }
     ensures built { result ≡ spec.state_ref scopes.now state (path_of path.now) }
@@ -109,7 +109,7 @@ pub(crate) fn junction(
     scopes: &Scopes<'_>,
     state: u32,
     name: &NameText,
-    found: &mut Option<Found>,
+    found: &mut Option<FaultAt>,
 ) -> Ref
     requires state { state < state_count scopes.now.tree }
     ensures built { result ≡ spec.junction_ref scopes.now state name.now }

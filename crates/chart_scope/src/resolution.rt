@@ -15,7 +15,7 @@ use crate::doubled::{with_events, with_junctions, with_states, with_vars};
 use crate::{declarations, states};
 use actions::Names;
 use chart_places::{OwnedJunction, PlacedState, Scopes, junctions_of, shape_of, survey};
-use chart_tree::{ChartText, FormFault, Found};
+use chart_tree::{ChartText, FaultAt, FormFault};
 use flow_base::Memory;
 use resolved_tree::Resolved;
 use std::alloc::{AllocError, Global};
@@ -55,7 +55,7 @@ fn resolve_in(
     ensures resolved { IfOk result (λ r. IsResolved (chart_of chart.now) (resolved_of r)) }
     ensures refused { IfErr result (Refuses (chart_of chart.now)) }
 {
-    let mut found: Option<Found> = None;
+    let mut found: Option<FaultAt> = None;
     with_events(&scopes, chart.events.items(), &mut found);
     with_vars(&scopes, chart.vars.items(), &mut found);
     with_states(&scopes, states, &mut found);

@@ -11,7 +11,7 @@ ghost use Rattle.chart_scope.specs.Uses as spec;
 use crate::expressions::expr;
 use crate::references;
 use chart_places::Scopes;
-use chart_tree::{Found, PathText, StmtText};
+use chart_tree::{FaultAt, PathText, StmtText};
 use flow_base::List;
 use resolved_tree::{Ref, ResolvedStmt};
 use std::alloc::{AllocError, Global};
@@ -22,7 +22,7 @@ fn target(
     scopes: &Scopes<'_>,
     state: u32,
     path: &Option<PathText>,
-    found: &mut Option<Found>,
+    found: &mut Option<FaultAt>,
 ) -> Option<Ref>
     requires state { state < state_count scopes.now.tree }
     ensures built { result
@@ -43,7 +43,7 @@ fn stmt(
     scopes: &Scopes<'_>,
     state: u32,
     text: &StmtText,
-    found: &mut Option<Found>,
+    found: &mut Option<FaultAt>,
 ) -> Result<ResolvedStmt, AllocError>
     requires state { state < state_count scopes.now.tree }
     ensures built { IfOk result (λ r. views.stmt_of r
@@ -71,7 +71,7 @@ pub(crate) fn block(
     scopes: &Scopes<'_>,
     state: u32,
     stmts: &[StmtText],
-    found: &mut Option<Found>,
+    found: &mut Option<FaultAt>,
 ) -> Result<List<ResolvedStmt>, AllocError>
     requires state { state < state_count scopes.now.tree }
     ensures built { IfOk result (λ r. views.block_of (items_of r)

@@ -15,7 +15,7 @@ use crate::statements::block;
 use crate::transitions::list;
 use active_config::Comp;
 use chart_places::{OwnedJunction, PlacedState, Scopes};
-use chart_tree::{CompText, Found};
+use chart_tree::{CompText, FaultAt};
 use flow_base::List;
 use resolved_tree::{ResolvedJunction, ResolvedState};
 use std::alloc::{AllocError, Global};
@@ -45,7 +45,7 @@ fn state(
     scopes: &Scopes<'_>,
     number: u32,
     placed: &PlacedState<'_>,
-    found: &mut Option<Found>,
+    found: &mut Option<FaultAt>,
 ) -> Result<ResolvedState, AllocError>
     requires state { number < state_count scopes.now.tree }
     ensures built { IfOk result (λ r. views.state_of r
@@ -79,7 +79,7 @@ pub(crate) fn states(
     alloc: Global,
     scopes: &Scopes<'_>,
     states: &[PlacedState<'_>],
-    found: &mut Option<Found>,
+    found: &mut Option<FaultAt>,
 ) -> Result<List<ResolvedState>, AllocError>
     requires few { length states.now < 2 ^ 32 }
     requires all { length states.now ≡ state_count scopes.now.tree }
@@ -101,7 +101,7 @@ fn junction(
     alloc: Global,
     scopes: &Scopes<'_>,
     owned: &OwnedJunction<'_>,
-    found: &mut Option<Found>,
+    found: &mut Option<FaultAt>,
 ) -> Result<ResolvedJunction, AllocError>
     requires owner { owned.now.owner < state_count scopes.now.tree }
     ensures built { IfOk result (λ r. views.junction_of r
@@ -122,7 +122,7 @@ pub(crate) fn junctions(
     alloc: Global,
     scopes: &Scopes<'_>,
     junctions: &[OwnedJunction<'_>],
-    found: &mut Option<Found>,
+    found: &mut Option<FaultAt>,
 ) -> Result<List<ResolvedJunction>, AllocError>
     requires owners { All (λ (o : OwnedJunction). o.owner < state_count scopes.now.tree)
         junctions.now }

@@ -12,14 +12,14 @@ use crate::expressions::expr;
 use crate::references;
 use crate::statements::block;
 use chart_places::Scopes;
-use chart_tree::{DestText, Found, GuardText, NameText, TransText};
+use chart_tree::{DestText, FaultAt, GuardText, NameText, TransText};
 use flow_base::List;
 use resolved_tree::{Ref, ResolvedDest, ResolvedGuard, ResolvedTrans};
 use std::alloc::{AllocError, Global};
 
 /// The event that triggers a transition, where there is one.
 #[tactic(auto, unfolding(resolved_tree::specs::Faults::first_with))]
-fn trigger(scopes: &Scopes<'_>, name: &Option<NameText>, found: &mut Option<Found>) -> Option<Ref>
+fn trigger(scopes: &Scopes<'_>, name: &Option<NameText>, found: &mut Option<FaultAt>) -> Option<Ref>
     ensures built { result ≡ spec.resolved_trigger scopes.now name.now }
     ensures kept { found.new ≡ first_with found.old (spec.trigger_faults scopes.now name.now) }
 {
@@ -37,7 +37,7 @@ fn guard(
     scopes: &Scopes<'_>,
     state: u32,
     text: &Option<GuardText>,
-    found: &mut Option<Found>,
+    found: &mut Option<FaultAt>,
 ) -> Result<Option<ResolvedGuard>, AllocError>
     requires state { state < state_count scopes.now.tree }
     ensures built { IfOk result (λ r. option_map views.guard_of r
@@ -55,7 +55,12 @@ fn guard(
 }
 
 /// The destination of a transition that stands in a state.
-fn dest(scopes: &Scopes<'_>, state: u32, text: &DestText, found: &mut Option<Found>) -> ResolvedDest
+fn dest(
+    scopes: &Scopes<'_>,
+    state: u32,
+    text: &DestText,
+    found: &mut Option<FaultAt>,
+) -> ResolvedDest
     requires state { state < state_count scopes.now.tree }
     ensures built { result ≡ spec.resolved_dest scopes.now state (texts.dest_of text.now) }
     ensures kept { found.new ≡ first_with found.old
@@ -77,7 +82,7 @@ fn trans(
     scopes: &Scopes<'_>,
     state: u32,
     text: &TransText,
-    found: &mut Option<Found>,
+    found: &mut Option<FaultAt>,
 ) -> Result<ResolvedTrans, AllocError>
     requires state { state < state_count scopes.now.tree }
     ensures built { IfOk result (λ r. views.trans_of r
@@ -108,7 +113,7 @@ pub(crate) fn list(
     scopes: &Scopes<'_>,
     state: u32,
     list: &[TransText],
-    found: &mut Option<Found>,
+    found: &mut Option<FaultAt>,
 ) -> Result<List<ResolvedTrans>, AllocError>
     requires state { state < state_count scopes.now.tree }
     ensures built { IfOk result (λ r. views.list_of (items_of r)

@@ -10,7 +10,7 @@ use Rattle.active_config.specs.declared.comp.Comp.TheVariants.{Leaf, Or, And}
 use Rattle.active_config.specs.Tree.{state_count, is_below, is_at_or_below}
 use Rattle.chart_tree.specs.declared.fault.FormKind.{FormKind}
 use Rattle.chart_tree.specs.declared.fault.FormKind.TheVariants as kinds
-use Rattle.chart_tree.specs.declared.first.Found.{Found}
+use Rattle.chart_tree.specs.declared.first.FaultAt.{FaultAt}
 use Rattle.chart_tree.specs.First.{at_place, IsOne, Passed}
 use Rattle.checked_chart.specs.declared.parts.Dest.{Dest}
 use Rattle.checked_chart.specs.declared.parts.Dest.TheVariants.{State, Junction}
@@ -70,36 +70,36 @@ module _ (n : Net) (s : ℕ) (list : List Arrow) (a : Arrow) (d : ℕ) (l : Lead
 -- ---- all destinations of a list
 
 -- each destination's fault was passed
-abbrev pub DestsPassed : Net → ℕ → ListKind → List Arrow → Option Found → Type 0
+abbrev pub DestsPassed : Net → ℕ → ListKind → List Arrow → Option FaultAt → Type 0
 DestsPassed n s kind list r =
     (a : Arrow) (d : ℕ) (wrong : FormKind) → IsDestFault n s kind list a d wrong → Passed r (at_place wrong a.to_at)
 
 -- what is known when the first i transitions of a list were looked at
-pub record DestsSoFar (n : Net) (s : ℕ) (kind : ListKind) (list : List Arrow) (i : ℕ) (first kept : Option Found)
+pub record DestsSoFar (n : Net) (s : ℕ) (kind : ListKind) (list : List Arrow) (i : ℕ) (first kept : Option FaultAt)
     : Type 0 where
   pub one : IsOne (StructureFault n) kept
-  pub old : (f : Found) → Passed first f → Passed kept f
+  pub old : (f : FaultAt) → Passed first f → Passed kept f
   pub new : (k d : ℕ) (a : Arrow) (wrong : FormKind) → k < i → slice_get list k ≡ Some a → a.to ≡ State d
       → dest_fault n s kind d ≡ Some wrong → Passed kept (at_place wrong a.to_at)
 
 module _ (n : Net) (s : ℕ) (kind : ListKind) (list : List Arrow) where
-  pub dests_start : (first : Option Found) → IsOne (StructureFault n) first
+  pub dests_start : (first : Option FaultAt) → IsOne (StructureFault n) first
       → DestsSoFar n s kind list 0 first first
   dests_start first one = record { one = one; old = λ f h. h; new = λ k d a w lt. absurd (omega arith) }
 
-  with_dest_one : (to : Dest) (at : Span) (first : Option Found) → IsOne (StructureFault n) first
+  with_dest_one : (to : Dest) (at : Span) (first : Option FaultAt) → IsOne (StructureFault n) first
       → ((d : ℕ) (k : FormKind) → to ≡ State d → dest_fault n s kind d ≡ Some k → StructureFault n (at_place k at))
       → IsOne (StructureFault n) (with_dest n s kind to at first)
   with_dest_one (State d) at first one f =
       with_fault_one (StructureFault n) (dest_fault n s kind d) at first one (λ k e. f d k refl e)
   with_dest_one (Junction j) at first one f = one
 
-  with_dest_old : (to : Dest) (at : Span) (first : Option Found) (f : Found) → Passed first f
+  with_dest_old : (to : Dest) (at : Span) (first : Option FaultAt) (f : FaultAt) → Passed first f
       → Passed (with_dest n s kind to at first) f
   with_dest_old (State d) at first f h = with_fault_old (dest_fault n s kind d) at first f h
   with_dest_old (Junction j) at first f h = h
 
-  with_dest_new : (to : Dest) (at : Span) (first : Option Found) (d : ℕ) (k : FormKind) → to ≡ State d
+  with_dest_new : (to : Dest) (at : Span) (first : Option FaultAt) (d : ℕ) (k : FormKind) → to ≡ State d
       → dest_fault n s kind d ≡ Some k → Passed (with_dest n s kind to at first) (at_place k at)
   with_dest_new (State x) at first d k e f =
       let same : d ≡ x = cc in
@@ -107,7 +107,7 @@ module _ (n : Net) (s : ℕ) (kind : ListKind) (list : List Arrow) where
   with_dest_new (Junction x) at first d k e f = absurd cc
 
   -- one transition more
-  pub dests_more : (i : ℕ) (first kept next : Option Found) (x : Arrow) → DestsSoFar n s kind list i first kept
+  pub dests_more : (i : ℕ) (first kept next : Option FaultAt) (x : Arrow) → DestsSoFar n s kind list i first kept
       → s < state_count n.tree → Meets (links_of n) (list_of n s kind) list → slice_get list i ≡ Some x
       → next ≡ with_dest n s kind x.to x.to_at kept → DestsSoFar n s kind list (i + 1) first next
   dests_more i first kept next x so lt met is e = subst (DestsSoFar n s kind list (i + 1) first) (sym e) (record {
@@ -125,7 +125,7 @@ module _ (n : Net) (s : ℕ) (kind : ListKind) (list : List Arrow) where
   })
 
   -- at the end of the list each was passed
-  pub dests_all : (i : ℕ) (first kept : Option Found) → length list ≤ i → DestsSoFar n s kind list i first kept
+  pub dests_all : (i : ℕ) (first kept : Option FaultAt) → length list ≤ i → DestsSoFar n s kind list i first kept
       → DestsPassed n s kind list kept
   dests_all i first kept le so a d wrong f =
       let lt = slice_get_within list f.leads.has.0 a f.leads.has.1 in

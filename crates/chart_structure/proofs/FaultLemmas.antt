@@ -10,7 +10,7 @@ use Rattle.active_config.specs.declared.comp.Comp.TheVariants.{Leaf, Or, And}
 use Rattle.active_config.specs.Tree.{state_count, children_of, is_below, is_at_or_below}
 use Rattle.chart_tree.specs.declared.fault.FormKind.{FormKind}
 use Rattle.chart_tree.specs.declared.fault.FormKind.TheVariants as kinds
-use Rattle.chart_tree.specs.declared.first.Found.{Found}
+use Rattle.chart_tree.specs.declared.first.FaultAt.{FaultAt}
 use Rattle.chart_tree.specs.First.{at_place}
 use Rattle.checked_chart.specs.declared.parts.Dest.TheVariants.{State}
 use Rattle.checked_chart.specs.declared.parts.ListKind.{ListKind}
@@ -58,47 +58,47 @@ same_number a b = elim (cases_eq a b) [ inl e ↦ inl e | inr ne ↦ inr ne ]
 module _ (n : Net) (s : ℕ) where
   -- ---- the faults of a state
 
-  abbrev AtName : Found → Type 0
+  abbrev AtName : FaultAt → Type 0
   AtName f = f ≡ at_place kinds.EmptyComposition (name_of n s)
 
-  abbrev NoStates : Found → Type 0
+  abbrev NoStates : FaultAt → Type 0
   NoStates f = ((word_of n s ≢ Leaf) × (children_of n.tree s ≡ [])) × AtName f
 
-  abbrev NoChart : Found → Type 0
+  abbrev NoChart : FaultAt → Type 0
   NoChart f = ((s ≡ 0) × (children_of n.tree s ≡ [])) × AtName f
 
-  abbrev NoDefault : Found → Type 0
+  abbrev NoDefault : FaultAt → Type 0
   NoDefault f = ((word_of n s ≡ Or) × ((children_of n.tree s ≢ []) × (list_of n s Default ≡ [])))
       × (f ≡ at_place kinds.DefaultMissing (name_of n s))
 
-  abbrev OneDefault : Found → Type 0
+  abbrev OneDefault : FaultAt → Type 0
   OneDefault f = (word_of n s ≢ Or)
       × ((a : Arrow) × (slice_get (list_of n s Default) 0 ≡ Some a) × (f ≡ at_place kinds.DefaultUnwanted a.at))
 
-  abbrev OneHistory : Found → Type 0
+  abbrev OneHistory : FaultAt → Type 0
   OneHistory f = (word_of n s ≢ Or)
       × ((at : Span) × (history_of n s ≡ Some at) × (f ≡ at_place kinds.HistoryUnwanted at))
 
-  abbrev Others : Found → Type 0
+  abbrev Others : FaultAt → Type 0
   Others f = OneDefault f ⊎ OneHistory f
 
-  abbrev Defaults : Found → Type 0
+  abbrev Defaults : FaultAt → Type 0
   Defaults f = NoDefault f ⊎ Others f
 
-  abbrev Charts : Found → Type 0
+  abbrev Charts : FaultAt → Type 0
   Charts f = NoChart f ⊎ Defaults f
 
-  abbrev OwnCase : Found → Type 0
+  abbrev OwnCase : FaultAt → Type 0
   OwnCase f = NoStates f ⊎ Charts f
 
-  own_case : (f : Found) → StateFault n s f → OwnCase f
+  own_case : (f : FaultAt) → StateFault n s f → OwnCase f
   own_case _ (EmptyState word none) = inl ((word, none), refl)
   own_case _ (EmptyChart root none) = inr (inl ((root, none), refl))
   own_case _ (Missing word some none) = inr (inr (inl ((word, (some, none)), refl)))
   own_case _ (Unwanted a word is) = inr (inr (inr (inl (word, (a, is, refl)))))
   own_case _ (UnwantedHistory at word is) = inr (inr (inr (inr (word, (at, is, refl)))))
 
-  own_fault : (f : Found) → OwnCase f → StateFault n s f
+  own_fault : (f : FaultAt) → OwnCase f → StateFault n s f
   own_fault f (inl h) = subst (StateFault n s) (sym h.1) (EmptyState h.0.0 h.0.1)
   own_fault f (inr (inl h)) = subst (StateFault n s) (sym h.1) (EmptyChart h.0.0 h.0.1)
   own_fault f (inr (inr (inl h))) = subst (StateFault n s) (sym h.1) (Missing h.0.0 h.0.1.0 h.0.1.1)
@@ -159,10 +159,10 @@ module _ (n : Net) (s : ℕ) where
 
   module _ (list : List Arrow) where
     -- its last transition is open
-    abbrev IsOpen : ℕ → Arrow → Found → Type 0
+    abbrev IsOpen : ℕ → Arrow → FaultAt → Type 0
     IsOpen i a f = ((i + 1 ≡ length list) × (a.«open» ≡ true)) × (f ≡ at_place kinds.DefaultOpen a.at)
 
-    abbrev Opens : Found → Type 0
+    abbrev Opens : FaultAt → Type 0
     Opens f = (i : ℕ) × (i < length list) × ((a : Arrow) × (slice_get list i ≡ Some a) × IsOpen i a f)
 
     opens : HasFirst Opens
@@ -172,10 +172,10 @@ module _ (n : Net) (s : ℕ) where
         (of_one (at_place kinds.DefaultOpen a.at)))
 
     -- a transition leads to a state for which something holds
-    abbrev LeadsFor : (ℕ → Type 0) → FormKind → Arrow → ℕ → Found → Type 0
+    abbrev LeadsFor : (ℕ → Type 0) → FormKind → Arrow → ℕ → FaultAt → Type 0
     LeadsFor C kind a d f = C d × (f ≡ at_place kind a.to_at)
 
-    abbrev Leading : (ℕ → Type 0) → FormKind → Found → Type 0
+    abbrev Leading : (ℕ → Type 0) → FormKind → FaultAt → Type 0
     Leading C kind f = (i : ℕ) × (i < length list)
         × ((a : Arrow) × (slice_get list i ≡ Some a) × ((d : ℕ) × (a.to ≡ State d) × LeadsFor C kind a d f))
 
@@ -203,12 +203,12 @@ module _ (n : Net) (s : ℕ) where
     abbrev StaysCrossing : ℕ → Type 0
     StaysCrossing d = (is_at_or_below n.tree d s ≡ true) × CrossesFrom Inner d
 
-    abbrev ListCase : ListKind → Found → Type 0
+    abbrev ListCase : ListKind → FaultAt → Type 0
     ListCase Outer f = Leading (CrossesFrom Outer) kinds.CrossesRegions f
     ListCase Inner f = Leading LeavesState kinds.InnerLeaves f ⊎ Leading StaysCrossing kinds.CrossesRegions f
     ListCase Default f = Opens f ⊎ Leading LeavesStates kinds.DefaultLeaves f
 
-    list_case : (kind : ListKind) (f : Found) → ListFault n s list kind f → ListCase kind f
+    list_case : (kind : ListKind) (f : FaultAt) → ListFault n s list kind f → ListCase kind f
     list_case _ _ (Open a last on) =
         let end = last.1 in inl (last.0, omega arith, (a, last.2, ((last.1, on), refl)))
     list_case _ _ (LeavesDefault a d l off) = inr (led LeavesStates kinds.DefaultLeaves a d l off)
@@ -216,7 +216,7 @@ module _ (n : Net) (s : ℕ) where
     list_case _ _ (CrossesInner a d l on ne) = inr (led StaysCrossing kinds.CrossesRegions a d l (on, ne))
     list_case _ _ (CrossesOuter a d l ne) = led (CrossesFrom Outer) kinds.CrossesRegions a d l ne
 
-    list_fault : (kind : ListKind) (f : Found) → ListCase kind f → ListFault n s list kind f
+    list_fault : (kind : ListKind) (f : FaultAt) → ListCase kind f → ListFault n s list kind f
     list_fault Outer f h =
         subst (ListFault n s list Outer) (sym h.2.2.2.1)
         (CrossesOuter h.2.0 h.2.2.0 (record { has = (h.0, h.2.1); to = h.2.2.1 }) h.2.2.2.0)
@@ -272,21 +272,21 @@ module _ (n : Net) (net : IsNet n) where
 
   -- ---- the faults of the lists that are met from a list of a state
 
-  abbrev AtReached : ℕ → ListKind → ℕ → Found → Type 0
+  abbrev AtReached : ℕ → ListKind → ℕ → FaultAt → Type 0
   AtReached s kind j f = Reached (links_of n) (list_of n s kind) j × ListFault n s (junction_list n j) kind f
 
-  abbrev AtJunctions : ℕ → ListKind → Found → Type 0
+  abbrev AtJunctions : ℕ → ListKind → FaultAt → Type 0
   AtJunctions s kind f = (j : ℕ) × (j < junction_count n) × AtReached s kind j f
 
-  abbrev KindCase : ℕ → ListKind → Found → Type 0
+  abbrev KindCase : ℕ → ListKind → FaultAt → Type 0
   KindCase s kind f = ListFault n s (list_of n s kind) kind f ⊎ AtJunctions s kind f
 
-  kind_case : (s : ℕ) (kind : ListKind) (list : List Arrow) (f : Found) → Meets (links_of n) (list_of n s kind) list
+  kind_case : (s : ℕ) (kind : ListKind) (list : List Arrow) (f : FaultAt) → Meets (links_of n) (list_of n s kind) list
       → ListFault n s list kind f → KindCase s kind f
   kind_case s kind _ f Itself h = inl h
   kind_case s kind _ f (AtJunction j r) h = inr (j, reached_within s kind j r, (r, h))
 
-  kind_fault : (s : ℕ) (kind : ListKind) (f : Found) → s < state_count n.tree → KindCase s kind f → StructureFault n f
+  kind_fault : (s : ℕ) (kind : ListKind) (f : FaultAt) → s < state_count n.tree → KindCase s kind f → StructureFault n f
   kind_fault s kind f lt (inl h) = OfList s kind (list_of n s kind) f lt Itself h
   kind_fault s kind f lt (inr h) = OfList s kind (junction_list n h.0) f lt (AtJunction h.0 h.2.0) h.2.1
 
@@ -300,11 +300,11 @@ module _ (n : Net) (net : IsNet n) where
 
   -- ---- empty junctions
 
-  abbrev IsEmptied : ℕ → ℕ → Found → Type 0
+  abbrev IsEmptied : ℕ → ℕ → FaultAt → Type 0
   IsEmptied s j f = (Reached (links_of n) (list_of n s Default) j × (junction_list n j ≡ []))
       × (f ≡ at_place kinds.DefaultOpen (junction_name n j))
 
-  abbrev Emptied : ℕ → Found → Type 0
+  abbrev Emptied : ℕ → FaultAt → Type 0
   Emptied s f = (j : ℕ) × (j < junction_count n) × IsEmptied s j f
 
   emptied : (s : ℕ) → HasFirst (Emptied s)
@@ -319,33 +319,33 @@ module _ (n : Net) (net : IsNet n) where
 
   -- ---- all faults
 
-  abbrev Lasts : ℕ → Found → Type 0
+  abbrev Lasts : ℕ → FaultAt → Type 0
   Lasts s f = KindCase s Default f ⊎ Emptied s f
 
-  abbrev Inners : ℕ → Found → Type 0
+  abbrev Inners : ℕ → FaultAt → Type 0
   Inners s f = KindCase s Inner f ⊎ Lasts s f
 
-  abbrev Lists : ℕ → Found → Type 0
+  abbrev Lists : ℕ → FaultAt → Type 0
   Lists s f = KindCase s Outer f ⊎ Inners s f
 
-  abbrev StateCase : ℕ → Found → Type 0
+  abbrev StateCase : ℕ → FaultAt → Type 0
   StateCase s f = StateFault n s f ⊎ Lists s f
 
-  of_kind : (s : ℕ) (kind : ListKind) (f : Found) → KindCase s kind f → Lists s f
+  of_kind : (s : ℕ) (kind : ListKind) (f : FaultAt) → KindCase s kind f → Lists s f
   of_kind s Outer f h = inl h
   of_kind s Inner f h = inr (inl h)
   of_kind s Default f h = inr (inr (inl h))
 
-  abbrev NetCase : Found → Type 0
+  abbrev NetCase : FaultAt → Type 0
   NetCase f = (s : ℕ) × (s < state_count n.tree) × StateCase s f
 
-  net_case : (f : Found) → StructureFault n f → NetCase f
+  net_case : (f : FaultAt) → StructureFault n f → NetCase f
   net_case f (OfState s _ lt h) = (s, lt, inl h)
   net_case f (OfList s kind list _ lt m h) = (s, lt, inr (of_kind s kind f (kind_case s kind list f m h)))
   net_case _ (OfEmpty s j lt r none) =
       (s, lt, inr (inr (inr (inr (j, reached_within s Default j r, ((r, none), refl))))))
 
-  state_fault : (s : ℕ) (f : Found) → s < state_count n.tree → StateCase s f → StructureFault n f
+  state_fault : (s : ℕ) (f : FaultAt) → s < state_count n.tree → StateCase s f → StructureFault n f
   state_fault s f lt (inl h) = OfState s f lt h
   state_fault s f lt (inr (inl h)) = kind_fault s Outer f lt h
   state_fault s f lt (inr (inr (inl h))) = kind_fault s Inner f lt h

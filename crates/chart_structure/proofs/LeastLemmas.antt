@@ -61,8 +61,8 @@ module _ (n : ℕ) (first : ℕ → Bool) (next : ℕ → ℕ → Bool) (P : ℕ
     pub goes_on : (k j : ℕ) → within k ≡ true → next k j ≡ true → within j ≡ true
 
   -- what is in a set has P
-  abbrev IsSound : (ℕ → Bool) → Type 0
-  IsSound s = (j : ℕ) → s j ≡ true → P j
+  abbrev HoldsOnSet : (ℕ → Bool) → Type 0
+  HoldsOnSet s = (j : ℕ) → s j ≡ true → P j
 
   -- the first numbers, and those to which a number of the set leads
   abbrev brings : (ℕ → Bool) → ℕ → Bool
@@ -75,13 +75,13 @@ module _ (n : ℕ) (first : ℕ → Bool) (next : ℕ → ℕ → Bool) (P : ℕ
   -- a set with one number more, all of which have P
   record Heavier (s : ℕ → Bool) : Type 0 where
     set : ℕ → Bool
-    sound : IsSound set
+    sound : HoldsOnSet set
     heavier : weight set (λ _. 1) n ≡ weight s (λ _. 1) n + 1
 
   module _ (starts : (j : ℕ) → first j ≡ true → P j) (on : (k j : ℕ) → P k → next k j ≡ true → P j)
       (low : (k j : ℕ) → next k j ≡ true → k < n) where
     -- what a set brings has P
-    brings_sound : (s : ℕ → Bool) → IsSound s → (j : ℕ) → brings s j ≡ true → P j
+    brings_sound : (s : ℕ → Bool) → HoldsOnSet s → (j : ℕ) → brings s j ≡ true → P j
     brings_sound s h j e = at (first j) refl e
       where
         at : (b : Bool) → first j ≡ b → (b || any_below (λ k. s k && next k j) n) ≡ true → P j
@@ -98,7 +98,7 @@ module _ (n : ℕ) (first : ℕ → Bool) (next : ℕ → ℕ → Bool) (P : ℕ
         (k, lt, and_from (not (s k)) (brings s k) (not_from_false (s k) off) b))
 
     -- then the set is the least one
-    settled : (s : ℕ → Bool) → IsSound s → any_below (new s) n ≡ false → Least
+    settled : (s : ℕ → Bool) → HoldsOnSet s → any_below (new s) n ≡ false → Least
     settled s h none = record {
       within = brings s;
       sound = brings_sound s h;
@@ -110,7 +110,7 @@ module _ (n : ℕ) (first : ℕ → Bool) (next : ℕ → ℕ → Bool) (P : ℕ
     }
 
     -- what is new has P, and so the set with it
-    one_sound : (s : ℕ → Bool) → IsSound s → (j : ℕ) → P j → IsSound (with_one s j)
+    one_sound : (s : ℕ → Bool) → HoldsOnSet s → (j : ℕ) → P j → HoldsOnSet (with_one s j)
     one_sound s h j p i e = at (s i) refl e
       where
         at : (b : Bool) → s i ≡ b → (b || nat_eq i j) ≡ true → P i
@@ -118,7 +118,7 @@ module _ (n : ℕ) (first : ℕ → Bool) (next : ℕ → ℕ → Bool) (P : ℕ
         at false f e = subst P (sym (eq_is i j e)) p
 
     -- the set is the least one, or one number is new
-    step : (s : ℕ → Bool) → IsSound s → Least ⊎ Heavier s
+    step : (s : ℕ → Bool) → HoldsOnSet s → Least ⊎ Heavier s
     step s h = at (any_below (new s) n) refl
       where
         at : (b : Bool) → any_below (new s) n ≡ b → Least ⊎ Heavier s
@@ -133,7 +133,7 @@ module _ (n : ℕ) (first : ℕ → Bool) (next : ℕ → ℕ → Bool) (P : ℕ
         at false e = inl (settled s h e)
 
     -- from a set on to which so many numbers can be added
-    grown : (room : ℕ) (s : ℕ → Bool) → IsSound s → n ≤ room + weight s (λ _. 1) n → Least
+    grown : (room : ℕ) (s : ℕ → Bool) → HoldsOnSet s → n ≤ room + weight s (λ _. 1) n → Least
     grown zero s h enough = ended (step s h)
       where
         ended : Least ⊎ Heavier s → Least
@@ -141,7 +141,7 @@ module _ (n : ℕ) (first : ℕ → Bool) (next : ℕ → ℕ → Bool) (P : ℕ
         ended (inr more) = absurd (omega (arith, more.heavier, weight_ones more.set n))
     grown (suc room) s h enough = went (step s h) (λ s' h' enough'. grown room s' h' enough')
       where
-        went : Least ⊎ Heavier s → ((s' : ℕ → Bool) → IsSound s' → n ≤ room + weight s' (λ _. 1) n → Least) → Least
+        went : Least ⊎ Heavier s → ((s' : ℕ → Bool) → HoldsOnSet s' → n ≤ room + weight s' (λ _. 1) n → Least) → Least
         went (inl least) on = least
         went (inr more) on = on more.set more.sound (omega (arith, more.heavier))
 

@@ -6,7 +6,7 @@ use Rattle.std.proofs.lemmas.Bool.{cases_lt}
 use Rattle.std.proofs.lemmas.Option.{slice_get-get_or}
 use Rattle.active_config.specs.Tree.{state_count, is_below}
 use Rattle.chart_tree.specs.declared.fault.FormKind.TheVariants as kinds
-use Rattle.chart_tree.specs.declared.first.Found.{Found}
+use Rattle.chart_tree.specs.declared.first.FaultAt.{FaultAt}
 use Rattle.chart_tree.specs.First.{at_place, IsOne, Passed}
 use Rattle.checked_chart.specs.declared.parts.ListKind.{ListKind}
 use Rattle.checked_chart.specs.declared.parts.ListKind.TheVariants.{Outer, Inner, Default}
@@ -23,15 +23,15 @@ use Rattle.chart_structure.proofs.DestLemmas.{DestsPassed, crossing_where}
 -- ---- all faults of one list
 
 -- the last transition's fault was passed
-abbrev LastPassed : List Arrow → Option Found → Type 0
+abbrev LastPassed : List Arrow → Option FaultAt → Type 0
 LastPassed list r = (a : Arrow) → IsLast list a → a.«open» ≡ true → Passed r (at_place kinds.DefaultOpen a.at)
 
-module _ (n : Net) (s : ℕ) (list : List Arrow) (r : Option Found) where
-  passed_outer : DestsPassed n s Outer list r → (f : Found) → ListFault n s list Outer f → Passed r f
+module _ (n : Net) (s : ℕ) (list : List Arrow) (r : Option FaultAt) where
+  passed_outer : DestsPassed n s Outer list r → (f : FaultAt) → ListFault n s list Outer f → Passed r f
   passed_outer h _ (CrossesOuter a d l ne) =
       h a d kinds.CrossesRegions (record { leads = l; fault = crossing_where _ ne })
 
-  passed_inner : DestsPassed n s Inner list r → (f : Found) → ListFault n s list Inner f → Passed r f
+  passed_inner : DestsPassed n s Inner list r → (f : FaultAt) → ListFault n s list Inner f → Passed r f
   passed_inner h _ (LeavesInner a d l off) =
       h a d kinds.InnerLeaves (record {
         leads = l;
@@ -44,7 +44,7 @@ module _ (n : Net) (s : ℕ) (list : List Arrow) (r : Option Found) where
       })
 
   passed_default : DestsPassed n s Default list r → LastPassed list r
-      → (f : Found) → ListFault n s list Default f → Passed r f
+      → (f : FaultAt) → ListFault n s list Default f → Passed r f
   passed_default h g _ (Open a last is) = g a last is
   passed_default h g _ (LeavesDefault a d l off) =
       h a d kinds.DefaultLeaves (record {
@@ -53,10 +53,10 @@ module _ (n : Net) (s : ℕ) (list : List Arrow) (r : Option Found) where
       })
 
 -- all faults of a list were passed where those of its destinations and of its last transition were
-pub list_passed : (n : Net) (s : ℕ) (list : List Arrow) (r : Option Found) (kind : ListKind)
+pub list_passed : (n : Net) (s : ℕ) (list : List Arrow) (r : Option FaultAt) (kind : ListKind)
     → DestsPassed n s kind list r
     → (kind ≡ Default → (a : Arrow) → IsLast list a → a.«open» ≡ true → Passed r (at_place kinds.DefaultOpen a.at))
-    → (f : Found) → ListFault n s list kind f → Passed r f
+    → (f : FaultAt) → ListFault n s list kind f → Passed r f
 list_passed n s list r Outer h g f x = passed_outer n s list r h f x
 list_passed n s list r Inner h g f x = passed_inner n s list r h f x
 list_passed n s list r Default h g f x = passed_default n s list r h (g refl) f x
@@ -104,16 +104,16 @@ empty_fault n s j kind list lt d r e f =
     OfEmpty s j lt (subst (λ k. Reached (links_of n) (list_of n s k) j) d r) (sym e ∙ f)
 
 -- what is known when the first i junctions were looked at
-pub record JunctionsSoFar (n : Net) (s : ℕ) (kind : ListKind) (found : List ℕ) (i : ℕ) (first kept : Option Found)
+pub record JunctionsSoFar (n : Net) (s : ℕ) (kind : ListKind) (found : List ℕ) (i : ℕ) (first kept : Option FaultAt)
     : Type 0 where
   pub one : IsOne (StructureFault n) kept
-  pub old : (f : Found) → Passed first f → Passed kept f
-  pub new : (k : ℕ) → k < i → (f : Found) → ListFault n s (junction_list n (get_or found k 0)) kind f → Passed kept f
+  pub old : (f : FaultAt) → Passed first f → Passed kept f
+  pub new : (k : ℕ) → k < i → (f : FaultAt) → ListFault n s (junction_list n (get_or found k 0)) kind f → Passed kept f
   pub empty : kind ≡ Default → (k : ℕ) → k < i → junction_list n (get_or found k 0) ≡ []
       → Passed kept (at_place kinds.DefaultOpen (junction_name n (get_or found k 0)))
 
 module _ (n : Net) (s : ℕ) (kind : ListKind) (found : List ℕ) where
-  pub junctions_start : (first : Option Found) → IsOne (StructureFault n) first
+  pub junctions_start : (first : Option FaultAt) → IsOne (StructureFault n) first
       → JunctionsSoFar n s kind found 0 first first
   junctions_start first one = record {
     one = one;
@@ -123,9 +123,9 @@ module _ (n : Net) (s : ℕ) (kind : ListKind) (found : List ℕ) where
   }
 
   -- one junction more
-  pub junctions_more : (i : ℕ) (first kept next : Option Found) → JunctionsSoFar n s kind found i first kept
-      → IsOne (StructureFault n) next → ((f : Found) → Passed kept f → Passed next f)
-      → ((f : Found) → ListFault n s (junction_list n (get_or found i 0)) kind f → Passed next f)
+  pub junctions_more : (i : ℕ) (first kept next : Option FaultAt) → JunctionsSoFar n s kind found i first kept
+      → IsOne (StructureFault n) next → ((f : FaultAt) → Passed kept f → Passed next f)
+      → ((f : FaultAt) → ListFault n s (junction_list n (get_or found i 0)) kind f → Passed next f)
       → (kind ≡ Default → junction_list n (get_or found i 0) ≡ []
       → Passed next (at_place kinds.DefaultOpen (junction_name n (get_or found i 0))))
       → JunctionsSoFar n s kind found (i + 1) first next
@@ -141,13 +141,13 @@ module _ (n : Net) (s : ℕ) (kind : ListKind) (found : List ℕ) where
         (empty d (subst (λ m. junction_list n (get_or found m 0) ≡ []) (sym same) h))) (cases_lt k i);
   }
 
-  pub junctions_new : (i : ℕ) (first kept : Option Found) → length found ≤ i
+  pub junctions_new : (i : ℕ) (first kept : Option FaultAt) → length found ≤ i
       → JunctionsSoFar n s kind found i first kept
-      → (j : ℕ) → IsIn found j → (f : Found) → ListFault n s (junction_list n j) kind f → Passed kept f
+      → (j : ℕ) → IsIn found j → (f : FaultAt) → ListFault n s (junction_list n j) kind f → Passed kept f
   junctions_new i first kept le so j at f h =
       so.new at.0 (omega (arith, at.1)) f (subst (λ m. ListFault n s (junction_list n m) kind f) (sym at.2) h)
 
-  pub junctions_empty : (i : ℕ) (first kept : Option Found) → length found ≤ i
+  pub junctions_empty : (i : ℕ) (first kept : Option FaultAt) → length found ≤ i
       → JunctionsSoFar n s kind found i first kept
       → kind ≡ Default → (j : ℕ) → IsIn found j → junction_list n j ≡ []
       → Passed kept (at_place kinds.DefaultOpen (junction_name n j))

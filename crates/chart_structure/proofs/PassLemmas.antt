@@ -6,7 +6,7 @@ use Rattle.std.specs.Option.{is_some}
 use Rattle.std.proofs.lemmas.Bool.{cases_lt}
 use Rattle.active_config.specs.Tree.{state_count}
 use Rattle.chart_tree.specs.declared.fault.FormKind.TheVariants as kinds
-use Rattle.chart_tree.specs.declared.first.Found.{Found}
+use Rattle.chart_tree.specs.declared.first.FaultAt.{FaultAt}
 use Rattle.chart_structure.specs.declared.net.Arrow.{Arrow}
 use Rattle.checked_chart.specs.Reached.{Reached, Meets, Itself, AtJunction, ArePairs, StatePairs, PairsBelow, weight}
 use Rattle.checked_chart.specs.declared.limits.TheConstants.{PAIR_LIMIT}
@@ -30,10 +30,10 @@ module _ (n : Net) (s : ℕ) (kind : ListKind) (list : List Arrow) (mark : ℕ) 
   reached_in j r = w.all j (all j (subst (λ m. Reached (links_of n) m j) (sym l) r))
 
   -- the faults of the list, and those of each junction that was found, are all that are met from it
-  pub kind_passed : (own fault : Option Found) (items : List ℕ) → items ≡ found
-      → ((f : Found) → ListFault n s list kind f → Passed own f)
-      → ((f : Found) → Passed own f → Passed fault f)
-      → ((j : ℕ) → IsIn items j → (f : Found) → ListFault n s (junction_list n j) kind f → Passed fault f)
+  pub kind_passed : (own fault : Option FaultAt) (items : List ℕ) → items ≡ found
+      → ((f : FaultAt) → ListFault n s list kind f → Passed own f)
+      → ((f : FaultAt) → Passed own f → Passed fault f)
+      → ((j : ℕ) → IsIn items j → (f : FaultAt) → ListFault n s (junction_list n j) kind f → Passed fault f)
       → (kind ≡ Default → (j : ℕ) → IsIn items j → junction_list n j ≡ []
       → Passed fault (at_place kinds.DefaultOpen (junction_name n j)))
       → KindPassed n s kind fault
@@ -42,7 +42,7 @@ module _ (n : Net) (s : ℕ) (kind : ListKind) (list : List Arrow) (mark : ℕ) 
     empty = λ d j r none. empty d j (subst (λ m. IsIn m j) (sym e) (reached_in j r)) none;
   }
     where
-      go : (m : List Arrow) → Meets (links_of n) (list_of n s kind) m → (f : Found) → ListFault n s m kind f
+      go : (m : List Arrow) → Meets (links_of n) (list_of n s kind) m → (f : FaultAt) → ListFault n s m kind f
           → Passed fault f
       go _ Itself f h = old f (here f (subst (λ m. ListFault n s m kind f) (sym l) h))
       go _ (AtJunction j r) f h = new j (subst (λ m. IsIn m j) (sym e) (reached_in j r)) f h
@@ -76,20 +76,20 @@ module _ (n : Net) (s : ℕ) (kind : ListKind) (list : List Arrow) (mark : ℕ) 
       (w.sound (get_or found i 0) (w.listed i (subst (λ (v : List ℕ). i < length v) e lt))))
 
 -- what was passed stays so
-pub kind_passed_still : (n : Net) (s : ℕ) (kind : ListKind) (r q : Option Found)
-    → ((f : Found) → Passed r f → Passed q f) → KindPassed n s kind r → KindPassed n s kind q
+pub kind_passed_still : (n : Net) (s : ℕ) (kind : ListKind) (r q : Option FaultAt)
+    → ((f : FaultAt) → Passed r f → Passed q f) → KindPassed n s kind r → KindPassed n s kind q
 kind_passed_still n s kind r q old k =
     record { lists = λ list m f h. old f (k.lists list m f h); empty = λ d j x none. old _ (k.empty d j x none) }
 
-pub state_passed_still : (n : Net) (s : ℕ) (r q : Option Found) → ((f : Found) → Passed r f → Passed q f)
+pub state_passed_still : (n : Net) (s : ℕ) (r q : Option FaultAt) → ((f : FaultAt) → Passed r f → Passed q f)
     → StatePassed n s r → StatePassed n s q
 state_passed_still n s r q old k =
     record { own = λ f h. old f (k.own f h); kinds = λ kind. kind_passed_still n s kind r q old (k.kinds kind) }
 
 -- a state was passed where it was itself, and then each of its lists
-pub state_passed_by : (n : Net) (s : ℕ) (own outer inner all : Option Found)
-    → ((f : Found) → StateFault n s f → Passed own f) → ((f : Found) → Passed own f → Passed outer f)
-    → ((f : Found) → Passed outer f → Passed inner f) → ((f : Found) → Passed inner f → Passed all f)
+pub state_passed_by : (n : Net) (s : ℕ) (own outer inner all : Option FaultAt)
+    → ((f : FaultAt) → StateFault n s f → Passed own f) → ((f : FaultAt) → Passed own f → Passed outer f)
+    → ((f : FaultAt) → Passed outer f → Passed inner f) → ((f : FaultAt) → Passed inner f → Passed all f)
     → KindPassed n s Outer outer → KindPassed n s Inner inner → KindPassed n s Default all → StatePassed n s all
 state_passed_by n s own outer inner all f a b c x y z = record { own = λ g h. c g (b g (a g (f g h))); kinds = go }
   where
@@ -123,7 +123,7 @@ state_pairs n s before r1 r2 r3 a b c = record {
 -- ---- all states
 
 -- what is known when the first s states were looked at
-pub record StatesSoFar (n : Net) (s : ℕ) (marks : List ℕ) (fault : Option Found) (pairs : ℕ) : Type 0 where
+pub record StatesSoFar (n : Net) (s : ℕ) (marks : List ℕ) (fault : Option FaultAt) (pairs : ℕ) : Type 0 where
   pub sized : length marks ≡ junction_count n
   pub below : (j : ℕ) → get_or marks j 0 ≤ 3 * s
   pub one : IsOne (StructureFault n) fault
@@ -154,10 +154,10 @@ below_suc n s count own below a b e =
     let same : suc s ≡ s + 1 = omega arith in subst (λ m. PairsBelow (links_of n) m count) same (own, below, a, b, e)
 
 -- one state more
-pub states_more : (n : Net) (s : ℕ) (marks more : List ℕ) (fault next : Option Found) (pairs total : ℕ)
+pub states_more : (n : Net) (s : ℕ) (marks more : List ℕ) (fault next : Option FaultAt) (pairs total : ℕ)
     → StatesSoFar n s marks fault pairs → length more ≡ length marks
     → ((j : ℕ) → get_or more j 0 ≤ 3 * (s + 1)) → IsOne (StructureFault n) next
-    → ((f : Found) → Passed fault f → Passed next f) → StatePassed n s next → AddsStatePairs n s pairs total
+    → ((f : FaultAt) → Passed fault f → Passed next f) → StatePassed n s next → AddsStatePairs n s pairs total
     → StatesSoFar n (s + 1) more next total
 states_more n s marks more fault next pairs total so len below one old here adds = record {
   sized = len ∙ so.sized;
@@ -172,16 +172,16 @@ states_more n s marks more fault next pairs total so len below one old here adds
 }
 
 -- after all states the fault that is kept is the first of all
-pub states_first : (n : Net) (s : ℕ) (marks : List ℕ) (fault : Option Found) (pairs : ℕ) → state_count n.tree ≤ s
+pub states_first : (n : Net) (s : ℕ) (marks : List ℕ) (fault : Option FaultAt) (pairs : ℕ) → state_count n.tree ≤ s
     → StatesSoFar n s marks fault pairs → IsFirst (StructureFault n) fault
 states_first n s marks fault pairs le so = first_of_passed (StructureFault n) fault so.one go
   where
-    go : (f : Found) → StructureFault n f → Passed fault f
+    go : (f : FaultAt) → StructureFault n f → Passed fault f
     go f (OfState t _ lt h) = (so.passed t (omega arith)).own f h
     go f (OfList t kind list _ lt m h) = ((so.passed t (omega arith)).kinds kind).lists list m f h
     go _ (OfEmpty t j lt r none) = ((so.passed t (omega arith)).kinds Default).empty refl j r none
 
-pub states_pairs : (n : Net) (s : ℕ) (marks : List ℕ) (fault : Option Found) (pairs : ℕ) → s ≡ state_count n.tree
+pub states_pairs : (n : Net) (s : ℕ) (marks : List ℕ) (fault : Option FaultAt) (pairs : ℕ) → s ≡ state_count n.tree
     → StatesSoFar n s marks fault pairs → CountsPairs n pairs
 states_pairs n s marks fault pairs e so =
     record { count = so.count; are = subst (λ m. PairsBelow (links_of n) m so.count) e so.are; bounded = so.bounded }
@@ -214,28 +214,28 @@ below_same n (suc s) a b x y =
 -- ---- the answer
 
 -- without a fault of structure, too many pairs are the answer
-pub answer_pairs : (n : Net) (fault : Option Found) (total : ℕ) → IsFirst (StructureFault n) fault
+pub answer_pairs : (n : Net) (fault : Option FaultAt) (total : ℕ) → IsFirst (StructureFault n) fault
     → CountsPairs n total → fault ≡ None → PAIR_LIMIT < total
     → IsAnswer n (Some (at_place kinds.TooManyPairs (name_of n 0)))
 answer_pairs n fault total first c e lt =
     inr (subst (IsFirst (StructureFault n)) e first, TooMany c.count c.are (omega (arith, c.bounded)))
 
 -- else the first fault of structure is
-pub answer_first : (n : Net) (fault : Option Found) (total : ℕ) → IsFirst (StructureFault n) fault
+pub answer_first : (n : Net) (fault : Option FaultAt) (total : ℕ) → IsFirst (StructureFault n) fault
     → CountsPairs n total → (fault ≡ None → total ≤ PAIR_LIMIT) → IsAnswer n fault
 answer_first n (Some f) total first c few = inl first
 answer_first n None total first c few = (first, go)
   where
-    go : (f : Found) → PairFault n f → ⊥
+    go : (f : FaultAt) → PairFault n f → ⊥
     go _ (TooMany count are over) =
         absurd (let e = below_same n (state_count n.tree) c.count count c.are are in
         let k = few refl in omega (arith, c.bounded))
 
 -- what `is_none` answers
-pub none_where : (o : Option Found) (b : Bool) → is_some o ≡ not b → b ≡ true → o ≡ None
+pub none_where : (o : Option FaultAt) (b : Bool) → is_some o ≡ not b → b ≡ true → o ≡ None
 none_where None b e f = refl
 none_where (Some x) b e f = absurd (let g = ap not f in cc)
 
-pub some_where : (o : Option Found) (b : Bool) → is_some o ≡ not b → b ≡ false → o ≡ None → ⊥
+pub some_where : (o : Option FaultAt) (b : Bool) → is_some o ≡ not b → b ≡ false → o ≡ None → ⊥
 some_where None b e f g = absurd (let h = ap not f in cc)
 some_where (Some x) b e f g = absurd cc

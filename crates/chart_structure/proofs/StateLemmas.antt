@@ -10,7 +10,7 @@ use Rattle.active_config.specs.declared.comp.Comp.TheVariants.{Leaf, Or, And}
 use Rattle.active_config.specs.Tree.{Tree, state_count, children_of}
 use Rattle.chart_tree.specs.declared.fault.FormKind.{FormKind}
 use Rattle.chart_tree.specs.declared.fault.FormKind.TheVariants as kinds
-use Rattle.chart_tree.specs.declared.first.Found.{Found}
+use Rattle.chart_tree.specs.declared.first.FaultAt.{FaultAt}
 use Rattle.chart_tree.specs.First.{at_place, IsOne, Passed}
 use Rattle.checked_chart.specs.declared.parts.ListKind.TheVariants.{Default}
 use Rattle.checked_chart.specs.Chart.{is_or}
@@ -90,7 +90,7 @@ module _ (n : Net) (s : ℕ) where
       ap (λ t. cond (t && listless) (Some kinds.DefaultMissing) None) f
       ∙ ap (λ l. cond l (Some kinds.DefaultMissing) None) g
 
-  module _ (root childless listless : Bool) (list : List Arrow) (first next : Option Found)
+  module _ (root childless listless : Bool) (list : List Arrow) (first next : Option FaultAt)
       (a : IsTrue root ↔ (s ≡ 0)) (b : IsTrue childless ↔ (children_of n.tree s ≡ []))
       (c : IsTrue listless ↔ (list ≡ [])) (l : list ≡ list_of n s Default)
       (e : next ≡ with_fault (comp_fault root (word_of n s) childless listless) (name_of n s) first) where
@@ -102,7 +102,7 @@ module _ (n : Net) (s : ℕ) where
         (with_fault_one (StructureFault n) (comp_fault root (word_of n s) childless listless) (name_of n s) first one
         (λ k w. OfState s _ lt (comp_fault_is root childless listless k a b here w)))
 
-    pub composition_old : (f : Found) → Passed first f → Passed next f
+    pub composition_old : (f : FaultAt) → Passed first f → Passed next f
     composition_old f h = subst (λ r. Passed r f) (sym e)
         (with_fault_old (comp_fault root (word_of n s) childless listless) (name_of n s) first f h)
 
@@ -113,7 +113,7 @@ module _ (n : Net) (s : ℕ) where
 
 -- the test's answer, put where the name says, is that of the state's own word and name
 pub composition_is : (n : Net) (s : ℕ) (root childless listless : Bool) (word : Comp) (at : Span)
-    (wrong : Option FormKind) (first next : Option Found) → next ≡ with_fault wrong at first
+    (wrong : Option FormKind) (first next : Option FaultAt) → next ≡ with_fault wrong at first
     → wrong ≡ comp_fault root word childless listless → word ≡ word_of n s → at ≡ name_of n s
     → next ≡ with_fault (comp_fault root (word_of n s) childless listless) (name_of n s) first
 composition_is n s root childless listless word at wrong first next e f g h =
@@ -162,12 +162,12 @@ history_fault n s w at lt e f h = OfState s _ lt (UnwantedHistory at (subst (λ 
 
 -- ---- all faults of a state
 
-pub state_passed : (n : Net) (s : ℕ) (r : Option Found)
+pub state_passed : (n : Net) (s : ℕ) (r : Option FaultAt)
     → ((k : FormKind) → IsCompFault n s k → Passed r (at_place k (name_of n s)))
     → ((a : Arrow) → word_of n s ≢ Or → slice_get (list_of n s Default) 0 ≡ Some a
     → Passed r (at_place kinds.DefaultUnwanted a.at))
     → ((at : Span) → word_of n s ≢ Or → history_of n s ≡ Some at → Passed r (at_place kinds.HistoryUnwanted at))
-    → (f : Found) → StateFault n s f → Passed r f
+    → (f : FaultAt) → StateFault n s f → Passed r f
 state_passed n s r h g k _ (EmptyState ne none) = h kinds.EmptyComposition (WordAlone ne none)
 state_passed n s r h g k _ (EmptyChart z none) = h kinds.EmptyComposition (NoStates z none)
 state_passed n s r h g k _ (Missing w some none) = h kinds.DefaultMissing (NoDefault w some none)

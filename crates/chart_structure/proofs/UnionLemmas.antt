@@ -2,7 +2,7 @@
 use Rattle.std.proofs.Common.{◌≡◌, ◌⊎◌, ℕ, Bool, true, false, Option, Some, None, refl, arith, inl, inr, ⊎_elim, cond}
 use Rattle.std.proofs.lemmas.Bool.Decides.{nat_tests}
 use Rattle.chart_tree.specs.Form.{form_number}
-use Rattle.chart_tree.specs.declared.first.Found.{Found}
+use Rattle.chart_tree.specs.declared.first.FaultAt.{FaultAt}
 use Rattle.chart_tree.specs.First.{comes_before, is_before, kept, IsFirst}
 
 comes_before-irreflexive : (a b c : ℕ) → comes_before a b c a b c ≡ false
@@ -22,16 +22,16 @@ unfolding comes_before
 comes_before-after a b c x y z u v w p q = grind (arith, nat_tests)
 
 -- no fault is before itself
-pub not_before_itself : (f : Found) → is_before f f ≡ false
+pub not_before_itself : (f : FaultAt) → is_before f f ≡ false
 not_before_itself f = comes_before-irreflexive f.at.line f.at.column (form_number f.kind)
 
 -- the earlier of two faults
-abbrev pub earlier_of : Option Found → Option Found → Option Found
+abbrev pub earlier_of : Option FaultAt → Option FaultAt → Option FaultAt
 earlier_of a None = a
 earlier_of a (Some g) = kept a g
 
 -- the first of two sets is the earlier of their first ones
-pub first_union : (F G : Found → Type 0) (a b : Option Found) → IsFirst F a → IsFirst G b
+pub first_union : (F G : FaultAt → Type 0) (a b : Option FaultAt) → IsFirst F a → IsFirst G b
     → IsFirst (λ f. F f ⊎ G f) (earlier_of a b)
 unfolding kept
 first_union F G None None p q = λ f h. ⊎_elim (p f) (q f) h
@@ -53,7 +53,7 @@ first_union F G (Some x) (Some g) p q = go (is_before g x) refl
     )
 
 -- sets with the same faults have the same first one
-pub first_same : (F G : Found → Type 0) (o : Option Found) → ((f : Found) → F f → G f) → ((f : Found) → G f → F f)
+pub first_same : (F G : FaultAt → Type 0) (o : Option FaultAt) → ((f : FaultAt) → F f → G f) → ((f : FaultAt) → G f → F f)
     → IsFirst F o → IsFirst G o
 first_same F G None to from p = λ f h. p f (from f h)
 first_same F G (Some g) to from p = (to g p.0, λ f h. p.1 f (from f h))

@@ -10,7 +10,7 @@ use Rattle.active_config.specs.declared.comp.Comp.TheVariants.{Leaf, Or, And}
 use Rattle.active_config.specs.Tree.{Tree, IsTree, state_count, comp_of, children_of, ancestors, is_below}
 use Rattle.active_config.specs.Tree.{is_at_or_below}
 use Rattle.active_config.proofs.PathLemmas.{above_of_below, path_le, parent_lt}
-use Rattle.chart_tree.specs.declared.first.Found.{Found}
+use Rattle.chart_tree.specs.declared.first.FaultAt.{FaultAt}
 use Rattle.checked_chart.specs.declared.limits.TheConstants.{PAIR_LIMIT}
 use Rattle.checked_chart.specs.declared.parts.ListKind.{ListKind}
 use Rattle.checked_chart.specs.declared.parts.ListKind.TheVariants.{Outer, Inner, Default}
@@ -94,7 +94,7 @@ dest_of n net s kind _ a (AtJunction j r) h = net.junctions j a h
 
 -- ---- from no faults to valid
 
-module _ (n : Net) (net : IsNet n) (none : (f : Found) → StructureFault n f → ⊥) where
+module _ (n : Net) (net : IsNet n) (none : (f : FaultAt) → StructureFault n f → ⊥) where
   words_are : (s : ℕ) → s < state_count n.tree → word_of n s ≡ comp_of n.tree s
   words_are s lt = ⊎_elim
       (λ childless. not_not_leaf (word_of n s) (λ ne. none _ (OfState s _ lt (EmptyState ne childless)))
@@ -124,7 +124,7 @@ module _ (n : Net) (net : IsNet n) (none : (f : Found) → StructureFault n f �
   or_has_children : (s : ℕ) → s < state_count n.tree → comp_of n.tree s ≡ Or → children_of n.tree s ≡ [] → ⊥
   or_has_children s lt e f = absurd (let g = (net.tree.leaves s lt).1 f in cc)
 
-  pub valid_where : ((f : Found) → PairFault n f → ⊥) → IsValid n
+  pub valid_where : ((f : FaultAt) → PairFault n f → ⊥) → IsValid n
   valid_where few = record {
     words = words_are;
     children = λ e. none _ (OfState 0 _ net.tree.some (EmptyChart refl e));
@@ -151,7 +151,7 @@ module _ (n : Net) (net : IsNet n) (v : IsValid n) where
   other_comp : (s : ℕ) → s < state_count n.tree → word_of n s ≢ Or → comp_of n.tree s ≡ Or → ⊥
   other_comp s lt ne e = ne (v.words s lt ∙ e)
 
-  no_state_fault : (s : ℕ) (f : Found) → s < state_count n.tree → StateFault n s f → ⊥
+  no_state_fault : (s : ℕ) (f : FaultAt) → s < state_count n.tree → StateFault n s f → ⊥
   no_state_fault s _ lt (EmptyState ne none) = ne (v.words s lt ∙ (net.tree.leaves s lt).1 none)
   no_state_fault s _ lt (EmptyChart z none) = v.children (subst (λ x. children_of n.tree x ≡ []) z none)
   no_state_fault s _ lt (Missing w some none) = (v.default s lt (sym (v.words s lt) ∙ w)).some none
@@ -167,7 +167,7 @@ module _ (n : Net) (net : IsNet n) (v : IsValid n) where
       (v.no_default s lt ne) in let g = l.2 in cc)) (or_or_not (comp_of n.tree s))
   last_closed s _ lt (AtJunction j r) a l = (v.junctions s j lt r).last a l
 
-  no_list_fault : (s : ℕ) (kind : ListKind) (list : List Arrow) (f : Found) → s < state_count n.tree
+  no_list_fault : (s : ℕ) (kind : ListKind) (list : List Arrow) (f : FaultAt) → s < state_count n.tree
       → Meets (links_of n) (list_of n s kind) list → ListFault n s list kind f → ⊥
   no_list_fault s _ list _ lt m (Open a last on) = absurd (let off = last_closed s list lt m a last in cc)
   no_list_fault s _ list _ lt m (LeavesDefault a d l off) = absurd (let f = v.leads s Default list a d lt m l in cc)
@@ -177,18 +177,18 @@ module _ (n : Net) (net : IsNet n) (v : IsValid n) where
       let to = subst (IsDest n) l.to (dest_of n net s Outer list a m l.has) in
       other_comp (home_of n.tree s Outer d) (home_within n.tree net.tree s d to.1) ne (v.leads s Outer list a d lt m l)
 
-  pub no_fault : (f : Found) → StructureFault n f → ⊥
+  pub no_fault : (f : FaultAt) → StructureFault n f → ⊥
   no_fault f (OfState s _ lt h) = no_state_fault s f lt h
   no_fault f (OfList s kind list _ lt m h) = no_list_fault s kind list f lt m h
   no_fault _ (OfEmpty s j lt r none) = (v.junctions s j lt r).some none
 
-  pub no_pair_fault : (f : Found) → PairFault n f → ⊥
+  pub no_pair_fault : (f : FaultAt) → PairFault n f → ⊥
   no_pair_fault _ (TooMany count are over) = absurd (let e = v.pairs count are in omega arith)
 
 -- ---- the answer
 
 -- the pass answers none exactly where the net is valid
-pub answer_valid : (n : Net) (o : Option Found) → IsNet n → IsAnswer n o → (o ≡ None) ↔ IsValid n
+pub answer_valid : (n : Net) (o : Option FaultAt) → IsNet n → IsAnswer n o → (o ≡ None) ↔ IsValid n
 answer_valid n None net a = ((λ e. valid_where n net a.0 a.1), (λ v. refl))
 answer_valid n (Some f) net a = (
   (λ e. absurd cc),

@@ -4,7 +4,7 @@ use Rattle.token_grammar.specs.declared.token.Span.{Span}
 use Rattle.active_config.specs.declared.comp.Comp.TheVariants.{Leaf, Or}
 use Rattle.active_config.specs.Tree.{state_count, children_of, is_below, is_at_or_below}
 use Rattle.chart_tree.specs.declared.fault.FormKind.TheVariants as kinds
-use Rattle.chart_tree.specs.declared.first.Found.{Found}
+use Rattle.chart_tree.specs.declared.first.FaultAt.{FaultAt}
 use Rattle.chart_tree.specs.First.{at_place}
 use Rattle.checked_chart.specs.declared.limits.TheConstants.{PAIR_LIMIT}
 use Rattle.checked_chart.specs.declared.parts.Dest.TheVariants.{State}
@@ -26,7 +26,7 @@ pub record Leads (list : List Arrow) (a : Arrow) (d : ℕ) : Type 0 where
   pub to : a.to ≡ State d
 
 -- what is wrong with state s
-pub data StateFault (n : Net) (s : ℕ) : Found → Type 0 where
+pub data StateFault (n : Net) (s : ℕ) : FaultAt → Type 0 where
   -- it has a composition word and no children: at its name
   EmptyState : word_of n s ≢ Leaf → children_of n.tree s ≡ []
       → StateFault n s (at_place kinds.EmptyComposition (name_of n s))
@@ -43,7 +43,7 @@ pub data StateFault (n : Net) (s : ℕ) : Found → Type 0 where
       → StateFault n s (at_place kinds.HistoryUnwanted at)
 
 -- what is wrong with a list that is met from a list of state s
-pub data ListFault (n : Net) (s : ℕ) (list : List Arrow) : ListKind → Found → Type 0 where
+pub data ListFault (n : Net) (s : ℕ) (list : List Arrow) : ListKind → FaultAt → Type 0 where
   -- it is met from a default list, and its last transition has an event or a guard: at that transition
   Open : (a : Arrow) → IsLast list a → a.«open» ≡ true → ListFault n s list Default (at_place kinds.DefaultOpen a.at)
   -- it is met from a default list and leads to a state that isn't strictly below s: at the destination
@@ -61,14 +61,14 @@ pub data ListFault (n : Net) (s : ℕ) (list : List Arrow) : ListKind → Found 
 
 -- the faults of structure: those of a state, those of a list that is met from one of its lists, and an empty
 -- junction that is reached from its default list, at the name of the junction
-pub data StructureFault (n : Net) : Found → Type 0 where
-  OfState : (s : ℕ) (f : Found) → s < state_count n.tree → StateFault n s f → StructureFault n f
-  OfList : (s : ℕ) (kind : ListKind) (list : List Arrow) (f : Found) → s < state_count n.tree
+pub data StructureFault (n : Net) : FaultAt → Type 0 where
+  OfState : (s : ℕ) (f : FaultAt) → s < state_count n.tree → StateFault n s f → StructureFault n f
+  OfList : (s : ℕ) (kind : ListKind) (list : List Arrow) (f : FaultAt) → s < state_count n.tree
       → Meets (links_of n) (list_of n s kind) list → ListFault n s list kind f → StructureFault n f
   OfEmpty : (s j : ℕ) → s < state_count n.tree → Reached (links_of n) (list_of n s Default) j → junction_list n j ≡ []
       → StructureFault n (at_place kinds.DefaultOpen (junction_name n j))
 
 -- there are too many pairs of a list and a transition: at the chart's name
-pub data PairFault (n : Net) : Found → Type 0 where
+pub data PairFault (n : Net) : FaultAt → Type 0 where
   TooMany : (count : ℕ) → NetPairs n count → PAIR_LIMIT < count
       → PairFault n (at_place kinds.TooManyPairs (name_of n 0))

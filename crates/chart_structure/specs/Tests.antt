@@ -7,7 +7,7 @@ use Rattle.active_config.specs.declared.comp.Comp.TheVariants.{Leaf, Or, And}
 use Rattle.active_config.specs.Tree.{children_of, is_below, is_at_or_below}
 use Rattle.chart_tree.specs.declared.fault.FormKind.{FormKind}
 use Rattle.chart_tree.specs.declared.fault.FormKind.TheVariants as kinds
-use Rattle.chart_tree.specs.declared.first.Found.{Found}
+use Rattle.chart_tree.specs.declared.first.FaultAt.{FaultAt}
 use Rattle.chart_tree.specs.First.{at_place, kept}
 use Rattle.checked_chart.specs.declared.parts.Dest.{Dest}
 use Rattle.checked_chart.specs.declared.parts.Dest.TheVariants.{State, Junction}
@@ -40,12 +40,12 @@ pub record IsDestFault (n : Net) (s : ℕ) (kind : ListKind) (list : List Arrow)
   pub fault : dest_fault n s kind d ≡ Some wrong
 
 -- the first fault, with one more where there is one
-abbrev pub with_fault : Option FormKind → Span → Option Found → Option Found
+abbrev pub with_fault : Option FormKind → Span → Option FaultAt → Option FaultAt
 with_fault None at first = first
 with_fault (Some kind) at first = kept first (at_place kind at)
 
 -- the first fault, with that of one destination
-abbrev pub with_dest : Net → ℕ → ListKind → Dest → Span → Option Found → Option Found
+abbrev pub with_dest : Net → ℕ → ListKind → Dest → Span → Option FaultAt → Option FaultAt
 with_dest n s kind (State d) at first = with_fault (dest_fault n s kind d) at first
 with_dest n s kind (Junction j) at first = first
 

@@ -3,7 +3,7 @@ ghost use Rattle.std.specs.Prelude.{◌≡◌, ◌<◌, ℕ};
 ghost use Rattle.active_config.specs.Tree as tree;
 ghost use Rattle.active_config.specs.Tree.{state_count};
 ghost use Rattle.chart_tree.specs.declared.fault.FormKind.{FormKind};
-ghost use Rattle.chart_tree.specs.declared.first.Found.{Found};
+ghost use Rattle.chart_tree.specs.declared.first.FaultAt.{FaultAt};
 ghost use Rattle.chart_tree.specs.First.{at_place, IsOne, Passed};
 ghost use Rattle.checked_chart.specs.Chart as charts;
 ghost use Rattle.checked_chart.specs.Reached.{Meets};
@@ -16,7 +16,7 @@ ghost use Rattle.chart_structure.specs.Tests as tests;
 use crate::kept::with_fault;
 use crate::net::{Arrow, Net};
 use active_config::{Comp, Shape};
-use chart_tree::{FormKind, Found};
+use chart_tree::{FaultAt, FormKind};
 use checked_chart::{Dest, ListKind, outer_home};
 
 /// Whether a composition word is an OR.
@@ -82,8 +82,8 @@ fn with_dest(
     state: u32,
     kind: ListKind,
     arrow: Arrow,
-    first: Option<Found>,
-) -> Option<Found>
+    first: Option<FaultAt>,
+) -> Option<FaultAt>
     requires state { state < state_count net.now.tree }
     requires dest { spec.IsDest net.now arrow.to }
     ensures { result ≡ tests.with_dest net.now state kind arrow.to arrow.to_at first }
@@ -100,14 +100,14 @@ pub fn with_dests(
     state: u32,
     kind: ListKind,
     list: &[Arrow],
-    first: Option<Found>,
-) -> Option<Found>
+    first: Option<FaultAt>,
+) -> Option<FaultAt>
     requires state { state < state_count net.now.tree }
     requires dests { (a : Arrow) → spec.Has list.now a → spec.IsDest net.now a.to }
     requires met { Meets (links_of net.now) (spec.list_of net.now state kind) list.now }
     requires one { IsOne (StructureFault net.now) first }
     ensures one { IsOne (StructureFault net.now) result }
-    ensures old { (f : Found) → Passed first f → Passed result f }
+    ensures old { (f : FaultAt) → Passed first f → Passed result f }
     ensures new { (a : Arrow) (d : ℕ) (wrong : FormKind) →
         tests.IsDestFault net.now state kind list.now a d wrong → Passed result (at_place wrong a.to_at) }
 {

@@ -1,7 +1,7 @@
 //! What holds of every net and of every checked chart.
 ghost use Rattle.std.specs.Prelude.{◌≡◌, ◌≤◌, ℕ, Option};
 ghost use Rattle.active_config.specs.Tree.{IsTree};
-ghost use Rattle.chart_tree.specs.declared.first.Found.{Found};
+ghost use Rattle.chart_tree.specs.declared.first.FaultAt.{FaultAt};
 ghost use Rattle.chart_tree.specs.First.{IsFirst};
 ghost use Rattle.checked_chart.specs.declared.limits.TheConstants as limits;
 ghost use Rattle.checked_chart.specs.Chart.{Chart};
@@ -16,14 +16,14 @@ ghost use Rattle.chart_structure.specs.Valid.{IsValid};
 
 /// A net without faults is valid.
 pub fn faultless_nets_are_valid()
-    ensures { (n : Net) → IsNet n → ((f : Found) → StructureFault n f → ⊥)
-        → ((f : Found) → PairFault n f → ⊥) → IsValid n }
+    ensures { (n : Net) → IsNet n → ((f : FaultAt) → StructureFault n f → ⊥)
+        → ((f : FaultAt) → PairFault n f → ⊥) → IsValid n }
 {}
 
 /// A valid net has no fault.
 pub fn valid_nets_are_faultless()
-    ensures structure { (n : Net) (f : Found) → IsNet n → IsValid n → StructureFault n f → ⊥ }
-    ensures pairs { (n : Net) (f : Found) → IsNet n → IsValid n → PairFault n f → ⊥ }
+    ensures structure { (n : Net) (f : FaultAt) → IsNet n → IsValid n → StructureFault n f → ⊥ }
+    ensures pairs { (n : Net) (f : FaultAt) → IsNet n → IsValid n → PairFault n f → ⊥ }
 {}
 
 /// A valid net is valid without its places.
@@ -55,5 +55,5 @@ pub fn a_chart_has_one_number_of_pairs()
 /// Of the faults of structure of a net one is the first, or there is none.
 pub fn a_net_has_a_first_fault_or_none()
     ensures { (n : Net) → IsNet n
-        → (fault : Option Found) × IsFirst (StructureFault n) fault }
+        → (fault : Option FaultAt) × IsFirst (StructureFault n) fault }
 {}

@@ -2,7 +2,7 @@
 ghost use Rattle.std.specs.Prelude.{◌≡◌, ◌<◌, ◌↔◌, ℕ, List, [], length, true, slice_index, IsTrue};
 ghost use Rattle.active_config.specs.Tree.{state_count};
 ghost use Rattle.chart_tree.specs.declared.fault.FormKind.TheVariants as kinds;
-ghost use Rattle.chart_tree.specs.declared.first.Found.{Found};
+ghost use Rattle.chart_tree.specs.declared.first.FaultAt.{FaultAt};
 ghost use Rattle.chart_tree.specs.First.{at_place, IsOne, Passed};
 ghost use Rattle.checked_chart.specs.declared.parts.ListKind.TheVariants.{Default};
 ghost use Rattle.checked_chart.specs.Reached.{Reached, Meets};
@@ -14,7 +14,7 @@ ghost use Rattle.chart_structure.specs.Structure.{IsLast, ListFault, StructureFa
 
 use crate::dests::with_dests;
 use crate::net::{Arrow, Net};
-use chart_tree::{FormKind, Found, keep};
+use chart_tree::{FaultAt, FormKind, keep};
 use checked_chart::ListKind;
 
 /// Whether a list has no transitions.
@@ -32,12 +32,12 @@ fn is_open(arrow: Arrow) -> bool
 }
 
 /// The first fault, with that of the last transition of a list that is met from a default list.
-fn with_last(net: &Net<'_>, state: u32, list: &[Arrow], first: Option<Found>) -> Option<Found>
+fn with_last(net: &Net<'_>, state: u32, list: &[Arrow], first: Option<FaultAt>) -> Option<FaultAt>
     requires state { state < state_count net.now.tree }
     requires met { Meets (links_of net.now) (spec.list_of net.now state Default) list.now }
     requires one { IsOne (StructureFault net.now) first }
     ensures one { IsOne (StructureFault net.now) result }
-    ensures old { (f : Found) → Passed first f → Passed result f }
+    ensures old { (f : FaultAt) → Passed first f → Passed result f }
     ensures new { (a : Arrow) → IsLast list.now a → a.«open» ≡ true →
         Passed result (at_place kinds.DefaultOpen a.at) }
 {
@@ -50,7 +50,7 @@ fn with_last(net: &Net<'_>, state: u32, list: &[Arrow], first: Option<Found>) ->
     let last = list[list.len() - 1];
     if is_open(last) {
         let kind = FormKind::DefaultOpen;
-        keep(first, Found { kind, at: last.at })
+        keep(first, FaultAt { kind, at: last.at })
     } else {
         first
     }
@@ -62,15 +62,15 @@ pub fn with_list(
     state: u32,
     kind: ListKind,
     list: &[Arrow],
-    first: Option<Found>,
-) -> Option<Found>
+    first: Option<FaultAt>,
+) -> Option<FaultAt>
     requires state { state < state_count net.now.tree }
     requires dests { (a : Arrow) → spec.Has list.now a → spec.IsDest net.now a.to }
     requires met { Meets (links_of net.now) (spec.list_of net.now state kind) list.now }
     requires one { IsOne (StructureFault net.now) first }
     ensures one { IsOne (StructureFault net.now) result }
-    ensures old { (f : Found) → Passed first f → Passed result f }
-    ensures new { (f : Found) → ListFault net.now state list.now kind f → Passed result f }
+    ensures old { (f : FaultAt) → Passed first f → Passed result f }
+    ensures new { (f : FaultAt) → ListFault net.now state list.now kind f → Passed result f }
 {
     let kept = with_dests(net, state, kind, list, first);
     match kind {
@@ -86,16 +86,16 @@ fn with_junction(
     state: u32,
     kind: ListKind,
     junction: u32,
-    first: Option<Found>,
-) -> Option<Found>
+    first: Option<FaultAt>,
+) -> Option<FaultAt>
     requires state { state < state_count net.now.tree }
     requires within { junction < spec.junction_count net.now }
     requires reached { Reached (links_of net.now) (spec.list_of net.now state kind) junction }
     requires one { IsOne (StructureFault net.now) first }
     ensures one { IsOne (StructureFault net.now) result }
-    ensures old { (f : Found) → Passed first f → Passed result f }
-    ensures new { (f : Found) → ListFault net.now state (spec.junction_list net.now junction) kind f →
-        Passed result f }
+    ensures old { (f : FaultAt) → Passed first f → Passed result f }
+    ensures new { (f : FaultAt) → ListFault net.now state (spec.junction_list net.now junction) kind f
+        → Passed result f }
     ensures empty { kind ≡ Default → spec.junction_list net.now junction ≡ [] →
         Passed result (at_place kinds.DefaultOpen (spec.junction_name net.now junction)) }
 {
@@ -106,7 +106,7 @@ fn with_junction(
             if is_empty(list) {
                 let kind = FormKind::DefaultOpen;
                 let at = net.junction_name(junction);
-                keep(kept, Found { kind, at })
+                keep(kept, FaultAt { kind, at })
             } else {
                 kept
             }
@@ -122,16 +122,16 @@ pub fn with_junctions(
     state: u32,
     kind: ListKind,
     found: &[u32],
-    first: Option<Found>,
-) -> Option<Found>
+    first: Option<FaultAt>,
+) -> Option<FaultAt>
     requires state { state < state_count net.now.tree }
     requires within { (i : ℕ) → i < length found.now → slice_index found.now i < spec.junction_count net.now }
     requires reached { (i : ℕ) → i < length found.now →
         Reached (links_of net.now) (spec.list_of net.now state kind) (slice_index found.now i) }
     requires one { IsOne (StructureFault net.now) first }
     ensures one { IsOne (StructureFault net.now) result }
-    ensures old { (f : Found) → Passed first f → Passed result f }
-    ensures new { (j : ℕ) → IsIn found.now j → (f : Found) →
+    ensures old { (f : FaultAt) → Passed first f → Passed result f }
+    ensures new { (j : ℕ) → IsIn found.now j → (f : FaultAt) →
         ListFault net.now state (spec.junction_list net.now j) kind f → Passed result f }
     ensures empty { kind ≡ Default → (j : ℕ) → IsIn found.now j → spec.junction_list net.now j ≡ [] →
         Passed result (at_place kinds.DefaultOpen (spec.junction_name net.now j)) }

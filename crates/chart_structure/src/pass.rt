@@ -1,7 +1,8 @@
 //! The pass over the structure of a chart.
-ghost use Rattle.std.specs.Prelude.{◌≡◌, ◌+◌, ◌*◌, ◌≤◌, ◌<◌, ◌↔◌, ℕ, length, slice_index, IfOk, OnOk, None};
+ghost use Rattle.std.specs.Prelude.{◌≡◌, ◌+◌, ◌*◌, ◌≤◌, ◌<◌, ◌↔◌, ℕ};
+ghost use Rattle.std.specs.Prelude.{length, slice_index, IfOk, OnOk, None};
 ghost use Rattle.active_config.specs.Tree.{state_count};
-ghost use Rattle.chart_tree.specs.declared.first.Found.{Found};
+ghost use Rattle.chart_tree.specs.declared.first.FaultAt.{FaultAt};
 ghost use Rattle.chart_tree.specs.First.{IsFirst, IsOne, Passed};
 ghost use Rattle.chart_structure.specs.Marks.{state_bound};
 ghost use Rattle.chart_structure.specs.Net as spec;
@@ -14,7 +15,7 @@ use crate::lists::{with_junctions, with_list};
 use crate::net::Net;
 use crate::reach::reached_from;
 use crate::states::with_state;
-use chart_tree::{FormKind, Found};
+use chart_tree::{FaultAt, FormKind};
 use checked_chart::ListKind;
 use checked_chart::limits::PAIR_LIMIT;
 use std::alloc::{AllocError, Global};
@@ -23,7 +24,7 @@ use std::alloc::{AllocError, Global};
 #[derive(Clone, Copy, Debug)]
 pub struct Structure {
     /// The first fault.
-    pub fault: Option<Found>,
+    pub fault: Option<FaultAt>,
     /// How many pairs of a list and a transition there are, or 2^64 - 1 where there are more.
     pub pairs: u64,
 }
@@ -55,7 +56,7 @@ pub fn first_fault(alloc: Global, net: &Net<'_>) -> Result<Structure, AllocError
     let _ = net.shape();
     let found = find_faults(alloc, net)?;
     if found.fault.is_none() && found.pairs > PAIR_LIMIT as u64 {
-        let fault = Found {
+        let fault = FaultAt {
             kind: FormKind::TooManyPairs,
             at: net.name(0),
         };
@@ -100,7 +101,7 @@ fn with_lists(
     requires one { IsOne (StructureFault net.now) before.fault }
     ensures below { OnOk result ((j : ℕ) → slice_index marks.new j ≤ 3 * (state + 1)) }
     ensures one { IfOk result (λ r. IsOne (StructureFault net.now) r.fault) }
-    ensures old { IfOk result (λ r. (f : Found) → Passed before.fault f → Passed r.fault f) }
+    ensures old { IfOk result (λ r. (f : FaultAt) → Passed before.fault f → Passed r.fault f) }
     ensures new { IfOk result (λ r. StatePassed net.now state r.fault) }
     ensures pairs { IfOk result (λ r. AddsStatePairs net.now state before.pairs r.pairs) }
 {
@@ -132,7 +133,7 @@ fn with_kind(
     requires one { IsOne (StructureFault net.now) before.fault }
     ensures below { OnOk result ((j : ℕ) → slice_index marks.new j ≤ mark) }
     ensures one { IfOk result (λ r. IsOne (StructureFault net.now) r.fault) }
-    ensures old { IfOk result (λ r. (f : Found) → Passed before.fault f → Passed r.fault f) }
+    ensures old { IfOk result (λ r. (f : FaultAt) → Passed before.fault f → Passed r.fault f) }
     ensures new { IfOk result (λ r. KindPassed net.now state kind r.fault) }
     ensures pairs { IfOk result (λ r. AddsPairs net.now (spec.list_of net.now state kind) before.pairs r.pairs) }
 {

@@ -5,7 +5,7 @@ ghost use Rattle.active_config.specs.declared.comp.Comp.TheVariants as comps;
 ghost use Rattle.active_config.specs.Tree.{state_count, children_of};
 ghost use Rattle.chart_tree.specs.declared.fault.FormKind.{FormKind};
 ghost use Rattle.chart_tree.specs.declared.fault.FormKind.TheVariants as kinds;
-ghost use Rattle.chart_tree.specs.declared.first.Found.{Found};
+ghost use Rattle.chart_tree.specs.declared.first.FaultAt.{FaultAt};
 ghost use Rattle.chart_tree.specs.First.{at_place, IsOne, Passed};
 ghost use Rattle.checked_chart.specs.declared.parts.ListKind.TheVariants.{Default};
 ghost use Rattle.chart_structure.specs.declared.net.Arrow.{Arrow};
@@ -18,7 +18,7 @@ use crate::kept::with_fault;
 use crate::lists::is_empty;
 use crate::net::Net;
 use active_config::Comp;
-use chart_tree::{FormKind, Found, keep};
+use chart_tree::{FaultAt, FormKind, keep};
 use checked_chart::ListKind;
 
 /// Whether a composition word is a leaf.
@@ -64,11 +64,11 @@ fn is_root(state: u32) -> bool
 }
 
 /// The first fault, with that of the composition of a state.
-fn with_composition(net: &Net<'_>, state: u32, first: Option<Found>) -> Option<Found>
+fn with_composition(net: &Net<'_>, state: u32, first: Option<FaultAt>) -> Option<FaultAt>
     requires state { state < state_count net.now.tree }
     requires one { IsOne (StructureFault net.now) first }
     ensures one { IsOne (StructureFault net.now) result }
-    ensures old { (f : Found) → Passed first f → Passed result f }
+    ensures old { (f : FaultAt) → Passed first f → Passed result f }
     ensures new { (wrong : FormKind) → tests.IsCompFault net.now state wrong →
         Passed result (at_place wrong (spec.name_of net.now state)) }
 {
@@ -82,11 +82,11 @@ fn with_composition(net: &Net<'_>, state: u32, first: Option<Found>) -> Option<F
 }
 
 /// The first fault, with that of a default list in an AND or a leaf.
-fn with_unwanted(net: &Net<'_>, state: u32, first: Option<Found>) -> Option<Found>
+fn with_unwanted(net: &Net<'_>, state: u32, first: Option<FaultAt>) -> Option<FaultAt>
     requires state { state < state_count net.now.tree }
     requires one { IsOne (StructureFault net.now) first }
     ensures one { IsOne (StructureFault net.now) result }
-    ensures old { (f : Found) → Passed first f → Passed result f }
+    ensures old { (f : FaultAt) → Passed first f → Passed result f }
     ensures new { (a : Arrow) → spec.word_of net.now state ≢ comps.Or
         → slice_get (spec.list_of net.now state Default) 0 ≡ Some a
         → Passed result (at_place kinds.DefaultUnwanted a.at) }
@@ -98,7 +98,7 @@ fn with_unwanted(net: &Net<'_>, state: u32, first: Option<Found>) -> Option<Foun
     let kind = FormKind::DefaultUnwanted;
     keep(
         first,
-        Found {
+        FaultAt {
             kind,
             at: list[0].at,
         },
@@ -106,11 +106,11 @@ fn with_unwanted(net: &Net<'_>, state: u32, first: Option<Found>) -> Option<Foun
 }
 
 /// The first fault, with that of history in an AND or a leaf.
-fn with_history(net: &Net<'_>, state: u32, first: Option<Found>) -> Option<Found>
+fn with_history(net: &Net<'_>, state: u32, first: Option<FaultAt>) -> Option<FaultAt>
     requires state { state < state_count net.now.tree }
     requires one { IsOne (StructureFault net.now) first }
     ensures one { IsOne (StructureFault net.now) result }
-    ensures old { (f : Found) → Passed first f → Passed result f }
+    ensures old { (f : FaultAt) → Passed first f → Passed result f }
     ensures new { (at : Span) → spec.word_of net.now state ≢ comps.Or
         → spec.history_of net.now state ≡ Some at
         → Passed result (at_place kinds.HistoryUnwanted at) }
@@ -122,19 +122,19 @@ fn with_history(net: &Net<'_>, state: u32, first: Option<Found>) -> Option<Found
                 first
             } else {
                 let kind = FormKind::HistoryUnwanted;
-                keep(first, Found { kind, at })
+                keep(first, FaultAt { kind, at })
             }
         }
     }
 }
 
 /// The first fault, with those of a state.
-pub fn with_state(net: &Net<'_>, state: u32, first: Option<Found>) -> Option<Found>
+pub fn with_state(net: &Net<'_>, state: u32, first: Option<FaultAt>) -> Option<FaultAt>
     requires state { state < state_count net.now.tree }
     requires one { IsOne (StructureFault net.now) first }
     ensures one { IsOne (StructureFault net.now) result }
-    ensures old { (f : Found) → Passed first f → Passed result f }
-    ensures new { (f : Found) → StateFault net.now state f → Passed result f }
+    ensures old { (f : FaultAt) → Passed first f → Passed result f }
+    ensures new { (f : FaultAt) → StateFault net.now state f → Passed result f }
 {
     let composed = with_composition(net, state, first);
     let unwanted = with_unwanted(net, state, composed);

@@ -3,7 +3,7 @@ use Rattle.std.proofs.Common.{◌≡◌, ℕ, ◌<◌, Bool, true, false, Option
 use Rattle.std.specs.Prelude.{◌⊎◌}
 use Rattle.std.proofs.lemmas.Bool.Decides.{nat_tests}
 use Rattle.chart_tree.specs.Form.{form_number}
-use Rattle.chart_tree.specs.declared.first.Found.{Found}
+use Rattle.chart_tree.specs.declared.first.FaultAt.{FaultAt}
 use Rattle.chart_tree.specs.First.{comes_before, is_before, kept, IsFirst, IsOne, Passed}
 
 -- (a, b, c) comes before (x, y, z)
@@ -19,10 +19,10 @@ comes_before-through : (a b c x y z u v w : ℕ) → comes_before a b c x y z �
 unfolding comes_before
 comes_before-through a b c x y z u v w p q = grind (arith, nat_tests)
 
-kept_at : Found → Found → Bool → Option Found
+kept_at : FaultAt → FaultAt → Bool → Option FaultAt
 kept_at f g b = cond b (Some g) (Some f)
 
-pub kept_one : (F : Found → Type 0) (o : Option Found) (g : Found) → IsOne F o → F g → IsOne F (kept o g)
+pub kept_one : (F : FaultAt → Type 0) (o : Option FaultAt) (g : FaultAt) → IsOne F o → F g → IsOne F (kept o g)
 unfolding kept
 kept_one F None g a b = b
 kept_one F (Some f) g a b = go (is_before g f)
@@ -31,7 +31,7 @@ kept_one F (Some f) g a b = go (is_before g f)
     go true = b
     go false = a
 
-pub kept_new : (o : Option Found) (g : Found) → Passed (kept o g) g
+pub kept_new : (o : Option FaultAt) (g : FaultAt) → Passed (kept o g) g
 unfolding kept
 kept_new None g = comes_before-irreflexive g.at.line g.at.column (form_number g.kind)
 kept_new (Some f) g = go (is_before g f) refl
@@ -40,7 +40,7 @@ kept_new (Some f) g = go (is_before g f) refl
     go true e = comes_before-irreflexive g.at.line g.at.column (form_number g.kind)
     go false e = e
 
-pub kept_old : (o : Option Found) (g h : Found) → Passed o h → Passed (kept o g) h
+pub kept_old : (o : Option FaultAt) (g h : FaultAt) → Passed o h → Passed (kept o g) h
 unfolding kept
 kept_old None g h a = absurd a
 kept_old (Some f) g h a = go (is_before g f) refl
@@ -50,6 +50,6 @@ kept_old (Some f) g h a = go (is_before g f) refl
     go false e = a
 
 -- where each fault was passed, what was kept is the first
-pub first_of_passed : (F : Found → Type 0) (o : Option Found) → IsOne F o → ((f : Found) → F f → Passed o f) → IsFirst F o
+pub first_of_passed : (F : FaultAt → Type 0) (o : Option FaultAt) → IsOne F o → ((f : FaultAt) → F f → Passed o f) → IsFirst F o
 first_of_passed F None a b = b
 first_of_passed F (Some g) a b = (a, b)

@@ -1,15 +1,15 @@
 -- The kinds of fault of a text: how they are printed, and when a text is too long.
 use Rattle.std.specs.Prelude.{◌≡◌, ℕ, ◌<◌, List, length, codes}
 use Rattle.token_grammar.specs.declared.token.Span.{Span}
-use Rattle.token_grammar.specs.declared.fault.Fault.{Fault}
-use Rattle.token_grammar.specs.declared.fault.Fault.TheVariants as reading
+use Rattle.token_grammar.specs.declared.fault.TokenFault.{TokenFault}
+use Rattle.token_grammar.specs.declared.fault.TokenFault.TheVariants as reading
 use Rattle.token_grammar.specs.declared.fault.Thing.TheVariants as things
 use Rattle.chart_tree.specs.declared.fault.FormKind.{FormKind}
 use Rattle.chart_tree.specs.declared.fault.FormKind.TheVariants as forms
 use Rattle.chart_tree.specs.declared.limits.TheConstants.{CHART_TEXT_LIMIT}
 
 -- the kind of a fault of reading
-abbrev pub kind_of : Fault → FormKind
+abbrev pub kind_of : TokenFault → FormKind
 kind_of reading.Expected = forms.Expected
 kind_of reading.LiteralTooLong = forms.LiteralTooLong
 kind_of reading.LiteralNotBinary = forms.LiteralNotBinary

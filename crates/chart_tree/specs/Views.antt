@@ -16,9 +16,12 @@ use Rattle.chart_tree.specs.declared.state.DestText.TheVariants as dests
 use Rattle.chart_tree.specs.declared.state.GuardText.{GuardText}
 use Rattle.chart_tree.specs.declared.state.TransText.{TransText}
 use Rattle.chart_tree.specs.declared.state.JunctionText.{JunctionText}
-use Rattle.chart_tree.specs.declared.state.StateText.{StateText, StateText', Row_of-StateText, end_of-StateText, more_of-StateText}
+use Rattle.chart_tree.specs.declared.state.StateText.{StateText, StateText', Row_of-StateText}
+use Rattle.chart_tree.specs.declared.state.StateText.{end_of-StateText, more_of-StateText}
 use Rattle.chart_tree.specs.declared.chart.ChartText.{ChartText}
-use Rattle.chart_tree.specs.Trees.{ScaleParts, Sort, FlagSort, NumberSort, Var, Path, Expr, Lit, Flag, Name, Active, Unary, Binary, Stmt, Assign, Send, Emit, Dest, ToState, ToJunction, Guard, Trans, Junction, State, StateOf, States, NoState, MoreStates, Chart}
+use Rattle.chart_tree.specs.Trees.{ScaleParts, Sort, FlagSort, NumberSort, Var, Path, Expr, Lit, Flag, Name}
+use Rattle.chart_tree.specs.Trees.{Active, Unary, Binary, Stmt, Assign, Send, Emit, Dest, ToState, ToJunction}
+use Rattle.chart_tree.specs.Trees.{Guard, Trans, Junction, State, StateOf, States, NoState, MoreStates, Chart}
 
 -- the parts of a scale
 abbrev pub parts_of : Scale → ScaleParts

@@ -5,7 +5,7 @@ ghost use Rattle.chart_tree.specs.declared.fault.FormFault.TheVariants.{Memory};
 
 use std::alloc::AllocError;
 use thiserror::Error;
-use token_grammar::{Fault, Span, Thing};
+use token_grammar::{Span, Thing, TokenFault};
 
 /// What is wrong with a text, at a place.
 #[derive(Clone, Copy, Debug, PartialEq, Eq)]
@@ -70,15 +70,15 @@ pub enum FormKind {
 
 impl FormKind {
     /// The kind of a fault of reading.
-    pub fn of(fault: Fault) -> FormKind
+    pub fn of(fault: TokenFault) -> FormKind
         ensures { result ≡ kind_of fault }
     {
         match fault {
-            Fault::Expected => FormKind::Expected,
-            Fault::LiteralTooLong => FormKind::LiteralTooLong,
-            Fault::LiteralNotBinary => FormKind::LiteralNotBinary,
-            Fault::NestTooDeep => FormKind::NestTooDeep,
-            Fault::TooMany(thing) => FormKind::TooMany(thing),
+            TokenFault::Expected => FormKind::Expected,
+            TokenFault::LiteralTooLong => FormKind::LiteralTooLong,
+            TokenFault::LiteralNotBinary => FormKind::LiteralNotBinary,
+            TokenFault::NestTooDeep => FormKind::NestTooDeep,
+            TokenFault::TooMany(thing) => FormKind::TooMany(thing),
         }
     }
 

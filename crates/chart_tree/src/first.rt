@@ -7,7 +7,7 @@ use token_grammar::Span;
 
 /// A fault: its kind and its place.
 #[derive(Clone, Copy, Debug, PartialEq, Eq)]
-pub struct Found {
+pub struct FaultAt {
     /// What is wrong.
     pub kind: FormKind,
     /// Where.
@@ -16,7 +16,7 @@ pub struct Found {
 
 /// Whether a fault is before another one: by place, and at one place by number.
 #[tactic(auto, unfolding(crate::specs::First::comes_before))]
-fn is_before(a: Found, b: Found) -> bool
+fn is_before(a: FaultAt, b: FaultAt) -> bool
     ensures { result ≡ spec.is_before a b }
 {
     let (line, column, number) = (a.at.line, a.at.column, a.kind.number());
@@ -27,7 +27,7 @@ fn is_before(a: Found, b: Found) -> bool
 
 /// The earlier of a fault that was kept and one more.
 #[tactic(auto, unfolding(crate::specs::First::kept))]
-pub fn keep(first: Option<Found>, one: Found) -> Option<Found>
+pub fn keep(first: Option<FaultAt>, one: FaultAt) -> Option<FaultAt>
     ensures { result ≡ spec.kept first one }
 {
     match first {

@@ -15,7 +15,7 @@ mod state;
 pub use chart::{ChartText, EventText, EventWord, VarText, VarWord};
 pub use expr::{BinWord, ExprText, UnWord};
 pub use fault::{FormFault, FormKind};
-pub use first::{Found, keep};
+pub use first::{FaultAt, keep};
 pub use limits::CHART_TEXT_LIMIT;
 pub use name::{LitText, NameText, PathText};
 pub use sort::{InitText, SortText};

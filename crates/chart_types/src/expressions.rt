@@ -10,13 +10,13 @@ ghost use Rattle.chart_types.specs.Types as spec;
 use crate::literals::signed_literal;
 use crate::operators::{Typed, with_binary, with_unary};
 use actions::{ExprSort, datum_sort, literal_sort, state_sort};
-use chart_tree::Found;
+use chart_tree::FaultAt;
 use resolved_tree::{Resolved, ResolvedExpr};
 
 /// What an expression gives, or why it has no sort; and the first fault, with those of its
 /// operators. Each operand is looked at once.
 #[tactic(auto, using(crate::proofs::FaultLemmas::expr_steps), unfolding(actions::specs::Sorts::sort_of))]
-pub(crate) fn with_expr(resolved: &Resolved, expr: &ResolvedExpr, found: Option<Found>) -> Typed
+pub(crate) fn with_expr(resolved: &Resolved, expr: &ResolvedExpr, found: Option<FaultAt>) -> Typed
     requires { IsInRange (resolved_of resolved.now) (expr_of expr.now) }
     ensures sort { result.sort
         ≡ spec.sort_at (scope_of (names_of resolved.now.names)) (expr_of expr.now) }

@@ -2,12 +2,12 @@
 ghost use Rattle.std.specs.Prelude.{◌≡◌};
 ghost use Rattle.chart_tree.specs.First.{at_place, kept};
 
-use chart_tree::{FormKind, Found, keep};
+use chart_tree::{FaultAt, FormKind, keep};
 use token_grammar::Span;
 
 /// The first fault, with one of that kind at that place.
-pub(crate) fn with_fault(kind: FormKind, at: Span, found: Option<Found>) -> Option<Found>
+pub(crate) fn with_fault(kind: FormKind, at: Span, found: Option<FaultAt>) -> Option<FaultAt>
     ensures { result ≡ kept found (at_place kind at) }
 {
-    keep(found, Found { kind, at })
+    keep(found, FaultAt { kind, at })
 }

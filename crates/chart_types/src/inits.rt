@@ -11,13 +11,13 @@ ghost use Rattle.chart_types.specs.Types as spec;
 use crate::faults::with_fault;
 use crate::literals::signed_literal;
 use actions::{Sort, Var};
-use chart_tree::{FormKind, Found, InitText};
+use chart_tree::{FaultAt, FormKind, InitText};
 use fixed_point::{Num, Scale, exact};
 use token_grammar::Span;
 
 /// The first fault, with that of a number that isn't a value of the scale.
 #[tactic(auto, unfolding(resolved_tree::specs::Faults::first_with))]
-fn with_range(scale: Scale, number: Num, at: Span, found: Option<Found>) -> Option<Found>
+fn with_range(scale: Scale, number: Num, at: Span, found: Option<FaultAt>) -> Option<FaultAt>
     ensures { result ≡ first_with found
         (spec.out_of_type (mantissa_in (Sort.Number scale) (Value.Number number)) at) }
 {
@@ -29,7 +29,7 @@ fn with_range(scale: Scale, number: Num, at: Span, found: Option<Found>) -> Opti
 
 /// The first fault, with that of a first value of a datum of the sort.
 #[tactic(auto, unfolding(resolved_tree::specs::Faults::first_with))]
-fn with_init(sort: Sort, init: InitText, found: Option<Found>) -> Option<Found>
+fn with_init(sort: Sort, init: InitText, found: Option<FaultAt>) -> Option<FaultAt>
     requires { IsInit init }
     ensures { result ≡ first_with found (spec.init_faults sort init) }
 {
@@ -45,7 +45,11 @@ fn with_init(sort: Sort, init: InitText, found: Option<Found>) -> Option<Found>
 }
 
 /// The first fault, with those of the first values of data.
-pub(crate) fn with_inits(vars: &[Var], inits: &[InitText], found: Option<Found>) -> Option<Found>
+pub(crate) fn with_inits(
+    vars: &[Var],
+    inits: &[InitText],
+    found: Option<FaultAt>,
+) -> Option<FaultAt>
     requires sized { length inits.now ≡ length vars.now }
     requires inits { AllByRecursion IsInit inits.now }
     ensures { result ≡ first_with found (spec.inits_faults vars.now inits.now) }

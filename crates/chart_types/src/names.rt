@@ -1,4 +1,4 @@
-//! The faults of what is assigned, sent, put out and waited for.
+//! The faults of what is assigned, sent, emitted and waited for.
 ghost use Rattle.std.specs.Prelude.{◌≡◌, slice_get};
 ghost use Rattle.actions.specs.Names.{names_of};
 ghost use Rattle.resolved_tree.specs.Faults.{first_with};
@@ -7,13 +7,13 @@ ghost use Rattle.chart_types.specs.Types as spec;
 use crate::faults::with_fault;
 use crate::operators::kind_of;
 use actions::{EventKind, ExprFault, ExprSort, Names, Sort, VarKind, assignment_fault};
-use chart_tree::{FormKind, Found};
+use chart_tree::{FaultAt, FormKind};
 use resolved_tree::Ref;
 use token_grammar::Span;
 
 /// The first fault, with that of an assignment to an input.
 #[tactic(auto, unfolding(resolved_tree::specs::Faults::first_with))]
-fn with_input(kind: VarKind, at: Span, found: Option<Found>) -> Option<Found>
+fn with_input(kind: VarKind, at: Span, found: Option<FaultAt>) -> Option<FaultAt>
     ensures { result ≡ first_with found (spec.to_input kind at) }
 {
     match kind {
@@ -28,8 +28,8 @@ fn with_unfit(
     sort: Sort,
     given: Result<ExprSort, ExprFault>,
     at: Span,
-    found: Option<Found>,
-) -> Option<Found>
+    found: Option<FaultAt>,
+) -> Option<FaultAt>
     ensures { result ≡ first_with found (spec.unfit_value sort given at) }
 {
     let Ok(given) = given else {
@@ -47,8 +47,8 @@ pub(crate) fn with_assignment(
     names: &Names,
     datum: Ref,
     given: Result<ExprSort, ExprFault>,
-    found: Option<Found>,
-) -> Option<Found>
+    found: Option<FaultAt>,
+) -> Option<FaultAt>
     ensures { result ≡ first_with found
         (spec.assignment_faults (slice_get (names_of names.now).vars datum.number) given datum.at) }
 {
@@ -63,7 +63,7 @@ pub(crate) fn with_assignment(
 
 /// The first fault, with that of an event that is sent and isn't local.
 #[tactic(auto, unfolding(resolved_tree::specs::Faults::first_with))]
-pub(crate) fn with_sent(names: &Names, event: Ref, found: Option<Found>) -> Option<Found>
+pub(crate) fn with_sent(names: &Names, event: Ref, found: Option<FaultAt>) -> Option<FaultAt>
     ensures { result ≡ first_with found
         (spec.unless_local (slice_get (names_of names.now).events event.number) event.at) }
 {
@@ -80,9 +80,9 @@ pub(crate) fn with_sent(names: &Names, event: Ref, found: Option<Found>) -> Opti
     }
 }
 
-/// The first fault, with that of an event that is put out and isn't an output event.
+/// The first fault, with that of an event that is emitted and isn't an output event.
 #[tactic(auto, unfolding(resolved_tree::specs::Faults::first_with))]
-pub(crate) fn with_emitted(names: &Names, event: Ref, found: Option<Found>) -> Option<Found>
+pub(crate) fn with_emitted(names: &Names, event: Ref, found: Option<FaultAt>) -> Option<FaultAt>
     ensures { result ≡ first_with found
         (spec.unless_output (slice_get (names_of names.now).events event.number) event.at) }
 {
@@ -97,7 +97,7 @@ pub(crate) fn with_emitted(names: &Names, event: Ref, found: Option<Found>) -> O
 
 /// The first fault, with that of a trigger that is an output event.
 #[tactic(auto, unfolding(resolved_tree::specs::Faults::first_with))]
-pub(crate) fn with_trigger(names: &Names, event: Ref, found: Option<Found>) -> Option<Found>
+pub(crate) fn with_trigger(names: &Names, event: Ref, found: Option<FaultAt>) -> Option<FaultAt>
     ensures { result ≡ first_with found
         (spec.if_output (slice_get (names_of names.now).events event.number) event.at) }
 {

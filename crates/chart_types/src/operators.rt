@@ -8,7 +8,7 @@ ghost use Rattle.chart_types.specs.Types as spec;
 
 use crate::faults::with_fault;
 use actions::{ExprFault, ExprSort, Op, binary_sort, negative_sort, not_sort};
-use chart_tree::{BinWord, FormKind, Found, UnWord};
+use chart_tree::{BinWord, FaultAt, FormKind, UnWord};
 use token_grammar::Span;
 
 /// What an expression gives, or why it has no sort; and the first fault so far.
@@ -17,7 +17,7 @@ pub(crate) struct Typed {
     /// The sort.
     pub sort: Result<ExprSort, ExprFault>,
     /// The first fault.
-    pub found: Option<Found>,
+    pub found: Option<FaultAt>,
 }
 
 /// The operator of a word with two operands.
@@ -65,8 +65,8 @@ pub(crate) fn kind_of(fault: ExprFault) -> FormKind
 fn with_operator(
     given: Result<ExprSort, ExprFault>,
     at: Span,
-    found: Option<Found>,
-) -> Option<Found>
+    found: Option<FaultAt>,
+) -> Option<FaultAt>
     ensures { result ≡ first_with found (spec.operator_fault given at) }
 {
     match given {

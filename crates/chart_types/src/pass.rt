@@ -12,12 +12,12 @@ ghost use Rattle.chart_types.specs.Types as spec;
 use crate::inits::with_inits;
 use crate::statements::with_block;
 use crate::transitions::with_list;
-use chart_tree::Found;
+use chart_tree::FaultAt;
 use resolved_tree::{Resolved, ResolvedJunction, ResolvedState};
 
 /// The first fault, with those of a state.
 #[tactic(auto, using(crate::proofs::FaultLemmas::steps))]
-fn with_state(resolved: &Resolved, state: &ResolvedState, found: Option<Found>) -> Option<Found>
+fn with_state(resolved: &Resolved, state: &ResolvedState, found: Option<FaultAt>) -> Option<FaultAt>
     requires { IsStateOf (resolved_of resolved.now) (state_of state.now) }
     ensures { result ≡ first_with found
         (spec.state_faults (names_of resolved.now.names) (state_of state.now)) }
@@ -31,7 +31,11 @@ fn with_state(resolved: &Resolved, state: &ResolvedState, found: Option<Found>) 
 }
 
 /// The first fault, with those of states.
-fn with_states(resolved: &Resolved, states: &[ResolvedState], found: Option<Found>) -> Option<Found>
+fn with_states(
+    resolved: &Resolved,
+    states: &[ResolvedState],
+    found: Option<FaultAt>,
+) -> Option<FaultAt>
     requires { AllByRecursion (IsStateOf (resolved_of resolved.now)) (map state_of states.now) }
     ensures { result ≡ first_with found
         (flat_map (spec.state_faults (names_of resolved.now.names)) (map state_of states.now)) }
@@ -47,8 +51,8 @@ fn with_states(resolved: &Resolved, states: &[ResolvedState], found: Option<Foun
 fn with_junction(
     resolved: &Resolved,
     junction: &ResolvedJunction,
-    found: Option<Found>,
-) -> Option<Found>
+    found: Option<FaultAt>,
+) -> Option<FaultAt>
     requires { AreTrans (resolved_of resolved.now) (junction_of junction.now).list }
     ensures { result ≡ first_with found
         (spec.list_faults (names_of resolved.now.names) (junction_of junction.now).list) }
@@ -60,8 +64,8 @@ fn with_junction(
 fn with_junctions(
     resolved: &Resolved,
     junctions: &[ResolvedJunction],
-    found: Option<Found>,
-) -> Option<Found>
+    found: Option<FaultAt>,
+) -> Option<FaultAt>
     requires { AllByRecursion (λ (j : Junction). AreTrans (resolved_of resolved.now) j.list)
         (map junction_of junctions.now) }
     ensures { result ≡ first_with found
@@ -78,7 +82,7 @@ fn with_junctions(
 /// The first fault of the types of a resolved chart, by place, and at one place by number. It takes
 /// no memory.
 #[tactic(auto, using(crate::proofs::FaultLemmas::steps), unfolding(resolved_tree::specs::Faults::first_of, crate::specs::Types::type_faults))]
-pub fn first_type_fault(resolved: &Resolved) -> Option<Found>
+pub fn first_type_fault(resolved: &Resolved) -> Option<FaultAt>
     requires { KeepsPromise (resolved_of resolved.now) }
     ensures { result ≡ first_of (spec.type_faults (resolved_of resolved.now)) }
 {

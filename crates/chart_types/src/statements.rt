@@ -9,12 +9,12 @@ ghost use Rattle.chart_types.specs.Types as spec;
 
 use crate::expressions::with_expr;
 use crate::names::{with_assignment, with_emitted, with_sent};
-use chart_tree::Found;
+use chart_tree::FaultAt;
 use resolved_tree::{Resolved, ResolvedStmt};
 
 /// The first fault, with those of a statement.
 #[tactic(auto, using(crate::proofs::FaultLemmas::steps))]
-fn with_stmt(resolved: &Resolved, stmt: &ResolvedStmt, found: Option<Found>) -> Option<Found>
+fn with_stmt(resolved: &Resolved, stmt: &ResolvedStmt, found: Option<FaultAt>) -> Option<FaultAt>
     requires { IsStmt (resolved_of resolved.now) (stmt_of stmt.now) }
     ensures { result ≡ first_with found
         (spec.stmt_faults (names_of resolved.now.names) (stmt_of stmt.now)) }
@@ -34,8 +34,8 @@ fn with_stmt(resolved: &Resolved, stmt: &ResolvedStmt, found: Option<Found>) -> 
 pub(crate) fn with_block(
     resolved: &Resolved,
     block: &[ResolvedStmt],
-    found: Option<Found>,
-) -> Option<Found>
+    found: Option<FaultAt>,
+) -> Option<FaultAt>
     requires { AllByRecursion (IsStmt (resolved_of resolved.now)) (block_of block.now) }
     ensures { result ≡ first_with found
         (spec.block_faults (names_of resolved.now.names) (block_of block.now)) }

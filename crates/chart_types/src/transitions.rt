@@ -12,13 +12,17 @@ use crate::faults::with_fault;
 use crate::names::with_trigger;
 use crate::statements::with_block;
 use actions::{ExprFault, ExprSort};
-use chart_tree::{FormKind, Found};
+use chart_tree::{FaultAt, FormKind};
 use resolved_tree::{Resolved, ResolvedGuard, ResolvedTrans};
 use token_grammar::Span;
 
 /// The first fault, with that of a guard that isn't a flag.
 #[tactic(auto, unfolding(resolved_tree::specs::Faults::first_with))]
-fn with_flag(given: Result<ExprSort, ExprFault>, at: Span, found: Option<Found>) -> Option<Found>
+fn with_flag(
+    given: Result<ExprSort, ExprFault>,
+    at: Span,
+    found: Option<FaultAt>,
+) -> Option<FaultAt>
     ensures { result ≡ first_with found (spec.no_flag given at) }
 {
     match given {
@@ -29,7 +33,7 @@ fn with_flag(given: Result<ExprSort, ExprFault>, at: Span, found: Option<Found>)
 
 /// The first fault, with those of a guard.
 #[tactic(auto, using(crate::proofs::FaultLemmas::steps))]
-fn with_guard(resolved: &Resolved, guard: &ResolvedGuard, found: Option<Found>) -> Option<Found>
+fn with_guard(resolved: &Resolved, guard: &ResolvedGuard, found: Option<FaultAt>) -> Option<FaultAt>
     requires { IsExpr (resolved_of resolved.now) (expr_of guard.now.expr) }
     ensures { result ≡ first_with found
         (spec.guard_faults (names_of resolved.now.names) (Some (guard_of guard.now))) }
@@ -40,7 +44,7 @@ fn with_guard(resolved: &Resolved, guard: &ResolvedGuard, found: Option<Found>) 
 
 /// The first fault, with those of a transition.
 #[tactic(auto, using(crate::proofs::FaultLemmas::steps))]
-fn with_trans(resolved: &Resolved, trans: &ResolvedTrans, found: Option<Found>) -> Option<Found>
+fn with_trans(resolved: &Resolved, trans: &ResolvedTrans, found: Option<FaultAt>) -> Option<FaultAt>
     requires { IsTrans (resolved_of resolved.now) (trans_of trans.now) }
     ensures { result ≡ first_with found
         (spec.trans_faults (names_of resolved.now.names) (trans_of trans.now)) }
@@ -61,8 +65,8 @@ fn with_trans(resolved: &Resolved, trans: &ResolvedTrans, found: Option<Found>) 
 pub(crate) fn with_list(
     resolved: &Resolved,
     list: &[ResolvedTrans],
-    found: Option<Found>,
-) -> Option<Found>
+    found: Option<FaultAt>,
+) -> Option<FaultAt>
     requires { AreTrans (resolved_of resolved.now) (list_of list.now) }
     ensures { result ≡ first_with found
         (spec.list_faults (names_of resolved.now.names) (list_of list.now)) }

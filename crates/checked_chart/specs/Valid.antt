@@ -80,7 +80,7 @@ pub record IsTrigger (n : Names) (e : ℕ) : Type 0 where
   pub declared : slice_get n.events e ≡ Some decl
   pub no_output : decl.kind ≢ events.Output
 
--- a statement: sent events are local ones, and those that are put out are output events
+-- a statement: sent events are local ones, and those that are emitted are output events
 abbrev pub IsStmt : Chart → Stmt → Type 0
 IsStmt c (Assign v e) = CanAssign c.names v e
 IsStmt c (Send e) = IsEventOf c.names e events.Local

@@ -102,6 +102,7 @@ impl Chart {
         ensures within { result < state_count (chart_of self.now).tree }
         ensures valid { IsValid (chart_of self.now) }
     {
+        // Only the proof reads the shape: the chart is valid.
         let _ = self.shape();
         0
     }

@@ -4,5 +4,5 @@ pub mod Follows
 pub mod Made
 pub mod SameRuns
 pub mod Asking
-pub mod Found
+pub mod Views
 pub mod Tested

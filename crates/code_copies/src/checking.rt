@@ -16,7 +16,7 @@ ghost use Rattle.code_language.specs.Code.{code_of, instr_of, instrs_of};
 ghost use Rattle.code_language.specs.Instrs as instrs;
 ghost use Rattle.code_copies.specs.Facts.{at_start, at_reaction};
 ghost use Rattle.code_copies.specs.Follows.{Serves};
-ghost use Rattle.code_copies.specs.Found.{
+ghost use Rattle.code_copies.specs.Views.{
   copy_of,
   facts_of,
   maybe_place_of,

@@ -2,7 +2,7 @@
 ghost use Rattle.std.specs.Prelude.{IsTrue};
 ghost use Rattle.code_language.specs.Code.{cond_of};
 ghost use Rattle.code_copies.specs.Facts as spec;
-ghost use Rattle.code_copies.specs.Found.{event_fact_of, facts_of, places_of};
+ghost use Rattle.code_copies.specs.Views.{event_fact_of, facts_of, places_of};
 ghost use Rattle.code_copies.specs.Made.{HandsOn, EventHandsOn, TestHandsOn};
 
 use crate::known::{EventFact, Facts, implies, implies_without, told};

@@ -7,7 +7,7 @@ ghost use Rattle.code_language.specs.Reactions.{CodeRun};
 ghost use Rattle.code_language.specs.WellFormed.{IsCode};
 ghost use Rattle.code_shrink.specs.Shrunk.{IsShrunk};
 ghost use Rattle.code_copies.specs.Asking.{asking_code, MayAsk};
-ghost use Rattle.code_copies.specs.Follows.{Key, HasCopies};
+ghost use Rattle.code_copies.specs.Follows.{CopyKey, HasCopies};
 ghost use Rattle.code_copies.specs.Made.{CopyPlan, made_code, PlanIsRight};
 ghost use Rattle.code_copies.specs.Rooted.{NeverClears, MakesRoot, IsRooted};
 ghost use Rattle.code_copies.specs.SameRuns.{HasSameRuns};
@@ -15,7 +15,7 @@ ghost use Rattle.code_copies.specs.SameRuns.{HasSameRuns};
 /// Code whose procedures are copies, for known homes and events and an active root, of those of
 /// other code has the runs of that code and no others, for all bounds and all lists of events.
 pub fn copies_for_facts_run_as_their_code()
-    ensures { (k k' : Code) (keys : List Key) → HasCopies keys k k' → (b : Bounds)
+    ensures { (k k' : Code) (keys : List CopyKey) → HasCopies keys k k' → (b : Bounds)
         (events : List EventWithInputs) (moments : List Moment)
         → CodeRun k b events moments ↔ CodeRun k' b events moments }
 {}

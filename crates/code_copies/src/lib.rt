@@ -29,7 +29,7 @@ pub use laws::{
     passes_with_the_same_runs_compose,
 };
 pub use making::made;
-pub use plan::{Key, Place, Plan, ProcedureCopy};
+pub use plan::{CopyKey, Place, Plan, ProcedureCopy};
 pub use searching::{
     COPY_LIMIT, COPY_ROOM, FoundCopy, PLACE_LIMIT, copies_allowed, find, find_by_home, number_of,
     rank_at, ranks_of,

@@ -5,7 +5,7 @@ use crate::known::Facts;
 ///
 /// Source: this project's choice.
 #[derive(Clone, Copy, Debug, PartialEq, Eq)]
-pub struct Key {
+pub struct CopyKey {
     /// The procedure.
     pub proc: u32,
     /// What is known where the copy begins.
@@ -33,7 +33,7 @@ pub struct Place {
 #[derive(Debug, Drop)]
 pub struct ProcedureCopy {
     /// What the copy is.
-    pub key: Key,
+    pub key: CopyKey,
     /// The places.
     pub places: Vec<Option<Place>>,
 }

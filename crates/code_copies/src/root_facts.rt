@@ -3,7 +3,7 @@ ghost use Rattle.std.specs.Prelude.{◌≡◌, ℕ, List, Vec};
 ghost use Rattle.std.specs.declared.alloc.Global.{Global};
 ghost use Rattle.code_language.specs.Code.{cond_of};
 ghost use Rattle.code_copies.specs.Facts as spec;
-ghost use Rattle.code_copies.specs.Found.{facts_of};
+ghost use Rattle.code_copies.specs.Views.{facts_of};
 
 use crate::known::Facts;
 use code_language::Cond;

@@ -2,7 +2,7 @@
 ghost use Rattle.std.specs.Prelude.{◌≡◌, ℕ, Option, Some, IfSome, IsTrue, slice_get};
 ghost use Rattle.code_copies.specs.Facts as spec;
 ghost use Rattle.code_copies.specs.Follows.{Serves, ServesNote};
-ghost use Rattle.code_copies.specs.Found.{facts_of, plan_of};
+ghost use Rattle.code_copies.specs.Views.{facts_of, plan_of};
 ghost use Rattle.code_copies.specs.Made.{keys_of};
 
 use crate::known::{Facts, implies, tell_home_alone};

@@ -7,7 +7,7 @@ use Rattle.actions.specs.declared.event.Event.TheVariants.{Start}
 use Rattle.actions.specs.World.{World, world_before, begun}
 use Rattle.actions.specs.Work.{from_outside}
 use Rattle.code_language.specs.Code.{Code}
-use Rattle.code_language.specs.Machine.{Machine, fresh, step, run}
+use Rattle.code_language.specs.Machine.{CodeState, fresh, step, run}
 use Rattle.code_language.specs.Measures.{greatest, heights, works}
 use Rattle.code_language.specs.Reactions.{program_of, start_machine, react_machine}
 use Rattle.code_language.specs.WellFormed.{IsCode, known_of}
@@ -38,11 +38,11 @@ module _ (k : Code) (b : Bounds) (is : IsCode k) where
   -- ---- instructions
 
   -- each step takes from what is left
-  pub step_falls : (m : Machine) → LeavesLess k b (left_of k b m) (step (program_of k b) m)
+  pub step_falls : (m : CodeState) → LeavesLess k b (left_of k b m) (step (program_of k b) m)
   step_falls m = lefts.step_falls (program_of k b) ws (greatest (works k.procedures.procs)) works_are m
 
   -- so a run is over after more steps than are left
-  pub run_ends : (m : Machine) (n : ℕ) → left_of k b m < n → IsOver (run (program_of k b) n m)
+  pub run_ends : (m : CodeState) (n : ℕ) → left_of k b m < n → IsOver (run (program_of k b) n m)
   run_ends m n lt = lefts.run_ends (program_of k b) ws (greatest (works k.procedures.procs)) works_are n m lt
 
   -- and a start and a reaction are over in time
@@ -61,11 +61,11 @@ module _ (k : Code) (b : Bounds) (is : IsCode k) where
   -- ---- frames
 
   -- each step keeps the room
-  pub step_roomy : (m : Machine) → IsRoomy k b m → StaysRoomy k b (step (program_of k b) m)
+  pub step_roomy : (m : CodeState) → IsRoomy k b m → StaysRoomy k b (step (program_of k b) m)
   step_roomy m room = rooms.step_roomy (program_of k b) hs (greatest (heights k.procedures.procs)) heights_are m room
 
   -- so there are few frames
-  pub frames_bounded : (m : Machine) → IsRoomy k b m → length m.frames ≤ most_frames k b
+  pub frames_bounded : (m : CodeState) → IsRoomy k b m → length m.frames ≤ most_frames k b
   frames_bounded m room =
       rooms.frames_bounded (program_of k b) hs (greatest (heights k.procedures.procs)) heights_are m room
 
@@ -82,7 +82,7 @@ module _ (k : Code) (b : Bounds) (is : IsCode k) where
       (begun w) (from_outside e) 0 (fresh k.procedures.react None 0 0 None) refl
 
   -- and have few frames at each moment
-  few_ahead : (n : ℕ) (m : Machine) → IsRoomy k b m → HasFrames (most_frames k b) (ahead (program_of k b) n m)
+  few_ahead : (n : ℕ) (m : CodeState) → IsRoomy k b m → HasFrames (most_frames k b) (ahead (program_of k b) n m)
   few_ahead n m room =
       let C = program_of k b in
       let most = greatest (heights k.procedures.procs) in

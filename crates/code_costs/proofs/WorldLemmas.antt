@@ -1,4 +1,4 @@
--- What a step that pays, marks, clears, keeps or puts out makes of the world of a moment.
+-- What a step that pays, marks, clears, keeps or emits makes of the world of a moment.
 use Rattle.std.proofs.Common.{◌≡◌, ℕ, ◌+◌, ◌<◌, nat_le, Bool, true, false, [], ◌∷◌, length}
 use Rattle.std.proofs.Common.{Option, Some, None, Ok, Err, refl, arith, length-append}
 use Rattle.std.specs.Prelude.{if◌then◌else◌}
@@ -11,7 +11,7 @@ use Rattle.active_config.specs.declared.comp.Comp.TheVariants.{Leaf, Or, And}
 use Rattle.active_config.specs.Tree.{parent_of, comp_of}
 use Rattle.active_config.specs.Marks.{Configuration, IsConsistent, can_mark, is_bare}
 use Rattle.active_config.proofs.MarksLemmas.{marked, cleared, remembered}
-use Rattle.actions.specs.World.{World, put_out}
+use Rattle.actions.specs.World.{World, emitted}
 use Rattle.actions.proofs.DataLemmas.{all_push}
 use Rattle.actions.specs.Changes.{paid_in, set_mark, mark_in, clear_in, keep_in}
 use Rattle.checked_chart.specs.Chart.{is_or}
@@ -103,9 +103,9 @@ module _ (k : Code) (b : Bounds) (w : World) (ok : IsWorld k b w) where
       at (Some p) up e =
           marks_fit _ (remembered k.tree w.marks ok.fits.consistent s p up (or_of (comp_of k.tree p) e))
 
--- an event that is put out by a step that was paid
+-- an event that is emitted by a step that was paid
 pub out_fits : (k : Code) (b : Bounds) (w v : World) (e : ℕ) → IsPaid k b w v → e < length k.names.events
-    → IsWorld k b (put_out e v)
+    → IsWorld k b (emitted e v)
 out_fits k b w v e paid lt = record {
   fits = record {
     states = paid.world.fits.states;

@@ -9,7 +9,7 @@ ghost use Rattle.actions.specs.World.{World, Fits};
 ghost use Rattle.code_language.specs.declared.code.RawCode.{RawCode};
 ghost use Rattle.code_language.specs.Code.{Code, code_of};
 ghost use Rattle.code_language.specs.Instrs.{Assign, Unless, Test};
-ghost use Rattle.code_language.specs.Machine.{Frame, Machine, step, run};
+ghost use Rattle.code_language.specs.Machine.{Frame, CodeState, step, run};
 ghost use Rattle.code_language.specs.Reactions.{program_of, start_machine, react_machine};
 ghost use Rattle.code_language.specs.WellFormed.{IsCode, known_of, instr_typed};
 ghost use Rattle.code_costs.specs.Ahead.{ahead, IsOver};
@@ -33,9 +33,9 @@ pub fn events_take_few_instructions()
         → IsOver (run (program_of k b) (most_instructions k b) (start_machine k)) }
     ensures reaction { (k : Code) (b : Bounds) (w : World) (e : Event) → IsCode k
         → IsOver (run (program_of k b) (most_instructions k b) (react_machine k w e)) }
-    ensures step { (k : Code) (b : Bounds) (m : Machine) → IsCode k
+    ensures step { (k : Code) (b : Bounds) (m : CodeState) → IsCode k
         → LeavesLess k b (left_of k b m) (step (program_of k b) m) }
-    ensures ends { (k : Code) (b : Bounds) (m : Machine) (n : ℕ) → IsCode k
+    ensures ends { (k : Code) (b : Bounds) (m : CodeState) (n : ℕ) → IsCode k
         → left_of k b m < n → IsOver (run (program_of k b) n m) }
 {}
 
@@ -49,9 +49,9 @@ pub fn events_take_few_frames()
     ensures start_roomy { (k : Code) (b : Bounds) → IsCode k → IsRoomy k b (start_machine k) }
     ensures reaction_roomy { (k : Code) (b : Bounds) (w : World) (e : Event) → IsCode k
         → IsRoomy k b (react_machine k w e) }
-    ensures step { (k : Code) (b : Bounds) (m : Machine) → IsCode k
+    ensures step { (k : Code) (b : Bounds) (m : CodeState) → IsCode k
         → IsRoomy k b m → StaysRoomy k b (step (program_of k b) m) }
-    ensures few { (k : Code) (b : Bounds) (m : Machine) → IsCode k
+    ensures few { (k : Code) (b : Bounds) (m : CodeState) → IsCode k
         → IsRoomy k b m → length m.frames ≤ most_frames k b }
 {}
 
@@ -66,11 +66,11 @@ pub fn moments_are_sound()
     ensures reaction { (k : Code) (b : Bounds) (w : World) (e : Event) → IsCode k
         → Fits k.tree k.names w → IsEvent k.names e → IsMoment k b (react_machine k w e) }
     ensures events { (n : Names) (e : Event) → CanReactTo n e → IsEvent n e }
-    ensures step { (k : Code) (b : Bounds) (m : Machine) → IsCode k
+    ensures step { (k : Code) (b : Bounds) (m : CodeState) → IsCode k
         → IsMoment k b m → StaysSound k b (step (program_of k b) m) }
-    ensures moments { (k : Code) (b : Bounds) (n : ℕ) (m : Machine) → IsCode k
+    ensures moments { (k : Code) (b : Bounds) (n : ℕ) (m : CodeState) → IsCode k
         → IsMoment k b m → StaysSound k b (ahead (program_of k b) n m) }
-    ensures instruction { (k : Code) (b : Bounds) (m : Machine) (f : Frame) (fs : List Frame)
+    ensures instruction { (k : Code) (b : Bounds) (m : CodeState) (f : Frame) (fs : List Frame)
         → IsCode k → IsMoment k b m → m.frames ≡ f ∷ fs → HasInstr k f }
     ensures assign { (k : Code) (b : Bounds) (w : World) (v : ℕ) (e : Expr) → IsWorld k b w
         → instr_typed (known_of k) (Assign v e) ≡ true → CanAssign w v e }

@@ -40,11 +40,11 @@ IsOfValue faults.Steps = ⊥
 IsOfValue (faults.Overflow v) = Unit {0}
 IsOfValue faults.Zero = Unit {0}
 
--- as many steps are used, and the same is put out
+-- as many steps are used, and the same is emitted
 abbrev pub IsSame : World → World → Type 0
 IsSame w v = (v.used ≡ w.used) × (v.outputs ≡ w.outputs)
 
--- one more step is used, and the same is put out
+-- one more step is used, and the same is emitted
 abbrev pub IsPaid : World → World → Type 0
 IsPaid w v = (v.used ≡ suc w.used) × (v.outputs ≡ w.outputs)
 

@@ -9,13 +9,13 @@ use Rattle.flow_base.specs.declared.fault.Fault.{Fault}
 use Rattle.flow_base.specs.declared.fault.Fault.TheVariants as faults
 use Rattle.active_config.specs.Marks.{is_on, is_bare}
 use Rattle.actions.specs.declared.event.Event.{Event}
-use Rattle.actions.specs.World.{World, put_out}
+use Rattle.actions.specs.World.{World, emitted}
 use Rattle.actions.specs.Changes.{paid_in, assigned_in, mark_in, clear_in, keep_in}
 use Rattle.actions.specs.Work.{Now, deeper}
 use Rattle.code_language.specs.Code.{fetch}
 use Rattle.code_language.specs.Instrs.{Instr, Assign, Emit, Mark, Clear, Keep, Unless, Skip, Call, Visit, Send, SendTo}
 use Rattle.code_language.specs.Instrs.{Play, Home, Begin, Pass, Ret}
-use Rattle.code_language.specs.Machine.{Program, Frame, Machine, machine, fresh, next, past, Next, Goes, Stops, holds}
+use Rattle.code_language.specs.Machine.{Program, Frame, CodeState, machine, fresh, next, past, Next, Goes, Stops, holds}
 use Rattle.code_language.specs.Machine.{if_ok}
 use Rattle.code_language.specs.Machine.{test_next, now_after, pass_on, noted, later, sent, if_deep, play_next, act}
 use Rattle.code_language.specs.Machine.{act_on, step}
@@ -59,7 +59,7 @@ pub record IsLevel (c : Counted) : Type 0 where
   pub spent : (b : Bounds) (most : ℕ) → MayFault c b most (Some faults.Steps)
   pub value : (b : Bounds) (most : ℕ) (x : Fault) → IsOfValue x → MayFault c b most (Some x)
   pub over : (b : Bounds) (most : ℕ) → MayFault c b most None
-  pub amounts : (m : Machine) → m.now.depth ≡ sends_of m.frames → amount c m ≡ level c m.frames
+  pub amounts : (m : CodeState) → m.now.depth ≡ sends_of m.frames → amount c m ≡ level c m.frames
 
 -- the depth is a level
 pub depth_level : IsLevel Depth
@@ -123,7 +123,7 @@ HaveRoom c N most (f ∷ fs) =
     (level c (f ∷ fs) + N.left f.proc f.place ≤ most) × (Owes c N f fs × HaveRoom c N most fs)
 
 -- the frames leave room, and each level of depth has saved an event
-pub record IsLow (C : Program) (c : Counted) (N : Numbers) (most : ℕ) (m : Machine) : Type 0 where
+pub record IsLow (C : Program) (c : Counted) (N : Numbers) (most : ℕ) (m : CodeState) : Type 0 where
   pub depth : m.now.depth ≡ sends_of m.frames
   pub room : HaveRoom c N most m.frames
 
@@ -143,8 +143,8 @@ module _ (C : Program) (c : Counted) (N : Numbers) (most : ℕ) (s : IsLevel c)
   module _ (w : World) (now : Now) (r : ℕ) (f : Frame) (fs : List Frame)
       (low : IsLow C c N most (machine w now r (f ∷ fs))) where
     -- so much, and what is left at a place, is within what is left, and the place owes no less
-    abbrev Step : ℕ → ℕ → Type 0
-    Step brings j =
+    abbrev HasRoomAt : ℕ → ℕ → Type 0
+    HasRoomAt brings j =
         (joined c brings (N.left f.proc j) ≤ N.left f.proc f.place) × (N.owed f.proc f.place ≤ N.owed f.proc j)
 
     -- the top frame has room at a place to which it goes on
@@ -219,26 +219,26 @@ module _ (C : Program) (c : Counted) (N : Numbers) (most : ℕ) (s : IsLevel c)
     -- ---- instructions
 
     -- the next place owes enough
-    next_owes : (brings : ℕ) → Step brings (f.place + 1) → Owes c N (next f) fs
+    next_owes : (brings : ℕ) → HasRoomAt brings (f.place + 1) → Owes c N (next f) fs
     next_owes brings on = omega (arith, on.1, low.room.1.0)
 
     -- and so does a place past others
-    past_owes : (k : ℕ) → Step 0 (f.place + 1 + k) → Owes c N (past f k) fs
+    past_owes : (k : ℕ) → HasRoomAt 0 (f.place + 1 + k) → Owes c N (past f k) fs
     past_owes k on = omega (arith, on.1, low.room.1.0)
 
     -- an instruction that only goes on
-    plain : (v : World) (r' : ℕ) → (brings : ℕ) → Step brings (f.place + 1)
+    plain : (v : World) (r' : ℕ) → (brings : ℕ) → HasRoomAt brings (f.place + 1)
         → StaysLow C c N most (Goes (machine v now r' (next f ∷ fs)))
     plain v r' brings on =
         goes v r' (next f) refl refl (room_at brings (f.place + 1) on.0).0 (next_owes brings on)
 
     -- one that goes on past others
-    passes : (k : ℕ) → Step 0 (f.place + 1 + k) → StaysLow C c N most (Goes (machine w now r (past f k ∷ fs)))
+    passes : (k : ℕ) → HasRoomAt 0 (f.place + 1 + k) → StaysLow C c N most (Goes (machine w now r (past f k ∷ fs)))
     passes k on = goes w r (past f k) refl refl (room_at 0 (f.place + 1 + k) on.0).0 (past_owes k on)
 
     -- a call
     calls : (v : World) (p : ℕ) (tag : Option ℕ) (brings : ℕ) → of_note c tag + N.left p 0 ≤ brings
-        → Step brings (f.place + 1) → HandsOn c N (N.owed f.proc f.place) p tag
+        → HasRoomAt brings (f.place + 1) → HandsOn c N (N.owed f.proc f.place) p tag
         → StaysLow C c N most (Goes (machine v now r (fresh p tag f.base f.home None ∷ next f ∷ fs)))
     calls v p tag brings le on hands =
         let room = room_at brings (f.place + 1) on.0 in
@@ -246,7 +246,7 @@ module _ (C : Program) (c : Counted) (N : Numbers) (most : ℕ) (s : IsLevel c)
         room.0 (called_owes c N p tag f (next f) fs refl low.room.1.0 hands) (next_owes brings on)
 
     -- a send
-    sent_low : (v : World) (b : Bool) (e p : ℕ) → Step (of_step c + of_send c + N.left p 0) (f.place + 1)
+    sent_low : (v : World) (b : Bool) (e p : ℕ) → HasRoomAt (of_step c + of_send c + N.left p 0) (f.place + 1)
         → StaysLow C c N most (Goes (sent b e p v now r f fs))
     sent_low v true e p on =
         let brings = of_step c + of_send c + N.left p 0 in
@@ -257,18 +257,18 @@ module _ (C : Program) (c : Counted) (N : Numbers) (most : ℕ) (s : IsLevel c)
     sent_low v false e p on = plain v r (of_step c + of_send c + N.left p 0) on
 
     -- there is room for a send
-    send_room : (p : ℕ) → Step (of_step c + of_send c + N.left p 0) (f.place + 1)
+    send_room : (p : ℕ) → HasRoomAt (of_step c + of_send c + N.left p 0) (f.place + 1)
         → level c (f ∷ fs) + of_send c ≤ most
     send_room p on =
         omega (arith, (room_at (of_step c + of_send c + N.left p 0) (f.place + 1) on.0).1)
 
     -- `Pass`
-    pass_low : (x : ℕ) → Step 0 (f.place + 1) → StaysLow C c N most (pass_on w now x f fs)
+    pass_low : (x : ℕ) → HasRoomAt 0 (f.place + 1) → StaysLow C c N most (pass_on w now x f fs)
     pass_low zero on = plain w 0 0 on
     pass_low (suc x) on = dropped (suc x)
 
     -- `Play` that found a note
-    play_if : Step (N.owed f.proc f.place) (f.place + 1) → (x : ℕ × ℕ)
+    play_if : HasRoomAt (N.owed f.proc f.place) (f.place + 1) → (x : ℕ × ℕ)
         → joined c (of_play c N (Some x.1)) (debt c N (suc x.0) (f ∷ fs))
         ≤ debt c N (later f.cursor (suc f.base)) (f ∷ fs)
         → (b : Bool) → StaysLow C c N most
@@ -288,7 +288,7 @@ module _ (C : Program) (c : Counted) (N : Numbers) (most : ℕ) (s : IsLevel c)
     play_if on x first false = plain w r (N.owed f.proc f.place) on
 
     -- `Play`
-    play_low : Step (N.owed f.proc f.place) (f.place + 1) → (o : Option (ℕ × ℕ))
+    play_low : HasRoomAt (N.owed f.proc f.place) (f.place + 1) → (o : Option (ℕ × ℕ))
         → noted (later f.cursor (suc f.base)) (f ∷ fs) ≡ o → StaysLow C c N most (play_next C o w now r f fs)
     play_low on None q = plain w r (N.owed f.proc f.place) on
     play_low on (Some x) q =
@@ -300,7 +300,7 @@ module _ (C : Program) (c : Counted) (N : Numbers) (most : ℕ) (s : IsLevel c)
     act_low (Some (Assign v e)) q =
         if_ok_low (IsSame w) IsOfValue (assigned_in v e w) _ (assign_leaves v e w)
         (λ u. plain u r 0 (ok f.proc f.place (Assign v e) q)) (s.value C.bounds most)
-    act_low (Some (Emit e)) q = pays _ (λ v. plain (put_out e v) r _ (ok f.proc f.place (Emit e) q))
+    act_low (Some (Emit e)) q = pays _ (λ v. plain (emitted e v) r _ (ok f.proc f.place (Emit e) q))
     act_low (Some (Mark x)) q = plain (mark_in C.tree x w) r 0 (ok f.proc f.place (Mark x) q)
     act_low (Some (Clear x)) q = plain (clear_in C.tree x w) r 0 (ok f.proc f.place (Clear x) q)
     act_low (Some (Keep x)) q = plain (keep_in C.tree x w) r 0 (ok f.proc f.place (Keep x) q)
@@ -343,13 +343,13 @@ module _ (C : Program) (c : Counted) (N : Numbers) (most : ℕ) (s : IsLevel c)
   step_on w now r (f ∷ fs) low = act_low w now r f fs low (fetch C.procedures f.proc f.place) refl
 
   -- what follows a step
-  low_then : (o : Next) (go : Machine → Next) → StaysLow C c N most o
-      → ((m : Machine) → IsLow C c N most m → StaysLow C c N most (go m)) → StaysLow C c N most (next_then o go)
+  low_then : (o : Next) (go : CodeState → Next) → StaysLow C c N most o
+      → ((m : CodeState) → IsLow C c N most m → StaysLow C c N most (go m)) → StaysLow C c N most (next_then o go)
   low_then (Goes m) go k t = t m k
   low_then (Stops w x) go k t = k
 
   -- a run that leaves room stays so
-  ahead_low : (n : ℕ) (m : Machine) → IsLow C c N most m → StaysLow C c N most (ahead C n m)
+  ahead_low : (n : ℕ) (m : CodeState) → IsLow C c N most m → StaysLow C c N most (ahead C n m)
   ahead_low zero m low = low
   ahead_low (suc n) m low =
       low_then (step C m) (ahead C n) (step_on m.world m.now m.result m.frames low) (λ m' k. ahead_low n m' k)

@@ -1,4 +1,4 @@
--- An event puts out no more events than it uses steps, and uses no more steps than its bounds have.
+-- An event emits no more events than it uses steps, and uses no more steps than its bounds have.
 use Rattle.std.proofs.Common.{◌≡◌, ℕ, zero, suc, ◌≤◌, Bool, true, false, List, [], ◌∷◌, length, Option, Some, None}
 use Rattle.std.proofs.Common.{Result, Ok, Err, refl, ap, arith}
 use Rattle.std.specs.Prelude.{nat_le, if◌then◌else◌}
@@ -8,14 +8,15 @@ use Rattle.flow_base.specs.declared.fault.Fault.{Fault}
 use Rattle.active_config.specs.Marks.{is_on, is_bare}
 use Rattle.actions.specs.declared.event.Event.{Event}
 use Rattle.actions.specs.Changes.{paid_in, assigned_in}
-use Rattle.actions.specs.World.{World, put_out}
+use Rattle.actions.specs.World.{World, emitted}
 use Rattle.actions.specs.Work.{Now}
 use Rattle.code_costs.specs.Ahead.{next_then, ahead}
 use Rattle.code_costs.proofs.Used.{Leaving, Pays, paid_used}
 use Rattle.code_language.specs.Code.{Code, fetch}
 use Rattle.code_language.specs.Instrs.{Instr, Assign, Emit, Mark, Clear, Keep, Unless, Skip, Call, Visit, Send, SendTo}
 use Rattle.code_language.specs.Instrs.{Play, Home, Begin, Pass, Ret}
-use Rattle.code_language.specs.Machine.{Program, Frame, Machine, machine, fresh, next, Next, Goes, Stops, holds, if_ok}
+use Rattle.code_language.specs.Machine.{Program, Frame, CodeState, machine, fresh}
+use Rattle.code_language.specs.Machine.{next, Next, Goes, Stops, holds, if_ok}
 use Rattle.code_language.specs.Machine.{test_next, pass_on, noted, later, sent, if_deep, play_next, act, act_on, step}
 use Rattle.code_language.specs.Reactions.{program_of, start_machine, react_machine, Starts, Reacts}
 use Rattle.code_counts.specs.Claims.{HasMost}
@@ -25,7 +26,7 @@ use Rattle.code_counts.proofs.Bounded.{at_end, end_within}
 use Rattle.code_counts.proofs.Faults.{Leaves, IsOfValue, IsSame, IsPaid, IsSpent, assign_leaves, paid_leaves}
 use Rattle.code_counts.proofs.Faults.{mark_same, clear_same, keep_same}
 
--- no more is put out than steps are used, and no more are used than there are
+-- no more is emitted than steps are used, and no more are used than there are
 pub record IsCovered (b : Bounds) (w : World) : Type 0 where
   pub outputs : length w.outputs ≤ w.used
   pub used : w.used ≤ b.steps
@@ -37,7 +38,7 @@ StaysCovered b (Stops w fault) = IsCovered b w
 
 module _ (C : Program) where
   module _ (w : World) (is : IsCovered C.bounds w) where
-    -- nothing is paid and nothing put out
+    -- nothing is paid and nothing emitted
     same : (v : World) → IsSame w v → IsCovered C.bounds v
     same v s = record {
       outputs = omega (arith, is.outputs, ap length s.1, s.0);
@@ -63,7 +64,7 @@ module _ (C : Program) where
     needs_depth true go y = is
     needs_depth false go y = y
 
-    -- one more step is used than is needed for what was put out
+    -- one more step is used than is needed for what was emitted
     abbrev HasPaid : World → Type 0
     HasPaid v = (suc (length v.outputs) ≤ v.used) × (v.used ≤ C.bounds.steps)
 
@@ -83,8 +84,8 @@ module _ (C : Program) where
     paid : (v : World) → HasPaid v → IsCovered C.bounds v
     paid v p = record { outputs = omega (arith, p.0); used = p.1 }
 
-    -- and one in which an event is put out for it
-    puts : (e : ℕ) (v : World) → HasPaid v → IsCovered C.bounds (put_out e v)
+    -- and one in which an event is emitted for it
+    puts : (e : ℕ) (v : World) → HasPaid v → IsCovered C.bounds (emitted e v)
     puts e v p = record { outputs = omega (arith, p.0, length-append v.outputs (e ∷ [])); used = p.1 }
 
     -- a send
@@ -120,7 +121,7 @@ module _ (C : Program) where
     act_covered (Some (Assign v e)) now r f fs =
         assigns (assigned_in v e w) (λ u. Goes (machine u now r (next f ∷ fs))) (assign_leaves v e w) (λ u h. h)
     act_covered (Some (Emit e)) now r f fs =
-        pays (λ v. Goes (machine (put_out e v) now r (next f ∷ fs))) (λ v p. puts e v p)
+        pays (λ v. Goes (machine (emitted e v) now r (next f ∷ fs))) (λ v p. puts e v p)
     act_covered (Some (Mark x)) now r f fs = same _ (mark_same C.tree x w)
     act_covered (Some (Clear x)) now r f fs = same _ (clear_same C.tree x w)
     act_covered (Some (Keep x)) now r f fs = same _ (keep_same C.tree x w)
@@ -149,24 +150,24 @@ module _ (C : Program) where
   step_covered w now r (f ∷ fs) is = act_covered w is (fetch C.procedures f.proc f.place) now r f fs
 
   -- what follows a step
-  covered_then : (o : Next) (go : Machine → Next) → StaysCovered C.bounds o
-      → ((m : Machine) → IsCovered C.bounds m.world → StaysCovered C.bounds (go m))
+  covered_then : (o : Next) (go : CodeState → Next) → StaysCovered C.bounds o
+      → ((m : CodeState) → IsCovered C.bounds m.world → StaysCovered C.bounds (go m))
       → StaysCovered C.bounds (next_then o go)
   covered_then (Goes m) go h t = t m h
   covered_then (Stops w x) go h t = h
 
   -- a run stays so
-  ahead_covered : (n : ℕ) (m : Machine) → IsCovered C.bounds m.world → StaysCovered C.bounds (ahead C n m)
+  ahead_covered : (n : ℕ) (m : CodeState) → IsCovered C.bounds m.world → StaysCovered C.bounds (ahead C n m)
   ahead_covered zero m is = is
   ahead_covered (suc n) m is =
       covered_then (step C m) (ahead C n) (step_covered m.world m.now m.result m.frames is)
       (λ m' h. ahead_covered n m' h)
 
--- where nothing is put out and no step is used
+-- where nothing is emitted and no step is used
 covered_first : (b : Bounds) (w : World) → length w.outputs ≡ 0 → w.used ≡ 0 → IsCovered b w
 covered_first b w none unused = record { outputs = omega (arith, none, unused); used = omega (arith, unused) }
 
--- a start puts out no more events than the bounds have steps
+-- a start emits no more events than the bounds have steps
 pub start_few : (k : Code) (b : Bounds) (w : World) (x : Option Fault) → Starts k b w x → length w.outputs ≤ b.steps
 start_few k b w x starts =
     let h = at_end (StaysCovered b) (program_of k b) (start_machine k) (record { world = w; fault = x }) starts

@@ -11,7 +11,7 @@ use Rattle.actions.specs.World.{World}
 use Rattle.actions.proofs.RunLemmas.{Runs-along}
 use Rattle.code_costs.specs.Ahead.{ahead}
 use Rattle.code_language.specs.Code.{Code}
-use Rattle.code_language.specs.Machine.{Machine, Stops}
+use Rattle.code_language.specs.Machine.{CodeState, Stops}
 use Rattle.code_language.specs.Reactions.{Leads, program_of, start_machine, react_machine, Starts, Reacts, CodeRun}
 use Rattle.code_counts.specs.Claims.{HasMost, IsWithin}
 use Rattle.code_counts.specs.Needed.{AreSameFor, Serves, MayEnd, IsRoom, IsLimit}
@@ -22,7 +22,7 @@ use Rattle.code_counts.proofs.Bounded.{end_within}
 use Rattle.code_counts.proofs.SameSteps.{IsUnspent, IsShallow, unspent, shallow, Paid, Sent, leads_same}
 
 -- a run from this state never has more than what bounds all events
-abbrev BeginsEvent : Code → Machine → Type 0
+abbrev BeginsEvent : Code → CodeState → Type 0
 BeginsEvent k m = (c : Counted) (most : ℕ) → HasMost c k most → (b : Bounds) (n : ℕ)
     → IsWithin c b most (ahead (program_of k b) n m)
 
@@ -36,7 +36,7 @@ reaction_begins k w e c most has b n = has.reaction b n w e
 
 -- ---- runs under two bounds
 
-module _ (k : Code) (b b' : Bounds) (m : Machine) (begins : BeginsEvent k m) where
+module _ (k : Code) (b b' : Bounds) (m : CodeState) (begins : BeginsEvent k m) where
   -- neither run is ended since all steps were used, or both have as many
   paid_alike : AreSameFor Steps k b.steps b'.steps → (j : ℕ)
       → Paid b b' (ahead (program_of k b) j m) (ahead (program_of k b') j m)
@@ -118,7 +118,7 @@ module _ (k : Code) (b : Bounds) (found : Limits)
     (depth : Serves Depth k b.depth found.bounds.depth found.tests_depth)
     (outputs : IsRoom k found.bounds found.outputs) where
   -- an event ends by the fault of a bound only where it is tested
-  event_ends : (m : Machine) → BeginsEvent k m → (w : World) (x : Option Fault)
+  event_ends : (m : CodeState) → BeginsEvent k m → (w : World) (x : Option Fault)
       → Leads (program_of k found.bounds) m (record { world = w; fault = x })
       → MayEnd found.tests_steps found.tests_depth x
   event_ends m begins w x leads =

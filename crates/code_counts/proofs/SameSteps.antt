@@ -8,13 +8,13 @@ use Rattle.flow_base.specs.declared.fault.Fault.TheVariants as faults
 use Rattle.active_config.specs.Marks.{is_bare, is_on}
 use Rattle.actions.specs.Changes.{paid_in}
 use Rattle.actions.specs.Runs.{Moment}
-use Rattle.actions.specs.World.{World, put_out}
+use Rattle.actions.specs.World.{World, emitted}
 use Rattle.actions.specs.Work.{Now}
 use Rattle.code_costs.specs.Ahead.{next_then, ahead}
 use Rattle.code_language.specs.Code.{Code, fetch}
 use Rattle.code_language.specs.Instrs.{Instr, Assign, Emit, Mark, Clear, Keep, Unless, Skip, Call, Visit, Send, SendTo}
 use Rattle.code_language.specs.Instrs.{Play, Home, Begin, Pass, Ret}
-use Rattle.code_language.specs.Machine.{Program, Frame, Machine, machine, fresh, next, later, noted, sent, Next, Goes}
+use Rattle.code_language.specs.Machine.{Program, Frame, CodeState, machine, fresh, next, later, noted, sent, Next, Goes}
 use Rattle.code_language.specs.Machine.{Stops, if_ok, if_deep, play_next, act, act_on, step, and_then, run}
 use Rattle.code_language.specs.Reactions.{Leads, program_of}
 use Rattle.code_counts.specs.Claims.{IsWithin}
@@ -148,7 +148,7 @@ module _ (b b' : Bounds) where
     act_same None w now r f fs p s = refl
     act_same (Some (Assign v e)) w now r f fs p s = refl
     act_same (Some (Emit e)) w now r f fs p s =
-        pays_same w (λ v. Goes (machine (put_out e v) now r (next f ∷ fs))) p
+        pays_same w (λ v. Goes (machine (emitted e v) now r (next f ∷ fs))) p
     act_same (Some (Mark x)) w now r f fs p s = refl
     act_same (Some (Clear x)) w now r f fs p s = refl
     act_same (Some (Keep x)) w now r f fs p s = refl
@@ -183,7 +183,7 @@ module _ (b b' : Bounds) where
     AreAlike o o' = Paid o o' × Sent o o'
 
     -- neither run from a state is ever ended so
-    abbrev pub StayAlike : Machine → Type 0
+    abbrev pub StayAlike : CodeState → Type 0
     StayAlike m = (j : ℕ) → AreAlike (ahead C j m) (ahead C' j m)
 
     -- nor is it ended so by its first step
@@ -196,13 +196,13 @@ module _ (b b' : Bounds) where
     -- after the same step the rest of both runs is the same
     rest_same : (n : ℕ) (o : Next)
         → ((j : ℕ) → AreAlike (next_then o (ahead C j)) (next_then o (ahead C' j)))
-        → ((m : Machine) → StayAlike m → run C n m ≡ run C' n m)
+        → ((m : CodeState) → StayAlike m → run C n m ≡ run C' n m)
         → and_then o (run C n) ≡ and_then o (run C' n)
     rest_same n (Goes m) all go = go m all
     rest_same n (Stops w x) all go = refl
 
     -- both runs are the same
-    pub run_same : (n : ℕ) (m : Machine) → StayAlike m → run C n m ≡ run C' n m
+    pub run_same : (n : ℕ) (m : CodeState) → StayAlike m → run C n m ≡ run C' n m
     run_same zero m all = refl
     run_same (suc n) m all =
         let first = at_once (step C m) (step C' m) (all (suc zero)) in
@@ -212,7 +212,7 @@ module _ (b b' : Bounds) where
         (λ each. rest_same n (step C m) each (λ m' rest. run_same n m' rest)) (λ j. all (suc j))
 
     -- so they lead to the same moments
-    pub leads_same : (m : Machine) (moment : Moment) → StayAlike m → Leads C m moment → Leads C' m moment
+    pub leads_same : (m : CodeState) (moment : Moment) → StayAlike m → Leads C m moment → Leads C' m moment
     leads_same m moment all h = record {
       steps = h.steps;
       ends = sym (run_same h.steps m all) ∙ h.ends;

@@ -7,13 +7,13 @@ use Rattle.flow_base.specs.declared.bounds.Bounds.{Bounds}
 use Rattle.flow_base.specs.declared.fault.Fault.{Fault}
 use Rattle.flow_base.specs.declared.fault.Fault.TheVariants as faults
 use Rattle.active_config.specs.Marks.{is_on, is_bare}
-use Rattle.actions.specs.World.{World, put_out}
+use Rattle.actions.specs.World.{World, emitted}
 use Rattle.actions.specs.Changes.{paid_in, assigned_in, mark_in, clear_in, keep_in}
 use Rattle.actions.specs.Work.{Now, deeper}
 use Rattle.code_language.specs.Code.{fetch}
 use Rattle.code_language.specs.Instrs.{Instr, Assign, Emit, Mark, Clear, Keep, Unless, Skip, Call, Visit, Send, SendTo}
 use Rattle.code_language.specs.Instrs.{Play, Home, Begin, Pass, Ret}
-use Rattle.code_language.specs.Machine.{Program, Frame, Machine, machine, fresh, next, past, Next, Goes, Stops, holds}
+use Rattle.code_language.specs.Machine.{Program, Frame, CodeState, machine, fresh, next, past, Next, Goes, Stops, holds}
 use Rattle.code_language.specs.Machine.{if_ok}
 use Rattle.code_language.specs.Machine.{test_next, now_after, pass_on, noted, later, sent, if_deep, play_next, act}
 use Rattle.code_language.specs.Machine.{act_on, step}
@@ -32,13 +32,13 @@ pub record IsSum (c : Counted) : Type 0 where
   pub joins : (a x : ℕ) → joined c a x ≡ a + x
   pub same : (w v : World) → IsSame w v → end_amount c v ≡ end_amount c w
   pub pays : (w v : World) → IsPaid w v → end_amount c v ≡ of_step c + end_amount c w
-  pub puts : (e : ℕ) (w : World) → end_amount c (put_out e w) ≡ of_output c + end_amount c w
+  pub puts : (e : ℕ) (w : World) → end_amount c (emitted e w) ≡ of_output c + end_amount c w
   pub spent : (b : Bounds) (w : World) (most : ℕ) → b.steps ≤ w.used → of_step c + end_amount c w ≤ most
       → MayFault c b most (Some faults.Steps)
   pub deep : (b : Bounds) (most : ℕ) → MayFault c b most (Some faults.Depth)
   pub value : (b : Bounds) (most : ℕ) (x : Fault) → IsOfValue x → MayFault c b most (Some x)
   pub none : (b : Bounds) (most : ℕ) → MayFault c b most None
-  pub amounts : (m : Machine) → amount c m ≡ end_amount c m.world
+  pub amounts : (m : CodeState) → amount c m ≡ end_amount c m.world
 
 -- steps add up
 pub steps_sum : IsSum Steps
@@ -97,7 +97,7 @@ Affords C c N n [] = Unit {0}
 Affords C c N n (f ∷ fs) = Affording C c N n f fs (λ r. Affords C c N r fs)
 
 -- what was counted, and what the frames may bring, is no more than the most
-pub record IsPaidFor (C : Program) (c : Counted) (N : Numbers) (most : ℕ) (m : Machine) : Type 0 where
+pub record IsPaidFor (C : Program) (c : Counted) (N : Numbers) (most : ℕ) (m : CodeState) : Type 0 where
   pub still : ℕ
   pub enough : end_amount c m.world + still ≤ most
   pub frames : Affords C c N still m.frames
@@ -220,13 +220,13 @@ module _ (C : Program) (c : Counted) (N : Numbers) (most : ℕ) (s : IsSum c) (o
     -- ---- instructions
 
     -- so much, and what is left at a place, is within what is left, and the place owes no less
-    abbrev Step : ℕ → ℕ → Type 0
-    Step brings j =
+    abbrev HasRoomAt : ℕ → ℕ → Type 0
+    HasRoomAt brings j =
         (joined c brings (N.left f.proc j) ≤ N.left f.proc f.place) × (N.owed f.proc f.place ≤ N.owed f.proc j)
 
     -- an instruction that only goes on
     plain : (x : Instr) → fetch C.procedures f.proc f.place ≡ Some x → (Some x ≡ Some Play → ⊥) → (v : World)
-        → IsSame w v → (j : ℕ) (f' : Frame) → Step 0 j → f'.proc ≡ f.proc → f'.place ≡ j → Owes c N f' fs
+        → IsSame w v → (j : ℕ) (f' : Frame) → HasRoomAt 0 j → f'.proc ≡ f.proc → f'.place ≡ j → Owes c N f' fs
         → StaysPaid C c N most (Goes (machine v now r (f' ∷ fs)))
     plain x is other v same j f' on p i owes =
         let q = ap (λ (z : ℕ). N.left z f'.place) p in
@@ -235,17 +235,17 @@ module _ (C : Program) (c : Counted) (N : Numbers) (most : ℕ) (s : IsSum c) (o
         goes v now r f' 0 (omega (arith, s.same w v same)) (omega (arith, on.0, both, q, q', whole x is other)) owes
 
     -- the next place owes enough
-    next_owes : (brings : ℕ) → Step brings (f.place + 1) → Owes c N (next f) fs
+    next_owes : (brings : ℕ) → HasRoomAt brings (f.place + 1) → Owes c N (next f) fs
     next_owes brings on = omega (arith, on.1, top.owes)
 
     -- and so does a place past others
-    past_owes : (k : ℕ) → Step 0 (f.place + 1 + k) → Owes c N (past f k) fs
+    past_owes : (k : ℕ) → HasRoomAt 0 (f.place + 1 + k) → Owes c N (past f k) fs
     past_owes k on = omega (arith, on.1, top.owes)
 
     -- a call
     calls : (x : Instr) → fetch C.procedures f.proc f.place ≡ Some x → (Some x ≡ Some Play → ⊥) → (v : World)
         → (now' : Now) (g : Frame) (a brings : ℕ) → end_amount c v ≡ a + end_amount c w → g.place ≡ 0
-        → a + N.left g.proc 0 ≤ brings → Step brings (f.place + 1) → Owes c N g (next f ∷ fs)
+        → a + N.left g.proc 0 ≤ brings → HasRoomAt brings (f.place + 1) → Owes c N g (next f ∷ fs)
         → StaysPaid C c N most (Goes (machine v now' r (g ∷ next f ∷ fs)))
     calls x is other v now' g a brings more i le on owes =
         let both = s.joins brings (N.left f.proc (f.place + 1)) in
@@ -255,7 +255,7 @@ module _ (C : Program) (c : Counted) (N : Numbers) (most : ℕ) (s : IsSum c) (o
 
     -- a send
     sent_paid : (x : Instr) → fetch C.procedures f.proc f.place ≡ Some x → (Some x ≡ Some Play → ⊥) → (v : World)
-        (b : Bool) (e p : ℕ) → IsPaid w v → Step (of_step c + of_send c + N.left p 0) (f.place + 1)
+        (b : Bool) (e p : ℕ) → IsPaid w v → HasRoomAt (of_step c + of_send c + N.left p 0) (f.place + 1)
         → StaysPaid C c N most (Goes (sent b e p v now r f fs))
     sent_paid x is other v true e p u on =
         calls x is other v (deeper e now) (fresh p None (suc (length fs)) 0 (Some now.event)) (of_step c)
@@ -269,7 +269,7 @@ module _ (C : Program) (c : Counted) (N : Numbers) (most : ℕ) (s : IsSum c) (o
 
     -- a payment for an instruction
     pays : (x : Instr) → fetch C.procedures f.proc f.place ≡ Some x → (Some x ≡ Some Play → ⊥) → (brings : ℕ)
-        → of_step c ≤ brings → Step brings (f.place + 1) → (go : World → Next)
+        → of_step c ≤ brings → HasRoomAt brings (f.place + 1) → (go : World → Next)
         → ((v : World) → IsPaid w v → StaysPaid C c N most (go v))
         → StaysPaid C c N most (if_ok (paid_in C.bounds w) w go)
     pays x is other brings le on go t =
@@ -336,7 +336,7 @@ module _ (C : Program) (c : Counted) (N : Numbers) (most : ℕ) (s : IsSum c) (o
         let on = ok f.proc f.place (Emit e) q in
         let both = s.joins (of_step c + of_output c) (N.left f.proc (f.place + 1)) in
         pays (Emit e) q (λ d. absurd (cc d)) (of_step c + of_output c) (omega arith) on _
-        (λ v u. goes (put_out e v) now r (next f) (of_step c + of_output c)
+        (λ v u. goes (emitted e v) now r (next f) (of_step c + of_output c)
         (omega (arith, s.puts e v, s.pays w v u)) (omega (arith, on.0, both, whole (Emit e) q (λ d. absurd (cc d))))
         (next_owes (of_step c + of_output c) on))
     act_paid (Some (Mark x)) q =
@@ -405,13 +405,13 @@ module _ (C : Program) (c : Counted) (N : Numbers) (most : ℕ) (s : IsSum c) (o
   step_on w now r (f ∷ fs) paid = act_paid w now r f fs paid (fetch C.procedures f.proc f.place) refl
 
   -- what follows a step
-  paid_then : (o : Next) (go : Machine → Next) → StaysPaid C c N most o
-      → ((m : Machine) → IsPaidFor C c N most m → StaysPaid C c N most (go m)) → StaysPaid C c N most (next_then o go)
+  paid_then : (o : Next) (go : CodeState → Next) → StaysPaid C c N most o
+      → ((m : CodeState) → IsPaidFor C c N most m → StaysPaid C c N most (go m)) → StaysPaid C c N most (next_then o go)
   paid_then (Goes m) go k t = t m k
   paid_then (Stops w x) go k t = k
 
   -- a run that is paid for stays so
-  ahead_paid : (n : ℕ) (m : Machine) → IsPaidFor C c N most m → StaysPaid C c N most (ahead C n m)
+  ahead_paid : (n : ℕ) (m : CodeState) → IsPaidFor C c N most m → StaysPaid C c N most (ahead C n m)
   ahead_paid zero m paid = paid
   ahead_paid (suc n) m paid =
       paid_then (step C m) (ahead C n) (step_on m.world m.now m.result m.frames paid) (λ m' k. ahead_paid n m' k)

@@ -7,7 +7,7 @@ use Rattle.actions.specs.declared.event.Event.{Event}
 use Rattle.actions.specs.World.{World}
 use Rattle.code_costs.specs.Ahead.{ahead}
 use Rattle.code_language.specs.Code.{Code}
-use Rattle.code_language.specs.Machine.{Frame, Machine, Next, Goes, Stops}
+use Rattle.code_language.specs.Machine.{Frame, CodeState, Next, Goes, Stops}
 use Rattle.code_language.specs.Reactions.{program_of, start_machine, react_machine}
 use Rattle.code_counts.specs.declared.numbers.Counted.{Counted}
 use Rattle.code_counts.specs.declared.numbers.Counted.TheVariants.{Steps, Outputs, Depth, Notes}
@@ -24,7 +24,7 @@ notes_of [] = 0
 notes_of (f ∷ fs) = note_count f.note + notes_of fs
 
 -- how much a state of a run has of what is counted
-abbrev pub amount : Counted → Machine → ℕ
+abbrev pub amount : Counted → CodeState → ℕ
 amount Steps m = m.world.used
 amount Outputs m = length m.world.outputs
 amount Depth m = m.now.depth

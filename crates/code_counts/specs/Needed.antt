@@ -35,7 +35,7 @@ MayEnd steps depth (Some faults.Steps) = IsTrue steps
 MayEnd steps depth (Some (faults.Overflow v)) = Unit {0}
 MayEnd steps depth (Some faults.Zero) = Unit {0}
 
--- an array with so many entries has room for what a start or a reaction puts out under these bounds, from whatever
+-- an array with so many entries has room for what a start or a reaction emits under these bounds, from whatever
 -- world
 pub record IsRoom (k : Code) (b : Bounds) (room : ℕ) : Type 0 where
   pub some : 1 ≤ room
@@ -44,7 +44,7 @@ pub record IsRoom (k : Code) (b : Bounds) (room : ℕ) : Type 0 where
   pub reaction : (w w' : World) (e : Event) (x : Option Fault) → Reacts k b w e w' x → length w'.outputs ≤ room
 
 -- the bounds that were found serve the code in place of the given ones: the runs are the same, and a start and a
--- reaction, from whatever world, end by the fault of a bound only where it is tested, and put out no more events than
+-- reaction, from whatever world, end by the fault of a bound only where it is tested, and emit no more events than
 -- there is room for
 pub record IsLimit (k : Code) (b : Bounds) (found : Limits) : Type 0 where
   pub runs : (events : List EventWithInputs) (moments : List Moment)

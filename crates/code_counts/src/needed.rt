@@ -38,7 +38,7 @@ fn limit_of(alloc: Global, counted: Counted, code: &Code, bound: u32) -> Result<
     }
 }
 
-/// How many entries an array needs for what an event puts out under these bounds: the most that is
+/// How many entries an array needs for what an event emits under these bounds: the most that is
 /// known, but at least 1 and no more than the steps, of which each output takes one.
 fn room_of(alloc: Global, code: &Code, bounds: Bounds) -> Result<u32, Memory>
     requires { 1 ≤ bounds.steps }

@@ -9,7 +9,7 @@ use flow_base::Bounds;
 pub enum Counted {
     /// The steps that are paid.
     Steps,
-    /// The events that are put out.
+    /// The events that are emitted.
     Outputs,
     /// How deep sends are nested.
     Depth,
@@ -24,7 +24,7 @@ pub enum Counted {
 pub struct Counts {
     /// The steps that are paid.
     pub steps: u32,
-    /// The events that are put out.
+    /// The events that are emitted.
     pub outputs: u32,
     /// How deep sends are nested.
     pub depth: u32,
@@ -44,7 +44,7 @@ pub struct Limits {
     pub tests_steps: bool,
     /// Whether an event may be sent deeper, so that a run has to test the depth.
     pub tests_depth: bool,
-    /// How many events an event puts out at most: 1 to the steps of `bounds`.
+    /// How many events an event emits at most: 1 to the steps of `bounds`.
     pub outputs: u32,
 }
 

@@ -13,7 +13,8 @@ use Rattle.actions.proofs.RunLemmas.{Runs-along}
 use Rattle.code_language.specs.Code.{Code, fetch}
 use Rattle.code_language.specs.Instrs.{Instr, Assign, Emit, Mark, Clear, Keep, Unless, Skip, Call, Visit, Send, SendTo}
 use Rattle.code_language.specs.Instrs.{Play, Home, Begin, Pass, Ret}
-use Rattle.code_language.specs.Machine.{Program, Frame, Machine, noted, later, sent, Next, Goes, Stops, if_ok, if_deep}
+use Rattle.code_language.specs.Machine.{Program, Frame, CodeState, noted, later}
+use Rattle.code_language.specs.Machine.{sent, Next, Goes, Stops, if_ok, if_deep}
 use Rattle.code_language.specs.Machine.{play_next, act, act_on, step, and_then, run}
 use Rattle.code_language.specs.Reactions.{Leads, program_of, start_machine, react_machine, Starts, Reacts, CodeRun}
 use Rattle.code_language.specs.WellFormed.{IsCode}
@@ -94,24 +95,24 @@ module _ (k : Code) (b : Bounds) (levels : List ℕ) (q : ℕ) (ok : AreLevels l
 
   -- after the same step the rest of both runs is the same
   rest_same : (n : ℕ) (o : Next) → StaysShallow levels o
-      → ((m : Machine) → IsShallow levels m → run C' n m ≡ run C n m)
+      → ((m : CodeState) → IsShallow levels m → run C' n m ≡ run C n m)
       → and_then o (run C' n) ≡ and_then o (run C n)
   rest_same n (Goes m) low go = go m low
   rest_same n (Stops w x) low go = refl
 
   -- both runs are the same
-  run_same : (n : ℕ) (m : Machine) → IsShallow levels m → run C' n m ≡ run C n m
+  run_same : (n : ℕ) (m : CodeState) → IsShallow levels m → run C' n m ≡ run C n m
   run_same zero m low = refl
   run_same (suc n) m low =
       ap (λ o. and_then o (run C' n)) (act_on_same m.world m.now m.result m.frames low)
       ∙ rest_same n (step C m) (step_stays levels C ok m low) (λ m' h. run_same n m' h)
 
   -- so the code that was cut leads where the code does
-  cut_leads : (m : Machine) (moment : Moment) → IsShallow levels m → Leads C m moment → Leads C' m moment
+  cut_leads : (m : CodeState) (moment : Moment) → IsShallow levels m → Leads C m moment → Leads C' m moment
   cut_leads m moment low h = record { steps = h.steps; ends = run_same h.steps m low ∙ h.ends }
 
   -- and the other way round
-  code_leads : (m : Machine) (moment : Moment) → IsShallow levels m → Leads C' m moment → Leads C m moment
+  code_leads : (m : CodeState) (moment : Moment) → IsShallow levels m → Leads C' m moment → Leads C m moment
   code_leads m moment low h = record { steps = h.steps; ends = sym (run_same h.steps m low) ∙ h.ends }
 
   -- a start begins with a procedure of level 0

@@ -6,13 +6,13 @@ use Rattle.std.proofs.lemmas.Bool.Decides.{nat_tests}
 use Rattle.flow_base.specs.declared.fault.Fault.{Fault}
 use Rattle.active_config.specs.Marks.{is_on, is_bare}
 use Rattle.actions.specs.declared.event.Event.{Event}
-use Rattle.actions.specs.World.{World, put_out}
+use Rattle.actions.specs.World.{World, emitted}
 use Rattle.actions.specs.Changes.{paid_in, assigned_in, mark_in, clear_in, keep_in}
 use Rattle.actions.specs.Work.{Now}
 use Rattle.code_language.specs.Code.{fetch}
 use Rattle.code_language.specs.Instrs.{Instr, Assign, Emit, Mark, Clear, Keep, Unless, Skip, Call, Visit, Send, SendTo}
 use Rattle.code_language.specs.Instrs.{Play, Home, Begin, Pass, Ret}
-use Rattle.code_language.specs.Machine.{Program, Frame, Machine, machine, fresh, next, Next, Goes, Stops, holds}
+use Rattle.code_language.specs.Machine.{Program, Frame, CodeState, machine, fresh, next, Next, Goes, Stops, holds}
 use Rattle.code_language.specs.Machine.{if_ok, test_next, now_after, pass_on, or_this, noted, later, sent, if_deep}
 use Rattle.code_language.specs.Machine.{play_next, act, act_on, step}
 use Rattle.code_depths.specs.Depths.{level_of, IsNoteWithin, AreLevels}
@@ -96,7 +96,7 @@ module _ (levels : List ℕ) where
   after_depth (Some e) now = refl
 
   -- a state of a run whose frames are such
-  abbrev pub IsShallow : Machine → Type 0
+  abbrev pub IsShallow : CodeState → Type 0
   IsShallow m = AreShallow m.now.depth m.frames
 
   -- what a step gives, where it goes on
@@ -182,7 +182,7 @@ module _ (levels : List ℕ) where
       act_stays : (o : Option Instr) → fetch C.procedures f.proc f.place ≡ o → StaysShallow (act C o w now r f fs)
       act_stays None q = tt
       act_stays (Some (Assign v e)) q = if_ok_stays (assigned_in v e w) _ (λ u. plain u r)
-      act_stays (Some (Emit e)) q = if_ok_stays (paid_in C.bounds w) _ (λ v. plain (put_out e v) r)
+      act_stays (Some (Emit e)) q = if_ok_stays (paid_in C.bounds w) _ (λ v. plain (emitted e v) r)
       act_stays (Some (Mark x)) q = plain (mark_in C.tree x w) r
       act_stays (Some (Clear x)) q = plain (clear_in C.tree x w) r
       act_stays (Some (Keep x)) q = plain (keep_in C.tree x w) r
@@ -214,7 +214,7 @@ module _ (levels : List ℕ) where
       act_stays (Some (Ret x)) q = dropped x
 
     -- a step
-    pub step_stays : (m : Machine) → IsShallow m → StaysShallow (step C m)
+    pub step_stays : (m : CodeState) → IsShallow m → StaysShallow (step C m)
     step_stays m low = on m.world m.now m.result m.frames low
       where
         on : (w : World) (now : Now) (r : ℕ) (fs : List Frame) → AreShallow now.depth fs

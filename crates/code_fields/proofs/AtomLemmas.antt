@@ -1,5 +1,6 @@
 -- Operands without operators, in both directions.
-use Rattle.std.proofs.Common.{◌≡◌, ℕ, ◌+◌, ◌^◌, ◌<◌, ◌≤◌, Bool, true, false, nat_lt, List, [], ◌∷◌, ◌++◌, Option, Some, None}
+use Rattle.std.proofs.Common.{◌≡◌, ℕ, ◌+◌, ◌^◌, ◌<◌, ◌≤◌, Bool, true, false}
+use Rattle.std.proofs.Common.{nat_lt, List, [], ◌∷◌, ◌++◌, Option, Some, None}
 use Rattle.std.proofs.Common.{refl, sym, ap, ◌∙◌, subst, arith}
 use Rattle.std.specs.Prelude.{codes, decimal, option_map, option_and_then, pos}
 use Rattle.std.specs.Fmt.{signed_decimal}
@@ -15,7 +16,8 @@ use Rattle.code_fields.specs.Fields.{kept, or_else, numeral, number_of, number_b
 use Rattle.code_fields.specs.Expressions.{frac_of, literal_with, literal_parts, literal_of, atom_of, operator_of}
 use Rattle.code_fields.proofs.CutLemmas.{option_map_some, parts_at-some, parts_at-front}
 use Rattle.code_fields.proofs.NumberLemmas.{numeral-some, numeral-decimal, decimal-lacks, colon}
-use Rattle.code_fields.proofs.BehindLemmas.{behind-append, behind-some, number_of-decimal, number_behind-line, number_behind-some}
+use Rattle.code_fields.proofs.BehindLemmas.{behind-append, behind-some, number_of-decimal}
+use Rattle.code_fields.proofs.BehindLemmas.{number_behind-line, number_behind-some}
 use Rattle.code_fields.proofs.WordLemmas.{tested}
 use Rattle.code_fields.proofs.ScaleLemmas.{or_else_some}
 use Rattle.code_fields.proofs.NewlineLemmas.{IsWord, word_tested, word-append, number_word}
@@ -118,7 +120,10 @@ read_atom v h =
     record {
       word = word-append (codes "d") (decimal v) (word_tested (codes "d") refl refl) (number_word v (omega arith));
       none = refl;
-      read = ap (λ (o : Option ℕ). or_else (option_map (λ n. Read n) o) (or_else (option_map (λ s. Active s) (number_behind (codes "in") (codes "d" ++ decimal v))) (option_map (λ n. Lit n) (option_and_then literal_of (behind (codes "#") (codes "d" ++ decimal v)))))) (number_behind-line (codes "d") v h);
+      read = ap (λ (o : Option ℕ). or_else (option_map (λ n. Read n) o)
+          (or_else (option_map (λ s. Active s) (number_behind (codes "in") (codes "d" ++ decimal v)))
+          (option_map (λ n. Lit n) (option_and_then literal_of (behind (codes "#") (codes "d" ++ decimal v))))))
+          (number_behind-line (codes "d") v h);
     }
 
 -- a state
@@ -128,7 +133,9 @@ active_atom s h =
     record {
       word = word-append (codes "in") (decimal s) (word_tested (codes "in") refl refl) (number_word s (omega arith));
       none = refl;
-      read = ap (λ (o : Option ℕ). or_else (option_map (λ n. Active n) o) (option_map (λ n. Lit n) (option_and_then literal_of (behind (codes "#") (codes "in" ++ decimal s))))) (number_behind-line (codes "in") s h);
+      read = ap (λ (o : Option ℕ). or_else (option_map (λ n. Active n) o)
+          (option_map (λ n. Lit n) (option_and_then literal_of (behind (codes "#") (codes "in" ++ decimal s)))))
+          (number_behind-line (codes "in") s h);
     }
 
 -- a token that spells an expression without operators

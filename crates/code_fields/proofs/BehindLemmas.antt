@@ -1,5 +1,6 @@
 -- Words, and what stands after them.
-use Rattle.std.proofs.Common.{◌≡◌, ℕ, ◌^◌, true, nat_eq, List, [], ◌∷◌, ◌++◌, length, drop, Option, Some, None, refl, ap}
+use Rattle.std.proofs.Common.{◌≡◌, ℕ, ◌^◌, true, nat_eq, List, [], ◌∷◌, ◌++◌}
+use Rattle.std.proofs.Common.{length, drop, Option, Some, None, refl, ap}
 use Rattle.std.proofs.Common.{◌∙◌, subst, arith}
 use Rattle.std.specs.Prelude.{decimal, option_and_then}
 use Rattle.std.specs.List.{starts_with}

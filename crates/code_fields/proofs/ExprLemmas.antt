@@ -1,5 +1,6 @@
 -- Expressions, in both directions.
-use Rattle.std.proofs.Common.{◌≡◌, ℕ, zero, suc, ◌+◌, ◌-◌, ◌^◌, ◌<◌, ◌≤◌, true, false, List, [], ◌∷◌, ◌++◌, Option, Some, None}
+use Rattle.std.proofs.Common.{◌≡◌, ℕ, zero, suc, ◌+◌, ◌-◌, ◌^◌, ◌<◌, ◌≤◌, true}
+use Rattle.std.proofs.Common.{false, List, [], ◌∷◌, ◌++◌, Option, Some, None}
 use Rattle.std.proofs.Common.{refl, sym, ap, ◌∙◌, subst, append_assoc, arith}
 use Rattle.std.specs.Prelude.{codes, option_map, option_and_then}
 use Rattle.std.proofs.lemmas.Option.{none-some, same_Some, option_and_then_some}
@@ -11,7 +12,8 @@ use Rattle.code_fields.specs.declared.operators.Operator.{Operator}
 use Rattle.code_fields.specs.declared.operators.Operator.TheVariants as operators
 use Rattle.code_fields.specs.Cuts.{Field, field_of, joined}
 use Rattle.code_fields.specs.Spelling.{HasNumbers, IsExpr, op_word, expr_words}
-use Rattle.code_fields.specs.Expressions.{operator_of, atom_of, Front, with_second, negated, denied, with_first, operands}
+use Rattle.code_fields.specs.Expressions.{operator_of, atom_of, ReadExpr, with_second}
+use Rattle.code_fields.specs.Expressions.{negated, denied, with_first, operands}
 use Rattle.code_fields.specs.Expressions.{operand, by_operator, front_of, alone, expr_of}
 use Rattle.code_fields.proofs.CutLemmas.{option_map_some, field_of-joined, field_of-is}
 use Rattle.code_fields.proofs.WordLemmas.{operator_word, operator_of-word, operator_of-some, operator_word-lacks}
@@ -56,7 +58,7 @@ atom_read x none atom (suc depth) left more rest deep few =
     atom_front depth left x rest atom ∙ ap (λ (n : ℕ). Some (record { expr = x; left = n; rest = rest })) same
 
 -- an operator with one operand is read
-unary_read : (o : Operator) (x a : Expr) → ((f : Front) (depth : ℕ) → f.expr ≡ a → with_first (front_of depth) o f ≡ Some (record { expr = x; left = f.left; rest = f.rest }))
+unary_read : (o : Operator) (x a : Expr) → ((f : ReadExpr) (depth : ℕ) → f.expr ≡ a → with_first (front_of depth) o f ≡ Some (record { expr = x; left = f.left; rest = f.rest }))
     → expr_words x ≡ operator_word o ++ 32 ∷ expr_words a → operator_count x ≡ 1 + operator_count a → IsRead a → IsRead x
 unary_read o x a first words count read zero left more rest deep few = absurd (omega arith)
 unary_read o x a first words count read (suc depth) left more rest deep few =
@@ -67,7 +69,7 @@ unary_read o x a first words count read (suc depth) left more rest deep few =
     ap (λ (n : ℕ). front_of (suc depth) n (joined (expr_words x) rest)) less
     ∙ (ap (λ (t : List ℕ). front_of (suc depth) (suc (operator_count a + more)) t) text
     ∙ (operator_front depth (operator_count a + more) o (joined (expr_words a) rest)
-    ∙ (ap (λ (f : Option Front). option_and_then (with_first (front_of depth) o) f) inner
+    ∙ (ap (λ (f : Option ReadExpr). option_and_then (with_first (front_of depth) o) f) inner
     ∙ first (record { expr = a; left = more; rest = rest }) depth refl)))
 
 -- an operator with two operands is read
@@ -86,8 +88,8 @@ binary_read op a b first second (suc depth) left more rest deep few =
     ap (λ (n : ℕ). front_of (suc depth) n (joined (expr_words (Bin op a b)) rest)) less
     ∙ (ap (λ (t : List ℕ). front_of (suc depth) (suc (operator_count a + after)) t) text
     ∙ (operator_front depth (operator_count a + after) (operators.Bin op) (joined wa (Some (joined wb rest)))
-    ∙ (ap (λ (f : Option Front). option_and_then (with_first (front_of depth) (operators.Bin op)) f) (first depth (operator_count a + after) after (Some (joined wb rest)) (omega arith) refl)
-    ∙ ap (λ (f : Option Front). option_map (with_second op a) f) (second depth after more rest (omega arith) refl))))
+    ∙ (ap (λ (f : Option ReadExpr). option_and_then (with_first (front_of depth) (operators.Bin op)) f) (first depth (operator_count a + after) after (Some (joined wb rest)) (omega arith) refl)
+    ∙ ap (λ (f : Option ReadExpr). option_map (with_second op a) f) (second depth after more rest (omega arith) refl))))
 
 -- every expression with numbers of a text is read
 expr_read : (x : Expr) → HasNumbers x → IsRead x
@@ -103,20 +105,20 @@ expr_read (Bin op a b) h = binary_read op a b (expr_read a h.0) (expr_read b h.1
 pub expr_of-words : (x : Expr) → IsExpr x → expr_of (expr_words x) ≡ Some x
 unfolding expr_of
 expr_of-words x h =
-    ap (λ (f : Option Front). option_and_then (λ front. alone front front.rest) f)
+    ap (λ (f : Option ReadExpr). option_and_then (λ front. alone front front.rest) f)
     (expr_read x h.numbers (OPERATOR_LIMIT + 1) OPERATOR_LIMIT (OPERATOR_LIMIT - operator_count x) None (omega (arith, h.few)) (omega (arith, h.few)))
 
 -- ---- the other way
 
 -- a text whose front spells the expression, with the operators that it has
-record IsFront (left : ℕ) (text : List ℕ) (f : Front) : Type 0 where
+record IsFront (left : ℕ) (text : List ℕ) (f : ReadExpr) : Type 0 where
   is : text ≡ joined (expr_words f.expr) f.rest
   numbers : HasNumbers f.expr
   count : left ≡ operator_count f.expr + f.left
 
 -- what a reader says
-abbrev IsSound : (ℕ → List ℕ → Option Front) → Type 0
-IsSound go = (left : ℕ) (text : List ℕ) (f : Front) → go left text ≡ Some f → IsFront left text f
+abbrev IsSoundReader : (ℕ → List ℕ → Option ReadExpr) → Type 0
+IsSoundReader go = (left : ℕ) (text : List ℕ) (f : ReadExpr) → go left text ≡ Some f → IsFront left text f
 
 -- the text of an operator and what follows it
 behind_operator : (o : Operator) (text word r rest : List ℕ) (after : Option (List ℕ)) → text ≡ joined word after → after ≡ Some r
@@ -125,7 +127,7 @@ behind_operator o text word r rest after is e w same =
     is ∙ (ap (λ (q : Option (List ℕ)). joined word q) e ∙ (ap (λ (v : List ℕ). v ++ 32 ∷ r) w ∙ ap (λ (v : List ℕ). operator_word o ++ 32 ∷ v) same))
 
 -- an operand
-operand_sound : (left : ℕ) (text : List ℕ) (token : Field) (f : Front) → text ≡ joined token.word token.rest
+operand_sound : (left : ℕ) (text : List ℕ) (token : Field) (f : ReadExpr) → text ≡ joined token.word token.rest
     → operand left token ≡ Some f → IsFront left text f
 operand_sound left text token f is h =
     option_map_some (λ x. record { expr = x; left = left; rest = token.rest }) (atom_of token.word) f h (λ x e made.
@@ -134,7 +136,7 @@ operand_sound left text token f is h =
     subst (IsFront left text) made (record { is = is ∙ ap (λ (w : List ℕ). joined w token.rest) atom.is; numbers = atom.numbers; count = count }))
 
 -- the first operand of an operator, and what comes of it
-first_sound : (go : ℕ → List ℕ → Option Front) → IsSound go → (o : Operator) (left : ℕ) (text r : List ℕ) (a f : Front)
+first_sound : (go : ℕ → List ℕ → Option ReadExpr) → IsSoundReader go → (o : Operator) (left : ℕ) (text r : List ℕ) (a f : ReadExpr)
     → text ≡ operator_word o ++ 32 ∷ r → IsFront left r a → with_first go o a ≡ Some f → IsFront (suc left) text f
 first_sound go sound operators.Neg left text r a f is first h =
     let count : suc left ≡ 1 + operator_count a.expr + a.left = omega (arith, first.count) in
@@ -163,8 +165,8 @@ first_sound go sound (operators.Bin op) left text r a f is first h =
     (record { is = is ∙ (ap (λ (t : List ℕ). op_word op ++ 32 ∷ t) r_is ∙ back); numbers = (first.numbers, second.numbers); count = count })))
 
 -- an operator and its operands
-operands_sound : (go : ℕ → List ℕ → Option Front) → IsSound go → (o : Operator) (left : ℕ) (text : List ℕ) (token : Field)
-    (f : Front) → text ≡ joined token.word token.rest → token.word ≡ operator_word o
+operands_sound : (go : ℕ → List ℕ → Option ReadExpr) → IsSoundReader go → (o : Operator) (left : ℕ) (text : List ℕ) (token : Field)
+    (f : ReadExpr) → text ≡ joined token.word token.rest → token.word ≡ operator_word o
     → operands go o left token.rest ≡ Some f → IsFront left text f
 operands_sound go sound o zero text token f is w h = absurd (none-some f h)
 operands_sound go sound o (suc left) text token f is w h =
@@ -173,15 +175,15 @@ operands_sound go sound o (suc left) text token f is w h =
     first_sound go sound o left text r a f (behind_operator o text token.word r r token.rest is rest_is w refl) (sound left r a k) g))
 
 -- by the operator of the first token
-by_operator_sound : (go : ℕ → List ℕ → Option Front) → IsSound go → (left : ℕ) (text : List ℕ) (token : Field)
-    (o : Option Operator) (f : Front) → text ≡ joined token.word token.rest → operator_of token.word ≡ o
+by_operator_sound : (go : ℕ → List ℕ → Option ReadExpr) → IsSoundReader go → (left : ℕ) (text : List ℕ) (token : Field)
+    (o : Option Operator) (f : ReadExpr) → text ≡ joined token.word token.rest → operator_of token.word ≡ o
     → by_operator go left token o ≡ Some f → IsFront left text f
 by_operator_sound go sound left text token None f is e h = operand_sound left text token f is h
 by_operator_sound go sound left text token (Some o) f is e h =
     operands_sound go sound o left text token f is (operator_of-some token.word o e) h
 
 -- what is read at the front of a text is spelled so
-front_sound : (depth : ℕ) → IsSound (front_of depth)
+front_sound : (depth : ℕ) → IsSoundReader (front_of depth)
 unfolding front_of
 front_sound zero left text f h = absurd (none-some f h)
 front_sound (suc depth) left text f h =
@@ -189,7 +191,7 @@ front_sound (suc depth) left text f h =
     by_operator_sound (front_of depth) (front_sound depth) left text token (operator_of token.word) f (field_of-is text) refl h
 
 -- an expression with nothing after it
-alone_is : (left : ℕ) (text : List ℕ) (f : Front) (rest : Option (List ℕ)) (x : Expr) → f.rest ≡ rest → left ≤ OPERATOR_LIMIT
+alone_is : (left : ℕ) (text : List ℕ) (f : ReadExpr) (rest : Option (List ℕ)) (x : Expr) → f.rest ≡ rest → left ≤ OPERATOR_LIMIT
     → IsFront left text f → alone f rest ≡ Some x → (text ≡ expr_words x) × IsExpr x
 alone_is left text f None x e few front h =
     let text_is : text ≡ expr_words f.expr = front.is ∙ ap (λ (q : Option (List ℕ)). joined (expr_words f.expr) q) e in

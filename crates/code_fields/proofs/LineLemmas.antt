@@ -1,5 +1,6 @@
 -- The lines of data and events, in both directions.
-use Rattle.std.proofs.Common.{◌≡◌, ℕ, zero, suc, ◌+◌, ◌^◌, ◌<◌, ◌≤◌, Bool, true, false, nat_eq, List, [], ◌∷◌, ◌++◌, Option}
+use Rattle.std.proofs.Common.{◌≡◌, ℕ, zero, suc, ◌+◌, ◌^◌, ◌<◌, ◌≤◌, Bool}
+use Rattle.std.proofs.Common.{true, false, nat_eq, List, [], ◌∷◌, ◌++◌, Option}
 use Rattle.std.proofs.Common.{Some, None, refl, sym, ap, ◌∙◌, subst, arith}
 use Rattle.std.specs.Prelude.{codes, decimal, option_map, option_and_then, ℤ, pos, negsuc, unsigned_abs}
 use Rattle.std.specs.Fmt.{signed_decimal}
@@ -27,7 +28,8 @@ use Rattle.code_fields.proofs.BehindLemmas.{behind-append, behind-some, name_of-
 use Rattle.code_fields.proofs.WordLemmas.{var_kind_of-word, var_kind_of-some, event_kind_of-word, event_kind_of-some}
 use Rattle.code_fields.proofs.WordLemmas.{mode_of-word, mode_of-some}
 use Rattle.code_fields.proofs.ScaleLemmas.{sort_of-word, sort_of-some}
-use Rattle.code_fields.proofs.NewlineLemmas.{IsLine, var_kind_is_word, event_kind_is_word, mode_in_is_word, sort_is_word}
+use Rattle.code_fields.proofs.NewlineLemmas.{IsLine, var_kind_is_word, event_kind_is_word}
+use Rattle.code_fields.proofs.NewlineLemmas.{mode_in_is_word, sort_is_word}
 use Rattle.code_fields.proofs.NewlineLemmas.{signed_word, word_line, line_then, name_line}
 
 -- ---- first values

@@ -72,56 +72,56 @@ atom_of token =
 -- ---- expressions
 
 -- an expression at the front of a text, how many operators there may be after it, and what follows its last token
-pub record Front : Type 0 where
+pub record ReadExpr : Type 0 where
   pub expr : Expr
   pub left : ℕ
   pub rest : Option (List ℕ)
 
 -- how the front of a text is read where an expression has so many operators at most
 abbrev pub Reader : Type 0
-Reader = ℕ → List ℕ → Option Front
+Reader = ℕ → List ℕ → Option ReadExpr
 
 -- with both operands
-abbrev pub with_second : Op → Expr → Front → Front
+abbrev pub with_second : Op → Expr → ReadExpr → ReadExpr
 with_second op first second = record { expr = Bin op first second.expr; left = second.left; rest = second.rest }
 
 -- with a minus before it
-abbrev pub negated : Front → Front
+abbrev pub negated : ReadExpr → ReadExpr
 negated first = record { expr = Neg first.expr; left = first.left; rest = first.rest }
 
 -- with a `!` before it
-abbrev pub denied : Front → Front
+abbrev pub denied : ReadExpr → ReadExpr
 denied first = record { expr = Not first.expr; left = first.left; rest = first.rest }
 
 -- with its first operand
-abbrev pub with_first : Reader → Operator → Front → Option Front
+abbrev pub with_first : Reader → Operator → ReadExpr → Option ReadExpr
 with_first go operators.Neg first = Some (negated first)
 with_first go operators.Not first = Some (denied first)
 with_first go (operators.Bin op) first =
     option_map (with_second op first.expr) (option_and_then (go first.left) first.rest)
 
 -- an operator, where one is left, needs operands after it
-abbrev pub operands : Reader → Operator → ℕ → Option (List ℕ) → Option Front
+abbrev pub operands : Reader → Operator → ℕ → Option (List ℕ) → Option ReadExpr
 operands go operator zero rest = None
 operands go operator (suc left) rest = option_and_then (with_first go operator) (option_and_then (go left) rest)
 
 -- a token that is no operator stands alone
-abbrev pub operand : ℕ → Field → Option Front
+abbrev pub operand : ℕ → Field → Option ReadExpr
 operand left token = option_map (λ x. record { expr = x; left = left; rest = token.rest }) (atom_of token.word)
 
 -- by the operator of the first token, if it is one
-abbrev pub by_operator : Reader → ℕ → Field → Option Operator → Option Front
+abbrev pub by_operator : Reader → ℕ → Field → Option Operator → Option ReadExpr
 by_operator go left token None = operand left token
 by_operator go left token (Some operator) = operands go operator left token.rest
 
 -- the expression at the front of a text, where `depth` bounds its operators round each other and itself, and `left`
 -- all its operators
-unfoldable pub front_of : ℕ → ℕ → List ℕ → Option Front
+unfoldable pub front_of : ℕ → ℕ → List ℕ → Option ReadExpr
 front_of zero left text = None
 front_of (suc depth) left text = by_operator (front_of depth) left (field_of text) (operator_of (field_of text).word)
 
 -- an expression with nothing after it
-abbrev pub alone : Front → Option (List ℕ) → Option Expr
+abbrev pub alone : ReadExpr → Option (List ℕ) → Option Expr
 alone front None = Some front.expr
 alone front (Some rest) = None
 

@@ -1,5 +1,6 @@
 -- What the fields of a line say: numbers, names, words, data and events.
-use Rattle.std.specs.Prelude.{◌≡◌, ℕ, zero, suc, ◌+◌, ◌^◌, nat_eq, nat_lt, ℤ, pos, negsuc, Bool, true, false, ◌&&◌, List, length, drop}
+use Rattle.std.specs.Prelude.{◌≡◌, ℕ, zero, suc, ◌+◌, ◌^◌, nat_eq, nat_lt, ℤ, pos}
+use Rattle.std.specs.Prelude.{negsuc, Bool, true, false, ◌&&◌, List, length, drop}
 use Rattle.std.specs.Prelude.{Option, Some, None, option_and_then, option_map, if◌then◌else◌, codes, decimal}
 use Rattle.std.specs.List.{starts_with}
 use Rattle.std.specs.Str.{bytes_eq}

@@ -5,12 +5,12 @@ use Rattle.actions.specs.Trees.{expr_of}
 use Rattle.actions.specs.declared.names.Var.{Var}
 use Rattle.actions.specs.declared.names.EventDecl.{EventDecl}
 use Rattle.code_fields.specs.Cuts.{Parts, Field}
-use Rattle.code_fields.specs.Expressions.{Front}
+use Rattle.code_fields.specs.Expressions.{ReadExpr}
 use Rattle.code_fields.specs.declared.cuts.Parts.{Parts as PartsAt}
 use Rattle.code_fields.specs.declared.cuts.Field.{Field as FieldAt}
 use Rattle.code_fields.specs.declared.declarations.VarParts.{VarParts}
 use Rattle.code_fields.specs.declared.declarations.EventParts.{EventParts}
-use Rattle.code_fields.specs.declared.expressions.Front.{Front as FrontAt}
+use Rattle.code_fields.specs.declared.expressions.ReadExpr.{ReadExpr as ReadExprAt}
 
 -- the bytes of both parts
 abbrev pub parts_of : PartsAt → Parts
@@ -29,5 +29,5 @@ abbrev pub event_of : EventParts → EventDecl
 event_of e = record { name = e.name.now; kind = e.kind }
 
 -- the expression and the bytes that follow it
-abbrev pub front_of : FrontAt → Front
+abbrev pub front_of : ReadExprAt → ReadExpr
 front_of front = record { expr = expr_of front.expr; left = front.left; rest = option_copied front.rest }

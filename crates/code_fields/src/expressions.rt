@@ -12,7 +12,7 @@ use std::alloc::{AllocError, Global};
 
 /// An expression at the front of a text.
 #[derive(Debug, Drop)]
-pub struct Front<'a> {
+pub struct ReadExpr<'a> {
     /// The expression.
     pub expr: Expr,
     /// How many operators there may be after it.
@@ -43,7 +43,7 @@ fn front_of(
     text: &[u8],
     depth: u32,
     left: u32,
-) -> Result<Option<Front<'_>>, AllocError>
+) -> Result<Option<ReadExpr<'_>>, AllocError>
     ensures { IfOk result (λ front.
         option_map views.front_of front ≡ spec.front_of depth left text.now) }
 {
@@ -78,11 +78,16 @@ fn front_of(
 }
 
 /// An operator between its first operand and its second.
-fn joined(alloc: Global, op: Op, first: Expr, second: Front<'_>) -> Result<Front<'_>, AllocError>
+fn joined(
+    alloc: Global,
+    op: Op,
+    first: Expr,
+    second: ReadExpr<'_>,
+) -> Result<ReadExpr<'_>, AllocError>
     ensures { IfOk result (λ front.
         views.front_of front ≡ spec.with_second op (expr_of first) (views.front_of second.entry)) }
 {
-    Ok(Front {
+    Ok(ReadExpr {
         expr: Expr::Bin(op, Box::new(alloc, first)?, Box::new(alloc, second.expr)?),
         left: second.left,
         rest: second.rest,
@@ -90,11 +95,11 @@ fn joined(alloc: Global, op: Op, first: Expr, second: Front<'_>) -> Result<Front
 }
 
 /// A token that is no operator.
-fn operand(token: Field<'_>, left: u32) -> Option<Front<'_>>
+fn operand(token: Field<'_>, left: u32) -> Option<ReadExpr<'_>>
     ensures { option_map views.front_of result ≡ spec.operand left (views.field_of token.entry) }
 {
     let expr = atom_of(token.word)?;
-    Some(Front {
+    Some(ReadExpr {
         expr,
         left,
         rest: token.rest,
@@ -102,10 +107,10 @@ fn operand(token: Field<'_>, left: u32) -> Option<Front<'_>>
 }
 
 /// `-` of one number.
-fn negated(alloc: Global, first: Front<'_>) -> Result<Front<'_>, AllocError>
+fn negated(alloc: Global, first: ReadExpr<'_>) -> Result<ReadExpr<'_>, AllocError>
     ensures { IfOk result (λ front. views.front_of front ≡ spec.negated (views.front_of first.entry)) }
 {
-    Ok(Front {
+    Ok(ReadExpr {
         expr: Expr::Neg(Box::new(alloc, first.expr)?),
         left: first.left,
         rest: first.rest,
@@ -113,10 +118,10 @@ fn negated(alloc: Global, first: Front<'_>) -> Result<Front<'_>, AllocError>
 }
 
 /// `!` of a flag.
-fn denied(alloc: Global, first: Front<'_>) -> Result<Front<'_>, AllocError>
+fn denied(alloc: Global, first: ReadExpr<'_>) -> Result<ReadExpr<'_>, AllocError>
     ensures { IfOk result (λ front. views.front_of front ≡ spec.denied (views.front_of first.entry)) }
 {
-    Ok(Front {
+    Ok(ReadExpr {
         expr: Expr::Not(Box::new(alloc, first.expr)?),
         left: first.left,
         rest: first.rest,

@@ -7,7 +7,7 @@ use Rattle.code_language.specs.WellFormed.{IsCode}
 
 -- the code is well formed, and these are the tree of its states, and the greatest height and the greatest work of its
 -- procedures
-pub record IsKept (k : Code) (tree_kept : Tree) (most_high most_work : ℕ) : Type 0 where
+pub record KeepsMeasures (k : Code) (tree_kept : Tree) (most_high most_work : ℕ) : Type 0 where
   pub code : IsCode k
   pub tree : tree_kept ≡ k.tree
   pub height : most_high ≡ greatest (heights k.procedures.procs)

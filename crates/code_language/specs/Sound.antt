@@ -1,7 +1,8 @@
 -- What the instructions of well-formed code keep, one by one and procedure by procedure.
 use Rattle.std.specs.Prelude.{◌≡◌, ◌+◌, ℕ, suc, List, [], ◌∷◌, length, true}
 use Rattle.code_language.specs.Instrs.{Instr}
-use Rattle.code_language.specs.WellFormed.{Known, instr_known, skips_within, calls_lower, instr_typed, is_ret, instr_keeps}
+use Rattle.code_language.specs.WellFormed.{Known, instr_known, skips_within, calls_lower}
+use Rattle.code_language.specs.WellFormed.{instr_typed, is_ret, instr_keeps}
 
 -- an instruction of procedure p with so many after it: it names what is there, passes over no end, calls lower, its
 -- types are right, and it keeps what can be remembered

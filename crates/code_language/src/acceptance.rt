@@ -1,7 +1,7 @@
 //! Accepts code exactly where it is well formed.
 ghost use Rattle.std.specs.Prelude.{◌≡◌, false, IfOk, IfErr, IsOkUnless};
 ghost use Rattle.code_language.specs.Code.{code_of};
-ghost use Rattle.code_language.specs.Kept.{IsKept};
+ghost use Rattle.code_language.specs.Kept.{KeepsMeasures};
 ghost use Rattle.code_language.specs.Tables.{IsTable};
 ghost use Rattle.code_language.specs.WellFormed.{too_many, IsCode, IsCause};
 
@@ -49,7 +49,7 @@ struct Examined {
 /// What is kept of well-formed code, or why it isn't accepted.
 fn examine(alloc: Global, raw: &RawCode) -> Result<Examined, CodeEnd>
     ensures kept { IfOk result (λ found.
-        IsKept (code_of raw.now) found.shape found.measures.height found.measures.work) }
+        KeepsMeasures (code_of raw.now) found.shape found.measures.height found.measures.work) }
     ensures refused { IfErr result (λ end. IsCause (code_of raw.now) end) }
 {
     if too_many(raw) {
@@ -70,7 +70,7 @@ fn measured(alloc: Global, raw: &RawCode) -> Result<Measures, CodeEnd>
     requires few { too_many (code_of raw.now).procedures.procs ≡ false }
     requires table { IsTable (code_of raw.now).tree (code_of raw.now).names }
     ensures kept { IfOk result (λ most.
-        IsKept (code_of raw.now) (code_of raw.now).tree most.height most.work) }
+        KeepsMeasures (code_of raw.now) (code_of raw.now).tree most.height most.work) }
     ensures refused { IfErr result (λ end. IsCause (code_of raw.now) end) }
 {
     if !starts_known(raw) {

@@ -57,7 +57,7 @@ impl Model for Code {
     ghost use Rattle.actions.specs.contracts.expr.Expr as e;
     ghost use Rattle.code_language.specs.declared.code.RawCode.{RawCode};
     ghost use Rattle.code_language.specs.Code.{code_of};
-    ghost use Rattle.code_language.specs.Kept.{IsKept};
+    ghost use Rattle.code_language.specs.Kept.{KeepsMeasures};
 
     ghost Value = { RawCode };
 
@@ -65,20 +65,20 @@ impl Model for Code {
 
     ghost view = { λ code. code.raw };
 
-    ghost invariant = { λ code. IsKept (code_of code.raw) code.shape code.height code.work };
+    ghost invariant = { λ code. KeepsMeasures (code_of code.raw) code.shape code.height code.work };
 }
 
 impl Code {
     ghost use Rattle.std.specs.Prelude.{◌≡◌};
     ghost use Rattle.code_language.specs.Code.{code_of};
-    ghost use Rattle.code_language.specs.Kept.{IsKept};
+    ghost use Rattle.code_language.specs.Kept.{KeepsMeasures};
     ghost use Rattle.code_language.specs.Measures.{greatest, heights, works};
     ghost use Rattle.code_language.specs.WellFormed.{IsCode};
 
     /// Keeps well-formed code with the tree of its states, its height and its work. It takes no
     /// memory.
     pub(crate) fn of(raw: RawCode, shape: Shape, height: u32, work: u64) -> Code
-        requires { IsKept (code_of raw) shape height work }
+        requires { KeepsMeasures (code_of raw) shape height work }
         ensures { result ≡ raw }
     {
         Code {

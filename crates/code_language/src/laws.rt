@@ -4,10 +4,11 @@ ghost use Rattle.std.specs.Prelude.{◌≡◌, ◌⊎◌, ◌<◌, ℕ, List, No
 ghost use Rattle.actions.specs.Runs.{Moment};
 ghost use Rattle.code_language.specs.Code.{Code};
 ghost use Rattle.code_language.specs.Instrs.{Instr};
-ghost use Rattle.code_language.specs.Machine.{Program, Machine};
+ghost use Rattle.code_language.specs.Machine.{Program, CodeState};
 ghost use Rattle.code_language.specs.Reactions.{Leads};
 ghost use Rattle.code_language.specs.Sound.{AreProcs};
-ghost use Rattle.code_language.specs.WellFormed.{Known, known_of, procs_fault, IsCode, IsFirstFault};
+ghost use Rattle.code_language.specs.WellFormed.{Known, known_of, procs_fault};
+ghost use Rattle.code_language.specs.WellFormed.{IsCode, IsFirstFault};
 ghost use Rattle.code_language.specs.declared.fault.CodeFault.{CodeFault};
 
 /// Code has at most one first fault, and well-formed code has none.
@@ -35,5 +36,5 @@ pub fn well_formed_code_is_sound()
 
 /// A run of code has at most one end.
 pub fn a_run_has_one_end()
-    ensures { (C : Program) (m : Machine) (a b : Moment) → Leads C m a → Leads C m b → a ≡ b }
+    ensures { (C : Program) (m : CodeState) (a b : Moment) → Leads C m a → Leads C m b → a ≡ b }
 {}

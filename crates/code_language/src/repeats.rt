@@ -10,7 +10,7 @@ use flow_base::{Memory, Text};
 use indexmap::IndexSet;
 use std::alloc::Global;
 
-/// Notes a name that stands in that state, if it stands in one. Whether it is the first such name.
+/// Marks a name that stands in that state, if it stands in one. Whether it is the first such name.
 fn is_first<'a>(
     seen: &mut IndexSet<(Option<u32>, &'a str)>,
     owner: Option<u32>,

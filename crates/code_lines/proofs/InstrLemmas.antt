@@ -1,10 +1,12 @@
 -- The lines of instructions, in both directions.
-use Rattle.std.proofs.Common.{◌≡◌, ℕ, ◌+◌, ◌^◌, ◌<◌, Bool, true, false, List, ◌∷◌, ◌++◌, Option, Some, None, refl, sym, ap}
+use Rattle.std.proofs.Common.{◌≡◌, ℕ, ◌+◌, ◌^◌, ◌<◌, Bool, true, false, List}
+use Rattle.std.proofs.Common.{◌∷◌, ◌++◌, Option, Some, None, refl, sym, ap}
 use Rattle.std.proofs.Common.{◌∙◌, subst, arith}
 use Rattle.std.specs.Prelude.{codes, decimal, option_map, option_and_then}
 use Rattle.std.proofs.lemmas.Option.{none-some, cond_some, option_and_then_some}
 use Rattle.actions.specs.Exprs.{Expr}
-use Rattle.code_language.specs.Instrs.{Cond, Instr, Assign, Emit, Mark, Clear, Keep, Unless, Skip, Call, Visit, Send, SendTo}
+use Rattle.code_language.specs.Instrs.{Cond, Instr, Assign, Emit, Mark, Clear, Keep}
+use Rattle.code_language.specs.Instrs.{Unless, Skip, Call, Visit, Send, SendTo}
 use Rattle.code_language.specs.Instrs.{Play, Home, Begin, Pass, Ret}
 use Rattle.code_fields.specs.Cuts.{Parts, parts_at}
 use Rattle.code_fields.specs.Spelling.{IsNumber, expr_words}
@@ -15,7 +17,8 @@ use Rattle.code_fields.proofs.NumberLemmas.{numeral-some}
 use Rattle.code_fields.proofs.BehindLemmas.{number_of-decimal}
 use Rattle.code_fields.proofs.WordLemmas.{tested}
 use Rattle.code_fields.proofs.ExprLemmas.{expr_of-words, expr_of-some, expr_words-line}
-use Rattle.code_fields.proofs.NewlineLemmas.{IsLine, IsWord, line_tested, line_then, word_tested, number_word, word_line}
+use Rattle.code_fields.proofs.NewlineLemmas.{IsLine, IsWord, line_tested, line_then}
+use Rattle.code_fields.proofs.NewlineLemmas.{word_tested, number_word, word_line}
 use Rattle.code_lines.specs.declared.format.Format.{Format}
 use Rattle.code_lines.specs.declared.words.PlainWord.{PlainWord}
 use Rattle.code_lines.specs.declared.words.PlainWord.TheVariants as plain
@@ -24,7 +27,8 @@ use Rattle.code_lines.specs.declared.words.Word.TheVariants as words
 use Rattle.code_lines.specs.Spelling.{note_word, cond_words, instr_line, HasNote, HasNumbers, HasWords, is_in, IsInstr}
 use Rattle.code_lines.specs.Fields.{note_of, cond_of, bare_instr, word_of, set_with, unless_with, call_with, visit_with}
 use Rattle.code_lines.specs.Fields.{send_to_with, send_with, plain_with, instr_with, instr_at, instr_of, instr_in}
-use Rattle.code_lines.proofs.WordLemmas.{plain_word, first_word, word_of-some, made_of, made_some, note_of-word, note_of-some}
+use Rattle.code_lines.proofs.WordLemmas.{plain_word, first_word, word_of-some, made_of}
+use Rattle.code_lines.proofs.WordLemmas.{made_some, note_of-word, note_of-some}
 use Rattle.code_lines.proofs.CondLemmas.{cond_of-words, cond_of-some, number_line, cond_words-line}
 
 -- a number is a word

@@ -1,11 +1,14 @@
 -- What the line of a state and that of an instruction say.
-use Rattle.std.specs.Prelude.{ℕ, Bool, true, false, List, Option, Some, None, option_and_then, option_map, is_some, is_none}
+use Rattle.std.specs.Prelude.{ℕ, Bool, true, false, List, Option, Some, None}
+use Rattle.std.specs.Prelude.{option_and_then, option_map, is_some, is_none}
 use Rattle.std.specs.Prelude.{if◌then◌else◌, codes}
 use Rattle.std.specs.Str.{bytes_eq}
 use Rattle.active_config.specs.declared.comp.Comp.{Comp}
 use Rattle.code_language.specs.declared.code.RawState.{RawState}
-use Rattle.code_language.specs.Instrs.{Cond, On, Bare, OnHome, BareHome, Current, Result, Test, Last, Instr, Assign, Emit}
-use Rattle.code_language.specs.Instrs.{Mark, Clear, Keep, Unless, Skip, Call, Visit, Send, SendTo, Play, Home, Begin, Pass, Ret}
+use Rattle.code_language.specs.Instrs.{Cond, On, Bare, OnHome, BareHome, Current}
+use Rattle.code_language.specs.Instrs.{Result, Test, Last, Instr, Assign, Emit}
+use Rattle.code_language.specs.Instrs.{Mark, Clear, Keep, Unless, Skip, Call, Visit}
+use Rattle.code_language.specs.Instrs.{Send, SendTo, Play, Home, Begin, Pass, Ret}
 use Rattle.code_fields.specs.Cuts.{Parts, parts_at}
 use Rattle.code_fields.specs.Fields.{kept, number_of, behind, name_of, word_then, comp_of}
 use Rattle.code_fields.specs.Expressions.{expr_of}

@@ -1,8 +1,10 @@
 -- How states and instructions are spelled.
 use Rattle.std.specs.Prelude.{◌≡◌, ℕ, Bool, true, false, List, ◌∷◌, ◌++◌, Option, Some, None, codes, decimal}
 use Rattle.code_language.specs.declared.code.RawState.{RawState}
-use Rattle.code_language.specs.Instrs.{Cond, On, Bare, OnHome, BareHome, Current, Result, Test, Last, Instr, Assign, Emit}
-use Rattle.code_language.specs.Instrs.{Mark, Clear, Keep, Unless, Skip, Call, Visit, Send, SendTo, Play, Home, Begin, Pass, Ret}
+use Rattle.code_language.specs.Instrs.{Cond, On, Bare, OnHome, BareHome, Current}
+use Rattle.code_language.specs.Instrs.{Result, Test, Last, Instr, Assign, Emit}
+use Rattle.code_language.specs.Instrs.{Mark, Clear, Keep, Unless, Skip, Call, Visit}
+use Rattle.code_language.specs.Instrs.{Send, SendTo, Play, Home, Begin, Pass, Ret}
 use Rattle.code_fields.specs.Spelling.{IsNumber, IsName, IsExpr, comp_word, expr_words}
 use Rattle.code_lines.specs.declared.format.Format.{Format}
 use Rattle.code_lines.specs.declared.format.Format.TheVariants as formats

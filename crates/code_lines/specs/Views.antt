@@ -1,7 +1,7 @@
 -- What contracts see of the values of the reader.
 use Rattle.code_language.specs.declared.code.RawState.{RawState}
-use Rattle.code_lines.specs.declared.states.StateParts.{StateParts}
+use Rattle.code_lines.specs.declared.states.StateLine.{StateLine}
 
 -- a state with the bytes of its name
-abbrev pub state_of : StateParts → RawState
+abbrev pub state_of : StateLine → RawState
 state_of s = record { parent = s.parent; comp = s.comp; name = s.name.now }

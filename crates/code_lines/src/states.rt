@@ -11,7 +11,7 @@ use std::alloc::{AllocError, Global};
 
 /// A state, whose name stands in its line.
 #[derive(Clone, Copy, Debug)]
-pub struct StateParts<'a> {
+pub struct StateLine<'a> {
     /// Its parent.
     pub parent: Option<u32>,
     /// How it is composed.
@@ -51,7 +51,7 @@ fn stands_at(first: bool, parent: Option<u32>) -> bool
 
 /// The state of a line.
 #[tactic(auto, unfolding(crate::specs::Fields::state_of))]
-fn state_parts(line: &[u8]) -> Option<StateParts<'_>>
+fn state_parts(line: &[u8]) -> Option<StateLine<'_>>
     ensures parts { option_map views.state_of result ≡ spec.state_of line.now }
     ensures named { IfSome result (λ state. IsTrue (is_name state.name.now)) }
 {
@@ -60,14 +60,14 @@ fn state_parts(line: &[u8]) -> Option<StateParts<'_>>
 }
 
 /// A state, from its composition on.
-fn state_with_parent(parent: Option<u32>, text: &[u8]) -> Option<StateParts<'_>>
+fn state_with_parent(parent: Option<u32>, text: &[u8]) -> Option<StateLine<'_>>
     ensures parts { option_map views.state_of result ≡ spec.state_with_parent parent text.now }
     ensures named { IfSome result (λ state. IsTrue (is_name state.name.now)) }
 {
     let parts = cut_at(text, b' ')?;
     let comp = comp_of(parts.front)?;
     let name = name_of(parts.rest)?;
-    Some(StateParts { parent, comp, name })
+    Some(StateLine { parent, comp, name })
 }
 
 /// A number, or `-` for none.

@@ -15,7 +15,7 @@ pub(crate) struct MachineState {
     pub marks: Marks,
     /// The values of the data.
     pub vals: Vals,
-    /// The events that were put out.
+    /// The events that were emitted.
     pub outputs: Vec<u32>,
     /// The steps that are used.
     pub used: u32,

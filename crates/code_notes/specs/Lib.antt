@@ -1,4 +1,4 @@
 pub mod Noteless
 pub mod Whole
-pub mod Found
+pub mod Views
 pub mod Checked

@@ -22,11 +22,11 @@ ghost use Rattle.code_language.specs.declared.limits.TheConstants.{INSTR_LIMIT};
 ghost use Rattle.code_shrink.specs.Shrunk.{IsThere};
 ghost use Rattle.code_simulation.specs.Reach.{with_note};
 ghost use Rattle.code_notes.specs.Checked.{AreRight};
-ghost use Rattle.code_notes.specs.Found.{list_of, notes_of, place_in, plan_of};
+ghost use Rattle.code_notes.specs.Views.{list_of, notes_of, place_in, plan_of};
 ghost use Rattle.code_notes.specs.Noteless as spec;
 
 use crate::lists::{is_same, is_with_note};
-use crate::plan::{Place, Plan};
+use crate::plan::{KnownNotes, Place};
 use code_language::{INSTR_LIMIT, Instr, RawCode};
 
 /// A place to which no run comes.
@@ -38,7 +38,7 @@ pub(crate) const UNREACHED: Place = Place {
 };
 
 /// What is known at a place of a procedure.
-pub(crate) fn place_at(plan: &Plan, proc: usize, place: usize) -> Place
+pub(crate) fn place_at(plan: &KnownNotes, proc: usize, place: usize) -> Place
     ensures { result ≡ place_in plan.now proc place }
 {
     match plan.places.get(proc) {
@@ -89,7 +89,7 @@ fn has_no_notes(lists: &[Vec<u32>], number: Option<u32>) -> bool
 }
 
 /// Whether a run may go on from one place of a procedure at another one.
-fn goes_on(plan: &Plan, proc: usize, from: usize, to: usize) -> bool
+fn goes_on(plan: &KnownNotes, proc: usize, from: usize, to: usize) -> bool
     ensures { IsTrue result → spec.GoesOn (plan_of plan.now) proc from to }
 {
     let here = place_at(plan, proc, from);
@@ -98,7 +98,7 @@ fn goes_on(plan: &Plan, proc: usize, from: usize, to: usize) -> bool
 }
 
 /// The same, once the call is its own base.
-fn goes_on_as_base(plan: &Plan, proc: usize, from: usize, to: usize) -> bool
+fn goes_on_as_base(plan: &KnownNotes, proc: usize, from: usize, to: usize) -> bool
     ensures { IsTrue result → spec.GoesOnAsBase (plan_of plan.now) proc from to }
 {
     let here = place_at(plan, proc, from);
@@ -107,7 +107,7 @@ fn goes_on_as_base(plan: &Plan, proc: usize, from: usize, to: usize) -> bool
 }
 
 /// The same, once the call has played.
-fn goes_on_played(plan: &Plan, proc: usize, from: usize, to: usize) -> bool
+fn goes_on_played(plan: &KnownNotes, proc: usize, from: usize, to: usize) -> bool
     ensures { IsTrue result → spec.GoesOnPlayed (plan_of plan.now) proc from to }
 {
     let here = place_at(plan, proc, from);
@@ -116,7 +116,7 @@ fn goes_on_played(plan: &Plan, proc: usize, from: usize, to: usize) -> bool
 }
 
 /// Whether a procedure may begin as its own base.
-fn begins_as_base(plan: &Plan, proc: usize) -> bool
+fn begins_as_base(plan: &KnownNotes, proc: usize) -> bool
     ensures { IsTrue result → spec.BeginsAsBase (plan_of plan.now) proc }
 {
     let first = place_at(plan, proc, 0);
@@ -139,7 +139,7 @@ fn adds_note(lists: &[Vec<u32>], before: Option<u32>, note: Option<u32>, after: 
 }
 
 /// Whether a procedure may be called with a note from a place.
-fn enters(plan: &Plan, proc: usize, place: usize, callee: usize, note: Option<u32>) -> bool
+fn enters(plan: &KnownNotes, proc: usize, place: usize, callee: usize, note: Option<u32>) -> bool
     ensures { IsTrue result → spec.Enters (plan_of plan.now) proc place callee note }
 {
     let here = place_at(plan, proc, place);
@@ -148,7 +148,7 @@ fn enters(plan: &Plan, proc: usize, place: usize, callee: usize, note: Option<u3
 }
 
 /// Whether the new procedure runs these notes, or there is none and there are no notes.
-fn runs(plan: &Plan, player: Option<u32>, notes: &[u32]) -> bool
+fn runs(plan: &KnownNotes, player: Option<u32>, notes: &[u32]) -> bool
     ensures { IsTrue result → spec.Runs (plan_of plan.now) player notes.now }
 {
     match player {
@@ -161,7 +161,7 @@ fn runs(plan: &Plan, player: Option<u32>, notes: &[u32]) -> bool
 }
 
 /// Whether the notes at a place are known, and what stands for `Play` there runs them.
-fn plays(plan: &Plan, here: Place) -> bool
+fn plays(plan: &KnownNotes, here: Place) -> bool
     ensures { IsTrue result → (ns : List ℕ)
         × (notes_of plan.now.lists.items here.notes ≡ Some ns)
         × spec.Runs (plan_of plan.now) here.player ns }
@@ -173,7 +173,7 @@ fn plays(plan: &Plan, here: Place) -> bool
 }
 
 /// Whether `Play` at a place is right.
-fn is_play_right(plan: &Plan, proc: usize, place: usize) -> bool
+fn is_play_right(plan: &KnownNotes, proc: usize, place: usize) -> bool
     requires { place ≤ INSTR_LIMIT }
     ensures { IsTrue result → spec.PlayIsRight (plan_of plan.now) proc place }
 {
@@ -182,7 +182,13 @@ fn is_play_right(plan: &Plan, proc: usize, place: usize) -> bool
 }
 
 /// Whether a call with a note at a place is right.
-fn is_call_right(plan: &Plan, proc: usize, place: usize, callee: usize, note: Option<u32>) -> bool
+fn is_call_right(
+    plan: &KnownNotes,
+    proc: usize,
+    place: usize,
+    callee: usize,
+    note: Option<u32>,
+) -> bool
     requires { place ≤ INSTR_LIMIT }
     ensures { IsTrue result → spec.Enters (plan_of plan.now) proc place callee note
         × spec.GoesOn (plan_of plan.now) proc place (place + 1) }
@@ -191,7 +197,7 @@ fn is_call_right(plan: &Plan, proc: usize, place: usize, callee: usize, note: Op
 }
 
 /// Whether an instruction at a place is right.
-fn is_instr_right(plan: &Plan, proc: usize, place: usize, instr: &Instr) -> bool
+fn is_instr_right(plan: &KnownNotes, proc: usize, place: usize, instr: &Instr) -> bool
     requires { place ≤ INSTR_LIMIT }
     ensures { IsTrue result → spec.IsRight (plan_of plan.now) proc place (instr_of instr.now) }
 {
@@ -221,7 +227,7 @@ fn is_instr_right(plan: &Plan, proc: usize, place: usize, instr: &Instr) -> bool
 }
 
 /// Whether an instruction at a place is right; where no run comes there it is.
-fn is_place_right(plan: &Plan, proc: usize, place: usize, instr: &Instr) -> bool
+fn is_place_right(plan: &KnownNotes, proc: usize, place: usize, instr: &Instr) -> bool
     requires { place ≤ INSTR_LIMIT }
     ensures { IsTrue result → ((plan_of plan.now).place proc place).reached ≡ true
         → spec.IsRight (plan_of plan.now) proc place (instr_of instr.now) }
@@ -230,7 +236,7 @@ fn is_place_right(plan: &Plan, proc: usize, place: usize, instr: &Instr) -> bool
 }
 
 /// Whether each instruction of a procedure is right.
-fn is_procedure_right(plan: &Plan, proc: usize, instrs: &[Instr]) -> bool
+fn is_procedure_right(plan: &KnownNotes, proc: usize, instrs: &[Instr]) -> bool
     ensures { IsTrue result → AreRight (plan_of plan.now) proc (instrs_of instrs.now) }
 {
     if instrs.len() > INSTR_LIMIT {
@@ -245,7 +251,7 @@ fn is_procedure_right(plan: &Plan, proc: usize, instrs: &[Instr]) -> bool
 }
 
 /// Whether each of these procedures may begin as its own base.
-fn are_bases(plan: &Plan, notes: &[u32]) -> bool
+fn are_bases(plan: &KnownNotes, notes: &[u32]) -> bool
     ensures { IsTrue result → spec.AreBases (plan_of plan.now) notes.now }
 {
     for note in notes {
@@ -257,7 +263,7 @@ fn are_bases(plan: &Plan, notes: &[u32]) -> bool
 }
 
 /// Whether each procedure that a new one runs may begin as its own base.
-fn are_players_right(plan: &Plan) -> bool
+fn are_players_right(plan: &KnownNotes) -> bool
     ensures { IsTrue result → (q : ℕ) (ns : List ℕ)
         → slice_get (plan_of plan.now).players q ≡ Some ns → spec.AreBases (plan_of plan.now) ns }
 {
@@ -305,7 +311,7 @@ fn returns_zero(raw: &RawCode) -> bool
 
 /// Whether the start, a reaction and each note that is run may begin as their own base, and some
 /// procedure returns with 0.
-fn begins_right(plan: &Plan, raw: &RawCode) -> bool
+fn begins_right(plan: &KnownNotes, raw: &RawCode) -> bool
     ensures start { IsTrue result
         → spec.BeginsAsBase (plan_of plan.now) (code_of raw.now).procedures.start }
     ensures react { IsTrue result
@@ -321,7 +327,7 @@ fn begins_right(plan: &Plan, raw: &RawCode) -> bool
 }
 
 /// Whether the plan is right.
-pub(crate) fn is_right(plan: &Plan, raw: &RawCode) -> bool
+pub(crate) fn is_right(plan: &KnownNotes, raw: &RawCode) -> bool
     ensures { IsTrue result → spec.PlanIsRight (plan_of plan.now) (code_of raw.now) }
 {
     if !begins_right(plan, raw) {

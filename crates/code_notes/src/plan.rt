@@ -25,7 +25,7 @@ pub(crate) struct Place {
 
 /// What is known at each place of each procedure. To a place that isn't there no run comes.
 #[derive(Debug, Drop)]
-pub(crate) struct Plan {
+pub(crate) struct KnownNotes {
     /// The lists of notes.
     pub(crate) lists: Vec<Vec<u32>>,
     /// For each new procedure the notes that it runs.

@@ -3,10 +3,10 @@ ghost use Rattle.std.specs.Prelude.{◌≡◌, ℕ, IsTrue, Some, length, slice_
 ghost use Rattle.code_language.specs.Code.{code_of, instr_of, instrs_of};
 ghost use Rattle.code_language.specs.Instrs.{Play};
 ghost use Rattle.code_notes.specs.Checked.{StandsFor};
-ghost use Rattle.code_notes.specs.Found.{place_in, plan_of};
+ghost use Rattle.code_notes.specs.Views.{place_in, plan_of};
 
 use crate::checking::place_at;
-use crate::plan::{PLAYER_LIMIT, Plan};
+use crate::plan::{KnownNotes, PLAYER_LIMIT};
 use code_language::{Instr, RawCode};
 
 /// Whether the instruction is `Play`.
@@ -20,7 +20,7 @@ fn is_play(instr: &Instr) -> bool
 }
 
 /// Whether the new procedure stands for the instruction at a place, a `Play`.
-fn stands_for(plan: &Plan, proc: usize, place: usize, instr: &Instr, player: u32) -> bool
+fn stands_for(plan: &KnownNotes, proc: usize, place: usize, instr: &Instr, player: u32) -> bool
     ensures { IsTrue result → (instr_of instr.now ≡ Play)
         × ((place_in plan.now proc place).player ≡ Some player) }
 {
@@ -28,7 +28,7 @@ fn stands_for(plan: &Plan, proc: usize, place: usize, instr: &Instr, player: u32
 }
 
 /// Whether the new procedure stands for a `Play` of these instructions of a procedure.
-fn has_player(plan: &Plan, proc: usize, instrs: &[Instr], player: u32) -> bool
+fn has_player(plan: &KnownNotes, proc: usize, instrs: &[Instr], player: u32) -> bool
     ensures { IsTrue result → (i : ℕ) × (slice_get (instrs_of instrs.now) i ≡ Some Play)
         × ((place_in plan.now proc i).player ≡ Some player) }
 {
@@ -41,7 +41,7 @@ fn has_player(plan: &Plan, proc: usize, instrs: &[Instr], player: u32) -> bool
 }
 
 /// Whether the new procedure stands for a `Play` of a procedure.
-fn is_played(plan: &Plan, raw: &RawCode, proc: u32, player: u32) -> bool
+fn is_played(plan: &KnownNotes, raw: &RawCode, proc: u32, player: u32) -> bool
     ensures { IsTrue result
         → StandsFor (plan_of plan.now) (code_of raw.now).procedures player proc }
 {
@@ -52,7 +52,7 @@ fn is_played(plan: &Plan, raw: &RawCode, proc: u32, player: u32) -> bool
 }
 
 /// Whether each new procedure stands for a `Play` of the procedure that the plan tells.
-pub(crate) fn are_played(plan: &Plan, raw: &RawCode) -> bool
+pub(crate) fn are_played(plan: &KnownNotes, raw: &RawCode) -> bool
     ensures size { IsTrue result
         → length plan.now.played.items ≡ length (plan_of plan.now).players }
     ensures each { IsTrue result → (q p : ℕ) → slice_get plan.now.played.items q ≡ Some p

@@ -2,7 +2,7 @@
 mod spreading;
 mod table;
 
-use crate::plan::{PLAYER_LIMIT, Plan};
+use crate::plan::{KnownNotes, PLAYER_LIMIT};
 use crate::searching::spreading::Spread;
 use crate::searching::table::NO_NOTES;
 use code_copies::number_of;
@@ -83,7 +83,11 @@ fn find_players(
 
 /// Finds what stands for each `Play`. None where the notes of one aren't known, or where there
 /// would be too many new procedures.
-fn with_players(alloc: Global, raw: &RawCode, mut spread: Spread) -> Result<Option<Plan>, Memory> {
+fn with_players(
+    alloc: Global,
+    raw: &RawCode,
+    mut spread: Spread,
+) -> Result<Option<KnownNotes>, Memory> {
     let Ok(of_list) = vec![in alloc; None; spread.table.count()] else {
         return Err(Memory);
     };
@@ -99,7 +103,7 @@ fn with_players(alloc: Global, raw: &RawCode, mut spread: Spread) -> Result<Opti
             return Ok(None);
         }
     }
-    Ok(Some(Plan {
+    Ok(Some(KnownNotes {
         lists: spread.table.into_lists(),
         players: players.players,
         played: players.played,
@@ -111,7 +115,7 @@ fn with_players(alloc: Global, raw: &RawCode, mut spread: Spread) -> Result<Opti
 ///
 /// It goes over the code until there is no news, at most 1,000 times. `Memory` only where memory
 /// was refused.
-pub(crate) fn find(alloc: Global, raw: &RawCode) -> Result<Option<Plan>, Memory> {
+pub(crate) fn find(alloc: Global, raw: &RawCode) -> Result<Option<KnownNotes>, Memory> {
     let mut spread = Spread::new(alloc, raw)?;
     spread.begin(raw);
     spread.spread(alloc, raw)?;

@@ -4,14 +4,14 @@ ghost use Rattle.std.specs.List.{All};
 ghost use Rattle.std.specs.declared.alloc.Global.{Global};
 ghost use Rattle.active_config.specs.Tree.{state_count};
 ghost use Rattle.actions.specs.declared.event.Event.TheVariants.{Named};
-ghost use Rattle.code_copies.specs.Found.{key_of, plan_of};
+ghost use Rattle.code_copies.specs.Views.{key_of, plan_of};
 ghost use Rattle.code_copies.specs.Made.{keys_of};
 ghost use Rattle.code_copies.specs.declared.known.EventFact.TheVariants as facts;
 ghost use Rattle.code_language.specs.Code.{code_of};
 ghost use Rattle.code_passes.specs.Tags.{IsKeyOf};
 
 use actions::Event;
-use code_copies::{EventFact, Key, Plan};
+use code_copies::{CopyKey, EventFact, Plan};
 use code_language::{Code, RawCode};
 
 /// Whether the home, if there is one, is a state.
@@ -36,7 +36,7 @@ fn is_event_of(raw: &RawCode, event: EventFact) -> bool
 }
 
 /// Whether the home of a key is a state, and its event is declared.
-fn is_key_of(raw: &RawCode, key: Key) -> bool
+fn is_key_of(raw: &RawCode, key: CopyKey) -> bool
     ensures { IsTrue result → (sets : List (Vec ℕ Global))
         → IsKeyOf (code_of raw.now) (key_of sets key) }
 {

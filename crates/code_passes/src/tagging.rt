@@ -1,13 +1,13 @@
 //! The tags of procedures from pass to pass.
 ghost use Rattle.std.specs.Prelude.{◌≡◌, ◌<◌, ℕ, EachIndex, IfOk, List, false, length, slice_index};
 ghost use Rattle.std.specs.Prelude.{◌++◌, map, slice_index_or};
-ghost use Rattle.code_copies.specs.Found.{event_fact_of, facts_of, plan_of, set_of};
+ghost use Rattle.code_copies.specs.Views.{event_fact_of, facts_of, plan_of, set_of};
 ghost use Rattle.code_copies.specs.Made.{PlanIsRight, keys_of};
 ghost use Rattle.code_language.specs.Code.{code_of};
 ghost use Rattle.code_passes.specs.Tags as spec;
 
 use crate::tag::{EventTag, Tag};
-use code_copies::{EventFact, Key, Plan};
+use code_copies::{CopyKey, EventFact, Plan};
 use code_language::Code;
 use flow_base::Memory;
 use std::alloc::Global;
@@ -176,7 +176,7 @@ fn event_tag(sets: &[Vec<u32>], event: EventFact) -> EventTag
 }
 
 /// The tag of a copy of a procedure that has a tag.
-fn copy_tag(sets: &[Vec<u32>], tag: Tag, key: Key) -> Tag
+fn copy_tag(sets: &[Vec<u32>], tag: Tag, key: CopyKey) -> Tag
     ensures { result ≡ spec.copy_tag (facts_of sets.now key.facts) tag }
 {
     Tag {

@@ -19,7 +19,7 @@ ghost use Rattle.code_pure_copies.specs.PureCopies.{ArePureCopies};
 ghost use Rattle.code_shrink.specs.Numbers.{number_by};
 
 use crate::naming::{is_copy, naming_copies};
-use crate::plan::{Named, Plan};
+use crate::plan::{Named, PureCopyPlan};
 use crate::searching::{find_by_depth, find_by_notes};
 use code_language::{Code, CodeEnd, Instr, RawCode, accept};
 use code_shrink::with_procedures;
@@ -95,7 +95,7 @@ fn copies_of(
 }
 
 /// Whether the copies with which a start and a reaction begin are such of their procedures.
-fn are_firsts(origins: &[u32], plan: &Plan, raw: &RawCode) -> bool
+fn are_firsts(origins: &[u32], plan: &PureCopyPlan, raw: &RawCode) -> bool
     requires { 0 < length origins.now }
     ensures start { IsTrue result → number_by origins.now plan.now.start ≡ raw.now.start }
     ensures react { IsTrue result → number_by origins.now plan.now.react ≡ raw.now.react }
@@ -108,7 +108,7 @@ fn are_firsts(origins: &[u32], plan: &Plan, raw: &RawCode) -> bool
 fn made_raw(
     alloc: Global,
     raw: &RawCode,
-    plan: &Plan,
+    plan: &PureCopyPlan,
     origins: &[u32],
 ) -> Result<Option<RawCode>, Memory>
     requires { 0 < length origins.now }
@@ -127,7 +127,12 @@ fn made_raw(
 
 /// The code that is made by a plan, as it is accepted. None where it isn't, or where what the plan
 /// names aren't copies of what is named.
-fn made_by(alloc: Global, code: &Code, plan: &Plan, origins: &[u32]) -> Result<Option<Code>, Memory>
+fn made_by(
+    alloc: Global,
+    code: &Code,
+    plan: &PureCopyPlan,
+    origins: &[u32],
+) -> Result<Option<Code>, Memory>
     requires { 0 < length origins.now }
     ensures copies { IfOk result (λ found. IfSome found (λ made.
         ArePureCopies (code_of code.now) (code_of made) origins.now)) }
@@ -159,7 +164,7 @@ pub struct Copies {
 }
 
 /// The code that is made by a plan, if there is one, with the origins of its copies.
-fn planned(alloc: Global, code: &Code, plan: Option<Plan>) -> Result<Option<Copies>, Memory>
+fn planned(alloc: Global, code: &Code, plan: Option<PureCopyPlan>) -> Result<Option<Copies>, Memory>
     ensures copies { IfOk result (λ found. IfSome found (λ made.
         ArePureCopies (code_of code.now) (code_of made.code) made.origins.items)) }
     ensures same { IfOk result (λ found. IfSome found (λ made.

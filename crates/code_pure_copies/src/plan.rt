@@ -17,7 +17,7 @@ pub(crate) const NONE_NAMED: Named = Named {
 
 /// Which copies there shall be. They have numbers from 0, in the order of their origins.
 #[derive(Debug, Drop)]
-pub(crate) struct Plan {
+pub(crate) struct PureCopyPlan {
     /// For each copy the procedure that it is a copy of.
     pub origins: Vec<u32>,
     /// For each copy what its instructions name.

@@ -7,7 +7,7 @@ mod ordering;
 mod playing;
 mod wanting;
 
-use crate::plan::Plan;
+use crate::plan::PureCopyPlan;
 use crate::searching::growing::Growing;
 use crate::searching::levels::DepthSearch;
 use crate::searching::nesting::{Nesting, have_notes};
@@ -57,7 +57,12 @@ fn has_two(origins: &[u32]) -> bool {
 
 /// The plan of the copies, with those of the start and of a reaction. None where one that is wanted
 /// isn't made, or where no procedure has two.
-fn plan_of(alloc: Global, copies: Growing, start: u32, react: u32) -> Result<Option<Plan>, Memory> {
+fn plan_of(
+    alloc: Global,
+    copies: Growing,
+    start: u32,
+    react: u32,
+) -> Result<Option<PureCopyPlan>, Memory> {
     if !copies.is_done() {
         return Ok(None);
     }
@@ -71,7 +76,7 @@ fn plan_of(alloc: Global, copies: Growing, start: u32, react: u32) -> Result<Opt
 
 /// A plan of copies by the notes that are pending where procedures begin. None where no procedure
 /// has two copies, or where there would be too many.
-pub(crate) fn find_by_notes(alloc: Global, code: &RawCode) -> Result<Option<Plan>, Memory> {
+pub(crate) fn find_by_notes(alloc: Global, code: &RawCode) -> Result<Option<PureCopyPlan>, Memory> {
     let procs = code.procs.items();
     let Some(playing) = Playing::of(alloc, procs)? else {
         return Ok(None);
@@ -108,7 +113,7 @@ pub(crate) fn find_by_depth(
     alloc: Global,
     code: &RawCode,
     depth: u32,
-) -> Result<Option<Plan>, Memory> {
+) -> Result<Option<PureCopyPlan>, Memory> {
     let procs = code.procs.items();
     let Some(nesting) = nesting_of(alloc, code)? else {
         return Ok(None);

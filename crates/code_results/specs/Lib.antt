@@ -1,4 +1,4 @@
 pub mod Results
 pub mod Folded
-pub mod Found
+pub mod Views
 pub mod Checked

@@ -18,10 +18,10 @@ ghost use Rattle.code_language.specs.declared.limits.TheConstants.{INSTR_LIMIT};
 ghost use Rattle.code_shrink.specs.Shrunk.{IsThere};
 ghost use Rattle.code_results.specs.Checked.{AreRight};
 ghost use Rattle.code_results.specs.Folded as spec;
-ghost use Rattle.code_results.specs.Found.{place_of, plan_of, results_of, unknown};
+ghost use Rattle.code_results.specs.Views.{place_of, plan_of, results_of, unknown};
 ghost use Rattle.code_results.specs.Results as results_spec;
 
-use crate::plan::{Place, Plan, Results};
+use crate::plan::{KnownResults, Place, Results};
 use crate::results::{all_among, is_any, may_be, one_among, only, others_among, told};
 use code_language::{Cond, INSTR_LIMIT, Instr, RawCode};
 
@@ -33,7 +33,7 @@ const UNKNOWN: Place = Place {
 };
 
 /// What is known at a place of a procedure.
-pub(crate) fn place_at(plan: &Plan, proc: usize, place: usize) -> Place
+pub(crate) fn place_at(plan: &KnownResults, proc: usize, place: usize) -> Place
     ensures { place_of result ≡ (plan_of plan.now).place proc place }
 {
     match plan.places.get(proc) {
@@ -46,7 +46,7 @@ pub(crate) fn place_at(plan: &Plan, proc: usize, place: usize) -> Place
 }
 
 /// The results that a procedure may return.
-fn returns_of(plan: &Plan, proc: usize) -> Results
+fn returns_of(plan: &KnownResults, proc: usize) -> Results
     ensures { results_of result ≡ (plan_of plan.now).returns proc }
 {
     match plan.returns.get(proc) {
@@ -64,7 +64,7 @@ fn differs_on(first: Place, second: Place) -> bool
 
 /// Whether a run may go on from one place of a procedure at another one, whatever the last result
 /// is.
-fn goes_on(plan: &Plan, proc: usize, from: usize, to: usize) -> bool
+fn goes_on(plan: &KnownResults, proc: usize, from: usize, to: usize) -> bool
     ensures { IsTrue result → (r : ℕ)
         → results_spec.may_be ((plan_of plan.now).place proc from).results r ≡ true
         → spec.GoesOn (plan_of plan.now) proc from r to }
@@ -75,7 +75,7 @@ fn goes_on(plan: &Plan, proc: usize, from: usize, to: usize) -> bool
 }
 
 /// Whether a procedure may begin from a place and come back at the next one.
-fn enters(plan: &Plan, proc: usize, place: usize, callee: usize) -> bool
+fn enters(plan: &KnownResults, proc: usize, place: usize, callee: usize) -> bool
     requires { place ≤ INSTR_LIMIT }
     ensures { IsTrue result → spec.Enters (plan_of plan.now) proc place callee }
 {
@@ -85,7 +85,7 @@ fn enters(plan: &Plan, proc: usize, place: usize, callee: usize) -> bool
 }
 
 /// Whether both places that a test leads to may be gone on at.
-fn goes_both_ways(plan: &Plan, proc: usize, place: usize, over: u32) -> bool
+fn goes_both_ways(plan: &KnownResults, proc: usize, place: usize, over: u32) -> bool
     requires { place ≤ INSTR_LIMIT }
     ensures { IsTrue result → (r : ℕ)
         → results_spec.may_be ((plan_of plan.now).place proc place).results r ≡ true
@@ -96,7 +96,7 @@ fn goes_both_ways(plan: &Plan, proc: usize, place: usize, over: u32) -> bool
 }
 
 /// Whether a test of the last result that isn't decided is right.
-fn is_open_test_right(plan: &Plan, proc: usize, place: usize, over: u32, value: u32) -> bool
+fn is_open_test_right(plan: &KnownResults, proc: usize, place: usize, over: u32, value: u32) -> bool
     requires { place ≤ INSTR_LIMIT }
     ensures { IsTrue result → (r : ℕ)
         → results_spec.may_be ((plan_of plan.now).place proc place).results r ≡ true
@@ -111,7 +111,13 @@ fn is_open_test_right(plan: &Plan, proc: usize, place: usize, over: u32, value: 
 }
 
 /// Whether a test of the last result is right.
-fn is_result_test_right(plan: &Plan, proc: usize, place: usize, over: u32, value: u32) -> bool
+fn is_result_test_right(
+    plan: &KnownResults,
+    proc: usize,
+    place: usize,
+    over: u32,
+    value: u32,
+) -> bool
     requires { place ≤ INSTR_LIMIT }
     ensures { IsTrue result → (r : ℕ)
         → results_spec.may_be ((plan_of plan.now).place proc place).results r ≡ true
@@ -127,7 +133,7 @@ fn is_result_test_right(plan: &Plan, proc: usize, place: usize, over: u32, value
 }
 
 /// Whether a test is right.
-fn is_test_right(plan: &Plan, proc: usize, place: usize, over: u32, cond: &Cond) -> bool
+fn is_test_right(plan: &KnownResults, proc: usize, place: usize, over: u32, cond: &Cond) -> bool
     requires { place ≤ INSTR_LIMIT }
     ensures { IsTrue result → (r : ℕ)
         → results_spec.may_be ((plan_of plan.now).place proc place).results r ≡ true
@@ -169,7 +175,13 @@ fn first_return(instrs: &[Instr]) -> Option<u32>
 }
 
 /// Whether the call of a procedure may be left out.
-fn may_be_left_out(plan: &Plan, raw: &RawCode, proc: usize, place: usize, callee: usize) -> bool
+fn may_be_left_out(
+    plan: &KnownResults,
+    raw: &RawCode,
+    proc: usize,
+    place: usize,
+    callee: usize,
+) -> bool
     requires { place ≤ INSTR_LIMIT }
     ensures { IsTrue result
         → spec.MayBeLeftOut (plan_of plan.now) (code_of raw.now).procedures proc place callee }
@@ -182,7 +194,13 @@ fn may_be_left_out(plan: &Plan, raw: &RawCode, proc: usize, place: usize, callee
 }
 
 /// Whether a call is right.
-fn is_call_right(plan: &Plan, raw: &RawCode, proc: usize, place: usize, callee: usize) -> bool
+fn is_call_right(
+    plan: &KnownResults,
+    raw: &RawCode,
+    proc: usize,
+    place: usize,
+    callee: usize,
+) -> bool
     requires { place ≤ INSTR_LIMIT }
     ensures { IsTrue result → spec.CallIsRight (plan_of plan.now) (code_of raw.now).procedures
         proc place ((plan_of plan.now).place proc place).left_out callee }
@@ -229,7 +247,7 @@ fn is_returned(raw: &RawCode, value: u32) -> bool
 }
 
 /// Whether a `Pass` is right.
-fn is_pass_right(plan: &Plan, raw: &RawCode, proc: usize, place: usize) -> bool
+fn is_pass_right(plan: &KnownResults, raw: &RawCode, proc: usize, place: usize) -> bool
     requires { place ≤ INSTR_LIMIT }
     ensures { IsTrue result → (r : ℕ)
         → results_spec.may_be ((plan_of plan.now).place proc place).results r ≡ true
@@ -244,7 +262,7 @@ fn is_pass_right(plan: &Plan, raw: &RawCode, proc: usize, place: usize) -> bool
 }
 
 /// Whether a `Pass` that isn't decided is right.
-fn is_open_pass_right(plan: &Plan, proc: usize, place: usize) -> bool
+fn is_open_pass_right(plan: &KnownResults, proc: usize, place: usize) -> bool
     requires { place ≤ INSTR_LIMIT }
     ensures { IsTrue result → (r : ℕ)
         → results_spec.may_be ((plan_of plan.now).place proc place).results r ≡ true
@@ -259,7 +277,13 @@ fn is_open_pass_right(plan: &Plan, proc: usize, place: usize) -> bool
 }
 
 /// Whether an instruction at a place is right, whatever the last result is.
-fn is_reached_right(plan: &Plan, raw: &RawCode, proc: usize, place: usize, instr: &Instr) -> bool
+fn is_reached_right(
+    plan: &KnownResults,
+    raw: &RawCode,
+    proc: usize,
+    place: usize,
+    instr: &Instr,
+) -> bool
     requires { place ≤ INSTR_LIMIT }
     ensures { IsTrue result → (r : ℕ)
         → results_spec.may_be ((plan_of plan.now).place proc place).results r ≡ true
@@ -293,7 +317,13 @@ fn is_reached_right(plan: &Plan, raw: &RawCode, proc: usize, place: usize, instr
 
 /// Whether an instruction at a place is right, whatever the last result is; where the place isn't
 /// reached it is.
-fn is_instr_right(plan: &Plan, raw: &RawCode, proc: usize, place: usize, instr: &Instr) -> bool
+fn is_instr_right(
+    plan: &KnownResults,
+    raw: &RawCode,
+    proc: usize,
+    place: usize,
+    instr: &Instr,
+) -> bool
     requires { place ≤ INSTR_LIMIT }
     ensures { IsTrue result → (r : ℕ)
         → results_spec.may_be ((plan_of plan.now).place proc place).results r ≡ true
@@ -309,7 +339,7 @@ fn is_instr_right(plan: &Plan, raw: &RawCode, proc: usize, place: usize, instr: 
 }
 
 /// Whether each instruction of a procedure is right.
-fn is_procedure_right(plan: &Plan, raw: &RawCode, proc: usize, instrs: &[Instr]) -> bool
+fn is_procedure_right(plan: &KnownResults, raw: &RawCode, proc: usize, instrs: &[Instr]) -> bool
     ensures { IsTrue result → AreRight (plan_of plan.now)
         (code_of raw.now).procedures proc (instrs_of instrs.now) }
 {
@@ -325,7 +355,7 @@ fn is_procedure_right(plan: &Plan, raw: &RawCode, proc: usize, instrs: &[Instr])
 }
 
 /// Whether each procedure may begin with any result.
-fn may_begin(plan: &Plan) -> bool
+fn may_begin(plan: &KnownResults) -> bool
     ensures { IsTrue result → (p r : ℕ)
         → results_spec.may_be ((plan_of plan.now).place p 0).results r ≡ true }
 {
@@ -349,7 +379,7 @@ fn is_any_first(places: &[Place]) -> bool
 }
 
 /// Whether the plan is right.
-pub(crate) fn is_right(plan: &Plan, raw: &RawCode) -> bool
+pub(crate) fn is_right(plan: &KnownResults, raw: &RawCode) -> bool
     ensures { IsTrue result → spec.PlanIsRight (plan_of plan.now) (code_of raw.now) }
 {
     if !may_begin(plan) {

@@ -31,7 +31,7 @@ pub struct Place {
 ///
 /// Source: this project's choice.
 #[derive(Debug, Drop)]
-pub struct Plan {
+pub struct KnownResults {
     /// For each procedure its places.
     pub places: Vec<Vec<Place>>,
     /// For each procedure the results that it may return.

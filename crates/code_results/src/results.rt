@@ -1,6 +1,6 @@
 //! Results that may be at a place.
 ghost use Rattle.std.specs.Prelude.{◌≡◌, ◌==◌, ℕ, IsTrue, true, false};
-ghost use Rattle.code_results.specs.Found.{results_of};
+ghost use Rattle.code_results.specs.Views.{results_of};
 ghost use Rattle.code_results.specs.Results as spec;
 
 use crate::plan::Results;

@@ -1,5 +1,5 @@
 //! The search for a plan of results. No answer depends on it.
-use crate::plan::{Place, Plan, Results};
+use crate::plan::{KnownResults, Place, Results};
 use crate::reading::{leave_out, read};
 use crate::spreading::spread;
 use code_language::{Instr, RawCode};
@@ -40,7 +40,7 @@ fn all_places(alloc: Global, raw: &RawCode) -> Result<Vec<Vec<Place>>, Memory> {
 ///
 /// It goes over the code until there is no news, at most 1,000 times. `Memory` only where memory
 /// was refused.
-pub(crate) fn find(alloc: Global, raw: &RawCode) -> Result<Plan, Memory> {
+pub(crate) fn find(alloc: Global, raw: &RawCode) -> Result<KnownResults, Memory> {
     let count = raw.procs.items().len();
     let mut places = all_places(alloc, raw)?;
     let Ok(mut returns) = vec![in alloc; Results::Nothing; count] else {
@@ -52,5 +52,5 @@ pub(crate) fn find(alloc: Global, raw: &RawCode) -> Result<Plan, Memory> {
     spread(raw, &mut places, &mut returns);
     read(raw, &mut places, &mut begins);
     leave_out(raw, &mut places);
-    Ok(Plan { places, returns })
+    Ok(KnownResults { places, returns })
 }

@@ -18,7 +18,8 @@ use Rattle.code_language.specs.Instrs.{Cond, On, Bare, OnHome, BareHome, Current
 use Rattle.code_language.specs.Instrs.{Instr, Assign, Emit, Mark, Clear, Keep, Unless, Skip, Call, Visit, Send}
 use Rattle.code_language.specs.Instrs.{SendTo, Play, Home, Begin, Pass, Ret}
 use Rattle.code_language.specs.Sound.{AreSound}
-use Rattle.code_language.specs.WellFormed.{Known, known_of, is_event, is_state, is_proc, note_known, instr_known, IsCode}
+use Rattle.code_language.specs.WellFormed.{Known, known_of, is_event, is_state}
+use Rattle.code_language.specs.WellFormed.{is_proc, note_known, instr_known, IsCode}
 use Rattle.code_language.proofs.ListLemmas.{or_false}
 use Rattle.code_costs.proofs.Sound.{code_parts, proc_at, both_true, proc_there}
 use Rattle.code_shrink.specs.Neat.{Names, constant_truth}

@@ -8,13 +8,13 @@ use Rattle.flow_base.specs.declared.fault.Fault.{Fault}
 use Rattle.flow_base.specs.declared.fault.Fault.TheVariants as faults
 use Rattle.active_config.specs.Tree.{Tree}
 use Rattle.active_config.specs.Marks.{is_on, is_bare}
-use Rattle.actions.specs.World.{World, put_out}
+use Rattle.actions.specs.World.{World, emitted}
 use Rattle.actions.specs.Changes.{paid_in, assigned_in, mark_in, clear_in, keep_in}
 use Rattle.actions.specs.Work.{Now, deeper}
 use Rattle.code_language.specs.Code.{Procedures, instructions}
 use Rattle.code_language.specs.Instrs.{Instr, Unless, Skip, Ret}
 use Rattle.code_language.specs.Instrs as instrs
-use Rattle.code_language.specs.Machine.{Program, Machine, machine, fresh, next, past, Next, holds, if_ok}
+use Rattle.code_language.specs.Machine.{Program, CodeState, machine, fresh, next, past, Next, holds, if_ok}
 use Rattle.code_language.specs.Machine.{test_next, returned, now_after, pass_on, noted, later, sent, if_deep, play_next}
 use Rattle.code_language.specs.Machine.{act}
 use Rattle.code_language.specs.Machine.{step, and_then, run, Over}
@@ -202,9 +202,9 @@ module _ (R : ℕ → Bool) (n : ℕ → ℕ) (k k' : Procedures) (copied : AreC
         (λ u. m.Goes (machine u now r (next (right n q) ∷ rights n qs)))
         (λ u. moves u (q.frame.place + 1) (q.place + 1) h)
     both_go (instrs.Emit e) g named h here = same_if (paid_in b w) w
-        (λ u. m.Goes (machine (put_out e u) now r (next q.frame ∷ lefts qs)))
-        (λ u. m.Goes (machine (put_out e u) now r (next (right n q) ∷ rights n qs)))
-        (λ u. moves (put_out e u) (q.frame.place + 1) (q.place + 1) h)
+        (λ u. m.Goes (machine (emitted e u) now r (next q.frame ∷ lefts qs)))
+        (λ u. m.Goes (machine (emitted e u) now r (next (right n q) ∷ rights n qs)))
+        (λ u. moves (emitted e u) (q.frame.place + 1) (q.place + 1) h)
     both_go (instrs.Mark s) g named h here = moves (mark_in t s w) (q.frame.place + 1) (q.place + 1) h
     both_go (instrs.Clear s) g named h here = moves (clear_in t s w) (q.frame.place + 1) (q.place + 1) h
     both_go (instrs.Keep s) g named h here = moves (keep_in t s w) (q.frame.place + 1) (q.place + 1) h
@@ -250,14 +250,14 @@ module _ (R : ℕ → Bool) (n : ℕ → ℕ) (k k' : Procedures) (copied : AreC
         (sym (stands k' q.proc q.place (x' ∷ rest') e')) h)
 
   -- the code jumps to a state from which both sides take a step of the same kind
-  pub record Ahead (a a' : Machine) : Type 0 where
+  pub record Ahead (a a' : CodeState) : Type 0 where
     pub steps : ℕ
-    pub to : Machine
+    pub to : CodeState
     pub silent : (j : ℕ) → run code (steps + j) a ≡ run code j to
     pub same : Same (step code to) (step copy a')
 
   -- without a jump
-  at_once : (a a' : Machine) → Same (step code a) (step copy a') → Ahead a a'
+  at_once : (a a' : CodeState) → Same (step code a) (step copy a') → Ahead a a'
   at_once a a' h = record {
     steps = 0;
     to = a;
@@ -266,7 +266,7 @@ module _ (R : ℕ → Bool) (n : ℕ → ℕ) (k k' : Procedures) (copied : AreC
   }
 
   -- after one more jump
-  one_more : (a b' a' : Machine) → step code a ≡ m.Goes b' → Ahead b' a' → Ahead a a'
+  one_more : (a b' a' : CodeState) → step code a ≡ m.Goes b' → Ahead b' a' → Ahead a a'
   one_more a b' a' e h = record {
     steps = suc h.steps;
     to = h.to;
@@ -349,7 +349,7 @@ module _ (R : ℕ → Bool) (n : ℕ → ℕ) (k k' : Procedures) (copied : AreC
     pub over : and_then o (run C steps) ≡ Over w x
 
   -- one step more
-  ends_later : (C : Program) (a : Machine) (w : World) (x : Option Fault) → Ends C (step C a) w x
+  ends_later : (C : Program) (a : CodeState) (w : World) (x : Option Fault) → Ends C (step C a) w x
       → Ends C (m.Goes a) w x
   ends_later C a w x h = record { steps = suc h.steps; over = h.over }
 

@@ -9,7 +9,8 @@ use Rattle.code_language.specs.Instrs.{Cond, On, Bare, OnHome, BareHome, Current
 use Rattle.code_language.specs.Instrs.{Instr, Assign, Emit, Mark, Clear, Keep, Unless, Skip, Call, Visit, Send}
 use Rattle.code_language.specs.Instrs.{SendTo, Play, Home, Begin, Pass, Ret}
 use Rattle.code_language.specs.Sound.{IsSound, AreSound, EndsInRet, IsProc}
-use Rattle.code_language.specs.WellFormed.{Known, with_procs, is_state, is_datum, is_event, is_proc, expr_known, cond_known}
+use Rattle.code_language.specs.WellFormed.{Known, with_procs, is_state, is_datum}
+use Rattle.code_language.specs.WellFormed.{is_event, is_proc, expr_known, cond_known}
 use Rattle.code_language.specs.WellFormed.{note_known, instr_known, skips_within, calls_lower, cond_typed, instr_typed}
 use Rattle.code_language.specs.WellFormed.{is_ret}
 use Rattle.code_language.specs.WellFormed.{cond_keeps, instr_keeps}

@@ -5,7 +5,8 @@ use Rattle.actions.specs.Exprs.{Expr}
 use Rattle.actions.specs.World.{World}
 use Rattle.actions.specs.Changes.{truth_of}
 use Rattle.code_language.specs.Code.{Code, Procedures, instructions}
-use Rattle.code_language.specs.Instrs.{Cond, Test, Instr, Assign, Emit, Mark, Clear, Keep, Unless, Skip, Call, Visit, Send}
+use Rattle.code_language.specs.Instrs.{Cond, Test, Instr, Assign, Emit, Mark, Clear}
+use Rattle.code_language.specs.Instrs.{Keep, Unless, Skip, Call, Visit, Send}
 use Rattle.code_language.specs.Instrs.{SendTo, Play, Home, Begin, Pass, Ret}
 
 -- ---- other numbers for procedures

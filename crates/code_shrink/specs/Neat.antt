@@ -6,7 +6,8 @@ use Rattle.active_config.specs.Marks.{Configuration}
 use Rattle.actions.specs.Exprs.{Expr, Lit, Flag, Read, Active, Neg, Not, Bin}
 use Rattle.actions.specs.Values.{Valued, value_of, flag_of}
 use Rattle.code_language.specs.Code.{Procedures, instructions, fetch}
-use Rattle.code_language.specs.Instrs.{Cond, Test, Instr, Assign, Emit, Mark, Clear, Keep, Unless, Skip, Call, Visit, Send}
+use Rattle.code_language.specs.Instrs.{Cond, Test, Instr, Assign, Emit, Mark, Clear}
+use Rattle.code_language.specs.Instrs.{Keep, Unless, Skip, Call, Visit, Send}
 use Rattle.code_language.specs.Instrs.{SendTo, Play, Home, Begin, Pass, Ret}
 
 -- ---- constant tests

@@ -22,7 +22,7 @@ ghost use Rattle.code_language.specs.declared.limits.TheConstants.{INSTR_LIMIT};
 ghost use Rattle.code_shrink.specs.Search as spec;
 ghost use Rattle.code_shrink.specs.Slides.{straight_ways};
 ghost use Rattle.code_shrink.specs.Whole.{IsExact};
-ghost use Rattle.code_shrink.specs.declared.places.Way.{Way as Found};
+ghost use Rattle.code_shrink.specs.declared.places.Way.{Way as FoundWay};
 
 use crate::constants::no_data;
 use crate::places::{Way, reached_places};
@@ -69,7 +69,7 @@ fn all_ways(alloc: Global, code: &Code) -> Result<Vec<Vec<Way>>, Memory>
 
 /// The reached places of each procedure.
 fn all_places(alloc: Global, ways: &[Vec<Way>]) -> Result<Vec<Vec<bool>>, Memory>
-    requires { (p : ℕ) (own : Vec Found Heap) → slice_get ways.now p ≡ Some own
+    requires { (p : ℕ) (own : Vec FoundWay Heap) → slice_get ways.now p ≡ Some own
         → length own.items ≤ INSTR_LIMIT }
     ensures { (procs : List (List Obeyed)) → map straight_ways procs ≡ spec.items_in ways.now
         → IfOk result (λ flags. spec.EachReached procs (spec.items_in flags.items)) }

@@ -6,24 +6,26 @@ use Rattle.flow_base.specs.declared.fault.Fault.{Fault}
 use Rattle.flow_base.specs.declared.fault.Fault.TheVariants as faults
 use Rattle.active_config.specs.Marks.{is_on, is_bare}
 use Rattle.actions.specs.Exprs.{Expr}
-use Rattle.actions.specs.World.{World, put_out}
+use Rattle.actions.specs.World.{World, emitted}
 use Rattle.actions.specs.Changes.{paid_in, assigned_in, mark_in, clear_in, keep_in}
 use Rattle.actions.specs.Work.{Run, then_do, choose, fault, change_or_fault, Now}
 use Rattle.code_language.specs.Code.{fetch}
 use Rattle.code_language.specs.Instrs.{Cond, Instr}
-use Rattle.code_language.specs.Machine.{Program, Frame, Machine, machine, fresh, next, past, Goes, Stops, holds, if_ok}
-use Rattle.code_language.specs.Machine.{test_next, returned, noted, later, sent, if_deep, play_next, act, step, and_then}
+use Rattle.code_language.specs.Machine.{Program, Frame, CodeState, machine, fresh}
+use Rattle.code_language.specs.Machine.{next, past, Goes, Stops, holds, if_ok}
+use Rattle.code_language.specs.Machine.{test_next, returned, noted, later, sent}
+use Rattle.code_language.specs.Machine.{if_deep, play_next, act, step, and_then}
 use Rattle.code_language.specs.Machine.{run}
 use Rattle.code_language.specs.Instrs as instrs
-use Rattle.code_simulation.specs.Reach.{Reaches, Falls, Aim, Meets}
+use Rattle.code_simulation.specs.Reach.{Reaches, Falls, Aim, MeetsAim}
 use Rattle.code_simulation.proofs.Joins.{meets_on, meets_fall}
 
 -- a step that goes on is a stretch
-pub one_step : {C : Program} {m m' : Machine} → step C m ≡ Goes m' → Reaches C m m'
+pub one_step : {C : Program} {m m' : CodeState} → step C m ≡ Goes m' → Reaches C m m'
 one_step {m' = m'} h = record { steps = 1; by = (m', h, refl) }
 
 -- a step that stops with a fault falls
-pub one_fall : {C : Program} {m : Machine} {w : World} {x : Fault} → step C m ≡ Stops w (Some x) → Falls C m w x
+pub one_fall : {C : Program} {m : CodeState} {w : World} {x : Fault} → step C m ≡ Stops w (Some x) → Falls C m w x
 one_fall {C = C} h = record { by = (1, ap (λ n. and_then n (run C 0)) h) }
 
 -- the instruction at the top frame acts
@@ -116,45 +118,45 @@ module _ {C : Program} {w : World} {now : Now} {r : ℕ} {f : Frame} {fs : List 
       (Goes (machine w now r (next f ∷ fs))) (Goes (machine w now r (past f k ∷ fs)))) t)
 
   -- what costs a step or may be a fault, and then the rest
-  paid : {B : Type 0} {H : Aim B} (o : Result World Fault) (to : World → Machine) (g : World → Run B)
+  paid : {B : Type 0} {H : Aim B} (o : Result World Fault) (to : World → CodeState) (g : World → Run B)
       → step C (machine w now r (f ∷ fs)) ≡ if_ok o w (λ v. Goes (to v))
-      → ((v : World) → o ≡ Ok v → Meets C (to v) H (g v))
-      → Meets C (machine w now r (f ∷ fs)) H (then_do (change_or_fault o w) (λ _ v. g v))
+      → ((v : World) → o ≡ Ok v → MeetsAim C (to v) H (g v))
+      → MeetsAim C (machine w now r (f ∷ fs)) H (then_do (change_or_fault o w) (λ _ v. g v))
   paid (Ok v) to g h t = meets_on (one_step h) (t v refl)
   paid (Err x) to g h t = meets_fall (one_fall h)
 
   -- a datum takes a value, and then the rest
   pub go_assign : {B : Type 0} {H : Aim B} {v : ℕ} {x : Expr} {g : World → Run B}
       → fetch C.procedures f.proc f.place ≡ Some (instrs.Assign v x)
-      → ((u : World) → assigned_in v x w ≡ Ok u → Meets C (machine u now r (next f ∷ fs)) H (g u))
-      → Meets C (machine w now r (f ∷ fs)) H (then_do (change_or_fault (assigned_in v x w) w) (λ _ u. g u))
+      → ((u : World) → assigned_in v x w ≡ Ok u → MeetsAim C (machine u now r (next f ∷ fs)) H (g u))
+      → MeetsAim C (machine w now r (f ∷ fs)) H (then_do (change_or_fault (assigned_in v x w) w) (λ _ u. g u))
   go_assign {v = v} {x = x} {g = g} h t =
       paid (assigned_in v x w) (λ u. machine u now r (next f ∷ fs)) g (acts C w now r f fs (instrs.Assign v x) h) t
 
-  -- an event is put out, and then the rest
+  -- an event is emitted, and then the rest
   pub go_emit : {B : Type 0} {H : Aim B} {x : ℕ} {g : World → Run B}
       → fetch C.procedures f.proc f.place ≡ Some (instrs.Emit x)
-      → ((u : World) → paid_in C.bounds w ≡ Ok u → Meets C (machine (put_out x u) now r (next f ∷ fs)) H (g u))
-      → Meets C (machine w now r (f ∷ fs)) H (then_do (change_or_fault (paid_in C.bounds w) w) (λ _ u. g u))
+      → ((u : World) → paid_in C.bounds w ≡ Ok u → MeetsAim C (machine (emitted x u) now r (next f ∷ fs)) H (g u))
+      → MeetsAim C (machine w now r (f ∷ fs)) H (then_do (change_or_fault (paid_in C.bounds w) w) (λ _ u. g u))
   go_emit {x = x} {g = g} h t =
-      paid (paid_in C.bounds w) (λ u. machine (put_out x u) now r (next f ∷ fs)) g
+      paid (paid_in C.bounds w) (λ u. machine (emitted x u) now r (next f ∷ fs)) g
       (acts C w now r f fs (instrs.Emit x) h) t
 
   -- a step is paid and a procedure called, and then the rest
   pub go_visit : {B : Type 0} {H : Aim B} {q : ℕ} {tag : Option ℕ} {g : World → Run B}
       → fetch C.procedures f.proc f.place ≡ Some (instrs.Visit q tag)
-      → ((u : World) → paid_in C.bounds w ≡ Ok u → Meets C
-      (machine u now r (fresh q tag f.base f.home None ∷ next f ∷ fs)) H (g u)) → Meets C (machine w now r
+      → ((u : World) → paid_in C.bounds w ≡ Ok u → MeetsAim C
+      (machine u now r (fresh q tag f.base f.home None ∷ next f ∷ fs)) H (g u)) → MeetsAim C (machine w now r
       (f ∷ fs)) H (then_do (change_or_fault (paid_in C.bounds w) w) (λ _ u. g u))
   go_visit {q = q} {tag = tag} {g = g} h t =
       paid (paid_in C.bounds w) (λ u. machine u now r (fresh q tag f.base f.home None ∷ next f ∷ fs)) g
       (acts C w now r f fs (instrs.Visit q tag) h) t
 
   -- a fault where no depth is left, and else what costs a step, and then the rest
-  deep_or_paid : {A : Type 0} {H : Aim A} (b : Bool) (o : World → Result World Fault) (to : World → Machine)
+  deep_or_paid : {A : Type 0} {H : Aim A} (b : Bool) (o : World → Result World Fault) (to : World → CodeState)
       (g : World → Run A) → step C (machine w now r (f ∷ fs)) ≡ if_deep b w (if_ok (o w) w (λ v. Goes (to v)))
-      → ((v : World) → o w ≡ Ok v → Meets C (to v) H (g v))
-      → Meets C (machine w now r (f ∷ fs)) H
+      → ((v : World) → o w ≡ Ok v → MeetsAim C (to v) H (g v))
+      → MeetsAim C (machine w now r (f ∷ fs)) H
       (choose b (fault faults.Depth) (λ v. then_do (change_or_fault (o v) v) (λ _ u. g u)) w)
   deep_or_paid false o to g h t = paid (o w) to g h t
   deep_or_paid true o to g h t = meets_fall (one_fall h)
@@ -162,8 +164,8 @@ module _ {C : Program} {w : World} {now : Now} {r : ℕ} {f : Frame} {fs : List 
   -- an event is sent to the whole chart, and then the rest
   pub go_send : {A : Type 0} {H : Aim A} {x : ℕ} {g : World → Run A}
       → fetch C.procedures f.proc f.place ≡ Some (instrs.Send x)
-      → ((u : World) → paid_in C.bounds w ≡ Ok u → Meets C (sent true x C.procedures.react u now r f fs) H (g u))
-      → Meets C (machine w now r (f ∷ fs)) H
+      → ((u : World) → paid_in C.bounds w ≡ Ok u → MeetsAim C (sent true x C.procedures.react u now r f fs) H (g u))
+      → MeetsAim C (machine w now r (f ∷ fs)) H
       (choose (nat_le C.bounds.depth now.depth) (fault faults.Depth)
       (λ v. then_do (change_or_fault (paid_in C.bounds v) v) (λ _ u. g u)) w)
   go_send {x = x} {g = g} h t =
@@ -173,8 +175,8 @@ module _ {C : Program} {w : World} {now : Now} {r : ℕ} {f : Frame} {fs : List 
   -- an event is sent to a state, and then the rest
   pub go_send_to : {A : Type 0} {H : Aim A} {x s p : ℕ} {g : World → Run A}
       → fetch C.procedures f.proc f.place ≡ Some (instrs.SendTo x s p)
-      → ((u : World) → paid_in C.bounds w ≡ Ok u → Meets C (sent (is_on s u.marks) x p u now r f fs) H (g u))
-      → Meets C (machine w now r (f ∷ fs)) H
+      → ((u : World) → paid_in C.bounds w ≡ Ok u → MeetsAim C (sent (is_on s u.marks) x p u now r f fs) H (g u))
+      → MeetsAim C (machine w now r (f ∷ fs)) H
       (choose (nat_le C.bounds.depth now.depth) (fault faults.Depth)
       (λ v. then_do (change_or_fault (paid_in C.bounds v) v) (λ _ u. g u)) w)
   go_send_to {x = x} {s = s} {p = p} {g = g} h t =
@@ -200,9 +202,9 @@ module _ {C : Program} {w : World} {now : Now} {r : ℕ} {f : Frame} {fs : List 
   pub go_play : {B : Type 0} {H : Aim B} {i q : ℕ} {g : World → Run B}
       → fetch C.procedures f.proc f.place ≡ Some instrs.Play
       → noted (later f.cursor (suc f.base)) (f ∷ fs) ≡ Some (i, q) → is_bare C.tree f.home w.marks ≡ true
-      → ((u : World) → paid_in C.bounds w ≡ Ok u → Meets C
+      → ((u : World) → paid_in C.bounds w ≡ Ok u → MeetsAim C
       (machine u now r (fresh q None (suc (length fs)) f.home None ∷ record f { cursor = suc i } ∷ fs)) H
-      (g u)) → Meets C (machine w now r (f ∷ fs)) H (then_do (change_or_fault (paid_in C.bounds w) w) (λ _ u. g u))
+      (g u)) → MeetsAim C (machine w now r (f ∷ fs)) H (then_do (change_or_fault (paid_in C.bounds w) w) (λ _ u. g u))
   go_play {i = i} {q = q} {g = g} h n b t =
       paid (paid_in C.bounds w) (λ u. machine u now r (fresh q None (suc (length fs)) f.home None ∷ record f
       { cursor = suc i } ∷ fs)) g (acts C w now r f fs instrs.Play h ∙ ap (λ o. play_next C o w now r f fs) n ∙ ap

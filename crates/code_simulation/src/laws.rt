@@ -1,28 +1,30 @@
 //! What holds of all code.
-ghost use Rattle.std.specs.Prelude.{◌≡◌, ◌<◌, ◌≤◌, ℕ, suc, List, [], ◌∷◌, length, Option, Some, None};
+ghost use Rattle.std.specs.Prelude.{◌≡◌, ◌<◌, ◌≤◌, ℕ, suc, List, []};
+ghost use Rattle.std.specs.Prelude.{◌∷◌, length, Option, Some, None};
 ghost use Rattle.flow_base.specs.declared.fault.Fault.{Fault};
 ghost use Rattle.actions.specs.declared.event.Event.{Event};
 ghost use Rattle.actions.specs.World.{World};
 ghost use Rattle.actions.specs.Work.{Ended, Faulted, Now};
 ghost use Rattle.code_language.specs.Code.{Procedures, instructions};
 ghost use Rattle.code_language.specs.Instrs.{Instr};
-ghost use Rattle.code_language.specs.Machine.{Program, Frame, Machine, noted};
+ghost use Rattle.code_language.specs.Machine.{Program, Frame, CodeState, noted};
 ghost use Rattle.code_language.specs.Reactions.{Leads};
-ghost use Rattle.code_simulation.specs.Reach.{Reaches, Falls, Meets, leaves, Any, HasAt, pending};
+ghost use Rattle.code_simulation.specs.Reach.{Reaches, Falls, MeetsAim};
+ghost use Rattle.code_simulation.specs.Reach.{leaves, Any, HasAt, pending};
 
 /// Where code leads to a state without frames its run ends there without a fault, and where it
 /// leads to a fault the run ends with it. So where code meets a piece of work, and no frame is left
 /// at its end, the run of the code ends as the work does.
 pub fn code_that_meets_work_ends_as_it()
-    ensures no_frame { (C : Program) (m m' : Machine) → Reaches C m m' → m'.frames ≡ []
+    ensures no_frame { (C : Program) (m m' : CodeState) → Reaches C m m' → m'.frames ≡ []
         → Leads C m (record { world = m'.world; fault = None }) }
-    ensures falls { (C : Program) (m : Machine) (w : World) (x : Fault) → Falls C m w x
+    ensures falls { (C : Program) (m : CodeState) (w : World) (x : Fault) → Falls C m w x
         → Leads C m (record { world = w; fault = Some x }) }
-    ensures end { (C : Program) (m : Machine) (saved : Option Event) (now : Now) (a : Unit {0})
-        (w : World) → Meets C m (leaves saved now [] Any) (Ended a w)
+    ensures end { (C : Program) (m : CodeState) (saved : Option Event) (now : Now) (a : Unit {0})
+        (w : World) → MeetsAim C m (leaves saved now [] Any) (Ended a w)
         → Leads C m (record { world = w; fault = None }) }
-    ensures fault { (C : Program) (m : Machine) (saved : Option Event) (now : Now) (x : Fault) (w : World)
-        → Meets {A = Unit {0}} C m (leaves saved now [] Any) (Faulted x w)
+    ensures fault { (C : Program) (m : CodeState) (saved : Option Event) (now : Now) (x : Fault) (w : World)
+        → MeetsAim {A = Unit {0}} C m (leaves saved now [] Any) (Faulted x w)
         → Leads C m (record { world = w; fault = Some x }) }
 {}
 

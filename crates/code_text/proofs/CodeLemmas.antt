@@ -1,5 +1,6 @@
 -- Whole code and its lines.
-use Rattle.std.proofs.Common.{◌≡◌, ℕ, ◌^◌, zero, suc, true, false, List, [], ◌∷◌, ◌++◌, length, map, Option, Some, refl, sym}
+use Rattle.std.proofs.Common.{◌≡◌, ℕ, ◌^◌, zero, suc, true, false, List, []}
+use Rattle.std.proofs.Common.{◌∷◌, ◌++◌, length, map, Option, Some, refl, sym}
 use Rattle.std.proofs.Common.{ap, ◌∙◌, subst}
 use Rattle.std.specs.Prelude.{codes, decimal, option_map, option_and_then}
 use Rattle.std.specs.List.{flat_map, AllByRecursion}
@@ -15,7 +16,8 @@ use Rattle.code_fields.specs.Spelling.{IsNumber, IsVar, var_line, IsEvent, event
 use Rattle.code_fields.specs.Fields.{number_of, number_behind, behind, word_then}
 use Rattle.code_fields.proofs.CutLemmas.{option_map_some, word_then-some}
 use Rattle.code_fields.proofs.NumberLemmas.{numeral-some}
-use Rattle.code_fields.proofs.BehindLemmas.{behind-append, behind-some, number_of-decimal, number_behind-line, number_behind-some}
+use Rattle.code_fields.proofs.BehindLemmas.{behind-append, behind-some, number_of-decimal}
+use Rattle.code_fields.proofs.BehindLemmas.{number_behind-line, number_behind-some}
 use Rattle.code_fields.proofs.WordLemmas.{tested}
 use Rattle.code_lines.specs.declared.format.Format.{Format}
 use Rattle.code_lines.specs.declared.format.Format.TheVariants as formats
@@ -28,11 +30,13 @@ use Rattle.code_text.specs.Written.{Written}
 use Rattle.code_text.specs.Spelling.{version_line, states_line, procs_line, end_line, proc_lines, StandsAt, AreStates}
 use Rattle.code_text.specs.Spelling.{states_part as states_lines, vars_part as vars_lines, events_part as events_lines}
 use Rattle.code_text.specs.Spelling.{procs_part as procs_lines, body_lines, code_lines, IsProc, IsSpellable}
-use Rattle.code_text.specs.Reading.{Procs, procs_with, procs_after, procs_of, format_of, Partial, nothing_read, root_next}
+use Rattle.code_text.specs.Reading.{Procs, procs_with, procs_after, procs_of}
+use Rattle.code_text.specs.Reading.{format_of, Partial, nothing_read, root_next}
 use Rattle.code_text.specs.Reading.{with_format, with_state, with_procs, next, all_read}
 use Rattle.code_text.proofs.StepLemmas.{steps, IsWhole, steps-append, part_read, part_spelled}
 use Rattle.code_text.proofs.PartLemmas.{made, first_line, counted_read, counted_spelled, states_left, states_part}
-use Rattle.code_text.proofs.PartLemmas.{vars_left, vars_part, events_left, events_part, Above, below, procs_left, procs_part}
+use Rattle.code_text.proofs.PartLemmas.{vars_left, vars_part, events_left, events_part}
+use Rattle.code_text.proofs.PartLemmas.{Above, below, procs_left, procs_part}
 
 -- ---- the first line
 
@@ -188,7 +192,9 @@ body_read format w h =
     ∙ (steps-append (states_done format w.states) (vars_done format w.states w.vars) (vars_lines w.vars) (events_lines w.events ++ last)
     (counted_read (vars_left format w.states) var_line IsVar (states_done format w.states) (codes "data ") (vars_counted format w.states) (vars_part format w.states) w.vars h.vars h.are_vars)
     ∙ (steps-append (vars_done format w.states w.vars) (events_done format w.states w.vars w.events) (events_lines w.events) last
-    (counted_read (events_left format w.states w.vars) event_line IsEvent (vars_done format w.states w.vars) (codes "events ") (events_counted format w.states w.vars) (events_part format w.states w.vars) w.events h.events h.are_events)
+    (counted_read (events_left format w.states w.vars) event_line IsEvent (vars_done format w.states w.vars)
+    (codes "events ") (events_counted format w.states w.vars) (events_part format w.states w.vars) w.events h.events
+    h.are_events)
     ∙ (steps-append (events_done format w.states w.vars w.events) (procs_done format w) (procs_lines w.procedures) (end_line ∷ []) (procs_read format w h)
     ∙ end_read format w)))
 
@@ -325,8 +331,12 @@ body_spelled : (format : Format) (lines : List (List ℕ)) (q : Partial) → ste
     → BodyRead format lines q
 body_spelled format lines q h w =
     let states = states_spelled format lines q h w in
-    let vars = counted_spelled (vars_left format states.states) var_line IsVar (states_done format states.states) (codes "data ") (vars_counted format states.states) refl (vars_part format states.states) states.others q states.goes w in
-    let events = counted_spelled (events_left format states.states vars.items) event_line IsEvent (vars_done format states.states vars.items) (codes "events ") (events_counted format states.states vars.items) refl (events_part format states.states vars.items) vars.others q vars.goes w in
+    let vars = counted_spelled (vars_left format states.states) var_line IsVar (states_done format states.states)
+    (codes "data ") (vars_counted format states.states) refl (vars_part format states.states) states.others q
+    states.goes w in
+    let events = counted_spelled (events_left format states.states vars.items) event_line IsEvent
+    (vars_done format states.states vars.items) (codes "events ") (events_counted format states.states vars.items)
+    refl (events_part format states.states vars.items) vars.others q vars.goes w in
     let procs = procs_spelled format states.states vars.items events.items events.others q events.goes w in
     let v : Written = record { states = states.states; vars = vars.items; events = events.items; procedures = procs.procedures } in
     let last = end_spelled format v procs.others q procs.goes w in

@@ -1,5 +1,6 @@
 -- Why texts aren't read as code.
-use Rattle.std.proofs.Common.{◌≡◌, ℕ, ◌+◌, ◌≤◌, Bool, true, false, ◌&&◌, not, nat_eq, nat_lt, List, [], ◌∷◌, length, Option, Some, None}
+use Rattle.std.proofs.Common.{◌≡◌, ℕ, ◌+◌, ◌≤◌, Bool, true, false, ◌&&◌, not, nat_eq}
+use Rattle.std.proofs.Common.{nat_lt, List, [], ◌∷◌, length, Option, Some, None}
 use Rattle.std.proofs.Common.{Result, Ok, Err, refl, sym, ap, ◌∙◌, subst, arith}
 use Rattle.std.specs.Prelude.{if◌then◌else◌, codes, IfOk, MatchResult}
 use Rattle.std.specs.List.{starts_with}
@@ -17,7 +18,8 @@ use Rattle.code_text.specs.declared.limits.TheConstants.{TEXT_LIMIT}
 use Rattle.code_text.specs.Lines.{cut_of}
 use Rattle.code_text.specs.Written.{Written, written_of, code_written}
 use Rattle.code_text.specs.Spelling.{code_text, IsSpellable}
-use Rattle.code_text.specs.Reading.{Partial, nothing_read, next, is_whole, refusal, at_end, or_refuse, outcome_from, all_read, spelled, IsCause}
+use Rattle.code_text.specs.Reading.{Partial, nothing_read, next, is_whole, refusal, at_end}
+use Rattle.code_text.specs.Reading.{or_refuse, outcome_from, all_read, spelled, IsCause}
 use Rattle.code_text.specs.Views.{Answers, IsAnswer}
 use Rattle.code_text.proofs.OutcomeLemmas.{spelled-text, spelled-ok}
 

@@ -1,5 +1,6 @@
 -- Loops that print one item after another.
-use Rattle.std.proofs.Common.{◌≡◌, ℕ, suc, ◌+◌, ◌<◌, List, [], ◌∷◌, ◌++◌, length, get_or, map, drop, sym, ap, ◌∙◌, subst}
+use Rattle.std.proofs.Common.{◌≡◌, ℕ, suc, ◌+◌, ◌<◌, List, [], ◌∷◌, ◌++◌}
+use Rattle.std.proofs.Common.{length, get_or, map, drop, sym, ap, ◌∙◌, subst}
 use Rattle.std.proofs.Common.{append_assoc, drop-cons, arith}
 use Rattle.std.specs.List.{flat_map, AllByRecursion}
 use Rattle.code_text.specs.Spelling.{text_of}

@@ -14,7 +14,8 @@ use Rattle.code_lines.proofs.CondLemmas.{number_line}
 use Rattle.code_lines.proofs.InstrLemmas.{number_is_word, instr_line-is}
 use Rattle.code_lines.proofs.StateLemmas.{state_line-is}
 use Rattle.code_text.specs.Written.{Written}
-use Rattle.code_text.specs.Spelling.{version_line, procs_line, end_line, proc_lines, states_part, vars_part, events_part}
+use Rattle.code_text.specs.Spelling.{version_line, procs_line, end_line, proc_lines}
+use Rattle.code_text.specs.Spelling.{states_part, vars_part, events_part}
 use Rattle.code_text.specs.Spelling.{procs_part, code_lines, StandsAt, AreStates, IsProc, IsSpellable}
 
 -- each is a line

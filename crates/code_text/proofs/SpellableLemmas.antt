@@ -1,5 +1,6 @@
 -- Well-formed code has a text that can be read.
-use Rattle.std.proofs.Common.{◌≡◌, ℕ, zero, suc, ◌+◌, ◌-◌, ◌^◌, ◌<◌, ◌≤◌, Bool, true, false, cond, ◌&&◌, ◌||◌, not, nat_lt}
+use Rattle.std.proofs.Common.{◌≡◌, ℕ, zero, suc, ◌+◌, ◌-◌, ◌^◌, ◌<◌, ◌≤◌, Bool}
+use Rattle.std.proofs.Common.{true, false, cond, ◌&&◌, ◌||◌, not, nat_lt}
 use Rattle.std.proofs.Common.{List, [], ◌∷◌, ◌++◌, length, map, Option, Some, None, refl, ap, subst, arith}
 use Rattle.std.specs.Prelude.{ℤ, pos, negsuc, neg_ℤ, int_le, int_lt, unsigned_abs, IsTrue, IsSomeAnd, is_some, is_none}
 use Rattle.std.specs.Prelude.{slice_index_or}
@@ -30,10 +31,13 @@ use Rattle.code_language.specs.declared.fault.CodeKind.{CodeKind}
 use Rattle.code_language.specs.declared.limits.TheConstants.{PROC_LIMIT, INSTR_LIMIT}
 use Rattle.code_language.specs.Code.{Code, Procedures, code_of, tree_of_states}
 use Rattle.code_language.specs.Tables.{IsTable}
-use Rattle.code_language.specs.Instrs.{Cond, On, Bare, OnHome, BareHome, Current, Result, Test, Last, Instr, Assign, Emit}
-use Rattle.code_language.specs.Instrs.{Mark, Clear, Keep, Unless, Skip, Call, Visit, Send, SendTo, Play, Home, Begin, Pass, Ret}
+use Rattle.code_language.specs.Instrs.{Cond, On, Bare, OnHome, BareHome, Current}
+use Rattle.code_language.specs.Instrs.{Result, Test, Last, Instr, Assign, Emit}
+use Rattle.code_language.specs.Instrs.{Mark, Clear, Keep, Unless, Skip, Call, Visit}
+use Rattle.code_language.specs.Instrs.{Send, SendTo, Play, Home, Begin, Pass, Ret}
 use Rattle.code_language.specs.WellFormed.{Known, first_of, unless, expr_known, cond_known, instr_known, has_literals}
-use Rattle.code_language.specs.WellFormed.{is_plain, cond_typed, instr_typed, instr_fault, instrs_fault, proc_fault, procs_fault}
+use Rattle.code_language.specs.WellFormed.{is_plain, cond_typed, instr_typed, instr_fault}
+use Rattle.code_language.specs.WellFormed.{instrs_fault, proc_fault, procs_fault}
 use Rattle.code_language.specs.WellFormed.{too_many, starts_known, later_fault, known_of, IsCode}
 use Rattle.code_fields.specs.Spelling.{IsNumber, IsVar, IsEvent, is_init_of, HasNumbers as ExprHasNumbers, IsExpr}
 use Rattle.code_lines.specs.declared.format.Format.TheVariants as formats

@@ -2,7 +2,8 @@
 use Rattle.std.proofs.Common.{◌≡◌, ℕ, List, [], ◌∷◌, ◌++◌, refl, ap, ◌∙◌, append_assoc}
 use Rattle.code_lines.specs.declared.format.Format.{Format}
 use Rattle.code_text.specs.Written.{Written}
-use Rattle.code_text.specs.Spelling.{version_line, states_part, vars_part, events_part, procs_part, end_line, body_lines}
+use Rattle.code_text.specs.Spelling.{version_line, states_part, vars_part}
+use Rattle.code_text.specs.Spelling.{events_part, procs_part, end_line, body_lines}
 use Rattle.code_text.specs.Spelling.{code_lines, text_of, code_text}
 
 -- the text of lines and of those after them

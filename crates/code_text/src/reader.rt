@@ -46,7 +46,7 @@ fn read_formed(alloc: Global, text: &[u8]) -> Result<Code, CodeTextFault>
     };
     match accept(alloc, raw) {
         Ok(code) => {
-            // What a `Code` keeps tells that it is well formed.
+            // Only the proof reads the code: it is well formed.
             let _raw = code.raw();
             Ok(code)
         }

@@ -8,12 +8,13 @@ use Rattle.clap.specs.Faults.{fault_of, is_simple_and_free, level_fault}
 use Rattle.clap.specs.Simple.{Shape, built, is_simple, label_of, rows_at, subcommand_of}
 use Rattle.clap.specs.Walk.{Row, answers_to, idle, nothing_held, subcommand_met}
 use Rattle.command_words.specs.Numbers.{Text}
-use Rattle.command_words.specs.Commands.{RunBounds, Command, Check, Fmt, Rules, Compile, Exec, Run, Upgrade, Bound, Shrink}
+use Rattle.command_words.specs.Commands.{RunBounds, Command, Check, Fmt, Rules}
+use Rattle.command_words.specs.Commands.{Compile, Exec, Run, Upgrade, Bound, Shrink}
 use Rattle.command_words.specs.Commands.{Selftest}
 use Rattle.command_words.specs.Reading.{nothing, read_words}
 use Rattle.command_words.specs.Words.{command_of_texts, file_command, run_command, net_command, number_command}
 use Rattle.command_words.specs.Parser.{program_app}
-use Rattle.command_words.specs.Found.{command_found, file_found, run_found, net_found, number_found}
+use Rattle.command_words.specs.Asked.{command_found, file_found, run_found, net_found, number_found}
 use Rattle.command_words.proofs.WordForms.{AreUtf8}
 use Rattle.command_words.proofs.LeafRules.{Leaf, shape_of_leaf}
 use Rattle.command_words.proofs.Leaves.{file_leaf, run_leaf, number_leaf}

@@ -15,8 +15,8 @@ use Rattle.command_words.specs.Commands.{RunBounds, usual_bounds, Command, Net}
 use Rattle.command_words.specs.Options.{Bound, Depth, Steps, limit_of}
 use Rattle.command_words.specs.Reading.{Given, nothing, read_words}
 use Rattle.command_words.specs.Words.{bounds_of, net_bounds_of, with_one, with_two, with_number}
-use Rattle.command_words.specs.Found.{number_in, number_at, bounds_with, bounds_found, file_found, run_found}
-use Rattle.command_words.specs.Found.{net_bounds_with, net_bounds_found, net_found, number_found}
+use Rattle.command_words.specs.Asked.{number_in, number_at, bounds_with, bounds_found, file_found, run_found}
+use Rattle.command_words.specs.Asked.{net_bounds_with, net_bounds_found, net_found, number_found}
 use Rattle.command_words.proofs.NumberLemmas.{accepts_number, in_range, small_number}
 use Rattle.command_words.proofs.RowLemmas.{has, row}
 use Rattle.command_words.proofs.WordForms.{AreUtf8}
@@ -71,7 +71,7 @@ number_is id least most rows o e small =
     go None small = refl
     go (Some v) small = ap (λ b. cond b (Some (number_of v)) None) (small v refl)
 
--- a bound is in its range where the usual one is
+-- a bound is in its range where the default one is
 bound_in : (bound : Bound) (usual : ℕ) (o : Option Text) → (nat_le 1 usual && nat_le usual (limit_of bound)) ≡ true
     → ((v : Text) → o ≡ Some v → is_number_in 1 (limit_of bound) v ≡ true)
     → (nat_le 1 (unwrap_or (option_map number_of o) usual)

@@ -5,4 +5,4 @@ pub mod Reading
 pub mod Words
 pub mod Seen
 pub mod Parser
-pub mod Found
+pub mod Asked

@@ -1,5 +1,6 @@
 -- What the words of the command line ask for.
-use Rattle.std.specs.Prelude.{ℕ, nat_le, true, false, List, [], ◌∷◌, map, Option, Some, None, option_map, option_and_then}
+use Rattle.std.specs.Prelude.{ℕ, nat_le, true, false, List, [], ◌∷◌, map}
+use Rattle.std.specs.Prelude.{Option, Some, None, option_map, option_and_then}
 use Rattle.std.specs.Prelude.{unwrap_or, String, string_bytes, if◌then◌else◌, codes}
 use Rattle.std.specs.declared.alloc.Global.{Global}
 use Rattle.std.specs.Str.{bytes_eq}
@@ -10,14 +11,14 @@ use Rattle.command_words.specs.Commands.{Command, Check, Fmt, Rules, Compile, Ex
 use Rattle.command_words.specs.Commands.{Selftest}
 use Rattle.command_words.specs.Reading.{Given, nothing, read_words}
 
--- the bounds that the options set, and the usual ones where they don't
+-- the bounds that the options set, and the default ones where they don't
 abbrev pub bounds_of : Given → RunBounds
 bounds_of given = record {
   depth = unwrap_or (option_map number_of given.depth) usual_bounds.depth;
   steps = unwrap_or (option_map number_of given.steps) usual_bounds.steps;
 }
 
--- the bounds of a net, whose usual steps are the most that a net may have
+-- the bounds of a net, whose default steps are the most that a net may have
 abbrev pub net_bounds_of : Given → RunBounds
 net_bounds_of given = record {
   depth = unwrap_or (option_map number_of given.depth) usual_bounds.depth;

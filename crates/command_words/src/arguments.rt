@@ -1,7 +1,7 @@
 //! The arguments of a command, as a parse found them.
 ghost use Rattle.std.specs.Prelude.{◌≡◌, option_map};
 ghost use Rattle.clap.specs.Words.{first_of, found_of, rows_of};
-ghost use Rattle.command_words.specs.Found.{bounds_found, files_found, net_bounds_found, number_at};
+ghost use Rattle.command_words.specs.Asked.{bounds_found, files_found, net_bounds_found, number_at};
 ghost use Rattle.command_words.specs.Seen.{bounds_seen};
 
 use crate::words::NET_STEP_LIMIT;
@@ -16,7 +16,7 @@ pub(crate) fn files_in<'a>(given: &ArgMatches<'a>) -> Option<(&'a str, &'a str)>
     Some((text_in(given, "first")?, text_in(given, "second")?))
 }
 
-/// The bounds of a run, the usual ones where no option sets them. The parser has refused numbers
+/// The bounds of a run, the default ones where no option sets them. The parser has refused numbers
 /// out of their range.
 pub fn bounds_in(given: &ArgMatches<'_>) -> Option<Bounds>
     ensures { option_map bounds_seen result ≡ bounds_found (rows_of (found_of given.now)) }
@@ -27,8 +27,8 @@ pub fn bounds_in(given: &ArgMatches<'_>) -> Option<Bounds>
     Bounds::make(depth, steps)
 }
 
-/// The bounds of a net, the usual ones of nets where no option sets them; none where the steps are
-/// more than `NET_STEP_LIMIT`.
+/// The bounds of a net, the default ones of nets where no option sets them; none where the steps
+/// are more than `NET_STEP_LIMIT`.
 pub(crate) fn net_bounds_in(given: &ArgMatches<'_>) -> Option<Bounds>
     ensures { option_map bounds_seen result ≡ net_bounds_found (rows_of (found_of given.now)) }
 {

@@ -2,8 +2,8 @@
 ghost use Rattle.std.specs.Prelude.{◌≡◌, IfOk, option_map};
 ghost use Rattle.clap.specs.Words.{found_of, rows_of, subcommand_rows_of};
 ghost use Rattle.command_words.specs.Commands as spec;
-ghost use Rattle.command_words.specs.Found.{command_found, file_found, found_named};
-ghost use Rattle.command_words.specs.Found.{net_found, number_found, run_found};
+ghost use Rattle.command_words.specs.Asked.{command_found, file_found, found_named};
+ghost use Rattle.command_words.specs.Asked.{net_found, number_found, run_found};
 ghost use Rattle.command_words.specs.Seen.{command_seen};
 ghost use Rattle.command_words.specs.Words.{command_of};
 
@@ -49,9 +49,9 @@ pub enum Command<'a> {
 
 /// What the words ask for; none where they are no list of words of the program.
 ///
-/// `rules`, `exec` and `run` take `--depth V` (1 to `DEPTH_LIMIT`, usually 8) and `--steps V` (1 to
-/// `STEP_LIMIT`, usually 10,000), each at most once. `net` takes them too, with at most
-/// `NET_STEP_LIMIT` steps, which are usual. Any list of words may end in `Memory`.
+/// `rules`, `exec` and `run` take `--depth V` (1 to `DEPTH_LIMIT`, default 8) and `--steps V` (1 to
+/// `STEP_LIMIT`, default 10,000), each at most once. `net` takes them too, with at most
+/// `NET_STEP_LIMIT` steps, the default. Any list of words may end in `Memory`.
 pub fn command_from<'a>(alloc: Global, words: &'a [String]) -> Result<Option<Command<'a>>, Memory>
     ensures { IfOk result (λ command. option_map command_seen command ≡ command_of words.now) }
 {

@@ -1,5 +1,6 @@
 -- Transitions, counted state by state and junction by junction.
-use Rattle.std.proofs.Common.{◌≡◌, ℕ, ◌+◌, ◌<◌, ◌≤◌, List, [], ◌++◌, append_assoc, codes, length, take, get_or, sym, ap, subst, ◌∙◌, arith, refl}
+use Rattle.std.proofs.Common.{◌≡◌, ℕ, ◌+◌, ◌<◌, ◌≤◌, List, [], ◌++◌, append_assoc, codes}
+use Rattle.std.proofs.Common.{length, take, get_or, sym, ap, subst, ◌∙◌, arith, refl}
 use Rattle.std.specs.Prelude.{sum_by, decimal}
 use Rattle.std.proofs.Math.Seq.{take-length}
 use Rattle.std.proofs.lemmas.List.{length-map}

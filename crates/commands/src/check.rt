@@ -71,6 +71,7 @@ fn counts_line(alloc: Global, chart: &Chart, pairs: u32) -> Result<String, Memor
 fn transition_count(chart: &Chart) -> u32
     ensures { result ≡ transition_count (chart_of chart.now) }
 {
+    // Only the proof reads the shape: the chart is valid.
     let _ = chart.shape();
     count_of_states(chart) + count_of_junctions(chart)
 }
@@ -94,6 +95,7 @@ fn count_of_state(chart: &Chart, state: u32) -> u32
     requires { state < state_count (chart_of chart.now).tree }
     ensures { result ≡ node_transitions (node (chart_of chart.now) state) }
 {
+    // Only the proof reads the shape: the chart is valid.
     let _ = chart.shape();
     let outer = chart.list(state, ListKind::Outer).len();
     let inner = chart.list(state, ListKind::Inner).len();
@@ -105,6 +107,7 @@ fn count_of_state(chart: &Chart, state: u32) -> u32
 fn count_of_junctions(chart: &Chart) -> u32
     ensures { result ≡ sum_by (λ (list : List Trans). length list) (chart_of chart.now).junctions }
 {
+    // Only the proof reads the shape: the chart is valid.
     let _ = chart.shape();
     let junctions = chart.junctions();
     let mut count = 0;

@@ -54,9 +54,10 @@ fn read_compiled<I: Inputs>(
 pub fn compiled_text(alloc: Global, chart: &Chart) -> Result<String, Memory>
     ensures { IfOk result (λ text. IsCompiled (chart_of chart.now) (string_bytes text)) }
 {
-    // What a `Chart` keeps tells that it is valid, and what a `Code` keeps that it is well formed.
+    // Only the proof reads the shape: the chart is valid.
     let _shape = chart.shape();
     let code = compile(alloc, chart)?;
+    // Only the proof reads the code: it is well formed.
     let _raw = code.raw();
     let text = print_code(alloc, &code)?;
     Ok(text)

@@ -58,6 +58,7 @@ pub fn run_code<I: Inputs, O: Sink>(
     ensures { TraceEnds (by_code (code_of code) bounds)
         (call_of I.Inputs O.Sink inputs.old inputs.new out.old out.new) event_file.now result }
 {
+    // Only the proof reads the code: it is well formed.
     let _ = code.raw();
     let Ok(mut machine) = Machine::make(alloc, code, bounds) else {
         return TraceEnd::Memory;

@@ -1,5 +1,6 @@
 //! The net of the machines of charts.
-ghost use Rattle.std.specs.Prelude.{◌≡◌, ◌<◌, ◌≤◌, [], false, is_some, length, true, IfOk, OnOk, None};
+ghost use Rattle.std.specs.Prelude.{◌≡◌, ◌<◌, ◌≤◌, [], false, is_some};
+ghost use Rattle.std.specs.Prelude.{length, true, IfOk, OnOk, None};
 ghost use Rattle.std.specs.List.{list_any};
 ghost use Rattle.std.specs.Str.{bytes_eq};
 ghost use Rattle.chart_layout.specs.Bodies.{code_of_chart};
@@ -100,6 +101,7 @@ fn machine_of(alloc: Global, chart: &Chart, bounds: Bounds) -> Result<Machine, M
     ensures fresh { IfOk result (IsFresh (code_of_chart (chart_of chart.now)) bounds) }
     ensures valid { IsValid (chart_of chart.now) }
 {
+    // Only the proof reads the names: the chart is valid.
     let _ = chart.names();
     let code = printed(alloc, chart)?;
     Machine::make(alloc, code, bounds)

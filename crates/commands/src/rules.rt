@@ -58,6 +58,7 @@ fn run_rules<I: Inputs, O: Sink>(
     ensures { TraceEnds (by_rules (chart_of chart) bounds)
         (call_of I.Inputs O.Sink inputs.old inputs.new out.old out.new) event_file.now result }
 {
+    // Only the proof reads the names: the chart is valid.
     let _ = chart.names();
     let Ok(mut rules) = Rules::make(alloc, chart, bounds) else {
         return TraceEnd::Memory;

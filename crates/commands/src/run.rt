@@ -64,7 +64,7 @@ pub fn run_printed<I: Inputs, O: Sink>(
     ensures { TraceEnds (by_compiled (chart_of chart.now) bounds)
         (call_of I.Inputs O.Sink inputs.old inputs.new out.old out.new) event_file.now result }
 {
-    // What a `Chart` keeps tells that it is valid.
+    // Only the proof reads the shape: the chart is valid.
     let _shape = chart.shape();
     let Ok(code) = printed(alloc, chart) else {
         return TraceEnd::Memory;

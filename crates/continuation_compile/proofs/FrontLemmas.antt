@@ -1,5 +1,6 @@
 -- What was there before procedures were appended is a front of what is there.
-use Rattle.std.proofs.Common.{◌≡◌, ℕ, List, [], ◌++◌, map, take, drop, Result, Ok, Err, OnErr, sym, ap, ◌∙◌, append_assoc}
+use Rattle.std.proofs.Common.{◌≡◌, ℕ, List, [], ◌++◌, map, take, drop, Result}
+use Rattle.std.proofs.Common.{Ok, Err, OnErr, sym, ap, ◌∙◌, append_assoc}
 use Rattle.std.proofs.lemmas.List.{append-nil, append_cancel_right, map-append, take-append-drop}
 use Rattle.code_language.specs.Instrs.{Instr}
 use Rattle.continuation_compile.specs.Drafts.{IsFront}

@@ -10,7 +10,8 @@ use Rattle.checked_chart.specs.Chart.{Chart, Trans, life_of}
 use Rattle.checked_chart.specs.Valid.{IsDest, AreTrans}
 use Rattle.checked_chart.specs.Views.{trans_seen, list_seen}
 use Rattle.code_language.specs.Instrs.{Cond, Instr}
-use Rattle.chart_procedures.specs.ListProcedures.{Search, dest_code, condition_code, guarded_code, event_code, trans_code}
+use Rattle.chart_procedures.specs.ListProcedures.{Search, dest_code, condition_code}
+use Rattle.chart_procedures.specs.ListProcedures.{guarded_code, event_code, trans_code}
 use Rattle.chart_procedures.specs.ListProcedures.{list_code}
 use Rattle.chart_procedures.specs.Numbers.{TransNumbers, condition_of}
 use Rattle.chart_procedures.specs.StateProcedures.{life_test}

@@ -1,5 +1,8 @@
 -- Short whole numbers are what the reader of decimal text makes of them.
-use Rattle.std.proofs.Common.{◌≡◌, ℕ, zero, suc, ◌+◌, ◌-◌, ◌*◌, ◌/◌, ◌%◌, ◌^◌, ◌<◌, ◌≤◌, min, ℤ, pos, neg_ℤ, int_le, ◌*ℤ◌, Bool, true, false, not, nat_eq, nat_lt, nat_le, ◌&&◌, ◌||◌, if◌then◌else◌, List, [], ◌∷◌, ◌++◌, length, drop, get_or, Option, Some, None, Result, Ok, Err, refl, sym, ap, ◌∙◌, subst, ⊎_elim, div-one, arith}
+use Rattle.std.proofs.Common.{◌≡◌, ℕ, zero, suc, ◌+◌, ◌-◌, ◌*◌, ◌/◌, ◌%◌, ◌^◌, ◌<◌, ◌≤◌, min, ℤ, pos}
+use Rattle.std.proofs.Common.{neg_ℤ, int_le, ◌*ℤ◌, Bool, true, false, not, nat_eq, nat_lt, nat_le, ◌&&◌}
+use Rattle.std.proofs.Common.{◌||◌, if◌then◌else◌, List, [], ◌∷◌, ◌++◌, length, drop, get_or, Option, Some}
+use Rattle.std.proofs.Common.{None, Result, Ok, Err, refl, sym, ap, ◌∙◌, subst, ⊎_elim, div-one, arith}
 use Rattle.std.proofs.Math.Nat.{mod-one}
 use Rattle.std.proofs.lemmas.Bool.{cases_lt}
 use Rattle.std.proofs.lemmas.Bool.Decides.{nat_tests}
@@ -10,7 +13,9 @@ use Rattle.std.proofs.lemmas.List.Sums.{prefix_len_is}
 use Rattle.std.specs.List.{prefix_len, list_any}
 use Rattle.std.specs.Char.{is_ascii_digit}
 use Rattle.fixed_point.specs.Numbers.{floored, is_whole}
-use Rattle.fixed_point.specs.Reading.{starts_with, without, leading_digits, after_digits, digits_behind, rest_behind, is_negative, whole_digits, after_whole, is_bits, value_after, value_of, is_exact, exact_frac, steps_within, signed_number, number_of, number_told, number_read}
+use Rattle.fixed_point.specs.Reading.{starts_with, without, leading_digits, after_digits, digits_behind, rest_behind}
+use Rattle.fixed_point.specs.Reading.{is_negative, whole_digits, after_whole, is_bits, value_after, value_of, is_exact}
+use Rattle.fixed_point.specs.Reading.{exact_frac, steps_within, signed_number, number_of, number_told, number_read}
 use Rattle.fixed_point.specs.declared.num.Num.{Num}
 use Rattle.fixed_point.specs.declared.reading.NumFault.{NumFault}
 use Rattle.fixed_point.specs.declared.reading.NumFault.TheVariants.{NotNumber}

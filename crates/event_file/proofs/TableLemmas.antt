@@ -1,5 +1,6 @@
 -- Tables of names: what one name more changes.
-use Rattle.std.proofs.Common.{◌≡◌, ℕ, suc, ◌+◌, List, [], ◌∷◌, ◌++◌, ◌<◌, take, get_or, length, Option, Some, None, Bool, true, false, cond, refl, sym, ap, subst, ◌∙◌, arith}
+use Rattle.std.proofs.Common.{◌≡◌, ℕ, suc, ◌+◌, List, [], ◌∷◌, ◌++◌, ◌<◌, take, get_or, length, Option}
+use Rattle.std.proofs.Common.{Some, None, Bool, true, false, cond, refl, sym, ap, subst, ◌∙◌, arith}
 use Rattle.std.proofs.lemmas.List.{take_more, length-take-le}
 use Rattle.std.proofs.lemmas.Bool.Decides.{nat_tests}
 use Rattle.std.specs.Prelude.{is_some, nat_eq, nat_lt, IfSome, String, string_bytes, IsUtf8}
@@ -90,7 +91,8 @@ position-later test x xs e = rw place (go (nat_lt (position_or_len test xs) (len
     place = rw e (omega arith)
 
     go : (b : Bool) → nat_lt (position_or_len test xs) (length xs) ≡ b
-        → cond (nat_lt (suc (position_or_len test xs)) (suc (length xs))) (Some (suc (position_or_len test xs))) None ≡ later (cond (nat_lt (position_or_len test xs) (length xs)) (Some (position_or_len test xs)) None)
+        → cond (nat_lt (suc (position_or_len test xs)) (suc (length xs))) (Some (suc (position_or_len test xs))) None
+        ≡ later (cond (nat_lt (position_or_len test xs) (length xs)) (Some (position_or_len test xs)) None)
     go true h = let g : nat_lt (suc (position_or_len test xs)) (suc (length xs)) ≡ true = grind (arith, nat_tests) in rw (g, h) refl
     go false h = let g : nat_lt (suc (position_or_len test xs)) (suc (length xs)) ≡ false = grind (arith, nat_tests) in rw (g, h) refl
 

@@ -1,5 +1,6 @@
 -- A line that is taken from the bytes at hand.
-use Rattle.std.proofs.Common.{◌≡◌, ℕ, ◌+◌, ◌-◌, ◌≤◌, true, false, List, ◌++◌, length, take, drop, sym, ap, ◌∙◌, arith, length-append, length-drop}
+use Rattle.std.proofs.Common.{◌≡◌, ℕ, ◌+◌, ◌-◌, ◌≤◌, true, false, List, ◌++◌, length}
+use Rattle.std.proofs.Common.{take, drop, sym, ap, ◌∙◌, arith, length-append, length-drop}
 use Rattle.std.specs.Prelude.{slice_range}
 use Rattle.std.proofs.lemmas.List.{length-take-le, take-take}
 use Rattle.event_file.specs.Lines.{line_length, without_return, spelled}
@@ -7,7 +8,8 @@ use Rattle.event_file.specs.NextLine.{TakesLine}
 use Rattle.event_file.specs.Reading.{Reading, cut_at, is_ready}
 use Rattle.event_file.specs.declared.cuts.Cut.TheVariants as cuts
 use Rattle.event_file.proofs.LineLemmas.{line_length-le, take_line-plain}
-use Rattle.event_file.proofs.Windows.{Parts, parts_of, cut-short, cut-within, cut-some, window_after, window_front, open_at_end}
+use Rattle.event_file.proofs.Windows.{Parts, parts_of, cut-short, cut-within, cut-some}
+use Rattle.event_file.proofs.Windows.{window_after, window_front, open_at_end}
 
 -- a line was taken, where its parts are known
 pub takes_line : (old new : Reading) (buffer : List ℕ) (start end size kept : ℕ)

@@ -1,5 +1,7 @@
 -- The values of a line, token by token.
-use Rattle.std.proofs.Common.{◌≡◌, ℕ, zero, suc, ◌+◌, ◌<◌, ℤ, Bool, true, false, cond, ◌&&◌, nat_eq, List, [], ◌∷◌, length, replicate, take, drop, get_or, Option, Some, None, Result, Ok, Err, refl, sym, ap, ◌∙◌, subst, arith, length-set}
+use Rattle.std.proofs.Common.{◌≡◌, ℕ, zero, suc, ◌+◌, ◌<◌, ℤ, Bool, true, false, cond, ◌&&◌, nat_eq}
+use Rattle.std.proofs.Common.{List, [], ◌∷◌, length, replicate, take, drop, get_or, Option, Some}
+use Rattle.std.proofs.Common.{None, Result, Ok, Err, refl, sym, ap, ◌∙◌, subst, arith, length-set}
 use Rattle.std.specs.Prelude.{IsTrue, IfSome, slice_set, slice_index, is_some, slice_get}
 use Rattle.std.specs.List.{position, list_any}
 use Rattle.std.specs.Option.{option_map}
@@ -26,7 +28,9 @@ use Rattle.event_file.specs.declared.fault.LineFault.{LineFault}
 use Rattle.std.proofs.lemmas.Bool.Decides.{nat_tests}
 use Rattle.event_file.proofs.TokenLemmas.{word, tokens_at_once}
 use Rattle.event_file.specs.EventLines.{is_blank, tokens_of, event_of_line, event_of_tokens, event_of, with_tokens}
-use Rattle.event_file.specs.InputValues.{and_then, all_given, given, no_inputs, given_at, given_by_name, given_to, with_input, value_of_text, value_at_scale, number_value, mantissa_at_scale, mantissa_of_text, is_input}
+use Rattle.event_file.specs.InputValues.{and_then, all_given, given, no_inputs, given_at, given_by_name}
+use Rattle.event_file.specs.InputValues.{given_to, with_input, value_of_text, value_at_scale}
+use Rattle.event_file.specs.InputValues.{number_value, mantissa_at_scale, mantissa_of_text, is_input}
 use Rattle.actions.specs.Runs.{AreInputValues}
 use Rattle.event_file.specs.LineParts.{Gave, Kept}
 use Rattle.event_file.specs.LineValues.{LineValues, IsMadeFor}

@@ -1,5 +1,6 @@
 -- What a line of an event file says: an event with inputs, nothing, or its first fault by tokens from the left.
-use Rattle.std.specs.Prelude.{ℕ, nat_eq, nat_lt, Bool, true, false, ◌||◌, List, [], ◌∷◌, length, codes, Option, Some, None, Result, Ok, Err, if◌then◌else◌, slice_get, slice_index}
+use Rattle.std.specs.Prelude.{ℕ, nat_eq, nat_lt, Bool, true, false, ◌||◌, List, [], ◌∷◌, length, codes}
+use Rattle.std.specs.Prelude.{Option, Some, None, Result, Ok, Err, if◌then◌else◌, slice_get, slice_index}
 use Rattle.std.specs.List.{filter, position, slice_split}
 use Rattle.std.specs.Str.{bytes_eq}
 use Rattle.actions.specs.Names.{Names}

@@ -1,5 +1,7 @@
 -- The values that the tokens `NAME=VALUE` of an event line give to inputs.
-use Rattle.std.specs.Prelude.{ℕ, ℤ, ◌+◌, nat_eq, Bool, true, false, List, [], ◌∷◌, length, take, drop, replicate, codes, Option, Some, None, is_some, Result, Ok, Err, if◌then◌else◌, slice_get, slice_set, slice_index_or}
+use Rattle.std.specs.Prelude.{ℕ, ℤ, ◌+◌, nat_eq, Bool, true, false, List, [], ◌∷◌, length, take}
+use Rattle.std.specs.Prelude.{drop, replicate, codes, Option, Some, None, is_some, Result, Ok}
+use Rattle.std.specs.Prelude.{Err, if◌then◌else◌, slice_get, slice_set, slice_index_or}
 use Rattle.std.specs.List.{list_any, position}
 use Rattle.std.specs.Option.{option_map}
 use Rattle.std.specs.Str.{bytes_eq}

@@ -1,5 +1,6 @@
 -- A reader of lines, and when the bytes that it has at hand tell what comes next.
-use Rattle.std.specs.Prelude.{◌≡◌, ℕ, ◌+◌, ◌-◌, ◌<◌, ◌≤◌, nat_lt, Bool, true, false, ◌||◌, List, [], ◌++◌, length, if◌then◌else◌, Option, Some, None}
+use Rattle.std.specs.Prelude.{◌≡◌, ℕ, ◌+◌, ◌-◌, ◌<◌, ◌≤◌, nat_lt, Bool, true, false, ◌||◌}
+use Rattle.std.specs.Prelude.{List, [], ◌++◌, length, if◌then◌else◌, Option, Some, None}
 use Rattle.std.specs.Io.KnownBytes.{prepend_known, IsAtEnd}
 use Rattle.event_file.specs.declared.cuts.Cut.{Cut}
 use Rattle.event_file.specs.declared.cuts.Cut.TheVariants as cuts

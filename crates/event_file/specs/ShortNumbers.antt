@@ -1,5 +1,6 @@
 -- Short whole numbers: an optional minus sign, and 1 to 9 digits.
-use Rattle.std.specs.Prelude.{ℕ, nat_eq, nat_lt, nat_le, ℤ, pos, neg_ℤ, Bool, ◌&&◌, ◌||◌, if◌then◌else◌, List, length, Option, Some, None}
+use Rattle.std.specs.Prelude.{ℕ, nat_eq, nat_lt, nat_le, ℤ, pos, neg_ℤ, Bool, ◌&&◌}
+use Rattle.std.specs.Prelude.{◌||◌, if◌then◌else◌, List, length, Option, Some, None}
 use Rattle.std.specs.List.{prefix_len}
 use Rattle.std.specs.Char.{is_ascii_digit}
 use Rattle.fixed_point.specs.Reading.{value_of}

@@ -11,7 +11,7 @@ use std::fmt;
 
 /// What a line answers.
 #[derive(Clone, Copy)]
-pub enum Answer {
+pub enum LineAnswer {
     /// A number: its mantissa and its fraction.
     Number(Num),
     /// A mantissa of a scale.
@@ -36,20 +36,20 @@ pub enum Answer {
     NotACall,
 }
 
-impl fmt::Display for Answer {
+impl fmt::Display for LineAnswer {
     fn fmt<W: fmt::Write>(&self, f: &mut fmt::Formatter<W>) -> fmt::Result {
         match self {
-            Answer::Number(Num { mantissa, frac }) => write!(f, "{mantissa} {frac}"),
-            Answer::Mantissa(mantissa) => write!(f, "{mantissa}"),
-            Answer::Order(order) => write!(f, "{order:?}"),
-            Answer::Text(buf, len) => write_text(f, buf, *len),
-            Answer::Made(scale) => write_scale(f, *scale),
-            Answer::Zero => f.write_str("Zero"),
-            Answer::Overflow => f.write_str("Overflow"),
-            Answer::Nothing => f.write_str("None"),
-            Answer::Fault(fault) => write!(f, "{fault:?}"),
-            Answer::OutOfConditions => f.write_str("out of conditions"),
-            Answer::NotACall => f.write_str("not a call"),
+            LineAnswer::Number(Num { mantissa, frac }) => write!(f, "{mantissa} {frac}"),
+            LineAnswer::Mantissa(mantissa) => write!(f, "{mantissa}"),
+            LineAnswer::Order(order) => write!(f, "{order:?}"),
+            LineAnswer::Text(buf, len) => write_text(f, buf, *len),
+            LineAnswer::Made(scale) => write_scale(f, *scale),
+            LineAnswer::Zero => f.write_str("Zero"),
+            LineAnswer::Overflow => f.write_str("Overflow"),
+            LineAnswer::Nothing => f.write_str("None"),
+            LineAnswer::Fault(fault) => write!(f, "{fault:?}"),
+            LineAnswer::OutOfConditions => f.write_str("out of conditions"),
+            LineAnswer::NotACall => f.write_str("not a call"),
         }
     }
 }
@@ -79,44 +79,44 @@ fn write_scale<W: fmt::Write>(f: &mut fmt::Formatter<W>, scale: Scale) -> fmt::R
 }
 
 /// What a line answers: `read TEXT`, where the text is all after the first blank, or a call.
-pub fn answer_line(line: &str) -> Answer {
+pub fn answer_line(line: &str) -> LineAnswer {
     let (name, rest) = line.split_once(' ').unwrap_or((line, ""));
     if name == "read" {
         return match read_decimal(rest.as_bytes()) {
-            Ok(number) => Answer::Number(number),
-            Err(fault) => Answer::Fault(fault),
+            Ok(number) => LineAnswer::Number(number),
+            Err(fault) => LineAnswer::Fault(fault),
         };
     }
     match read_call(name, rest) {
         Some(call) => answer_call(call),
-        None => Answer::NotACall,
+        None => LineAnswer::NotACall,
     }
 }
 
 /// What a call answers, or that its conditions don't hold.
-fn answer_call(call: Call) -> Answer {
+fn answer_call(call: Call) -> LineAnswer {
     match call {
-        Call::Add(a, b) if can_align(a, b) => Answer::Number(add(a, b)),
-        Call::Sub(a, b) if can_align(a, b) => Answer::Number(sub(a, b)),
-        Call::Mul(a, b) if can_multiply(a, b) => Answer::Number(mul(a, b)),
+        Call::Add(a, b) if can_align(a, b) => LineAnswer::Number(add(a, b)),
+        Call::Sub(a, b) if can_align(a, b) => LineAnswer::Number(sub(a, b)),
+        Call::Mul(a, b) if can_multiply(a, b) => LineAnswer::Number(mul(a, b)),
         Call::Div(a, b) if can_divide(a, b) => match div(a, b) {
-            Ok(quotient) => Answer::Number(quotient),
-            Err(Zero) => Answer::Zero,
+            Ok(quotient) => LineAnswer::Number(quotient),
+            Err(Zero) => LineAnswer::Zero,
         },
-        Call::Compare(a, b) if can_align(a, b) => Answer::Order(compare(a, b)),
-        Call::Neg(a) if is_within(a.mantissa) => Answer::Number(neg(a)),
+        Call::Compare(a, b) if can_align(a, b) => LineAnswer::Order(compare(a, b)),
+        Call::Neg(a) if is_within(a.mantissa) => LineAnswer::Number(neg(a)),
         Call::Fit(a, to, mode) if can_fit(a, to) => match fit(a, to, mode) {
-            Ok(mantissa) => Answer::Mantissa(mantissa),
-            Err(Overflow) => Answer::Overflow,
+            Ok(mantissa) => LineAnswer::Mantissa(mantissa),
+            Err(Overflow) => LineAnswer::Overflow,
         },
-        Call::Exact(a, to) => exact(a, to).map_or(Answer::Nothing, Answer::Mantissa),
+        Call::Exact(a, to) => exact(a, to).map_or(LineAnswer::Nothing, LineAnswer::Mantissa),
         Call::Write(a) if can_write(a) => {
             let mut buf = [0; DECIMAL_TEXT_LIMIT];
             let len = write_decimal(a.mantissa, a.frac, &mut buf);
-            Answer::Text(buf, len)
+            LineAnswer::Text(buf, len)
         }
         Call::Make(signed, width, frac) => {
-            Scale::make(signed, width, frac).map_or(Answer::Nothing, Answer::Made)
+            Scale::make(signed, width, frac).map_or(LineAnswer::Nothing, LineAnswer::Made)
         }
         Call::Add(..)
         | Call::Sub(..)
@@ -125,6 +125,6 @@ fn answer_call(call: Call) -> Answer {
         | Call::Compare(..)
         | Call::Neg(_)
         | Call::Fit(..)
-        | Call::Write(_) => Answer::OutOfConditions,
+        | Call::Write(_) => LineAnswer::OutOfConditions,
     }
 }

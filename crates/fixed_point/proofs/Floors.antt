@@ -1,6 +1,8 @@
 -- The floor of a number that is brought to another fraction.
-use Rattle.std.proofs.Common.{◌≡◌, ℕ, ◌+◌, ◌-◌, ◌*◌, ◌/◌, ◌%◌, ◌^◌, ◌<◌, ◌≤◌, ℤ, pos, negsuc, ◌*ℤ◌, unsigned_abs, FitsSigned, min, nat_eq, true, false, refl, sym, ⊎_elim, ap, ◌∙◌, arith}
-use Rattle.std.proofs.lemmas.Nat.{pow_pos, pow-add, shr-shr, shl-shr, shr_high, div-mul-add, mod_low, mod-pow-add, mul-le}
+use Rattle.std.proofs.Common.{◌≡◌, ℕ, ◌+◌, ◌-◌, ◌*◌, ◌/◌, ◌%◌, ◌^◌, ◌<◌, ◌≤◌, ℤ, pos, negsuc, ◌*ℤ◌, unsigned_abs}
+use Rattle.std.proofs.Common.{FitsSigned, min, nat_eq, true, false, refl, sym, ⊎_elim, ap, ◌∙◌, arith}
+use Rattle.std.proofs.lemmas.Nat.{pow_pos, pow-add, shr-shr, shl-shr, shr_high}
+use Rattle.std.proofs.lemmas.Nat.{div-mul-add, mod_low, mod-pow-add, mul-le}
 use Rattle.std.proofs.lemmas.Int.{unsigned_abs-mul}
 use Rattle.std.specs.Int.{int_shr, w128, cast_unsigned}
 use Rattle.std.proofs.lemmas.Bool.Decides.{nat_tests}

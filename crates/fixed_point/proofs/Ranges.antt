@@ -1,5 +1,6 @@
 -- What lies out of a scale's range.
-use Rattle.std.proofs.Common.{◌≡◌, ℕ, ◌-◌, ◌<◌, ◌≤◌, ◌^◌, ℤ, pos, neg_ℤ, int_le, unsigned_abs, Bool, true, false, cond, if◌then◌else◌, ◌&&◌, None, Some, refl, ap, ◌∙◌, arith}
+use Rattle.std.proofs.Common.{◌≡◌, ℕ, ◌-◌, ◌<◌, ◌≤◌, ◌^◌, ℤ, pos, neg_ℤ, int_le, unsigned_abs, Bool}
+use Rattle.std.proofs.Common.{true, false, cond, if◌then◌else◌, ◌&&◌, None, Some, refl, ap, ◌∙◌, arith}
 use Rattle.std.proofs.lemmas.Int.{ints}
 use Rattle.fixed_point.specs.Numbers.{floored, is_whole}
 use Rattle.fixed_point.specs.Scales.{is_in_range, exact_mantissa}

@@ -1,5 +1,7 @@
 -- No text that tells a number exactly is shorter than its decimal text.
-use Rattle.std.proofs.Common.{◌≡◌, ◌≢◌, ℕ, suc, ◌+◌, ◌*◌, ◌/◌, ◌%◌, ◌^◌, ◌<◌, ◌≤◌, ℤ, pos, negsuc, int_lt, unsigned_abs, Bool, true, false, ◌&&◌, nat_eq, nat_lt, if◌then◌else◌, List, [], ◌∷◌, ◌++◌, length, decimal, refl, sym, ap, ◌∙◌, length-append, length-take, length-drop, arith}
+use Rattle.std.proofs.Common.{◌≡◌, ◌≢◌, ℕ, suc, ◌+◌, ◌*◌, ◌/◌, ◌%◌, ◌^◌, ◌<◌, ◌≤◌, ℤ, pos, negsuc, int_lt, unsigned_abs}
+use Rattle.std.proofs.Common.{Bool, true, false, ◌&&◌, nat_eq, nat_lt, if◌then◌else◌, List, [], ◌∷◌, ◌++◌, length}
+use Rattle.std.proofs.Common.{decimal, refl, sym, ap, ◌∙◌, length-append, length-take, length-drop, arith}
 use Rattle.std.proofs.Math.Nat.{div-le_self}
 use Rattle.std.proofs.lemmas.Nat.{pow_pos}
 use Rattle.std.proofs.lemmas.Bool.{false≢true}
@@ -8,7 +10,8 @@ use Rattle.std.proofs.lemmas.Fmt.{length-decimal-le_wide}
 use Rattle.std.specs.List.{prefix_len}
 use Rattle.std.specs.Char.{is_ascii_digit}
 use Rattle.fixed_point.specs.Text.{places_of, fraction_digits, behind_point, sign_of, decimal_text}
-use Rattle.fixed_point.specs.Reading.{without, leading_digits, after_digits, digits_behind, is_negative, whole_digits, after_whole, behind_digits, value_after, is_number}
+use Rattle.fixed_point.specs.Reading.{without, leading_digits, after_digits, digits_behind, is_negative}
+use Rattle.fixed_point.specs.Reading.{whole_digits, after_whole, behind_digits, value_after, is_number}
 use Rattle.fixed_point.specs.Told.{TellsExactly, IsShortest}
 use Rattle.fixed_point.proofs.Digits.{length-last_digits}
 use Rattle.fixed_point.proofs.Values.{value_after-append, AllPass-leading, AllPass-behind}

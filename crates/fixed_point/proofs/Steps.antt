@@ -1,11 +1,13 @@
 -- A decimal number in steps of a power of two, bit by bit.
-use Rattle.std.proofs.Common.{◌≡◌, ◌≢◌, ℕ, ◌+◌, ◌-◌, ◌*◌, ◌/◌, ◌%◌, ◌^◌, ◌<◌, ◌≤◌, Bool, true, nat_lt, if◌then◌else◌, Some, None, sym, ap, ◌∙◌, arith}
+use Rattle.std.proofs.Common.{◌≡◌, ◌≢◌, ℕ, ◌+◌, ◌-◌, ◌*◌, ◌/◌, ◌%◌, ◌^◌, ◌<◌, ◌≤◌, Bool}
+use Rattle.std.proofs.Common.{true, nat_lt, if◌then◌else◌, Some, None, sym, ap, ◌∙◌, arith}
 use Rattle.std.proofs.lemmas.Nat.{mul-le, le-div, div-add-mod'}
 use Rattle.std.proofs.lemmas.Bool.Decides.{nat_tests}
 use Rattle.fixed_point.specs.Text.{first_from}
 use Rattle.fixed_point.specs.Reading.{is_exact, exact_frac, steps_of, steps_within}
 use Rattle.fixed_point.proofs.Powers.{power-le, ten_some}
-use Rattle.fixed_point.proofs.Digits.{first_from-here, first_from-later, first_from-none, quotient_times, rest_times, power_more, test_false, test_true}
+use Rattle.fixed_point.proofs.Digits.{first_from-here, first_from-later, first_from-none}
+use Rattle.fixed_point.proofs.Digits.{quotient_times, rest_times, power_more, test_false, test_true}
 
 -- the first of the fractions is this one
 first_is : (first k : ℕ) → first ≡ k → k < 33 → (if nat_lt first 33 then Some first else None) ≡ Some k

@@ -1,18 +1,24 @@
 -- The decimal text of a number tells it exactly, with the fewest digits after the point.
-use Rattle.std.proofs.Common.{◌≡◌, ◌≢◌, ℕ, zero, suc, ◌+◌, ◌*◌, ◌/◌, ◌%◌, ◌^◌, ◌<◌, ◌≤◌, ℤ, pos, negsuc, int_lt, unsigned_abs, Bool, true, false, not, cond, nat_eq, nat_lt, ◌==◌, ◌&&◌, if◌then◌else◌, List, [], ◌∷◌, ◌++◌, length, drop, decimal, refl, sym, ap, ◌∙◌, subst, ⊎_elim, arith}
+use Rattle.std.proofs.Common.{◌≡◌, ◌≢◌, ℕ, zero, suc, ◌+◌, ◌*◌, ◌/◌, ◌%◌, ◌^◌, ◌<◌, ◌≤◌, ℤ, pos, negsuc, int_lt}
+use Rattle.std.proofs.Common.{unsigned_abs, Bool, true, false, not, cond, nat_eq, nat_lt, ◌==◌, ◌&&◌, if◌then◌else◌}
+use Rattle.std.proofs.Common.{List, [], ◌∷◌, ◌++◌, length, drop, decimal, refl, sym, ap, ◌∙◌, subst, ⊎_elim, arith}
 use Rattle.std.proofs.Math.Nat.{div-div-eq-div-mul, div-le_self}
 use Rattle.std.proofs.lemmas.Nat.{div-mul-add, div-add-mod'}
 use Rattle.std.proofs.lemmas.Bool.{false≢true, cases_eq}
 use Rattle.std.proofs.lemmas.Bool.Decides.{nat_tests}
 use Rattle.std.proofs.lemmas.List.{append-nil}
 use Rattle.std.specs.Char.{is_ascii_digit}
-use Rattle.fixed_point.specs.Text.{first_from, last_digits, ends_within, places_of, fraction_digits, behind_point, decimal_text}
-use Rattle.fixed_point.specs.Reading.{starts_with, without, leading_digits, after_digits, digits_behind, rest_behind, is_negative, whole_digits, after_whole, has_point, behind_digits, after_behind, has_bits, is_bits, value_after, value_of, is_number}
+use Rattle.fixed_point.specs.Text.{first_from, last_digits, ends_within, places_of}
+use Rattle.fixed_point.specs.Text.{fraction_digits, behind_point, decimal_text}
+use Rattle.fixed_point.specs.Reading.{starts_with, without, leading_digits, after_digits, digits_behind}
+use Rattle.fixed_point.specs.Reading.{rest_behind, is_negative, whole_digits, after_whole, has_point, behind_digits}
+use Rattle.fixed_point.specs.Reading.{after_behind, has_bits, is_bits, value_after, value_of, is_number}
 use Rattle.fixed_point.specs.Told.{TellsExactly}
 use Rattle.fixed_point.proofs.Digits.{first_from-here, ends_at_last, length-last_digits, last_digits-none, test_true}
 use Rattle.fixed_point.proofs.Powers.{ten_some}
 use Rattle.fixed_point.proofs.Values.{value_after-append}
-use Rattle.fixed_point.proofs.Numerals.{AreDigits, first_digit, IsNumeral, numeral_decimal, last-AreDigits, value_last, front_digits, back_digits}
+use Rattle.fixed_point.proofs.Numerals.{AreDigits, first_digit, IsNumeral, numeral_decimal}
+use Rattle.fixed_point.proofs.Numerals.{last-AreDigits, value_last, front_digits, back_digits}
 use Rattle.fixed_point.proofs.Floors.{nothing_over}
 
 -- ---- a fraction's digits

@@ -1,5 +1,6 @@
 -- The number that digits tell.
-use Rattle.std.proofs.Common.{◌≡◌, ℕ, ◌+◌, ◌-◌, ◌*◌, ◌^◌, ◌<◌, ◌≤◌, Bool, true, false, nat_lt, if◌then◌else◌, length, drop, get_or, List, [], ◌∷◌, ◌++◌, Option, Err, refl, sym, ap, ◌∙◌, length-append, arith}
+use Rattle.std.proofs.Common.{◌≡◌, ℕ, ◌+◌, ◌-◌, ◌*◌, ◌^◌, ◌<◌, ◌≤◌, Bool, true, false, nat_lt, if◌then◌else◌, length}
+use Rattle.std.proofs.Common.{drop, get_or, List, [], ◌∷◌, ◌++◌, Option, Err, refl, sym, ap, ◌∙◌, length-append, arith}
 use Rattle.std.proofs.lemmas.Nat.{mul-le, pow-add}
 use Rattle.std.proofs.lemmas.List.{at_drop_more, at_drop_all, get_or-take}
 use Rattle.std.proofs.lemmas.List.Sums.{prefix_len_passes}
@@ -7,7 +8,8 @@ use Rattle.std.proofs.lemmas.List.Folds.{length-prefix_len}
 use Rattle.std.specs.List.{prefix_len, AllPass}
 use Rattle.std.proofs.lemmas.Bool.Decides.{nat_tests}
 use Rattle.std.specs.Char.{is_ascii_digit}
-use Rattle.fixed_point.specs.Reading.{value_after, number_told, number_of, frac_of, leading_digits, digits_behind, starts_with}
+use Rattle.fixed_point.specs.Reading.{value_after, number_told, number_of, frac_of}
+use Rattle.fixed_point.specs.Reading.{leading_digits, digits_behind, starts_with}
 use Rattle.fixed_point.specs.declared.reading.NumFault.TheVariants.{TooLong}
 use Rattle.fixed_point.proofs.Powers.{ten_some, ten_power-le}
 use Rattle.fixed_point.proofs.Digits.{power_more}

@@ -1,5 +1,6 @@
 -- Decimal text: the digits of a number.
-use Rattle.std.specs.Prelude.{ℕ, zero, suc, ◌+◌, ◌*◌, ◌/◌, ◌%◌, ◌^◌, ◌==◌, ℤ, pos, negsuc, unsigned_abs, Bool, if◌then◌else◌, List, [], ◌∷◌, ◌++◌, decimal}
+use Rattle.std.specs.Prelude.{ℕ, zero, suc, ◌+◌, ◌*◌, ◌/◌, ◌%◌, ◌^◌, ◌==◌, ℤ, pos, negsuc}
+use Rattle.std.specs.Prelude.{unsigned_abs, Bool, if◌then◌else◌, List, [], ◌∷◌, ◌++◌, decimal}
 
 -- the first of n numbers, from k on, that passes the test; k + n where none does
 unfoldable pub first_from : (ℕ → Bool) → ℕ → ℕ → ℕ

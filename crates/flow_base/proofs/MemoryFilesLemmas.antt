@@ -1,5 +1,6 @@
 -- Files in memory after a read: that of the name changes, and no other.
-use Rattle.std.proofs.Common.{◌≡◌, ◌≢◌, ℕ, suc, ◌+◌, ◌<◌, Bool, true, false, List, [], ◌∷◌, length, get_or, set, Option, Some, None, refl, sym, ap, ◌∙◌, arith}
+use Rattle.std.proofs.Common.{◌≡◌, ◌≢◌, ℕ, suc, ◌+◌, ◌<◌, Bool, true, false, List, [], ◌∷◌}
+use Rattle.std.proofs.Common.{length, get_or, set, Option, Some, None, refl, sym, ap, ◌∙◌, arith}
 use Rattle.std.specs.Prelude.{position, nat_lt, if◌then◌else◌}
 use Rattle.std.specs.Option.{option_map, MatchOption}
 use Rattle.std.specs.List.{position_or_len, slice_get}
@@ -7,7 +8,8 @@ use Rattle.std.proofs.lemmas.List.Folds.{find_at}
 use Rattle.std.proofs.lemmas.Option.{slice_get-get_or, slice_get_past}
 use Rattle.std.proofs.lemmas.Bool.{ltb-true, ltb-false}
 use Rattle.std.proofs.lemmas.Slice.Eq.{bytes_eq-Decides}
-use Rattle.flow_base.specs.MemoryFiles.{FileState, is_named, first_of, change_first, fails_next, after_failing, after_giving, after_next}
+use Rattle.flow_base.specs.MemoryFiles.{FileState, is_named, first_of, change_first}
+use Rattle.flow_base.specs.MemoryFiles.{fails_next, after_failing, after_giving, after_next}
 
 -- where the first file of that name stands, or the number of the files
 abbrev first_place : List ℕ → List FileState → ℕ

@@ -1,5 +1,6 @@
 -- What a read of files in memory promises as a source of bytes.
-use Rattle.std.proofs.Common.{◌≡◌, ◌≢◌, ℕ, ◌≤◌, Bool, true, false, List, Option, Some, None, Result, Ok, Err, OnOk, refl, ap, arith}
+use Rattle.std.proofs.Common.{◌≡◌, ◌≢◌, ℕ, ◌≤◌, Bool, true, false, List, Option}
+use Rattle.std.proofs.Common.{Some, None, Result, Ok, Err, OnOk, refl, ap, arith}
 use Rattle.std.specs.Prelude.{if◌then◌else◌}
 use Rattle.std.specs.Option.{option_map}
 use Rattle.std.specs.Result.{result_ok}
@@ -7,7 +8,8 @@ use Rattle.std.proofs.lemmas.Slice.Eq.{bytes_eq-Decides}
 use Rattle.std.specs.Str.{bytes_eq}
 use Rattle.flow_base.specs.Causes.{Rose, HasCause, OthersKept, NoneFalls, AllStay}
 use Rattle.flow_base.specs.Counts.{counted}
-use Rattle.flow_base.specs.MemoryFiles.{FileState, FilesState, first_of, bytes_left, left_of, faults_of, failed_reads, fails_next, after_failing, after_giving, after_next, read_count, after_read}
+use Rattle.flow_base.specs.MemoryFiles.{FileState, FilesState, first_of, bytes_left, left_of, faults_of, failed_reads}
+use Rattle.flow_base.specs.MemoryFiles.{fails_next, after_failing, after_giving, after_next, read_count, after_read}
 use Rattle.flow_base.proofs.MemoryFilesLemmas.{first_of-change, first_of-other, next_keeps}
 
 -- a count never falls

@@ -1,5 +1,7 @@
 -- Files of the system after a read: the first of the name was read, and those of other names stay.
-use Rattle.std.proofs.Common.{◌≡◌, ◌≢◌, ℕ, ◌+◌, ◌<◌, Bool, true, false, cond, not, List, [], ◌∷◌, ◌++◌, length, get_or, set, Option, Some, None, IfSome, OnSome, Result, Ok, Err, OnErr, IsErr, MatchOption, string_bytes, refl, sym, ap, ◌∙◌, arith, length-append}
+use Rattle.std.proofs.Common.{◌≡◌, ◌≢◌, ℕ, ◌+◌, ◌<◌, Bool, true, false, cond, not, List, [], ◌∷◌, ◌++◌}
+use Rattle.std.proofs.Common.{length, get_or, set, Option, Some, None, IfSome, OnSome, Result, Ok, Err, OnErr}
+use Rattle.std.proofs.Common.{IsErr, MatchOption, string_bytes, refl, sym, ap, ◌∙◌, arith, length-append}
 use Rattle.std.specs.Prelude.{position, find, nat_lt}
 use Rattle.std.specs.List.{position_or_len, slice_get}
 use Rattle.std.specs.Str.{bytes_eq}

@@ -1,5 +1,6 @@
 -- Files in memory: which bytes a read gives, and which reads fail.
-use Rattle.std.specs.Prelude.{ℕ, ◌+◌, ◌-◌, min, List, [], ◌∷◌, length, drop, find, Bool, if◌then◌else◌, Option, Some, None}
+use Rattle.std.specs.Prelude.{ℕ, ◌+◌, ◌-◌, min, List, [], ◌∷◌, length, drop}
+use Rattle.std.specs.Prelude.{find, Bool, if◌then◌else◌, Option, Some, None}
 use Rattle.std.specs.Str.{bytes_eq}
 use Rattle.flow_base.specs.Counts.{counted, is_listed}
 

@@ -1,5 +1,6 @@
 -- A sink in memory: which bytes a write takes, and which writes fail.
-use Rattle.std.specs.Prelude.{ℕ, ◌-◌, min, List, [], ◌++◌, length, take, ◌==◌, nat_lt, ◌&&◌, ◌||◌, Bool, if◌then◌else◌, Option, Some, None}
+use Rattle.std.specs.Prelude.{ℕ, ◌-◌, min, List, [], ◌++◌, length, take, ◌==◌, nat_lt}
+use Rattle.std.specs.Prelude.{◌&&◌, ◌||◌, Bool, if◌then◌else◌, Option, Some, None}
 use Rattle.flow_base.specs.Counts.{counted, is_listed}
 
 -- the bytes taken so far, the most bytes in all and by one write, the numbers of the writes that fail, and how many

@@ -1,5 +1,6 @@
 -- Files of the system: what they have left, where their readers make that known, and what a read of a name does.
-use Rattle.std.specs.Prelude.{◌≡◌, ◌≢◌, ℕ, List, [], ◌∷◌, ◌++◌, Bool, find, string_bytes, Option, Some, None, IfSome, MatchOption, Result, IsErr}
+use Rattle.std.specs.Prelude.{◌≡◌, ◌≢◌, ℕ, List, [], ◌∷◌, ◌++◌, Bool, find, string_bytes}
+use Rattle.std.specs.Prelude.{Option, Some, None, IfSome, MatchOption, Result, IsErr}
 use Rattle.std.specs.Str.{bytes_eq}
 use Rattle.std.specs.Io.KnownBytes.{ReadConsumes}
 use Rattle.flow_base.specs.declared.real_inputs.RealFile.{RealFile}

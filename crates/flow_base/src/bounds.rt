@@ -35,7 +35,7 @@ impl Bounds {
         Some(Bounds { depth, steps })
     }
 
-    /// The usual bounds: depth 8 and 10,000 steps.
+    /// The default bounds: depth 8 and 10,000 steps.
     pub fn usual() -> Bounds
         ensures depth { result.depth ≡ 8 }
         ensures steps { result.steps ≡ 10000 }

@@ -27,7 +27,8 @@ use Rattle.selftest_command.specs.declared.command.SelftestEnd.TheVariants as ca
 use Rattle.commands.specs.declared.refusal.Refusal.{Refusal}
 use Rattle.flow_program.specs.declared.ending.Ending.{Ending}
 use Rattle.flow_program.specs.declared.ending.Ending.TheVariants as endings
-use Rattle.flow_program.specs.Ending.{of_chart_file, of_text, of_trace, of_rules, of_code_file, of_exec, of_run, of_upgrade}
+use Rattle.flow_program.specs.Ending.{of_chart_file, of_text, of_trace, of_rules}
+use Rattle.flow_program.specs.Ending.{of_code_file, of_exec, of_run, of_upgrade}
 use Rattle.flow_program.specs.Ending.{of_net_file, of_net_chart, of_schedule, of_net, of_selftest, status_of}
 use Rattle.flow_program.specs.Answer.{Ends, CallEnds}
 

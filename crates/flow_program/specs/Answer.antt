@@ -4,7 +4,8 @@ use Rattle.std.specs.Io.KnownBytes.{append_known}
 use Rattle.flow_base.specs.Causes.{Stands}
 use Rattle.flow_base.specs.declared.bounds.Bounds.{Bounds}
 use Rattle.flow_base.specs.declared.status.Status.{Status}
-use Rattle.command_words.specs.Commands.{RunBounds, Command, Check, Fmt, Rules, Compile, Exec, Run, Upgrade, Bound, Shrink, Net}
+use Rattle.command_words.specs.Commands.{RunBounds, Command, Check, Fmt, Rules, Compile}
+use Rattle.command_words.specs.Commands.{Exec, Run, Upgrade, Bound, Shrink, Net}
 use Rattle.command_words.specs.Commands.{Selftest}
 use Rattle.command_words.specs.Commands.{files_named}
 use Rattle.commands.specs.Call.{Output, Call, OthersStay}
@@ -23,7 +24,8 @@ use Rattle.program_answers.specs.Endings.{EndsAs, EndsAtOnce}
 use Rattle.program_answers.specs.Lines.{LineStands}
 use Rattle.flow_program.specs.declared.ending.Ending.{Ending}
 use Rattle.flow_program.specs.declared.ending.Ending.TheVariants as endings
-use Rattle.flow_program.specs.Ending.{of_text, of_rules, of_exec, of_run, of_upgrade, of_net, of_selftest, status_of, line_of}
+use Rattle.flow_program.specs.Ending.{of_text, of_rules, of_exec, of_run, of_upgrade}
+use Rattle.flow_program.specs.Ending.{of_net, of_selftest, status_of, line_of}
 use Rattle.flow_program.specs.Fmt.{FmtEnds}
 
 -- a run ends so under the bounds of these numbers

@@ -50,6 +50,7 @@ pub fn chart_main<I: Inputs, O: Sink, E: Sink>(
         (output_of E.Sink err.old) (output_of E.Sink err.new) result }
 {
     let ending = call(alloc, words, inputs, out);
+    // A line that can't be written changes no status.
     let _ = report(err, &ending);
     ending.status()
 }

@@ -168,7 +168,7 @@ module _ (c : Chart) (n : ℕ) (states : length c.names.states ≡ state_count c
       → good decl.kind ≡ true → event_is (known c n) good e ≡ true
   event_typed good e decl h is = ap (λ o. option_map_or (λ (d : EventDecl). good d.kind) o false) h ∙ is
 
-  -- an event that isn't put out may be a trigger
+  -- an event that isn't emitted may be a trigger
   triggers : (k : EventKind) → k ≢ events.Output → is_trigger k ≡ true
   triggers events.Input h = refl
   triggers events.Local h = refl

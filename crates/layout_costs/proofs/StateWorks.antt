@@ -16,7 +16,8 @@ use Rattle.code_language.specs.Instrs.{Cond, Instr}
 use Rattle.code_language.specs.Measures.{work_from, lefts, work_by}
 use Rattle.chart_procedures.specs.Numbers.{Numbers}
 use Rattle.chart_procedures.specs.StateProcedures.{end_code, block_code, guard_code, active_code, each_code, leave_code}
-use Rattle.chart_procedures.specs.StateProcedures.{exit_code, return_code, search_code, defaults_code, arrive_code, take_code}
+use Rattle.chart_procedures.specs.StateProcedures.{exit_code, return_code, search_code}
+use Rattle.chart_procedures.specs.StateProcedures.{defaults_code, arrive_code, take_code}
 use Rattle.chart_procedures.specs.StateProcedures.{active_child_code, regions_code, children_code, process_code}
 use Rattle.layout_costs.specs.Calls.{DefaultsCalls, ArriveCalls}
 use Rattle.layout_costs.specs.Works.{ChildShares, StateWorks}

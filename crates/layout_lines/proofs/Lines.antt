@@ -8,8 +8,10 @@ use Rattle.actions.specs.declared.expr.Op.{Op}
 use Rattle.actions.specs.declared.expr.Op.TheVariants as ops
 use Rattle.actions.specs.Exprs.{Expr, Lit, Flag, Read, Active, Neg, Not, Bin}
 use Rattle.checked_chart.specs.Expressions.{IsLiteral, operator_count}
-use Rattle.code_language.specs.Instrs.{Cond, On, Bare, OnHome, BareHome, Current, Result, Test, Last, Instr, Assign, Emit}
-use Rattle.code_language.specs.Instrs.{Mark, Clear, Keep, Unless, Skip, Call, Visit, Send, SendTo, Play, Home, Begin, Pass}
+use Rattle.code_language.specs.Instrs.{Cond, On, Bare, OnHome, BareHome, Current}
+use Rattle.code_language.specs.Instrs.{Result, Test, Last, Instr, Assign, Emit}
+use Rattle.code_language.specs.Instrs.{Mark, Clear, Keep, Unless, Skip, Call, Visit}
+use Rattle.code_language.specs.Instrs.{Send, SendTo, Play, Home, Begin, Pass}
 use Rattle.code_language.specs.Instrs.{Ret}
 use Rattle.code_fields.specs.Spelling.{IsNumber, IsExpr, op_word, flag_word, literal_word, expr_words}
 use Rattle.code_fields.specs.Spelling.{HasNumbers as ExprHasNumbers}

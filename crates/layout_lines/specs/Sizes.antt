@@ -1,7 +1,9 @@
 -- How many bytes the lines of code have at most, with their newlines, and so its text.
 use Rattle.std.specs.Prelude.{ℕ, ◌+◌, ◌*◌, List, [], ◌∷◌, length}
-use Rattle.code_language.specs.Instrs.{Cond, On, Bare, OnHome, BareHome, Current, Result, Test, Last, Instr, Assign, Emit}
-use Rattle.code_language.specs.Instrs.{Mark, Clear, Keep, Unless, Skip, Call, Visit, Send, SendTo, Play, Home, Begin, Pass}
+use Rattle.code_language.specs.Instrs.{Cond, On, Bare, OnHome, BareHome, Current}
+use Rattle.code_language.specs.Instrs.{Result, Test, Last, Instr, Assign, Emit}
+use Rattle.code_language.specs.Instrs.{Mark, Clear, Keep, Unless, Skip, Call, Visit}
+use Rattle.code_language.specs.Instrs.{Send, SendTo, Play, Home, Begin, Pass}
 use Rattle.code_language.specs.Instrs.{Ret}
 use Rattle.code_text.specs.Written.{Written}
 

@@ -20,7 +20,7 @@ use Rattle.chart_procedures.proofs.Validity.{list_by, junction_by}
 use Rattle.chart_layout.specs.Bodies.{procedures_of}
 use Rattle.chart_layout.specs.ReachedJunctions.{has, place_of, reached}
 use Rattle.chart_layout.specs.Places.{reached_count, groups_start, total, arrive_at, numbers, list_numbers}
-use Rattle.chart_layout.proofs.Found.{place_get}
+use Rattle.chart_layout.proofs.Members.{place_get}
 use Rattle.chart_layout.proofs.ReachedLemmas.{has_reached, reached_within, list_valid}
 use Rattle.chart_layout.proofs.Whole.{lists_compiled}
 use Rattle.layout_costs.specs.Calls.{EachTrans, FiringCalls, ListCalls, JunctionVisits, ListNames}

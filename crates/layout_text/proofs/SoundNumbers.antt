@@ -5,11 +5,14 @@ use Rattle.std.specs.List.{AllByRecursion, list_any}
 use Rattle.std.proofs.lemmas.Bool.Decides.{nat_tests}
 use Rattle.active_config.specs.Tree.{state_count}
 use Rattle.code_language.specs.declared.limits.TheConstants.{PROC_LIMIT, INSTR_LIMIT}
-use Rattle.code_language.specs.Instrs.{Cond, On, Bare, OnHome, BareHome, Current, Result, Test, Last, Instr, Assign, Emit}
-use Rattle.code_language.specs.Instrs.{Mark, Clear, Keep, Unless, Skip, Call, Visit, Send, SendTo, Play, Home, Begin, Pass}
+use Rattle.code_language.specs.Instrs.{Cond, On, Bare, OnHome, BareHome, Current}
+use Rattle.code_language.specs.Instrs.{Result, Test, Last, Instr, Assign, Emit}
+use Rattle.code_language.specs.Instrs.{Mark, Clear, Keep, Unless, Skip, Call, Visit}
+use Rattle.code_language.specs.Instrs.{Send, SendTo, Play, Home, Begin, Pass}
 use Rattle.code_language.specs.Instrs.{Ret}
 use Rattle.code_language.specs.Sound.{AreSound, AreProcs}
-use Rattle.code_language.specs.WellFormed.{Known, expr_known, cond_known, note_known, instr_known, skips_within, is_event}
+use Rattle.code_language.specs.WellFormed.{Known, expr_known, cond_known, note_known}
+use Rattle.code_language.specs.WellFormed.{instr_known, skips_within, is_event}
 use Rattle.code_language.specs.WellFormed.{is_state, is_proc, is_datum}
 use Rattle.code_language.proofs.Accepted.{first_true, second_true}
 use Rattle.code_fields.specs.Spelling.{IsNumber}

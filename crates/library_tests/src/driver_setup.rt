@@ -10,7 +10,7 @@ use sample_engine::Counter;
 use std::process::Abort;
 use step_driver::{DriveEnd, drive};
 
-/// Runs the sample chart, whose event `GO` puts out `DONE` twice, over the file `events`. Its
+/// Runs the sample chart, whose event `GO` emits `DONE` twice, over the file `events`. Its
 /// numbers have that scale.
 pub fn run<I: Inputs, O: Sink>(
     rt: &(impl AllocGlobal + Abort),

@@ -231,7 +231,7 @@ fn unmarked(rt: &impl Abort, alloc: Global, shape: Shape) -> Marked {
 
 /// What is tried or asked at a state.
 #[derive(Clone, Copy)]
-enum Step {
+enum MarkStep {
     /// To make it active where it can be.
     Mark,
     /// To make it inactive where it is bare.
@@ -243,7 +243,7 @@ enum Step {
 }
 
 /// Does what a step says, and answers whether it could be done or is so.
-fn take(tree: &mut Marked, step: Step, state: u32) -> bool
+fn take(tree: &mut Marked, step: MarkStep, state: u32) -> bool
     requires { state < state_count tree.old.shape }
 {
     match step {
@@ -255,7 +255,7 @@ fn take(tree: &mut Marked, step: Step, state: u32) -> bool
 }
 
 /// Takes each step, and asserts its answer.
-fn check_steps(rt: &impl Abort, tree: &mut Marked, steps: &[(Step, u32, bool, &str)]) {
+fn check_steps(rt: &impl Abort, tree: &mut Marked, steps: &[(MarkStep, u32, bool, &str)]) {
     for (step, state, wanted, why) in steps {
         assert!(rt; *state < tree.shape.len(), "no such state");
         same(rt, &take(tree, *step, *state), wanted, why);
@@ -278,7 +278,7 @@ fn check_children(rt: &impl Abort, tree: &Marked, rows: &[(u32, Comp, Option<u32
 }
 
 /// States of `two_regions` that are made active or can't be.
-const MARKED: &[(Step, u32, bool, &str)] = &[
+const MARKED: &[(MarkStep, u32, bool, &str)] = &[
     (Mark, 2, false, "1 isn't active"),
     (Mark, 0, true, "the root"),
     (Mark, 1, true, "the OR 0 is bare"),
@@ -294,7 +294,7 @@ const MARKED: &[(Step, u32, bool, &str)] = &[
 const CHILDREN: &[(u32, Comp, Option<u32>)] = &[(0, Or, Some(1)), (4, Or, None)];
 
 /// States that are made inactive after `MARKED` or can't be.
-const CLEARED: &[(Step, u32, bool, &str)] = &[
+const CLEARED: &[(MarkStep, u32, bool, &str)] = &[
     (Clear, 2, false, "2 has an active child"),
     (Clear, 3, true, "3 is bare"),
     (IsOn, 3, false, "3 is cleared"),
@@ -321,7 +321,7 @@ fn wide(rt: &impl Abort, alloc: Global) -> Shape {
 }
 
 /// States of `wide` that are made active.
-const MARKED_WIDE: &[(Step, u32, bool, &str)] = &[
+const MARKED_WIDE: &[(MarkStep, u32, bool, &str)] = &[
     (Mark, 0, true, "the root"),
     (Mark, 64, true, "64, first of its word"),
     (Mark, 130, true, "130, the last state"),
@@ -399,7 +399,7 @@ const KEPT: &[(u32, bool, Option<u32>, Option<u32>)] = &[
 ];
 
 /// Keeping makes none active.
-const NONE_MARKED: &[(Step, u32, bool, &str)] = &[
+const NONE_MARKED: &[(MarkStep, u32, bool, &str)] = &[
     (IsOn, 1, false, "1 is kept alone"),
     (IsOn, 3, false, "3 is kept alone"),
 ];

@@ -21,7 +21,7 @@ use Rattle.net_text.specs.declared.net.RouteText.{RouteText}
 use Rattle.net_text.specs.declared.route.Route.{Route}
 use Rattle.event_file.specs.EventLines as lines
 use Rattle.event_file.specs.InputValues.{is_input}
-use Rattle.net_text.specs.Routes.{is_put_out, is_output_event, is_input_event}
+use Rattle.net_text.specs.Routes.{is_emitted, is_output_event, is_input_event}
 use Rattle.net_text.specs.Routes.{output_event, input_event, is_set_by_chart, is_output_datum}
 use Rattle.net_text.specs.Routes.{is_input_datum, output_datum, input_datum, same_sign, same_sort, have_same_sort}
 use Rattle.net_text.specs.Routes.{DataNumbers, numbers_with, numbers_named, data_numbers, IsOutputEvent, AreJoined}
@@ -38,10 +38,10 @@ found_at p (x ∷ xs) i h =
 -- ---- events
 
 -- an output event
-put_out : (kind : EventKind) → is_put_out kind ≡ true → kind ≡ event_kinds.Output
-put_out event_kinds.Input h = absurd cc
-put_out event_kinds.Local h = absurd cc
-put_out event_kinds.Output h = refl
+emitted_kind : (kind : EventKind) → is_emitted kind ≡ true → kind ≡ event_kinds.Output
+emitted_kind event_kinds.Input h = absurd cc
+emitted_kind event_kinds.Local h = absurd cc
+emitted_kind event_kinds.Output h = refl
 
 -- an input event
 input_event_kind : (kind : EventKind) → lines.is_input_event kind ≡ true → kind ≡ event_kinds.Input
@@ -53,8 +53,8 @@ input_event_kind event_kinds.Output h = absurd cc
 output_event-is : (name : List ℕ) (n : Names) (e : ℕ) → output_event name n ≡ Some e → IsOutputEvent n e
 output_event-is name n e h =
     let at = found_at (is_output_event name) n.events e h in
-    let both = and_parts (bytes_eq at.0.name name) (is_put_out at.0.kind) at.2 in
-    (at.0, at.1, put_out at.0.kind both.1)
+    let both = and_parts (bytes_eq at.0.name name) (is_emitted at.0.kind) at.2 in
+    (at.0, at.1, emitted_kind at.0.kind both.1)
 
 -- what was found as an input event is one
 input_event-is : (name : List ℕ) (n : Names) (e : ℕ) → input_event name n ≡ Some e → IsInputEvent n e

@@ -22,14 +22,14 @@ use Rattle.net_text.specs.declared.route.Route.{Route}
 -- ---- events
 
 -- the chart puts the event out
-abbrev pub is_put_out : EventKind → Bool
-is_put_out event_kinds.Input = false
-is_put_out event_kinds.Local = false
-is_put_out event_kinds.Output = true
+abbrev pub is_emitted : EventKind → Bool
+is_emitted event_kinds.Input = false
+is_emitted event_kinds.Local = false
+is_emitted event_kinds.Output = true
 
 -- an output event of that name
 abbrev pub is_output_event : List ℕ → EventDecl → Bool
-is_output_event name event = bytes_eq event.name name && is_put_out event.kind
+is_output_event name event = bytes_eq event.name name && is_emitted event.kind
 
 -- an input event of that name
 abbrev pub is_input_event : List ℕ → EventDecl → Bool

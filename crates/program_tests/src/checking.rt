@@ -1,6 +1,6 @@
 //! Charts that are accepted, with their counts and their bounds, and charts that are refused.
 use crate::rows::{Group, check, check_groups};
-use crate::setup::{Answer, LAMP, compare};
+use crate::setup::{LAMP, WantedAnswer, compare};
 use accepted_charts::chart_fault;
 use flow_base::Status;
 use std::process::Abort;
@@ -190,7 +190,7 @@ fn first_faults(rt: HostRuntime) {
 }
 
 /// The first fault of a text is the one that `check` tells.
-fn check_fault(rt: &(impl AllocGlobal + Abort), chart: &str, want: Answer<'_>) {
+fn check_fault(rt: &(impl AllocGlobal + Abort), chart: &str, want: WantedAnswer<'_>) {
     let line = first_fault(rt, chart);
     compare(
         rt,

@@ -1,12 +1,12 @@
 //! Code texts that the program writes, runs, upgrades and makes smaller, and that it refuses.
 use crate::rows::{EXEC, Group, START, check_groups, check_lines, check_rows};
-use crate::setup::{Answer, CODE, LAMP, Ran, SURE, compare, run};
+use crate::setup::{CODE, LAMP, Ran, SURE, WantedAnswer, compare, run};
 use flow_base::Status;
 use std::process::Abort;
 use std::str;
 
 /// Event files of the lamp.
-const EVENT_FILES: &[(&str, Answer<'_>)] = &[
+const EVENT_FILES: &[(&str, WantedAnswer<'_>)] = &[
     ("", (Status::Ok, START, "")),
     (
         "GO\nGO\ntick\n",
@@ -60,7 +60,7 @@ fn refused_code(rt: HostRuntime) {
 }
 
 /// None of `exec`, `upgrade` and `shrink` takes the code with that text in place of the old.
-fn check_replaced(rt: &(impl AllocGlobal + Abort), old: &str, new: &str, want: Answer<'_>) {
+fn check_replaced(rt: &(impl AllocGlobal + Abort), old: &str, new: &str, want: WantedAnswer<'_>) {
     let text = CODE.replace(rt.alloc(), old, new).expect(rt, "memory");
     let lines = &["exec c e", "upgrade c", "shrink c"];
     check_lines(rt, lines, text.as_str(), "GO\n", want);
@@ -117,7 +117,7 @@ const COUNTER: &str = "\
     end\n";
 
 /// Event files of the counter with their answers.
-const COUNTS: &[(&str, Answer<'_>)] = &[
+const COUNTS: &[(&str, WantedAnswer<'_>)] = &[
     (
         "ADD x=1.5\nADD\ntick x=0\n",
         (

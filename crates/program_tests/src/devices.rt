@@ -2,7 +2,7 @@
 ghost use Rattle.std.specs.Prelude.{◌≢◌};
 
 use crate::rows::START;
-use crate::setup::{Answer, CODE, Fails, LAMP, check_run, compare, file, words};
+use crate::setup::{CODE, Fails, LAMP, WantedAnswer, check_run, compare, file, words};
 use flow_base::{Sink, Status, SureInputs, SureSink};
 use flow_program::chart_main;
 use std::alloc::Global;
@@ -59,7 +59,7 @@ const TEXTS: &[(&str, &str)] = &[
 const GIVEN: &str = "0 start [Off] - - ok\n1 GO [On] - - ok\n2 GO [Off] - - ok\n";
 
 /// Commands with a chart or code, what fails, and the answer.
-const FAILS: &[(&[(&str, &str)], Fails<'_>, Answer<'_>)] = &[
+const FAILS: &[(&[(&str, &str)], Fails<'_>, WantedAnswer<'_>)] = &[
     (
         COMMANDS,
         (&[3], &[], &[]),
@@ -96,7 +96,7 @@ fn check_fails(
     rt: &(impl AllocGlobal + Abort),
     commands: &[(&str, &str)],
     fails: Fails<'_>,
-    want: Answer<'_>,
+    want: WantedAnswer<'_>,
 ) {
     for &(line, text) in commands {
         check_run(rt, line, text, "GO\nGO\nGO\n", 4096, fails, want);

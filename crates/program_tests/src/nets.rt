@@ -1,10 +1,10 @@
 //! Nets of two charts over schedules, with their traces.
-use crate::setup::{Answer, compare, file, sink, words};
+use crate::setup::{WantedAnswer, compare, file, sink, words};
 use flow_base::{MemInputs, Status};
 use flow_program::chart_main;
 use std::process::Abort;
 
-/// Each `GO` makes `v` greater by 5 and puts out `o`.
+/// Each `GO` makes `v` greater by 5 and emits `o`.
 const A: &str = "\
     chart A or { event input GO; event output o; output v : int16; default -> S; \
     state S { outer GO { v = v + 5; emit o; } -> S; } }";
@@ -18,12 +18,12 @@ const B: &str = "\
 const NET: &str = "\
     flownet 1\ncharts 2\nc a a\nc b b\nroutes 1\nr 0 o 1 IN 2 v x\nend\n";
 
-/// A route for an event that isn't put out.
+/// A route for an event that isn't emitted.
 const NO_OUTPUT: &str = "\
     flownet 1\ncharts 2\nc a a\nc b b\nroutes 1\nr 0 GO 1 IN 2 v x\nend\n";
 
 /// Net texts with schedules and their answers.
-const ROWS: &[(&str, &str, Answer<'_>)] = &[
+const ROWS: &[(&str, &str, WantedAnswer<'_>)] = &[
     (
         NET,
         "ev a GO\nev a GO\ntake 0\ntake 0\ntake 0\n",
@@ -84,7 +84,7 @@ fn nets(rt: HostRuntime) {
 }
 
 /// Runs the net of the file `n` over the schedule of the file `e`, and compares what it left.
-fn check_net(rt: &(impl AllocGlobal + Abort), net: &str, schedule: &str, want: Answer<'_>) {
+fn check_net(rt: &(impl AllocGlobal + Abort), net: &str, schedule: &str, want: WantedAnswer<'_>) {
     let files = [
         file(rt, "n", net, 7, &[]),
         file(rt, "e", schedule, 3, &[]),

@@ -1,10 +1,10 @@
 //! Charts, event files and words with their answers.
-use crate::setup::{Answer, CODE, LAMP, SURE, check_run};
+use crate::setup::{CODE, LAMP, SURE, WantedAnswer, check_run};
 use flow_base::Status;
 use std::process::Abort;
 
 /// Words, a chart or code, and event files with the answers of each of these words.
-pub type Group<'a> = (&'a [&'a str], &'a str, &'a [(&'a str, Answer<'a>)]);
+pub type Group<'a> = (&'a [&'a str], &'a str, &'a [(&'a str, WantedAnswer<'a>)]);
 
 /// Compares the answers of groups.
 pub fn check_groups(rt: &(impl AllocGlobal + Abort), groups: &[Group<'_>]) {
@@ -18,7 +18,7 @@ pub fn check_rows(
     rt: &(impl AllocGlobal + Abort),
     lines: &[&str],
     text: &str,
-    rows: &[(&str, Answer<'_>)],
+    rows: &[(&str, WantedAnswer<'_>)],
 ) {
     for &(events, want) in rows {
         check_lines(rt, lines, text, events, want);
@@ -31,7 +31,7 @@ pub fn check_lines(
     lines: &[&str],
     text: &str,
     events: &str,
-    want: Answer<'_>,
+    want: WantedAnswer<'_>,
 ) {
     for &line in lines {
         check(rt, line, text, events, want);
@@ -44,7 +44,7 @@ pub fn check(
     line: &str,
     text: &str,
     events: &str,
-    want: Answer<'_>,
+    want: WantedAnswer<'_>,
 ) {
     check_run(rt, line, text, events, 5, SURE, want);
 }
@@ -59,7 +59,7 @@ pub const RUNS: &[&str] = &["rules c e", "run c e"];
 pub const EXEC: &[&str] = &["exec c e"];
 
 /// Event files of the lamp.
-const EVENT_FILES: &[(&str, Answer<'_>)] = &[
+const EVENT_FILES: &[(&str, WantedAnswer<'_>)] = &[
     ("", (Status::Ok, START, "")),
     (
         "GO\nGO\ntick\n",

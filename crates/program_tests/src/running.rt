@@ -1,9 +1,9 @@
 //! Charts that run by the rules and as compiled code, with their traces.
 use crate::rows::{Group, RUNS, check, check_groups};
-use crate::setup::Answer;
+use crate::setup::WantedAnswer;
 use flow_base::Status;
 
-/// Nested states, a junction, a broadcast, an event that is put out, and inputs.
+/// Nested states, a junction, a broadcast, an event that is emitted, and inputs.
 const CHART: &str = "\
     chart C or {\n\
     \x20 event input GO; event local L; event output DONE; input x : sfix8_En4; output n : int8;\n\
@@ -20,7 +20,7 @@ const CHART: &str = "\
 const START: &str = "0 start [A] x=0,n=0 - ok\n";
 
 /// Event files of that chart: one with inputs, and those that are refused at a line.
-const EVENT_FILES: &[(&str, Answer<'_>)] = &[
+const EVENT_FILES: &[(&str, WantedAnswer<'_>)] = &[
     (
         "# idle\n\nGO x=1\r\nGO x=2.5\ntick\n  GO\n",
         (

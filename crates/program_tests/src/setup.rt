@@ -88,7 +88,7 @@ pub struct Ran {
 }
 
 /// Status, output and line of a run.
-pub type Answer<'a> = (Status, &'a str, &'a str);
+pub type WantedAnswer<'a> = (Status, &'a str, &'a str);
 
 /// Which reads of the event file, writes of the output and writes of the line fail.
 pub type Fails<'a> = (&'a [u64], &'a [u64], &'a [u64]);
@@ -124,7 +124,7 @@ pub fn check_run(
     events: &str,
     piece: usize,
     fails: Fails<'_>,
-    want: Answer<'_>,
+    want: WantedAnswer<'_>,
 )
     requires { 0 < piece }
 {
@@ -144,7 +144,7 @@ pub fn compare(
     line: &str,
     events: &str,
     got: (Status, &[u8], &[u8]),
-    want: Answer<'_>,
+    want: WantedAnswer<'_>,
 ) {
     let want = (want.0, want.1.as_bytes(), want.2.as_bytes());
     assert!(rt; got == want, "{line}: {events:?}: {got:?}, not {want:?}");

@@ -108,7 +108,7 @@ IsInit (inits.Flag value at) = Unit {0}
 -- ---- sizes
 
 -- the counts of a chart but that of its pairs are within their limits
-pub record IsSmall (c : charts.Chart) : Type 0 where
+pub record CountsFit (c : charts.Chart) : Type 0 where
   pub states : state_count c.tree ≤ STATE_LIMIT
   pub depth : (s : ℕ) → s < state_count c.tree → length (ancestors c.tree s) ≤ STATE_DEPTH_LIMIT
   pub junctions : charts.junction_count c ≤ JUNCTION_LIMIT
@@ -134,4 +134,4 @@ pub record KeepsPromise (r : Resolved) : Type 0 where
   pub junctions : AllByRecursion (λ (j : Junction). AreTrans r j.list) r.junctions
   pub words : (s : ℕ) (x : State) → slice_get r.states s ≡ Some x → children_of r.tree s ≢ [] → x.word ≡ comp_of r.tree s
   pub root : (x : State) → slice_get r.states 0 ≡ Some x → (x.outer ≡ []) × (x.exit ≡ [])
-  pub small : IsSmall (chart_of r)
+  pub small : CountsFit (chart_of r)

@@ -39,7 +39,7 @@ pub enum ResolvedStmt {
     Assign(Ref, ResolvedExpr),
     /// An event is sent, to a state where there is one.
     Send(Ref, Option<Ref>),
-    /// An event is put out.
+    /// An event is emitted.
     Emit(Ref),
 }
 

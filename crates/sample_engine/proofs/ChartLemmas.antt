@@ -3,7 +3,8 @@ use Rattle.std.proofs.Common.{◌≡◌, ℕ, zero, suc, ◌<◌, true, List, []
 use Rattle.std.proofs.lemmas.List.{get_or-map, length-map}
 use Rattle.fixed_point.specs.declared.scale.Scale.{Scale}
 use Rattle.active_config.specs.declared.comp.Comp.TheVariants.{Leaf}
-use Rattle.active_config.specs.Tree.{Tree, IsTree, tree_of, state_count, parent_of, comp_of, is_child, children_below, children_of}
+use Rattle.active_config.specs.Tree.{Tree, IsTree, tree_of, state_count, parent_of}
+use Rattle.active_config.specs.Tree.{comp_of, is_child, children_below, children_of}
 use Rattle.active_config.specs.Marks.{Configuration, no_marks, is_on, can_mark}
 use Rattle.actions.specs.declared.names.Sort.{Sort}
 use Rattle.actions.specs.declared.names.Sort.TheVariants as sorts

@@ -1,5 +1,6 @@
 -- The faults of a reaction name a datum of the chart.
-use Rattle.std.proofs.Common.{ℕ, zero, suc, Bool, true, false, cond, nat_le, ℤ, ◌+◌, Option, Some, None, Result, Ok, Err, subst, lit<}
+use Rattle.std.proofs.Common.{ℕ, zero, suc, Bool, true, false, cond, nat_le, ℤ, ◌+◌}
+use Rattle.std.proofs.Common.{Option, Some, None, Result, Ok, Err, subst, lit<}
 use Rattle.flow_base.specs.declared.fault.Fault.{Fault}
 use Rattle.flow_base.specs.declared.fault.Fault.TheVariants.{Steps}
 use Rattle.fixed_point.specs.declared.fitting.Overflow.{Overflow}
@@ -11,7 +12,8 @@ use Rattle.actions.specs.Data.{datum, keep, kept, assigned}
 use Rattle.actions.specs.Engines.{AnswersBy, IsFaultOf, fault_of}
 use Rattle.actions.specs.World.{World, begun}
 use Rattle.sample_engine.specs.Chart.{Program, chart_names}
-use Rattle.sample_engine.specs.Reactions.{Outcome, total, counted, ticked, put_out_where_paid, round_of, goes_on, worked, Reacted}
+use Rattle.sample_engine.specs.Reactions.{Outcome, total, counted, ticked, emitted_where_paid}
+use Rattle.sample_engine.specs.Reactions.{round_of, goes_on, worked, Reacted}
 
 -- a tick has none or the overflow of datum 1
 ticked_faults : (p : Program) (w : World) → IsFaultOf (chart_names p.scale) (ticked w).fault
@@ -27,7 +29,7 @@ round_faults : (p : Program) (w : World) → IsFaultOf (chart_names p.scale) (ro
 round_faults p w = at (nat_le p.bounds.steps w.used)
   where
     at : (full : Bool) → IsFaultOf (chart_names p.scale)
-        (put_out_where_paid w (cond full (Err Steps) (Ok (record w { used = w.used + 1 })))).fault
+        (emitted_where_paid w (cond full (Err Steps) (Ok (record w { used = w.used + 1 })))).fault
     at true = tt
     at false = tt
 

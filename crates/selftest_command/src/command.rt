@@ -27,9 +27,9 @@ pub enum SelftestEnd {
     Memory,
 }
 
-/// Makes case `n`, runs its chart over its events with the usual bounds, by the rules and as code,
-/// and writes one line: the number of the case, its states with the root, the events that ran, the
-/// length of the trace and the result in its last line.
+/// Makes case `n`, runs its chart over its events with the default bounds, by the rules and as
+/// code, and writes one line: the number of the case, its states with the root, the events that
+/// ran, the length of the trace and the result in its last line.
 pub fn selftest<O: Sink>(alloc: Global, n: u32, out: &mut O) -> SelftestEnd
     ensures { SelftestEnds n (output_of O.Sink out.old) (output_of O.Sink out.new) result }
 {

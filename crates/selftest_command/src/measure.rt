@@ -63,6 +63,7 @@ fn measured_code(
 ) -> Result<Measures, Memory>
     ensures { IfOk result (spec.HasMeasures (chart_of chart.now) bounds events.now) }
 {
+    // Only the proof reads the names: the chart is valid.
     let _ = chart.names();
     let Ok(mut inputs) = file_of(alloc, events) else {
         return Err(Memory);
@@ -81,6 +82,7 @@ fn measured_rules(
 ) -> Result<Measures, Memory>
     ensures { IfOk result (spec.HasMeasures (chart_of chart) bounds events.now) }
 {
+    // Only the proof reads the names: the chart is valid.
     let _ = chart.names();
     let Ok(mut inputs) = file_of(alloc, events) else {
         return Err(Memory);
@@ -115,6 +117,7 @@ fn run_rules(
         inputs.old inputs.new out.old out.new)
         [] result }
 {
+    // Only the proof reads the names: the chart is valid.
     let _ = chart.names();
     let Ok(mut rules) = Rules::make(alloc, chart, bounds) else {
         return TraceEnd::Memory;

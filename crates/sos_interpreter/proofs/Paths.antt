@@ -10,7 +10,7 @@ use Rattle.active_config.specs.declared.comp.Comp.TheVariants.{Leaf, Or, And}
 use Rattle.active_config.specs.Tree.{children_of, comp_of}
 use Rattle.active_config.specs.Marks.{is_on, is_bare, active_child, can_mark}
 use Rattle.actions.specs.Exprs.{Expr, Stmt, Assign, Send, SendTo, Emit}
-use Rattle.actions.specs.World.{World, put_out, Life, On, Bare}
+use Rattle.actions.specs.World.{World, emitted, Life, On, Bare}
 use Rattle.actions.specs.declared.event.Event.TheVariants.{Named}
 use Rattle.actions.specs.Changes.{set_mark}
 use Rattle.actions.specs.Work.{Run, Ended, Faulted, then_do, give, choose, nothing, if_some, End, Done, Cut, Now}
@@ -71,7 +71,7 @@ module _ (c : Chart) (b : Bounds) (now : Now) where
   assign_fault life w {u} {x} is a = statement_is life w is (settled_fault _ _ x u (settled_is a))
 
   pub emit_done : (life : Life) {s : Stmt} {e : ℕ} (w : World) {u : World} → s ≡ Emit e → pay b w ≡ Ended tt u
-      → Settled (λ n. statement c b (upto c b n) life s now w) (Ended Done (put_out e u))
+      → Settled (λ n. statement c b (upto c b n) life s now w) (Ended Done (emitted e u))
   emit_done life w {u} is p = statement_is life w is (settled_then _ _ tt u _ (settled_is p) (settled_now _))
 
   pub emit_fault : (life : Life) {s : Stmt} {e : ℕ} (w : World) {u : World} {x : Fault} → s ≡ Emit e

@@ -35,7 +35,7 @@ use Rattle.sos_interpreter.specs.Gives.{Does}
 use Rattle.sos_rules.specs.Searches.{pay, assign}
 use Rattle.std.specs.Prelude.{slice_get}
 use Rattle.actions.specs.Values.{Valued, value_of, flag_of}
-use Rattle.actions.specs.World.{World, Fits, Declaration, of_data, of_names, put_out}
+use Rattle.actions.specs.World.{World, Fits, Declaration, of_data, of_names, emitted}
 use Rattle.actions.proofs.AssignmentLemmas.{of_data-assigned, sorts-assigned}
 use Rattle.actions.proofs.DataLemmas.{all_push}
 
@@ -60,7 +60,7 @@ fits_as t n w v fits k a b = record {
 }
 
 -- a world with one more output event fits
-pub out_fits : (t : Tree) (n : Names) (e : ℕ) (w : World) → Fits t n w → e < length n.events → Fits t n (put_out e w)
+pub out_fits : (t : Tree) (n : Names) (e : ℕ) (w : World) → Fits t n w → e < length n.events → Fits t n (emitted e w)
 out_fits t n e w fits lt = record {
   states = fits.states;
   consistent = fits.consistent;

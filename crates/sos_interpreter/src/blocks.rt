@@ -92,7 +92,7 @@ fn statement(
         }
         Stmt::Emit(event) => {
             world.pay(chart, bounds)?;
-            world.put_out(chart, *event)?;
+            world.emit(chart, *event)?;
             Ok(End::Done)
         }
         Stmt::Send(event) => {

@@ -23,7 +23,7 @@ use Rattle.actions.specs.Engines.{IsFaultOf}
 use Rattle.actions.specs.Exprs.{Expr, Lit, Flag, Read, Active, Neg, Not, Bin, Stmt, Assign, Send, SendTo, Emit}
 use Rattle.actions.specs.Names.{Names}
 use Rattle.actions.specs.Values.{Valued, with_value, number_of, quotient_value, applied, decides, value_of}
-use Rattle.actions.specs.World.{World, world_before, begun, put_out, Life, On, Bare, paid}
+use Rattle.actions.specs.World.{World, world_before, begun, emitted, Life, On, Bare, paid}
 use Rattle.actions.specs.Runs.{Moment}
 use Rattle.active_config.specs.Marks.{Configuration}
 use Rattle.actions.specs.Changes.{set_mark, paid_in, with_data, assigned_value, assigned_in, truth, truth_of}
@@ -220,7 +220,7 @@ module _ (c : Chart) (valid : IsValid c) (b : Bounds) where
     statement_fine : (life : Life) (s : Stmt) (now : Now) (w : World) → IsStmt c s
         → Fine n Any (statement c b p life s now w)
     statement_fine life (Assign v e) now w k = then_fine n (assign_fine n v e w k) (λ _ u _. ends Done u tt)
-    statement_fine life (Emit e) now w k = then_fine n (pay_fine n b w) (λ _ u _. ends Done (put_out e u) tt)
+    statement_fine life (Emit e) now w k = then_fine n (pay_fine n b w) (λ _ u _. ends Done (emitted e u) tt)
     statement_fine life (Send e) now w k = then_fine n (h.send e None now w) (λ _ u _. alive_fine life u)
     statement_fine life (SendTo e s) now w k = then_fine n (h.send e (Some s) now w) (λ _ u _. alive_fine life u)
 

@@ -10,7 +10,7 @@ use Rattle.active_config.specs.Tree.{IsTree, children_of}
 use Rattle.active_config.specs.Marks.{is_bare, active_child, can_mark, IsConsistent}
 use Rattle.active_config.proofs.MarksLemmas.{cleared}
 use Rattle.actions.specs.Exprs.{Expr, Stmt, Assign, Send, SendTo, Emit}
-use Rattle.actions.specs.World.{World, put_out, Life}
+use Rattle.actions.specs.World.{World, emitted, Life}
 use Rattle.actions.specs.Changes.{paid_in, assigned_in, truth_of, set_mark}
 use Rattle.actions.specs.Work.{Run, Ended, Faulted, Unfinished, Work, then_do, choose, change_or_fault, flag_or_fault}
 use Rattle.actions.specs.Work.{if_some, if_done, End, Done, Cut, Now}
@@ -40,7 +40,7 @@ pub data Finishes (P : World → Type 0) {A : Type 0} : Run A → Type 0 where
 pub record Closed (c : Chart) (b : Bounds) (P : World → Type 0) : Type 0 where
   pub pays : (w v : World) → paid_in b w ≡ Ok v → P w → P v
   pub assigns : (x : ℕ) (e : Expr) (w v : World) → assigned_in x e w ≡ Ok v → P w → P v
-  pub emits : (e : ℕ) (w : World) → P w → P (put_out e w)
+  pub emits : (e : ℕ) (w : World) → P w → P (emitted e w)
   pub marks : (s : ℕ) (w : World) → can_mark c.tree s w.marks ≡ true → P w → P (entered_in c s w)
   pub clears : (s : ℕ) (w : World) → 0 < s → is_bare c.tree s w.marks ≡ true → P w → P (set_mark s false w)
 
@@ -116,7 +116,7 @@ module _ (c : Chart) (tree : IsTree c.tree) (b : Bounds) (P : World → Type 0) 
     statement_finishes life (Assign v e) now w k =
         then_finishes P (assign_finishes v e w k) (λ _ w' k'. ended Done w' k')
     statement_finishes life (Emit e) now w k =
-        then_finishes P (pay_finishes w k) (λ _ w' k'. ended Done (put_out e w') (ok.emits e w' k'))
+        then_finishes P (pay_finishes w k) (λ _ w' k'. ended Done (emitted e w') (ok.emits e w' k'))
     statement_finishes life (Send e) now w k = search (then_finishes P, alive_finishes, h.send)
     statement_finishes life (SendTo e s) now w k = search (then_finishes P, alive_finishes, h.send)
 

@@ -31,7 +31,7 @@ use Rattle.active_config.specs.declared.comp.Comp.TheVariants.{Leaf, Or, And}
 use Rattle.active_config.specs.Tree.{Tree, IsTree, state_count, children_of}
 use Rattle.active_config.specs.Marks.{active_child}
 use Rattle.actions.specs.Exprs.{Expr, Stmt, Assign, Send, SendTo, Emit}
-use Rattle.actions.specs.World.{World, put_out, Life}
+use Rattle.actions.specs.World.{World, emitted, Life}
 
 -- what holds of a state where it holds of its children holds of each state
 module _ (t : Tree) (Q : ℕ → Type 0) (step : (s : ℕ) → ((x : ℕ) → IsChild t s x → Q x) → Q s) where
@@ -166,7 +166,7 @@ more_left : (b : Bounds) (k : ℕ) (w : World) → Left b k w → Left b (suc k)
 more_left b k w l = record { left = omega (arith, l.left) }
 
 -- outputs and marks cost nothing
-emits_left : (b : Bounds) (k e : ℕ) (w : World) → Left b k w → Left b k (put_out e w)
+emits_left : (b : Bounds) (k e : ℕ) (w : World) → Left b k w → Left b k (emitted e w)
 emits_left b k e w l = record { left = l.left }
 
 marks_left : (b : Bounds) (k s : ℕ) (on : Bool) (w : World) → Left b k w → Left b k (set_mark s on w)
@@ -223,8 +223,8 @@ module _ (c : Chart) (b : Bounds) where
         then_settles (Left b k) (λ n. assign v e w) (λ n _. give Done) (assign_settles k v e w l)
         (λ _ w' l'. ends_now (Left b k) Done w' l')
     statement_settles k life (Emit e) w l =
-        then_settles (Left b k) (λ n. pay b w) (λ n _ v. Ended Done (put_out e v)) (pay_settles k w l)
-        (λ _ v l'. ends_now (Left b k) Done (put_out e v) (emits_left b k e v l'))
+        then_settles (Left b k) (λ n. pay b w) (λ n _ v. Ended Done (emitted e v)) (pay_settles k w l)
+        (λ _ v l'. ends_now (Left b k) Done (emitted e v) (emits_left b k e v l'))
     statement_settles k life (Send e) w l = search (then_settles (Left b k), sends, alive_settles)
     statement_settles k life (SendTo e s) w l = search (then_settles (Left b k), sends, alive_settles)
 

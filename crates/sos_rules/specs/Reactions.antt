@@ -27,7 +27,7 @@ pub record Gives {A : Type 0} (m : ℕ → Run A) (moment : Moment) : Type 0 whe
 abbrev pub start_upto : Chart → Bounds → ℕ → Run (Unit {0})
 start_upto c b n = (upto c b n).enter 0 0 (from_outside Start) (world_before c.tree c.names)
 
--- nothing is put out yet and no step is used, and then the root is processed
+-- nothing is emitted yet and no step is used, and then the root is processed
 abbrev pub react_upto : Chart → Bounds → World → Event → ℕ → Run Went
 react_upto c b w e n = (upto c b n).process 0 (from_outside e) (begun w)
 

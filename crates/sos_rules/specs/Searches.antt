@@ -6,7 +6,7 @@ use Rattle.active_config.specs.Marks.{is_on}
 use Rattle.active_config.specs.Tree.{Tree}
 use Rattle.actions.specs.declared.event.Event.{Event}
 use Rattle.actions.specs.Exprs.{Expr, Stmt, Assign, Send, SendTo, Emit}
-use Rattle.actions.specs.World.{World, put_out, Life, Bare, lives}
+use Rattle.actions.specs.World.{World, emitted, Life, Bare, lives}
 use Rattle.actions.specs.Changes.{paid_in, assigned_in, truth_of}
 use Rattle.actions.specs.Work.{Work, ◌>>=◌, ◌>>◌, give, nothing, fault, test, change, change_or_fault, flag_or_fault}
 use Rattle.actions.specs.Work.{choose, End, Done, Cut, if_done, Now, is_event, deeper}
@@ -64,7 +64,7 @@ module _ (c : Chart) (b : Bounds) where
   statement p life (Assign v e) now = assign v e >> give Done
   statement p life (Emit e) now = do
     pay b
-    change (put_out e)
+    change (emitted e)
     give Done
   statement p life (Send e) now = p.send e None now >> while_alive c.tree life
   statement p life (SendTo e s) now = p.send e (Some s) now >> while_alive c.tree life

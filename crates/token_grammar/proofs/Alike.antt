@@ -1,7 +1,7 @@
 -- Two equivalent grammars, which spell and read the same: FIRST, nullable and the reading laws of one are those of
 -- the other.
 use Rattle.std.proofs.Common.{◌≡◌, Bool, List, ◌++◌, inl, inr, sym, ◌∙◌}
-use Rattle.token_grammar.specs.declared.fault.Fault.{Fault}
+use Rattle.token_grammar.specs.declared.fault.TokenFault.{TokenFault}
 use Rattle.token_grammar.specs.Token.{Lexeme}
 use Rattle.token_grammar.specs.Grammar.{Grammar, Continues}
 use Rattle.token_grammar.proofs.Good.{Set, Takes, Stops, Good}
@@ -27,7 +27,7 @@ pub continues_alike : {X : Type 0} {g h : Grammar X} (u : List Lexeme) → Alike
 continues_alike u a c = record { rest = c.rest; value = c.value; spelled = a.back (u ++ c.rest) c.value c.spelled }
 
 -- where one stops, the other stops
-stops_alike : {X : Type 0} {g h : Grammar X} → Alike g h → (f : Fault) (s r : List Lexeme) → Stops h f s r
+stops_alike : {X : Type 0} {g h : Grammar X} → Alike g h → (f : TokenFault) (s r : List Lexeme) → Stops h f s r
     → Stops g f s r
 stops_alike a f s r t = record {
   used = t.used;

@@ -1,7 +1,7 @@
 -- Grammars that are told the place of their first token: FIRST, and how they are read, whatever the place.
 use Rattle.std.proofs.Common.{◌≡◌, Bool, false, List, [], ◌∷◌, ◌++◌, Ok, Err, ◌⊎◌, inl, inr, refl, sym, ap, subst, ◌∙◌}
 use Rattle.token_grammar.specs.declared.token.Span.{Span}
-use Rattle.token_grammar.specs.declared.fault.Fault.{Fault}
+use Rattle.token_grammar.specs.declared.fault.TokenFault.{TokenFault}
 use Rattle.token_grammar.specs.Token.{Lexeme}
 use Rattle.token_grammar.specs.Grammar.{Grammar, first_place, at_first, Continues}
 use Rattle.token_grammar.proofs.Good.{Set, SameHead, Begins, Takes, Stops, Good, carried}
@@ -63,7 +63,7 @@ takes_at_first {X} {g} {f} a s x r t =
     }
 
 -- reading stops as it does at that place
-stops_at_first : {X : Type 0} (g : Span → Grammar X) (f : Fault) (s r : List Lexeme) → Stops (g (first_place s)) f s r
+stops_at_first : {X : Type 0} (g : Span → Grammar X) (f : TokenFault) (s r : List Lexeme) → Stops (g (first_place s)) f s r
     → Stops (at_first g) f s r
 stops_at_first {X} g f s r t = record {
   used = t.used;
@@ -108,7 +108,7 @@ pub starts_at_first : {X : Type 0} {set : Set} {g : Span → Grammar X} → ((p 
 starts_at_first {X} {set} {g} a = record { each = λ t there. begun_at_first g t [] ((a t.at).each t there) }
 
 -- limits that are lifted at every place are lifted
-pub lifted_at_first : {X : Type 0} {lifts : Fault → Bool} {g g' : Span → Grammar X} {f m : Set}
+pub lifted_at_first : {X : Type 0} {lifts : TokenFault → Bool} {g g' : Span → Grammar X} {f m : Set}
     → ((p : Span) → Good (g' p) f false m)
     → ((p : Span) → Lifted lifts (g p) (g' p)) → Lifted lifts (at_first g) (at_first g')
 lifted_at_first {X} {lifts} {g} {g'} a b = record {

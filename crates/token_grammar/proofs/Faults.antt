@@ -2,8 +2,8 @@
 -- correct prefix.
 use Rattle.std.proofs.Common.{◌≡◌, Bool, List, [], ◌∷◌, ◌++◌, Ok, Err, refl, sym, subst, ◌∙◌, append_assoc, inl, inr}
 use Rattle.std.proofs.lemmas.List.{append-nil}
-use Rattle.token_grammar.specs.declared.fault.Fault.{Fault}
-use Rattle.token_grammar.specs.declared.fault.Fault.TheVariants as faults
+use Rattle.token_grammar.specs.declared.fault.TokenFault.{TokenFault}
+use Rattle.token_grammar.specs.declared.fault.TokenFault.TheVariants as faults
 use Rattle.token_grammar.specs.Token.{Lexeme}
 use Rattle.token_grammar.specs.Grammar.{Grammar, Continues, FirstFault, ended, whole_reads}
 use Rattle.token_grammar.proofs.Good.{Set, Good, Takes, done_is, bind_ok, bind_err, stopped_is, surely}
@@ -24,7 +24,7 @@ read_through {X} {g} a u t c =
 
 -- where reading stops, by whatever fault
 pub fault_at_stop : {X : Type 0} {g : Grammar X} {f m : Set} {n : Bool} → Fine g f n m
-    → (s r : List Lexeme) (d : Fault) → g.reads s ≡ Err (d, r)
+    → (s r : List Lexeme) (d : TokenFault) → g.reads s ≡ Err (d, r)
     → FirstFault g s r
 fault_at_stop {X} {g} a s r d e =
     let t = a.good.stops s r d e in
@@ -80,7 +80,7 @@ pub whole_only : {X : Type 0} {g : Grammar X} {f m : Set} {n : Bool} → Good g 
 whole_only a s x h = rw (all_read a s x h) refl
 
 -- where it isn't read, the fault is the first
-pub whole_fault : {X : Type 0} {g : Grammar X} {f m : Set} {n : Bool} → Fine g f n m → (s r : List Lexeme) (d : Fault)
+pub whole_fault : {X : Type 0} {g : Grammar X} {f m : Set} {n : Bool} → Fine g f n m → (s r : List Lexeme) (d : TokenFault)
     → whole_reads g s ≡ Err (d, r)
     → FirstFault g s r
 whole_fault {X} {g} a s r d e =

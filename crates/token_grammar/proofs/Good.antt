@@ -1,8 +1,9 @@
 -- What holds of every LL(1) grammar: whether it is nullable, its FIRST, what must not follow it, and how it is read.
-use Rattle.std.proofs.Common.{◌≡◌, Bool, true, false, List, [], ◌∷◌, ◌++◌, length, ◌<◌, Ok, Err, ◌⊎◌, inl, inr, refl, sym, ap, subst, ◌∙◌, append_assoc, ◌||◌, ◌&&◌, arith}
+use Rattle.std.proofs.Common.{◌≡◌, Bool, true, false, List, [], ◌∷◌, ◌++◌, length, ◌<◌, Ok, Err, ◌⊎◌}
+use Rattle.std.proofs.Common.{inl, inr, refl, sym, ap, subst, ◌∙◌, append_assoc, ◌||◌, ◌&&◌, arith}
 use Rattle.std.proofs.lemmas.List.{length-append}
 use Rattle.token_grammar.specs.declared.token.Kind.{Kind}
-use Rattle.token_grammar.specs.declared.fault.Fault.{Fault}
+use Rattle.token_grammar.specs.declared.fault.TokenFault.{TokenFault}
 use Rattle.token_grammar.specs.Token.{Lexeme, Outcome}
 use Rattle.token_grammar.specs.Grammar.{Grammar, and_then, heads, Continues}
 
@@ -55,7 +56,7 @@ pub record Takes {X : Type 0} (g : Grammar X) (s : List Lexeme) (x : X) (r : Lis
 
 -- reading stopped, by whatever fault, at the first token of the rest, because of no token past it; what stands before it
 -- continues, or nothing stands before it
-pub record Stops {X : Type 0} (g : Grammar X) (f : Fault) (s r : List Lexeme) : Type 0 where
+pub record Stops {X : Type 0} (g : Grammar X) (f : TokenFault) (s r : List Lexeme) : Type 0 where
   pub used : List Lexeme
   pub parts : s ≡ used ++ r
   pub continues : Continues g used ⊎ (used ≡ [])
@@ -71,7 +72,7 @@ pub record Good {X : Type 0} (g : Grammar X) (first : Set) (nullable : Bool) (fo
   -- what is read is spelled
   pub takes : (s : List Lexeme) (x : X) (r : List Lexeme) → g.reads s ≡ Ok (x, r) → Takes g s x r
   -- what stands before a fault continues
-  pub stops : (s r : List Lexeme) (f : Fault) → g.reads s ≡ Err (f, r) → Stops g f s r
+  pub stops : (s r : List Lexeme) (f : TokenFault) → g.reads s ≡ Err (f, r) → Stops g f s r
 
 -- some value has a spelling
 pub record Sample {X : Type 0} (g : Grammar X) : Type 0 where
@@ -167,7 +168,7 @@ abbrev done : {X : Type 0} → X → List Lexeme → Outcome X
 done x r = Ok (x, r)
 
 -- a fault of the reading
-abbrev stopped : {X : Type 0} → Fault → List Lexeme → Outcome X
+abbrev stopped : {X : Type 0} → TokenFault → List Lexeme → Outcome X
 stopped f r = Err (f, r)
 
 -- the values and the rests are the same
@@ -182,15 +183,15 @@ done_is x y r q e =
     record { value = ap (λ (z : _ × List Lexeme). z.0) p; rest = ap (λ (z : _ × List Lexeme). z.1) p }
 
 -- the faults and the rests are the same
-pub record IsStopped (f d : Fault) (r q : List Lexeme) : Type 0 where
+pub record IsStopped (f d : TokenFault) (r q : List Lexeme) : Type 0 where
   pub fault : f ≡ d
   pub rest : r ≡ q
 
 -- equal faults have equal parts
-pub stopped_is : {X : Type 0} (f d : Fault) (r q : List Lexeme) → stopped {X = X} f r ≡ stopped d q → IsStopped f d r q
+pub stopped_is : {X : Type 0} (f d : TokenFault) (r q : List Lexeme) → stopped {X = X} f r ≡ stopped d q → IsStopped f d r q
 stopped_is f d r q e =
     let p : (f, r) ≡ (d, q) = cc in
-    record { fault = ap (λ (z : Fault × List Lexeme). z.0) p; rest = ap (λ (z : Fault × List Lexeme). z.1) p }
+    record { fault = ap (λ (z : TokenFault × List Lexeme). z.0) p; rest = ap (λ (z : TokenFault × List Lexeme). z.1) p }
 
 -- two readings, one after the other, that were both done
 pub record BindOk {X Y : Type 0} (o : Outcome X) (f : X → List Lexeme → Outcome Y) (y : Y)
@@ -208,7 +209,7 @@ bind_ok (Ok p) f y q e = record { x = p.0; r = p.1; first = refl; second = e }
 bind_ok (Err d) f y q e = absurd cc
 
 -- the first part stopped, or the second
-pub bind_err : {X Y : Type 0} (o : Outcome X) (f : X → List Lexeme → Outcome Y) (d : Fault × List Lexeme)
+pub bind_err : {X Y : Type 0} (o : Outcome X) (f : X → List Lexeme → Outcome Y) (d : TokenFault × List Lexeme)
     → and_then o f ≡ Err d
     → (o ≡ Err d) ⊎ ((x : X) × (r : List Lexeme) × (o ≡ Ok (x, r)) × (f x r ≡ Err d))
 bind_err (Ok p) f d e = inr (p.0, p.1, refl, e)
@@ -217,9 +218,9 @@ bind_err (Err d') f d e = inl cc
 -- ---- what follows from the laws
 
 -- reading stops at the token at hand, whatever follows it
-pub stops_at_hand : {X : Type 0} (g : Grammar X) (d : Fault) (s : List Lexeme)
+pub stops_at_hand : {X : Type 0} (g : Grammar X) (d : TokenFault) (s : List Lexeme)
     → ((r' : List Lexeme) → SameHead s r' → g.reads r' ≡ Err (d, r'))
-    → (r : List Lexeme) (f : Fault) → g.reads s ≡ Err (f, r) → Stops g f s r
+    → (r : List Lexeme) (f : TokenFault) → g.reads s ≡ Err (f, r) → Stops g f s r
 stops_at_hand {X} g d s at_hand r f e =
     let i = stopped_is {X = X} d f s r (sym (at_hand s (same-refl s)) ∙ e) in
     record {

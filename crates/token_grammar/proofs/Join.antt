@@ -1,10 +1,13 @@
 -- One grammar after the other, and one or the other: nullable, FIRST and the reading of both.
-use Rattle.std.proofs.Common.{◌≡◌, Bool, true, false, List, [], ◌∷◌, ◌++◌, Ok, Err, inl, inr, refl, sym, append_assoc, ⊎_elim, ◌&&◌}
+use Rattle.std.proofs.Common.{◌≡◌, Bool, true, false, List, [], ◌∷◌, ◌++◌, Ok, Err}
+use Rattle.std.proofs.Common.{inl, inr, refl, sym, append_assoc, ⊎_elim, ◌&&◌}
 use Rattle.std.proofs.lemmas.Bool.{cases_Bool}
-use Rattle.token_grammar.specs.declared.fault.Fault.{Fault}
+use Rattle.token_grammar.specs.declared.fault.TokenFault.{TokenFault}
 use Rattle.token_grammar.specs.Token.{Lexeme}
 use Rattle.token_grammar.specs.Grammar.{Grammar, heads, Both, ◌>>=◌, ◌>>◌, either, Continues}
-use Rattle.token_grammar.proofs.Good.{Set, also, Apart, Within, Clear, Begins, Takes, Stops, Good, Sample, or_true, clear_left, clear_right, begins_clear, begins_heads, carried, heads_carried, joined, bind_ok, bind_err, surely}
+use Rattle.token_grammar.proofs.Good.{Set, also, Apart, Within, Clear, Begins, Takes, Stops, Good, Sample}
+use Rattle.token_grammar.proofs.Good.{or_true, clear_left, clear_right, begins_clear, begins_heads}
+use Rattle.token_grammar.proofs.Good.{carried, heads_carried, joined, bind_ok, bind_err, surely}
 
 -- ---- one after the other: how it continues
 
@@ -67,7 +70,7 @@ takes_both h s x m y r t1 t2 = record {
 }
 
 -- the whole stops where the first part stops
-stops_first : {X Y : Type 0} {g : Grammar X} {h : X → Grammar Y} (f : Fault) (s r : List Lexeme) → Stops g f s r
+stops_first : {X Y : Type 0} {g : Grammar X} {h : X → Grammar Y} (f : TokenFault) (s r : List Lexeme) → Stops g f s r
     → ((x : X) → Sample (h x))
     → Stops (g >>= h) f s r
 stops_first f s r t samples = record {
@@ -78,7 +81,7 @@ stops_first f s r t samples = record {
 }
 
 -- or where the second stops, after what the first took
-stops_second : {X Y : Type 0} (g : Grammar X) (h : X → Grammar Y) (f : Fault) (s : List Lexeme) (x : X)
+stops_second : {X Y : Type 0} (g : Grammar X) (h : X → Grammar Y) (f : TokenFault) (s : List Lexeme) (x : X)
     (m r : List Lexeme)
     → Takes g s x m → Stops (h x) f m r → Sample (h x) → Stops (g >>= h) f s r
 stops_second g h f s x m r t1 t2 sample = record {
@@ -120,7 +123,7 @@ then_takes {X} {Y} {g} {h} a b s y r e =
 -- what stands before a fault continues
 then_stops : {X Y : Type 0} {g : Grammar X} {h : X → Grammar Y} {f1 m1 f2 m2 : Set} {n1 n2 : Bool}
     → Good g f1 n1 m1 → ((x : X) → Good (h x) f2 n2 m2) → ((x : X) → Sample (h x))
-    → (s r : List Lexeme) (f : Fault) → (g >>= h).reads s ≡ Err (f, r) → Stops (g >>= h) f s r
+    → (s r : List Lexeme) (f : TokenFault) → (g >>= h).reads s ≡ Err (f, r) → Stops (g >>= h) f s r
 then_stops {X} {Y} {g} {h} a b samples s r f e =
     elim (bind_err (g.reads s) (λ x q. (h x).reads q) (f, r) e) [
       | inl e1 ↦ stops_first f s r (a.stops s r f e1) samples
@@ -174,7 +177,7 @@ takes_right set s x r right t = record {
 }
 
 -- by a token of the set, the whole stops where the first does
-stops_left : {X : Type 0} {g h : Grammar X} (set : Set) (f : Fault) (s r : List Lexeme) → heads set s ≡ true
+stops_left : {X : Type 0} {g h : Grammar X} (set : Set) (f : TokenFault) (s r : List Lexeme) → heads set s ≡ true
     → Stops g f s r
     → Stops (either set g h) f s r
 stops_left set f s r left t = record {
@@ -185,7 +188,7 @@ stops_left set f s r left t = record {
 }
 
 -- by another, where the second does
-stops_right : {X : Type 0} {g h : Grammar X} (set : Set) (f : Fault) (s r : List Lexeme) → heads set s ≡ false
+stops_right : {X : Type 0} {g h : Grammar X} (set : Set) (f : TokenFault) (s r : List Lexeme) → heads set s ≡ false
     → Stops h f s r
     → Stops (either set g h) f s r
 stops_right set f s r right t = record {

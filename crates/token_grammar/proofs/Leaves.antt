@@ -2,11 +2,12 @@
 use Rattle.std.proofs.Common.{◌≡◌, true, false, List, [], ◌∷◌, Ok, Err, refl, sym, ap, inl, inr, eq-eqb}
 use Rattle.std.proofs.lemmas.Bool.{cases_Bool}
 use Rattle.token_grammar.specs.declared.token.Kind.{Kind}
-use Rattle.token_grammar.specs.declared.fault.Fault.{Fault}
-use Rattle.token_grammar.specs.declared.fault.Fault.TheVariants as faults
+use Rattle.token_grammar.specs.declared.fault.TokenFault.{TokenFault}
+use Rattle.token_grammar.specs.declared.fault.TokenFault.TheVariants as faults
 use Rattle.token_grammar.specs.Token.{Lexeme, kind_eq, Outcome}
 use Rattle.token_grammar.specs.Grammar.{is, token, one_of, one_of_at, give}
-use Rattle.token_grammar.proofs.Good.{Set, nothing, Takes, Stops, Good, Sample, same_nil, same_cons, done_is, stops_at_hand}
+use Rattle.token_grammar.proofs.Good.{Set, nothing, Takes, Stops, Good, Sample}
+use Rattle.token_grammar.proofs.Good.{same_nil, same_cons, done_is, stops_at_hand}
 use Rattle.token_grammar.proofs.Alike.{Alike, good_alike}
 
 -- a token of the kind, for a sample
@@ -42,7 +43,7 @@ one_of_takes set (t ∷ s) x r e =
     ]
 
 -- any other stops the reading
-one_of_stops : (set : Set) (s r : List Lexeme) (f : Fault) → one_of_at set s ≡ Err (f, r) → Stops (one_of set) f s r
+one_of_stops : (set : Set) (s r : List Lexeme) (f : TokenFault) → one_of_at set s ≡ Err (f, r) → Stops (one_of set) f s r
 unfolding one_of
 one_of_stops set [] r f e = stops_at_hand (one_of set) faults.Expected [] (λ r' h. rw (same_nil r' h) refl) r f e
 one_of_stops set (t ∷ s) r f e =

@@ -1,15 +1,17 @@
 -- The reading of a grammar compared with that of one in which the limits of some faults are lifted.
-use Rattle.std.proofs.Common.{◌≡◌, Bool, true, false, List, [], ◌∷◌, ◌++◌, Ok, Err, Some, None, refl, sym, ap, subst, ◌∙◌, append_assoc, inl, inr}
+use Rattle.std.proofs.Common.{◌≡◌, Bool, true, false, List, [], ◌∷◌, ◌++◌, Ok, Err, Some}
+use Rattle.std.proofs.Common.{None, refl, sym, ap, subst, ◌∙◌, append_assoc, inl, inr}
 use Rattle.std.proofs.lemmas.Bool.{cases_Bool}
 use Rattle.token_grammar.specs.declared.token.Kind.{Kind}
-use Rattle.token_grammar.specs.declared.fault.Fault.{Fault}
-use Rattle.token_grammar.specs.declared.fault.Fault.TheVariants as faults
+use Rattle.token_grammar.specs.declared.fault.TokenFault.{TokenFault}
+use Rattle.token_grammar.specs.declared.fault.TokenFault.TheVariants as faults
 use Rattle.token_grammar.specs.Token.{Lexeme}
 use Rattle.token_grammar.specs.Grammar.{Grammar, heads, is, token, one_of, give, ◌>>=◌, either, optional, Continues}
 use Rattle.token_grammar.proofs.Good.{Set, Takes, Good, Sample, same-refl, joined, bind_ok, bind_err, stopped_is}
 use Rattle.token_grammar.proofs.Alike.{Alike, takes_alike, continues_alike}
 use Rattle.token_grammar.proofs.Leaves.{good_token, good_one_of, good_give, sample_token, sample_one_of, sample_give}
-use Rattle.token_grammar.proofs.Join.{then_begun, then_behind, takes_both, sample_then, either_left, either_right, takes_left, takes_right}
+use Rattle.token_grammar.proofs.Join.{then_begun, then_behind, takes_both, sample_then}
+use Rattle.token_grammar.proofs.Join.{either_left, either_right, takes_left, takes_right}
 
 -- reading stopped at a token with which g' goes on
 pub record GoesPast {X : Type 0} (g' : Grammar X) (s r : List Lexeme) : Type 0 where
@@ -21,16 +23,16 @@ pub record GoesPast {X : Type 0} (g' : Grammar X) (s r : List Lexeme) : Type 0 w
   pub continues : Continues g' (used ++ first ∷ [])
 
 -- g' is g with the limits of some faults lifted
-pub record Lifted {X : Type 0} (lifts : Fault → Bool) (g g' : Grammar X) : Type 0 where
+pub record Lifted {X : Type 0} (lifts : TokenFault → Bool) (g g' : Grammar X) : Type 0 where
   -- what g reads, g' reads
   pub takes : (s : List Lexeme) (x : X) (r : List Lexeme) → g.reads s ≡ Ok (x, r) → Takes g' s x r
   -- where g stops by a fault that isn't lifted, g' stops too
-  pub stays : (s r : List Lexeme) (f : Fault) → g.reads s ≡ Err (f, r) → lifts f ≡ false → g'.reads s ≡ Err (f, r)
+  pub stays : (s r : List Lexeme) (f : TokenFault) → g.reads s ≡ Err (f, r) → lifts f ≡ false → g'.reads s ≡ Err (f, r)
   -- where g stops by one that is, g' goes on with the token
-  pub passes : (s r : List Lexeme) (f : Fault) → g.reads s ≡ Err (f, r) → lifts f ≡ true → GoesPast g' s r
+  pub passes : (s r : List Lexeme) (f : TokenFault) → g.reads s ≡ Err (f, r) → lifts f ≡ true → GoesPast g' s r
 
 -- the same, and g' has a spelling
-pub record Eased {X : Type 0} (lifts : Fault → Bool) (g g' : Grammar X) : Type 0 where
+pub record Eased {X : Type 0} (lifts : TokenFault → Bool) (g g' : Grammar X) : Type 0 where
   pub lifted : Lifted lifts g g'
   pub sample : Sample g'
 
@@ -42,7 +44,7 @@ pub read_again : {X : Type 0} {g : Grammar X} {s : List Lexeme} {x : X} {r : Lis
 read_again {X} {g} {s} {x} {r} t = rw t.parts (t.same r (same-refl r))
 
 -- what g reads, g' reads
-pub still_reads : {X : Type 0} {lifts : Fault → Bool} {g g' : Grammar X} → Lifted lifts g g'
+pub still_reads : {X : Type 0} {lifts : TokenFault → Bool} {g g' : Grammar X} → Lifted lifts g g'
     → (s : List Lexeme) (x : X) (r : List Lexeme)
     → g.reads s ≡ Ok (x, r) → g'.reads s ≡ Ok (x, r)
 still_reads a s x r e = read_again (a.takes s x r e)
@@ -74,7 +76,7 @@ past_behind {X} {Y} {g} {h} s used q r parts more p = record {
 }
 
 -- of equivalent grammars
-pub lifted_alike : {X : Type 0} {lifts : Fault → Bool} {g g' h h' : Grammar X} → Alike g h → Alike g' h'
+pub lifted_alike : {X : Type 0} {lifts : TokenFault → Bool} {g g' h h' : Grammar X} → Alike g h → Alike g' h'
     → Lifted lifts h h' → Lifted lifts g g'
 lifted_alike a a' b = record {
   takes = λ s x r e. takes_alike a' s x r (b.takes s x r (sym (a.read s) ∙ e));
@@ -83,8 +85,8 @@ lifted_alike a a' b = record {
 }
 
 -- the same grammar, where it meets no fault that is lifted
-pub lifted_same : {X : Type 0} {lifts : Fault → Bool} {g : Grammar X} {f m : Set} {n : Bool} → Good g f n m
-    → ((s r : List Lexeme) (d : Fault) → g.reads s ≡ Err (d, r) → lifts d ≡ false) → Lifted lifts g g
+pub lifted_same : {X : Type 0} {lifts : TokenFault → Bool} {g : Grammar X} {f m : Set} {n : Bool} → Good g f n m
+    → ((s r : List Lexeme) (d : TokenFault) → g.reads s ≡ Err (d, r) → lifts d ≡ false) → Lifted lifts g g
 lifted_same a kept = record {
   takes = a.takes;
   stays = λ s r d e k. e;
@@ -94,7 +96,7 @@ lifted_same a kept = record {
 -- ---- one token, and none
 
 -- one of a set has no fault but Expected
-one_of_expects : (set : Set) (s r : List Lexeme) (d : Fault) → (one_of set).reads s ≡ Err (d, r) → faults.Expected ≡ d
+one_of_expects : (set : Set) (s r : List Lexeme) (d : TokenFault) → (one_of set).reads s ≡ Err (d, r) → faults.Expected ≡ d
 unfolding one_of
 one_of_expects set [] r d e = (stopped_is {X = Lexeme} faults.Expected d [] r e).fault
 one_of_expects set (t ∷ s) r d e =
@@ -104,39 +106,39 @@ one_of_expects set (t ∷ s) r d e =
     ]
 
 -- nor has one of a kind
-token_expects : (k : Kind) (s r : List Lexeme) (d : Fault) → (token k).reads s ≡ Err (d, r) → faults.Expected ≡ d
+token_expects : (k : Kind) (s r : List Lexeme) (d : TokenFault) → (token k).reads s ≡ Err (d, r) → faults.Expected ≡ d
 unfolding token one_of
 token_expects k [] r d e = one_of_expects (is k) [] r d e
 token_expects k (t ∷ s) r d e = one_of_expects (is k) (t ∷ s) r d e
 
 -- one of a set has no limit
-pub lifted_one_of : {lifts : Fault → Bool} → lifts faults.Expected ≡ false → (set : Set)
+pub lifted_one_of : {lifts : TokenFault → Bool} → lifts faults.Expected ≡ false → (set : Set)
     → Lifted lifts (one_of set) (one_of set)
 lifted_one_of {lifts} kept set =
     lifted_same (good_one_of set) (λ s r d e. ap lifts (sym (one_of_expects set s r d e)) ∙ kept)
 
 -- and has a spelling
-pub eased_one_of : {lifts : Fault → Bool} → lifts faults.Expected ≡ false → (set : Set) (k : Kind) → set k ≡ true
+pub eased_one_of : {lifts : TokenFault → Bool} → lifts faults.Expected ≡ false → (set : Set) (k : Kind) → set k ≡ true
     → Eased lifts (one_of set) (one_of set)
 eased_one_of kept set k there = record { lifted = lifted_one_of kept set; sample = sample_one_of set k there }
 
 -- one of a kind has no limit
-pub lifted_token : {lifts : Fault → Bool} → lifts faults.Expected ≡ false → (k : Kind)
+pub lifted_token : {lifts : TokenFault → Bool} → lifts faults.Expected ≡ false → (k : Kind)
     → Lifted lifts (token k) (token k)
 lifted_token {lifts} kept k = lifted_same (good_token k) (λ s r d e. ap lifts (sym (token_expects k s r d e)) ∙ kept)
 
 -- and has a spelling
-pub eased_token : {lifts : Fault → Bool} → lifts faults.Expected ≡ false → (k : Kind) → Eased lifts (token k) (token k)
+pub eased_token : {lifts : TokenFault → Bool} → lifts faults.Expected ≡ false → (k : Kind) → Eased lifts (token k) (token k)
 eased_token kept k = record { lifted = lifted_token kept k; sample = sample_token k }
 
 -- nothing has no limit, and has a spelling
-pub eased_give : {X : Type 0} {lifts : Fault → Bool} (x : X) → Eased lifts (give x) (give x)
+pub eased_give : {X : Type 0} {lifts : TokenFault → Bool} (x : X) → Eased lifts (give x) (give x)
 eased_give x = record { lifted = lifted_same (good_give x) (λ s r d e. absurd cc); sample = sample_give x }
 
 -- ---- one after the other
 
 -- where the first need not have a spelling
-pub lifted_then : {X Y : Type 0} {lifts : Fault → Bool} {g g' : Grammar X} {h h' : X → Grammar Y}
+pub lifted_then : {X Y : Type 0} {lifts : TokenFault → Bool} {g g' : Grammar X} {h h' : X → Grammar Y}
     → Lifted lifts g g' → ((x : X) → Eased lifts (h x) (h' x)) → Lifted lifts (g >>= h) (g' >>= h')
 lifted_then {X} {Y} {lifts} {g} {g'} {h} {h'} a b = record {
   takes = λ s y r e.
@@ -158,14 +160,14 @@ lifted_then {X} {Y} {lifts} {g} {g'} {h} {h'} a b = record {
 }
 
 -- where both have a spelling
-pub eased_then : {X Y : Type 0} {lifts : Fault → Bool} {g g' : Grammar X} {h h' : X → Grammar Y}
+pub eased_then : {X Y : Type 0} {lifts : TokenFault → Bool} {g g' : Grammar X} {h h' : X → Grammar Y}
     → Eased lifts g g' → ((x : X) → Eased lifts (h x) (h' x)) → Eased lifts (g >>= h) (g' >>= h')
 eased_then a b = record { lifted = lifted_then a.lifted b; sample = sample_then a.sample (λ x. (b x).sample) }
 
 -- ---- one or the other
 
 -- where neither need have a spelling
-pub lifted_either : {X : Type 0} {lifts : Fault → Bool} {g g' h h' : Grammar X} (set : Set)
+pub lifted_either : {X : Type 0} {lifts : TokenFault → Bool} {g g' h h' : Grammar X} (set : Set)
     → Lifted lifts g g' → Lifted lifts h h' → Lifted lifts (either set g h) (either set g' h')
 lifted_either {X} {lifts} {g} {g'} {h} {h'} set a b = record {
   takes = λ s x r e.
@@ -186,7 +188,7 @@ lifted_either {X} {lifts} {g} {g'} {h} {h'} set a b = record {
 }
 
 -- where the second has a spelling
-pub eased_either : {X : Type 0} {lifts : Fault → Bool} {g g' h h' : Grammar X} (set : Set)
+pub eased_either : {X : Type 0} {lifts : TokenFault → Bool} {g g' h h' : Grammar X} (set : Set)
     → Lifted lifts g g' → Eased lifts h h' → Eased lifts (either set g h) (either set g' h')
 eased_either set a b = record {
   lifted = lifted_either set a b.lifted;
@@ -194,6 +196,6 @@ eased_either set a b = record {
 }
 
 -- one or none
-pub eased_optional : {X : Type 0} {lifts : Fault → Bool} {g g' : Grammar X} (set : Set) → Lifted lifts g g'
+pub eased_optional : {X : Type 0} {lifts : TokenFault → Bool} {g g' : Grammar X} (set : Set) → Lifted lifts g g'
     → Eased lifts (optional set g) (optional set g')
 eased_optional set a = eased_either set (lifted_then a (λ x. eased_give (Some x))) (eased_give None)

@@ -1,8 +1,9 @@
 -- The reading of any number of items, compared: the sets, and what an item leaves for the next, are the same on both
 -- sides.
-use Rattle.std.proofs.Common.{◌≡◌, ℕ, zero, suc, ◌<◌, Bool, true, false, List, length, Ok, Err, refl, sym, ◌∙◌, inl, inr, arith}
+use Rattle.std.proofs.Common.{◌≡◌, ℕ, zero, suc, ◌<◌, Bool, true, false, List}
+use Rattle.std.proofs.Common.{length, Ok, Err, refl, sym, ◌∙◌, inl, inr, arith}
 use Rattle.std.proofs.lemmas.Bool.{cases_Bool}
-use Rattle.token_grammar.specs.declared.fault.Fault.{Fault}
+use Rattle.token_grammar.specs.declared.fault.TokenFault.{TokenFault}
 use Rattle.token_grammar.specs.Token.{Lexeme}
 use Rattle.token_grammar.specs.Grammar.{Grammar, heads, many, many_from}
 use Rattle.token_grammar.proofs.Good.{Set, Good, took, bind_ok, bind_err}
@@ -10,7 +11,7 @@ use Rattle.token_grammar.proofs.State.{from_one, from_none, from_takes, from_beg
 use Rattle.token_grammar.proofs.Many.{many_alike, sample_many}
 use Rattle.token_grammar.proofs.Lifted.{Lifted, GoesPast, Eased, still_reads, past_by, past_behind, lifted_alike}
 
-module _ {S X : Type 0} {lifts : Fault → Bool} {g g' : S → Grammar X} {f f' : S → Set} {m m' : Set} (set : S → Set)
+module _ {S X : Type 0} {lifts : TokenFault → Bool} {g g' : S → Grammar X} {f f' : S → Set} {m m' : Set} (set : S → Set)
     (next : S → X → S)
     (good : (z : S) → Good (g z) (f z) false m) (good' : (z : S) → Good (g' z) (f' z) false m')
     (a : (z : S) → Lifted lifts (g z) (g' z)) where
@@ -31,7 +32,7 @@ module _ {S X : Type 0} {lifts : Fault → Bool} {g g' : S → Grammar X} {f f' 
       ]
 
   -- where the left side stops by a fault that isn't lifted, the right side stops
-  stays_too : (n : ℕ) (s : S) (t r : List Lexeme) (d : Fault) → length t < n
+  stays_too : (n : ℕ) (s : S) (t r : List Lexeme) (d : TokenFault) → length t < n
       → (many_from set g next s).reads t ≡ Err (d, r) → lifts d ≡ false
       → (many_from set g' next s).reads t ≡ Err (d, r)
   stays_too zero s t r d lt e kept = absurd (omega arith)
@@ -53,7 +54,7 @@ module _ {S X : Type 0} {lifts : Fault → Bool} {g g' : S → Grammar X} {f f' 
       ]
 
   -- where it stops by one that is, the right side goes on
-  passes_too : (n : ℕ) (s : S) (t r : List Lexeme) (d : Fault) → length t < n
+  passes_too : (n : ℕ) (s : S) (t r : List Lexeme) (d : TokenFault) → length t < n
       → (many_from set g next s).reads t ≡ Err (d, r) → lifts d ≡ true
       → GoesPast (many_from set g' next s) t r
   passes_too zero s t r d lt e lift = absurd (omega arith)
@@ -90,7 +91,7 @@ module _ {S X : Type 0} {lifts : Fault → Bool} {g g' : S → Grammar X} {f f' 
   }
 
 -- any number of the same
-pub eased_many : {X : Type 0} {lifts : Fault → Bool} {g g' : Grammar X} {f f' m m' : Set} (set : Set)
+pub eased_many : {X : Type 0} {lifts : TokenFault → Bool} {g g' : Grammar X} {f f' m m' : Set} (set : Set)
     → Good g f false m → Good g' f' false m' → Lifted lifts g g' → Eased lifts (many set g) (many set g')
 eased_many {X} {lifts} {g} {g'} set good good' a = record {
   lifted =

@@ -1,8 +1,9 @@
 -- The reading under a limit, compared: what is refused on the left may pass on the right.
-use Rattle.std.proofs.Common.{◌≡◌, Bool, true, false, cond, List, [], ◌∷◌, ◌++◌, Ok, Err, Option, Some, None, refl, sym, ap, subst, ◌∙◌, inl, inr}
+use Rattle.std.proofs.Common.{◌≡◌, Bool, true, false, cond, List, [], ◌∷◌, ◌++◌, Ok, Err}
+use Rattle.std.proofs.Common.{Option, Some, None, refl, sym, ap, subst, ◌∙◌, inl, inr}
 use Rattle.std.proofs.lemmas.Bool.{cases_Bool}
-use Rattle.token_grammar.specs.declared.fault.Fault.{Fault}
-use Rattle.token_grammar.specs.declared.fault.Fault.TheVariants as faults
+use Rattle.token_grammar.specs.declared.fault.TokenFault.{TokenFault}
+use Rattle.token_grammar.specs.declared.fault.TokenFault.TheVariants as faults
 use Rattle.token_grammar.specs.Token.{Lexeme}
 use Rattle.token_grammar.specs.Grammar.{Grammar, heads, first_refused, unless_lifted, allowed, Continues}
 use Rattle.token_grammar.proofs.Good.{Set, Takes, stopped_is}
@@ -13,11 +14,11 @@ use Rattle.token_grammar.proofs.Starts.{Starts, Expects}
 -- ---- what two tests say of the first token
 
 -- the second says what the first does, where that isn't lifted
-abbrev pub Milder : Set → (Fault → Bool) → (Lexeme → Option Fault) → (Lexeme → Option Fault) → Type 0
+abbrev pub Milder : Set → (TokenFault → Bool) → (Lexeme → Option TokenFault) → (Lexeme → Option TokenFault) → Type 0
 Milder set lifts test test' = (t : Lexeme) → set t.kind ≡ true → test' t ≡ unless_lifted lifts (test t)
 
 -- the same of the first token of a list
-milder_first : (set : Set) (lifts : Fault → Bool) (test test' : Lexeme → Option Fault) → Milder set lifts test test'
+milder_first : (set : Set) (lifts : TokenFault → Bool) (test test' : Lexeme → Option TokenFault) → Milder set lifts test test'
     → (s : List Lexeme)
     → first_refused set test' s ≡ unless_lifted lifts (first_refused set test s)
 milder_first set lifts test test' milder [] = refl
@@ -28,7 +29,7 @@ milder_first set lifts test test' milder (t ∷ s) =
     ]
 
 -- what is refused begins with a token of the set, which the test refuses
-refused_head : (set : Set) (test : Lexeme → Option Fault) (d : Fault) (s : List Lexeme)
+refused_head : (set : Set) (test : Lexeme → Option TokenFault) (d : TokenFault) (s : List Lexeme)
     → first_refused set test s ≡ Some d
     → (t : Lexeme) × (q : List Lexeme) × (s ≡ t ∷ q) × (set t.kind ≡ true) × (test t ≡ Some d)
 refused_head set test d [] full = absurd cc
@@ -46,7 +47,7 @@ past_at_hand s t q e c = record { used = []; parts = refl; first = t; others = q
 -- ---- allowed
 
 -- what continues after a first token that passes continues under the limit
-allowed_on : {X : Type 0} {g : Grammar X} (set : Set) (test : Lexeme → Option Fault) (used : List Lexeme) (t : Lexeme)
+allowed_on : {X : Type 0} {g : Grammar X} (set : Set) (test : Lexeme → Option TokenFault) (used : List Lexeme) (t : Lexeme)
     (q : List Lexeme)
     → first_refused set test (used ++ t ∷ q) ≡ None → Continues g (used ++ t ∷ [])
     → Continues (allowed set test g) (used ++ t ∷ [])
@@ -54,7 +55,7 @@ allowed_on set test [] t q passes c = allowed_begun set test t [] passes c
 allowed_on set test (x ∷ used) t q passes c = allowed_begun set test x (used ++ t ∷ []) passes c
 
 -- what goes past a fault goes past it under the limit
-past_allowed : {X : Type 0} {g : Grammar X} (set : Set) (test : Lexeme → Option Fault) (s r : List Lexeme)
+past_allowed : {X : Type 0} {g : Grammar X} (set : Set) (test : Lexeme → Option TokenFault) (s r : List Lexeme)
     → first_refused set test s ≡ None
     → GoesPast g s r → GoesPast (allowed set test g) s r
 past_allowed {X} {g} set test s r passes p =
@@ -69,19 +70,19 @@ past_allowed {X} {g} set test s r passes p =
           allowed_on set test p.used p.first p.others (ap (first_refused set test) (sym whole) ∙ passes) p.continues;
     }
 
-module _ {X : Type 0} {lifts : Fault → Bool} {g g' : Grammar X} (set : Set) (test test' : Lexeme → Option Fault)
+module _ {X : Type 0} {lifts : TokenFault → Bool} {g g' : Grammar X} (set : Set) (test test' : Lexeme → Option TokenFault)
     (a : Lifted lifts g g') (milder : Milder set lifts test test') where
   -- what passes on the left passes on the right
   passes_too : (s : List Lexeme) → first_refused set test s ≡ None → first_refused set test' s ≡ None
   passes_too s passes = milder_first set lifts test test' milder s ∙ ap (unless_lifted lifts) passes
 
   -- what is refused on the left, and the fault isn't lifted
-  kept_too : (s : List Lexeme) (d : Fault) → first_refused set test s ≡ Some d → lifts d ≡ false
+  kept_too : (s : List Lexeme) (d : TokenFault) → first_refused set test s ≡ Some d → lifts d ≡ false
       → first_refused set test' s ≡ Some d
   kept_too s d full kept = milder_first set lifts test test' milder s ∙ ap (unless_lifted lifts) full ∙ rw kept refl
 
   -- and the fault is lifted
-  lifted_too : (s : List Lexeme) (d : Fault) → first_refused set test s ≡ Some d → lifts d ≡ true
+  lifted_too : (s : List Lexeme) (d : TokenFault) → first_refused set test s ≡ Some d → lifts d ≡ true
       → first_refused set test' s ≡ None
   lifted_too s d full lift = milder_first set lifts test test' milder s ∙ ap (unless_lifted lifts) full ∙ rw lift refl
 
@@ -95,7 +96,7 @@ module _ {X : Type 0} {lifts : Fault → Bool} {g g' : Grammar X} (set : Set) (t
       ]
 
   -- a fault that isn't lifted stays
-  stays_too : (s r : List Lexeme) (f : Fault) → (allowed set test g).reads s ≡ Err (f, r) → lifts f ≡ false
+  stays_too : (s r : List Lexeme) (f : TokenFault) → (allowed set test g).reads s ≡ Err (f, r) → lifts f ≡ false
       → (allowed set test' g').reads s ≡ Err (f, r)
   stays_too s r f e kept =
       elim (said_cases (first_refused set test s)) [
@@ -107,7 +108,7 @@ module _ {X : Type 0} {lifts : Fault → Bool} {g g' : Grammar X} (set : Set) (t
 
   -- what is refused on the left by a lifted fault begins a spelling on the right
   pub lifted_allowed_where :
-      ((t : Lexeme) (d : Fault) → set t.kind ≡ true → test t ≡ Some d → lifts d ≡ true → Continues g' (t ∷ []))
+      ((t : Lexeme) (d : TokenFault) → set t.kind ≡ true → test t ≡ Some d → lifts d ≡ true → Continues g' (t ∷ []))
       → Lifted lifts (allowed set test g) (allowed set test' g')
   lifted_allowed_where begun = record {
     takes = takes_too;
@@ -129,7 +130,7 @@ module _ {X : Type 0} {lifts : Fault → Bool} {g g' : Grammar X} (set : Set) (t
   lifted_allowed starts = lifted_allowed_where (λ t d there full lift. starts.each t there)
 
   -- no fault of the test is lifted
-  pub lifted_allowed_kept : ((t : Lexeme) (d : Fault) → test t ≡ Some d → lifts d ≡ false)
+  pub lifted_allowed_kept : ((t : Lexeme) (d : TokenFault) → test t ≡ Some d → lifts d ≡ false)
       → Lifted lifts (allowed set test g) (allowed set test' g')
   lifted_allowed_kept kept =
       lifted_allowed_where (λ t d there full lift. let bad = sym (kept t d full) ∙ lift in absurd cc)
@@ -137,8 +138,8 @@ module _ {X : Type 0} {lifts : Fault → Bool} {g g' : Grammar X} (set : Set) (t
 -- ---- forbidden
 
 -- what is forbidden on the left by a lifted fault is there on the right
-pub lifted_forbidden : {X : Type 0} {lifts : Fault → Bool} {g' : Grammar X} → lifts faults.Expected ≡ false
-    → (set : Set) (fault : Fault) → lifts fault ≡ true
+pub lifted_forbidden : {X : Type 0} {lifts : TokenFault → Bool} {g' : Grammar X} → lifts faults.Expected ≡ false
+    → (set : Set) (fault : TokenFault) → lifts fault ≡ true
     → Starts set g' → Expects set g' → Lifted lifts (forbidden set fault) g'
 unfolding forbidden
 lifted_forbidden {X} {lifts} {g'} expected set fault lift starts expects = record {

@@ -1,7 +1,7 @@
 -- The reading of what is refused at its first token, compared with what isn't.
 use Rattle.std.proofs.Common.{◌≡◌, Bool, List, Some, refl, sym, ◌∙◌, inl, inr}
 use Rattle.std.proofs.lemmas.Bool.{cases_Bool}
-use Rattle.token_grammar.specs.declared.fault.Fault.{Fault}
+use Rattle.token_grammar.specs.declared.fault.TokenFault.{TokenFault}
 use Rattle.token_grammar.specs.Token.{Lexeme}
 use Rattle.token_grammar.specs.Grammar.{Grammar, heads, ◌>>=◌, allowed}
 use Rattle.token_grammar.proofs.Good.{Set}
@@ -10,7 +10,7 @@ use Rattle.token_grammar.proofs.Lifted.{Lifted}
 use Rattle.token_grammar.proofs.Starts.{Expects}
 
 -- of the left side only the reading matters
-pub lifted_read : {X : Type 0} {lifts : Fault → Bool} {g h g' : Grammar X}
+pub lifted_read : {X : Type 0} {lifts : TokenFault → Bool} {g h g' : Grammar X}
     → ((s : List Lexeme) → g.reads s ≡ h.reads s) → Lifted lifts h g'
     → Lifted lifts g g'
 lifted_read same a = record {
@@ -20,7 +20,7 @@ lifted_read same a = record {
 }
 
 -- where each token of the set is refused, reading is that of what is forbidden
-pub refused_read : {X : Type 0} {g : Grammar X} (set : Set) (fault : Fault) → Expects set g → (s : List Lexeme)
+pub refused_read : {X : Type 0} {g : Grammar X} (set : Set) (fault : TokenFault) → Expects set g → (s : List Lexeme)
     → (allowed set (λ t. Some fault) g).reads s ≡ (forbidden {X = X} set fault).reads s
 unfolding forbidden
 refused_read set fault a s =
@@ -30,7 +30,7 @@ refused_read set fault a s =
     ]
 
 -- and whatever would stand after it
-pub refused_read_then : {X Y : Type 0} {g : Grammar X} (set : Set) (fault : Fault) (h : X → Grammar Y) → Expects set g
+pub refused_read_then : {X Y : Type 0} {g : Grammar X} (set : Set) (fault : TokenFault) (h : X → Grammar Y) → Expects set g
     → (s : List Lexeme)
     → (allowed set (λ t. Some fault) g >>= h).reads s ≡ (forbidden {X = Y} set fault).reads s
 unfolding forbidden

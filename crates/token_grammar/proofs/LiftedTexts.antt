@@ -1,8 +1,8 @@
 -- The reading of a whole text under limits, and with some of them lifted.
 use Rattle.std.proofs.Common.{◌≡◌, Bool, true, false, List, [], ◌∷◌, ◌++◌, Err, refl, sym, ap, subst, ◌∙◌, inl, inr}
 use Rattle.std.proofs.lemmas.List.{append_cancel_right}
-use Rattle.token_grammar.specs.declared.fault.Fault.{Fault}
-use Rattle.token_grammar.specs.declared.fault.Fault.TheVariants as faults
+use Rattle.token_grammar.specs.declared.fault.TokenFault.{TokenFault}
+use Rattle.token_grammar.specs.declared.fault.TokenFault.TheVariants as faults
 use Rattle.token_grammar.specs.Token.{Lexeme}
 use Rattle.token_grammar.specs.Grammar.{Grammar, Continues, FirstFault, ended, whole_reads}
 use Rattle.token_grammar.proofs.Good.{Set, bind_err, stopped_is}
@@ -11,9 +11,9 @@ use Rattle.token_grammar.proofs.Faults.{whole_fault}
 use Rattle.token_grammar.proofs.Lifted.{Lifted, GoesPast, still_reads}
 
 -- by a fault that is lifted, the text stops at a token that goes on
-pub whole_past : {X : Type 0} {lifts : Fault → Bool} {g g' : Grammar X} → Lifted lifts g g'
+pub whole_past : {X : Type 0} {lifts : TokenFault → Bool} {g g' : Grammar X} → Lifted lifts g g'
     → lifts faults.Expected ≡ false
-    → (s r : List Lexeme) (d : Fault) → whole_reads g s ≡ Err (d, r) → lifts d ≡ true → GoesPast g' s r
+    → (s r : List Lexeme) (d : TokenFault) → whole_reads g s ≡ Err (d, r) → lifts d ≡ true → GoesPast g' s r
 whole_past {X} {lifts} {g} a expected s r d e lift =
     elim (bind_err (g.reads s) ended (d, r) e) [
       | inl stop ↦ a.passes s r d stop lift
@@ -40,23 +40,23 @@ past_at {X} {g} s before t q parts p =
     head_is a b q q' h = cc
 
 -- a text that a lifted fault stops continues with the token at which it stops
-pub whole_lifted : {X : Type 0} {lifts : Fault → Bool} {g g' : Grammar X} → Lifted lifts g g'
+pub whole_lifted : {X : Type 0} {lifts : TokenFault → Bool} {g g' : Grammar X} → Lifted lifts g g'
     → lifts faults.Expected ≡ false
-    → (s before : List Lexeme) (t : Lexeme) (q : List Lexeme) (d : Fault) → s ≡ before ++ t ∷ q
+    → (s before : List Lexeme) (t : Lexeme) (q : List Lexeme) (d : TokenFault) → s ≡ before ++ t ∷ q
     → whole_reads g s ≡ Err (d, t ∷ q) → lifts d ≡ true
     → Continues g' (before ++ t ∷ [])
 whole_lifted a expected s before t q d parts e lift =
     past_at s before t q parts (whole_past a expected s (t ∷ q) d e lift)
 
 -- a text that ends too early isn't stopped by a fault that is lifted
-pub whole_ends : {X : Type 0} {lifts : Fault → Bool} {g g' : Grammar X} → Lifted lifts g g'
+pub whole_ends : {X : Type 0} {lifts : TokenFault → Bool} {g g' : Grammar X} → Lifted lifts g g'
     → lifts faults.Expected ≡ false
-    → (s : List Lexeme) (d : Fault) → whole_reads g s ≡ Err (d, []) → lifts d ≡ true → ⊥
+    → (s : List Lexeme) (d : TokenFault) → whole_reads g s ≡ Err (d, []) → lifts d ≡ true → ⊥
 whole_ends a expected s d e lift = let p = whole_past a expected s [] d e lift in let bad = p.at in cc
 
 -- by another fault, it stops there without the limits too
-pub whole_stays : {X : Type 0} {lifts : Fault → Bool} {g g' : Grammar X} → Lifted lifts g g'
-    → (s r : List Lexeme) (d : Fault) → whole_reads g s ≡ Err (d, r) → lifts d ≡ false → whole_reads g' s ≡ Err (d, r)
+pub whole_stays : {X : Type 0} {lifts : TokenFault → Bool} {g g' : Grammar X} → Lifted lifts g g'
+    → (s r : List Lexeme) (d : TokenFault) → whole_reads g s ≡ Err (d, r) → lifts d ≡ false → whole_reads g' s ≡ Err (d, r)
 whole_stays {X} {lifts} {g} a s r d e kept =
     elim (bind_err (g.reads s) ended (d, r) e) [
       | inl stop ↦ rw (a.stays s r d stop kept) refl
@@ -64,7 +64,7 @@ whole_stays {X} {lifts} {g} a s r d e kept =
     ]
 
 -- and there the token is the first that doesn't continue
-pub whole_kept : {X : Type 0} {lifts : Fault → Bool} {g g' : Grammar X} {f m : Set} {n : Bool} → Lifted lifts g g'
+pub whole_kept : {X : Type 0} {lifts : TokenFault → Bool} {g g' : Grammar X} {f m : Set} {n : Bool} → Lifted lifts g g'
     → Fine g' f n m
-    → (s r : List Lexeme) (d : Fault) → whole_reads g s ≡ Err (d, r) → lifts d ≡ false → FirstFault g' s r
+    → (s r : List Lexeme) (d : TokenFault) → whole_reads g s ≡ Err (d, r) → lifts d ≡ false → FirstFault g' s r
 whole_kept a fine s r d e kept = whole_fault fine s r d (whole_stays a s r d e kept)

@@ -1,7 +1,8 @@
 -- The reading of any number of items, as a loop does: what a turn of it leaves to be read.
-use Rattle.std.proofs.Common.{◌≡◌, true, false, List, [], ◌∷◌, ◌++◌, length, Ok, Err, refl, sym, ap, ◌∙◌, append_assoc, ◌<◌}
+use Rattle.std.proofs.Common.{◌≡◌, true, false, List, [], ◌∷◌, ◌++◌, length}
+use Rattle.std.proofs.Common.{Ok, Err, refl, sym, ap, ◌∙◌, append_assoc, ◌<◌}
 use Rattle.std.proofs.lemmas.List.{append-nil, length-map}
-use Rattle.token_grammar.specs.declared.fault.Fault.{Fault}
+use Rattle.token_grammar.specs.declared.fault.TokenFault.{TokenFault}
 use Rattle.token_grammar.specs.declared.fault.ReadError.{ReadError}
 use Rattle.token_grammar.specs.declared.fault.ReadError.TheVariants as errors
 use Rattle.token_grammar.specs.declared.token.Token.{Token}
@@ -33,7 +34,7 @@ finished front s read total e so_far =
     sym so_far ∙ ap (after front) e ∙ ap (λ (ys : List _). Ok (ys, s)) (append-nil front)
 
 -- reading failed
-failed : {X : Type 0} (front : List X) (d : Fault) (r : List Lexeme) (read total : Outcome (List X))
+failed : {X : Type 0} (front : List X) (d : TokenFault) (r : List Lexeme) (read total : Outcome (List X))
     → read ≡ Err (d, r) → after front read ≡ total
     → total ≡ Err (d, r)
 failed front d r read total e so_far = sym so_far ∙ ap (after front) e

@@ -1,7 +1,8 @@
 -- Any number of the same: FIRST and the reading, from many_from with a state that tells nothing.
 use Rattle.std.proofs.Common.{◌≡◌, ℕ, zero, suc, true, false, cond, List, [], ◌∷◌, length, Ok, Err, refl, ap}
 use Rattle.token_grammar.specs.Token.{Lexeme, Outcome}
-use Rattle.token_grammar.specs.Grammar.{Grammar, and_then, heads, many, many_spells, many_reads, many_from, many_from_spells, many_from_reads}
+use Rattle.token_grammar.specs.Grammar.{Grammar, and_then, heads, many, many_spells, many_reads}
+use Rattle.token_grammar.specs.Grammar.{many_from, many_from_spells, many_from_reads}
 use Rattle.token_grammar.proofs.Good.{Set, Good, Sample, Within, Apart, also}
 use Rattle.token_grammar.proofs.Alike.{Alike, good_alike}
 use Rattle.token_grammar.proofs.State.{consed, from_good}

@@ -2,10 +2,11 @@
 use Rattle.std.proofs.Common.{◌≡◌, Bool, true, false, List, [], ◌∷◌, Err, Option, Some, None, refl, inl, inr, ◌||◌}
 use Rattle.std.proofs.lemmas.Bool.{cases_Bool}
 use Rattle.token_grammar.specs.declared.token.Kind.{Kind}
-use Rattle.token_grammar.specs.declared.fault.Fault.{Fault}
-use Rattle.token_grammar.specs.declared.fault.Fault.TheVariants as faults
+use Rattle.token_grammar.specs.declared.fault.TokenFault.{TokenFault}
+use Rattle.token_grammar.specs.declared.fault.TokenFault.TheVariants as faults
 use Rattle.token_grammar.specs.Token.{Lexeme}
-use Rattle.token_grammar.specs.Grammar.{Grammar, heads, is, token, one_of, ◌>>=◌, either, optional, first_refused, allowed, Continues}
+use Rattle.token_grammar.specs.Grammar.{Grammar, heads, is, token, one_of, ◌>>=◌, either}
+use Rattle.token_grammar.specs.Grammar.{optional, first_refused, allowed, Continues}
 use Rattle.token_grammar.proofs.Good.{Set, Sample, also, clear_left, clear_right}
 use Rattle.token_grammar.proofs.Leaves.{sample_give}
 use Rattle.token_grammar.proofs.Join.{then_begun, then_behind, either_left, either_right}
@@ -69,7 +70,7 @@ starts_either {X} {f1} {f2} set a b = record {
 }
 
 -- where the test refuses no token of the set
-pub starts_allowed : {X : Type 0} {g : Grammar X} (set : Set) (test : Lexeme → Option Fault) → Starts set g
+pub starts_allowed : {X : Type 0} {g : Grammar X} (set : Set) (test : Lexeme → Option TokenFault) → Starts set g
     → ((t : Lexeme) → set t.kind ≡ true → test t ≡ None) → Starts set (allowed set test g)
 starts_allowed set test a passes = record {
   each = λ t there. allowed_begun set test t [] (rw there (passes t there)) (a.each t there);
@@ -112,12 +113,12 @@ expects_either {X} {f1} {f2} set a b = record {
 }
 
 -- no token outside of the set is refused
-pub not_refused : (set : Set) (test : Lexeme → Option Fault) (s : List Lexeme) → heads set s ≡ false
+pub not_refused : (set : Set) (test : Lexeme → Option TokenFault) (s : List Lexeme) → heads set s ≡ false
     → first_refused set test s ≡ None
 not_refused set test [] away = refl
 not_refused set test (t ∷ s) away = rw away refl
 
 -- under a limit the same is expected
-pub expects_allowed : {X : Type 0} {g : Grammar X} (set : Set) (test : Lexeme → Option Fault) → Expects set g
+pub expects_allowed : {X : Type 0} {g : Grammar X} (set : Set) (test : Lexeme → Option TokenFault) → Expects set g
     → Expects set (allowed set test g)
 expects_allowed set test a = record { other = λ s away. rw (not_refused set test s away) (a.other s away) }

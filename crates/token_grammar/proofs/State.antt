@@ -1,11 +1,15 @@
 -- Any number of items, where what may come next depends on what came: FIRST, FOLLOW and the reading.
-use Rattle.std.proofs.Common.{◌≡◌, ℕ, zero, suc, ◌≤◌, ◌<◌, true, false, cond, List, [], ◌∷◌, ◌++◌, length, Ok, Err, refl, sym, ap, subst, ◌∙◌, append_assoc, inl, inr, arith}
+use Rattle.std.proofs.Common.{◌≡◌, ℕ, zero, suc, ◌≤◌, ◌<◌, true, false, cond, List, [], ◌∷◌, ◌++◌}
+use Rattle.std.proofs.Common.{length, Ok, Err, refl, sym, ap, subst, ◌∙◌, append_assoc, inl, inr, arith}
 use Rattle.std.proofs.lemmas.List.{append-nil}
 use Rattle.std.proofs.lemmas.Bool.{cases_Bool}
-use Rattle.token_grammar.specs.declared.fault.Fault.{Fault}
+use Rattle.token_grammar.specs.declared.fault.TokenFault.{TokenFault}
 use Rattle.token_grammar.specs.Token.{Lexeme, Outcome}
-use Rattle.token_grammar.specs.Grammar.{Grammar, and_then, heads, many_from, many_from_spells, many_from_reads, Continues}
-use Rattle.token_grammar.proofs.Good.{Set, Good, Sample, Takes, Stops, Begins, Clear, Within, Apart, also, joined, carried, heads_carried, heads-same, bind_ok, bind_err, done_is, took, surely, begins_clear, begins_heads, begins_wider, clear_within, clear_left, clear_right}
+use Rattle.token_grammar.specs.Grammar.{Grammar, and_then, heads, many_from}
+use Rattle.token_grammar.specs.Grammar.{many_from_spells, many_from_reads, Continues}
+use Rattle.token_grammar.proofs.Good.{Set, Good, Sample, Takes, Stops, Begins, Clear, Within, Apart, also, joined}
+use Rattle.token_grammar.proofs.Good.{carried, heads_carried, heads-same, bind_ok, bind_err, done_is, took, surely}
+use Rattle.token_grammar.proofs.Good.{begins_clear, begins_heads, begins_wider, clear_within, clear_left, clear_right}
 
 -- an item, and then what is still read
 abbrev pub consed : {X : Type 0} → X → Outcome (List X) → Outcome (List X)
@@ -145,7 +149,7 @@ module _ {S X : Type 0} (set : S → Set) (g : S → Grammar X) (next : S → X 
       ]
 
   -- where the item stops, the whole stops
-  stops_here : (s : S) (d : Fault) (t r : List Lexeme) → heads (set s) t ≡ true → Stops (g s) d t r
+  stops_here : (s : S) (d : TokenFault) (t r : List Lexeme) → heads (set s) t ≡ true → Stops (g s) d t r
       → Stops (many_from set g next s) d t r
   stops_here s d t r here st = record {
     used = st.used;
@@ -157,7 +161,7 @@ module _ {S X : Type 0} (set : S → Set) (g : S → Grammar X) (next : S → X 
   }
 
   -- or where the others stop
-  stops_later : (s : S) (d : Fault) (t : List Lexeme) (x : X) (q r : List Lexeme) → heads (set s) t ≡ true
+  stops_later : (s : S) (d : TokenFault) (t : List Lexeme) (x : X) (q r : List Lexeme) → heads (set s) t ≡ true
       → Takes (g s) t x q → Stops (many_from set g next (next s x)) d q r → Stops (many_from set g next s) d t r
   stops_later s d t x q r here t1 t2 =
       let used = t1.used ++ t2.used in
@@ -175,7 +179,7 @@ module _ {S X : Type 0} (set : S → Set) (g : S → Grammar X) (next : S → X 
       }
 
   -- what stands before a fault continues
-  from_stops : (n : ℕ) (s : S) (t r : List Lexeme) (d : Fault) → length t < n
+  from_stops : (n : ℕ) (s : S) (t r : List Lexeme) (d : TokenFault) → length t < n
       → (many_from set g next s).reads t ≡ Err (d, r)
       → Stops (many_from set g next s) d t r
   from_stops zero s t r d lt e = absurd (omega arith)

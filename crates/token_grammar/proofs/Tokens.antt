@@ -1,11 +1,12 @@
 -- The reading of one token, by the first of the tokens that are left.
-use Rattle.std.proofs.Common.{◌≡◌, suc, ◌-◌, ◌≤◌, Bool, true, false, List, [], ◌∷◌, length, get_or, take, drop, Ok, Err, refl, sym, subst, ◌∙◌, Some, inl, inr, ap, arith}
+use Rattle.std.proofs.Common.{◌≡◌, suc, ◌-◌, ◌≤◌, Bool, true, false, List, [], ◌∷◌, length, get_or}
+use Rattle.std.proofs.Common.{take, drop, Ok, Err, refl, sym, subst, ◌∙◌, Some, inl, inr, ap, arith}
 use Rattle.std.proofs.Math.Seq.{take-length}
 use Rattle.std.proofs.lemmas.Bool.{cases_Bool, eqb-true}
 use Rattle.token_grammar.proofs.Sets.{all_kinds, at, found}
 use Rattle.token_grammar.specs.declared.token.Kind.{Kind}
 use Rattle.token_grammar.specs.declared.token.Token.{Token}
-use Rattle.token_grammar.specs.declared.fault.Fault.TheVariants as faults
+use Rattle.token_grammar.specs.declared.fault.TokenFault.TheVariants as faults
 use Rattle.token_grammar.specs.Token.{lexeme, lexemes, kind_eq}
 use Rattle.token_grammar.specs.Grammar.{token, heads}
 use Rattle.token_grammar.specs.Grammar.{is}

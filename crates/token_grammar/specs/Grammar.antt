@@ -7,11 +7,12 @@
 -- that of `many` by one more item, reading extends it if the token at hand is in the set that extends it (the
 -- followlast set), so FOLLOW must be disjoint from that set. `Good` in proofs/Good.antt states this and what it implies
 -- for reading, and proofs/Fine.antt proves it of each word below from its parts.
-use Rattle.std.specs.Prelude.{◌≡◌, ℕ, zero, suc, Bool, true, false, List, [], ◌∷◌, ◌++◌, length, Ok, Err, Option, Some, None, if◌then◌else◌, ◌⊎◌}
+use Rattle.std.specs.Prelude.{◌≡◌, ℕ, zero, suc, Bool, true, false, List, [], ◌∷◌, ◌++◌}
+use Rattle.std.specs.Prelude.{length, Ok, Err, Option, Some, None, if◌then◌else◌, ◌⊎◌}
 use Rattle.token_grammar.specs.declared.token.Kind.{Kind}
 use Rattle.token_grammar.specs.declared.token.Span.{Span}
-use Rattle.token_grammar.specs.declared.fault.Fault.{Fault}
-use Rattle.token_grammar.specs.declared.fault.Fault.TheVariants as faults
+use Rattle.token_grammar.specs.declared.fault.TokenFault.{TokenFault}
+use Rattle.token_grammar.specs.declared.fault.TokenFault.TheVariants as faults
 use Rattle.token_grammar.specs.Token.{Lexeme, kind_eq, Outcome}
 
 -- a grammar: a relation, which says what the tokens spell, and the reading that belongs to it
@@ -102,23 +103,23 @@ optional set g = either set (g >>= λ x. give (Some x)) (give None)
 -- ---- limits: what is one too many isn't spelled
 
 -- the fault that a test gives the first token, where that token is in the set
-abbrev pub first_refused : (Kind → Bool) → (Lexeme → Option Fault) → List Lexeme → Option Fault
+abbrev pub first_refused : (Kind → Bool) → (Lexeme → Option TokenFault) → List Lexeme → Option TokenFault
 first_refused set test [] = None
 first_refused set test (t ∷ s) = if set t.kind then test t else None
 
 -- the reading, unless its first token is refused
-abbrev pub unless_refused : {X : Type 0} → Option Fault → List Lexeme → Outcome X → Outcome X
+abbrev pub unless_refused : {X : Type 0} → Option TokenFault → List Lexeme → Outcome X → Outcome X
 unless_refused None s read = read
 unless_refused (Some f) s read = Err (f, s)
 
 -- the fault that a test gives, unless it is lifted
-abbrev pub unless_lifted : (Fault → Bool) → Option Fault → Option Fault
+abbrev pub unless_lifted : (TokenFault → Bool) → Option TokenFault → Option TokenFault
 unless_lifted lifts None = None
 unless_lifted lifts (Some f) = if lifts f then None else Some f
 
 -- g, unless its first token is in the set and the test gives that token a fault: then nothing is spelled, and reading
 -- is refused with that fault
-abbrev pub allowed : {X : Type 0} → (Kind → Bool) → (Lexeme → Option Fault) → Grammar X → Grammar X
+abbrev pub allowed : {X : Type 0} → (Kind → Bool) → (Lexeme → Option TokenFault) → Grammar X → Grammar X
 allowed set test g = record {
   spells = λ u x. (first_refused set test u ≡ None) × g.spells u x;
   reads = λ s. unless_refused (first_refused set test s) s (g.reads s);

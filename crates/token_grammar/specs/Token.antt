@@ -4,7 +4,7 @@ use Rattle.token_grammar.specs.declared.token.Kind.{Kind}
 use Rattle.token_grammar.specs.declared.token.Kind.TheVariants as kinds
 use Rattle.token_grammar.specs.declared.token.Span.{Span}
 use Rattle.token_grammar.specs.declared.token.Token.{Token}
-use Rattle.token_grammar.specs.declared.fault.Fault.{Fault}
+use Rattle.token_grammar.specs.declared.fault.TokenFault.{TokenFault}
 use Rattle.token_grammar.specs.declared.fault.ReadError.{ReadError}
 use Rattle.token_grammar.specs.declared.fault.ReadError.TheVariants as errors
 
@@ -85,7 +85,7 @@ lexemes ts = map lexeme ts
 
 -- the value and the tokens after it, or the fault and the tokens from the one at fault on
 abbrev pub Outcome : Type 0 → Type 0
-Outcome X = Result (X × List Lexeme) (Fault × List Lexeme)
+Outcome X = Result (X × List Lexeme) (TokenFault × List Lexeme)
 
 -- A reader that failed: its fault and the tokens that are left are what reading gives; at Memory
 -- nothing is said.

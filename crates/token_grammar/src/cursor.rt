@@ -3,7 +3,7 @@ ghost use Rattle.std.specs.Prelude.{◌≡◌};
 ghost use Rattle.token_grammar.specs.Token.{lexeme, lexemes, Gives};
 ghost use Rattle.token_grammar.specs.Grammar.{is, token, heads};
 
-use crate::fault::{Fault, ReadError};
+use crate::fault::{ReadError, TokenFault};
 use crate::token::{Kind, Token};
 use std::alloc::Global;
 
@@ -38,7 +38,7 @@ impl<'t, 'a> Cursor<'t, 'a> {
             self.rest = &self.rest[1..];
             Ok(token)
         } else {
-            Err(ReadError::Fault(Fault::Expected))
+            Err(ReadError::Fault(TokenFault::Expected))
         }
     }
 }

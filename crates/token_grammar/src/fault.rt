@@ -29,7 +29,7 @@ pub enum Thing {
 
 /// What is wrong with the token at hand.
 #[derive(Clone, Copy, Debug, PartialEq, Eq, Error)]
-pub enum Fault {
+pub enum TokenFault {
     /// It doesn't continue the text before it.
     #[error("unexpected token or end of the text")]
     Expected,
@@ -55,7 +55,7 @@ pub enum ReadError {
     Memory,
     /// The token at hand, or the end, is at fault.
     #[error("{0}")]
-    Fault(Fault),
+    Fault(TokenFault),
 }
 
 impl From<AllocError> for ReadError {

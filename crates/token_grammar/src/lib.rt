@@ -13,5 +13,5 @@ mod fault;
 mod token;
 
 pub use cursor::Cursor;
-pub use fault::{Fault, ReadError, Thing};
+pub use fault::{ReadError, Thing, TokenFault};
 pub use token::{Kind, Span, Token};

@@ -1,11 +1,14 @@
 -- The path of a state, name by name from the root down.
-use Rattle.std.proofs.Common.{◌≡◌, ◌≢◌, ℕ, zero, suc, ◌+◌, ◌-◌, ◌≤◌, ◌<◌, Bool, true, false, nat_eq, List, [], ◌∷◌, ◌++◌, length, map, drop, reverse, Some, None, refl, sym, ap, ◌∙◌, arith}
+use Rattle.std.proofs.Common.{◌≡◌, ◌≢◌, ℕ, zero, suc, ◌+◌, ◌-◌, ◌≤◌, ◌<◌, Bool, true, false, nat_eq, List, []}
+use Rattle.std.proofs.Common.{◌∷◌, ◌++◌, length, map, drop, reverse, Some, None, refl, sym, ap, ◌∙◌, arith}
 use Rattle.std.specs.List.{join_with_byte}
 use Rattle.std.proofs.lemmas.Bool.Decides.{nat_tests}
 use Rattle.std.proofs.lemmas.List.{map-append, length-map, reverse-append, length-reverse}
 use Rattle.active_config.specs.Tree.{Tree, IsTree, state_count, parent_of, ancestors, is_below, is_at_or_below}
 use Rattle.active_config.proofs.ParentLemmas.{child_within}
-use Rattle.active_config.proofs.PathLemmas.{Path, Here, Up, path_of, path_joins, of_path, parent_before, parent_lt, is_at_or_below-other, is_below-step, is_below-root, ancestors-root, ancestors-step}
+use Rattle.active_config.proofs.PathLemmas.{Path, Here, Up, path_of, path_joins, of_path, parent_before}
+use Rattle.active_config.proofs.PathLemmas.{parent_lt, is_at_or_below-other, is_below-step}
+use Rattle.active_config.proofs.PathLemmas.{is_below-root, ancestors-root, ancestors-step}
 use Rattle.actions.specs.Names.{Names}
 use Rattle.trace_text.specs.Trace as spec
 use Rattle.trace_text.specs.Trace.{state_name}

@@ -76,7 +76,7 @@ result_word n (Some run_faults.Steps) = codes "steps"
 result_word n (Some (run_faults.Overflow v)) = codes "overflow " ++ datum_name n v
 result_word n (Some run_faults.Zero) = codes "zero"
 
--- the result where what an event put out found the route of that number full
+-- the result where what an event emitted found the route of that number full
 abbrev pub full_word : ℕ → List ℕ
 full_word route = codes "full " ++ decimal route
 

@@ -68,7 +68,7 @@ pub fn write_full<O: Sink>(
 }
 
 /// Puts the line of a trace for the start or an event: its index, its word, the active states, the
-/// values, what was put out, and how it ended.
+/// values, what was emitted, and how it ended.
 ///
 /// What there is no room for goes to the sink at once. After a failed write nothing more is put.
 /// It takes no memory.

@@ -170,7 +170,7 @@ fn put_wide<O: Sink>(number: i128, pieces: &mut Pieces, out: &mut O)
     pieces.put(digits.format(number).as_bytes(), out);
 }
 
-/// Puts the names of the events that were put out.
+/// Puts the names of the events that were emitted.
 pub(crate) fn put_outputs<O: Sink>(names: &Names, outputs: &[u32], pieces: &mut Pieces, out: &mut O)
     requires { AllByRecursion (λ e. e < length (names_of names.now).events) outputs.now }
     ensures { Puts (O.wrote out.old) (O.wrote out.new) (O.faults out.old) (O.faults out.new)
@@ -191,7 +191,7 @@ pub(crate) fn put_outputs<O: Sink>(names: &Names, outputs: &[u32], pieces: &mut 
 pub(crate) enum LineEnd {
     /// With the fault of the start or of the event, or with none.
     Ran(Option<Fault>),
-    /// With the route of that number, which what was put out found full.
+    /// With the route of that number, which what was emitted found full.
     Full(u32),
 }
 

@@ -6,14 +6,14 @@ use std::alloc::Global;
 
 /// The procedures that are found to look at the home with which they begin.
 #[derive(Debug, Drop)]
-struct Found {
+struct FoundProcedures {
     /// For each procedure whether it is found.
     flags: Vec<bool>,
     /// The found ones whose callers are still to be found.
     todo: Vec<u32>,
 }
 
-impl Found {
+impl FoundProcedures {
     /// Finds a procedure, once.
     fn find(&mut self, proc: u32) -> Result<(), Memory> {
         let Some(flag) = self.flags.get_mut(proc as usize) else {
@@ -140,13 +140,13 @@ fn first_home_places(alloc: Global, instrs: &[Instr]) -> Result<Vec<bool>, Memor
     Ok(flags)
 }
 
-/// Finds a procedure if an instruction of it looks at the home with which it begins, and notes it
+/// Finds a procedure if an instruction of it looks at the home with which it begins, and marks it
 /// as a caller of those that it calls with that home.
 fn look_through(
     alloc: Global,
     proc: u32,
     instrs: &[Instr],
-    found: &mut Found,
+    found: &mut FoundProcedures,
     callers: &mut [Vec<u32>],
 ) -> Result<(), Memory> {
     let flags = first_home_places(alloc, instrs)?;
@@ -169,7 +169,7 @@ pub(crate) fn home_lookers(alloc: Global, procs: &[List<Instr>]) -> Result<Vec<b
     let Ok(flags) = vec![in alloc; false; procs.len()] else {
         return Err(Memory);
     };
-    let mut found = Found {
+    let mut found = FoundProcedures {
         flags,
         todo: Vec::new(alloc),
     };

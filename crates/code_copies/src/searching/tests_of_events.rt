@@ -52,7 +52,7 @@ fn event_tested(instr: &Instr) -> Option<u32> {
 }
 
 impl Users {
-    /// Notes a procedure as a user of what its instructions call, visit and test.
+    /// Marks a procedure as a user of what its instructions call, visit and test.
     fn note(&mut self, proc: u32, instrs: &[Instr]) -> Result<(), Memory> {
         for instr in instrs {
             if let Some(callee) = callee_of(instr) {

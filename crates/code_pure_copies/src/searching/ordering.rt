@@ -1,5 +1,5 @@
 //! Copies in the order of their origins.
-use crate::plan::{Named, Plan};
+use crate::plan::{Named, PureCopyPlan};
 use crate::searching::growing::NamingCopy;
 use code_copies::{FoundCopy, rank_at, ranks_of};
 use flow_base::Memory;
@@ -51,14 +51,14 @@ pub(crate) fn ordered(
     mut copies: Vec<FoundCopy<NamingCopy>>,
     start: u32,
     react: u32,
-) -> Result<Plan, Memory> {
+) -> Result<PureCopyPlan, Memory> {
     let Ok(()) = copies.sort_by_key(|found| found.copy.origin) else {
         return Err(Memory);
     };
     let ranks = ranks_of(alloc, &copies)?;
     let origins = origins_of(alloc, &copies)?;
     let names = renamed(alloc, copies, &ranks)?;
-    Ok(Plan {
+    Ok(PureCopyPlan {
         origins,
         names,
         start: rank_at(&ranks, start),

@@ -99,17 +99,17 @@ blocks::statement-returns-in_err-pay-in-Emit-clause-gives t c =
     failed_does nothing_of _ _ _ _ c.from_residual-in_err-pay-in-Emit.ensures.1 c.in_err-pay-in-Emit.ensures.does
     (λ x h. emit_fault _ _ _ _ _ (ap stmt_of c.in-Emit.is) h)
 
-pub blocks::statement-returns-in_err-put_out-in-Emit-clause-gives :
-    goal.blocks::statement-returns-in_err-put_out-in-Emit-clause-gives
-blocks::statement-returns-in_err-put_out-in-Emit-clause-gives t c =
-    failed_does nothing_of _ _ _ _ c.from_residual-in_err-put_out-in-Emit.ensures.1
-    c.in_err-put_out-in-Emit.ensures.does
+pub blocks::statement-returns-in_err-emit-in-Emit-clause-gives :
+    goal.blocks::statement-returns-in_err-emit-in-Emit-clause-gives
+blocks::statement-returns-in_err-emit-in-Emit-clause-gives t c =
+    failed_does nothing_of _ _ _ _ c.from_residual-in_err-emit-in-Emit.ensures.1
+    c.in_err-emit-in-Emit.ensures.does
     (λ x h. absurd cc)
 
-pub blocks::statement-returns-in_ok-put_out-in-Emit-clause-gives :
-    goal.blocks::statement-returns-in_ok-put_out-in-Emit-clause-gives
-blocks::statement-returns-in_ok-put_out-in-Emit-clause-gives t c =
-    settled_at c.in_ok-put_out-in-Emit.ensures.does
+pub blocks::statement-returns-in_ok-emit-in-Emit-clause-gives :
+    goal.blocks::statement-returns-in_ok-emit-in-Emit-clause-gives
+blocks::statement-returns-in_ok-emit-in-Emit-clause-gives t c =
+    settled_at c.in_ok-emit-in-Emit.ensures.does
     (emit_done _ _ _ _ _ (ap stmt_of c.in-Emit.is) c.in_ok-pay-in-Emit.ensures.does)
 
 pub blocks::statement-returns-in_err-send-in-Send-clause-gives :

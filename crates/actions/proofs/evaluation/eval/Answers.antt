@@ -4,7 +4,8 @@ use Rattle.std.specs.Int.{w128}
 use Rattle.actions.specs.declared.expr.Value.TheVariants as values
 use Rattle.actions.specs.Trees.{expr_of}
 use Rattle.actions.specs.Values.{scope_at}
-use Rattle.actions.proofs.EvaluationLemmas.{operands, operator-has_sort, operator_value, number_of_parts, same_operands, same_applied, same_has_sort}
+use Rattle.actions.proofs.EvaluationLemmas.{operands, operator-has_sort, operator_value}
+use Rattle.actions.proofs.EvaluationLemmas.{number_of_parts, same_operands, same_applied, same_has_sort}
 use Rattle.actions.proofs.evaluation.eval.Goals as goal
 
 pub apply_to_numbers-requires : goal.apply_to_numbers-requires

@@ -1,5 +1,6 @@
 use Rattle.std.proofs.Common.{arith}
-use Rattle.active_config.proofs.MarksLemmas.{last_of-with_last_same, last_of-with_last_other, is_on-with_last, last_of-with_mark}
+use Rattle.active_config.proofs.MarksLemmas.{last_of-with_last_same, last_of-with_last_other}
+use Rattle.active_config.proofs.MarksLemmas.{is_on-with_last, last_of-with_mark}
 use Rattle.active_config.proofs.laws.keeping_changes_one_entry.Goals as goal
 
 pub returns : goal.returns

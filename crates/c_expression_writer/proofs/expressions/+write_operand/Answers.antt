@@ -5,7 +5,8 @@ use Rattle.actions.specs.Sorts.{scope_of}
 use Rattle.actions.specs.Trees.{expr_of}
 use Rattle.c_expression_writer.specs.FileShapes.{shape_seen}
 use Rattle.c_expression_writer.proofs.Steps.{at_expr, negated_result, denied_result, joined_result, decided_result}
-use Rattle.c_expression_writer.proofs.Steps.{literal_sorted, active_there, neg_can, not_can, bin_can, own_sorted, join_room}
+use Rattle.c_expression_writer.proofs.Steps.{literal_sorted, active_there, neg_can}
+use Rattle.c_expression_writer.proofs.Steps.{not_can, bin_can, own_sorted, join_room}
 use Rattle.c_expression_writer.proofs.Steps.{neg_read, not_read, bin_read, neg_less, not_less, left_less, split}
 use Rattle.c_expression_writer.proofs.expressions.+write_operand.Goals as goal
 

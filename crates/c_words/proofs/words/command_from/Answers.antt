@@ -2,7 +2,7 @@ use Rattle.std.proofs.Common.{◌≡◌, ◌∙◌, inl, inr, ap, subst, [], map
 use Rattle.clap.specs.Words.{App, HasKind, Kinds, fault_of, is_simple, is_simple_and_free, subcommand_of}
 use Rattle.c_words.specs.Words.{command_of_texts}
 use Rattle.c_words.specs.Parser.{program_app}
-use Rattle.c_words.specs.Found.{command_found}
+use Rattle.c_words.specs.Asked.{command_found}
 use Rattle.command_words.proofs.ParseLemmas.{are_utf8, found_is, none_is}
 use Rattle.c_words.proofs.Agreement.{agreed, is_free, is_plain}
 use Rattle.c_words.proofs.words.command_from.Goals as goal

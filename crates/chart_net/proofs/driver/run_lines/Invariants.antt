@@ -4,7 +4,7 @@ use Rattle.flow_base.specs.Causes.{OthersKept, AllStay}
 use Rattle.trace_text.specs.Pieces.{Puts}
 use Rattle.step_driver.proofs.Buffered.{Buffered}
 use Rattle.chart_net.specs.NetDriving.{net_runs}
-use Rattle.chart_net.specs.NetParts.{AreAt, IsSound, StandsFor, all_running, charts_of, net_shown, routes_of}
+use Rattle.chart_net.specs.NetParts.{AreAt, PartsFit, StandsFor, all_running, charts_of, net_shown, routes_of}
 use Rattle.chart_net.specs.NetParts.{started_below}
 use Rattle.chart_net.proofs.NetDriven.{NetState, Starting}
 use Rattle.chart_net.proofs.driver.run_lines.Given as goal
@@ -19,7 +19,7 @@ invariant-loop-c g l =
           (g.O.Sink.faults l.fn.out) (g.O.Sink.faults l.out) l.fn.pieces l.pieces) l.c;
       charts : charts_of e l.net ≡ charts_of e l.fn.net;
       routes : routes_of l.net ≡ routes_of l.fn.net;
-      sound : IsSound e l.net;
+      sound : PartsFit e l.net;
       stages : AreAt e l.net (started_below l.c) 0;
       usable : l.pieces.failed ≡ false;
     }
@@ -35,7 +35,7 @@ invariant-lines g l =
           (g.I.Inputs.left l.fn.inputs l.name) (g.I.Inputs.left l.inputs l.name) l.pieces l.lines l.last_step;
       charts : charts_of e l.net ≡ charts_of e l.fn.net;
       routes : routes_of l.net ≡ routes_of l.fn.net;
-      sound : IsSound e l.net;
+      sound : PartsFit e l.net;
       running : AreAt e l.net all_running l.last_step;
       others : OthersKept l.name (g.I.Inputs.left l.fn.inputs) (g.I.Inputs.left l.inputs);
       counts : AllStay (g.I.Inputs.faults l.fn.inputs) (g.I.Inputs.faults l.inputs);

@@ -1,7 +1,7 @@
 use Rattle.std.proofs.Common.{arith, length, refl, subst, ◌≤◌}
 use Rattle.std.proofs.lemmas.Option.{slice_get_within}
 use Rattle.code_language.specs.Code.{code_of}
-use Rattle.code_copies.specs.Found.{copy_of, plan_of}
+use Rattle.code_copies.specs.Views.{copy_of, plan_of}
 use Rattle.code_copies.specs.Made.{CopyIsRight}
 use Rattle.code_copies.proofs.CheckLemmas.{each_more}
 use Rattle.code_copies.proofs.checking.are_copies_right.Goals as goal

@@ -1,7 +1,7 @@
 use Rattle.std.proofs.Common.{◌≡◌, ◌<◌, ℕ, Some}
 use Rattle.std.specs.Prelude.{slice_get}
 use Rattle.code_language.specs.Code.{code_of}
-use Rattle.code_copies.specs.Found.{copy_of, plan_of}
+use Rattle.code_copies.specs.Views.{copy_of, plan_of}
 use Rattle.code_copies.specs.Made.{CopyIsRight}
 use Rattle.code_copies.specs.declared.plan.ProcedureCopy.{ProcedureCopy}
 use Rattle.code_copies.proofs.checking.are_copies_right.Given as goal

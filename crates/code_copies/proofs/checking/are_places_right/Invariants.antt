@@ -1,6 +1,6 @@
 use Rattle.std.proofs.Common.{drop}
 use Rattle.code_language.specs.Code.{code_of, instrs_of}
-use Rattle.code_copies.specs.Found.{places_of, plan_of}
+use Rattle.code_copies.specs.Views.{places_of, plan_of}
 use Rattle.code_copies.specs.Made.{plan_setting, PlacesAreRight}
 use Rattle.code_copies.proofs.checking.are_places_right.Given as goal
 

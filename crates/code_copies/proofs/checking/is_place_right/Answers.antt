@@ -1,6 +1,6 @@
 use Rattle.std.proofs.Common.{refl}
 use Rattle.code_language.specs.Code.{code_of, instr_of}
-use Rattle.code_copies.specs.Found.{places_of, plan_of}
+use Rattle.code_copies.specs.Views.{places_of, plan_of}
 use Rattle.code_copies.specs.Made.{plan_setting}
 use Rattle.code_copies.proofs.CheckLemmas.{place_right}
 use Rattle.code_copies.proofs.checking.is_place_right.Goals as goal

@@ -2,7 +2,7 @@ use Rattle.std.proofs.Common.{◌≡◌, ℕ, ◌<◌, ◌≤◌, true, Some, re
 use Rattle.std.specs.Prelude.{slice_get}
 use Rattle.code_language.specs.Code.{code_of}
 use Rattle.code_language.specs.declared.limits.TheConstants.{PROC_LIMIT}
-use Rattle.code_copies.specs.Found.{plan_of}
+use Rattle.code_copies.specs.Views.{plan_of}
 use Rattle.code_copies.specs.Made.{PlanIsRight}
 use Rattle.code_copies.specs.Rooted.{NeverClears, IsRooted}
 use Rattle.code_copies.specs.declared.plan.ProcedureCopy.{ProcedureCopy}

@@ -2,7 +2,7 @@ use Rattle.std.proofs.Common.{arith}
 use Rattle.code_counts.proofs.Room.{steps_are_room, most_is_room}
 use Rattle.code_counts.proofs.needed.room_of.Goals as goal
 
--- no event puts out more than the count
+-- no event emits more than the count
 pub returns-in-Some : goal.returns-in-Some
 returns-in-Some c =
     most_is_room _ _ c.in-Some.count _ (rw c.in-Some.is at c.in_ok-found.ensures) (omega arith) (omega arith)

@@ -1,6 +1,6 @@
 use Rattle.std.proofs.Common.{◌≡◌, ◌∙◌, refl, sym, subst}
 use Rattle.code_language.specs.Code.{code_of}
-use Rattle.code_language.specs.Kept.{IsKept}
+use Rattle.code_language.specs.Kept.{KeepsMeasures}
 use Rattle.code_language.specs.WellFormed.{TooMany, BadTable}
 use Rattle.code_language.proofs.acceptance.examine.Goals as goal
 
@@ -24,4 +24,4 @@ pub returns-in-Ok-clause-kept : goal.returns-in-Ok-clause-kept
 returns-in-Ok-clause-kept c =
     let k = code_of c.args.raw.now in
     let same = rw c.in-Ok-Some.field-0-is at c.in-Ok-Some.ensures.shape in
-    subst (λ t. IsKept k t c.in-Ok.measures.height c.in-Ok.measures.work) (sym same) c.in-Ok.ensures.kept
+    subst (λ t. KeepsMeasures k t c.in-Ok.measures.height c.in-Ok.measures.work) (sym same) c.in-Ok.ensures.kept

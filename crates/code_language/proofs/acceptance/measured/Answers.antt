@@ -3,7 +3,8 @@ use Rattle.std.proofs.lemmas.Result.{err_from_is_err_and}
 use Rattle.flow_base.specs.Lists.{items_of}
 use Rattle.code_language.specs.Code.{code_of}
 use Rattle.code_language.specs.WellFormed.{Later}
-use Rattle.code_language.proofs.AcceptLemmas.{fault_of_starts, fault_of_procs, fault_of_heights, fault_of_works, cause_by}
+use Rattle.code_language.proofs.AcceptLemmas.{fault_of_starts, fault_of_procs}
+use Rattle.code_language.proofs.AcceptLemmas.{fault_of_heights, fault_of_works, cause_by}
 use Rattle.code_language.proofs.FaultLemmas.{none_long}
 use Rattle.code_language.proofs.TableLemmas.{none_where}
 use Rattle.code_language.proofs.acceptance.measured.Goals as goal

@@ -2,7 +2,8 @@ use Rattle.std.proofs.Common.{◌≡◌, ◌+◌, ◌<◌, length, drop, sym, ap
 use Rattle.std.proofs.lemmas.Bool.Decides.{nat_tests}
 use Rattle.code_language.specs.Code.{code_of, instrs_of}
 use Rattle.code_language.specs.WellFormed.{known_of, first_of, instrs_fault}
-use Rattle.code_language.proofs.FaultLemmas.{empty_proc, some_proc, no_instrs_left, left_behind, instrs_fault-drop, first_of-some, first_of-none}
+use Rattle.code_language.proofs.FaultLemmas.{empty_proc, some_proc, no_instrs_left, left_behind}
+use Rattle.code_language.proofs.FaultLemmas.{instrs_fault-drop, first_of-some, first_of-none}
 use Rattle.code_language.proofs.faults.proc_fault.Goals as goal
 
 pub returns-then-is_empty : goal.returns-then-is_empty

@@ -3,7 +3,8 @@ use Rattle.flow_base.specs.Lists.{items_of}
 use Rattle.code_language.specs.Acceptance.{procs_of}
 use Rattle.code_language.specs.Code.{code_of}
 use Rattle.code_language.specs.WellFormed.{known_of, first_of, procs_fault}
-use Rattle.code_language.proofs.FaultLemmas.{no_procs_left, none_long, short_proc, procs_fault-drop, first_of-some, first_of-none}
+use Rattle.code_language.proofs.FaultLemmas.{no_procs_left, none_long, short_proc}
+use Rattle.code_language.proofs.FaultLemmas.{procs_fault-drop, first_of-some, first_of-none}
 use Rattle.code_language.proofs.faults.procs_fault.Goals as goal
 
 pub proc_fault-fault-requires : goal.proc_fault-fault-requires

@@ -4,7 +4,8 @@ use Rattle.code_language.specs.declared.limits.TheConstants.{HEIGHT_LIMIT}
 use Rattle.code_language.specs.Acceptance.{procs_of}
 use Rattle.code_language.specs.Code.{instrs_of}
 use Rattle.code_language.specs.Measures.{height_by}
-use Rattle.code_language.proofs.MeasureLemmas.{counted_over, counted_more, counted_greatest, counted_within, proc_at, procs_counted}
+use Rattle.code_language.proofs.MeasureLemmas.{counted_over, counted_more, counted_greatest}
+use Rattle.code_language.proofs.MeasureLemmas.{counted_within, proc_at, procs_counted}
 use Rattle.code_language.proofs.heights.greatest_height.Goals as goal
 
 pub returns-then-height-gt-HEIGHT_LIMIT-clause-over : goal.returns-then-height-gt-HEIGHT_LIMIT-clause-over

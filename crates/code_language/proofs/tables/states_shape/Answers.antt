@@ -1,7 +1,8 @@
 use Rattle.std.proofs.Common.{◌∙◌, sym}
 use Rattle.code_language.proofs.WholeTable.{states_are, states_deep, no_states, no_twinned}
 use Rattle.code_language.proofs.tables.states_shape.Goals as goal
-use Rattle.code_language.proofs.tables.states_shape.Goals.{then-not-has_parents-via-then-not-has_parents, then-not-has_parents-via-else-not-has_parents+in_ok-has_no_twins+then-not-branch}
+use Rattle.code_language.proofs.tables.states_shape.Goals.{then-not-has_parents-via-then-not-has_parents}
+use Rattle.code_language.proofs.tables.states_shape.Goals.{then-not-has_parents-via-else-not-has_parents+in_ok-has_no_twins+then-not-branch}
 
 pub returns-then-not-has_parents-clause-states : goal.returns-then-not-has_parents-clause-states
 returns-then-not-has_parents-clause-states c = elim c.then-not-has_parents.branch [

@@ -4,7 +4,8 @@ use Rattle.flow_base.specs.Names.{are_distinct}
 use Rattle.code_language.specs.Acceptance.{names_of_both}
 use Rattle.code_language.proofs.WholeTable.{no_table, no_distinct, table_result}
 use Rattle.code_language.proofs.tables.table_shape.Goals as goal
-use Rattle.code_language.proofs.tables.table_shape.Goals.{then-not-is_declared-via-then-not-is_declared, then-not-is_declared-via-else-not-is_declared+in_ok-are_names_distinct+then-not-branch}
+use Rattle.code_language.proofs.tables.table_shape.Goals.{then-not-is_declared-via-then-not-is_declared}
+use Rattle.code_language.proofs.tables.table_shape.Goals.{then-not-is_declared-via-else-not-is_declared+in_ok-are_names_distinct+then-not-branch}
 
 pub returns-then-not-is_declared-clause-table : goal.returns-then-not-is_declared-clause-table
 returns-then-not-is_declared-clause-table c = elim c.then-not-is_declared.branch [

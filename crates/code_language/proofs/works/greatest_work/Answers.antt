@@ -4,7 +4,8 @@ use Rattle.code_language.specs.declared.limits.TheConstants.{WORK_LIMIT}
 use Rattle.code_language.specs.Acceptance.{procs_of}
 use Rattle.code_language.specs.Code.{instrs_of}
 use Rattle.code_language.specs.Measures.{work_by}
-use Rattle.code_language.proofs.MeasureLemmas.{counted_over, counted_more, counted_greatest, counted_within, proc_at, procs_counted}
+use Rattle.code_language.proofs.MeasureLemmas.{counted_over, counted_more, counted_greatest}
+use Rattle.code_language.proofs.MeasureLemmas.{counted_within, proc_at, procs_counted}
 use Rattle.code_language.proofs.works.greatest_work.Goals as goal
 
 pub returns-then-work-gt-WORK_LIMIT-clause-over : goal.returns-then-work-gt-WORK_LIMIT-clause-over

@@ -1,4 +1,4 @@
-use Rattle.code_notes.specs.Found.{plan_of}
+use Rattle.code_notes.specs.Views.{plan_of}
 use Rattle.code_notes.specs.Noteless.{BeginsAsBase}
 use Rattle.code_notes.proofs.CheckLemmas.{one_more_item, all_bases}
 use Rattle.code_notes.proofs.checking.are_bases.Goals as goal

@@ -1,4 +1,4 @@
-use Rattle.code_notes.specs.Found.{plan_of}
+use Rattle.code_notes.specs.Views.{plan_of}
 use Rattle.code_notes.proofs.CheckLemmas.{AreBasesBefore}
 use Rattle.code_notes.proofs.checking.are_bases.Given as goal
 

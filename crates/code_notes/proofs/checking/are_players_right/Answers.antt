@@ -1,5 +1,5 @@
 use Rattle.std.proofs.Common.{◌≤◌, length, subst}
-use Rattle.code_notes.specs.Found.{plan_of}
+use Rattle.code_notes.specs.Views.{plan_of}
 use Rattle.code_notes.specs.Noteless.{AreBases}
 use Rattle.code_notes.proofs.CheckLemmas.{one_more_player, all_players}
 use Rattle.code_notes.proofs.checking.are_players_right.Goals as goal

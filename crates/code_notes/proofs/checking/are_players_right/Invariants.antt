@@ -1,4 +1,4 @@
-use Rattle.code_notes.specs.Found.{lists_of, plan_of}
+use Rattle.code_notes.specs.Views.{lists_of, plan_of}
 use Rattle.code_notes.proofs.CheckLemmas.{ArePlayersBefore}
 use Rattle.code_notes.proofs.checking.are_players_right.Given as goal
 

@@ -1,4 +1,4 @@
-use Rattle.code_notes.specs.Found.{plan_of}
+use Rattle.code_notes.specs.Views.{plan_of}
 use Rattle.code_notes.proofs.CheckLemmas.{one_more_right, all_instrs_right}
 use Rattle.code_notes.proofs.checking.is_procedure_right.Goals as goal
 

@@ -1,5 +1,5 @@
 use Rattle.code_language.specs.Code.{instrs_of}
-use Rattle.code_notes.specs.Found.{plan_of}
+use Rattle.code_notes.specs.Views.{plan_of}
 use Rattle.code_notes.proofs.CheckLemmas.{AreRightBefore}
 use Rattle.code_notes.proofs.checking.is_procedure_right.Given as goal
 

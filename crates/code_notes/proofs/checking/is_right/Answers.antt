@@ -2,7 +2,7 @@ use Rattle.std.proofs.Common.{◌≤◌, length, sym, subst}
 use Rattle.code_language.specs.Code.{code_of, instructions}
 use Rattle.code_results.proofs.CheckLemmas.{below_more, written_at}
 use Rattle.code_notes.specs.Checked.{AreRight}
-use Rattle.code_notes.specs.Found.{plan_of}
+use Rattle.code_notes.specs.Views.{plan_of}
 use Rattle.code_notes.proofs.CheckLemmas.{all_procs_right}
 use Rattle.code_notes.proofs.checking.is_right.Goals as goal
 

@@ -1,7 +1,7 @@
 use Rattle.std.proofs.Common.{◌<◌, ℕ}
 use Rattle.code_language.specs.Code.{code_of, instructions}
 use Rattle.code_notes.specs.Checked.{AreRight}
-use Rattle.code_notes.specs.Found.{plan_of}
+use Rattle.code_notes.specs.Views.{plan_of}
 use Rattle.code_notes.proofs.checking.is_right.Given as goal
 
 -- so far each procedure is right

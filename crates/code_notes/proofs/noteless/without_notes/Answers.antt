@@ -1,6 +1,6 @@
 use Rattle.std.proofs.Common.{ap}
 use Rattle.code_language.specs.Code.{code_of}
-use Rattle.code_notes.specs.Found.{plan_of}
+use Rattle.code_notes.specs.Views.{plan_of}
 use Rattle.code_notes.proofs.Facts.{noteless_as_made}
 use Rattle.code_notes.proofs.noteless.without_notes.Goals as goal
 

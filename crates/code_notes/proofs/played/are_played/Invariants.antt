@@ -2,7 +2,7 @@ use Rattle.std.proofs.Common.{◌≡◌, ◌<◌, ℕ, Some}
 use Rattle.std.specs.Prelude.{slice_get}
 use Rattle.code_language.specs.Code.{code_of}
 use Rattle.code_notes.specs.Checked.{StandsFor}
-use Rattle.code_notes.specs.Found.{plan_of}
+use Rattle.code_notes.specs.Views.{plan_of}
 use Rattle.code_notes.proofs.played.are_played.Given as goal
 
 -- so far each new procedure stands for a `Play` of its procedure

@@ -1,7 +1,7 @@
 use Rattle.std.proofs.Common.{subst}
 use Rattle.code_language.specs.Code.{code_of}
 use Rattle.code_language.specs.declared.code.RawCode.{RawCode}
-use Rattle.code_copies.specs.Found.{key_of}
+use Rattle.code_copies.specs.Views.{key_of}
 use Rattle.code_passes.specs.Tags.{IsKeyOf}
 use Rattle.code_passes.proofs.TagLemmas.{keys_more, keys_done}
 use Rattle.code_passes.proofs.keys.are_keys_of.Goals as goal

@@ -1,7 +1,7 @@
 use Rattle.std.proofs.Common.{take}
 use Rattle.std.specs.List.{All}
 use Rattle.code_language.specs.Code.{code_of}
-use Rattle.code_copies.specs.Found.{key_of}
+use Rattle.code_copies.specs.Views.{key_of}
 use Rattle.code_copies.specs.declared.plan.ProcedureCopy.{ProcedureCopy}
 use Rattle.code_passes.specs.Tags.{IsKeyOf}
 use Rattle.code_passes.proofs.keys.are_keys_of.Given as goal

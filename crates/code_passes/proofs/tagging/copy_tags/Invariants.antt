@@ -1,5 +1,5 @@
 use Rattle.std.proofs.Common.{◌≡◌, map, take, Some}
-use Rattle.code_copies.specs.Found.{key_of}
+use Rattle.code_copies.specs.Views.{key_of}
 use Rattle.code_copies.specs.declared.plan.ProcedureCopy.{ProcedureCopy}
 use Rattle.code_passes.specs.Tags.{tag_for_key}
 use Rattle.code_passes.proofs.tagging.copy_tags.Given as goal

@@ -1,7 +1,7 @@
 use Rattle.std.proofs.Common.{length, sym, ap, ◌∙◌}
 use Rattle.std.proofs.lemmas.Bool.{eqb-true, eqb-false}
 use Rattle.code_copies.specs.Facts.{IsNoneOf}
-use Rattle.code_copies.specs.Found.{event_fact_of}
+use Rattle.code_copies.specs.Views.{event_fact_of}
 use Rattle.code_copies.specs.declared.known.EventFact.{EventFact}
 use Rattle.code_passes.specs.Tags.{event_tag}
 use Rattle.code_passes.proofs.TagLemmas.{any_tag, other_tag}

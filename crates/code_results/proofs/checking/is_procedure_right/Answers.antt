@@ -1,5 +1,5 @@
 use Rattle.code_language.specs.Code.{code_of}
-use Rattle.code_results.specs.Found.{plan_of}
+use Rattle.code_results.specs.Views.{plan_of}
 use Rattle.code_results.proofs.CheckLemmas.{one_more_right, all_instrs_right}
 use Rattle.code_results.proofs.checking.is_procedure_right.Goals as goal
 

@@ -1,5 +1,5 @@
 use Rattle.code_language.specs.Code.{code_of, instrs_of}
-use Rattle.code_results.specs.Found.{plan_of}
+use Rattle.code_results.specs.Views.{plan_of}
 use Rattle.code_results.proofs.CheckLemmas.{AreRightBefore}
 use Rattle.code_results.proofs.checking.is_procedure_right.Given as goal
 

@@ -1,7 +1,7 @@
 use Rattle.std.proofs.Common.{◌≤◌, length, sym, subst}
 use Rattle.code_language.specs.Code.{code_of, instructions}
 use Rattle.code_results.specs.Checked.{AreRight}
-use Rattle.code_results.specs.Found.{plan_of}
+use Rattle.code_results.specs.Views.{plan_of}
 use Rattle.code_results.proofs.CheckLemmas.{below_more, written_at, all_procs_right}
 use Rattle.code_results.proofs.checking.is_right.Goals as goal
 

@@ -2,7 +2,7 @@ use Rattle.std.proofs.Common.{refl, subst}
 use Rattle.code_language.specs.Code.{code_of}
 use Rattle.code_language.specs.declared.code.RawCode.{RawCode}
 use Rattle.code_results.specs.Folded.{PlanIsRight, AsItWas, ByPlan}
-use Rattle.code_results.specs.Found.{plan_of}
+use Rattle.code_results.specs.Views.{plan_of}
 use Rattle.code_copies.proofs.SameRunsLemmas.{same_itself}
 use Rattle.code_results.proofs.RawLemmas.{folded_size, folded_same}
 use Rattle.code_results.proofs.folding.fold_results.Goals as goal

@@ -14,5 +14,6 @@ loop-instr-preserved c =
     record {
       text = view_printed instr_line instr_of c.args.instrs.now c.loop-instr.instr-index c.instr-item.result _ _ _ c.instr-item.is (omega arith)
           (ended _ _ _ (instr_line (instr_of c.instr-item.result)) c.in_ok-print_instr.ensures.line c.in_ok-push_str.ensures.bytes) c.loop-instr.invariant.text;
-      numbers = holds_from HasNumbers instr_of c.args.instrs.now c.loop-instr.instr-index c.instr-item.result c.instr-item.is (omega arith) c.in_ok-print_instr.ensures.numbers c.loop-instr.invariant.numbers;
+      numbers = holds_from HasNumbers instr_of c.args.instrs.now c.loop-instr.instr-index c.instr-item.result
+          c.instr-item.is (omega arith) c.in_ok-print_instr.ensures.numbers c.loop-instr.invariant.numbers;
     }

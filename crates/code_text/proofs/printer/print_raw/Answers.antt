@@ -9,7 +9,8 @@ use Rattle.code_text.proofs.printer.print_raw.Goals as goal
 pub returns-clause-text : goal.returns-clause-text
 returns-clause-text c =
     let w = written_of c.args.raw.now in
-    appended _ _ _ _ _ _ _ (codes "flowcode 2\n") (text_of (states_part w.states)) (text_of (vars_part w.vars)) (text_of (events_part w.events)) (text_of (procs_part w.procedures)) (text_of (end_line ∷ []))
+    appended _ _ _ _ _ _ _ (codes "flowcode 2\n") (text_of (states_part w.states)) (text_of (vars_part w.vars))
+    (text_of (events_part w.events)) (text_of (procs_part w.procedures)) (text_of (end_line ∷ []))
     c.new-out.ensures.bytes c.in_ok-push_str.ensures.bytes
     (rw c.items.ensures at c.in_ok-print_states.ensures.text) (rw c.items-2.ensures at c.in_ok-print_vars.ensures) (rw c.items-3.ensures at c.in_ok-print_events.ensures)
     c.in_ok-print_procs.ensures.text c.in_ok-push_str-2.ensures.bytes

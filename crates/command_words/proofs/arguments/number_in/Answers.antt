@@ -4,7 +4,7 @@ use Rattle.std.specs.Str.Parse.{ExplainsUnsignedError, HasUnsignedDigitsIfOk}
 use Rattle.clap.specs.Words.{found_of, one_text}
 use Rattle.clap.proofs.WalkLemmas.{one_text-rows}
 use Rattle.command_words.specs.Numbers.{Text}
-use Rattle.command_words.specs.Found.{number_in}
+use Rattle.command_words.specs.Asked.{number_in}
 use Rattle.command_words.proofs.NumberLemmas.{reads}
 use Rattle.command_words.proofs.arguments.number_in.Goals as goal
 

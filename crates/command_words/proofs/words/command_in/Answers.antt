@@ -1,7 +1,7 @@
 use Rattle.std.specs.Box.{box_value}
 use Rattle.clap.specs.Words.{found_of, rows_of}
 use Rattle.clap.specs.declared.parser.matches.ArgMatches.TheViews.{out-ArgMatches, out-SubCommand}
-use Rattle.command_words.specs.Found.{found_named}
+use Rattle.command_words.specs.Asked.{found_named}
 use Rattle.command_words.proofs.ParseLemmas.{found_of_met}
 use Rattle.command_words.proofs.words.command_in.Goals as goal
 

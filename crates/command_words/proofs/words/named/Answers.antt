@@ -1,7 +1,7 @@
 use Rattle.std.proofs.Common.{◌≡◌, refl, sym, codes, List, None}
 use Rattle.clap.specs.Words.{Row, found_of, rows_of}
 use Rattle.command_words.specs.Numbers.{Text}
-use Rattle.command_words.specs.Found.{found_named}
+use Rattle.command_words.specs.Asked.{found_named}
 use Rattle.command_words.proofs.ParseLemmas.{differs}
 use Rattle.command_words.proofs.words.named.Goals as goal
 

@@ -2,7 +2,8 @@ use Rattle.std.proofs.Common.{◌≡◌, length, get_or, true, false, nat_eq, sy
 use Rattle.std.proofs.lemmas.Bool.Decides.{nat_tests}
 use Rattle.actions.specs.Names.{names_of}
 use Rattle.event_file.specs.EventLines.{tokens_of}
-use Rattle.event_file.proofs.ValueLemmas.{says_nothing, says_hash, says_comment, says_no_event, says_no_values, says_step, no_values}
+use Rattle.event_file.proofs.ValueLemmas.{says_nothing, says_hash, says_comment}
+use Rattle.event_file.proofs.ValueLemmas.{says_no_event, says_no_values, says_step, no_values}
 use Rattle.event_file.proofs.event_lines.read_line.Goals as goal
 
 pub returns-then-begins_with_hash-clause-says : goal.returns-then-begins_with_hash-clause-says
@@ -33,7 +34,8 @@ returns-in-Ok-give_all-clause-says c =
     let hash : nat_eq (get_or t 0 0) 35 ≡ false = let h = c.if-first-eq35.false in grind (arith, nat_tests) in
     let a = c.in-Ok-give_all.ensures.gave in
     let all = rw c.requires.none at a in (
-      says_step (names_of c.args.names.now) c.args.line.now t (tokens_of c.in-Some.first.rest.now) c.in-Ok.event c.give_all.new.vals.values c.in-Some.ensures.tokens hash (sym c.in-Ok.ensures.event) all,
+      says_step (names_of c.args.names.now) c.args.line.now t (tokens_of c.in-Some.first.rest.now) c.in-Ok.event
+          c.give_all.new.vals.values c.in-Some.ensures.tokens hash (sym c.in-Ok.ensures.event) all,
       record { event = c.in-Ok.ensures.fits; inputs = c.in-Ok-give_all.ensures.values },
     )
 

@@ -4,7 +4,8 @@ use Rattle.fixed_point.specs.Numbers.{is_whole}
 use Rattle.fixed_point.proofs.Floors.{scaled-within}
 use Rattle.fixed_point.proofs.Ranges.{exact_mantissa-broken, exact_mantissa-far}
 use Rattle.fixed_point.proofs.fitting.exact.Goals as goal
-use Rattle.fixed_point.proofs.fitting.exact.Goals.{then-not-is_whole-via-then-not-is_whole, then-not-is_whole-via-else-not-is_whole+then-is_far}
+use Rattle.fixed_point.proofs.fitting.exact.Goals.{then-not-is_whole-via-then-not-is_whole}
+use Rattle.fixed_point.proofs.fitting.exact.Goals.{then-not-is_whole-via-else-not-is_whole+then-is_far}
 
 -- the value isn't whole there, or it is too far from 0
 pub returns-then-not-is_whole : goal.returns-then-not-is_whole

@@ -1,4 +1,5 @@
-use Rattle.std.proofs.Common.{◌≡◌, ℕ, ◌+◌, ◌/◌, ◌%◌, ◌<◌, ◌≤◌, ◌^◌, List, length, take, decimal, length-append, ap, sym, ◌∙◌, ◌++◌, ◌∷◌, [], append_assoc, arith, rules}
+use Rattle.std.proofs.Common.{◌≡◌, ℕ, ◌+◌, ◌/◌, ◌%◌, ◌<◌, ◌≤◌, ◌^◌, List, length, take, decimal}
+use Rattle.std.proofs.Common.{length-append, ap, sym, ◌∙◌, ◌++◌, ◌∷◌, [], append_assoc, arith, rules}
 use Rattle.std.proofs.lemmas.Fmt.{decimal_step_wide, decimal_digit}
 use Rattle.fixed_point.proofs.writing.+put_whole.Goals as goal
 

@@ -1,7 +1,9 @@
-use Rattle.std.proofs.Common.{◌≡◌, ℕ, ◌+◌, ◌-◌, ◌*◌, ◌/◌, ◌^◌, List, [], ◌∷◌, ◌++◌, take, length, sym, ap, ◌∙◌, append_assoc, arith}
+use Rattle.std.proofs.Common.{◌≡◌, ℕ, ◌+◌, ◌-◌, ◌*◌, ◌/◌, ◌^◌, List, [], ◌∷◌, ◌++◌}
+use Rattle.std.proofs.Common.{take, length, sym, ap, ◌∙◌, append_assoc, arith}
 use Rattle.std.proofs.lemmas.List.{append-nil}
 use Rattle.fixed_point.specs.Text.{last_digits, fraction_digits}
-use Rattle.fixed_point.proofs.Digits.{Divides-none, Divides-more, digits_more, digits_all, last_digits-none, length-last_digits, more_places}
+use Rattle.fixed_point.proofs.Digits.{Divides-none, Divides-more, digits_more, digits_all}
+use Rattle.fixed_point.proofs.Digits.{last_digits-none, length-last_digits, more_places}
 use Rattle.fixed_point.proofs.writing.put_behind.Goals as goal
 
 pub loop-rest-init : goal.loop-rest-init

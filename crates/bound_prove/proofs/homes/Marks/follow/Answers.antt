@@ -3,7 +3,8 @@ use Rattle.checked_chart.specs.Valid.{IsTrans}
 use Rattle.checked_chart.specs.Views.{list_seen, trans_seen}
 use Rattle.bound_prove.specs.Lookups.{chart_in}
 use Rattle.bound_prove.proofs.Evaluations.{rest_seen, rest_none}
-use Rattle.bound_prove.proofs.HomeLemmas.{contains_has, contains_seen, part_may, follow_begins, follow_goes_on, follow_ends}
+use Rattle.bound_prove.proofs.HomeLemmas.{contains_has, contains_seen, part_may}
+use Rattle.bound_prove.proofs.HomeLemmas.{follow_begins, follow_goes_on, follow_ends}
 use Rattle.bound_prove.proofs.homes.Marks.follow.Goals as goal
 
 pub loop-t-init : goal.loop-t-init

@@ -2,7 +2,8 @@ use Rattle.std.proofs.Common.{◌≡◌, ◌≤◌, true, false, refl, sym, ap, 
 use Rattle.std.specs.Result.{is_err}
 use Rattle.flow_base.specs.Causes.{Rose}
 use Rattle.event_file.specs.Reading.{Reading, is_ready}
-use Rattle.event_file.proofs.NextLemmas.{next_told, then_takes, on_ok, on_err, fills_nothing, fills_more, falls_more, next_fails, none_falls, takes_cause}
+use Rattle.event_file.proofs.NextLemmas.{next_told, then_takes, on_ok, on_err, fills_nothing}
+use Rattle.event_file.proofs.NextLemmas.{fills_more, falls_more, next_fails, none_falls, takes_cause}
 use Rattle.event_file.proofs.line_reader.LineReader.next_line.Goals as goal
 
 pub pieces-init : goal.pieces-init

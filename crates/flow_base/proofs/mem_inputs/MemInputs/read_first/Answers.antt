@@ -1,7 +1,8 @@
 use Rattle.std.proofs.Common.{◌≡◌, ℕ, List, None, length, rules, ap}
 use Rattle.flow_base.specs.Counts.{counted}
 use Rattle.flow_base.specs.MemoryFiles.{FileState, FilesState, after_next}
-use Rattle.flow_base.proofs.MemoryFilesLemmas.{IsFirst, first_at, none_at, next_keeps, first_of-written, set-change_first}
+use Rattle.flow_base.proofs.MemoryFilesLemmas.{IsFirst, first_at, none_at, next_keeps}
+use Rattle.flow_base.proofs.MemoryFilesLemmas.{first_of-written, set-change_first}
 use Rattle.flow_base.proofs.mem_inputs.MemInputs.read_first.Goals as goal
 
 -- the read of the first file of that name

@@ -1,7 +1,8 @@
 use Rattle.std.proofs.Common.{ℕ, Option, Some, Ok, Result, length, refl, rules, sym, ap}
 use Rattle.flow_base.specs.declared.inputs.Failed.{Failed}
 use Rattle.flow_base.specs.MemoryFiles.{FileState, bytes_left, after_giving}
-use Rattle.flow_base.proofs.MemoryFilesLemmas.{IsFirst, first_at, none_at, giving_keeps, first_of-written, first_of-other, set-change_first, change_first-none}
+use Rattle.flow_base.proofs.MemoryFilesLemmas.{IsFirst, first_at, none_at, giving_keeps, first_of-written}
+use Rattle.flow_base.proofs.MemoryFilesLemmas.{first_of-other, set-change_first, change_first-none}
 use Rattle.flow_base.proofs.sure_inputs.SureInputsInputs.read.Goals as goal
 
 -- the read of the first file of that name

@@ -4,7 +4,7 @@ use Rattle.std.specs.Str.{bytes_eq}
 use Rattle.clap.specs.Words.{Row, first_of}
 use Rattle.command_words.specs.Numbers.{Text}
 use Rattle.command_words.specs.Commands.{RunBounds}
-use Rattle.command_words.specs.Found.{bounds_found, number_at}
+use Rattle.command_words.specs.Asked.{bounds_found, number_at}
 use Rattle.c_words.specs.Commands.{Command, Header, Source}
 
 -- the bounds that the options set, none where no option does

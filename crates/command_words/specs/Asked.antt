@@ -24,7 +24,7 @@ bounds_with depth steps =
     if (nat_le 1 depth && nat_le depth DEPTH_LIMIT) && (nat_le 1 steps && nat_le steps STEP_LIMIT)
     then Some (record { depth = depth; steps = steps }) else None
 
--- the bounds of a run, the usual ones where they aren't given
+-- the bounds of a run, the default ones where they aren't given
 abbrev pub bounds_found : List Row → Option RunBounds
 bounds_found rows =
     bounds_with (unwrap_or (number_at (codes "depth") rows) usual_bounds.depth)
@@ -34,7 +34,7 @@ bounds_found rows =
 abbrev pub net_bounds_with : ℕ → ℕ → Option RunBounds
 net_bounds_with depth steps = if nat_le steps NET_STEP_LIMIT then bounds_with depth steps else None
 
--- the bounds of a net, the usual ones of nets where they aren't given
+-- the bounds of a net, the default ones of nets where they aren't given
 abbrev pub net_bounds_found : List Row → Option RunBounds
 net_bounds_found rows =
     net_bounds_with (unwrap_or (number_at (codes "depth") rows) usual_bounds.depth)

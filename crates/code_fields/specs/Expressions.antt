@@ -4,6 +4,7 @@ use Rattle.std.specs.Prelude.{Option, Some, None, option_and_then, option_map, i
 use Rattle.std.specs.Str.{bytes_eq}
 use Rattle.flow_base.specs.declared.chart_limits.TheConstants.{OPERATOR_LIMIT}
 use Rattle.fixed_point.specs.declared.num.Num.{Num}
+use Rattle.fixed_point.specs.declared.rounding.TheConstants.{READ_LIMIT}
 use Rattle.fixed_point.specs.declared.scale.TheConstants.{PLACES_LIMIT}
 use Rattle.actions.specs.declared.expr.Op.{Op}
 use Rattle.actions.specs.declared.expr.Op.TheVariants as ops

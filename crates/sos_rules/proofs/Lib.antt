@@ -5,4 +5,6 @@ pub mod Settles
 pub mod Defaults
 pub mod Memory
 pub mod Reactions
+pub mod DeclaredData
+pub mod Runs
 pub mod Faults

@@ -114,7 +114,8 @@ running_closed c b =
     }
 
 -- what holds at the end of work holds of the moment
-reached : {A : Type 0} (P : World → Type 0) {o : Run A} → Finishes P o → (r : Moment) → moment_of o ≡ Some r → P r.world
+pub reached : {A : Type 0} (P : World → Type 0) {o : Run A} → Finishes P o → (r : Moment) → moment_of o ≡ Some r
+    → P r.world
 reached P (ended a w h) r e = let f : w ≡ r.world = cc in subst P f h
 reached P (faulted x w h) r e = let f : w ≡ r.world = cc in subst P f h
 reached P unfinished r e = absurd cc

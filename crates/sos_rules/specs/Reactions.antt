@@ -51,6 +51,12 @@ pub record HasOne (P : Moment → Type 0) : Type 0 where
   pub holds : P moment
   pub only : (other : Moment) → P other → other ≡ moment
 
+-- exactly one run over the events: a list of moments that is one, and every other such list is the same
+pub record HasOneRun (c : Chart) (b : Bounds) (events : List EventWithInputs) : Type 0 where
+  pub moments : List Moment
+  pub runs : RulesRun c b events moments
+  pub only : (others : List Moment) → RulesRun c b events others → others ≡ moments
+
 -- what every start and every reaction leaves: active states are consistent, and the root is active
 pub record IsRunning (c : Chart) (w : World) : Type 0 where
   pub consistent : IsConsistent c.tree w.marks

@@ -1,12 +1,13 @@
 //! The laws of the rules.
-ghost use Rattle.std.specs.Prelude.{◌≡◌, ◌<◌, ℕ, Option};
+ghost use Rattle.std.specs.Prelude.{◌≡◌, ◌<◌, ℕ, List, Option};
+ghost use Rattle.std.specs.List.{AllByRecursion};
 ghost use Rattle.flow_base.specs.declared.bounds.Bounds.{Bounds};
 ghost use Rattle.flow_base.specs.declared.fault.Fault.{Fault};
 ghost use Rattle.active_config.specs.declared.comp.Comp.TheVariants.{Or};
 ghost use Rattle.active_config.specs.Tree.{state_count, comp_of};
 ghost use Rattle.actions.specs.declared.event.Event.{Event};
 ghost use Rattle.actions.specs.Engines.{IsFaultOf};
-ghost use Rattle.actions.specs.Runs.{Moment};
+ghost use Rattle.actions.specs.Runs.{Moment, EventWithInputs, CanBeGiven};
 ghost use Rattle.actions.specs.World.{World, Bare};
 ghost use Rattle.actions.specs.Work.{Now};
 ghost use Rattle.checked_chart.specs.Chart.{Chart, list_of};
@@ -14,7 +15,7 @@ ghost use Rattle.checked_chart.specs.Valid.{IsValid};
 ghost use Rattle.checked_chart.specs.declared.parts.ListKind.TheVariants.{Default};
 ghost use Rattle.sos_rules.specs.Finds.{Finds};
 ghost use Rattle.sos_rules.specs.Memory.{Remembers};
-ghost use Rattle.sos_rules.specs.Reactions.{Starts, Reacts, HasOne, IsRunning};
+ghost use Rattle.sos_rules.specs.Reactions.{Starts, Reacts, HasOne, HasOneRun, IsRunning};
 ghost use Rattle.sos_rules.specs.Rules.{upto};
 
 /// A start has exactly one outcome, and so has an event from any world: a world, with a fault or
@@ -25,6 +26,14 @@ pub fn one_result()
         → HasOne (λ (m : Moment). Starts c b m.world m.fault) }
     ensures reaction { (c : Chart) (b : Bounds) (w : World) (e : Event) → IsValid c
         → HasOne (λ (m : Moment). Reacts c b w e m.world m.fault) }
+{}
+
+/// Over events and inputs that a running engine can be given there is exactly one run. Each start
+/// and each event leave the data that the chart declares, so the inputs of the next event can be
+/// set in whatever world the run has come to.
+pub fn one_run()
+    ensures { (c : Chart) (b : Bounds) (events : List EventWithInputs) → IsValid c
+        → AllByRecursion (CanBeGiven c.names) events → HasOneRun c b events }
 {}
 
 /// After the start the active states are consistent and the root is active, and an event keeps

@@ -18,6 +18,6 @@
 mod laws;
 
 pub use laws::{
-    default_finds, faults_name_declared_data, one_result, remembers_the_active_child,
+    default_finds, faults_name_declared_data, one_result, one_run, remembers_the_active_child,
     stays_consistent,
 };

@@ -1,6 +1,7 @@
 -- The start and the reaction of a file, and its runs over events.
 use Rattle.std.specs.Prelude.{◌≡◌, ℕ, suc, ◌+◌, ◌/◌, pos, ℤ, List, [], ◌∷◌, ◌++◌, map, replicate, not, is_some}
 use Rattle.std.specs.Prelude.{Option, Some, None, if◌then◌else◌}
+use Rattle.std.specs.List.{AllByRecursion}
 use Rattle.flow_base.specs.declared.bounds.Bounds.{Bounds}
 use Rattle.active_config.specs.Tree.{Tree, state_count}
 use Rattle.actions.specs.declared.event.Event.{Event}
@@ -118,8 +119,7 @@ event_argument n e = word_of (event_number n e) ∷ []
 
 -- each event can be given to a running engine
 abbrev pub AllGiven : Names → List EventWithInputs → Type 0
-AllGiven n [] = Unit {0}
-AllGiven n (given ∷ events) = CanBeGiven n given × AllGiven n events
+AllGiven n events = AllByRecursion (CanBeGiven n) events
 
 module _ (K : Shape) (file : File) (int : Width) where
   -- from a moment on: before each event its inputs are stored, and the reaction shows the next moment, up to a fault

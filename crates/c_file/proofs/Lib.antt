@@ -14,3 +14,4 @@ pub mod StructLemmas
 pub mod OneCode
 pub mod OneText
 pub mod ServeLemmas
+pub mod SizeLemmas

@@ -1,5 +1,5 @@
 -- Header and source of a chart.
-use Rattle.std.specs.Prelude.{◌≡◌, ℕ, List, [], length, slice_index_or}
+use Rattle.std.specs.Prelude.{◌≡◌, ◌^◌, ◌<◌, ◌≤◌, ℕ, List, [], length, slice_index_or}
 use Rattle.std.specs.List.{All}
 use Rattle.flow_base.specs.declared.bounds.Bounds.{Bounds}
 use Rattle.checked_chart.specs.Chart.{Chart}
@@ -13,7 +13,7 @@ use Rattle.code_passes.specs.declared.tag.Tag.{Tag}
 use Rattle.chart_parts.specs.Parts.{parts_of}
 use Rattle.c_functions.specs.Failing.{AfterIsRight}
 use Rattle.c_functions.specs.Files.{shape_of}
-use Rattle.c_functions.specs.Plans.{Tests}
+use Rattle.c_functions.specs.Plans.{Shape, Tests}
 use Rattle.c_runs.specs.Claims.{FileRunsAsRules, FitsChart, Serves}
 use Rattle.c_text.specs.Labels.{Labels, labels_for, labels_of}
 use Rattle.c_expression_writer.specs.FileShapes.{shape_seen, tests_seen}
@@ -43,15 +43,24 @@ pub record IsWritten (c : Chart) (b : Bounds) (k : Code) (tags : List Tag) (orig
   pub is_faster : IsFaster smaller faster tags
   pub is_cut : IsCut b.depth faster k
 
+-- C takes the sizes of both arrays: each has at least one entry (6.7.5.2 p1), and how many it has is a constant that
+-- fits an `int` of 32 bits (6.7.2.2 p2)
+pub record HasSizes (K : Shape) : Type 0 where
+  pub some_outputs : 1 ≤ K.outputs
+  pub few_outputs : K.outputs < 2 ^ 31
+  pub some_notes : 1 ≤ K.notes
+  pub few_notes : K.notes < 2 ^ 31
+
 -- what both files of a chart under its bounds are written for: such code, which fits the chart as its tags do, with
--- tests, limits and room for outputs that serve it, where the result of each procedure that can fail is tested after a
--- call
+-- tests, limits and room for outputs that serve it, and arrays of sizes that C takes, where the result of each
+-- procedure that can fail is tested after a call
 pub record IsWrittenUnder (c : Chart) (b : Bounds) (written : Written) : Type 0 where
   pub is_written : IsWritten c b (code_of written.code) written.tags.items written.origins.items
   pub fits : FitsChart c (code_of written.code)
   pub tags : All (IsTagOf c) written.tags.items
   pub serves : Serves c b (code_of written.code) (tests_seen written.tests) written.limits
       written.outputs
+  pub sizes : HasSizes (shape_of (code_of written.code) (tests_seen written.tests) written.limits written.outputs)
   pub after : AfterIsRight (tests_seen written.tests) (code_of written.code)
 
 -- what the names in the source for code of a chart are made of
@@ -86,7 +95,7 @@ IsHeaderFor c T limits room k text =
     IsHeaderText (names_in c k) (shape_of k T limits room) (written_file k T limits room).functions text
 
 -- The text is that of the header of a chart under these bounds: of code with the runs of its smaller code under these
--- bounds, with tests, limits and room for outputs that serve it
+-- bounds, with tests, limits and room for outputs that serve it, and arrays of sizes that C takes
 pub record IsHeader (c : Chart) (b : Bounds) (text : List ℕ) : Type 0 where
   pub code : Code
   pub tags : List Tag
@@ -96,11 +105,12 @@ pub record IsHeader (c : Chart) (b : Bounds) (text : List ℕ) : Type 0 where
   pub room : ℕ
   pub is_written : IsWritten c b code tags origins
   pub serves : Serves c b code tests limits room
+  pub sizes : HasSizes (shape_of code tests limits room)
   pub is_text : IsHeaderFor c tests limits room code text
 
 -- The text is that of the source of a chart under these bounds: of those functions that are reached of the file of code
--- with the runs of its smaller code, with tests, limits and room for outputs; that file runs as the rules say under
--- these bounds
+-- with the runs of its smaller code, with tests, limits and room for outputs, and arrays of sizes that C takes; that
+-- file runs as the rules say under these bounds
 pub record IsSource (c : Chart) (b : Bounds) (text : List ℕ) : Type 0 where
   pub code : Code
   pub tags : List Tag
@@ -109,5 +119,6 @@ pub record IsSource (c : Chart) (b : Bounds) (text : List ℕ) : Type 0 where
   pub limits : Bounds
   pub room : ℕ
   pub is_written : IsWritten c b code tags origins
+  pub sizes : HasSizes (shape_of code tests limits room)
   pub is_text : IsSourceFor c tests limits room code origins tags text
   pub runs : FileRunsAsRules c b (shape_of code tests limits room) (written_file code tests limits room)

@@ -18,5 +18,6 @@ returns c =
       room = w.outputs;
       is_written = is.is_written;
       serves = is.serves;
+      sizes = is.sizes;
       is_text = header_is c.in_ok-made.ensures _ printed;
     }) c.printed_header.ensures

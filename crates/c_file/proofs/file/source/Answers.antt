@@ -22,6 +22,7 @@ returns c =
       limits = w.limits;
       room = w.outputs;
       is_written = is.is_written;
+      sizes = is.sizes;
       is_text = source_is c.in_ok-made.ensures _ printed;
       runs = λ int s events moments small has given rules.
           c.loops_run_as_calls.ensures.runs (length (code_of w.code).procedures.procs)

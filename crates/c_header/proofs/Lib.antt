@@ -4,5 +4,6 @@ pub mod SiblingNames
 pub mod PathNames
 pub mod NameLists
 pub mod ScopeNames
+pub mod CommentLemmas
 pub mod StructLemmas
 pub mod GuardLemmas

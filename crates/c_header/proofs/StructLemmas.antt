@@ -3,11 +3,15 @@ use Rattle.std.proofs.Common.{◌≡◌, ℕ, zero, suc, ◌+◌, ◌/◌, ◌%�
 use Rattle.std.proofs.Common.{◌++◌, length, map, replicate, drop, get_or, refl, sym, ap, ◌∙◌, arith, append_assoc}
 use Rattle.std.proofs.Common.{drop-cons}
 use Rattle.std.specs.Prelude.{codes, decimal}
+use Rattle.std.specs.List.{list_all, AllByRecursion}
 use Rattle.std.proofs.lemmas.Bool.Decides.{nat_tests}
 use Rattle.std.proofs.lemmas.List.{append-nil, length-append, length-map, length-replicate, drop_all}
 use Rattle.active_config.specs.Tree.{IsTree, state_count, comp_of}
 use Rattle.actions.specs.declared.names.Var.{Var}
+use Rattle.chart_lexer.specs.Words.{is_name}
 use Rattle.code_fields.specs.Spelling.{var_kind_word}
+use Rattle.chart_parts.specs.Plain.{IsPlain}
+use Rattle.chart_parts.proofs.PlainLemmas.{tested, plain_append}
 use Rattle.c_procedures.specs.States.{is_or}
 use Rattle.c_subset.specs.declared.trees.CType.{CType}
 use Rattle.c_subset.specs.declared.trees.CType.TheVariants.{Unsigned}
@@ -24,6 +28,7 @@ use Rattle.c_header.specs.Paths.{place_text}
 use Rattle.c_header.specs.Fields.{texts_below, field_start, field_line, values_text, datum_line, data_text}
 use Rattle.c_header.specs.Fields.{used_words, counters_text, children_text, active_field, last_field, bits_line}
 use Rattle.c_header.specs.Header.{states_text, rows_text, values_fields, states_fields, struct_text}
+use Rattle.c_header.proofs.CommentLemmas.{all_after, all_tested, one_plain, place_plain, children_plain, datum_plain}
 use Rattle.c_header.specs.Struct.{DeclaresStruct, struct_fields, struct_rows, member_text, members_text, arrays_text}
 
 -- ---- lines of fields, from a number on
@@ -86,6 +91,12 @@ unfolding datum_comment
 data_lines L f [] = refl
 data_lines L f (v ∷ vars) = ap (λ (t : List ℕ). datum_line L f v ++ t) (data_lines L (f + 1) vars)
 
+-- their comments are plain
+data_plain : (vars : List Var) → AllByRecursion IsPlain (map datum_comment vars)
+unfolding datum_comment
+data_plain [] = tt
+data_plain (v ∷ vars) = (datum_plain v, data_plain vars)
+
 counter_comments : Bool → List (List ℕ)
 counter_comments counted =
     used_words counted ∷ codes "how many events it put out" ∷ codes "how many entries of note[] are in use"
@@ -101,6 +112,11 @@ counter_lines L counted f =
     let last : List ℕ = codes "the datum that overflowed, by its number from 0" in
     rw (two, three, four, append-nil (field_line L (f + 1 + 1 + 1 + 1) last)) refl
 
+counters_plain : (counted : Bool) → AllByRecursion IsPlain (counter_comments counted)
+unfolding counter_comments
+counters_plain true = all_tested (counter_comments true) refl
+counters_plain false = all_tested (counter_comments false) refl
+
 -- ---- numbers that pass a test
 
 module _ (L : Labels) (first : ℕ) (test : ℕ → Bool) (rank : ℕ → ℕ) (comment : ℕ → List ℕ) (text : ℕ → List ℕ) where
@@ -108,6 +124,13 @@ module _ (L : Labels) (first : ℕ) (test : ℕ → Bool) (rank : ℕ → ℕ) (
   abbrev comments_below : ℕ → List (List ℕ)
   comments_below zero = []
   comments_below (suc n) = comments_below n ++ cond (test n) (comment n ∷ []) []
+
+  -- they are plain where each is
+  plain_below : ((x : ℕ) → IsPlain (comment x)) → (n : ℕ) → AllByRecursion IsPlain (comments_below n)
+  plain_below each zero = tt
+  plain_below each (suc n) =
+      all_after (comments_below n) (cond (test n) (comment n ∷ []) []) (plain_below each n)
+      (one_plain (test n) (comment n) (each n))
 
   -- a field for each of them, one after the other
   record HasLines (limit : ℕ) : Type 0 where
@@ -164,6 +187,27 @@ module _ (chart : List ℕ) (K : Shape) (tree : IsTree K.tree) where
 
   bits_comment : ℕ → List ℕ
   bits_comment x = codes "bits of the other states"
+
+  -- these are plain where the names of chart and states are names
+  active_plain : IsPlain chart → list_all is_name K.names.states ≡ true → (p : ℕ) → IsPlain (active_comment p)
+  unfolding active_comment
+  active_plain plain named p =
+      plain_append (codes "the active child of ") (place_text chart K.tree K.names p ++ children_text K p)
+      (tested (codes "the active child of ") refl)
+      (plain_append (place_text chart K.tree K.names p) (children_text K p)
+      (place_plain K.tree K.names named chart plain p) (children_plain K named p))
+
+  last_plain : IsPlain chart → list_all is_name K.names.states ≡ true → (p : ℕ) → IsPlain (last_comment p)
+  unfolding last_comment
+  last_plain plain named p =
+      plain_append (codes "the child that ") (place_text chart K.tree K.names p ++ codes " remembers")
+      (tested (codes "the child that ") refl)
+      (plain_append (place_text chart K.tree K.names p) (codes " remembers")
+      (place_plain K.tree K.names named chart plain p) (tested (codes " remembers") refl))
+
+  bits_plain : (x : ℕ) → IsPlain (bits_comment x)
+  unfolding bits_comment
+  bits_plain x = tested (codes "bits of the other states") refl
 
   active_line : (p : ℕ) → active_field chart labels K p
       ≡ field_line labels (length K.names.vars + 5 + or_rank K.tree p) (active_comment p)
@@ -262,6 +306,20 @@ module _ (chart : List ℕ) (K : Shape) (tree : IsTree K.tree) where
   abbrev all_comments : List (List ℕ)
   all_comments = value_comments ++ (actives ++ (lasts ++ words))
 
+  all_plain : IsPlain chart → list_all is_name K.names.states ≡ true → AllByRecursion IsPlain all_comments
+  all_plain plain named =
+      all_after value_comments (actives ++ (lasts ++ words))
+      (all_after (map datum_comment K.names.vars) (counter_comments K.tests.steps) (data_plain K.names.vars)
+      (counters_plain K.tests.steps))
+      (all_after actives (lasts ++ words)
+      (plain_below labels 0 has_child (or_rank K.tree) active_comment (active_field chart labels K)
+      (active_plain plain named) (state_count K.tree))
+      (all_after lasts words
+      (plain_below labels 0 has_child (or_rank K.tree) last_comment (last_field chart labels K)
+      (last_plain plain named) (state_count K.tree))
+      (plain_below labels first_word begins_word (λ n. (n + 31) / 32) bits_comment word_text bits_plain
+      (state_count K.tree))))
+
   value_lines : values_fields labels K ≡ lines_from labels 0 value_comments
   unfolding values_fields
   value_lines =
@@ -346,6 +404,10 @@ module _ (chart : List ℕ) (K : Shape) (tree : IsTree K.tree) where
   row_comments_are =
       codes "the events that the last event put out" ∷ codes "what is to be done before the event goes on" ∷ []
 
+  rows_plain : AllByRecursion IsPlain row_comments_are
+  unfolding row_comments_are
+  rows_plain = all_tested row_comments_are refl
+
   row_lines : rows_text K ≡ arrays_text (struct_rows K) row_labels row_comments_are
   unfolding rows_text row_comments_are member_text
   row_lines =
@@ -363,9 +425,10 @@ module _ (chart : List ℕ) (K : Shape) (tree : IsTree K.tree) where
       ∙ append_assoc out_size (codes "]") (out_rest ++ after_out)))
 
   -- the struct of the header is that of the file
-  pub declares : DeclaresStruct labels (struct_fields K) (struct_rows K) (struct_text chart labels K)
+  pub declares : IsPlain chart → list_all is_name K.names.states ≡ true
+      → DeclaresStruct labels (struct_fields K) (struct_rows K) (struct_text chart labels K)
   unfolding struct_text row_comments_are
-  declares =
+  declares plain named =
       let types = types_of_fields chart K in record {
         comments = all_comments;
         row_comments = row_comments_are;
@@ -373,6 +436,8 @@ module _ (chart : List ℕ) (K : Shape) (tree : IsTree K.tree) where
         comments_size = comments_counted ∙ ap (λ (ts : List CType). length ts) types;
         row_names_size = refl;
         row_comments_size = refl;
+        comments_plain = all_plain plain named;
+        row_comments_plain = rows_plain;
         is_text = ap (λ (t : List ℕ). codes "typedef struct {\n" ++ t)
             (sym (append_assoc (values_fields labels K) (states_fields chart labels K)
             (rows_text K ++ (codes "} " ++ (chart ++ codes "_chart;\n\n"))))

@@ -1,8 +1,9 @@
 //! What the names of a header promise, for all charts at once.
-ghost use Rattle.std.specs.Prelude.{◌≡◌, ◌≢◌, ◌<◌, ◌^◌, ◌++◌, ℕ, List, [], length, false};
+ghost use Rattle.std.specs.Prelude.{◌≡◌, ◌≢◌, ◌<◌, ◌^◌, ◌++◌, ℕ, List, [], length, false, true};
 ghost use Rattle.std.specs.Prelude.{slice_index_or};
-ghost use Rattle.active_config.specs.Tree.{Tree, IsTree, state_count};
+ghost use Rattle.active_config.specs.Tree.{Tree, state_count};
 ghost use Rattle.actions.specs.Names.{Names};
+ghost use Rattle.chart_lexer.specs.Words.{is_name};
 ghost use Rattle.c_subset.specs.declared.trees.CType.{CType};
 ghost use Rattle.c_functions.specs.Plans.{Shape};
 ghost use Rattle.c_text.specs.declared.kinds.Kind.{Kind};
@@ -42,9 +43,9 @@ pub fn the_name_that_is_replaced_is_no_other()
 {}
 
 /// The header declares the struct of the file: with its fields and arrays in their order, of their
-/// types and sizes.
+/// types and sizes, each with a comment of one line in which no comment of C ends.
 pub fn the_header_declares_the_struct()
-    ensures { (chart : List ℕ) (K : Shape) → IsTree K.tree
+    ensures { (chart : List ℕ) (K : Shape) → is_name chart ≡ true → HasNamedTree K.tree K.names
         → DeclaresStruct (labels_for chart K.names K.tree K.procs) (struct_fields K) (struct_rows K)
         (struct_text chart (labels_for chart K.names K.tree K.procs) K) }
 {}

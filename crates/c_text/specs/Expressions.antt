@@ -1,5 +1,5 @@
 -- How expressions are written.
-use Rattle.std.specs.Prelude.{ℕ, ◌||◌, Bool, true, false, List, ◌++◌, codes, if◌then◌else◌}
+use Rattle.std.specs.Prelude.{ℕ, Bool, true, false, List, ◌++◌, codes, if◌then◌else◌}
 use Rattle.c_subset.specs.Trees.{CExpr, Const, Field, Element, Local, Cast, Minus, Bang, Calc, Divide, Bits, Compare}
 use Rattle.c_subset.specs.Trees.{Both, Either, Choose}
 use Rattle.c_subset.specs.declared.trees.CType.{CType}
@@ -125,10 +125,10 @@ is_of_type t (Both a b) = false
 is_of_type t (Either a b) = false
 is_of_type t (Choose u e a b) = false
 
--- the text of an expression, brought to a type; anything is brought to `bool` without a cast
+-- the text of an expression, brought to a type
 unfoldable pub brought_text : CType → CExpr → List ℕ → List ℕ
 brought_text t e text =
-    if is_truth t || is_of_type t e then wrapped e text else cast_text t ++ wrapped e text
+    if is_of_type t e then wrapped e text else cast_text t ++ wrapped e text
 
 -- ---- expressions
 

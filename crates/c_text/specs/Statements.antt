@@ -51,7 +51,7 @@ default_text d =
     ++ 10 ∷ [])))))
 
 module _ (L : Labels) (kind : Kind) where
-  -- what is stored in an object of that type; a truth value needs no parentheses
+  -- what is stored in an object of that type; anything is brought to `bool` without a cast
   unfoldable pub stored : CType → CExpr → List ℕ
   stored t e = if is_truth t then bare L kind e else brought L kind t e
 

@@ -10,7 +10,7 @@ use crate::fields::{print_field_label, print_row_label};
 use crate::kinds::Kind;
 use crate::labels::Labels;
 use crate::locals::{LocalName, print_local_label};
-use crate::types::{is_same, is_truth, print_cast};
+use crate::types::{is_same, print_cast};
 use c_subset::{Arithmetic, Bitwise, CExpr, CType, Comparison, Division};
 use std::alloc::AllocError;
 
@@ -296,7 +296,7 @@ pub fn print_brought(
     ensures { OnOk result (string_bytes out.new ≡ string_bytes out.old
         ++ spec.brought (labels_of labels.now) kind to (expr_of expr.now)) }
 {
-    if is_truth(to) || is_of_type(to, expr) {
+    if is_of_type(to, expr) {
         print_operand(out, labels, kind, expr)
     } else {
         print_cast(out, to)?;

@@ -51,7 +51,7 @@ opening_text chart =
 -- struct may have other arrays: its size would be negative
 unfoldable pub fits_text : List ℕ → ℕ → ℕ → ℕ → List ℕ
 fits_text chart steps outputs notes =
-    (codes "/* C refuses this type where the header is not that of this source. */\ntypedef char " ++ chart)
+    (codes "/* C refuses this type where a number in the header is another one. */\ntypedef char " ++ chart)
     ++ ((codes "_header_fits[((" ++ chart) ++ ((codes "_STEPS == " ++ decimal steps)
     ++ ((codes ") && (" ++ chart) ++ ((codes "_OUTPUTS == " ++ decimal outputs)
     ++ ((codes ") && (" ++ chart) ++ ((codes "_NOTES == " ++ decimal notes) ++ codes ")) ? 1 : -1];\n\n"))))))

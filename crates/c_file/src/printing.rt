@@ -87,7 +87,7 @@ fn print_fits(
 {
     print_named(
         out,
-        "/* C refuses this type where the header is not that of this source. */\ntypedef char ",
+        "/* C refuses this type where a number in the header is another one. */\ntypedef char ",
         chart,
     )?;
     print_named(out, "_header_fits[((", chart)?;

@@ -99,7 +99,7 @@ data_plain (v ∷ vars) = (datum_plain v, data_plain vars)
 
 counter_comments : Bool → List (List ℕ)
 counter_comments counted =
-    used_words counted ∷ codes "how many events it put out" ∷ codes "how many entries of note[] are in use"
+    used_words counted ∷ codes "how many events it emitted" ∷ codes "how many entries of note[] are in use"
     ∷ codes "its fault" ∷ codes "the datum that overflowed, by its number from 0" ∷ []
 
 counter_lines : (L : Labels) (counted : Bool) (f : ℕ)
@@ -402,7 +402,7 @@ module _ (chart : List ℕ) (K : Shape) (tree : IsTree K.tree) where
 
   row_comments_are : List (List ℕ)
   row_comments_are =
-      codes "the events that the last event put out" ∷ codes "what is to be done before the event goes on" ∷ []
+      codes "the events that the last event emitted" ∷ codes "what is to be done before the event goes on" ∷ []
 
   rows_plain : AllByRecursion IsPlain row_comments_are
   unfolding row_comments_are
@@ -413,13 +413,13 @@ module _ (chart : List ℕ) (K : Shape) (tree : IsTree K.tree) where
   row_lines =
       let out_size : List ℕ = decimal K.outputs in
       let note_size : List ℕ = decimal K.notes in
-      let out_rest : List ℕ = codes "; /* the events that the last event put out */\n" in
+      let out_rest : List ℕ = codes "; /* the events that the last event emitted */\n" in
       let note_rest : List ℕ = codes "; /* what is to be done before the event goes on */\n" in
       let note : List ℕ = ((note_size ++ codes "]") ++ note_rest) ++ [] in
       let after_out : List ℕ = codes "    uint32_t note[" ++ note in
       ap (λ (t : List ℕ). codes "    uint32_t out[" ++ t)
       (ap (λ (t : List ℕ). out_size
-      ++ (codes "]; /* the events that the last event put out */\n    uint32_t note[" ++ t))
+      ++ (codes "]; /* the events that the last event emitted */\n    uint32_t note[" ++ t))
       (sym (append-nil ((note_size ++ codes "]") ++ note_rest) ∙ append_assoc note_size (codes "]") note_rest))
       ∙ sym (append_assoc (out_size ++ codes "]") out_rest after_out
       ∙ append_assoc out_size (codes "]") (out_rest ++ after_out)))

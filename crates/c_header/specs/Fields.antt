@@ -65,7 +65,7 @@ used_words false = codes "not used: no event can overrun the bound of steps"
 unfoldable pub counters_text : Labels → Bool → ℕ → List ℕ
 counters_text L counted f =
     field_line L f (used_words counted)
-    ++ (field_line L (f + 1) (codes "how many events it put out")
+    ++ (field_line L (f + 1) (codes "how many events it emitted")
     ++ (field_line L (f + 2) (codes "how many entries of note[] are in use")
     ++ (field_line L (f + 3) (codes "its fault")
     ++ field_line L (f + 4) (codes "the datum that overflowed, by its number from 0"))))

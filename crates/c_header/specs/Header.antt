@@ -29,7 +29,7 @@ named_text front chart back = front ++ (chart ++ back)
 unfoldable pub usage_text : List ℕ → List ℕ
 usage_text chart =
     codes "   All memory is one struct, which the caller owns. Before each event store the inputs\n"
-    ++ (codes "   (in_..). After it read the outputs (out_..), the events that were put out (out[0] to\n"
+    ++ (codes "   (in_..). After it read the outputs (out_..), the events that were emitted (out[0] to\n"
     ++ (codes "   out[outs - 1]) and which states are active. Each call returns whether it ended\n"
     ++ (codes "   without a fault. After a fault, which fault and fault_datum tell, the run is over:\n"
     ++ (named_text (codes "   the next call is ") chart
@@ -74,7 +74,7 @@ tick_line chart es = define_line chart (codes "_") (codes "TICK") (length es)
 -- the events, and a reaction without one
 unfoldable pub events_text : List ℕ → List EventDecl → List ℕ
 events_text chart es =
-    named_text (codes "/* The events: those that ") chart (codes "_react takes, and those that are put out. */\n")
+    named_text (codes "/* The events: those that ") chart (codes "_react takes, and those that are emitted. */\n")
     ++ (event_lines chart 0 es ++ tick_line chart es)
 
 -- the faults
@@ -151,7 +151,7 @@ states_text chart L K about = texts_below (state_text chart L K about) (state_co
 unfoldable pub rows_text : Shape → List ℕ
 rows_text K =
     codes "    uint32_t out[" ++ (decimal K.outputs
-    ++ (codes "]; /* the events that the last event put out */\n    uint32_t note["
+    ++ (codes "]; /* the events that the last event emitted */\n    uint32_t note["
     ++ (decimal K.notes ++ codes "]; /* what is to be done before the event goes on */\n")))
 
 -- the fields of data, and those after them

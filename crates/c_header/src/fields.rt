@@ -145,7 +145,7 @@ pub(crate) fn print_counters(
         ≡ string_bytes out.old ++ spec.counters_text (labels_of labels.now) counted first) }
 {
     print_commented(out, labels, first, used_words(counted))?;
-    print_commented(out, labels, first + 1, "how many events it put out")?;
+    print_commented(out, labels, first + 1, "how many events it emitted")?;
     print_commented(
         out,
         labels,
@@ -170,7 +170,7 @@ pub(crate) fn print_rows(out: &mut String, shape: &FileShape<'_>) -> Result<(), 
     print_number(out, "    uint32_t out[", u64::from(shape.outputs))?;
     print_number(
         out,
-        "]; /* the events that the last event put out */\n    uint32_t note[",
+        "]; /* the events that the last event emitted */\n    uint32_t note[",
         shape.notes,
     )?;
     out.push_str("]; /* what is to be done before the event goes on */\n")

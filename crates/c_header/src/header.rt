@@ -67,7 +67,7 @@ fn print_usage(out: &mut String, chart: &str) -> Result<(), AllocError>
         "   All memory is one struct, which the caller owns. Before each event store the inputs\n",
     )?;
     out.push_str(
-        "   (in_..). After it read the outputs (out_..), the events that were put out (out[0] to\n",
+        "   (in_..). After it read the outputs (out_..), the events that were emitted (out[0] to\n",
     )?;
     out.push_str(
         "   out[outs - 1]) and which states are active. Each call returns whether it ended\n",

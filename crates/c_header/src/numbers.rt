@@ -21,7 +21,7 @@ pub(crate) fn print_events(
         out,
         "/* The events: those that ",
         chart,
-        "_react takes, and those that are put out. */\n",
+        "_react takes, and those that are emitted. */\n",
     )?;
     print_event_lines(out, chart, events)?;
     print_tick(out, chart, events)

@@ -1,5 +1,5 @@
 //! What holds of the two files of a chart.
-ghost use Rattle.std.specs.Prelude.{◌≡◌, ℕ, List, true};
+ghost use Rattle.std.specs.Prelude.{◌≡◌, ℕ, List, [], ◌∷◌, ◌++◌, Some, true, codes, slice_get};
 ghost use Rattle.std.specs.List.{list_all};
 ghost use Rattle.active_config.specs.Tree.{Tree};
 ghost use Rattle.actions.specs.Names.{Names};
@@ -11,11 +11,14 @@ ghost use Rattle.flow_base.specs.declared.bounds.Bounds.{Bounds};
 ghost use Rattle.checked_chart.specs.Chart.{Chart};
 ghost use Rattle.code_language.specs.Code.{Code};
 ghost use Rattle.code_passes.specs.declared.tag.Tag.{Tag};
-ghost use Rattle.c_file.specs.Files.{IsCodeFor, IsSourceFor, IsWritten};
+ghost use Rattle.c_file.specs.Files.{IsCodeFor, IsSourceFor, IsWritten, names_in};
+ghost use Rattle.c_file.specs.Functions.{written_file};
 ghost use Rattle.c_functions.specs.Files.{shape_of};
 ghost use Rattle.c_functions.specs.Plans.{Tests};
 ghost use Rattle.c_functions.specs.Starts.{HasShape};
 ghost use Rattle.c_subset.specs.Meaning.{Store};
+ghost use Rattle.c_subset.specs.Trees.{Function};
+ghost use Rattle.c_text.specs.Functions.{head_text, prototype_text};
 
 /// The smaller code of a chart is one, and so are the numbers that its procedures had: the header
 /// and the source of a chart are for the same smaller code.
@@ -33,6 +36,16 @@ pub fn the_struct_of_the_header_is_that_of_the_source()
         (s : Store) → IsWritten c b k tags origins → IsWritten c b' k' tags' origins' → room ≡ room'
         → (shape_of k T limits room).notes ≡ (shape_of k' T' limits' room').notes
         → HasShape (shape_of k T limits room) s → HasShape (shape_of k' T' limits' room') s }
+{}
+
+/// The declaration of each function of the file that is written for a chart is the head of that
+/// function, and a semicolon.
+pub fn declarations_of_the_file_are_heads()
+    ensures { (c : Chart) (b : Bounds) (k : Code) (tags : List Tag) (origins : List ℕ) (T : Tests)
+        (limits : Bounds) (room f : ℕ) (g : Function) → IsWritten c b k tags origins
+        → slice_get (written_file k T limits room).functions f ≡ Some g
+        → prototype_text (names_in c k) f
+        ≡ head_text (names_in c k) f g.result g.parameters ++ (codes ";" ++ 10 ∷ []) }
 {}
 
 /// The source for code of a chart is one: which functions are written is told by the code.

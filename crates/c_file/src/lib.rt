@@ -20,6 +20,7 @@ mod written;
 
 pub use file::{header, source};
 pub use laws::{
-    the_smaller_code_of_a_chart_is_one, the_source_for_code_is_one,
-    the_struct_of_the_header_is_that_of_the_source, words_for_copies_can_stand_in_a_comment,
+    declarations_of_the_file_are_heads, the_smaller_code_of_a_chart_is_one,
+    the_source_for_code_is_one, the_struct_of_the_header_is_that_of_the_source,
+    words_for_copies_can_stand_in_a_comment,
 };

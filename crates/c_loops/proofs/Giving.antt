@@ -1,6 +1,6 @@
 -- Statements that give a result back return it, and leave the struct as it is.
 use Rattle.std.proofs.Common.{◌≡◌, ℕ, ◌^◌, ◌<◌, nat_eq, nat_lt, ℤ, pos, negsuc, Bool, true, false, cond, not, ◌&&◌}
-use Rattle.std.proofs.Common.{◌||◌, List, [], ◌∷◌, Option, Some, None, refl, sym, ap, ◌∙◌, subst, arith}
+use Rattle.std.proofs.Common.{◌||◌, ◌==◌, List, [], ◌∷◌, Option, Some, None, refl, sym, ap, ◌∙◌, subst, arith}
 use Rattle.std.specs.List.{list_all, list_any}
 use Rattle.std.proofs.lemmas.Bool.Decides.{nat_tests}
 use Rattle.c_subset.specs.declared.trees.Width.{Width}
@@ -18,7 +18,7 @@ use Rattle.c_subset.specs.Running.{Outcome, Returns, with_value, and_on, same_ty
 use Rattle.c_subset.proofs.TypeLemmas.{truth-stays}
 use Rattle.c_functions.specs.Plans.{word, number}
 use Rattle.c_functions.proofs.Tests.{unsigned, own-stays, compared-unsigned, equal-numbers}
-use Rattle.c_loops.specs.Results.{Known, Exactly, NotZero, Anything, allows, Test, Equal, Unequal, Other, opposite}
+use Rattle.c_loops.specs.Results.{Known, Exactly, NotZero, Anything, Test, Equal, Unequal, Other, opposite}
 use Rattle.c_loops.specs.Results.{where_holds, small, constant_of, is_local, comparing, test_of, if_known, both_parts}
 use Rattle.c_loops.specs.Results.{is_constant, is_end, part_gives, gives_back, gives_each_back}
 use Rattle.c_loops.proofs.Locals.{type-is}
@@ -67,6 +67,12 @@ local-is i (Local t k) h =
 local-is i e h = absurd cc
 
 -- ---- what is known
+
+-- a number may be such a result
+abbrev pub allows : Known → ℕ → Bool
+allows (Exactly k) r = k == r
+allows NotZero r = not (r == 0)
+allows Anything r = true
 
 -- a test holds of a result
 abbrev pub passed : Test → ℕ → Bool

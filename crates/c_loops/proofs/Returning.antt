@@ -20,12 +20,13 @@ use Rattle.c_subset.specs.Running.{with_local, brought_to, with_field, with_elem
 use Rattle.c_subset.specs.Running.{selected, turns, outcome, with_arguments, returned, run, call}
 use Rattle.c_functions.specs.Plans.{word}
 use Rattle.c_functions.proofs.Tests.{own-stays}
-use Rattle.c_loops.specs.Results.{Known, NotZero, Anything, allows, Test, Equal, Unequal, Other, opposite}
+use Rattle.c_loops.specs.Results.{Known, NotZero, Anything, Test, Equal, Unequal, Other, opposite}
 use Rattle.c_loops.specs.Results.{constant_of, is_local, test_of, gives_each_back}
 use Rattle.c_loops.specs.Loops.{hands_on, leads_back, rests, after_test, constant_result, result_of}
 use Rattle.c_loops.specs.Loops.{results}
 use Rattle.c_loops.proofs.Locals.{value_in, rest-below, converted-again, AreTyped, none-typed, put-typed, brought-from}
-use Rattle.c_loops.proofs.Giving.{both-true, constant-is, local-is, passed, MeansTest, not-not, test-means, Among}
+use Rattle.c_loops.proofs.Giving.{both-true, constant-is, local-is, allows, passed, MeansTest, not-not, test-means}
+use Rattle.c_loops.proofs.Giving.{Among}
 use Rattle.c_loops.proofs.Handing.{IsResult, ComesBack, comes-back}
 
 -- ---- lists of results

@@ -1,5 +1,5 @@
 -- What is known of the result of a call, and whether statements after it give it back.
-use Rattle.std.specs.Prelude.{ℕ, ◌^◌, ◌==◌, nat_lt, ℤ, pos, negsuc, Bool, true, false, not, ◌&&◌, ◌||◌, List}
+use Rattle.std.specs.Prelude.{ℕ, ◌^◌, ◌==◌, nat_lt, ℤ, pos, negsuc, Bool, true, false, ◌&&◌, ◌||◌, List}
 use Rattle.std.specs.Prelude.{Option, Some, None, if◌then◌else◌}
 use Rattle.std.specs.List.{list_all}
 use Rattle.c_subset.specs.declared.trees.Comparison.{Comparison}
@@ -18,12 +18,6 @@ pub use Rattle.c_loops.specs.declared.known.Known.TheVariants.{Exactly, NotZero,
 -- what an expression tests: that the result is this number, that it isn't, or something else
 pub use Rattle.c_loops.specs.declared.known.Test.{Test}
 pub use Rattle.c_loops.specs.declared.known.Test.TheVariants.{Equal, Unequal, Other}
-
--- a number may be such a result
-abbrev pub allows : Known → ℕ → Bool
-allows (Exactly k) r = k == r
-allows NotZero r = not (r == 0)
-allows Anything r = true
 
 -- the test that holds where that doesn't
 abbrev pub opposite : Test → Test

@@ -32,8 +32,9 @@ from random_compiled import bounds_of, features_of
 SANITIZERS = ['-fsanitize=undefined,address', '-fno-sanitize-recover=all', '-g']
 # What a chart itself says, such as `x != 300` of a datum with 8 bits, or `x <= x`, is no fault of the C that does it.
 ALLOWED = ['-Wno-type-limits', '-Wno-tautological-compare']
-# The same of `-x - 1 != 3`, and of a guard that asks for two children of one OR; gcc has no flag for these warnings alone.
-SAID_BY_CHART = 'promoted bitwise complement', 'of mutually exclusive equal-tests'
+# The same of `-x - 1 != 3`, and of a guard that asks for two children of one OR, or that one of two isn't active; gcc has no flag for
+# these warnings alone.
+SAID_BY_CHART = 'promoted bitwise complement', 'of mutually exclusive equal-tests', 'of unmatched not-equal tests'
 ENDS_GCC, WITHOUT_WARNINGS = 'all warnings being treated as errors', '-w'
 LEVELS = ['-O0', '-O2']
 OBJECT, TABLE = 'chart.o', 'table.o'

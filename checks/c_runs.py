@@ -12,7 +12,7 @@ what chart_rules.py writes of the chart; a chart and its events follow from the 
 many as there are processors where nothing is said; what is written is the same for each J.
 
 The program ends with status 1 where anything differs and where there is no chart. The files of a random chart that differs are kept in
-FOLDER, which is `differences` where nothing is said. A chart takes about a quarter of a second of a processor."""
+FOLDER, which is `differences` where nothing is said. A chart takes about half a second of a processor."""
 import os
 import random
 import sys

@@ -1,8 +1,10 @@
 -- The source for code of a chart is one.
-use Rattle.std.proofs.Common.{◌≡◌, ℕ, Bool, false, List, slice_index_or, sym, ap, ◌∙◌}
+use Rattle.std.proofs.Common.{◌≡◌, ℕ, Bool, false, List, Option, slice_index_or, sym, ap, ◌∙◌}
 use Rattle.std.proofs.lemmas.List.{ext_get_or}
+use Rattle.flow_base.specs.declared.bounds.Bounds.{Bounds}
 use Rattle.c_subset.specs.Trees.{Function}
 use Rattle.c_text.specs.Labels.{Labels}
+use Rattle.c_header.specs.Header.{calls_number}
 use Rattle.c_file.specs.Reached.{AreReached}
 use Rattle.c_file.specs.Source.{source_text, IsSourceText}
 use Rattle.c_file.proofs.OneCode.{same_truth}
@@ -15,11 +17,14 @@ module _ (L : Labels) (functions : List Function) where
       (λ f within. same_truth (slice_index_or x f false) (slice_index_or y f false)
       (λ h. b.complete f (a.sound f h)) (λ h. a.complete f (b.sound f h)))
 
-  -- and so there is one text
-  pub one_text : (said : List (List ℕ)) (steps outputs notes : ℕ) (text text' : List ℕ)
-      → IsSourceText L said steps outputs notes functions text → IsSourceText L said steps outputs notes functions text'
-      → text ≡ text'
-  one_text said steps outputs notes text text' a b =
+  -- and so there is one text for one number of calls
+  pub one_text : (said : List (List ℕ)) (bounds : Bounds) (outputs notes : ℕ) (text text' : List ℕ)
+      → (a : IsSourceText L said bounds outputs notes functions text)
+      → (b : IsSourceText L said bounds outputs notes functions text') → a.calls ≡ b.calls → text ≡ text'
+  one_text said bounds outputs notes text text' a b calls =
       a.is_text
-      ∙ ap (λ (written : List Bool). source_text L said steps outputs notes functions written)
-      (same_written a.written b.written a.reached b.reached) ∙ sym b.is_text
+      ∙ ap (λ (written : List Bool).
+      source_text L said bounds outputs notes (calls_number a.calls) functions written)
+      (same_written a.written b.written a.reached b.reached)
+      ∙ ap (λ (o : Option ℕ). source_text L said bounds outputs notes (calls_number o) functions b.written) calls
+      ∙ sym b.is_text

@@ -19,12 +19,10 @@ four_printed old first second third fourth one two three four a b c d =
 pub first_printed : (old text now : List ℕ) → old ≡ [] → now ≡ old ++ text → now ≡ text
 first_printed old text now none is = is ∙ ap (λ (t : List ℕ). t ++ text) none
 
--- eight texts
-pub eight_printed : (old a b c d e f g h one two three four five six seven eight : List ℕ)
+-- seven texts
+pub seven_printed : (old a b c d e f g one two three four five six seven : List ℕ)
     → one ≡ old ++ a → two ≡ one ++ b → three ≡ two ++ c → four ≡ three ++ d → five ≡ four ++ e → six ≡ five ++ f
-    → seven ≡ six ++ g → eight ≡ seven ++ h
-    → eight ≡ old ++ (a ++ (b ++ (c ++ (d ++ (e ++ (f ++ (g ++ h)))))))
-eight_printed old a b c d e f g h one two three four five six seven eight p q r s t u v w =
-    four_printed old a b c (d ++ (e ++ (f ++ (g ++ h)))) one two three eight p q r
-    (two_printed three d (e ++ (f ++ (g ++ h))) four eight s
-    (four_printed four e f g h five six seven eight t u v w))
+    → seven ≡ six ++ g → seven ≡ old ++ (a ++ (b ++ (c ++ (d ++ (e ++ (f ++ g))))))
+seven_printed old a b c d e f g one two three four five six seven p q r s t u v =
+    four_printed old a b c (d ++ (e ++ (f ++ g))) one two three seven p q r
+    (four_printed three d e f g four five six seven s t u v)

@@ -14,8 +14,8 @@ use Rattle.c_expression_writer.specs.FileShapes.{shape_seen, tests_seen}
 use Rattle.c_file.specs.declared.made.Made.{Made}
 use Rattle.c_file.specs.declared.written.Written.{Written}
 use Rattle.c_file.specs.Comments.{comments_for, said_of}
+use Rattle.c_file.specs.Facts.{IsHeaderText}
 use Rattle.c_file.specs.Functions.{written_file}
-use Rattle.c_file.specs.Heights.{IsHeaderText}
 use Rattle.c_file.specs.Made.{functions_of}
 use Rattle.c_file.specs.Source.{IsSourceText}
 use Rattle.c_file.specs.Files.{chart_name, names_in, IsMadeFor, IsHeaderFor, IsSourceFor}
@@ -49,7 +49,7 @@ module _ {c : Chart} {w : Written} {made : Made} (is : IsMadeFor c w made) where
       ∙ ap (λ (S : Shape). (written_file (code_of w.code) S.tests S.bounds S.outputs).functions) is.shape
 
   -- a source of these is that for the code
-  pub source_is : (text : List ℕ) → IsSourceText (labels_of made.labels) (said_of made.said) made.shape.bounds.steps
+  pub source_is : (text : List ℕ) → IsSourceText (labels_of made.labels) (said_of made.said) made.shape.bounds
       made.shape.outputs made.shape.notes (functions_of made) text
       → IsSourceFor c (tests_seen w.tests) w.limits w.outputs (code_of w.code) w.origins.items
       w.tags.items text
@@ -57,13 +57,13 @@ module _ {c : Chart} {w : Written} {made : Made} (is : IsMadeFor c w made) where
       let k : Code = code_of w.code in
       let said : List (List ℕ) =
       comments_for c.tree c.names (parts_of c) w.origins.items w.tags.items in
-      subst (λ (S : Shape). IsSourceText (names_in c k) said S.bounds.steps S.outputs S.notes
+      subst (λ (S : Shape). IsSourceText (names_in c k) said S.bounds S.outputs S.notes
       (written_file k (tests_seen w.tests) w.limits w.outputs).functions text) is.shape
-      (subst (λ (fs : List Function). IsSourceText (names_in c k) said made.shape.bounds.steps made.shape.outputs
+      (subst (λ (fs : List Function). IsSourceText (names_in c k) said made.shape.bounds made.shape.outputs
       made.shape.notes fs text) functions_are
-      (subst (λ (xs : List (List ℕ)). IsSourceText (names_in c k) xs made.shape.bounds.steps made.shape.outputs
+      (subst (λ (xs : List (List ℕ)). IsSourceText (names_in c k) xs made.shape.bounds made.shape.outputs
       made.shape.notes (functions_of made) text) is.said
-      (subst (λ (L : Labels). IsSourceText L (said_of made.said) made.shape.bounds.steps made.shape.outputs
+      (subst (λ (L : Labels). IsSourceText L (said_of made.said) made.shape.bounds made.shape.outputs
       made.shape.notes (functions_of made) text) is.names it)))
 
   -- and so is a header

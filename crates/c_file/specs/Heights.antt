@@ -1,10 +1,8 @@
 -- How many functions of a file are open at once, where none of them calls itself.
 use Rattle.std.specs.Prelude.{◌≡◌, ◌<◌, ◌≤◌, ℕ, ◌||◌, not, nat_lt, Bool, true, false, List, [], ◌∷◌, length}
-use Rattle.std.specs.Prelude.{slice_get, slice_index_or, Option, Some, IfSome}
+use Rattle.std.specs.Prelude.{slice_get, slice_index_or, Some}
 use Rattle.c_subset.specs.Trees.{Function}
-use Rattle.c_functions.specs.Plans.{Shape}
 use Rattle.c_text.specs.Labels.{Labels}
-use Rattle.c_header.specs.Header.{header_text}
 use Rattle.c_file.specs.declared.calls.FunctionCall.{FunctionCall}
 use Rattle.c_file.specs.Calls.{call_to, calls_from}
 use Rattle.c_file.specs.Reached.{outside_of}
@@ -26,12 +24,6 @@ abbrev pub HasMostOpen : Labels → List Function → ℕ → Type 0
 HasMostOpen L functions n =
     (f : ℕ) (gs : List ℕ) → f < length functions → outside_of L f ≡ true
     → AreOpenAfter (length functions) (calls_from 0 functions) f gs → length (f ∷ gs) ≤ n
-
--- The text is that of a header of a file: it says how many functions are open at once at most, if that is known
-pub record IsHeaderText (L : Labels) (K : Shape) (functions : List Function) (text : List ℕ) : Type 0 where
-  pub calls : Option ℕ
-  pub most_calls : IfSome calls (HasMostOpen L functions)
-  pub is_text : text ≡ header_text L.chart K calls
 
 -- a call by a function that is reached leads to one of lower height
 abbrev pub leads_down : List Bool → List ℕ → FunctionCall → Bool

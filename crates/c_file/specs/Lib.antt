@@ -2,8 +2,9 @@ pub mod Calls
 pub mod Uses
 pub mod Reached
 pub mod Closing
-pub mod Source
 pub mod Heights
+pub mod Source
+pub mod Facts
 pub mod Comments
 pub mod Functions
 pub mod Made

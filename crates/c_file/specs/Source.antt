@@ -1,10 +1,13 @@
 -- The text of a source: what is written of a file, and in which order.
 use Rattle.std.specs.Prelude.{◌≡◌, ℕ, ◌+◌, ◌-◌, ◌||◌, ◌&&◌, not, Bool, true, false, List, [], ◌∷◌, ◌++◌, length, codes}
-use Rattle.std.specs.Prelude.{decimal, slice_index_or, if◌then◌else◌}
+use Rattle.std.specs.Prelude.{decimal, slice_index_or, if◌then◌else◌, Option, IfSome}
+use Rattle.flow_base.specs.declared.bounds.Bounds.{Bounds}
 use Rattle.c_subset.specs.Trees.{Function}
 use Rattle.c_subset.specs.Lines.{lines_of}
 use Rattle.c_text.specs.Labels.{Labels}
 use Rattle.c_text.specs.Functions.{prototype_text, function_text}
+use Rattle.c_header.specs.Header.{calls_number}
+use Rattle.c_file.specs.Heights.{HasMostOpen}
 use Rattle.c_file.specs.Reached.{outside_of, AreReached}
 use Rattle.c_file.specs.Uses.{is_wide}
 
@@ -47,14 +50,20 @@ opening_text chart =
     (codes "/* The C of the chart " ++ chart) ++ ((codes ", written by chart_to_c. Do not edit. " ++ chart)
     ++ ((codes ".h says how it is used. */\n#include \"" ++ chart) ++ codes ".h\"\n\n"))
 
--- A type that C refuses where the header has other numbers of steps, outputs or notes than the source, so that the
--- struct may have other arrays: its size would be negative
-unfoldable pub fits_text : List ℕ → ℕ → ℕ → ℕ → List ℕ
-fits_text chart steps outputs notes =
+-- CHARTNAME == NUMBER, after other words
+unfoldable pub number_is : List ℕ → List ℕ → List ℕ → ℕ → List ℕ
+number_is front chart name number = (front ++ chart) ++ (name ++ decimal number)
+
+-- A type that C refuses where the header has other bounds or other numbers of outputs, notes or calls than the source:
+-- its size would be negative. So the struct of the header has the arrays of that of the source.
+unfoldable pub fits_text : List ℕ → Bounds → ℕ → ℕ → ℕ → List ℕ
+fits_text chart bounds outputs notes calls =
     (codes "/* C refuses this type where a number in the header is another one. */\ntypedef char " ++ chart)
-    ++ ((codes "_header_fits[((" ++ chart) ++ ((codes "_STEPS == " ++ decimal steps)
-    ++ ((codes ") && (" ++ chart) ++ ((codes "_OUTPUTS == " ++ decimal outputs)
-    ++ ((codes ") && (" ++ chart) ++ ((codes "_NOTES == " ++ decimal notes) ++ codes ")) ? 1 : -1];\n\n"))))))
+    ++ (number_is (codes "_header_fits[((") chart (codes "_DEPTH == ") bounds.depth
+    ++ (number_is (codes ") && (") chart (codes "_STEPS == ") bounds.steps
+    ++ (number_is (codes ") && (") chart (codes "_OUTPUTS == ") outputs
+    ++ (number_is (codes ") && (") chart (codes "_NOTES == ") notes
+    ++ (number_is (codes ") && (") chart (codes "_CALLS == ") calls ++ codes ")) ? 1 : -1];\n\n")))))
 
 -- the types of 128 bits, where one is named
 abbrev pub wide_text : Bool → List ℕ
@@ -86,22 +95,25 @@ functions_text L said written f [] = []
 functions_text L said written f (g ∷ gs) = written_text L said written f g ++ functions_text L said written (f + 1) gs
 
 -- what stands before the functions
-abbrev pub front_text : Labels → ℕ → ℕ → ℕ → List Function → List Bool → List ℕ
-front_text L steps outputs notes functions written =
+abbrev pub front_text : Labels → Bounds → ℕ → ℕ → ℕ → List Function → List Bool → List ℕ
+front_text L bounds outputs notes calls functions written =
     opening_text L.chart
-    ++ (fits_text L.chart steps outputs notes
+    ++ (fits_text L.chart bounds outputs notes calls
     ++ (wide_text (any_wide written 0 functions) ++ declarations_text L written 0 functions))
 
--- the source of those of the functions that are written, for so many steps and a struct with room for so many outputs
--- and notes
-unfoldable pub source_text : Labels → List (List ℕ) → ℕ → ℕ → ℕ → List Function → List Bool → List ℕ
-source_text L said steps outputs notes functions written =
-    front_text L steps outputs notes functions written ++ functions_text L said written 0 functions
+-- the source of those of the functions that are written, for these bounds, a struct with room for so many outputs and
+-- notes, and a header that has this number of calls
+unfoldable pub source_text : Labels → List (List ℕ) → Bounds → ℕ → ℕ → ℕ → List Function → List Bool → List ℕ
+source_text L said bounds outputs notes calls functions written =
+    front_text L bounds outputs notes calls functions written ++ functions_text L said written 0 functions
 
--- The text is the source of the functions that are reached, of which those of procedures do what is said, for so many
--- steps and a struct with room for so many outputs and notes
-pub record IsSourceText (L : Labels) (said : List (List ℕ)) (steps outputs notes : ℕ) (functions : List Function)
-    (text : List ℕ) : Type 0 where
+-- The text is the source of the functions that are reached, of which those of procedures do what is said, for these
+-- bounds and a struct with room for so many outputs and notes. It fits a header that says how many of these functions
+-- are open at once at most, if that is known
+pub record IsSourceText (L : Labels) (said : List (List ℕ)) (bounds : Bounds) (outputs notes : ℕ)
+    (functions : List Function) (text : List ℕ) : Type 0 where
+  pub calls : Option ℕ
+  pub most_calls : IfSome calls (HasMostOpen L functions)
   pub written : List Bool
   pub reached : AreReached L functions written
-  pub is_text : text ≡ source_text L said steps outputs notes functions written
+  pub is_text : text ≡ source_text L said bounds outputs notes (calls_number calls) functions written

@@ -8,17 +8,17 @@ ghost use Rattle.c_expression_writer.specs.FileShapes.{shape_seen};
 ghost use Rattle.c_header.specs.Header.{header_text};
 ghost use Rattle.c_runs.specs.Claims.{FitsChart};
 ghost use Rattle.c_file.specs.Comments.{IsTagOf};
+ghost use Rattle.c_file.specs.Facts.{IsHeaderText};
 ghost use Rattle.c_file.specs.Files.{IsHeader, IsMadeFor, IsSource, chart_name};
-ghost use Rattle.c_file.specs.Heights.{IsHeaderText};
 ghost use Rattle.c_file.specs.Made.{IsMade, functions_of};
 
-use crate::heights::most_open;
+use crate::facts::facts_of;
 use crate::made::Made;
 use crate::printing::printed_source;
 use crate::said::Said;
 use crate::written::{Written, written_code};
 use c_expression_writer::FileShape;
-use c_header::print_header;
+use c_header::{SourceFacts, print_header};
 use c_loops::loops_run_as_calls;
 use c_runs::files_of_code_that_serves_run_as_charts;
 use c_text::Labels;
@@ -62,26 +62,26 @@ fn made_of<'a>(alloc: Global, chart: &'a Chart, written: &'a Written) -> Result<
     })
 }
 
-/// The header, where so many functions of the source are open at once at most, if that is known.
-fn header_with(alloc: Global, made: &Made<'_>, most: Option<u32>) -> Result<String, Memory>
+/// The header, where these facts hold of the source.
+fn header_with(alloc: Global, made: &Made<'_>, facts: SourceFacts) -> Result<String, Memory>
     ensures { IfOk result (λ text. string_bytes text
-        ≡ header_text made.now.name.now (shape_seen made.now.shape) most) }
+        ≡ header_text made.now.name.now (shape_seen made.now.shape) facts) }
 {
     let mut text = String::new(alloc);
-    match print_header(alloc, &mut text, made.name, &made.shape, most) {
+    match print_header(alloc, &mut text, made.name, &made.shape, facts) {
         Ok(()) => Ok(text),
         Err(_) => Err(Memory),
     }
 }
 
-/// The header. Each function of the source is made, to see how many are open at once.
+/// The header. Each function of the source is made, to see what the header says of them.
 fn printed_header(alloc: Global, made: &Made<'_>) -> Result<String, Memory>
     requires is { IsMade made.now }
     ensures { IfOk result (λ text. IsHeaderText (labels_of made.now.labels)
         (shape_seen made.now.shape) (functions_of made.now) (string_bytes text)) }
 {
-    let most = most_open(alloc, made)?;
-    header_with(alloc, made, most)
+    let facts = facts_of(alloc, made)?;
+    header_with(alloc, made, facts)
 }
 
 /// The header of a chart's C under these bounds, of the code for which its source is written.

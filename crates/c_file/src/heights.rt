@@ -5,10 +5,10 @@ ghost use Rattle.std.specs.Prelude.{slice_index_or};
 ghost use Rattle.std.specs.List.{list_all};
 ghost use Rattle.c_text.specs.Labels.{labels_of};
 ghost use Rattle.c_file.specs.Heights as spec;
-ghost use Rattle.c_file.specs.Made.{IsMade, functions_of};
+ghost use Rattle.c_file.specs.Made.{AreUses, IsMade, functions_of};
 
 use crate::calls::{FunctionCall, flag_of};
-use crate::known::{Uses, uses_of};
+use crate::known::Uses;
 use crate::made::Made;
 use flow_base::Memory;
 use std::alloc::Global;
@@ -111,13 +111,17 @@ fn greatest(heights: &[u32]) -> u32
 
 /// How many functions of a file are open at once at most, where it is found that none of those that
 /// are reached calls itself, by way of others either. `Memory` only where memory was refused.
-pub(crate) fn most_open(alloc: Global, made: &Made<'_>) -> Result<Option<u32>, Memory>
+pub(crate) fn most_open(
+    alloc: Global,
+    made: &Made<'_>,
+    uses: &Uses,
+) -> Result<Option<u32>, Memory>
     requires is { IsMade made.now }
+    requires uses { AreUses (labels_of made.now.labels) (functions_of made.now) uses.now }
     ensures { IfOk result (λ most. IfSome most
         (spec.HasMostOpen (labels_of made.now.labels) (functions_of made.now))) }
 {
-    let uses = uses_of(alloc, made)?;
-    let heights = heights_of(alloc, &uses)?;
+    let heights = heights_of(alloc, uses)?;
     if all_lead_down(&uses.reached, &heights, &uses.calls) {
         Ok(greatest(&heights).checked_add(1))
     } else {

@@ -48,12 +48,14 @@ pub fn declarations_of_the_file_are_heads()
         ≡ head_text (names_in c k) f g.result g.parameters ++ (codes ";" ++ 10 ∷ []) }
 {}
 
-/// The source for code of a chart is one: which functions are written is told by the code.
+/// The source for code of a chart is one, where so many calls are open at once at most as it says:
+/// which functions are written is told by the code.
 pub fn the_source_for_code_is_one()
     ensures { (c : Chart) (T : Tests) (limits : Bounds) (room : ℕ) (k : Code)
         (origins : List ℕ) (tags : List Tag) (text text' : List ℕ)
-        → IsSourceFor c T limits room k origins tags text
-        → IsSourceFor c T limits room k origins tags text' → text ≡ text' }
+        → (a : IsSourceFor c T limits room k origins tags text)
+        → (b : IsSourceFor c T limits room k origins tags text') → a.calls ≡ b.calls
+        → text ≡ text' }
 {}
 
 /// The words for what a copy of a procedure is for are one line in which no comment of C ends,

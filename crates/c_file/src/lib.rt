@@ -2,12 +2,14 @@
 //!
 //! Read `specs/Files.antt`, what the two texts are; `specs/Source.antt`, what a source consists of;
 //! `specs/Reached.antt`, which functions are written; `specs/Heights.antt`, how many functions are
-//! open at once; and `specs/Comments.antt`, what is said of each procedure. The public calls are
+//! open at once; `specs/Facts.antt`, what the header says of them; and `specs/Comments.antt`, what is
+//! said of each procedure. The public calls are
 //! `header` and `source`.
 #![tactic(auto)]
 
 mod calls;
 mod comments;
+mod facts;
 mod file;
 mod heights;
 mod known;

@@ -9,11 +9,13 @@ ghost use Rattle.c_file.specs.Source as spec;
 ghost use Rattle.c_file.specs.Uses.{is_wide};
 
 use crate::comments::print_comment;
+use crate::heights::most_open;
 use crate::known::{Uses, is_outside, uses_of};
 use crate::made::Made;
+use c_header::calls_number;
 use c_text::{function_kind, print_function, print_prototype};
 use code_fields::print_number;
-use flow_base::Memory;
+use flow_base::{Bounds, Memory};
 use std::alloc::{AllocError, Global};
 
 /// Whether a function is written.
@@ -38,7 +40,7 @@ fn is_wide(made: &Made<'_>, uses: &Uses, number: u32) -> bool
 }
 
 /// Whether a function that is written names a type of 128 bits.
-fn any_wide(made: &Made<'_>, uses: &Uses) -> bool
+pub(crate) fn any_wide(made: &Made<'_>, uses: &Uses) -> bool
     requires is { IsMade made.now }
     requires uses { AreUses (labels_of made.now.labels) (functions_of made.now) uses.now }
     ensures { result ≡ spec.any_wide uses.now.reached.items 0 (functions_of made.now) }
@@ -73,29 +75,46 @@ fn print_opening(out: &mut String, chart: &str) -> Result<(), AllocError>
     Ok(())
 }
 
+/// Appends words, and that a number of the header is this one.
+#[tactic(auto, unfolding(crate::specs::Source::number_is))]
+fn print_number_is(
+    out: &mut String,
+    front: &str,
+    chart: &str,
+    name: &str,
+    number: u64,
+) -> Result<(), AllocError>
+    ensures { OnOk result (string_bytes out.new
+        ≡ string_bytes out.old ++ spec.number_is front.now chart.now name.now number) }
+{
+    print_named(out, front, chart)?;
+    print_number(out, name, number)?;
+    Ok(())
+}
+
 /// Appends the type that C refuses where the header has other numbers.
 #[tactic(auto, unfolding(crate::specs::Source::fits_text))]
 fn print_fits(
     out: &mut String,
     chart: &str,
-    steps: u64,
-    outputs: u64,
+    bounds: Bounds,
+    outputs: u32,
     notes: u64,
+    calls: u64,
 ) -> Result<(), AllocError>
     ensures { OnOk result (string_bytes out.new
-        ≡ string_bytes out.old ++ spec.fits_text chart.now steps outputs notes) }
+        ≡ string_bytes out.old ++ spec.fits_text chart.now bounds outputs notes calls) }
 {
     print_named(
         out,
         "/* C refuses this type where a number in the header is another one. */\ntypedef char ",
         chart,
     )?;
-    print_named(out, "_header_fits[((", chart)?;
-    print_number(out, "_STEPS == ", steps)?;
-    print_named(out, ") && (", chart)?;
-    print_number(out, "_OUTPUTS == ", outputs)?;
-    print_named(out, ") && (", chart)?;
-    print_number(out, "_NOTES == ", notes)?;
+    print_number_is(out, "_header_fits[((", chart, "_DEPTH == ", u64::from(bounds.depth))?;
+    print_number_is(out, ") && (", chart, "_STEPS == ", u64::from(bounds.steps))?;
+    print_number_is(out, ") && (", chart, "_OUTPUTS == ", u64::from(outputs))?;
+    print_number_is(out, ") && (", chart, "_NOTES == ", notes)?;
+    print_number_is(out, ") && (", chart, "_CALLS == ", calls)?;
     out.push_str(")) ? 1 : -1];\n\n")?;
     Ok(())
 }
@@ -213,36 +232,42 @@ fn print_functions(
 }
 
 /// Appends what stands before the functions.
-fn print_front(out: &mut String, made: &Made<'_>, uses: &Uses) -> Result<(), AllocError>
+fn print_front(
+    out: &mut String,
+    made: &Made<'_>,
+    uses: &Uses,
+    calls: u64,
+) -> Result<(), AllocError>
     requires is { IsMade made.now }
     requires uses { AreUses (labels_of made.now.labels) (functions_of made.now) uses.now }
     ensures { OnOk result (string_bytes out.new ≡ string_bytes out.old
-        ++ spec.front_text (labels_of made.now.labels) made.now.shape.bounds.steps
-        made.now.shape.outputs made.now.shape.notes (functions_of made.now)
+        ++ spec.front_text (labels_of made.now.labels) made.now.shape.bounds
+        made.now.shape.outputs made.now.shape.notes calls (functions_of made.now)
         uses.now.reached.items) }
 {
     print_opening(out, made.name)?;
-    print_fits(
-        out,
-        made.name,
-        u64::from(made.shape.bounds.steps),
-        u64::from(made.shape.outputs),
-        made.shape.notes,
-    )?;
+    let shape = &made.shape;
+    print_fits(out, made.name, shape.bounds, shape.outputs, shape.notes, calls)?;
     print_wide(out, any_wide(made, uses))?;
     print_declarations(out, made, uses)
 }
 
 /// Appends a source of the functions that are written.
-fn print_source(alloc: Global, out: &mut String, made: &Made<'_>, uses: &Uses) -> Result<(), Memory>
+fn print_source(
+    alloc: Global,
+    out: &mut String,
+    made: &Made<'_>,
+    uses: &Uses,
+    calls: u64,
+) -> Result<(), Memory>
     requires is { IsMade made.now }
     requires uses { AreUses (labels_of made.now.labels) (functions_of made.now) uses.now }
     ensures { OnOk result (string_bytes out.new ≡ string_bytes out.old
         ++ spec.source_text (labels_of made.now.labels) (said_of made.now.said)
-        made.now.shape.bounds.steps made.now.shape.outputs made.now.shape.notes
+        made.now.shape.bounds made.now.shape.outputs made.now.shape.notes calls
         (functions_of made.now) uses.now.reached.items) }
 {
-    let Ok(()) = print_front(out, made, uses) else {
+    let Ok(()) = print_front(out, made, uses, calls) else {
         return Err(Memory);
     };
     print_functions(alloc, out, made, uses)?;
@@ -253,11 +278,12 @@ fn print_source(alloc: Global, out: &mut String, made: &Made<'_>, uses: &Uses) -
 pub(crate) fn printed_source(alloc: Global, made: &Made<'_>) -> Result<String, Memory>
     requires is { IsMade made.now }
     ensures { IfOk result (λ text. spec.IsSourceText (labels_of made.now.labels)
-        (said_of made.now.said) made.now.shape.bounds.steps made.now.shape.outputs
+        (said_of made.now.said) made.now.shape.bounds made.now.shape.outputs
         made.now.shape.notes (functions_of made.now) (string_bytes text)) }
 {
     let uses = uses_of(alloc, made)?;
+    let calls = most_open(alloc, made, &uses)?;
     let mut text = String::new(alloc);
-    print_source(alloc, &mut text, made, &uses)?;
+    print_source(alloc, &mut text, made, &uses, calls_number(calls))?;
     Ok(text)
 }

@@ -1,6 +1,6 @@
 -- The header of a chart's C.
-use Rattle.std.specs.Prelude.{ℕ, ◌+◌, ◌==◌, List, [], ◌∷◌, ◌++◌, length, codes, decimal, Option, Some, None}
-use Rattle.std.specs.Prelude.{if◌then◌else◌}
+use Rattle.std.specs.Prelude.{ℕ, ◌+◌, ◌==◌, Bool, true, false, List, [], ◌∷◌, ◌++◌, length, codes, decimal}
+use Rattle.std.specs.Prelude.{Option, Some, None, if◌then◌else◌}
 use Rattle.flow_base.specs.declared.bounds.Bounds.{Bounds}
 use Rattle.flow_base.specs.declared.fault.Fault.TheVariants as faults
 use Rattle.active_config.specs.Tree.{state_count}
@@ -13,6 +13,7 @@ use Rattle.c_text.specs.declared.kinds.Kind.TheVariants.{Outside}
 use Rattle.c_text.specs.Labels.{Labels, labels_for}
 use Rattle.c_text.specs.Expressions.{bare}
 use Rattle.c_text.specs.Functions.{prototype_text}
+use Rattle.c_header.specs.declared.facts.SourceFacts.{SourceFacts}
 use Rattle.c_header.specs.declared.states.About.{About}
 use Rattle.c_header.specs.declared.states.About.TheVariants.{Active, Remembered, Bits, Test}
 use Rattle.c_header.specs.declared.paths.Form.TheVariants.{Words, Label}
@@ -48,6 +49,12 @@ needs_text chart =
     guard_text chart
     ++ (codes "#include <limits.h>\n#include <stdbool.h>\n#include <stdint.h>\n\n"
     ++ codes "#if UINT_MAX != 4294967295u\n#error \"int must have 32 bits\"\n#endif\n\n")
+
+-- that the source needs integers of 128 bits, where it does
+abbrev pub wide_comment : Bool → List ℕ
+wide_comment true =
+    codes "/* The source computes in 128 bits: its compiler must have the type __int128. */\n\n"
+wide_comment false = []
 
 -- ---- numbers
 
@@ -97,21 +104,22 @@ bounds_text chart bounds outputs notes =
     ++ (define_line chart (codes "_") (codes "OUTPUTS") outputs
     ++ define_line chart (codes "_") (codes "NOTES") notes))))
 
--- how many functions of the source are open at once at most, with the one that is called from outside
-unfoldable pub most_calls_text : List ℕ → ℕ → List ℕ
-most_calls_text chart most =
+-- what stands above how many functions of the source are open at once at most, with the one that is called from outside
+abbrev pub calls_comment : Option ℕ → List ℕ
+calls_comment (Some most) =
     codes "\n/* How many functions of the source are open at once at most, with start or react. */\n"
-    ++ (define_line chart (codes "_") (codes "CALLS") most ++ codes "\n")
+calls_comment None =
+    codes "\n/* 0: functions may call themselves, by way of others too, as often as bounds allow. */\n"
 
--- what stands instead where that isn't known
-abbrev pub own_calls_text : List ℕ
-own_calls_text =
-    codes "\n/* Functions may call themselves, by way of others too, as often as the bounds allow. */\n\n"
+-- that number: 0 where it isn't known
+abbrev pub calls_number : Option ℕ → ℕ
+calls_number (Some most) = most
+calls_number None = 0
 
--- how many functions are open at once at most, if that is known
-abbrev pub calls_text : List ℕ → Option ℕ → List ℕ
-calls_text chart (Some most) = most_calls_text chart most
-calls_text chart None = own_calls_text
+-- how many functions are open at once at most
+unfoldable pub calls_text : List ℕ → Option ℕ → List ℕ
+calls_text chart calls =
+    calls_comment calls ++ (define_line chart (codes "_") (codes "CALLS") (calls_number calls) ++ codes "\n")
 
 -- ---- states
 
@@ -182,13 +190,14 @@ react_text chart L K =
 -- ---- the whole
 
 -- what stands before the struct
-unfoldable pub front_text : List ℕ → Shape → Option ℕ → List ℕ
-front_text chart K calls =
+unfoldable pub front_text : List ℕ → Shape → SourceFacts → List ℕ
+front_text chart K facts =
     named_text (codes "/* The C of the chart ") chart (codes ", written by chart_to_c. Do not edit.\n\n")
     ++ (usage_text chart
     ++ (needs_text chart
+    ++ (wide_comment facts.wide
     ++ (events_text chart K.names.events
-    ++ (faults_text chart ++ (bounds_text chart K.bounds K.outputs K.notes ++ calls_text chart calls)))))
+    ++ (faults_text chart ++ (bounds_text chart K.bounds K.outputs K.notes ++ calls_text chart facts.calls))))))
 
 -- what stands from the struct on
 unfoldable pub back_text : List ℕ → Labels → Shape → List ℕ
@@ -196,7 +205,7 @@ back_text chart L K =
     struct_text chart L K
     ++ (start_text L K ++ (react_text chart L K ++ (states_text chart L K Test ++ codes "#endif\n")))
 
--- the header of a chart of that name, where so many functions are open at once at most, if that is known
-unfoldable pub header_text : List ℕ → Shape → Option ℕ → List ℕ
-header_text chart K calls =
-    front_text chart K calls ++ back_text chart (labels_for chart K.names K.tree K.procs) K
+-- the header of a chart of that name, of whose source these facts hold
+unfoldable pub header_text : List ℕ → Shape → SourceFacts → List ℕ
+header_text chart K facts =
+    front_text chart K facts ++ back_text chart (labels_for chart K.names K.tree K.procs) K

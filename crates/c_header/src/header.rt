@@ -1,10 +1,11 @@
 //! The header, printed.
-ghost use Rattle.std.specs.Prelude.{◌≡◌, ◌++◌, string_bytes, OnOk};
+ghost use Rattle.std.specs.Prelude.{◌≡◌, ◌++◌, string_bytes, true, OnOk};
 ghost use Rattle.c_expression_writer.specs.FileShapes.{shape_seen};
 ghost use Rattle.c_text.specs.Labels.{labels_of};
 ghost use Rattle.c_header.specs.Header as spec;
 
 use crate::fields::{print_counters, print_data, print_rows};
+use crate::facts::SourceFacts;
 use crate::numbers::{print_bounds, print_calls, print_events, print_faults};
 use crate::states::{About, print_states};
 use crate::words::print_named;
@@ -12,8 +13,7 @@ use c_expression_writer::FileShape;
 use c_text::{Labels, print_prototype};
 use std::alloc::{AllocError, Global};
 
-/// Appends the header of the C of a chart of that name, where so many functions of the source are
-/// open at once at most, if that is known.
+/// Appends the header of the C of a chart of that name, of whose source the facts hold.
 ///
 /// The text is this project's choice (`specs/Header.antt`). On an error a part of it was appended.
 #[tactic(auto, unfolding(crate::specs::Header::header_text))]
@@ -22,13 +22,13 @@ pub fn print_header(
     out: &mut String,
     chart: &str,
     shape: &FileShape<'_>,
-    calls: Option<u32>,
+    facts: SourceFacts,
 ) -> Result<(), AllocError>
     ensures { OnOk result (string_bytes out.new
-        ≡ string_bytes out.old ++ spec.header_text chart.now (shape_seen shape.now) calls) }
+        ≡ string_bytes out.old ++ spec.header_text chart.now (shape_seen shape.now) facts) }
 {
     let labels = Labels::make(chart, shape.names, shape.tree, shape.procs);
-    print_front(out, chart, shape, calls)?;
+    print_front(out, chart, shape, facts)?;
     print_back(alloc, out, chart, &labels, shape)
 }
 
@@ -38,10 +38,10 @@ fn print_front(
     out: &mut String,
     chart: &str,
     shape: &FileShape<'_>,
-    calls: Option<u32>,
+    facts: SourceFacts,
 ) -> Result<(), AllocError>
     ensures { OnOk result (string_bytes out.new
-        ≡ string_bytes out.old ++ spec.front_text chart.now (shape_seen shape.now) calls) }
+        ≡ string_bytes out.old ++ spec.front_text chart.now (shape_seen shape.now) facts) }
 {
     print_named(
         out,
@@ -51,10 +51,11 @@ fn print_front(
     )?;
     print_usage(out, chart)?;
     print_needs(out, chart)?;
+    print_wide(out, facts.wide)?;
     print_events(out, chart, shape.names.events.items())?;
     print_faults(out, chart)?;
     print_bounds(out, chart, shape.bounds, shape.outputs, shape.notes)?;
-    print_calls(out, chart, calls)
+    print_calls(out, chart, facts.calls)
 }
 
 /// Appends what an engineer has to know.
@@ -106,6 +107,25 @@ fn print_needs(out: &mut String, chart: &str) -> Result<(), AllocError>
     print_guard(out, chart)?;
     out.push_str("#include <limits.h>\n#include <stdbool.h>\n#include <stdint.h>\n\n")?;
     out.push_str("#if UINT_MAX != 4294967295u\n#error \"int must have 32 bits\"\n#endif\n\n")
+}
+
+/// Appends that the source needs integers of 128 bits, where it does.
+fn print_wide(out: &mut String, wide: bool) -> Result<(), AllocError>
+    ensures { OnOk result
+        (string_bytes out.new ≡ string_bytes out.old ++ spec.wide_comment wide) }
+{
+    if wide {
+        out.push_str(needs_wide())
+    } else {
+        Ok(())
+    }
+}
+
+/// What the header says where the source needs integers of 128 bits.
+fn needs_wide() -> &'static str
+    ensures { result.now ≡ spec.wide_comment true }
+{
+    "/* The source computes in 128 bits: its compiler must have the type __int128. */\n\n"
 }
 
 /// Appends what stands from the struct on.

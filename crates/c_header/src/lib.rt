@@ -7,6 +7,7 @@
 //! the same. The public call is `print_header`.
 #![tactic(auto)]
 
+mod facts;
 mod fields;
 mod header;
 mod laws;
@@ -15,6 +16,7 @@ mod paths;
 mod states;
 mod words;
 
+pub use facts::{SourceFacts, calls_number};
 pub use header::print_header;
 pub use laws::{
     names_of_the_header_are_distinct, no_name_of_the_header_is_a_keyword,

@@ -2,6 +2,7 @@
 ghost use Rattle.std.specs.Prelude.{◌≡◌, ◌++◌, string_bytes, OnOk};
 ghost use Rattle.c_header.specs.Header as spec;
 
+use crate::facts::calls_number;
 use crate::words::{print_define, print_named};
 use actions::{EventDecl, EventKind};
 use flow_base::Bounds;
@@ -100,7 +101,8 @@ pub(crate) fn print_bounds(
     print_define(out, chart, "_", "NOTES", notes)
 }
 
-/// Appends how many functions of the source are open at once at most, if that is known.
+/// Appends how many functions of the source are open at once at most.
+#[tactic(auto, unfolding(crate::specs::Header::calls_text))]
 pub(crate) fn print_calls(
     out: &mut String,
     chart: &str,
@@ -109,28 +111,21 @@ pub(crate) fn print_calls(
     ensures { OnOk result (string_bytes out.new
         ≡ string_bytes out.old ++ spec.calls_text chart.now calls) }
 {
-    match calls {
-        Some(most) => print_most_calls(out, chart, u64::from(most)),
-        None => out.push_str(own_calls()),
-    }
-}
-
-/// What the header says where functions may call themselves.
-fn own_calls() -> &'static str
-    ensures { result.now ≡ spec.own_calls_text }
-{
-    "\n/* Functions may call themselves, by way of others too, as often as the bounds allow. */\n\n"
-}
-
-/// Appends how many functions of the source are open at once at most.
-#[tactic(auto, unfolding(crate::specs::Header::most_calls_text))]
-fn print_most_calls(out: &mut String, chart: &str, most: u64) -> Result<(), AllocError>
-    ensures { OnOk result (string_bytes out.new
-        ≡ string_bytes out.old ++ spec.most_calls_text chart.now most) }
-{
-    out.push_str(
-        "\n/* How many functions of the source are open at once at most, with start or react. */\n",
-    )?;
-    print_define(out, chart, "_", "CALLS", most)?;
+    out.push_str(calls_comment(calls))?;
+    print_define(out, chart, "_", "CALLS", calls_number(calls))?;
     out.push_str("\n")
+}
+
+/// What the header says above that number.
+fn calls_comment(calls: Option<u32>) -> &'static str
+    ensures { result.now ≡ spec.calls_comment calls }
+{
+    match calls {
+        Some(_) => {
+            "\n/* How many functions of the source are open at once at most, with start or react. */\n"
+        }
+        None => {
+            "\n/* 0: functions may call themselves, by way of others too, as often as bounds allow. */\n"
+        }
+    }
 }

@@ -8,9 +8,9 @@ pub returns : goal.returns
 returns c =
     IfOk-weaker c.header_with.result _ _
     (λ text is. record {
-      calls = c.in_ok-most.most;
-      most_calls = c.in_ok-most.ensures;
+      facts = c.in_ok-facts.facts;
+      hold = c.in_ok-facts.ensures;
       is_text =
-          is ∙ ap (λ (x : List ℕ). header_text x (shape_seen c.args.made.now.shape) c.in_ok-most.most)
+          is ∙ ap (λ (x : List ℕ). header_text x (shape_seen c.args.made.now.shape) c.in_ok-facts.facts)
           (sym c.requires.is.named);
     }) c.header_with.ensures

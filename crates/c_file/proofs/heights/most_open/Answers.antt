@@ -6,7 +6,7 @@ use Rattle.c_file.proofs.heights.most_open.Goals as goal
 
 pub returns-then-all_lead_down : goal.returns-then-all_lead_down
 returns-then-all_lead_down c =
-    most_found (labels_of c.args.made.now.labels) (functions_of c.args.made.now) c.in_ok-uses.uses c.in_ok-uses.ensures
+    most_found (labels_of c.args.made.now.labels) (functions_of c.args.made.now) c.args.uses.now c.requires.uses
     c.deref.result.now c.deref-2.result.now c.deref-3.result.now c.deref.ensures.value c.deref-3.ensures.value
     (sym c.all_lead_down.ensures ∙ c.if-all_lead_down.true) c.deref-then-all_lead_down.result.now c.greatest.result
     (c.deref-then-all_lead_down.ensures.value ∙ sym c.deref-2.ensures.value) c.greatest.ensures c.checked_add.result _

@@ -11,6 +11,7 @@ returns c =
       c.in_ok-print_bounds.ensures,
       c.in_ok-print_faults.ensures,
       c.in_ok-print_events.ensures,
+      c.in_ok-print_wide.ensures,
       c.in_ok-print_needs.ensures,
       c.in_ok-print_usage.ensures,
       c.in_ok-print_named.ensures,

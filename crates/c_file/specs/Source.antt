@@ -60,10 +60,10 @@ unfoldable pub fits_text : List ℕ → Bounds → ℕ → ℕ → ℕ → List 
 fits_text chart bounds outputs notes calls =
     (codes "/* C refuses this type where a number in the header is another one. */\ntypedef char " ++ chart)
     ++ (number_is (codes "_header_fits[((") chart (codes "_DEPTH == ") bounds.depth
-    ++ (number_is (codes ") && (") chart (codes "_STEPS == ") bounds.steps
-    ++ (number_is (codes ") && (") chart (codes "_OUTPUTS == ") outputs
-    ++ (number_is (codes ") && (") chart (codes "_NOTES == ") notes
-    ++ (number_is (codes ") && (") chart (codes "_CALLS == ") calls ++ codes ")) ? 1 : -1];\n\n")))))
+    ++ (number_is (codes ")\n    && (") chart (codes "_STEPS == ") bounds.steps
+    ++ (number_is (codes ")\n    && (") chart (codes "_OUTPUTS == ") outputs
+    ++ (number_is (codes ")\n    && (") chart (codes "_NOTES == ") notes
+    ++ (number_is (codes ")\n    && (") chart (codes "_CALLS == ") calls ++ codes ")) ? 1 : -1];\n\n")))))
 
 -- the types of 128 bits, where one is named
 abbrev pub wide_text : Bool → List ℕ

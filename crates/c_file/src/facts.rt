@@ -20,5 +20,8 @@ pub(crate) fn facts_of(alloc: Global, made: &Made<'_>) -> Result<SourceFacts, Me
 {
     let uses = uses_of(alloc, made)?;
     let calls = most_open(alloc, made, &uses)?;
-    Ok(SourceFacts { calls, wide: any_wide(made, &uses) })
+    Ok(SourceFacts {
+        calls,
+        wide: any_wide(made, &uses),
+    })
 }

@@ -111,11 +111,7 @@ fn greatest(heights: &[u32]) -> u32
 
 /// How many functions of a file are open at once at most, where it is found that none of those that
 /// are reached calls itself, by way of others either. `Memory` only where memory was refused.
-pub(crate) fn most_open(
-    alloc: Global,
-    made: &Made<'_>,
-    uses: &Uses,
-) -> Result<Option<u32>, Memory>
+pub(crate) fn most_open(alloc: Global, made: &Made<'_>, uses: &Uses) -> Result<Option<u32>, Memory>
     requires is { IsMade made.now }
     requires uses { AreUses (labels_of made.now.labels) (functions_of made.now) uses.now }
     ensures { IfOk result (λ most. IfSome most

@@ -110,11 +110,29 @@ fn print_fits(
         "/* C refuses this type where a number in the header is another one. */\ntypedef char ",
         chart,
     )?;
-    print_number_is(out, "_header_fits[((", chart, "_DEPTH == ", u64::from(bounds.depth))?;
-    print_number_is(out, ") && (", chart, "_STEPS == ", u64::from(bounds.steps))?;
-    print_number_is(out, ") && (", chart, "_OUTPUTS == ", u64::from(outputs))?;
-    print_number_is(out, ") && (", chart, "_NOTES == ", notes)?;
-    print_number_is(out, ") && (", chart, "_CALLS == ", calls)?;
+    print_number_is(
+        out,
+        "_header_fits[((",
+        chart,
+        "_DEPTH == ",
+        u64::from(bounds.depth),
+    )?;
+    print_number_is(
+        out,
+        ")\n    && (",
+        chart,
+        "_STEPS == ",
+        u64::from(bounds.steps),
+    )?;
+    print_number_is(
+        out,
+        ")\n    && (",
+        chart,
+        "_OUTPUTS == ",
+        u64::from(outputs),
+    )?;
+    print_number_is(out, ")\n    && (", chart, "_NOTES == ", notes)?;
+    print_number_is(out, ")\n    && (", chart, "_CALLS == ", calls)?;
     out.push_str(")) ? 1 : -1];\n\n")?;
     Ok(())
 }
@@ -232,12 +250,7 @@ fn print_functions(
 }
 
 /// Appends what stands before the functions.
-fn print_front(
-    out: &mut String,
-    made: &Made<'_>,
-    uses: &Uses,
-    calls: u64,
-) -> Result<(), AllocError>
+fn print_front(out: &mut String, made: &Made<'_>, uses: &Uses, calls: u64) -> Result<(), AllocError>
     requires is { IsMade made.now }
     requires uses { AreUses (labels_of made.now.labels) (functions_of made.now) uses.now }
     ensures { OnOk result (string_bytes out.new ≡ string_bytes out.old
@@ -247,7 +260,14 @@ fn print_front(
 {
     print_opening(out, made.name)?;
     let shape = &made.shape;
-    print_fits(out, made.name, shape.bounds, shape.outputs, shape.notes, calls)?;
+    print_fits(
+        out,
+        made.name,
+        shape.bounds,
+        shape.outputs,
+        shape.notes,
+        calls,
+    )?;
     print_wide(out, any_wide(made, uses))?;
     print_declarations(out, made, uses)
 }

@@ -4,8 +4,8 @@ ghost use Rattle.c_expression_writer.specs.FileShapes.{shape_seen};
 ghost use Rattle.c_text.specs.Labels.{labels_of};
 ghost use Rattle.c_header.specs.Header as spec;
 
-use crate::fields::{print_counters, print_data, print_rows};
 use crate::facts::SourceFacts;
+use crate::fields::{print_counters, print_data, print_rows};
 use crate::numbers::{print_bounds, print_calls, print_events, print_faults};
 use crate::states::{About, print_states};
 use crate::words::print_named;

@@ -10,6 +10,8 @@ stands beside `door.chart`. The trace must be the one that stands there too, as 
 `flowc rules`. With `--generated` the generated cases with these numbers are made by generated_cases.py, and run by chart_rules.py for
 the trace, over their first 1,000 events. With `--table` the table of a chart is written.
 
+The header must say that the source needs 128 bits just where it has a type of that size.
+
 The program ends with status 1 where anything differs, where a compiler has a warning, and where there is no chart.
 
 The driver shows of the struct what the page docs/C.md offers to a user: the fields of data, the events that were emitted, the tests of
@@ -130,8 +132,11 @@ def make_c(program, text, folder, options=()):
     """Writes the header, the source and the table of a chart to a folder, and gives the names of the two sources."""
     write(folder, 'chart', text)
     table, name = table_of(text)
-    for word, kind in (('header', 'h'), ('source', 'c')):
-        write(folder, '%s.%s' % (name, kind), output_of([program, word, *options, 'chart'], folder))
+    header, source = (output_of([program, word, *options, 'chart'], folder) for word in ('header', 'source'))
+    if ('__int128' in header) != ('__int128' in source):
+        raise Failed('the header of %s says otherwise than its source whether 128 bits are needed' % name)
+    write(folder, '%s.h' % name, header)
+    write(folder, '%s.c' % name, source)
     write(folder, 'table_of_%s.c' % name, table)
     return ['%s.c' % name, 'table_of_%s.c' % name]
 

@@ -1,5 +1,5 @@
 -- A text is printed in parts, one after the other.
-use Rattle.std.proofs.Common.{◌≡◌, ℕ, List, ◌∙◌, Result, Ok, Err, is_ok, if◌then◌else◌}
+use Rattle.std.proofs.Common.{◌≡◌, ℕ, List, ◌++◌, ap, ◌∙◌, append_assoc, Result, Ok, Err, is_ok, if◌then◌else◌}
 use Rattle.std.specs.Prelude.{OnOk}
 
 -- what the last part leaves is the whole
@@ -13,3 +13,22 @@ pub pushed : {T E : Type 0} (r : Result T E) (new more same : List ℕ) → new 
     → OnOk r (new ≡ more)
 pushed (Ok x) new more same left = left
 pushed (Err e) new more same left = tt
+
+-- a part after one that was printed
+after : (old a rest now : List ℕ) → now ≡ old ++ a → now ++ rest ≡ old ++ (a ++ rest)
+after old a rest now is = ap (λ (t : List ℕ). t ++ rest) is ∙ append_assoc old a rest
+
+-- an eighth part after seven that were printed
+pub eight_parts : (old a b c d e f g h one two three four five six seven : List ℕ)
+    → one ≡ old ++ a → two ≡ one ++ b → three ≡ two ++ c → four ≡ three ++ d → five ≡ four ++ e → six ≡ five ++ f
+    → seven ≡ six ++ g → seven ++ h ≡ old ++ (a ++ (b ++ (c ++ (d ++ (e ++ (f ++ (g ++ h)))))))
+eight_parts old a b c d e f g h one two three four five six seven p q r s t u v =
+    after six g h seven v ∙ after five f (g ++ h) six u ∙ after four e (f ++ (g ++ h)) five t
+    ∙ after three d (e ++ (f ++ (g ++ h))) four s ∙ after two c (d ++ (e ++ (f ++ (g ++ h)))) three r
+    ∙ after one b (c ++ (d ++ (e ++ (f ++ (g ++ h))))) two q
+    ∙ after old a (b ++ (c ++ (d ++ (e ++ (f ++ (g ++ h)))))) one p
+
+-- a part that was printed of what is the same
+pub of_same : {X : Type 0} (text : X → List ℕ) (x y : X) (old now : List ℕ) → now ≡ old ++ text x → x ≡ y
+    → now ≡ old ++ text y
+of_same text x y old now is same = is ∙ ap (λ z. old ++ text z) same

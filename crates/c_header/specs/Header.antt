@@ -51,7 +51,7 @@ needs_text chart =
     ++ codes "#if UINT_MAX != 4294967295u\n#error \"int must have 32 bits\"\n#endif\n\n")
 
 -- that the source needs integers of 128 bits, where it does
-abbrev pub wide_comment : Bool → List ℕ
+unfoldable pub wide_comment : Bool → List ℕ
 wide_comment true =
     codes "/* The source computes in 128 bits: its compiler must have the type __int128. */\n\n"
 wide_comment false = []

@@ -110,6 +110,7 @@ fn print_needs(out: &mut String, chart: &str) -> Result<(), AllocError>
 }
 
 /// Appends that the source needs integers of 128 bits, where it does.
+#[tactic(auto, unfolding(crate::specs::Header::wide_comment))]
 fn print_wide(out: &mut String, wide: bool) -> Result<(), AllocError>
     ensures { OnOk result
         (string_bytes out.new ≡ string_bytes out.old ++ spec.wide_comment wide) }
@@ -122,6 +123,7 @@ fn print_wide(out: &mut String, wide: bool) -> Result<(), AllocError>
 }
 
 /// What the header says where the source needs integers of 128 bits.
+#[tactic(auto, unfolding(crate::specs::Header::wide_comment))]
 fn needs_wide() -> &'static str
     ensures { result.now ≡ spec.wide_comment true }
 {

@@ -5,7 +5,7 @@ ghost use Rattle.active_config.specs.Tree.{state_count, parent_of};
 ghost use Rattle.active_config.specs.Marks.{parent_takes_child, IsConsistent};
 
 use crate::same::same;
-use Step::{Clear, IsBare, IsOn, Mark};
+use MarkStep::{Clear, IsBare, IsOn, Mark};
 use active_config::Comp::{And, Leaf, Or};
 use active_config::ShapeFault::NotATree;
 use active_config::{Comp, Marks, Shape, ShapeFault};

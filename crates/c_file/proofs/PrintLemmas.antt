@@ -26,3 +26,8 @@ pub seven_printed : (old a b c d e f g one two three four five six seven : List 
 seven_printed old a b c d e f g one two three four five six seven p q r s t u v =
     four_printed old a b c (d ++ (e ++ (f ++ g))) one two three seven p q r
     (four_printed three d e f g four five six seven s t u v)
+
+-- a text that was printed of what is the same
+pub of_same : {X : Type 0} (text : X → List ℕ) (x y : X) (old now : List ℕ) → now ≡ old ++ text x → x ≡ y
+    → now ≡ old ++ text y
+of_same text x y old now is same = is ∙ ap (λ z. old ++ text z) same

@@ -1,13 +1,13 @@
 -- Heights bound how many functions are open at once.
-use Rattle.std.proofs.Common.{◌≡◌, ◌+◌, ◌<◌, ◌≤◌, ℕ, zero, suc, ◌||◌, not, nat_lt, Bool, true, false, List, []}
+use Rattle.std.proofs.Common.{◌≡◌, ◌+◌, ◌^◌, ◌<◌, ◌≤◌, ℕ, zero, suc, ◌||◌, not, nat_lt, Bool, true, false, List, []}
 use Rattle.std.proofs.Common.{◌∷◌, length, Some, slice_get, slice_index, slice_index_or, refl, sym, ◌∙◌, subst}
 use Rattle.std.proofs.Common.{arith, Option, None}
 use Rattle.std.proofs.lemmas.Bool.Decides.{nat_tests}
-use Rattle.std.specs.Option.{SomeIff}
 use Rattle.std.specs.Prelude.{EachIndex, IfSome}
 use Rattle.std.specs.List.{list_all}
 use Rattle.c_subset.specs.Trees.{Function}
 use Rattle.c_text.specs.Labels.{Labels}
+use Rattle.c_header.specs.Header.{calls_number}
 use Rattle.c_file.specs.declared.calls.FunctionCall.{FunctionCall}
 use Rattle.c_file.specs.declared.known.Uses.{Uses}
 use Rattle.c_file.specs.Calls.{call_to, calls_from}
@@ -72,19 +72,28 @@ each_height [] most each f = omega arith
 each_height (h ∷ hs) most each zero = each 0 (omega arith)
 each_height (h ∷ hs) most each (suc f) = each_height hs most (λ i lt. each (suc i) (omega (arith, lt))) f
 
--- what holds of a number that is there only where a fact holds
-some_holds : (o : Option ℕ) (P : Type 0) (n : ℕ) (Q : ℕ → Type 0) → SomeIff o P n → Q n → IfSome o Q
-some_holds None P n Q is holds = tt
-some_holds (Some m) P n Q is holds = subst Q (sym is.1) holds
+-- a number that is told, if it is, fits an `int`
+abbrev pub IsTold : ℕ → Option ℕ → Type 0
+IsTold n o = IfSome o (λ m. (m ≡ n) × (m < 2 ^ 31))
+
+-- what holds of that number
+some_holds : (o : Option ℕ) (n : ℕ) (Q : ℕ → Type 0) → IsTold n o → Q n → IfSome o Q
+some_holds None n Q is holds = tt
+some_holds (Some m) n Q is holds = subst Q (sym is.0) holds
+
+-- and so does 0, which stands for none
+pub few_told : (n : ℕ) (o : Option ℕ) → IsTold n o → calls_number o < 2 ^ 31
+few_told n None is = omega arith
+few_told n (Some m) is = is.1
 
 -- where heights are found by which all calls lead down, one more than the greatest is the most
 pub most_found : (L : Labels) (functions : List Function) (uses : Uses) → AreUses L functions uses
     → (reached : List Bool) (heights : List ℕ) (calls : List FunctionCall) → reached ≡ uses.reached.items
     → calls ≡ uses.calls.items → list_all (leads_down reached heights) calls ≡ true
     → (same : List ℕ) (most : ℕ) → same ≡ heights → EachIndex same (λ f. slice_index same f ≤ most)
-    → (o : Option ℕ) (P : Type 0) → SomeIff o P (most + 1) → IfSome o (HasMostOpen L functions)
-most_found L functions uses are reached heights calls reached_are calls_are down same most same_is each o P is =
-    some_holds o P (most + 1) (HasMostOpen L functions) is
+    → (o : Option ℕ) → IsTold (most + 1) o → IfSome o (HasMostOpen L functions)
+most_found L functions uses are reached heights calls reached_are calls_are down same most same_is each o is =
+    some_holds o (most + 1) (HasMostOpen L functions) is
     (most_open_are L functions reached
     (subst (λ (flags : List Bool). AreReached L functions flags) (sym reached_are) are.reached) heights
     (subst (λ (cs : List FunctionCall). list_all (leads_down reached heights) cs ≡ true) (calls_are ∙ are.calls) down)

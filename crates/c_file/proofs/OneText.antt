@@ -1,5 +1,5 @@
 -- The source for code of a chart is one.
-use Rattle.std.proofs.Common.{◌≡◌, ℕ, Bool, false, List, Option, slice_index_or, sym, ap, ◌∙◌}
+use Rattle.std.proofs.Common.{◌≡◌, ℕ, Bool, false, List, slice_index_or, sym, ap, ◌∙◌}
 use Rattle.std.proofs.lemmas.List.{ext_get_or}
 use Rattle.flow_base.specs.declared.bounds.Bounds.{Bounds}
 use Rattle.c_subset.specs.Trees.{Function}
@@ -20,11 +20,12 @@ module _ (L : Labels) (functions : List Function) where
   -- and so there is one text for one number of calls
   pub one_text : (said : List (List ℕ)) (bounds : Bounds) (outputs notes : ℕ) (text text' : List ℕ)
       → (a : IsSourceText L said bounds outputs notes functions text)
-      → (b : IsSourceText L said bounds outputs notes functions text') → a.calls ≡ b.calls → text ≡ text'
+      → (b : IsSourceText L said bounds outputs notes functions text')
+      → calls_number a.calls ≡ calls_number b.calls → text ≡ text'
   one_text said bounds outputs notes text text' a b calls =
       a.is_text
       ∙ ap (λ (written : List Bool).
       source_text L said bounds outputs notes (calls_number a.calls) functions written)
       (same_written a.written b.written a.reached b.reached)
-      ∙ ap (λ (o : Option ℕ). source_text L said bounds outputs notes (calls_number o) functions b.written) calls
+      ∙ ap (λ (n : ℕ). source_text L said bounds outputs notes n functions b.written) calls
       ∙ sym b.is_text

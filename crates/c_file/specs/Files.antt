@@ -81,7 +81,7 @@ pub record IsMadeFor (c : Chart) (written : Written) (made : Made) : Type 0 wher
 -- The text is the source for code of a chart with these tags, with these tests, limits and room for outputs, where the
 -- smaller code had these numbers: the functions that are reached, each procedure under words for the part of the chart
 -- that it is of and for what it is a copy, and the check that the header has the same bounds, the same numbers of
--- outputs and notes, and says truly how many of the functions are open at once at most
+-- outputs and notes, and the same number of calls: one that is true of the functions, or 0 where none is known
 abbrev pub IsSourceFor : Chart → Tests → Bounds → ℕ → Code → List ℕ → List Tag → List ℕ → Type 0
 IsSourceFor c T limits room k origins tags text =
     IsSourceText (names_in c k) (comments_for c.tree c.names (parts_of c) origins tags) limits room
@@ -89,7 +89,7 @@ IsSourceFor c T limits room k origins tags text =
 
 -- The text is the header for code of a chart, with these tests, limits and room for outputs: it declares the struct and
 -- the calls of the file of that code, and says how many of the functions of that file are open at once at most, if that
--- is known, and whether the source needs a type of 128 bits
+-- is known, and whether one of those that are reached names a type of 128 bits
 abbrev pub IsHeaderFor : Chart → Tests → Bounds → ℕ → Code → List ℕ → Type 0
 IsHeaderFor c T limits room k text =
     IsHeaderText (names_in c k) (shape_of k T limits room) (written_file k T limits room).functions text

@@ -1,5 +1,5 @@
 -- The text of a source: what is written of a file, and in which order.
-use Rattle.std.specs.Prelude.{◌≡◌, ℕ, ◌+◌, ◌-◌, ◌||◌, ◌&&◌, not, Bool, true, false, List, [], ◌∷◌, ◌++◌, length, codes}
+use Rattle.std.specs.Prelude.{◌≡◌, ◌<◌, ◌^◌, ℕ, ◌+◌, ◌-◌, ◌||◌, ◌&&◌, not, Bool, true, false, List, [], ◌∷◌, ◌++◌, length, codes}
 use Rattle.std.specs.Prelude.{decimal, slice_index_or, if◌then◌else◌, Option, IfSome}
 use Rattle.flow_base.specs.declared.bounds.Bounds.{Bounds}
 use Rattle.c_subset.specs.Trees.{Function}
@@ -58,7 +58,7 @@ number_is front chart name number = (front ++ chart) ++ (name ++ decimal number)
 -- its size would be negative. So the struct of the header has the arrays of that of the source.
 unfoldable pub fits_text : List ℕ → Bounds → ℕ → ℕ → ℕ → List ℕ
 fits_text chart bounds outputs notes calls =
-    (codes "/* C refuses this type where a number in the header is another one. */\ntypedef char " ++ chart)
+    (codes "/* C refuses this type where the header has another of these numbers. */\ntypedef char " ++ chart)
     ++ (number_is (codes "_header_fits[((") chart (codes "_DEPTH == ") bounds.depth
     ++ (number_is (codes ")\n    && (") chart (codes "_STEPS == ") bounds.steps
     ++ (number_is (codes ")\n    && (") chart (codes "_OUTPUTS == ") outputs
@@ -109,11 +109,12 @@ source_text L said bounds outputs notes calls functions written =
 
 -- The text is the source of the functions that are reached, of which those of procedures do what is said, for these
 -- bounds and a struct with room for so many outputs and notes. It fits a header that says how many of these functions
--- are open at once at most, if that is known
+-- are open at once at most, if that is known, by a constant that fits an `int` of 32 bits (6.7.2.2 p2)
 pub record IsSourceText (L : Labels) (said : List (List ℕ)) (bounds : Bounds) (outputs notes : ℕ)
     (functions : List Function) (text : List ℕ) : Type 0 where
   pub calls : Option ℕ
   pub most_calls : IfSome calls (HasMostOpen L functions)
+  pub few_calls : calls_number calls < 2 ^ 31
   pub written : List Bool
   pub reached : AreReached L functions written
   pub is_text : text ≡ source_text L said bounds outputs notes (calls_number calls) functions written

@@ -1,9 +1,10 @@
 //! How many functions of a file are open at once: each gets a height, more than those that it
 //! calls. Heights are searched for; then it is seen whether each call leads to a lower one.
-ghost use Rattle.std.specs.Prelude.{◌≡◌, ◌≤◌, EachIndex, IfOk, IfSome, slice_index};
+ghost use Rattle.std.specs.Prelude.{◌≡◌, ◌<◌, ◌≤◌, ◌+◌, ◌^◌, EachIndex, IfOk, IfSome, slice_index};
 ghost use Rattle.std.specs.Prelude.{slice_index_or};
 ghost use Rattle.std.specs.List.{list_all};
 ghost use Rattle.c_text.specs.Labels.{labels_of};
+ghost use Rattle.c_header.specs.Header.{calls_number};
 ghost use Rattle.c_file.specs.Heights as spec;
 ghost use Rattle.c_file.specs.Made.{AreUses, IsMade, functions_of};
 
@@ -16,6 +17,9 @@ use std::alloc::Global;
 /// How often all calls are gone over at most, down and up. This project's choice: a way from
 /// function to function seldom turns this often to lower numbers.
 const ROUNDS: u32 = 100;
+
+/// The greatest constant that fits an `int` of 32 bits.
+const CONSTANT_MAX: u32 = 2_147_483_647;
 
 /// The height of a function.
 fn height_of(heights: &[u32], function: u32) -> u32
@@ -109,17 +113,29 @@ fn greatest(heights: &[u32]) -> u32
     most
 }
 
+/// One more than a height, if C takes that as a constant of an `enum` (6.7.2.2 p2).
+fn one_more(height: u32) -> Option<u32>
+    ensures { IfSome result (λ n. (n ≡ height + 1) × (n < 2 ^ 31)) }
+{
+    if height < CONSTANT_MAX {
+        Some(height + 1)
+    } else {
+        None
+    }
+}
+
 /// How many functions of a file are open at once at most, where it is found that none of those that
 /// are reached calls itself, by way of others either. `Memory` only where memory was refused.
 pub(crate) fn most_open(alloc: Global, made: &Made<'_>, uses: &Uses) -> Result<Option<u32>, Memory>
     requires is { IsMade made.now }
     requires uses { AreUses (labels_of made.now.labels) (functions_of made.now) uses.now }
-    ensures { IfOk result (λ most. IfSome most
+    ensures most { IfOk result (λ most. IfSome most
         (spec.HasMostOpen (labels_of made.now.labels) (functions_of made.now))) }
+    ensures few { IfOk result (λ most. calls_number most < 2 ^ 31) }
 {
     let heights = heights_of(alloc, uses)?;
     if all_lead_down(&uses.reached, &heights, &uses.calls) {
-        Ok(greatest(&heights).checked_add(1))
+        Ok(one_more(greatest(&heights)))
     } else {
         Ok(None)
     }

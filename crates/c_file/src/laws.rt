@@ -18,6 +18,7 @@ ghost use Rattle.c_functions.specs.Plans.{Tests};
 ghost use Rattle.c_functions.specs.Starts.{HasShape};
 ghost use Rattle.c_subset.specs.Meaning.{Store};
 ghost use Rattle.c_subset.specs.Trees.{Function};
+ghost use Rattle.c_header.specs.Header.{calls_number};
 ghost use Rattle.c_text.specs.Functions.{head_text, prototype_text};
 
 /// The smaller code of a chart is one, and so are the numbers that its procedures had: the header
@@ -48,14 +49,14 @@ pub fn declarations_of_the_file_are_heads()
         ≡ head_text (names_in c k) f g.result g.parameters ++ (codes ";" ++ 10 ∷ []) }
 {}
 
-/// The source for code of a chart is one, where so many calls are open at once at most as it says:
-/// which functions are written is told by the code.
+/// The source for code of a chart is one, but for the number of calls with which it compares that
+/// of the header: which functions are written is told by the code.
 pub fn the_source_for_code_is_one()
     ensures { (c : Chart) (T : Tests) (limits : Bounds) (room : ℕ) (k : Code)
         (origins : List ℕ) (tags : List Tag) (text text' : List ℕ)
         → (a : IsSourceFor c T limits room k origins tags text)
-        → (b : IsSourceFor c T limits room k origins tags text') → a.calls ≡ b.calls
-        → text ≡ text' }
+        → (b : IsSourceFor c T limits room k origins tags text')
+        → calls_number a.calls ≡ calls_number b.calls → text ≡ text' }
 {}
 
 /// The words for what a copy of a procedure is for are one line in which no comment of C ends,

@@ -92,7 +92,7 @@ fn print_number_is(
     Ok(())
 }
 
-/// Appends the type that C refuses where the header has other numbers.
+/// Appends the type that C refuses where the header has another of these numbers.
 #[tactic(auto, unfolding(crate::specs::Source::fits_text))]
 fn print_fits(
     out: &mut String,
@@ -107,7 +107,7 @@ fn print_fits(
 {
     print_named(
         out,
-        "/* C refuses this type where a number in the header is another one. */\ntypedef char ",
+        "/* C refuses this type where the header has another of these numbers. */\ntypedef char ",
         chart,
     )?;
     print_number_is(

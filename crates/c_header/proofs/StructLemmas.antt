@@ -29,7 +29,13 @@ use Rattle.c_header.specs.Fields.{texts_below, field_start, field_line, values_t
 use Rattle.c_header.specs.Fields.{used_words, counters_text, children_text, active_field, last_field, bits_line}
 use Rattle.c_header.specs.Header.{states_text, rows_text, values_fields, states_fields, struct_text}
 use Rattle.c_header.proofs.CommentLemmas.{all_after, all_tested, one_plain, place_plain, children_plain, datum_plain}
-use Rattle.c_header.specs.Struct.{DeclaresStruct, struct_fields, struct_rows, member_text, members_text, arrays_text}
+use Rattle.c_header.specs.Struct.{DeclaresStruct, IsAny, struct_fields, struct_rows, member_text, members_text}
+use Rattle.c_header.specs.Struct.{arrays_text}
+
+-- all texts are texts
+all_any : (texts : List (List ℕ)) → AllByRecursion IsAny texts
+all_any [] = tt
+all_any (text ∷ texts) = (tt, all_any texts)
 
 -- ---- lines of fields, from a number on
 
@@ -424,11 +430,12 @@ module _ (chart : List ℕ) (K : Shape) (tree : IsTree K.tree) where
       ∙ sym (append_assoc (out_size ++ codes "]") out_rest after_out
       ∙ append_assoc out_size (codes "]") (out_rest ++ after_out)))
 
-  -- the struct of the header is that of the file
-  pub declares : IsPlain chart → list_all is_name K.names.states ≡ true
-      → DeclaresStruct labels (struct_fields K) (struct_rows K) (struct_text chart labels K)
+  -- the struct of the header is that of the file, with comments of a kind of which all of them are
+  declares_with : (IsComment : List ℕ → Type 0) → AllByRecursion IsComment all_comments
+      → AllByRecursion IsComment row_comments_are
+      → DeclaresStruct IsComment labels (struct_fields K) (struct_rows K) (struct_text chart labels K)
   unfolding struct_text row_comments_are
-  declares plain named =
+  declares_with IsComment are rows_are =
       let types = types_of_fields chart K in record {
         comments = all_comments;
         row_comments = row_comments_are;
@@ -436,8 +443,8 @@ module _ (chart : List ℕ) (K : Shape) (tree : IsTree K.tree) where
         comments_size = comments_counted ∙ ap (λ (ts : List CType). length ts) types;
         row_names_size = refl;
         row_comments_size = refl;
-        comments_plain = all_plain plain named;
-        row_comments_plain = rows_plain;
+        are_comments = are;
+        are_row_comments = rows_are;
         is_text = ap (λ (t : List ℕ). codes "typedef struct {\n" ++ t)
             (sym (append_assoc (values_fields labels K) (states_fields chart labels K)
             (rows_text K ++ (codes "} " ++ (chart ++ codes "_chart;\n\n"))))
@@ -445,3 +452,12 @@ module _ (chart : List ℕ) (K : Shape) (tree : IsTree K.tree) where
             ∙ ap (λ (t : List ℕ). members_text (struct_fields K) (field_labels labels) all_comments
             ++ (t ++ (codes "} " ++ (chart ++ codes "_chart;\n\n")))) row_lines);
       }
+
+  -- with any comments
+  pub declares : DeclaresStruct IsAny labels (struct_fields K) (struct_rows K) (struct_text chart labels K)
+  declares = declares_with IsAny (all_any all_comments) (all_any row_comments_are)
+
+  -- and with plain ones where the names of chart and states are names
+  pub declares_plainly : IsPlain chart → list_all is_name K.names.states ≡ true
+      → DeclaresStruct IsPlain labels (struct_fields K) (struct_rows K) (struct_text chart labels K)
+  declares_plainly plain named = declares_with IsPlain (all_plain plain named) rows_plain

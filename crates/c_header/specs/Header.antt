@@ -109,7 +109,7 @@ abbrev pub calls_comment : Option ℕ → List ℕ
 calls_comment (Some most) =
     codes "\n/* How many functions of the source are open at once at most, with start or react. */\n"
 calls_comment None =
-    codes "\n/* 0: functions may call themselves, by way of others too, as often as bounds allow. */\n"
+    codes "\n/* 0: it isn't known. Functions may call themselves, by way of others too. */\n"
 
 -- that number: 0 where it isn't known
 abbrev pub calls_number : Option ℕ → ℕ

@@ -1,7 +1,6 @@
 -- That a text declares a struct: its fields and arrays, in their order, with their types and sizes.
 use Rattle.std.specs.Prelude.{◌≡◌, ℕ, List, [], ◌∷◌, ◌++◌, length, map, codes, decimal}
 use Rattle.std.specs.List.{AllByRecursion}
-use Rattle.chart_parts.specs.Plain.{IsPlain}
 use Rattle.c_subset.specs.Trees.{Row}
 use Rattle.c_subset.specs.declared.trees.CType.{CType}
 use Rattle.c_subset.specs.Meaning.{CValue}
@@ -43,16 +42,21 @@ arrays_text (row ∷ rows) (name ∷ names) [] = []
 arrays_text (row ∷ rows) (name ∷ names) (comment ∷ comments) =
     member_text row.type (array_declarator name row.size) comment ++ arrays_text rows names comments
 
--- The text declares a struct of these fields and arrays, with a name for each, and a comment of one line in which no
--- comment of C ends
-pub record DeclaresStruct (L : Labels) (fields : List CType) (rows : List Row) (text : List ℕ) : Type 0 where
+-- any text
+abbrev pub IsAny : List ℕ → Type 0
+IsAny text = Unit {0}
+
+-- The text declares a struct of these fields and arrays, with a name for each, and a comment of this kind: `IsPlain`
+-- where it is one line in which no comment of C ends
+pub record DeclaresStruct (IsComment : List ℕ → Type 0) (L : Labels) (fields : List CType) (rows : List Row)
+    (text : List ℕ) : Type 0 where
   pub comments : List (List ℕ)
   pub row_comments : List (List ℕ)
   pub names_size : length (field_labels L) ≡ length fields
   pub comments_size : length comments ≡ length fields
   pub row_names_size : length row_labels ≡ length rows
   pub row_comments_size : length row_comments ≡ length rows
-  pub comments_plain : AllByRecursion IsPlain comments
-  pub row_comments_plain : AllByRecursion IsPlain row_comments
+  pub are_comments : AllByRecursion IsComment comments
+  pub are_row_comments : AllByRecursion IsComment row_comments
   pub is_text : text ≡ codes "typedef struct {\n" ++ (members_text fields (field_labels L) comments
       ++ (arrays_text rows row_labels row_comments ++ (codes "} " ++ (L.chart ++ codes "_chart;\n\n"))))

@@ -120,12 +120,8 @@ pub(crate) fn print_calls(
 fn calls_comment(calls: Option<u32>) -> &'static str
     ensures { result.now ≡ spec.calls_comment calls }
 {
-    match calls {
-        Some(_) => {
-            "\n/* How many functions of the source are open at once at most, with start or react. */\n"
-        }
-        None => {
-            "\n/* 0: functions may call themselves, by way of others too, as often as bounds allow. */\n"
-        }
-    }
+    let Some(_) = calls else {
+        return "\n/* 0: it isn't known. Functions may call themselves, by way of others too. */\n";
+    };
+    "\n/* How many functions of the source are open at once at most, with start or react. */\n"
 }

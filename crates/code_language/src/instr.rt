@@ -32,7 +32,7 @@ pub enum Cond {
 pub enum Instr {
     /// The datum takes the value of the expression.
     Assign(u32, Expr),
-    /// Pays one step and puts the event out.
+    /// Pays one step and emits the event.
     Emit(u32),
     /// Makes the state active, where it isn't, its parent is, and a parent that is an OR is bare.
     Mark(u32),

@@ -94,7 +94,7 @@ const SECOND: &str = "\
     end\n";
 
 /// Code with an input, a local datum and an output event. Each event adds the input to the datum
-/// and puts the output out where the sum is over 2.
+/// and emits the output event where the sum is over 2.
 const COUNTER: &str = "\
     flowcode 2\n\
     states 1\n\

@@ -8,7 +8,7 @@ use std::alloc::Global;
 use std::marker::Model;
 
 /// Runs a chart by the rules. `Memory` may come from a search through junctions, from collecting
-/// the actions of a firing, and from putting an event out.
+/// the actions of a firing, and from emitting an event.
 #[derive(Drop)]
 pub struct Rules {
     alloc: Global,

@@ -9,7 +9,8 @@ use Rattle.c_file.proofs.printing.printed_source.Goals as goal
 pub returns : goal.returns
 returns c = record {
   calls = c.in_ok-calls.calls;
-  most_calls = c.in_ok-calls.ensures;
+  most_calls = c.in_ok-calls.ensures.most;
+  few_calls = c.in_ok-calls.ensures.few;
   written = c.in_ok-uses.uses.reached.items;
   reached = c.in_ok-uses.ensures.reached;
   is_text =

@@ -3,9 +3,9 @@
 //! Read `specs/Labels.antt`, `specs/Types.antt`, `specs/Expressions.antt`, `specs/Statements.antt`
 //! and `specs/Functions.antt`: what each thing is called, and how it is written.
 //! docs/C_SUBSET.md says the same in words. The public calls are `print_prototype` and
-//! `print_function`, and for a header `print_field_label`, `print_type`, `print_test` and `is_or`. The
-//! laws say that names are pairwise different and no keywords (`specs/Distinct.antt`), and that fields
-//! and declarations are those of the file of code.
+//! `print_function`, and for a header `print_field_label`, `print_type`, `print_test`, `is_or`. The
+//! laws say that names are pairwise different and no keywords (`specs/Distinct.antt`), and that
+//! fields and declarations are those of the file of code.
 #![tactic(auto)]
 
 mod constants;

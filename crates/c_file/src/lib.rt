@@ -3,8 +3,7 @@
 //! Read `specs/Files.antt`, what the two texts are; `specs/Source.antt`, what a source consists of;
 //! `specs/Reached.antt`, which functions are written; `specs/Heights.antt`, how many functions are
 //! open at once; `specs/Facts.antt`, what the header says of them; and `specs/Comments.antt`, what is
-//! said of each procedure. The public calls are
-//! `header` and `source`.
+//! said of each procedure. The public calls are `header` and `source`.
 #![tactic(auto)]
 
 mod calls;

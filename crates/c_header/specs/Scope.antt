@@ -42,7 +42,8 @@ abbrev pub test_labels : Tree → Names → List (List ℕ)
 test_labels t n = map (test_label t n) (range_with_len 1 (state_count t - 1))
 
 -- after the chart's name, the names that all files have: the struct, an event without a name, faults, bounds, for how
--- many outputs and notes there is room, how many calls are open, and the check of the source whether the header fits it
+-- many outputs and notes there is room, how many functions are open, and the check of the source whether the header
+-- fits it
 abbrev pub fixed_labels : List (List ℕ)
 fixed_labels =
     codes "_chart" ∷ codes "_TICK" ∷ codes "_FAULT_NONE" ∷ codes "_FAULT_DEPTH" ∷ codes "_FAULT_STEPS"

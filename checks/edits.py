@@ -7,11 +7,13 @@
 
 `rt ci` tries the edits in `must-fail/` at each run, and so proves the crate once more. An edit in `edits/` has the same form and is
 judged by the same code of the kit, but only where something changed: `edits_tried.txt` has a row for each crate with such edits, on
-which texts they were all refused. The texts are the files of the crate and its edits, and the definitions, less their comments, of
-all crates below it. A row stands for the logic of the kit that is named in the first line. Trying needs the libraries that `rt ci`
-leaves, takes as long as a proof of the crate and some seconds for each edit, and writes the rows anew.
+which texts they were all refused. The texts are the files of the crate and its edits, and the definitions of all crates below it,
+less lines that are comments. A row stands for the logic of the kit that is named in the first line. Trying needs the libraries that
+`rt ci` leaves, takes as long as a proof of the crate and some seconds for each edit, and writes the rows anew.
 
-The status is 1 where edits weren't tried on the present texts, where the prover took one, or where no crate has any."""
+The status is 1 where edits weren't tried on the present texts, where the prover took one, where one can't be applied, or where no
+crate has any."""
+import functools
 import hashlib
 import importlib.machinery
 import importlib.util
@@ -27,6 +29,7 @@ sys.dont_write_bytecode = True
 ROOT = os.path.dirname(os.path.dirname(os.path.abspath(__file__)))
 TRIED = os.path.join(ROOT, 'checks', 'edits_tried.txt')
 PARTS = ('src', 'specs', 'proofs')
+COMMENTS = {'.rt': r'(?m)^ *//.*\n', '.antt': r'(?m)^ *--.*\n'}
 MEMORY = 5 * 2 ** 30                                        # bytes that a check of a crate may take
 
 
@@ -54,21 +57,20 @@ def edits_of(crate):
     return [path for path in files_below(os.path.join(crate.folder, 'edits')) if path.endswith('.edit')]
 
 
-def texts_of(crate):
-    """The names and texts on which it depends whether the edits of a crate are refused."""
-    for part in (*PARTS, 'edits'):
-        for path in files_below(os.path.join(crate.folder, part)):
-            with open(path, encoding='utf-8') as file:
-                yield os.path.relpath(path, ROOT), file.read()
-    for library in sorted(crate.below(), key=lambda it: it.name):
-        for path in files_below(os.path.join(library.folder, 'specs')):
-            with open(path, encoding='utf-8') as file:
-                yield os.path.relpath(path, ROOT), re.sub(r'(?m)^ *--.*\n', '', file.read())
+@functools.lru_cache(None)
+def text_of(path):
+    """The name of a file and its text, less comments."""
+    with open(path, encoding='utf-8') as file:
+        text = re.sub(COMMENTS.get(os.path.splitext(path)[1], r'(?!)'), '', file.read())
+    return '%s %d\n%s' % (os.path.relpath(path, ROOT), len(text), text)
 
 
+@functools.lru_cache(None)
 def row_of(crate):
-    """The row of a crate whose edits were all refused: its name, their number, and a sum of the texts."""
-    texts = ''.join('%s %d\n%s' % (name, len(text), text) for name, text in texts_of(crate))
+    """The row of a crate whose edits were all refused: its name, their number, and a sum of the texts on which that depends."""
+    folders = [os.path.join(crate.folder, part) for part in (*PARTS, 'edits')]
+    folders += [os.path.join(library.folder, 'specs') for library in sorted(crate.below(), key=lambda it: it.name)]
+    texts = ''.join(text_of(path) for folder in folders for path in files_below(folder))
     return '%s %d %s' % (crate.name, len(edits_of(crate)), hashlib.sha256(texts.encode()).hexdigest())
 
 
@@ -92,12 +94,29 @@ def lanes(rt):
     return max(1, min(rt.processors(), rt.free() // MEMORY))
 
 
-def refused(rt, crate):
-    """Whether the prover refuses all edits of a crate. What it says of each is printed."""
+def is_refused(rt, crate):
+    """Whether the prover refuses all edits of a crate. What the kit says of each is printed."""
     tried = rt.must_fail_all(crate, edits_of(crate), ['--jobs', '1'])
-    for _, text in tried:
-        print(text, flush=True)
-    return all(is_refused for is_refused, _ in tried)
+    for _, said in tried:
+        print(said, flush=True)
+    return all(was_refused for was_refused, _ in tried)
+
+
+def refused_of(rt, crates):
+    """Those of the crates whose edits are all refused, the largest tried first."""
+    rt.rtlib.guarded()                                      # its first call sets a signal's handler, which a thread may not
+    crates = sorted(crates, key=lambda crate: -crate.count(rb'\n'))
+    with ThreadPoolExecutor(lanes(rt)) as pool:
+        return [crate for crate, is_well in zip(crates, pool.map(lambda it: is_refused(rt, it), crates)) if is_well]
+
+
+def faults_of(rt, crates):
+    """What is wrong with edits that can't be applied to the present texts."""
+    for crate in crates:
+        for edit in edits_of(crate):
+            why = rt.read_edit(edit, crate.folder)[1]
+            if why:
+                yield '%s: %s' % (os.path.relpath(edit, ROOT), why)
 
 
 def main(arguments):
@@ -107,22 +126,21 @@ def main(arguments):
     if not crates or arguments[:1] not in ([], ['--try']) or len(named) != len(arguments[1:]):
         print('no crate has edits, or the arguments are not those of this program', file=sys.stderr)
         return 1
+    faults = list(faults_of(rt, crates))
+    if faults:
+        print('\n'.join(faults))
+        return 1
     rows = kept_rows()
     untried = named or [crate for crate in crates if row_of(crate) not in rows]
-    if not arguments:
-        for crate in untried:
-            print('%s: its edits were not tried on these texts' % crate.name)
-    else:
-        rt.rtlib.guarded()                                  # its first call sets a signal's handler, which a thread may not
-        untried.sort(key=lambda it: -it.count(rb'\n'))
-        with ThreadPoolExecutor(lanes(rt)) as pool:
-            answers = list(pool.map(lambda it: refused(rt, it), untried))
+    if arguments:
+        refused = refused_of(rt, untried)
         rows = [row for row in rows if row.split()[0] not in [crate.name for crate in untried]]
-        rows += [row_of(crate) for crate, is_refused in zip(untried, answers) if is_refused]
-        keep(crates, rows)
-        untried = [crate for crate, is_refused in zip(untried, answers) if not is_refused]
-    print('%d edits of %d crates were refused on these texts' % (
-        sum(len(edits_of(crate)) for crate in crates if crate not in untried), len(crates) - len(untried)))
+        keep(crates, rows + [row_of(crate) for crate in refused])
+        untried = [crate for crate in untried if crate not in refused]
+    for crate in untried:
+        print('%s: its edits are not known to be refused on these texts' % crate.name)
+    tried = [crate for crate in crates if crate not in untried]
+    print('%d edits of %d crates were refused on these texts' % (sum(len(edits_of(crate)) for crate in tried), len(tried)))
     return 1 if untried else 0
 
 

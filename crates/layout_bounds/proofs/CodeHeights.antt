@@ -1,5 +1,5 @@
 -- The heights of the procedures of the code of a chart.
-use Rattle.std.proofs.Common.{◌≡◌, ℕ, ◌+◌, ◌*◌, ◌≤◌, List, [], ◌∷◌, suc, None, arith}
+use Rattle.std.proofs.Common.{◌≡◌, ℕ, ◌+◌, ◌*◌, ◌≤◌, List, None, arith}
 use Rattle.std.specs.Prelude.{slice_index}
 use Rattle.flow_base.specs.declared.chart_limits.TheConstants.{STATE_DEPTH_LIMIT}
 use Rattle.checked_chart.specs.Chart.{Chart}
@@ -14,14 +14,10 @@ use Rattle.chart_layout.specs.Keys.{Key}
 use Rattle.chart_layout.specs.Bodies.{code_of_chart}
 use Rattle.chart_layout.proofs.StateStands.{StandsAt}
 use Rattle.layout_bounds.specs.HeightBounds.{height_bound}
-use Rattle.layout_bounds.proofs.KindBounds.{bound_at, at_key, at_most, bounded}
+use Rattle.layout_bounds.proofs.KeyBounds.{greatest_most, bound_at, at_key, at_most}
+use Rattle.layout_bounds.proofs.KindBounds.{bounded}
 use Rattle.layout_bounds.proofs.Ranks.{bound_most}
 use Rattle.layout_bounds.proofs.KindHeights.{each_keeps}
-
--- the greatest of numbers is at most what each is
-greatest_most : (m : ℕ) (ns : List ℕ) → ((p : ℕ) → slice_index ns p ≤ m) → greatest ns ≤ m
-greatest_most m [] h = omega arith
-greatest_most m (n ∷ ns) h = omega (arith, h 0, greatest_most m ns (λ p. h (suc p)))
 
 module _ (c : Chart) (valid : IsValid c) where
   -- the heights of the procedures
@@ -40,7 +36,12 @@ module _ (c : Chart) (valid : IsValid c) where
   -- nor than five for each level and seven
   pub by_depth : (p : ℕ) → slice_index hs p ≤ 5 * STATE_DEPTH_LIMIT + 7
   by_depth p =
-      omega (arith, at_number p, at_most c (height_bound c.tree) (5 * STATE_DEPTH_LIMIT + 7) (bound_most c.tree) p)
+      omega (
+        arith,
+        at_number p,
+        at_most c (height_bound c.tree) (5 * STATE_DEPTH_LIMIT + 7)
+            (λ q key e. bound_most c.tree key) p,
+      )
 
   -- so neither is the greatest
   pub greatest_low : greatest hs ≤ 5 * STATE_DEPTH_LIMIT + 7

@@ -1,7 +1,7 @@
 -- The works of the procedures of the code of a valid chart.
 use Rattle.std.proofs.Common.{◌≡◌, ℕ, suc, ◌+◌, ◌*◌, ◌≤◌, List, [], ◌∷◌, ◌++◌, length, Option, Some}
-use Rattle.std.proofs.Common.{None, refl, arith, mul-le-mul_left}
-use Rattle.std.specs.Prelude.{slice_get, slice_index}
+use Rattle.std.proofs.Common.{None, arith, mul-le-mul_left}
+use Rattle.std.specs.Prelude.{slice_index}
 use Rattle.active_config.specs.Tree.{state_count}
 use Rattle.actions.specs.Exprs.{Expr, Stmt}
 use Rattle.checked_chart.specs.Chart.{Chart, Trans}
@@ -13,9 +13,9 @@ use Rattle.code_language.specs.Measures.{greatest, work_by, works}
 use Rattle.code_language.specs.WellFormed.{first_over}
 use Rattle.code_language.proofs.Accepted.{none_over}
 use Rattle.code_language.proofs.Measures.{work_measure}
-use Rattle.chart_layout.specs.Bodies.{body, procedures_of, code_of_chart}
+use Rattle.chart_layout.specs.Bodies.{body, code_of_chart}
 use Rattle.chart_layout.specs.Keys.{Key}
-use Rattle.chart_layout.specs.Keys.{guard_keys, condition_keys, action_keys, trans_keys, layout}
+use Rattle.chart_layout.specs.Keys.{guard_keys, condition_keys, action_keys, trans_keys}
 use Rattle.chart_layout.specs.Places.{numbers}
 use Rattle.chart_layout.proofs.EachFrom.{EachFrom, from_append}
 use Rattle.chart_layout.proofs.Every.{Every, every}
@@ -23,7 +23,7 @@ use Rattle.chart_layout.proofs.StateStands.{StandsAt}
 use Rattle.layout_bounds.specs.Works.{StateWorks}
 use Rattle.layout_bounds.specs.WorkBounds.{work_bound}
 use Rattle.layout_bounds.proofs.StateWorks.{state_works}
-use Rattle.layout_bounds.proofs.KeyBounds.{bound_at, bound_of, bound_none, all_bounded}
+use Rattle.layout_bounds.proofs.KeyBounds.{greatest_most, bound_at, at_key, at_most, all_bounded}
 use Rattle.layout_bounds.proofs.StateWorkBounds.{Keeps, leave_keeps, exit_keeps, enter_keeps, defaults_keeps, arrive_keeps}
 use Rattle.layout_bounds.proofs.StateWorkBounds.{take_keeps, process_keeps}
 use Rattle.layout_bounds.proofs.ListWorkBounds.{list_keeps, junction_keeps}
@@ -32,11 +32,6 @@ use Rattle.layout_bounds.proofs.GreatestWork.{exit_action_most, leave_most, exit
 use Rattle.layout_bounds.proofs.GreatestWork.{list_most, junction_most, process_most, most_within}
 
 -- ---- numbers
-
--- the greatest of numbers that are all within a limit is
-greatest_within : (m : ℕ) (ns : List ℕ) → ((p : ℕ) → slice_index ns p ≤ m) → greatest ns ≤ m
-greatest_within m [] h = omega arith
-greatest_within m (n ∷ ns) h = omega (arith, h 0, greatest_within m ns (λ p. h (suc p)))
 
 -- a factor of the product
 product_with : (a s : ℕ) → 400 * suc s * a ≡ 400 * (a * s) + 400 * a
@@ -53,7 +48,7 @@ module _ (c : Chart) (valid : IsValid c) where
 
   -- are those of what stands there
   keeps : Keeps c w
-  keeps p key e = omega (arith, bound_of c (work_bound c) p key e)
+  keeps p key e = omega (arith, at_key c (work_bound c) p key e)
 
   -- how much work each kind is
   kinds_of : StateWorks c (numbers c) w
@@ -133,15 +128,11 @@ module _ (c : Chart) (valid : IsValid c) where
 
   -- no number has more than the most
   light_at : (p : ℕ) → w p ≤ most c
-  light_at p = go (slice_get (layout c) p) refl
-    where
-      go : (o : Option Key) → slice_get (layout c) p ≡ o → w p ≤ most c
-      go None e = omega (arith, bound_none c (work_bound c) p e)
-      go (Some key) e = omega (arith, bound_of c (work_bound c) p key e, (good p key e).light)
+  light_at p = at_most c (work_bound c) (most c) (λ q key e. (good q key e).light) p
 
   -- each procedure keeps its bound
   works_bounded : (p : ℕ) → slice_index (works (code_of_chart c).procedures.procs) p ≤ w p
-  unfolding code_of_chart procedures_of
+  unfolding code_of_chart
   works_bounded p =
       all_bounded c (work_bound c) work_by work_measure (λ q key e. (good q key e).keeps_it) p
 
@@ -159,7 +150,7 @@ module _ (c : Chart) (valid : IsValid c) where
   -- nor has the greatest
   pub greatest_work_within : greatest (works (code_of_chart c).procedures.procs)
       ≤ 400 * suc (state_count c.tree) * suc (item_count c)
-  greatest_work_within = greatest_within _ (works (code_of_chart c).procedures.procs) works_within
+  greatest_work_within = greatest_most _ (works (code_of_chart c).procedures.procs) works_within
 
   -- so none is over the limit of code
   pub no_work_over : first_over WORK_LIMIT kinds.TooMuchWork 0 (works (code_of_chart c).procedures.procs) ≡ None

@@ -1,9 +1,8 @@
--- Bounds of procedures by what they are of: what each kind keeps by those that it calls, all procedures keep.
-use Rattle.std.proofs.Common.{◌≡◌, ℕ, zero, suc, ◌+◌, ◌<◌, ◌≤◌, true, List, [], ◌∷◌, ◌++◌, length, map, Option}
-use Rattle.std.proofs.Common.{Some, None, refl, ap, arith}
-use Rattle.std.specs.Prelude.{slice_get, slice_index}
+-- What holds of each kind of procedure holds of all of a chart, and what the bound of each kind's number is.
+use Rattle.std.proofs.Common.{◌≡◌, ℕ, ◌+◌, ◌<◌, ◌≤◌, true, List, [], ◌∷◌, ◌++◌, length, Option}
+use Rattle.std.proofs.Common.{Some, None}
+use Rattle.std.specs.Prelude.{slice_index}
 use Rattle.std.specs.List.{AllByRecursion}
-use Rattle.std.specs.Option.{option_map_or}
 use Rattle.active_config.specs.Tree.{state_count}
 use Rattle.actions.specs.Exprs.{Expr, Stmt}
 use Rattle.checked_chart.specs.declared.parts.ListKind.{ListKind}
@@ -11,14 +10,14 @@ use Rattle.checked_chart.specs.Chart.{Chart, Trans, list_of, junction}
 use Rattle.checked_chart.specs.Valid.{IsValid}
 use Rattle.code_language.specs.Instrs.{Instr}
 use Rattle.code_language.specs.Measures.{reckon}
-use Rattle.code_language.proofs.Reckoned.{IsMeasure, reckon_bounded}
+use Rattle.code_language.proofs.Reckoned.{IsMeasure}
 use Rattle.chart_procedures.specs.Kinds.{IsPath}
 use Rattle.chart_procedures.specs.Numbers.{Numbers}
 use Rattle.chart_layout.specs.Ends.{end_of}
 use Rattle.chart_layout.specs.ReachedJunctions.{has, reached}
 use Rattle.chart_layout.specs.Keys.{Key, EndMark, Entry, During, ExitAction, Guard, ConditionOn, ConditionBare, Action}
 use Rattle.chart_layout.specs.Keys.{Leave, Exit, Arrive, ListOf, JunctionOf, Defaults, Take, Enter, Process}
-use Rattle.chart_layout.specs.Keys.{guard_keys, condition_keys, action_keys, trans_keys, layout}
+use Rattle.chart_layout.specs.Keys.{guard_keys, condition_keys, action_keys, trans_keys}
 use Rattle.chart_layout.specs.Places.{numbers}
 use Rattle.chart_layout.specs.Bodies.{body, procedures_of}
 use Rattle.chart_layout.proofs.EachFrom.{EachFrom, from_append}
@@ -28,6 +27,7 @@ use Rattle.chart_layout.proofs.ListStands.{list_stands}
 use Rattle.chart_layout.proofs.StateStands.{StandsAt, end_mark_stands, entry_stands, during_stands, exit_action_stands}
 use Rattle.chart_layout.proofs.StateStands.{leave_stands, exit_stands, defaults_stand, processing_stands}
 use Rattle.chart_layout.proofs.StateStands.{enter_stands, arrive_stands}
+use Rattle.layout_bounds.proofs.KeyBounds.{bound_at, at_key, all_bounded}
 
 -- ---- each procedure of the code
 
@@ -112,99 +112,64 @@ module _ (c : Chart) (R : Key → Type 0) (K : OfEach c R) where
   pub of_layout : IsValid c → (p : ℕ) (key : Key) → StandsAt c p key → R key
   of_layout valid p key e = every c valid (λ t. Unit {0}) P of_every p key e
 
--- ---- the bound of a number
-
--- what stands in the list that f makes is made of what stands there
-made_of : {A B : Type 0} (f : A → B) (xs : List A) (k : ℕ) (y : B) → slice_get (map f xs) k ≡ Some y
-    → (x : A) × (slice_get xs k ≡ Some x) × (f x ≡ y)
-made_of f [] k y e = absurd cc
-made_of f (x ∷ xs) zero y e = (x, refl, cc e)
-made_of f (x ∷ xs) (suc k) y e = made_of f xs k y e
-
--- the bound of what the procedure at a number is of, 0 where there is none
-abbrev pub bound_at : Chart → (Key → ℕ) → ℕ → ℕ
-bound_at c bound p = option_map_or bound (slice_get (layout c) p) 0
+-- ---- the bound of the number of each kind
 
 module _ (c : Chart) (bound : Key → ℕ) where
-  -- where a key stands it is that of the key
-  pub at_key : (p : ℕ) (key : Key) → StandsAt c p key → bound_at c bound p ≡ bound key
-  at_key p key e = ap (λ o. option_map_or bound o 0) e
-
-  -- what no key is above, no number is
-  pub at_most : (m : ℕ) → ((key : Key) → bound key ≤ m) → (p : ℕ) → bound_at c bound p ≤ m
-  at_most m h p = go (slice_get (layout c) p)
-    where
-      go : (o : Option Key) → option_map_or bound o 0 ≤ m
-      go None = omega arith
-      go (Some key) = h key
-
   module _ (valid : IsValid c) where
     abbrev N : Numbers
     N = numbers c
 
-    -- ---- the number of each kind
-
     -- the end mark
     pub end_mark_bound : bound_at c bound N.end_mark ≡ bound EndMark
-    end_mark_bound = at_key N.end_mark EndMark (end_mark_stands c)
+    end_mark_bound = at_key c bound N.end_mark EndMark (end_mark_stands c)
 
     -- where a state is entered on the way to one at or below it
     pub enter_bound : (s d : ℕ) → IsPath c.tree s d → bound_at c bound (N.enter s d) ≡ bound (Enter s d)
     enter_bound s d path =
         let range = path_range c.tree valid.tree s d path in
-        at_key (N.enter s d) (Enter s d) (enter_stands c s path.state valid.tree d range.0 range.1)
+        at_key c bound (N.enter s d) (Enter s d) (enter_stands c s path.state valid.tree d range.0 range.1)
 
     -- where a firing arrives in it
     pub arrive_bound : (s d : ℕ) → s < state_count c.tree → s ≤ d → d < end_of c.tree s
         → bound_at c bound (N.arrive s d) ≡ bound (Arrive s d)
     arrive_bound s d lt low high =
-        at_key (N.arrive s d) (Arrive s d) (arrive_stands c s lt valid.tree d low high)
+        at_key c bound (N.arrive s d) (Arrive s d) (arrive_stands c s lt valid.tree d low high)
 
     module _ (s : ℕ) (lt : s < state_count c.tree) where
       -- the actions of a state
       pub entry_bound : bound_at c bound (N.entry s) ≡ bound (Entry s)
-      entry_bound = at_key (N.entry s) (Entry s) (entry_stands c s lt)
+      entry_bound = at_key c bound (N.entry s) (Entry s) (entry_stands c s lt)
 
       pub during_bound : bound_at c bound (N.during s) ≡ bound (During s)
-      during_bound = at_key (N.during s) (During s) (during_stands c s lt)
+      during_bound = at_key c bound (N.during s) (During s) (during_stands c s lt)
 
       pub exit_action_bound : bound_at c bound (N.exit_action s) ≡ bound (ExitAction s)
-      exit_action_bound = at_key (N.exit_action s) (ExitAction s) (exit_action_stands c s lt)
+      exit_action_bound = at_key c bound (N.exit_action s) (ExitAction s) (exit_action_stands c s lt)
 
       -- where its children are left, and where it is left
       pub leave_bound : bound_at c bound (N.leave s) ≡ bound (Leave s)
-      leave_bound = at_key (N.leave s) (Leave s) (leave_stands c s lt)
+      leave_bound = at_key c bound (N.leave s) (Leave s) (leave_stands c s lt)
 
       pub exit_bound : bound_at c bound (N.exit s) ≡ bound (Exit s)
-      exit_bound = at_key (N.exit s) (Exit s) (exit_stands c s lt)
+      exit_bound = at_key c bound (N.exit s) (Exit s) (exit_stands c s lt)
 
       -- where it is entered by default, and processed
       pub defaults_bound : bound_at c bound (N.defaults s) ≡ bound (Defaults s)
-      defaults_bound = at_key (N.defaults s) (Defaults s) (defaults_stand c s lt)
+      defaults_bound = at_key c bound (N.defaults s) (Defaults s) (defaults_stand c s lt)
 
       pub process_bound : bound_at c bound (N.process s) ≡ bound (Process s)
-      process_bound = at_key (N.process s) (Process s) (processing_stands c s lt)
+      process_bound = at_key c bound (N.process s) (Process s) (processing_stands c s lt)
 
       -- a list of it
       pub search_bound : (kind : ListKind) → bound_at c bound (N.search s kind) ≡ bound (ListOf s kind)
-      search_bound kind = at_key (N.search s kind) (ListOf s kind) (list_stands c s kind lt)
+      search_bound kind = at_key c bound (N.search s kind) (ListOf s kind) (list_stands c s kind lt)
 
     -- ---- the whole
 
     -- where each kind keeps its bound by those that it calls, each procedure of the code keeps that of its number
     module _ (F : (ℕ → ℕ) → List Instr → ℕ) (measure : IsMeasure F)
         (K : OfEach c (λ key. F (bound_at c bound) (body c key) ≤ bound key)) where
-      -- what stands at a number keeps its bound
-      keeps : (k : ℕ) (is : List Instr) → slice_get (map (body c) (layout c)) k ≡ Some is
-          → F (bound_at c bound) is ≤ bound_at c bound (0 + k)
-      keeps k is e =
-          let made = made_of (body c) (layout c) k is e in
-          let n : 0 + k ≡ k = omega arith in
-          let here = of_layout c (λ key. F (bound_at c bound) (body c key) ≤ bound key) K valid k made.0 made.1 in
-          omega (arith, here, ap (F (bound_at c bound)) made.2, at_key k made.0 made.1, ap (bound_at c bound) n)
-
-      -- so all do
       pub bounded : (p : ℕ) → slice_index (reckon F [] (procedures_of c).procs) p ≤ bound_at c bound p
-      unfolding procedures_of
       bounded p =
-          reckon_bounded F measure (bound_at c bound) (map (body c) (layout c)) [] (λ q. omega arith) keeps p
+          all_bounded c bound F measure
+          (of_layout c (λ key. F (bound_at c bound) (body c key) ≤ bound key) K valid) p

@@ -27,7 +27,8 @@ use Rattle.layout_bounds.specs.Heights.{StateHeights, ListHeights}
 use Rattle.layout_bounds.specs.HeightBounds.{rank, search_height, height_bound}
 use Rattle.layout_bounds.proofs.StateHeights.{state_heights}
 use Rattle.layout_bounds.proofs.ListHeights.{list_heights}
-use Rattle.layout_bounds.proofs.KindBounds.{OfEach, bound_at, at_key, end_mark_bound, enter_bound, arrive_bound}
+use Rattle.layout_bounds.proofs.KeyBounds.{bound_at, at_key}
+use Rattle.layout_bounds.proofs.KindBounds.{OfEach, end_mark_bound, enter_bound, arrive_bound}
 use Rattle.layout_bounds.proofs.KindBounds.{entry_bound, during_bound, exit_action_bound, leave_bound, exit_bound}
 use Rattle.layout_bounds.proofs.KindBounds.{defaults_bound, process_bound, search_bound}
 use Rattle.layout_bounds.proofs.CalledKeys.{fire_key, condition_key, fire_stands, is_reached, list_calls, junction_calls}

@@ -1,4 +1,6 @@
 pub mod SumLemmas
+pub mod ListSums
+pub mod ListTerms
 pub mod Fills
 pub mod SumsBelow
 pub mod SumsByDepth
@@ -23,18 +25,16 @@ pub mod PartNumbers
 pub mod ListCalls
 pub mod SoundCode
 pub mod SoundTables
-pub mod ListSums
 pub mod PartCounts
 pub mod CodeLengths
 pub mod FewProcedures
+pub mod KeyBounds
 pub mod KindBounds
 pub mod CalledKeys
 pub mod Ranks
 pub mod KindHeights
 pub mod CodeHeights
-pub mod ListTerms
 pub mod WorkShares
-pub mod KeyBounds
 pub mod StateWorkBounds
 pub mod ListWorkBounds
 pub mod WorkCounts

@@ -18,7 +18,7 @@ use Rattle.chart_procedures.specs.Numbers.{Numbers, TransNumbers, ListNumbers, o
 use Rattle.chart_procedures.proofs.Known.{Meaning, DestBy, EachBy, meaning_of}
 use Rattle.chart_procedures.proofs.Validity.{list_by, junction_by}
 use Rattle.chart_layout.specs.Bodies.{procedures_of}
-use Rattle.chart_layout.specs.ReachedJunctions.{has, place_of, reached}
+use Rattle.chart_layout.specs.ReachedJunctions.{place_of, reached}
 use Rattle.chart_layout.specs.Places.{reached_count, groups_start, total, arrive_at, numbers, list_numbers}
 use Rattle.chart_layout.proofs.Members.{place_get}
 use Rattle.chart_layout.proofs.ReachedLemmas.{has_reached, reached_within, list_valid}

@@ -1,6 +1,6 @@
 -- Sums over lists: what stands in a list is within the sum over it.
-use Rattle.std.proofs.Common.{◌≡◌, ℕ, zero, suc, ◌+◌, ◌<◌, ◌≤◌, Bool, true, false, List, [], ◌∷◌, length, cond, Some}
-use Rattle.std.proofs.Common.{refl, ap, ◌∙◌, arith, ⊎_elim, subst}
+use Rattle.std.proofs.Common.{◌≡◌, ℕ, zero, suc, ◌+◌, ◌<◌, ◌≤◌, Bool, true, false, List, [], ◌∷◌, cond, Some}
+use Rattle.std.proofs.Common.{ap, ◌∙◌, arith, ⊎_elim, subst}
 use Rattle.std.specs.Prelude.{◌==◌, slice_index_or}
 use Rattle.std.specs.List.{sum_by, filter, range_with_len}
 use Rattle.std.specs.Option.{option_map_or}
@@ -9,7 +9,6 @@ use Rattle.std.proofs.lemmas.Bool.Decides.{nat_tests}
 use Rattle.std.proofs.lemmas.List.Sums.{sum_by-cons}
 use Rattle.active_config.specs.Tree.{Tree, IsTree, state_count, parent_of, is_child, children_below, children_of}
 use Rattle.checked_chart.proofs.Trees.{child_is}
-use Rattle.chart_layout.specs.Orders.{sum_to}
 
 -- ---- sums over lists
 
@@ -19,25 +18,6 @@ module _ {A : Type 0} (f : A → ℕ) where
   at_most_sum [] i d none = omega (arith, none)
   at_most_sum (x ∷ xs) zero d none = omega (arith, sum_by-cons f x xs)
   at_most_sum (x ∷ xs) (suc i) d none = omega (arith, sum_by-cons f x xs, at_most_sum xs i d none)
-
--- a sum from the first number on
-sum_first : (g : ℕ → ℕ) (n : ℕ) → sum_to g (suc n) ≡ g 0 + sum_to (λ i. g (suc i)) n
-unfolding sum_to
-sum_first g zero = omega arith
-sum_first g (suc n) = omega (arith, sum_first g n)
-
--- the sum over the places of a list is that over its items
-pub sum_places : {A : Type 0} (f : A → ℕ) (xs : List A) (d : A)
-    → sum_to (λ i. f (slice_index_or xs i d)) (length xs) ≡ sum_by f xs
-unfolding sum_to
-sum_places f [] d = refl
-sum_places f (x ∷ xs) d =
-    omega (
-      arith,
-      sum_first (λ i. f (slice_index_or (x ∷ xs) i d)) (length xs),
-      sum_places f xs d,
-      sum_by-cons f x xs,
-    )
 
 -- ---- numbers of a range that pass a test
 

@@ -5,36 +5,28 @@ use Rattle.std.specs.Prelude.{IfSome, if◌then◌else◌}
 use Rattle.std.proofs.lemmas.List.Sums.{sum_by-cons}
 use Rattle.active_config.specs.Tree.{state_count}
 use Rattle.actions.specs.Exprs.{Expr, Stmt}
-use Rattle.checked_chart.specs.declared.parts.Dest.{Dest}
-use Rattle.checked_chart.specs.declared.parts.Dest.TheVariants.{State, Junction}
 use Rattle.checked_chart.specs.declared.parts.ListKind.{ListKind}
 use Rattle.checked_chart.specs.declared.parts.ListKind.TheVariants.{Outer, Inner, Default}
 use Rattle.checked_chart.specs.Chart.{Chart, Trans, list_of, junction}
-use Rattle.checked_chart.specs.Homes.{home_of}
-use Rattle.checked_chart.specs.Reached.{links_of, Reached}
 use Rattle.checked_chart.specs.Valid.{IsValid}
 use Rattle.code_language.specs.Measures.{work_by}
-use Rattle.chart_procedures.specs.Compiled.{GuardBy, PartBy, ListCompiled}
-use Rattle.chart_procedures.specs.Kinds.{IsPath, IsDestination}
+use Rattle.chart_procedures.specs.Compiled.{GuardBy, PartBy}
+use Rattle.chart_procedures.specs.Kinds.{IsDestination}
 use Rattle.chart_procedures.specs.ListProcedures.{Search, context_of, search_of}
 use Rattle.chart_procedures.specs.Numbers.{Numbers, TransNumbers, ListNumbers, condition_of, first_of_parts}
 use Rattle.chart_procedures.specs.Numbers.{other_parts}
-use Rattle.chart_procedures.proofs.Known.{Meaning, DestBy, EachBy, meaning_of}
-use Rattle.chart_procedures.proofs.Validity.{list_by, junction_by}
-use Rattle.chart_layout.specs.Bodies.{body, procedures_of}
-use Rattle.chart_layout.specs.Keys.{EndMark, Guard, ConditionOn, ConditionBare, Arrive, ListOf, JunctionOf, Take}
+use Rattle.chart_layout.specs.Bodies.{body}
+use Rattle.chart_layout.specs.Keys.{EndMark, Guard, ConditionOn, ConditionBare, ListOf, JunctionOf}
 use Rattle.chart_layout.specs.Places.{numbers, list_numbers}
 use Rattle.chart_layout.specs.ReachedJunctions.{has, reached}
-use Rattle.chart_layout.proofs.EndsLemmas.{path_range}
 use Rattle.chart_layout.proofs.PartStands.{PartsStand, EachStands, list_parts_stand, junction_list_stands}
-use Rattle.chart_layout.proofs.ReachedLemmas.{reached_within, are_reached, list_valid}
-use Rattle.chart_layout.proofs.StateStands.{StandsAt, end_mark_stands, take_stands, arrive_stands}
-use Rattle.chart_layout.proofs.Whole.{lists_compiled}
-use Rattle.layout_bounds.specs.Calls.{FiringCalls}
-use Rattle.layout_bounds.specs.Works.{work_if, tests_work, FiringsWithin, ListWorks}
-use Rattle.layout_bounds.specs.WorkBounds.{test_work, tests_of, enters_below, defaults_work, firing_work, found_work}
+use Rattle.chart_layout.proofs.ReachedLemmas.{reached_within, list_valid}
+use Rattle.chart_layout.proofs.StateStands.{StandsAt, end_mark_stands}
+use Rattle.layout_bounds.specs.Works.{work_if, tests_work, ListWorks}
+use Rattle.layout_bounds.specs.WorkBounds.{test_work, tests_of, enters_below, defaults_work, found_work}
 use Rattle.layout_bounds.specs.WorkBounds.{work_bound}
 use Rattle.layout_bounds.proofs.ListWorks.{list_works}
+use Rattle.layout_bounds.proofs.CalledKeys.{fire_key, fire_stands, is_reached, list_fires, junction_fires}
 use Rattle.layout_bounds.proofs.WorkShares.{test_is, firing_is}
 use Rattle.layout_bounds.proofs.StateWorkBounds.{Keeps}
 
@@ -98,24 +90,23 @@ module _ (c : Chart) (valid : IsValid c) (w : ℕ → ℕ) (keeps : Keeps c w) w
 
   -- ---- what a list leads to
 
-  -- a firing
-  takes : (s d : ℕ) → IsPath c.tree s d → w (N.take s d) ≤ firing_work c
-  takes s d path =
-      let range = path_range c.tree valid.tree s d path in
-      keeps (N.take s d) (Take s d) (take_stands c s path.state valid.tree d range.0 range.1)
+  -- what a list calls for a destination has no more work than the list may come to
+  fire_within : (s : ℕ) (kind : ListKind) (d : ℕ) → IsDestination c.tree s kind d
+      → work_bound c (fire_key c.tree s kind d) ≤ found_work c s kind
+  fire_within s Outer d to = omega arith
+  fire_within s Inner d to = omega arith
+  fire_within s Default d to =
+      let inside : Bool → ℕ = λ here. if here then defaults_work c s else enters_below c s in
+      omega (arith, ap inside to.below)
 
-  -- each firing is within what the list may come to
+  -- so each firing is within it
   fires : (s : ℕ) (kind : ListKind) (d : ℕ) → IsDestination c.tree s kind d
       → w ((context_of N c.tree s kind).fire d) ≤ found_work c s kind
-  fires s Outer d h = takes (home_of c.tree s Outer d) d h.path
-  fires s Inner d h = takes s d h.path
-  fires s Default d h =
-      let range = path_range c.tree valid.tree s d h.path in
-      let inside : Bool → ℕ = λ here. if here then defaults_work c s else enters_below c s in
+  fires s kind d to =
       omega (
         arith,
-        keeps (N.arrive s d) (Arrive s d) (arrive_stands c s h.path.state valid.tree d range.0 range.1),
-        ap inside h.below,
+        keeps ((context_of N c.tree s kind).fire d) (fire_key c.tree s kind d) (fire_stands c valid s kind d to),
+        fire_within s kind d to,
       )
 
   -- so is the end mark
@@ -129,34 +120,18 @@ module _ (c : Chart) (valid : IsValid c) (w : ℕ → ℕ) (keeps : Keeps c w) w
     abbrev S : Search
     S = search_of N M c.tree s kind
 
-    -- what is known of its parts
-    abbrev P : Meaning
-    P = meaning_of c.tree (procedures_of c) N s kind (Reached (links_of c) (list_of c s kind))
-
-    -- where it stands
-    stands : ListCompiled c (procedures_of c) N M s kind S
-    stands = (lists_compiled c valid).by s kind lt
-
-    -- a destination
-    dest_fires : (d : Dest) → DestBy P.dest P.junction d → FiringCalls S (λ q. w q ≤ found_work c s kind) d
-    dest_fires (State d) h = fires s kind d h
-    dest_fires (Junction j) h = tt
-
-    -- all firings
-    all_fire : (ts : List Trans) (qs : List TransNumbers) → EachBy P kind ts qs
-        → FiringsWithin S w (found_work c s kind) ts qs
-    all_fire [] qs h = tt
-    all_fire (t ∷ ts) qs h = (dest_fires t.dest h.0.dest, all_fire ts (other_parts qs) h.1)
+    -- what each firing of the list is within
+    abbrev Within : ℕ → Type 0
+    Within q = w q ≤ found_work c s kind
 
     -- a list
     pub list_keeps : work_by w (body c (ListOf s kind)) ≤ work_bound c (ListOf s kind)
     list_keeps =
         let ts = list_of c s kind in
         let qs = M.parts s kind in
-        let known : EachBy P kind ts qs = list_by c valid (procedures_of c) N M s kind lt stands in
         omega (
           arith,
-          kinds.list S ts qs (found_work c s kind) (all_fire ts qs known),
+          kinds.list S ts qs (found_work c s kind) (list_fires c valid s kind lt Within (fires s kind)),
           tests_within S ts qs (list_parts_stand c s kind lt),
         )
 
@@ -166,13 +141,11 @@ module _ (c : Chart) (valid : IsValid c) (w : ℕ → ℕ) (keeps : Keeps c w) w
     junction_keeps j h =
         let ts = junction c j in
         let qs = M.junction_parts j in
-        let r : Reached (links_of c) (list_of c s kind) j =
-        ((are_reached c valid (list_of c s kind) (list_valid c valid s kind)).exact j).0 h in
-        let known : EachBy P kind ts qs =
-        (junction_by c valid (procedures_of c) N M s kind lt stands j r).parts in
+        let r = is_reached c valid s kind j h in
         let low = reached_within c valid (list_of c s kind) (list_valid c valid s kind) j r in
         omega (
           arith,
-          kinds.junction S ts qs (found_work c s kind) (all_fire ts qs known) (ends s kind),
+          kinds.junction S ts qs (found_work c s kind)
+              (junction_fires c valid s kind lt Within (fires s kind) j r) (ends s kind),
           tests_within S ts qs (junction_list_stands c j low),
         )

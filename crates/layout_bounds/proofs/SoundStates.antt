@@ -13,7 +13,7 @@ use Rattle.checked_chart.specs.Valid.{IsValid}
 use Rattle.checked_chart.proofs.Trees.{parent_below}
 use Rattle.sos_rules.specs.Parts.{Out}
 use Rattle.sos_rules.proofs.MarkedStates.{all_reverse}
-use Rattle.code_language.specs.Instrs.{Cond, Instr}
+use Rattle.code_language.specs.Instrs.{Instr}
 use Rattle.code_language.specs.Instrs as instrs
 use Rattle.code_language.specs.Sound.{IsProc}
 use Rattle.code_language.specs.WellFormed.{Known, can_be_kept}

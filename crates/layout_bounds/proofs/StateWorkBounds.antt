@@ -21,13 +21,13 @@ use Rattle.chart_layout.proofs.ListStands.{list_stands}
 use Rattle.chart_layout.proofs.StateStands.{StandsAt, entry_stands, during_stands, exit_action_stands}
 use Rattle.chart_layout.proofs.StateStands.{leave_stands, exit_stands, defaults_stand, processing_stands}
 use Rattle.chart_layout.proofs.StateStands.{enter_stands, arrive_stands}
-use Rattle.layout_bounds.specs.TreeSums.{sum_below}
 use Rattle.layout_bounds.specs.Calls.{DefaultsCalls, ArriveCalls}
 use Rattle.layout_bounds.specs.Works.{StateWorks}
+use Rattle.layout_bounds.specs.TreeSums.{sum_below}
 use Rattle.layout_bounds.specs.WorkBounds.{exit_share, enter_share, process_share, enters_below}
 use Rattle.layout_bounds.specs.WorkBounds.{tests_of, defaults_work, work_bound}
-use Rattle.layout_bounds.proofs.StateWorks.{state_works}
 use Rattle.layout_bounds.proofs.ListTerms.{child_at_most}
+use Rattle.layout_bounds.proofs.StateWorks.{state_works}
 use Rattle.layout_bounds.proofs.WorkShares.{defaults_is, firing_is, exit_share_is, enter_share_is, process_share_is}
 use Rattle.layout_bounds.proofs.WorkShares.{exits_split, enters_split, processes_split, exits_most, enters_most}
 

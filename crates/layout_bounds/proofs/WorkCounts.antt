@@ -1,5 +1,5 @@
 -- The works of actions, tests and states by the counts of the chart.
-use Rattle.std.proofs.Common.{◌≡◌, ℕ, zero, suc, ◌+◌, ◌*◌, ◌≤◌, List, [], ◌∷◌, length, refl, sym, ap, ◌∙◌, arith}
+use Rattle.std.proofs.Common.{◌≡◌, ℕ, zero, suc, ◌+◌, ◌*◌, ◌≤◌, List, [], ◌∷◌, length, refl, arith}
 use Rattle.std.proofs.Common.{suc-mul, mul-le-mul_left}
 use Rattle.std.specs.List.{AllByRecursion, sum_by}
 use Rattle.std.proofs.lemmas.List.Sums.{sum_by-cons}
@@ -11,8 +11,9 @@ use Rattle.checked_chart.specs.Counts.{statement_count, item_count}
 use Rattle.checked_chart.specs.Valid.{IsValid}
 use Rattle.chart_layout.specs.Orders.{sum_to}
 use Rattle.layout_bounds.specs.WorkBounds.{test_work, tests_of, exit_share, enter_share, process_share, firing_work}
+use Rattle.layout_bounds.proofs.ListSums.{sum_listed}
+use Rattle.layout_bounds.proofs.ListTerms.{at_most_sum}
 use Rattle.layout_bounds.proofs.ChildCounts.{children_count}
-use Rattle.layout_bounds.proofs.ListTerms.{at_most_sum, sum_places}
 use Rattle.layout_bounds.proofs.WorkShares.{test_is, firing_is, exit_share_is, enter_share_is, process_share_is}
 
 -- ---- products
@@ -124,12 +125,12 @@ module _ (c : Chart) where
     -- the transitions of all states
     transitions_sum : sum_to transitions (state_count c.tree) ≡ sum_by node_transitions c.nodes
     unfolding node
-    transitions_sum = ap (sum_to transitions) (sym valid.nodes_sized) ∙ sum_places node_transitions c.nodes no_node
+    transitions_sum = sum_listed node_transitions no_node c.nodes (state_count c.tree) valid.nodes_sized
 
     -- the statements of all states
     statements_sum : sum_to statements (state_count c.tree) ≡ sum_by node_statements c.nodes
     unfolding node
-    statements_sum = ap (sum_to statements) (sym valid.nodes_sized) ∙ sum_places node_statements c.nodes no_node
+    statements_sum = sum_listed node_statements no_node c.nodes (state_count c.tree) valid.nodes_sized
 
     -- a firing takes at most 39 for each item
     pub firing_counted : firing_work c ≤ 39 * suc (item_count c)

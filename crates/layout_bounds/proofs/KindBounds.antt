@@ -167,9 +167,9 @@ module _ (c : Chart) (bound : Key → ℕ) where
     -- ---- the whole
 
     -- where each kind keeps its bound by those that it calls, each procedure of the code keeps that of its number
-    module _ (F : (ℕ → ℕ) → List Instr → ℕ) (measure : IsMeasure F)
-        (K : OfEach c (λ key. F (bound_at c bound) (body c key) ≤ bound key)) where
-      pub bounded : (p : ℕ) → slice_index (reckon F [] (procedures_of c).procs) p ≤ bound_at c bound p
-      bounded p =
-          all_bounded c bound F measure
-          (of_layout c (λ key. F (bound_at c bound) (body c key) ≤ bound key) K valid) p
+    pub bounded : (F : (ℕ → ℕ) → List Instr → ℕ) → IsMeasure F
+        → OfEach c (λ key. F (bound_at c bound) (body c key) ≤ bound key) → (p : ℕ)
+        → slice_index (reckon F [] (procedures_of c).procs) p ≤ bound_at c bound p
+    bounded F measure K p =
+        all_bounded c bound F measure
+        (of_layout c (λ key. F (bound_at c bound) (body c key) ≤ bound key) K valid) p

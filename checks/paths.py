@@ -4,15 +4,15 @@
     python3 checks/paths.py PAGE..
 
 In a page, a text in Markdown, each link leads to a file or a folder of the repository and, where it says so, to a heading; and each
-path between backquotes that begins with the name of a crate and `src`, `specs`, `proofs` or `must-fail`, or with `checks`, `docs`,
-`examples` or `bench`, is that of a file or a folder. What isn't there is printed, and the status is then 1; so it is where the pages
+path between backquotes that begins with the name of a crate and `src`, `specs`, `proofs`, `must-fail` or `edits`, or with `checks`,
+`docs`, `examples` or `bench`, is that of a file or a folder. What isn't there is printed, and the status is then 1; so it is where the pages
 name nothing."""
 import os
 import re
 import sys
 
 ROOT = os.path.dirname(os.path.dirname(os.path.abspath(__file__)))
-OF_A_CRATE = re.compile(r'[a-z_]+/(?:src|specs|proofs|must-fail)(?:/[\w+.-]+)*/?')
+OF_A_CRATE = re.compile(r'[a-z_]+/(?:src|specs|proofs|must-fail|edits)(?:/[\w+.-]+)*/?')
 OF_THE_REPOSITORY = re.compile(r'(?:crates/[a-z_]+|checks|docs|examples|bench)(?:/[\w+.-]+)+/?')
 MADE = ('crates/flowc/out', 'crates/chart_to_c/out')        # what `rt ci` makes
 

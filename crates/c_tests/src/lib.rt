@@ -8,7 +8,5 @@ mod checking;
 mod failing;
 mod needed;
 mod spreading;
-#[cfg(test)]
-mod tests;
 
 pub use needed::tests_of;

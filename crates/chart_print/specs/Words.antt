@@ -69,7 +69,7 @@ fix_bytes scale =
 unfoldable pub scale_pieces : ScaleParts → List Piece
 scale_pieces scale = word_pieces (if is_int scale then int_bytes scale else fix_bytes scale)
 
--- the word of a mode after a space; saturate, the usual mode, has none
+-- the word of a mode after a space; saturate, the default mode, has none
 unfoldable pub mode_pieces : Mode → List Piece
 mode_pieces modes.Saturate = []
 mode_pieces modes.Wrap = space ++ key kinds.Wrap

@@ -9,8 +9,6 @@ mod cutting;
 mod finding;
 mod laws;
 mod levels;
-#[cfg(test)]
-mod tests;
 
 pub use cutting::cut_sends;
 pub use laws::cut_code_has_the_same_runs;

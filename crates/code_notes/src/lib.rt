@@ -14,8 +14,6 @@ mod noteless;
 mod plan;
 mod played;
 mod searching;
-#[cfg(test)]
-mod tests;
 
 pub use laws::code_by_a_right_plan_of_notes_has_the_same_runs;
 pub use noteless::{Noteless, without_notes};

@@ -10,8 +10,6 @@ mod making;
 mod naming;
 mod plan;
 mod searching;
-#[cfg(test)]
-mod tests;
 
 pub use laws::pure_copies_run_as_their_code;
 pub use making::{Copies, copy_by_depth, copy_by_notes};

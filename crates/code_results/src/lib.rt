@@ -16,8 +16,6 @@ mod reading;
 mod results;
 mod searching;
 mod spreading;
-#[cfg(test)]
-mod tests;
 
 pub use folding::fold_results;
 pub use laws::code_by_a_right_plan_of_results_has_the_same_runs;

@@ -21,7 +21,7 @@ use Rattle.net_text.specs.declared.route.Route.{Route}
 
 -- ---- events
 
--- the chart puts the event out
+-- the chart emits the event
 abbrev pub is_emitted : EventKind → Bool
 is_emitted event_kinds.Input = false
 is_emitted event_kinds.Local = false

@@ -5,9 +5,9 @@ use Rattle.checked_chart.specs.Valid.{IsValid}
 use Rattle.code_language.specs.Code.{Code}
 use Rattle.chart_layout.specs.Bodies.{code_of_chart}
 use Rattle.chart_layout.proofs.Whole.{code_runs}
-use Rattle.layout_soundness.proofs.Few.{procedures_few}
-use Rattle.layout_heights.proofs.Whole.{greatest_low}
-use Rattle.layout_works.proofs.Whole.{greatest_work_within}
+use Rattle.layout_bounds.proofs.FewProcedures.{procedures_few}
+use Rattle.layout_bounds.proofs.CodeHeights.{greatest_low}
+use Rattle.layout_bounds.proofs.CodeWorks.{greatest_work_within}
 use Rattle.chart_compile.specs.Compiled.{IsSmall, RunsAs}
 
 module _ (c : Chart) (valid : IsValid c) where

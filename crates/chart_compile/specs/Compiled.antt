@@ -11,7 +11,7 @@ use Rattle.sos_rules.specs.Reactions.{RulesRun}
 use Rattle.code_language.specs.Code.{Code}
 use Rattle.code_language.specs.Measures.{greatest, heights, works}
 use Rattle.code_language.specs.Reactions.{CodeRun}
-use Rattle.layout_soundness.specs.Counts.{filled_blocks}
+use Rattle.layout_bounds.specs.FilledBlocks.{filled_blocks}
 
 -- how large it is: S states, P pairs, B actions that aren't empty, T transitions and I items give at most
 -- 80 S + P + 2 B + T + 8 procedures, no height over five for each level that states may have and seven, and no work

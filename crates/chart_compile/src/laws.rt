@@ -4,9 +4,9 @@ ghost use Rattle.checked_chart.specs.Valid.{IsValid};
 ghost use Rattle.code_language.specs.WellFormed.{IsCode};
 ghost use Rattle.chart_layout.specs.Bodies.{code_of_chart};
 
-use layout_heights::the_code_of_a_chart_is_low;
-use layout_soundness::the_code_of_a_chart_is_sound;
-use layout_works::the_code_of_a_chart_has_little_work;
+use layout_bounds::{
+    the_code_of_a_chart_has_little_work, the_code_of_a_chart_is_low, the_code_of_a_chart_is_sound,
+};
 
 /// The code of a valid chart is well formed: it has few procedures and right tables, and no
 /// procedure of it has a fault, is too high or has too much work.

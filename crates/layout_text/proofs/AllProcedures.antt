@@ -11,12 +11,12 @@ use Rattle.chart_layout.specs.Places.{below_total}
 use Rattle.chart_layout.proofs.EndsLemmas.{end_is, end_after}
 use Rattle.chart_layout.proofs.Sizes.{from_lists, from_groups, from_junction_parts, from_state_parts, from_actions}
 use Rattle.chart_layout.proofs.Sums.{sum_to_times}
-use Rattle.layout_sums.proofs.Counts.{children_count, below_counts_most}
-use Rattle.layout_sums.proofs.SumLemmas.{sum_to_most}
-use Rattle.layout_text.proofs.Groups.{kids, under, entering, all_groups_size}
-use Rattle.layout_text.proofs.ListPairs.{pairs_few, reached_few}
-use Rattle.layout_text.proofs.Parts.{all_parts_size}
+use Rattle.layout_bounds.proofs.SumLemmas.{sum_to_most}
+use Rattle.layout_bounds.proofs.ChildCounts.{children_count, below_counts_most}
 use Rattle.layout_text.proofs.Procedures.{keys_limit, keys_more, keys_append}
+use Rattle.layout_text.proofs.Parts.{all_parts_size}
+use Rattle.layout_text.proofs.ListPairs.{pairs_few, reached_few}
+use Rattle.layout_text.proofs.Groups.{kids, under, entering, all_groups_size}
 
 -- the square of at most 1,024
 square : (s : ℕ) → s ≤ 1024 → s * s ≤ 1048576

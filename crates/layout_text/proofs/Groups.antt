@@ -14,10 +14,10 @@ use Rattle.chart_layout.specs.Orders.{sum_to, span}
 use Rattle.chart_layout.specs.Places.{numbers, list_numbers, reached_count, reached_total, below_total}
 use Rattle.chart_layout.specs.ReachedJunctions.{reached, sum_over}
 use Rattle.chart_layout.proofs.Sizes.{group_enters, group_takes, group_defaults, group_search, group_arrives}
-use Rattle.layout_text.proofs.ListBodies.{list_lines, junction_lines}
-use Rattle.layout_text.proofs.ListPairs.{at_junction, pairs_of, state_pairs}
 use Rattle.layout_text.proofs.Procedures.{keys_limit, keys_more, keys_append, keys_descending, keys_span}
 use Rattle.layout_text.proofs.StateBodies.{leave_lines, enter_lines, defaults_lines, arrive_lines, process_lines}
+use Rattle.layout_text.proofs.ListBodies.{list_lines, junction_lines}
+use Rattle.layout_text.proofs.ListPairs.{at_junction, pairs_of, state_pairs}
 
 -- a product split
 split : (u k : ℕ) → suc u * (573 + 40 * k) ≡ 573 * suc u + 40 * (suc u * k)

@@ -1,3 +1,6 @@
+pub mod Lines
+pub mod Tables
+pub mod Texts
 pub mod Procedures
 pub mod StateBodies
 pub mod ListBodies

@@ -10,7 +10,7 @@ use Rattle.chart_procedures.specs.ListProcedures.{Search, dest_code, condition_c
 use Rattle.chart_procedures.specs.ListProcedures.{lead_code, trans_code, list_code, empty_code, junction_code}
 use Rattle.chart_procedures.specs.Numbers.{TransNumbers, condition_of, first_of_parts, other_parts}
 use Rattle.chart_procedures.specs.StateProcedures.{life_test}
-use Rattle.layout_lines.specs.Sizes.{cond_limit, lines_limit}
+use Rattle.layout_text.specs.Sizes.{cond_limit, lines_limit}
 use Rattle.layout_text.proofs.Procedures.{lines_append}
 
 -- the test of a life has no expression

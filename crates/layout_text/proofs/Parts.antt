@@ -1,6 +1,6 @@
 -- The bytes of the actions of states and of the parts of transitions, by how many transitions and statements there are.
 use Rattle.std.proofs.Common.{◌≡◌, ℕ, zero, suc, ◌+◌, ◌*◌, ◌≤◌, List, [], ◌∷◌, ◌++◌, length, sum_by, Option, Some}
-use Rattle.std.proofs.Common.{None, slice_index_or, refl, ap, ◌∙◌, sym, arith}
+use Rattle.std.proofs.Common.{None, refl, arith}
 use Rattle.std.proofs.lemmas.List.Sums.{sum_by-cons}
 use Rattle.active_config.specs.Tree.{state_count}
 use Rattle.actions.specs.Exprs.{Expr, Stmt}
@@ -16,29 +16,9 @@ use Rattle.chart_layout.specs.Keys.{state_parts_keys}
 use Rattle.chart_layout.specs.Keys.{junction_parts_keys, all_actions, all_state_parts, all_junction_parts}
 use Rattle.chart_layout.specs.Orders.{sum_to}
 use Rattle.chart_layout.specs.Places.{numbers}
+use Rattle.layout_bounds.proofs.ListSums.{sum_listed}
 use Rattle.layout_text.proofs.Procedures.{keys_limit, keys_append, keys_ascending}
 use Rattle.layout_text.proofs.StateBodies.{block_lines}
-
--- ---- sums over lists, number by number
-
--- the first number apart
-sum_to_front : (f : ℕ → ℕ) (n : ℕ) → sum_to f (suc n) ≡ f 0 + sum_to (λ i. f (suc i)) n
-unfolding sum_to
-sum_to_front f zero = omega arith
-sum_to_front f (suc n) = omega (arith, sum_to_front f n)
-
--- the sum over the places of a list is that over the list
-sum_places : {A : Type 0} (f : A → ℕ) (none : A) (xs : List A)
-    → sum_to (λ i. f (slice_index_or xs i none)) (length xs) ≡ sum_by f xs
-unfolding sum_to
-sum_places f none [] = refl {a = 0}
-sum_places f none (x ∷ xs) =
-    omega (
-      arith,
-      sum_to_front (λ i. f (slice_index_or (x ∷ xs) i none)) (length xs),
-      sum_places f none xs,
-      sum_by-cons f x xs,
-    )
 
 module _ (c : Chart) (valid : IsValid c) where
   -- nothing
@@ -166,13 +146,12 @@ module _ (c : Chart) (valid : IsValid c) where
   -- a sum over the nodes
   nodes_sum : (f : Node → ℕ) → sum_to (λ s. f (node c s)) (state_count c.tree) ≡ sum_by f c.nodes
   unfolding node
-  nodes_sum f =
-      ap (sum_to (λ s. f (slice_index_or c.nodes s no_node))) (sym valid.nodes_sized) ∙ sum_places f no_node c.nodes
+  nodes_sum f = sum_listed f no_node c.nodes (state_count c.tree) valid.nodes_sized
 
   -- a sum over the junctions
   lists_sum : (f : List Trans → ℕ) → sum_to (λ j. f (junction c j)) (junction_count c) ≡ sum_by f c.junctions
   unfolding junction junction_count
-  lists_sum f = sum_places f [] c.junctions
+  lists_sum f = sum_listed f [] c.junctions (junction_count c) (refl {a = junction_count c})
 
   -- the actions and the parts of all states and junctions
   pub all_parts_size :

@@ -5,7 +5,7 @@ use Rattle.code_language.specs.Instrs.{Instr}
 use Rattle.chart_layout.specs.Bodies.{body}
 use Rattle.chart_layout.specs.Keys.{Key}
 use Rattle.chart_layout.specs.Orders.{sum_to, ascending, descending, span}
-use Rattle.layout_lines.specs.Sizes.{lines_limit, proc_limit, procs_limit}
+use Rattle.layout_text.specs.Sizes.{lines_limit, proc_limit, procs_limit}
 
 -- two lists
 pub lines_append : (xs ys : List Instr) → lines_limit (xs ++ ys) ≡ lines_limit xs + lines_limit ys

@@ -17,8 +17,8 @@ use Rattle.chart_procedures.specs.StateProcedures.{enters_code, takes_test, pare
 use Rattle.chart_procedures.specs.StateProcedures.{active_entry_code, entry_code, enter_code, return_code, search_code}
 use Rattle.chart_procedures.specs.StateProcedures.{defaults_code, arrive_code, active_child_code, regions_code}
 use Rattle.chart_procedures.specs.StateProcedures.{children_code, process_code}
-use Rattle.layout_costs.proofs.Children.{returns_few}
-use Rattle.layout_lines.specs.Sizes.{cond_limit, lines_limit}
+use Rattle.layout_bounds.proofs.Children.{returns_few}
+use Rattle.layout_text.specs.Sizes.{cond_limit, lines_limit}
 
 module _ (c : Chart) (valid : IsValid c) (N : Numbers) where
   -- an expression for each statement, and a return

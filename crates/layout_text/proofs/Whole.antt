@@ -10,12 +10,12 @@ use Rattle.code_lines.specs.declared.format.Format.TheVariants.{Two}
 use Rattle.code_text.specs.declared.limits.TheConstants.{TEXT_LIMIT}
 use Rattle.code_text.specs.Spelling.{code_text}
 use Rattle.code_text.specs.Written.{Written, code_written}
-use Rattle.layout_lines.specs.Sizes.{procs_limit}
-use Rattle.layout_lines.proofs.Texts.{text_size}
+use Rattle.layout_text.specs.Sizes.{procs_limit}
+use Rattle.layout_text.proofs.Texts.{text_size}
 use Rattle.chart_layout.specs.Bodies.{body, procedures_of, code_of_chart}
 use Rattle.chart_layout.specs.Keys.{layout}
-use Rattle.layout_text.proofs.AllProcedures.{procedures_size}
 use Rattle.layout_text.proofs.Procedures.{keys_are}
+use Rattle.layout_text.proofs.AllProcedures.{procedures_size}
 use Rattle.layout_text.proofs.Spellable.{code_spellable}
 
 module _ (c : Chart) (valid : IsValid c) (w : Written) (same : code_written w ≡ code_of_chart c) where

@@ -1,0 +1,9 @@
+pub mod Calls
+pub mod Sound
+pub mod Lengths
+pub mod Heights
+pub mod Works
+pub mod TreeSums
+pub mod FilledBlocks
+pub mod HeightBounds
+pub mod WorkBounds

@@ -1,9 +1,0 @@
-use Rattle.layout_costs.proofs.StateWorks.{state_works}
-use Rattle.layout_costs.proofs.ListWorks.{list_works}
-use Rattle.layout_costs.proofs.laws.works_of_procedures.Goals as goal
-
-pub returns-clause-states : goal.returns-clause-states
-returns-clause-states x c N w valid = state_works c valid N w
-
-pub returns-clause-lists : goal.returns-clause-lists
-returns-clause-lists x w = list_works w

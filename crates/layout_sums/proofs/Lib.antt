@@ -1,5 +1,0 @@
-pub mod SumLemmas
-pub mod Fills
-pub mod SumsBelow
-pub mod Depths
-pub mod Counts

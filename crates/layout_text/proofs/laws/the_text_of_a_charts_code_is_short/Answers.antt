@@ -1,6 +1,0 @@
-use Rattle.code_text.specs.Written.{written_of}
-use Rattle.layout_text.proofs.Whole.{text_short}
-use Rattle.layout_text.proofs.laws.the_text_of_a_charts_code_is_short.Goals as goal
-
-pub returns : goal.returns
-returns x c raw valid same = text_short c valid (written_of raw) same

@@ -19,6 +19,7 @@ use Rattle.resolved_tree.proofs.FirstLemmas.{first_with_both}
 use Rattle.chart_scope.specs.Names.{name_faults, doubled_events, doubled_vars, doubled_states, doubled_junctions}
 use Rattle.chart_scope.specs.Names.{used_in_states, used_in_junctions}
 use Rattle.chart_scope.specs.Parts.{doubled_names}
+use Rattle.chart_scope.proofs.FoundLemmas.{three_found}
 
 -- ---- all faults
 
@@ -31,21 +32,13 @@ four_found o a b d e xs bs ds es ea eb ed ee =
     let e5 = first_with_both o xs bs in
     cc
 
--- the first of what was found and of two parts more
-two_more : (o e f g : Option FaultAt) (xs fs gs : List FaultAt) → e ≡ first_with o xs → f ≡ first_with e fs
-    → g ≡ first_with f gs → g ≡ first_with o (xs ++ fs ++ gs)
-two_more o e f g xs fs gs ee ef eg =
-    let e1 = first_with_both o (xs ++ fs) gs in
-    let e2 = first_with_both o xs fs in
-    cc
-
 -- the faults of a chart part by part are all of them
 all_found : (c : Chart) (p : Scopes) (e f g : Option FaultAt) → p ≡ scopes_of c → e ≡ first_with None (doubled_names p)
     → f ≡ first_with e (used_in_states p 0 (placed_states c.root))
     → g ≡ first_with f (used_in_junctions p (placed_junctions (placed_states c.root)))
     → g ≡ first_of (name_faults c)
 unfolding name_faults first_of
-all_found c p e f g is ee ef eg = rw (← is) (two_more None e f g (doubled_names p) _ _ ee ef eg)
+all_found c p e f g is ee ef eg = rw (← is) (three_found None e f g (doubled_names p) _ _ ee ef eg)
 
 -- ---- what a chart of the code declares
 

@@ -1,17 +1,12 @@
 -- States that are resolved one by one, and the owners of junctions.
 use Rattle.std.proofs.Common.{◌≡◌, ◌<◌, ◌+◌, ℕ, List, [], ◌∷◌, ◌++◌, map, drop, length, get_or, suc, sym, ap, ◌∙◌}
 use Rattle.std.proofs.Common.{add-one, append_assoc}
-use Rattle.std.proofs.Math.Seq.{drop-cons}
 use Rattle.chart_places.specs.declared.states.PlacedState.{PlacedState}
 use Rattle.chart_places.specs.Scopes.{Scopes}
 use Rattle.chart_places.specs.Survey.{placed_of}
 use Rattle.resolved_tree.specs.Resolved.{State}
 use Rattle.chart_scope.specs.Resolution.{resolved_state, resolved_states}
-
--- the item at a place, and those after it
-item_first : {X : Type 0} (xs : List X) (i : ℕ) (x : X) → i < length xs → x ≡ get_or xs i x
-    → drop i xs ≡ x ∷ drop (suc i) xs
-item_first xs i x lt is = drop-cons xs i x lt ∙ ap (λ y. y ∷ drop (suc i) xs) (sym is)
+use Rattle.chart_scope.proofs.LoopLemmas.{item_first}
 
 -- one more state is resolved
 pub one_more_state : (p : Scopes) (old new all : List State) (r : State) (i : ℕ)

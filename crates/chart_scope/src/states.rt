@@ -55,7 +55,6 @@ struct Lists {
 }
 
 /// The actions of a state, with numbers for their names. The first fault of these is kept.
-#[tactic(auto, using(crate::proofs::StateViews::seen))]
 fn state_actions(
     alloc: Global,
     scopes: &Scopes<'_>,
@@ -87,7 +86,6 @@ fn state_actions(
 }
 
 /// The transitions of a state, with numbers for their names. The first fault of these is kept.
-#[tactic(auto, using(crate::proofs::StateViews::seen))]
 fn state_lists(
     alloc: Global,
     scopes: &Scopes<'_>,
@@ -119,7 +117,6 @@ fn state_lists(
 }
 
 /// A state, with numbers for its names. The first fault of these is kept.
-#[tactic(auto, using(crate::proofs::StateViews::seen))]
 fn state(
     alloc: Global,
     scopes: &Scopes<'_>,

@@ -3,7 +3,6 @@ use Rattle.std.proofs.Common.{◌≡◌, ℕ, ◌+◌, ◌≤◌, Bool, List, []
 use Rattle.std.proofs.Common.{Option, Result, Ok, Err, inl, inr}
 use Rattle.std.proofs.Common.{refl, sym, ap, ◌∙◌}
 use Rattle.std.proofs.lemmas.Bool.{cases_Bool}
-use Rattle.std.proofs.lemmas.Grind.{common_steps}
 use Rattle.token_grammar.specs.declared.token.Kind.TheVariants as kinds
 use Rattle.token_grammar.specs.declared.fault.TokenFault.{TokenFault}
 use Rattle.token_grammar.specs.Token.{Lexeme, kind_eq}
@@ -102,6 +101,3 @@ literal_given (u ∷ s) r t lit said e =
     it_is (Err num_faults.NotNumber) told = absurd cc
     it_is (Err num_faults.TooLong) told = absurd cc
     it_is (Err num_faults.NotBinary) told = absurd cc
-
--- what is read of a number token
-pub ruleset number_steps = (common_steps, number_fails, number_given, literal_given)

@@ -1,13 +1,15 @@
 -- The first of the tokens that are left.
-use Rattle.std.proofs.Common.{◌≡◌, Bool, true, false, List, [], ◌∷◌, Ok, Err, refl}
-use Rattle.std.proofs.Common.{Option, Some, None, sym, ◌∙◌, inl, inr}
+use Rattle.std.proofs.Common.{◌≡◌, Bool, true, false, List, [], ◌∷◌, Result, Ok, Err, refl}
+use Rattle.std.proofs.Common.{Option, Some, None, sym, ap, ◌∙◌, inl, inr}
 use Rattle.std.proofs.lemmas.Bool.{cases_Bool}
 use Rattle.token_grammar.specs.declared.fault.TokenFault.{TokenFault}
 use Rattle.token_grammar.proofs.Allowed.{refused_always}
 use Rattle.token_grammar.specs.declared.token.Kind.{Kind}
 use Rattle.token_grammar.specs.declared.fault.TokenFault.TheVariants as faults
-use Rattle.token_grammar.specs.Token.{Lexeme}
-use Rattle.token_grammar.specs.Grammar.{one_of, token, heads, is, allowed, first_refused}
+use Rattle.token_grammar.specs.declared.fault.ReadError.{ReadError}
+use Rattle.token_grammar.specs.declared.fault.ReadError.TheVariants as errors
+use Rattle.token_grammar.specs.Token.{Lexeme, Outcome, Gives}
+use Rattle.token_grammar.specs.Grammar.{one_of, token, heads, is, allowed, first_refused, ended}
 
 -- it is taken where it is of the set
 one_taken : (t : Lexeme) (r : List Lexeme) (set : Kind → Bool) → heads set (t ∷ r) ≡ true
@@ -58,3 +60,25 @@ allowed_passes k (Some f) s t r e =
           let passes : first_refused (is k) (λ t. Some f) s ≡ None = refused_always (is k) (Some f) s ∙ rw other refl in
           let bad = sym (token_refused s k other) ∙ rw passes at e in cc
     ]
+
+-- ---- the end of the tokens
+
+-- the value that was read
+abbrev value_in : {X : Type 0} → X → Outcome X → X
+value_in other (Ok x) = x.0
+value_in other (Err e) = other
+
+-- the fault where none was
+abbrev fault_in : {X : Type 0} → TokenFault → Outcome X → TokenFault
+fault_in other (Ok x) = other
+fault_in other (Err e) = e.0
+
+-- what is seen of the value that ends with the tokens
+pub ended_seen : {X Y : Type 0} (view : X → Y) (value : X) (s : List Lexeme) (result : Result X ReadError)
+    → Gives (λ v. v) result s (ended value s) → Gives view result s (ended (view value) s)
+ended_seen view value [] (Ok v) e = let same : value ≡ v = ap (value_in value) e in rw same refl
+ended_seen view value (t ∷ s) (Ok v) e = absurd cc
+ended_seen view value [] (Err (errors.Fault f)) e = absurd cc
+ended_seen view value (t ∷ s) (Err (errors.Fault f)) e =
+    let same : faults.Expected ≡ f = ap (fault_in f) e in rw same refl
+ended_seen view value s (Err errors.Memory) e = tt

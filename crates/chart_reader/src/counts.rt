@@ -12,7 +12,7 @@ use flow_base::chart_limits::{
 use token_grammar::{Thing, TokenFault};
 
 /// How many things have begun so far.
-#[derive(Clone, Copy, Debug, PartialEq, Eq)]
+#[derive(Clone, Copy)]
 pub(crate) struct Counts {
     pub states: u32,
     pub junctions: u32,

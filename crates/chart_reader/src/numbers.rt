@@ -18,7 +18,7 @@ use fixed_point::{
 use token_grammar::{Kind, ReadError, Token, TokenFault};
 
 /// A number token, and the literal that it spells.
-#[derive(Clone, Copy, Debug)]
+#[derive(Clone, Copy)]
 pub(crate) struct NumberToken<'a> {
     /// The token.
     pub token: Token<'a>,
@@ -100,7 +100,6 @@ impl<'t, 'a> Reader<'t, 'a> {
     }
 
     /// A number.
-    #[tactic(auto, using(crate::proofs::NumberLemmas::number_steps))]
     pub fn number(&mut self) -> Result<NumberToken<'a>, ReadError>
         ensures read { Gives (λ n. lexeme n.token) result (lexemes self.new.rest.now)
             ((words.number usual).reads (lexemes self.old.rest.now)) }

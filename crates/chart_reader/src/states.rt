@@ -80,8 +80,7 @@ impl<'t, 'a> Reader<'t, 'a> {
     {
         self.allowed_token(Kind::State, self.counts.state_refused())?;
         self.counts = self.counts.after_state();
-        let state = self.state_body(depth)?;
-        Ok(state)
+        self.state_body(depth)
     }
 
     /// What stands after the word `state`.

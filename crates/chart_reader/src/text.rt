@@ -3,7 +3,7 @@ ghost use Rattle.std.specs.Prelude.{◌≡◌, not, IfOk, IfErr};
 ghost use Rattle.std.specs.List.{filter};
 ghost use Rattle.token_grammar.specs.declared.token.Kind.TheVariants as kinds;
 ghost use Rattle.token_grammar.specs.Token.{lexemes, kind_eq, Gives};
-ghost use Rattle.token_grammar.specs.Grammar.{whole_reads};
+ghost use Rattle.token_grammar.specs.Grammar.{ended, whole_reads};
 ghost use Rattle.chart_tree.specs.Trees as trees;
 ghost use Rattle.chart_tree.specs.Views.{chart_of};
 ghost use Rattle.chart_grammar.specs.Limits.{usual};
@@ -21,16 +21,24 @@ use std::alloc::{AllocError, Global};
 use token_grammar::{Kind, ReadError, Span, Token, TokenFault};
 
 impl<'t, 'a> Reader<'t, 'a> {
+    /// The value, where no token is left.
+    fn ended<T: Drop>(&self, value: T) -> Result<T, ReadError>
+        ensures { Gives (λ v. v) result (lexemes self.now.rest.now)
+            (ended value (lexemes self.now.rest.now)) }
+    {
+        match self.rest {
+            [] => Ok(value),
+            [_, ..] => Err(ReadError::Fault(TokenFault::Expected)),
+        }
+    }
+
     /// A chart, and then the end.
     fn whole(&mut self) -> Result<ChartText, ReadError>
         ensures { Gives chart_of result (lexemes self.new.rest.now)
             (whole_reads (states.chart usual) (lexemes self.old.rest.now)) }
     {
         let chart = self.chart()?;
-        match self.rest {
-            [] => Ok(chart),
-            [_, ..] => Err(ReadError::Fault(TokenFault::Expected)),
-        }
+        self.ended(chart)
     }
 }
 
@@ -62,8 +70,7 @@ fn chart_at(chart: ChartText, stop: Stop, end: Span) -> Result<ChartText, FormFa
 {
     match stop {
         Stop::End => Ok(chart),
-        Stop::BadByte => Err(FormFault::At(FormKind::BadByte, end)),
-        Stop::BadToken => Err(FormFault::At(FormKind::BadToken, end)),
+        Stop::BadByte | Stop::BadToken => Err(FormFault::At(end_kind(stop), end)),
     }
 }
 

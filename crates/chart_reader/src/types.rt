@@ -13,7 +13,7 @@ use fixed_point::{Mode, Scale, split_digits};
 use token_grammar::{Kind, ReadError, TokenFault};
 
 /// The type that a word names.
-#[derive(Clone, Copy, Debug)]
+#[derive(Clone, Copy)]
 pub(crate) enum TypeName {
     /// True or false.
     Flag,

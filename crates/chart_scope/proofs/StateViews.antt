@@ -48,17 +48,5 @@ inner-seen s = ap (λ (p : Parts). p.inner) (parts-seen s)
 pub default-seen : (s : StateText) → (parts_in (state_of s)).default ≡ map trans_of (items_of (out-StateText s).default)
 default-seen s = ap (λ (p : Parts). p.default) (parts-seen s)
 
--- the parts of a state as the code has them
-pub ruleset seen = (
-  found_steps,
-  name-seen,
-  comp-seen,
-  entry-seen,
-  during-seen,
-  exit-seen,
-  history-seen,
-  outer-seen,
-  inner-seen,
-  default-seen,
-  children-seen,
-)
+-- the name, the word and the child states of a state as the code has them
+pub ruleset seen = (found_steps, name-seen, comp-seen, children-seen)

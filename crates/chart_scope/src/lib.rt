@@ -7,6 +7,7 @@
 mod declarations;
 mod doubled;
 mod expressions;
+mod parts;
 mod references;
 mod resolution;
 mod statements;

@@ -1,39 +1,19 @@
 //! The resolved chart of a chart text.
 ghost use Rattle.std.specs.Prelude.{◌≡◌, ◌<◌, ◌^◌, length, map, IfOk, IfErr};
-ghost use Rattle.flow_base.specs.Lists.{items_of};
-ghost use Rattle.actions.specs.Names.{names_of};
 ghost use Rattle.chart_tree.specs.Views.{chart_of};
-ghost use Rattle.chart_places.specs.Placed.{Placed, placed_states, placed_junctions};
+ghost use Rattle.chart_places.specs.Placed.{placed_states, placed_junctions};
 ghost use Rattle.chart_places.specs.Scopes.{scopes_of};
 ghost use Rattle.chart_places.specs.Survey.{placed_of, owned_of};
-ghost use Rattle.resolved_tree.specs.Faults.{first_with, first_of};
 ghost use Rattle.resolved_tree.specs.Views.{resolved_of};
-ghost use Rattle.chart_scope.specs.Names.{name_faults, Refuses};
-ghost use Rattle.chart_scope.specs.Resolution.{AreVarsOf, IsResolved, event_decl};
+ghost use Rattle.chart_scope.specs.Names.{Refuses};
+ghost use Rattle.chart_scope.specs.Resolution.{IsResolved};
 
-use crate::doubled::{with_events, with_junctions, with_states, with_vars};
-use crate::{declarations, states};
-use actions::Names;
+use crate::parts::resolve_parts;
 use chart_places::{OwnedJunction, PlacedState, Scopes, junctions_of, shape_of, survey};
-use chart_tree::{ChartText, FaultAt, FormFault};
+use chart_tree::{ChartText, FormFault};
 use flow_base::Memory;
 use resolved_tree::Resolved;
-use std::alloc::{AllocError, Global};
-
-/// The names of the states, the data and the events of a chart text.
-fn names(alloc: Global, chart: &ChartText, states: &[PlacedState<'_>]) -> Result<Names, AllocError>
-    ensures states { IfOk result (λ r. (names_of r).states
-        ≡ map (λ (x : Placed). x.parts.name.text) (map placed_of states.now)) }
-    ensures vars { IfOk result (λ r. AreVarsOf (chart_of chart.now).vars (names_of r).vars) }
-    ensures events { IfOk result (λ r. (names_of r).events
-        ≡ map event_decl (chart_of chart.now).events) }
-{
-    Ok(Names {
-        states: declarations::state_names(alloc, states)?,
-        vars: declarations::vars(alloc, chart.vars.items())?,
-        events: declarations::events(alloc, chart.events.items())?,
-    })
-}
+use std::alloc::Global;
 
 /// The resolved chart of a chart text, given its states and junctions and the scopes of its names,
 /// whose tree it takes.
@@ -55,23 +35,16 @@ fn resolve_in(
     ensures resolved { IfOk result (λ r. IsResolved (chart_of chart.now) (resolved_of r)) }
     ensures refused { IfErr result (Refuses (chart_of chart.now)) }
 {
-    let mut found: Option<FaultAt> = None;
-    with_events(&scopes, chart.events.items(), &mut found);
-    with_vars(&scopes, chart.vars.items(), &mut found);
-    with_states(&scopes, states, &mut found);
-    with_junctions(&scopes, junctions, &mut found);
-    let built_states = states::states(alloc, &scopes, states, &mut found)?;
-    let built_junctions = states::junctions(alloc, &scopes, junctions, &mut found)?;
-    match found {
-        Some(fault) => Err(FormFault::At(fault.kind, fault.at)),
-        None => Ok(Resolved {
-            shape: scopes.into_shape(),
-            names: names(alloc, chart, states)?,
-            inits: declarations::inits(alloc, chart.vars.items())?,
-            states: built_states,
-            junctions: built_junctions,
-        }),
-    }
+    let parts = resolve_parts(alloc, &scopes, chart, states, junctions);
+    let shape = scopes.into_shape();
+    let parts = parts?;
+    Ok(Resolved {
+        shape,
+        names: parts.names,
+        inits: parts.inits,
+        states: parts.states,
+        junctions: parts.junctions,
+    })
 }
 
 /// The scopes of the names of a chart text, given its states and junctions.

@@ -1,5 +1,5 @@
 //! States and junctions, with numbers for their names.
-ghost use Rattle.std.specs.Prelude.{◌≡◌, ◌<◌, ◌^◌, All, length, IfOk, OnOk, map};
+ghost use Rattle.std.specs.Prelude.{◌≡◌, ◌<◌, ◌^◌, ◌++◌, All, length, IfOk, OnOk, map};
 ghost use Rattle.active_config.specs.Tree.{state_count};
 ghost use Rattle.flow_base.specs.Lists.{items_of};
 ghost use Rattle.chart_places.specs.declared.junctions.OwnedJunction.{OwnedJunction};
@@ -17,7 +17,7 @@ use active_config::Comp;
 use chart_places::{OwnedJunction, PlacedState, Scopes};
 use chart_tree::{CompText, FaultAt};
 use flow_base::List;
-use resolved_tree::{ResolvedJunction, ResolvedState};
+use resolved_tree::{ResolvedJunction, ResolvedState, ResolvedStmt, ResolvedTrans};
 use std::alloc::{AllocError, Global};
 
 /// The composition word of a state: an OR where it has child states and no word.
@@ -38,8 +38,85 @@ fn word(placed: &PlacedState<'_>) -> Comp
     }
 }
 
+/// The actions of a state.
+#[derive(Drop)]
+struct Actions {
+    entry: List<ResolvedStmt>,
+    during: List<ResolvedStmt>,
+    exit: List<ResolvedStmt>,
+}
+
+/// The lists of transitions of a state.
+#[derive(Drop)]
+struct Lists {
+    outer: List<ResolvedTrans>,
+    inner: List<ResolvedTrans>,
+    default: List<ResolvedTrans>,
+}
+
+/// The actions of a state, with numbers for their names. The first fault of these is kept.
+fn state_actions(
+    alloc: Global,
+    scopes: &Scopes<'_>,
+    number: u32,
+    placed: &PlacedState<'_>,
+    found: &mut Option<FaultAt>,
+) -> Result<Actions, AllocError>
+    requires state { number < state_count scopes.now.tree }
+    ensures entry { IfOk result (λ r. views.block_of (items_of r.entry)
+        ≡ map (uses.resolved_stmt scopes.now number) (placed_of placed.now).parts.entry) }
+    ensures during { IfOk result (λ r. views.block_of (items_of r.during)
+        ≡ map (uses.resolved_stmt scopes.now number) (placed_of placed.now).parts.during) }
+    ensures exit { IfOk result (λ r. views.block_of (items_of r.exit)
+        ≡ map (uses.resolved_stmt scopes.now number) (placed_of placed.now).parts.exit) }
+    ensures kept { OnOk result (found.new ≡ first_with found.old
+        (uses.block_faults scopes.now number (placed_of placed.now).parts.entry
+        ++ uses.block_faults scopes.now number (placed_of placed.now).parts.during
+        ++ uses.block_faults scopes.now number (placed_of placed.now).parts.exit)) }
+{
+    let text = placed.state;
+    let entry = block(alloc, scopes, number, text.entry.items(), found)?;
+    let during = block(alloc, scopes, number, text.during.items(), found)?;
+    let exit = block(alloc, scopes, number, text.exit.items(), found)?;
+    Ok(Actions {
+        entry,
+        during,
+        exit,
+    })
+}
+
+/// The transitions of a state, with numbers for their names. The first fault of these is kept.
+fn state_lists(
+    alloc: Global,
+    scopes: &Scopes<'_>,
+    number: u32,
+    placed: &PlacedState<'_>,
+    found: &mut Option<FaultAt>,
+) -> Result<Lists, AllocError>
+    requires state { number < state_count scopes.now.tree }
+    ensures outer { IfOk result (λ r. views.list_of (items_of r.outer)
+        ≡ map (uses.resolved_trans scopes.now number) (placed_of placed.now).parts.outer) }
+    ensures inner { IfOk result (λ r. views.list_of (items_of r.inner)
+        ≡ map (uses.resolved_trans scopes.now number) (placed_of placed.now).parts.inner) }
+    ensures default { IfOk result (λ r. views.list_of (items_of r.default)
+        ≡ map (uses.resolved_trans scopes.now number) (placed_of placed.now).parts.default) }
+    ensures kept { OnOk result (found.new ≡ first_with found.old
+        (uses.list_faults scopes.now number (placed_of placed.now).parts.outer
+        ++ uses.list_faults scopes.now number (placed_of placed.now).parts.inner
+        ++ uses.list_faults scopes.now number (placed_of placed.now).parts.default)) }
+{
+    let text = placed.state;
+    let outer = list(alloc, scopes, number, text.outer.items(), found)?;
+    let inner = list(alloc, scopes, number, text.inner.items(), found)?;
+    let default = list(alloc, scopes, number, text.default.items(), found)?;
+    Ok(Lists {
+        outer,
+        inner,
+        default,
+    })
+}
+
 /// A state, with numbers for its names. The first fault of these is kept.
-#[tactic(auto, using(crate::proofs::StateViews::seen))]
 fn state(
     alloc: Global,
     scopes: &Scopes<'_>,
@@ -53,23 +130,18 @@ fn state(
     ensures kept { OnOk result (found.new ≡ first_with found.old
         (names.parts_faults scopes.now number (placed_of placed.now).parts)) }
 {
-    let text = placed.state;
-    let entry = block(alloc, scopes, number, text.entry.items(), found)?;
-    let during = block(alloc, scopes, number, text.during.items(), found)?;
-    let exit = block(alloc, scopes, number, text.exit.items(), found)?;
-    let outer = list(alloc, scopes, number, text.outer.items(), found)?;
-    let inner = list(alloc, scopes, number, text.inner.items(), found)?;
-    let default = list(alloc, scopes, number, text.default.items(), found)?;
+    let actions = state_actions(alloc, scopes, number, placed, found)?;
+    let lists = state_lists(alloc, scopes, number, placed, found)?;
     Ok(ResolvedState {
-        at: text.name.at,
+        at: placed.state.name.at,
         word: word(placed),
-        history: text.history,
-        entry,
-        during,
-        exit,
-        outer,
-        inner,
-        default,
+        history: placed.state.history,
+        entry: actions.entry,
+        during: actions.during,
+        exit: actions.exit,
+        outer: lists.outer,
+        inner: lists.inner,
+        default: lists.default,
     })
 }
 

@@ -76,7 +76,6 @@ fn dest(
 
 /// A transition that stands in a state, with numbers for its names. The first fault of these is
 /// kept.
-#[tactic(auto, using(crate::proofs::FoundLemmas::found_steps))]
 fn trans(
     alloc: Global,
     scopes: &Scopes<'_>,

@@ -11,61 +11,47 @@ use Rattle.chart_scope.specs.Resolution as spec
 use Rattle.resolved_tree.proofs.FirstLemmas.{none_found}
 use Rattle.chart_scope.proofs.NameLemmas.{chart_found, tree-seen}
 use Rattle.chart_scope.proofs.OwnerLemmas.{owners_within, as_many_states}
-use Rattle.chart_scope.proofs.resolution.resolve_in.Goals as goal
+use Rattle.chart_scope.proofs.parts.resolve_parts.Goals as goal
 
 -- there are as many states as the tree of the scopes has
-pub with_states-requires-clause-all : goal.with_states-requires-clause-all
-with_states-requires-clause-all c =
-    as_many_states c.args.scopes.tree _ c.args.states.now
-    (sym (tree-seen c.args.chart.now c.args.scopes c.requires.scopes _ refl)) c.requires.states
-
--- each junction stands in a state
-pub with_junctions-requires-clause-owners : goal.with_junctions-requires-clause-owners
-with_junctions-requires-clause-owners c =
-    owners_within c.args.scopes.tree _ c.args.junctions.now
-    (sym (tree-seen c.args.chart.now c.args.scopes c.requires.scopes _ refl)) c.requires.junctions
-
 pub states-requires-clause-all : goal.states-requires-clause-all
 states-requires-clause-all c =
-    as_many_states c.args.scopes.tree _ c.args.states.now
-    (sym (tree-seen c.args.chart.now c.args.scopes c.requires.scopes _ refl)) c.requires.states
+    as_many_states c.args.scopes.now.tree _ c.args.states.now
+    (sym (tree-seen c.args.chart.now c.args.scopes.now c.requires.scopes _ refl)) c.requires.states
 
+-- each junction stands in a state
 pub junctions-requires : goal.junctions-requires
 junctions-requires c = record {
-  owners = owners_within c.args.scopes.tree _ c.args.junctions.now
-      (sym (tree-seen c.args.chart.now c.args.scopes c.requires.scopes _ refl)) c.requires.junctions;
+  owners = owners_within c.args.scopes.now.tree _ c.args.junctions.now
+      (sym (tree-seen c.args.chart.now c.args.scopes.now c.requires.scopes _ refl)) c.requires.junctions;
 }
 
 -- the fault that was found is the first one
 pub returns-in-Some-clause-refused : goal.returns-in-Some-clause-refused
 returns-in-Some-clause-refused c =
     let whole : c.junctions.new.found ≡ first_of (name_faults (chart_of c.args.chart.now)) =
-    chart_found c.args.chart.now c.args.scopes c.requires.scopes c.items.result.now c.items-2.result.now
-    c.args.states.now c.args.junctions.now _ _ _ _ _ _ c.items.ensures c.items-2.ensures
-    c.requires.states c.requires.junctions
-    c.with_events.ensures c.with_vars.ensures c.with_states.ensures c.with_junctions.ensures
+    chart_found c.args.chart.now c.args.scopes.now c.requires.scopes c.args.states.now c.args.junctions.now _ _ _
+    c.requires.states c.requires.junctions c.names_twice-found.ensures
     c.in_ok-built_states.ensures.kept c.in_ok-built_junctions.ensures.kept in
     sym whole ∙ c.in-Some.is
 
 -- where none was found the chart is resolved
-pub returns-in_ok-inits-in-None-clause-resolved : goal.returns-in_ok-inits-in-None-clause-resolved
-returns-in_ok-inits-in-None-clause-resolved c =
+pub returns-in_ok-names-in-None-clause-resolved : goal.returns-in_ok-names-in-None-clause-resolved
+returns-in_ok-names-in-None-clause-resolved c =
     let whole : c.junctions.new.found ≡ first_of (name_faults (chart_of c.args.chart.now)) =
-    chart_found c.args.chart.now c.args.scopes c.requires.scopes c.items.result.now c.items-2.result.now
-    c.args.states.now c.args.junctions.now _ _ _ _ _ _ c.items.ensures c.items-2.ensures
-    c.requires.states c.requires.junctions
-    c.with_events.ensures c.with_vars.ensures c.with_states.ensures c.with_junctions.ensures
+    chart_found c.args.chart.now c.args.scopes.now c.requires.scopes c.args.states.now c.args.junctions.now _ _ _
+    c.requires.states c.requires.junctions c.names_twice-found.ensures
     c.in_ok-built_states.ensures.kept c.in_ok-built_junctions.ensures.kept in
     record {
       faultless = none_found (name_faults (chart_of c.args.chart.now)) (sym whole ∙ c.in-None.is);
       resolves = record {
-        tree = c.into_shape.ensures ∙ sym (tree-seen c.args.chart.now c.args.scopes c.requires.scopes _ refl);
+        tree = sym (tree-seen c.args.chart.now c.args.scopes.now c.requires.scopes _ refl);
         state_names = c.in_ok-names-in-None.ensures.states
             ∙ ap (map (λ (x : Placed). x.parts.name.text)) c.requires.states;
         vars = c.in_ok-names-in-None.ensures.vars;
         events = c.in_ok-names-in-None.ensures.events;
         inits = c.in_ok-inits-in-None.ensures
-            ∙ ap (λ (vs : List VarText). map (λ (v : trees.Var). v.init) (map var_of vs)) c.items-in-None.ensures;
+            ∙ ap (λ (vs : List VarText). map (λ (v : trees.Var). v.init) (map var_of vs)) c.items.ensures;
         states = c.in_ok-built_states.ensures.built
             ∙ ap (λ (p : Scopes). spec.resolved_states p 0 (map placed_of c.args.states.now)) c.requires.scopes
             ∙ ap (spec.resolved_states (scopes_of (chart_of c.args.chart.now)) 0) c.requires.states;

@@ -36,25 +36,30 @@ fn is_end_again(number: u32, tree: &Tree) -> bool
 
 /// Appends the lines of an `if` with its parts.
 #[tactic(auto, using(crate::proofs::Lists::writes))]
-fn write_if(expr: CExpr, first: Tree, second: Tree, lines: &mut List<Line>) -> Result<(), Memory>
+fn write_if(
+    expr: CExpr,
+    first: Box<Tree>,
+    second: Box<Tree>,
+    lines: &mut List<Line>,
+) -> Result<(), Memory>
     ensures { OnOk result (lines_in (items_of lines.new) ≡ lines_in (items_of lines.old)
-        ++ if_lines (expr_of expr) (block_of first) (block_of second)) }
+        ++ if_lines (expr_of expr) (block_of first.value) (block_of second.value)) }
 {
     put(lines, Line::If(expr))?;
-    write(first, lines)?;
+    write(Box::into_inner(first), lines)?;
     put_else(is_end(&second), lines)?;
-    write(second, lines)?;
+    write(Box::into_inner(second), lines)?;
     put(lines, Line::Close)
 }
 
 /// Appends the lines of a `while` with its part.
 #[tactic(auto, using(crate::proofs::Lists::writes))]
-fn write_while(expr: CExpr, first: Tree, lines: &mut List<Line>) -> Result<(), Memory>
+fn write_while(expr: CExpr, first: Box<Tree>, lines: &mut List<Line>) -> Result<(), Memory>
     ensures { OnOk result (lines_in (items_of lines.new)
-        ≡ lines_in (items_of lines.old) ++ while_lines (expr_of expr) (block_of first)) }
+        ≡ lines_in (items_of lines.old) ++ while_lines (expr_of expr) (block_of first.value)) }
 {
     put(lines, Line::While(expr))?;
-    write(first, lines)?;
+    write(Box::into_inner(first), lines)?;
     put(lines, Line::Close)
 }
 
@@ -97,11 +102,11 @@ pub fn write_again(number: u32, tree: Tree, lines: &mut List<Line>) -> Result<()
                 write_again(number, Box::into_inner(rest), lines)?;
                 return put(lines, Line::Close);
             }
-            write_if(expr, Box::into_inner(first), Box::into_inner(second), lines)?;
+            write_if(expr, first, second, lines)?;
             write_again(number, Box::into_inner(rest), lines)
         }
         Tree::While(expr, first, rest) => {
-            write_while(expr, Box::into_inner(first), lines)?;
+            write_while(expr, first, lines)?;
             write_again(number, Box::into_inner(rest), lines)
         }
         Tree::Return(expr) => put(lines, Line::Return(expr)),

@@ -12,7 +12,7 @@ use crate::deciding::loops;
 use crate::expressions::is_word;
 use crate::reading::{Stack, boxed, read_lines};
 use crate::trees::Tree;
-use crate::turns::write_again;
+use crate::turns::write_again_after;
 use crate::writing::{put, write};
 use c_subset::{CExpr, CType, Function, Line};
 use flow_base::{List, Memory};
@@ -71,8 +71,12 @@ fn lines_of_loop(alloc: Global, number: u32, tree: Box<Tree>) -> Result<List<Lin
         ≡ lines_of (spec.forever (spec.again number (block_of tree.value)))) }
 {
     let mut made = List::of(Vec::new(alloc));
-    put(&mut made, Line::While(CExpr::Const(CType::Truth, 1)))?;
-    write_again(number, Box::into_inner(tree), &mut made)?;
+    write_again_after(
+        number,
+        tree,
+        Line::While(CExpr::Const(CType::Truth, 1)),
+        &mut made,
+    )?;
     put(&mut made, Line::Close)?;
     Ok(made)
 }

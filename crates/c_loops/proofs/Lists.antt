@@ -75,7 +75,7 @@ unfolding lines_of else_line
 else-on End = refl
 else-on b = refl
 
-pub ruleset writes = (append_assoc, append-nil, else-on, lists)
+pub ruleset writes = (append_assoc, append-nil)
 
 -- the parameters are five
 locals-size : (es : List CExpr) (i : ℕ) → are_locals i es ≡ true → i + length es ≡ 5

@@ -34,7 +34,6 @@ fn is_end_again(number: u32, tree: &Tree) -> bool
 }
 
 /// Appends a line, and those of one turn of the statements that follow it.
-#[tactic(auto, using(crate::proofs::Lists::writes))]
 #[cycle(write_again)]
 pub fn write_again_after(
     number: u32,
@@ -51,7 +50,6 @@ pub fn write_again_after(
 
 /// Appends the lines of one turn of the statements after an `if` that leads back, after `} else {`
 /// unless nothing is left of them.
-#[tactic(auto, using(crate::proofs::Lists::writes))]
 #[cycle(write_again)]
 fn write_again_else(number: u32, rest: Box<Tree>, lines: &mut List<Line>) -> Result<(), Memory>
     ensures { OnOk result (lines_in (items_of lines.new) ≡ lines_in (items_of lines.old)
@@ -62,7 +60,6 @@ fn write_again_else(number: u32, rest: Box<Tree>, lines: &mut List<Line>) -> Res
 }
 
 /// Appends the lines of one turn: the statements without the calls that hand on.
-#[tactic(auto, using(crate::proofs::Lists::writes), unfolding(crate::specs::Loops::again, c_subset::specs::Lines::lines_of))]
 #[cycle(write_again)]
 fn write_again(number: u32, tree: Tree, lines: &mut List<Line>) -> Result<(), Memory>
     ensures { OnOk result (lines_in (items_of lines.new)

@@ -31,7 +31,6 @@ pub fn put_else(is_empty: bool, lines: &mut List<Line>) -> Result<(), Memory>
 }
 
 /// Appends a line, and the lines of the statements that follow it.
-#[tactic(auto, using(crate::proofs::Lists::writes))]
 #[cycle(write)]
 pub fn write_after(rest: Box<Tree>, line: Line, lines: &mut List<Line>) -> Result<(), Memory>
     ensures { OnOk result (lines_in (items_of lines.new)
@@ -42,7 +41,6 @@ pub fn write_after(rest: Box<Tree>, line: Line, lines: &mut List<Line>) -> Resul
 }
 
 /// Appends the lines of the second part of an `if`, after `} else {` unless it is empty.
-#[tactic(auto, using(crate::proofs::Lists::writes))]
 #[cycle(write)]
 pub fn write_second(second: Box<Tree>, lines: &mut List<Line>) -> Result<(), Memory>
     ensures { OnOk result (lines_in (items_of lines.new)
@@ -53,7 +51,6 @@ pub fn write_second(second: Box<Tree>, lines: &mut List<Line>) -> Result<(), Mem
 }
 
 /// Appends the lines of the statements.
-#[tactic(auto, using(crate::proofs::Lists::writes), unfolding(c_subset::specs::Lines::lines_of))]
 #[cycle(write)]
 pub fn write(tree: Tree, lines: &mut List<Line>) -> Result<(), Memory>
     ensures { OnOk result (lines_in (items_of lines.new)

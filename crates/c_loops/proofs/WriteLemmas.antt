@@ -31,7 +31,8 @@ pub while-written : {T E : Type 0} (r : Result T E) (old mid new : List Line) (e
     → OnOk r (new ≡ old ++ lines_of (c.While e a rest))
 unfolding lines_of
 while-written r old mid new e a rest first last =
-    on-written r old mid new (While e ∷ lines_of a) (Close ∷ lines_of rest) (lines_of (c.While e a rest)) first refl last
+    on-written r old mid new (While e ∷ lines_of a) (Close ∷ lines_of rest) (lines_of (c.While e a rest)) first refl
+    last
 
 -- ---- one turn
 

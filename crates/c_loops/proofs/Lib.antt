@@ -8,4 +8,5 @@ pub mod Looping
 pub mod Runs
 pub mod Lists
 pub mod ReadLemmas
+pub mod WriteLemmas
 pub mod Whole

@@ -5,7 +5,7 @@ use Rattle.std.proofs.Common.{length, refl, sym, ap, ◌∙◌, arith}
 use Rattle.std.specs.List.{list_all}
 use Rattle.std.proofs.lemmas.Bool.Decides.{nat_tests}
 use Rattle.std.proofs.lemmas.List.{append-nil, append_assoc}
-use Rattle.c_subset.specs.Lines.{Line, Else, else_lines, lines_of}
+use Rattle.c_subset.specs.Lines.{Else, else_lines, lines_of}
 use Rattle.c_subset.specs.Running.{same_type}
 use Rattle.c_subset.specs.Trees.{CExpr, Block, End, If}
 use Rattle.c_subset.specs.declared.trees.CType.{CType}
@@ -70,12 +70,12 @@ if-again p e a b rest = at (leads_back p (rests p a) a b)
 pub ruleset again_if = (if-again)
 
 -- the line of an `else` and the lines after it
-pub else-on : (b : Block) (xs : List Line) → else_line (is_end b) ++ (lines_of b ++ xs) ≡ else_lines (lines_of b) ++ xs
+pub else-on : (b : Block) → else_line (is_end b) ++ lines_of b ≡ else_lines (lines_of b)
 unfolding lines_of else_line
-else-on End xs = refl
-else-on b xs = refl
+else-on End = refl
+else-on b = refl
 
-pub ruleset writes = (append_assoc, append-nil, else-on, lists)
+pub ruleset writes = (append_assoc, append-nil)
 
 -- the parameters are five
 locals-size : (es : List CExpr) (i : ℕ) → are_locals i es ≡ true → i + length es ≡ 5

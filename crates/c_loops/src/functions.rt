@@ -10,9 +10,9 @@ ghost use Rattle.c_loops.specs.Reading.{statements_of};
 
 use crate::deciding::loops;
 use crate::expressions::is_word;
-use crate::reading::{Stack, read_lines};
+use crate::reading::{Stack, boxed, read_lines};
 use crate::trees::Tree;
-use crate::turns::write_again;
+use crate::turns::write_again_after;
 use crate::writing::{put, write};
 use c_subset::{CExpr, CType, Function, Line};
 use flow_base::{List, Memory};
@@ -45,41 +45,46 @@ fn may_loop(function: &Function) -> bool
 }
 
 /// The lines as statements.
-fn tree_of(alloc: Global, lines: List<Line>) -> Result<Tree, Memory>
-    ensures { IfOk result (λ tree. block_of tree ≡ statements_of (lines_in (items_of lines))) }
+fn tree_of(alloc: Global, lines: List<Line>) -> Result<Box<Tree>, Memory>
+    ensures { IfOk result (λ tree.
+        block_of tree.value ≡ statements_of (lines_in (items_of lines))) }
 {
     match read_lines(alloc, lines.into_items())? {
-        Stack::Empty => Ok(Tree::End),
-        Stack::Top(tree, _, _) => Ok(Box::into_inner(tree)),
+        Stack::Empty => boxed(alloc, Tree::End),
+        Stack::Top(tree, _, _) => Ok(tree),
     }
 }
 
 /// The lines of the statements.
-fn lines_of_tree(alloc: Global, tree: Tree) -> Result<List<Line>, Memory>
-    ensures { IfOk result (λ made. lines_in (items_of made) ≡ lines_of (block_of tree)) }
+fn lines_of_tree(alloc: Global, tree: Box<Tree>) -> Result<List<Line>, Memory>
+    ensures { IfOk result (λ made. lines_in (items_of made) ≡ lines_of (block_of tree.value)) }
 {
     let mut made = List::of(Vec::new(alloc));
-    write(tree, &mut made)?;
+    write(Box::into_inner(tree), &mut made)?;
     Ok(made)
 }
 
 /// The lines of the loop whose turns are these statements.
 #[tactic(auto, using(crate::proofs::Lists::writes), unfolding(c_subset::specs::Lines::lines_of))]
-fn lines_of_loop(alloc: Global, number: u32, tree: Tree) -> Result<List<Line>, Memory>
+fn lines_of_loop(alloc: Global, number: u32, tree: Box<Tree>) -> Result<List<Line>, Memory>
     ensures { IfOk result (λ made. lines_in (items_of made)
-        ≡ lines_of (spec.forever (spec.again number (block_of tree)))) }
+        ≡ lines_of (spec.forever (spec.again number (block_of tree.value)))) }
 {
     let mut made = List::of(Vec::new(alloc));
-    put(&mut made, Line::While(CExpr::Const(CType::Truth, 1)))?;
-    write_again(number, tree, &mut made)?;
+    write_again_after(
+        number,
+        tree,
+        Line::While(CExpr::Const(CType::Truth, 1)),
+        &mut made,
+    )?;
     put(&mut made, Line::Close)?;
     Ok(made)
 }
 
 /// The lines of the statements, as a loop where they may be one.
-fn turned_lines(alloc: Global, number: u32, tree: Tree) -> Result<List<Line>, Memory>
+fn turned_lines(alloc: Global, number: u32, tree: Box<Tree>) -> Result<List<Line>, Memory>
     ensures { IfOk result (λ made. lines_in (items_of made)
-        ≡ lines_of (spec.turned number (block_of tree))) }
+        ≡ lines_of (spec.turned number (block_of tree.value))) }
 {
     if loops(number, &tree) {
         lines_of_loop(alloc, number, tree)

@@ -1,4 +1,7 @@
 //! Lines as trees: they are read from the last to the first.
+//!
+//! An expression or a line of which nothing is made goes to `drop` by name: a single drop at the
+//! end of a scope would be written out for each of its variants, and make the proof long.
 ghost use Rattle.std.specs.Prelude.{◌≡◌, ◌∷◌, [], IfOk, false};
 ghost use Rattle.c_subset.specs.Lines.{expr_of, line_of, lines_in};
 ghost use Rattle.c_subset.specs.Trees as c;
@@ -21,12 +24,15 @@ pub enum Stack {
 }
 
 /// The tree in a box.
-fn boxed(alloc: Global, tree: Tree) -> Result<Box<Tree>, Memory>
+pub fn boxed(alloc: Global, tree: Tree) -> Result<Box<Tree>, Memory>
     ensures { IfOk result (λ holder. holder.value ≡ tree) }
 {
     match Box::new(alloc, tree) {
         Ok(holder) => Ok(holder),
-        Err(_) => Err(Memory),
+        Err(refused) => {
+            drop(refused);
+            Err(Memory)
+        }
     }
 }
 
@@ -55,7 +61,11 @@ fn step(line: Line, rest: Box<Tree>) -> Tree
             Tree::Select(of, local, expr, cases, args, rest)
         }
         Line::Return(expr) => Tree::Return(expr),
-        Line::If(_) | Line::Else | Line::While(_) | Line::Close => Box::into_inner(rest),
+        Line::If(expr) | Line::While(expr) => {
+            drop(expr);
+            Box::into_inner(rest)
+        }
+        Line::Else | Line::Close => Box::into_inner(rest),
     }
 }
 
@@ -64,7 +74,10 @@ fn on_top(alloc: Global, line: Line, stack: Stack) -> Result<Stack, Memory>
     ensures { IfOk result (λ next. opens_of next ≡ spec.on_top (line_of line) (opens_of stack)) }
 {
     match stack {
-        Stack::Empty => Ok(Stack::Empty),
+        Stack::Empty => {
+            drop(line);
+            Ok(Stack::Empty)
+        }
         Stack::Top(rest, has_else, below) => {
             let tree = boxed(alloc, step(line, rest))?;
             Ok(Stack::Top(tree, has_else, below))
@@ -84,7 +97,10 @@ fn close_after(
         (block_of first.value) (block_of second.value) (opens_of stack)) }
 {
     match stack {
-        Stack::Empty => Ok(Stack::Empty),
+        Stack::Empty => {
+            drop(expr);
+            Ok(Stack::Empty)
+        }
         Stack::Top(rest, has_else, below) => {
             let tree = boxed(alloc, Tree::If(expr, first, second, rest))?;
             Ok(Stack::Top(tree, has_else, below))
@@ -98,7 +114,10 @@ fn close_both(alloc: Global, expr: CExpr, first: Box<Tree>, stack: Stack) -> Res
         ≡ spec.close_both (expr_of expr) (block_of first.value) (opens_of stack)) }
 {
     match stack {
-        Stack::Empty => Ok(Stack::Empty),
+        Stack::Empty => {
+            drop(expr);
+            Ok(Stack::Empty)
+        }
         Stack::Top(second, _, below) => {
             close_after(alloc, expr, first, second, Box::into_inner(below))
         }
@@ -110,8 +129,13 @@ fn close_first(alloc: Global, expr: CExpr, first: Box<Tree>, stack: Stack) -> Re
     ensures { IfOk result (λ next. opens_of next
         ≡ spec.close_after (expr_of expr) (block_of first.value) c.End (opens_of stack)) }
 {
-    let second = boxed(alloc, Tree::End)?;
-    close_after(alloc, expr, first, second, stack)
+    match boxed(alloc, Tree::End) {
+        Ok(second) => close_after(alloc, expr, first, second, stack),
+        Err(Memory) => {
+            drop(expr);
+            Err(Memory)
+        }
+    }
 }
 
 /// The line `if (e) {`.
@@ -119,7 +143,10 @@ fn close_if(alloc: Global, expr: CExpr, stack: Stack) -> Result<Stack, Memory>
     ensures { IfOk result (λ next. opens_of next ≡ spec.close_if (expr_of expr) (opens_of stack)) }
 {
     match stack {
-        Stack::Empty => Ok(Stack::Empty),
+        Stack::Empty => {
+            drop(expr);
+            Ok(Stack::Empty)
+        }
         Stack::Top(first, has_else, below) => {
             if has_else {
                 close_both(alloc, expr, first, Box::into_inner(below))
@@ -136,7 +163,10 @@ fn close_loop(alloc: Global, expr: CExpr, first: Box<Tree>, stack: Stack) -> Res
         ≡ spec.close_loop (expr_of expr) (block_of first.value) (opens_of stack)) }
 {
     match stack {
-        Stack::Empty => Ok(Stack::Empty),
+        Stack::Empty => {
+            drop(expr);
+            Ok(Stack::Empty)
+        }
         Stack::Top(rest, has_else, below) => {
             let tree = boxed(alloc, Tree::While(expr, first, rest))?;
             Ok(Stack::Top(tree, has_else, below))
@@ -150,7 +180,10 @@ fn close_while(alloc: Global, expr: CExpr, stack: Stack) -> Result<Stack, Memory
         ≡ spec.close_while (expr_of expr) (opens_of stack)) }
 {
     match stack {
-        Stack::Empty => Ok(Stack::Empty),
+        Stack::Empty => {
+            drop(expr);
+            Ok(Stack::Empty)
+        }
         Stack::Top(first, _, below) => close_loop(alloc, expr, first, Box::into_inner(below)),
     }
 }

@@ -1,17 +1,16 @@
 //! The lines of one turn of a loop.
-ghost use Rattle.std.specs.Prelude.{◌≡◌, ◌++◌, OnOk};
+ghost use Rattle.std.specs.Prelude.{◌≡◌, ◌++◌, ◌∷◌, OnOk};
 ghost use Rattle.flow_base.specs.Lists.{items_of};
-ghost use Rattle.c_subset.specs.Lines.{expr_of, lines_in, lines_of};
+ghost use Rattle.c_subset.specs.Lines.{else_lines, line_of, lines_in, lines_of};
 ghost use Rattle.c_loops.specs.Blocks.{block_of};
 ghost use Rattle.c_loops.specs.Loops.{again};
 ghost use Rattle.c_loops.specs.Results as results;
-ghost use Rattle.c_loops.specs.Writing.{if_lines, while_lines};
 
-use crate::deciding::{is_end, leads_back};
+use crate::deciding::leads_back;
 use crate::expressions::hands_on;
 use crate::trees::Tree;
-use crate::writing::{put, put_else, write};
-use c_subset::{CExpr, Line};
+use crate::writing::{put, put_else, write_after, write_second};
+use c_subset::Line;
 use flow_base::{List, Memory};
 
 /// Whether nothing is left of the statements in a turn.
@@ -34,75 +33,76 @@ fn is_end_again(number: u32, tree: &Tree) -> bool
     }
 }
 
-/// Appends the lines of an `if` with its parts.
-#[tactic(auto, using(crate::proofs::Lists::writes))]
-fn write_if(expr: CExpr, first: Tree, second: Tree, lines: &mut List<Line>) -> Result<(), Memory>
+/// Appends a line, and those of one turn of the statements that follow it.
+#[cycle(write_again)]
+pub fn write_again_after(
+    number: u32,
+    rest: Box<Tree>,
+    line: Line,
+    lines: &mut List<Line>,
+) -> Result<(), Memory>
     ensures { OnOk result (lines_in (items_of lines.new) ≡ lines_in (items_of lines.old)
-        ++ if_lines (expr_of expr) (block_of first) (block_of second)) }
+        ++ line_of line ∷ lines_of (again number (block_of rest.value))) }
 {
-    put(lines, Line::If(expr))?;
-    write(first, lines)?;
-    put_else(is_end(&second), lines)?;
-    write(second, lines)?;
-    put(lines, Line::Close)
+    put(lines, line)?;
+    write_again(number, Box::into_inner(rest), lines)
 }
 
-/// Appends the lines of a `while` with its part.
-#[tactic(auto, using(crate::proofs::Lists::writes))]
-fn write_while(expr: CExpr, first: Tree, lines: &mut List<Line>) -> Result<(), Memory>
-    ensures { OnOk result (lines_in (items_of lines.new)
-        ≡ lines_in (items_of lines.old) ++ while_lines (expr_of expr) (block_of first)) }
+/// Appends the lines of one turn of the statements after an `if` that leads back, after `} else {`
+/// unless nothing is left of them.
+#[cycle(write_again)]
+fn write_again_else(number: u32, rest: Box<Tree>, lines: &mut List<Line>) -> Result<(), Memory>
+    ensures { OnOk result (lines_in (items_of lines.new) ≡ lines_in (items_of lines.old)
+        ++ else_lines (lines_of (again number (block_of rest.value)))) }
 {
-    put(lines, Line::While(expr))?;
-    write(first, lines)?;
-    put(lines, Line::Close)
+    put_else(is_end_again(number, &rest), lines)?;
+    write_again(number, Box::into_inner(rest), lines)
 }
 
 /// Appends the lines of one turn: the statements without the calls that hand on.
-#[tactic(auto, using(crate::proofs::Lists::writes), unfolding(crate::specs::Loops::again, c_subset::specs::Lines::lines_of))]
-pub fn write_again(number: u32, tree: Tree, lines: &mut List<Line>) -> Result<(), Memory>
+#[cycle(write_again)]
+fn write_again(number: u32, tree: Tree, lines: &mut List<Line>) -> Result<(), Memory>
     ensures { OnOk result (lines_in (items_of lines.new)
         ≡ lines_in (items_of lines.old) ++ lines_of (again number (block_of tree))) }
 {
     match tree {
         Tree::End => Ok(()),
         Tree::Set(of, local, expr, rest) => {
-            put(lines, Line::Set(of, local, expr))?;
-            write_again(number, Box::into_inner(rest), lines)
+            write_again_after(number, rest, Line::Set(of, local, expr), lines)
         }
         Tree::Store(field, expr, rest) => {
-            put(lines, Line::Store(field, expr))?;
-            write_again(number, Box::into_inner(rest), lines)
+            write_again_after(number, rest, Line::Store(field, expr), lines)
         }
         Tree::StoreAt(row, index, expr, rest) => {
-            put(lines, Line::StoreAt(row, index, expr))?;
-            write_again(number, Box::into_inner(rest), lines)
+            write_again_after(number, rest, Line::StoreAt(row, index, expr), lines)
         }
         Tree::Call(of, local, function, args, rest) => {
             if hands_on(number, of, local, function, args.items()) {
                 return Ok(());
             }
-            put(lines, Line::Call(of, local, function, args))?;
-            write_again(number, Box::into_inner(rest), lines)
+            write_again_after(number, rest, Line::Call(of, local, function, args), lines)
         }
         Tree::Select(of, local, expr, cases, args, rest) => {
-            put(lines, Line::Select(of, local, expr, cases, args))?;
-            write_again(number, Box::into_inner(rest), lines)
+            write_again_after(
+                number,
+                rest,
+                Line::Select(of, local, expr, cases, args),
+                lines,
+            )
         }
         Tree::If(expr, first, second, rest) => {
             if leads_back(number, &first, &second) {
-                put(lines, Line::If(expr))?;
-                write_again(number, Box::into_inner(first), lines)?;
-                put_else(is_end_again(number, &rest), lines)?;
-                write_again(number, Box::into_inner(rest), lines)?;
+                write_again_after(number, first, Line::If(expr), lines)?;
+                write_again_else(number, rest, lines)?;
                 return put(lines, Line::Close);
             }
-            write_if(expr, Box::into_inner(first), Box::into_inner(second), lines)?;
-            write_again(number, Box::into_inner(rest), lines)
+            write_after(first, Line::If(expr), lines)?;
+            write_second(second, lines)?;
+            write_again_after(number, rest, Line::Close, lines)
         }
         Tree::While(expr, first, rest) => {
-            write_while(expr, Box::into_inner(first), lines)?;
-            write_again(number, Box::into_inner(rest), lines)
+            write_after(first, Line::While(expr), lines)?;
+            write_again_after(number, rest, Line::Close, lines)
         }
         Tree::Return(expr) => put(lines, Line::Return(expr)),
     }

@@ -1,7 +1,7 @@
 //! Trees as lines.
 ghost use Rattle.std.specs.Prelude.{◌≡◌, ◌++◌, ◌∷◌, [], OnOk};
 ghost use Rattle.flow_base.specs.Lists.{items_of};
-ghost use Rattle.c_subset.specs.Lines.{line_of, lines_in, lines_of};
+ghost use Rattle.c_subset.specs.Lines.{else_lines, line_of, lines_in, lines_of};
 ghost use Rattle.c_loops.specs.Blocks.{block_of};
 ghost use Rattle.c_loops.specs.Writing.{else_line};
 
@@ -30,47 +30,53 @@ pub fn put_else(is_empty: bool, lines: &mut List<Line>) -> Result<(), Memory>
     put(lines, Line::Else)
 }
 
+/// Appends a line, and the lines of the statements that follow it.
+#[cycle(write)]
+pub fn write_after(rest: Box<Tree>, line: Line, lines: &mut List<Line>) -> Result<(), Memory>
+    ensures { OnOk result (lines_in (items_of lines.new)
+        ≡ lines_in (items_of lines.old) ++ line_of line ∷ lines_of (block_of rest.value)) }
+{
+    put(lines, line)?;
+    write(Box::into_inner(rest), lines)
+}
+
+/// Appends the lines of the second part of an `if`, after `} else {` unless it is empty.
+#[cycle(write)]
+pub fn write_second(second: Box<Tree>, lines: &mut List<Line>) -> Result<(), Memory>
+    ensures { OnOk result (lines_in (items_of lines.new)
+        ≡ lines_in (items_of lines.old) ++ else_lines (lines_of (block_of second.value))) }
+{
+    put_else(is_end(&second), lines)?;
+    write(Box::into_inner(second), lines)
+}
+
 /// Appends the lines of the statements.
-#[tactic(auto, using(crate::proofs::Lists::writes), unfolding(c_subset::specs::Lines::lines_of))]
+#[cycle(write)]
 pub fn write(tree: Tree, lines: &mut List<Line>) -> Result<(), Memory>
     ensures { OnOk result (lines_in (items_of lines.new)
         ≡ lines_in (items_of lines.old) ++ lines_of (block_of tree)) }
 {
     match tree {
         Tree::End => Ok(()),
-        Tree::Set(of, local, expr, rest) => {
-            put(lines, Line::Set(of, local, expr))?;
-            write(Box::into_inner(rest), lines)
-        }
-        Tree::Store(field, expr, rest) => {
-            put(lines, Line::Store(field, expr))?;
-            write(Box::into_inner(rest), lines)
-        }
+        Tree::Set(of, local, expr, rest) => write_after(rest, Line::Set(of, local, expr), lines),
+        Tree::Store(field, expr, rest) => write_after(rest, Line::Store(field, expr), lines),
         Tree::StoreAt(row, index, expr, rest) => {
-            put(lines, Line::StoreAt(row, index, expr))?;
-            write(Box::into_inner(rest), lines)
+            write_after(rest, Line::StoreAt(row, index, expr), lines)
         }
         Tree::Call(of, local, function, args, rest) => {
-            put(lines, Line::Call(of, local, function, args))?;
-            write(Box::into_inner(rest), lines)
+            write_after(rest, Line::Call(of, local, function, args), lines)
         }
         Tree::Select(of, local, expr, cases, args, rest) => {
-            put(lines, Line::Select(of, local, expr, cases, args))?;
-            write(Box::into_inner(rest), lines)
+            write_after(rest, Line::Select(of, local, expr, cases, args), lines)
         }
         Tree::If(expr, first, second, rest) => {
-            put(lines, Line::If(expr))?;
-            write(Box::into_inner(first), lines)?;
-            put_else(is_end(&second), lines)?;
-            write(Box::into_inner(second), lines)?;
-            put(lines, Line::Close)?;
-            write(Box::into_inner(rest), lines)
+            write_after(first, Line::If(expr), lines)?;
+            write_second(second, lines)?;
+            write_after(rest, Line::Close, lines)
         }
         Tree::While(expr, first, rest) => {
-            put(lines, Line::While(expr))?;
-            write(Box::into_inner(first), lines)?;
-            put(lines, Line::Close)?;
-            write(Box::into_inner(rest), lines)
+            write_after(first, Line::While(expr), lines)?;
+            write_after(rest, Line::Close, lines)
         }
         Tree::Return(expr) => put(lines, Line::Return(expr)),
     }

@@ -11,5 +11,5 @@ returns-then-not-may_loop c =
 -- it may
 pub returns : goal.returns
 returns c =
-    λ g h. loop-is c.args.function c.in_ok-lines.lines g c.args.number (block_of c.in_ok-tree.tree)
+    λ g h. loop-is c.args.function c.in_ok-lines.lines g c.args.number (block_of c.in_ok-tree.tree.value)
     c.in_ok-tree.ensures (sym c.may_loop.ensures ∙ c.if-not-may_loop.false) c.in_ok-lines.ensures h

@@ -5,8 +5,8 @@
 
 In a page, a text in Markdown, each link leads to a file or a folder of the repository and, where it says so, to a heading; and each
 path between backquotes that begins with the name of a crate and `src`, `specs`, `proofs`, `must-fail` or `edits`, or with `checks`,
-`docs`, `examples` or `bench`, is that of a file or a folder. What isn't there is printed, and the status is then 1; so it is where the pages
-name nothing."""
+`docs`, `examples` or `bench`, is that of a file or a folder. What isn't there is printed, and the status is then 1; so it is where
+the pages name nothing."""
 import os
 import re
 import sys

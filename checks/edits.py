@@ -131,16 +131,16 @@ def main(arguments):
         print('\n'.join(faults))
         return 1
     rows = kept_rows()
-    untried = named or [crate for crate in crates if row_of(crate) not in rows]
     if arguments:
-        refused = refused_of(rt, untried)
-        rows = [row for row in rows if row.split()[0] not in [crate.name for crate in untried]]
-        keep(crates, rows + [row_of(crate) for crate in refused])
-        untried = [crate for crate in untried if crate not in refused]
+        tried = named or [crate for crate in crates if row_of(crate) not in rows]
+        rows = [row for row in rows if row.split()[0] not in [crate.name for crate in tried]]
+        rows += [row_of(crate) for crate in refused_of(rt, tried)]
+        keep(crates, rows)
+    untried = [crate for crate in named or crates if row_of(crate) not in rows]
     for crate in untried:
         print('%s: its edits are not known to be refused on these texts' % crate.name)
-    tried = [crate for crate in crates if crate not in untried]
-    print('%d edits of %d crates were refused on these texts' % (sum(len(edits_of(crate)) for crate in tried), len(tried)))
+    known = [crate for crate in crates if row_of(crate) in rows]
+    print('%d edits of %d crates were refused on these texts' % (sum(len(edits_of(crate)) for crate in known), len(known)))
     return 1 if untried else 0
 
 

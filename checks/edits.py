@@ -140,7 +140,7 @@ def main(arguments):
     for crate in untried:
         print('%s: its edits are not known to be refused on these texts' % crate.name)
     known = [crate for crate in crates if row_of(crate) in rows]
-    print('%d edits of %d crates were refused on these texts' % (sum(len(edits_of(crate)) for crate in known), len(known)))
+    print('%d edits of %d crates are recorded as refused on these texts' % (sum(len(edits_of(crate)) for crate in known), len(known)))
     return 1 if untried else 0
 
 

@@ -20,8 +20,8 @@ use Rattle.commands.specs.NetCommand.{NetEnds, NetOthersStay}
 use Rattle.commands.specs.Run.{RunEnds}
 use Rattle.selftest_command.specs.Selftest.{SelftestEnds}
 use Rattle.selftest_command.specs.declared.command.SelftestEnd.{SelftestEnd}
-use Rattle.program_answers.specs.Endings.{EndsAs, EndsAtOnce}
-use Rattle.program_answers.specs.Lines.{LineStands}
+use Rattle.commands.specs.Endings.{EndsAs, EndsAtOnce}
+use Rattle.commands.specs.ErrorLines.{LineStands}
 use Rattle.flow_program.specs.declared.ending.Ending.{Ending}
 use Rattle.flow_program.specs.declared.ending.Ending.TheVariants as endings
 use Rattle.flow_program.specs.Ending.{of_text, of_rules, of_exec, of_run, of_upgrade}

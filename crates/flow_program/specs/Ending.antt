@@ -29,7 +29,7 @@ use Rattle.net_text.specs.declared.fault.NetFault.TheVariants.{BadRoute}
 use Rattle.selftest_command.specs.declared.command.SelftestEnd.{SelftestEnd}
 use Rattle.selftest_command.specs.declared.command.SelftestEnd.TheVariants as cases
 use Rattle.commands.specs.declared.refusal.Refusal.{Refusal}
-use Rattle.program_answers.specs.Lines.{kind_text, refusal_line}
+use Rattle.commands.specs.ErrorLines.{kind_text, refusal_line}
 use Rattle.flow_program.specs.declared.ending.Ending.{Ending}
 use Rattle.flow_program.specs.declared.ending.Ending.TheVariants as endings
 

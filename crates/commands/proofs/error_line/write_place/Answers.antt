@@ -1,7 +1,7 @@
 use Rattle.std.proofs.Common.{◌++◌, ap, codes, decimal}
 use Rattle.std.proofs.lemmas.Result.{on_err_weaker}
-use Rattle.program_answers.proofs.FrontLemmas.{front_first, front_after, front_as, written_after, written_as, at_exit}
-use Rattle.program_answers.proofs.lines.write_place.Goals as goal
+use Rattle.commands.proofs.FrontLemmas.{front_first, front_after, front_as, written_after, written_as, at_exit}
+use Rattle.commands.proofs.error_line.write_place.Goals as goal
 
 -- what stands before the number of the line isn't written
 pub returns-in_err-write_all-clause-failed : goal.returns-in_err-write_all-clause-failed

@@ -3,10 +3,10 @@ ghost use Rattle.std.specs.Prelude.{◌≡◌, OnOk, OnErr, decimal};
 ghost use Rattle.std.specs.Io.KnownBytes.{append_known};
 ghost use Rattle.flow_base.specs.Bytes.{AppendsProperFront};
 ghost use Rattle.flow_base.specs.Causes.{HasCause};
-ghost use Rattle.program_answers.specs.Lines.{kind_text, place_text, refusal_line};
+ghost use Rattle.commands.specs.ErrorLines.{kind_text, place_text, refusal_line};
 
+use crate::refusal::Refusal;
 use chart_tree::FormKind;
-use commands::Refusal;
 use flow_base::{Failed, Sink, write_all};
 use itoa::Buffer;
 use token_grammar::Span;

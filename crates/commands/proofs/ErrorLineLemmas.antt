@@ -4,7 +4,7 @@ use Rattle.std.specs.Io.KnownBytes.{append_known}
 use Rattle.flow_base.specs.Bytes.{AppendsProperFront}
 use Rattle.flow_base.specs.Causes.{Stands, HasCause}
 use Rattle.commands.specs.Call.{Output}
-use Rattle.program_answers.specs.Lines.{LineStands}
+use Rattle.commands.specs.ErrorLines.{LineStands}
 
 module _ {T E : Type 0} (before after : Output) (line : List ℕ) where
   -- a write that failed is the cause of a proper prefix

@@ -1,8 +1,8 @@
 use Rattle.std.proofs.Common.{◌++◌, codes}
 use Rattle.std.proofs.lemmas.Result.{on_err_weaker}
-use Rattle.program_answers.specs.Lines.{kind_text, place_text}
-use Rattle.program_answers.proofs.FrontLemmas.{at_exit, front_after, front_first, written_after}
-use Rattle.program_answers.proofs.lines.write_refusal.Goals as goal
+use Rattle.commands.specs.ErrorLines.{kind_text, place_text}
+use Rattle.commands.proofs.FrontLemmas.{at_exit, front_after, front_first, written_after}
+use Rattle.commands.proofs.error_line.write_refusal.Goals as goal
 
 -- the place isn't written
 pub returns-in_err-write_place-clause-failed : goal.returns-in_err-write_place-clause-failed

@@ -10,9 +10,9 @@ use Rattle.trace_text.specs.Trace.{result_word}
 use Rattle.step_driver.specs.Traces.{RunFault, run_fault, trace}
 use Rattle.commands.specs.declared.traced.TraceEnd.{TraceEnd}
 use Rattle.commands.specs.declared.traced.TraceEnd.TheVariants as runs
-use Rattle.selftest_command.specs.declared.measure.EndFault.{EndFault}
-use Rattle.selftest_command.specs.declared.measure.Measures.{Measures}
-use Rattle.selftest_command.specs.Newlines.{newlines}
+use Rattle.flow_program.specs.declared.measure.EndFault.{EndFault}
+use Rattle.flow_program.specs.declared.measure.Measures.{Measures}
+use Rattle.flow_program.specs.Newlines.{newlines}
 
 -- the fault of a run as the trace shows it
 abbrev pub shown_fault : Names → Option RunFault → Option EndFault

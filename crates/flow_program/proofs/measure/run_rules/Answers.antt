@@ -6,8 +6,8 @@ use Rattle.sos_interpreter.specs.Engine.{EngineState}
 use Rattle.commands.specs.Trace.{HasShortNames, TraceEnds}
 use Rattle.commands.proofs.NameLemmas.{names_short}
 use Rattle.commands.specs.Rules.{by_rules}
-use Rattle.selftest_command.specs.contracts.trace_bytes.TraceBytesSink.TheImpl as bytes
-use Rattle.selftest_command.proofs.measure.run_rules.Goals as goal
+use Rattle.flow_program.specs.contracts.trace_bytes.TraceBytesSink.TheImpl as bytes
+use Rattle.flow_program.proofs.measure.run_rules.Goals as goal
 
 -- the names of a valid chart are short
 pub trace-requires-clause-short : goal.trace-requires-clause-short

@@ -4,8 +4,8 @@ ghost use Rattle.checked_chart.specs.Kept.{chart_of};
 ghost use Rattle.commands.specs.Call.{call_of};
 ghost use Rattle.commands.specs.Trace.{TraceEnds};
 ghost use Rattle.commands.specs.Rules.{by_rules};
-ghost use Rattle.selftest_command.specs.Measures as spec;
-ghost use Rattle.selftest_command.specs.Newlines.{newlines};
+ghost use Rattle.flow_program.specs.Measures as spec;
+ghost use Rattle.flow_program.specs.Newlines.{newlines};
 
 use crate::trace_bytes::TraceBytes;
 use checked_chart::Chart;

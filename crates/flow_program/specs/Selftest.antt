@@ -14,11 +14,11 @@ use Rattle.commands.specs.Call.{Output}
 use Rattle.commands.specs.Writing.{Wrote, WroteFront}
 use Rattle.commands.specs.Accepted.{RefusesAccepted}
 use Rattle.chart_gen.specs.Cases.{chart_text, events_text}
-use Rattle.selftest_command.specs.Lines.{line_text, result_of}
-use Rattle.selftest_command.specs.Measures.{shown_fault}
-use Rattle.selftest_command.specs.declared.command.SelftestEnd.{SelftestEnd}
-use Rattle.selftest_command.specs.declared.measure.EndFault.{EndFault}
-use Rattle.selftest_command.specs.declared.command.SelftestEnd.TheVariants as ends
+use Rattle.flow_program.specs.CaseLine.{line_text, result_of}
+use Rattle.flow_program.specs.Measures.{shown_fault}
+use Rattle.flow_program.specs.declared.selftest.SelftestEnd.{SelftestEnd}
+use Rattle.flow_program.specs.declared.measure.EndFault.{EndFault}
+use Rattle.flow_program.specs.declared.selftest.SelftestEnd.TheVariants as ends
 
 -- the events of a case, for what its chart declares
 abbrev pub case_events : Names → ℕ → List EventWithInputs

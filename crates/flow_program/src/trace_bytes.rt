@@ -4,7 +4,7 @@ ghost use Rattle.std.specs.Prelude.{length, refl};
 ghost use Rattle.std.specs.Io.{WritesAtMost};
 ghost use Rattle.flow_base.specs.Causes.{HasCause};
 ghost use Rattle.flow_base.specs.Bytes.{WritesFront, TakesSome};
-ghost use Rattle.selftest_command.specs.Newlines.{newlines};
+ghost use Rattle.flow_program.specs.Newlines.{newlines};
 
 use flow_base::{Failed, Sink};
 use std::alloc::Global;

@@ -2,8 +2,8 @@ use Rattle.std.proofs.Common.{ap, ◌∙◌}
 use Rattle.active_config.specs.Tree.{Tree, state_count}
 use Rattle.commands.specs.Call.{output_of}
 use Rattle.checked_chart.specs.Kept.{chart_of}
-use Rattle.selftest_command.proofs.SelftestLemmas.{is_measured, line_written, line_cut}
-use Rattle.selftest_command.proofs.command.selftest.Goals as goal
+use Rattle.flow_program.proofs.SelftestLemmas.{is_measured, line_written, line_cut}
+use Rattle.flow_program.proofs.selftest.selftest.Goals as goal
 
 -- the line was written
 pub returns-in-Ok-write_all : goal.returns-in-Ok-write_all

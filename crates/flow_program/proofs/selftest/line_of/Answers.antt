@@ -1,7 +1,7 @@
 use Rattle.std.proofs.Common.{ap, ◌∙◌, List, ℕ}
-use Rattle.selftest_command.specs.Lines.{line_text}
-use Rattle.selftest_command.proofs.SelftestLemmas.{line_in_pieces}
-use Rattle.selftest_command.proofs.command.line_of.Goals as goal
+use Rattle.flow_program.specs.CaseLine.{line_text}
+use Rattle.flow_program.proofs.SelftestLemmas.{line_in_pieces}
+use Rattle.flow_program.proofs.selftest.line_of.Goals as goal
 
 pub returns-in-Ok : goal.returns-in-Ok
 returns-in-Ok c =

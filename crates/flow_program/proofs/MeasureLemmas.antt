@@ -20,11 +20,11 @@ use Rattle.commands.specs.declared.traced.TraceEnd.{TraceEnd}
 use Rattle.commands.specs.Trace.{Behaviour, TraceEnds, Driven, NotBegun, seen_of, end_of}
 use Rattle.sos_interpreter.specs.Engine.{Program}
 use Rattle.sos_interpreter.specs.EngineLaws.{rules_one_start, rules_one_reaction}
-use Rattle.selftest_command.specs.declared.measure.EndFault.{EndFault}
-use Rattle.selftest_command.specs.declared.measure.Measures.{Measures}
-use Rattle.selftest_command.specs.Measures.{HasMeasures, AreCounts, shown_fault, fault_of_end, is_whole}
-use Rattle.selftest_command.specs.Newlines.{newlines}
-use Rattle.selftest_command.proofs.TraceLines.{are_names, trace_lines}
+use Rattle.flow_program.specs.declared.measure.EndFault.{EndFault}
+use Rattle.flow_program.specs.declared.measure.Measures.{Measures}
+use Rattle.flow_program.specs.Measures.{HasMeasures, AreCounts, shown_fault, fault_of_end, is_whole}
+use Rattle.flow_program.specs.Newlines.{newlines}
+use Rattle.flow_program.proofs.TraceLines.{are_names, trace_lines}
 
 -- ---- the whole trace
 

@@ -1,6 +1,6 @@
 use Rattle.checked_chart.specs.Kept.{chart_of}
-use Rattle.selftest_command.proofs.RunLemmas.{one_measure}
-use Rattle.selftest_command.proofs.measure.measured.Goals as goal
+use Rattle.flow_program.proofs.MeasureLemmas.{one_measure}
+use Rattle.flow_program.proofs.measure.measured.Goals as goal
 
 -- the code of a chart runs as the chart does
 pub unreachable-requires : goal.unreachable-requires

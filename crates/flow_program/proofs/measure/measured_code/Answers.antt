@@ -2,9 +2,9 @@ use Rattle.std.proofs.Common.{[], true, refl, ap, List, ℕ, Some}
 use Rattle.flow_base.specs.contracts.sure_inputs.SureInputsInputs.TheImpl as files
 use Rattle.commands.specs.Call.{call_of}
 use Rattle.checked_chart.specs.Kept.{chart_of}
-use Rattle.selftest_command.specs.contracts.trace_bytes.TraceBytesSink.TheImpl as bytes
-use Rattle.selftest_command.proofs.RunLemmas.{kept_of, some_newline, measured}
-use Rattle.selftest_command.proofs.measure.measured_code.Goals as goal
+use Rattle.flow_program.specs.contracts.trace_bytes.TraceBytesSink.TheImpl as bytes
+use Rattle.flow_program.proofs.MeasureLemmas.{kept_of, some_newline, measured}
+use Rattle.flow_program.proofs.measure.measured_code.Goals as goal
 
 -- a trace has the line of the start
 pub measures_of-requires-clause-begun : goal.measures_of-requires-clause-begun

@@ -1,8 +1,8 @@
 //! The command `selftest`.
 ghost use Rattle.std.specs.Prelude.{◌≡◌, IfOk, string_bytes};
 ghost use Rattle.commands.specs.Call.{output_of};
-ghost use Rattle.selftest_command.specs.Lines.{line_of_measures, result_of};
-ghost use Rattle.selftest_command.specs.Selftest.{SelftestEnds, end_of};
+ghost use Rattle.flow_program.specs.CaseLine.{line_of_measures, result_of};
+ghost use Rattle.flow_program.specs.Selftest.{SelftestEnds, end_of};
 
 use crate::measure::{EndFault, Measures, measured};
 use accepted_charts::accept_chart;

@@ -11,12 +11,12 @@ use Rattle.step_driver.specs.Traces.{RunFault, run_fault, trace}
 use Rattle.commands.specs.Call.{Output}
 use Rattle.commands.specs.Writing.{Wrote, WroteFront}
 use Rattle.chart_gen.specs.Cases.{chart_text, events_text}
-use Rattle.selftest_command.specs.declared.measure.EndFault.{EndFault}
-use Rattle.selftest_command.specs.declared.measure.Measures.{Measures}
-use Rattle.selftest_command.specs.Lines.{line_text, result_of, line_of_measures}
-use Rattle.selftest_command.specs.Measures.{HasMeasures, shown_fault}
-use Rattle.selftest_command.specs.Selftest.{CaseRun, case_events, line_of_run, RanAnd, IsFaultAt, end_of}
-use Rattle.selftest_command.specs.Selftest.{SelftestEnds}
+use Rattle.flow_program.specs.declared.measure.EndFault.{EndFault}
+use Rattle.flow_program.specs.declared.measure.Measures.{Measures}
+use Rattle.flow_program.specs.CaseLine.{line_text, result_of, line_of_measures}
+use Rattle.flow_program.specs.Measures.{HasMeasures, shown_fault}
+use Rattle.flow_program.specs.Selftest.{CaseRun, case_events, line_of_run, RanAnd, IsFaultAt, end_of}
+use Rattle.flow_program.specs.Selftest.{SelftestEnds}
 
 -- ---- the line, put piece by piece
 

@@ -1,7 +1,7 @@
 -- The line of a case with measures.
 use Rattle.std.specs.Prelude.{ℕ, List, ◌++◌, codes, decimal, Option, Some, None}
-use Rattle.selftest_command.specs.declared.measure.EndFault.{EndFault}
-use Rattle.selftest_command.specs.declared.measure.Measures.{Measures}
+use Rattle.flow_program.specs.declared.measure.EndFault.{EndFault}
+use Rattle.flow_program.specs.declared.measure.Measures.{Measures}
 
 -- a line with the number of a case, three counts and a result
 abbrev pub line_text : ℕ → ℕ → ℕ → ℕ → List ℕ → List ℕ

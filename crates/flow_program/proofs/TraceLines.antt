@@ -33,7 +33,7 @@ use Rattle.trace_text.specs.Trace.{state_name, datum_name, event_name, event_wor
 use Rattle.trace_text.specs.Trace.{value_texts, listed}
 use Rattle.trace_text.specs.Trace.{result_word, line_front, line_of, trace_line}
 use Rattle.step_driver.specs.Traces.{trace, trace_from}
-use Rattle.selftest_command.specs.Newlines.{newlines}
+use Rattle.flow_program.specs.Newlines.{newlines}
 
 -- ---- texts without a newline
 

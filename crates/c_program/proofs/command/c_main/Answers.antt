@@ -1,6 +1,6 @@
 use Rattle.std.proofs.Common.{Option, subst}
 use Rattle.commands.specs.Call.{Output, Call, call_of, output_of}
-use Rattle.c_words.specs.Commands.{Command}
+use Rattle.c_program.specs.Commands.{Command}
 use Rattle.c_program.specs.Ending.{line_of}
 use Rattle.c_program.specs.Answer.{CallEnds}
 use Rattle.commands.proofs.ErrorLineLemmas.{line_stands, line_whole}

@@ -35,9 +35,9 @@ use Rattle.actions.proofs.SizeLemmas.{CanTake-assignable}
 use Rattle.code_language.specs.Instrs.{Assign, Unless, Test}
 use Rattle.code_language.specs.WellFormed.{Known, is_plain, is_flag, is_assigned, is_fine, takes, instr_typed}
 use Rattle.code_language.specs.WellFormed.{cond_typed}
-use Rattle.code_costs.proofs.AssignLemmas.{IsTyped, got_within}
-use Rattle.code_costs.proofs.FaultLemmas.{Gives, Any, value_gives}
-use Rattle.code_costs.proofs.Sound.{both_true}
+use Rattle.code_language.proofs.AssignLemmas.{IsTyped, got_within}
+use Rattle.code_language.proofs.ExprFaults.{Gives, Any, value_gives}
+use Rattle.code_language.proofs.Sound.{both_true}
 use Rattle.c_subset.specs.Trees.{CExpr, Block, If}
 use Rattle.c_subset.specs.declared.trees.Width.{Width}
 use Rattle.c_subset.specs.declared.trees.Width.TheVariants.{W32}

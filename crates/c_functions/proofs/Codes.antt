@@ -31,10 +31,10 @@ use Rattle.code_language.specs.Sound.{AreSound}
 use Rattle.code_language.specs.WellFormed.{IsCode, Known, known_of, first_of, unless, first_over, later_fault}
 use Rattle.code_language.specs.WellFormed.{starts_known}
 use Rattle.code_language.specs.WellFormed.{procs_fault, instr_known, instr_typed, instr_keeps}
-use Rattle.code_costs.specs.Ahead.{IsOver}
-use Rattle.code_costs.specs.Moments.{HasStateNames, IsEvent, IsWorld, IsMoment}
-use Rattle.code_costs.proofs.Numbers.{are_heights}
-use Rattle.code_costs.proofs.Sound.{code_parts, proc_there, proc_at}
+use Rattle.code_language.specs.Ahead.{IsOver}
+use Rattle.code_language.specs.Moments.{HasStateNames, IsEvent, IsWorld, IsMoment}
+use Rattle.code_language.proofs.Numbers.{are_heights}
+use Rattle.code_language.proofs.Sound.{code_parts, proc_there, proc_at}
 use Rattle.c_subset.specs.Trees.{File}
 use Rattle.c_subset.specs.declared.trees.Width.{Width}
 use Rattle.c_subset.specs.Meaning.{bits, Store}

@@ -24,12 +24,12 @@ use Rattle.code_language.specs.Machine.{CodeState, Next, Goes, Stops, Over, and_
 use Rattle.code_language.specs.Reactions.{program_of, start_machine, react_machine, Starts, Reacts}
 use Rattle.code_language.specs.Reactions.{CodeRun, Leads}
 use Rattle.code_language.specs.WellFormed.{IsCode}
-use Rattle.code_simulation.proofs.Endings.{one_end}
-use Rattle.code_costs.specs.Left.{most_instructions}
-use Rattle.code_costs.specs.Moments.{HasStateNames, IsWorld, IsMoment, StaysSound}
-use Rattle.code_costs.proofs.EventLemmas.{start_ends, reaction_ends}
-use Rattle.code_costs.proofs.MomentLemmas.{step_sound}
-use Rattle.code_costs.proofs.StartLemmas.{can_react, start_moment, reaction_moment}
+use Rattle.code_language.proofs.Endings.{one_end}
+use Rattle.code_language.specs.Left.{most_instructions}
+use Rattle.code_language.specs.Moments.{HasStateNames, IsWorld, IsMoment, StaysSound}
+use Rattle.code_language.proofs.EventLemmas.{start_ends, reaction_ends}
+use Rattle.code_language.proofs.MomentLemmas.{step_sound}
+use Rattle.code_language.proofs.StartLemmas.{can_react, start_moment, reaction_moment}
 use Rattle.c_subset.specs.Trees.{Local, Function, Block}
 use Rattle.c_subset.specs.declared.trees.Width.{Width}
 use Rattle.c_subset.specs.declared.trees.Width.TheVariants.{W32}

@@ -11,7 +11,7 @@ use Rattle.code_language.specs.Instrs as i
 use Rattle.code_language.specs.WellFormed.{Known, is_state, is_event, is_proc, note_known, instr_known}
 use Rattle.code_language.specs.WellFormed.{cond_known, instr_typed, instr_keeps}
 use Rattle.code_language.specs.WellFormed.{cond_keeps}
-use Rattle.code_costs.proofs.Sound.{both_true}
+use Rattle.code_language.proofs.Sound.{both_true}
 use Rattle.c_subset.specs.Trees.{Block}
 use Rattle.c_subset.specs.declared.trees.Width.{Width}
 use Rattle.c_subset.specs.Meaning.{one_if, Store, Locals}

@@ -7,7 +7,7 @@ use Rattle.std.proofs.Common.{refl, sym, ap, ◌∙◌, arith, inl, inr, ⊎_eli
 use Rattle.std.proofs.lemmas.Int.{ints}
 use Rattle.std.proofs.lemmas.Bool.Decides.{nat_tests}
 use Rattle.active_config.proofs.TableLemmas.{same_or_other}
-use Rattle.code_costs.proofs.AssignLemmas.{got_within}
+use Rattle.code_language.proofs.AssignLemmas.{got_within}
 use Rattle.c_subset.specs.Trees.{CExpr}
 use Rattle.c_subset.specs.declared.trees.Width.{Width}
 use Rattle.c_subset.specs.declared.trees.Width.TheVariants.{W32}

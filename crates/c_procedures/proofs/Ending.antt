@@ -8,9 +8,9 @@ use Rattle.actions.specs.Work.{Now}
 use Rattle.code_language.specs.Code.{Procedures, instructions}
 use Rattle.code_language.specs.Machine.{Program, CodeState, fresh}
 use Rattle.code_language.specs.Reactions.{first_frame}
-use Rattle.code_simulation.specs.Reach.{pending}
-use Rattle.code_simulation.proofs.Endings.{reached_leads, falls_leads}
-use Rattle.code_simulation.proofs.Notes.{pending_at, pending_past}
+use Rattle.code_language.specs.Reach.{pending}
+use Rattle.code_language.proofs.Endings.{reached_leads, falls_leads}
+use Rattle.code_language.proofs.Notes.{pending_at, pending_past}
 use Rattle.c_procedures.specs.States.{Numbers}
 use Rattle.c_procedures.specs.Statements.{CMemory, Block, Out, Fell, Left, Failed, Starved, Wrong}
 use Rattle.c_procedures.specs.Meaning.{Sums, call_fn, begins}

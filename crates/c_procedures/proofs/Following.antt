@@ -8,15 +8,15 @@ use Rattle.actions.specs.Work.{Now}
 use Rattle.code_language.specs.Code.{Procedures, instructions, fetch}
 use Rattle.code_language.specs.Instrs.{Instr}
 use Rattle.code_language.specs.Machine.{Program, Frame, CodeState, machine, later, Goes, step}
-use Rattle.code_simulation.specs.Reach.{Reaches, with_note, pending, ReachesIn}
-use Rattle.code_simulation.proofs.Joins.{on_to, falls_on}
-use Rattle.code_simulation.proofs.Notes.{pending_at}
+use Rattle.code_language.specs.Reach.{Reaches, with_note, pending, ReachesIn}
+use Rattle.code_language.proofs.Joins.{on_to, falls_on}
+use Rattle.code_language.proofs.Notes.{pending_at}
 use Rattle.actions.specs.World.{World}
 use Rattle.active_config.specs.Tree.{Tree}
 use Rattle.c_procedures.specs.Statements.{CMemory, Locals, Out, Fell, Left, Failed, Starved, Wrong}
 use Rattle.c_procedures.specs.Meaning.{and_on}
 use Rattle.c_procedures.specs.Runs.{Stands, IsAt, GoesFor, Returned, Lost, Stuck}
-use Rattle.code_simulation.proofs.Steps.{one_step}
+use Rattle.code_language.proofs.Steps.{one_step}
 
 -- ---- places
 

@@ -5,9 +5,9 @@ use Rattle.code_language.specs.Code.{Code}
 use Rattle.code_language.specs.Machine.{Program, CodeState, Next, Going, and_then, run}
 use Rattle.code_language.specs.Reactions.{program_of}
 use Rattle.code_language.specs.WellFormed.{IsCode}
-use Rattle.code_costs.specs.Ahead.{IsOver}
-use Rattle.code_costs.specs.Moments.{IsMoment}
-use Rattle.code_simulation.specs.Reach.{ReachesIn}
+use Rattle.code_language.specs.Ahead.{IsOver}
+use Rattle.code_language.specs.Moments.{IsMoment}
+use Rattle.code_language.specs.Reach.{ReachesIn}
 use Rattle.c_procedures.specs.Statements.{Out, Fell, Left, Failed, Starved, Wrong}
 use Rattle.c_procedures.specs.Runs.{GoesFor, EndsWith, EndsAsCode}
 use Rattle.c_procedures.proofs.Staying.{never_stuck}

@@ -23,13 +23,13 @@ use Rattle.code_language.specs.Instrs as i
 use Rattle.code_language.specs.Machine as mach
 use Rattle.actions.specs.Exprs.{Expr}
 use Rattle.code_language.specs.Machine.{Program, Frame, CodeState, machine, later, fresh, next, past, returned, holds}
-use Rattle.code_simulation.specs.Reach.{Reaches, Falls, with_note, pending}
-use Rattle.code_simulation.proofs.Joins.{here}
-use Rattle.code_simulation.proofs.Notes.{pending_at, pending_past, IsHead, noted_head}
-use Rattle.code_simulation.proofs.Steps.{go_mark, go_clear, go_keep, go_skip, go_home, go_begin, go_ret, go_pass}
-use Rattle.code_simulation.proofs.Steps.{go_pass_zero}
-use Rattle.code_simulation.proofs.Steps.{go_unless_true, go_unless_false, fall_unless, one_step, one_fall, go_play_none}
-use Rattle.code_simulation.proofs.Steps.{go_play_lame}
+use Rattle.code_language.specs.Reach.{Reaches, Falls, with_note, pending}
+use Rattle.code_language.proofs.Joins.{here}
+use Rattle.code_language.proofs.Notes.{pending_at, pending_past, IsHead, noted_head}
+use Rattle.code_language.proofs.Steps.{go_mark, go_clear, go_keep, go_skip, go_home, go_begin, go_ret, go_pass}
+use Rattle.code_language.proofs.Steps.{go_pass_zero}
+use Rattle.code_language.proofs.Steps.{go_unless_true, go_unless_false, fall_unless, one_step, one_fall, go_play_none}
+use Rattle.code_language.proofs.Steps.{go_play_lame}
 use Rattle.c_procedures.specs.States.{Numbers, Shows, is_or, c_mark, c_clear, c_keep, keep_by}
 use Rattle.c_procedures.specs.Statements.{CMemory, Locals, Block, Out, Fell, Left, Failed, Starved, Wrong}
 use Rattle.c_procedures.specs.Statements as c

@@ -15,9 +15,9 @@ use Rattle.code_language.specs.Machine.{Stops, if_ok, if_deep, test_next, pass_o
 use Rattle.code_language.specs.Machine.{holds, noted, later, machine, fresh, next, play_next, act, step}
 use Rattle.code_language.specs.Reactions.{program_of}
 use Rattle.code_language.specs.WellFormed.{IsCode}
-use Rattle.code_costs.specs.Moments.{IsMoment, StaysSound}
-use Rattle.code_costs.proofs.MomentLemmas.{step_sound, top_instr}
-use Rattle.code_simulation.specs.Reach.{ReachesIn}
+use Rattle.code_language.specs.Moments.{IsMoment, StaysSound}
+use Rattle.code_language.proofs.MomentLemmas.{step_sound, top_instr}
+use Rattle.code_language.specs.Reach.{ReachesIn}
 use Rattle.c_procedures.specs.Runs.{Stuck}
 
 -- ---- an instruction goes on or faults

@@ -14,7 +14,7 @@ use Rattle.code_language.specs.Instrs as i
 use Rattle.code_language.specs.Sound.{AreSound}
 use Rattle.code_language.specs.WellFormed.{Known, known_of, IsCode, can_be_kept, instr_known, instr_keeps}
 use Rattle.code_language.specs.WellFormed.{skips_within}
-use Rattle.code_costs.proofs.Sound.{both_true, code_parts, proc_at, instructions_at, or_none}
+use Rattle.code_language.proofs.Sound.{both_true, code_parts, proc_at, instructions_at, or_none}
 use Rattle.c_procedures.specs.States.{is_or}
 use Rattle.c_procedures.specs.Statements.{Block}
 use Rattle.c_procedures.specs.Statements as c

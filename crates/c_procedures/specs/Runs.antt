@@ -16,7 +16,7 @@ use Rattle.code_language.specs.Instrs.{Instr}
 use Rattle.code_language.specs.Machine.{Program, Frame, CodeState, machine, returned, later, step, Stops}
 use Rattle.code_language.specs.Reactions.{Leads}
 use Rattle.actions.specs.Runs.{Moment}
-use Rattle.code_simulation.specs.Reach.{ReachesIn, Reaches, Falls, with_note, pending}
+use Rattle.code_language.specs.Reach.{ReachesIn, Reaches, Falls, with_note, pending}
 use Rattle.c_procedures.specs.States.{States, Shows, c_on}
 use Rattle.c_procedures.specs.Statements.{CMemory, Locals, Out, Fell, Left, Failed, Starved, Wrong}
 use Rattle.c_procedures.specs.Meaning.{Sums, Calls, begins}

@@ -11,8 +11,8 @@ use Rattle.checked_chart.specs.Chart.{Chart, Trans, list_of, life_of}
 use Rattle.code_language.specs.Code.{Procedures, instructions}
 use Rattle.code_language.specs.Instrs.{Cond}
 use Rattle.code_language.specs.Instrs as instrs
-use Rattle.code_simulation.specs.Reach.{HasAt}
-use Rattle.code_simulation.proofs.Places.{has_whole}
+use Rattle.code_language.specs.Reach.{HasAt}
+use Rattle.code_language.proofs.Places.{has_whole}
 use Rattle.chart_procedures.specs.Compiled.{GuardBy, PartBy, BlockAt, PartsAt, EachAt}
 use Rattle.chart_procedures.specs.ListProcedures.{Search}
 use Rattle.chart_procedures.specs.Numbers.{Numbers, TransNumbers, condition_of, first_of_parts, other_parts}

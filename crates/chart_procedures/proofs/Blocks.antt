@@ -20,9 +20,9 @@ use Rattle.code_language.specs.Instrs.{Instr}
 use Rattle.code_language.specs.Code.{Procedures, fetch}
 use Rattle.code_language.specs.Machine.{Program, Frame, CodeState, machine, fresh, next, sent}
 use Rattle.code_language.specs.Instrs as instrs
-use Rattle.code_simulation.specs.Reach.{Aim, MeetsAim, returns, Any, HasAt}
-use Rattle.code_simulation.proofs.Joins.{here, on_to, meets_end, then_meets, then_meets_with, choose_meets}
-use Rattle.code_simulation.proofs.Steps.{go_skip, go_ret, go_assign, go_emit, go_send, go_send_to}
+use Rattle.code_language.specs.Reach.{Aim, MeetsAim, returns, Any, HasAt}
+use Rattle.code_language.proofs.Joins.{here, on_to, meets_end, then_meets, then_meets_with, choose_meets}
+use Rattle.code_language.proofs.Steps.{go_skip, go_ret, go_assign, go_emit, go_send, go_send_to}
 use Rattle.chart_procedures.specs.Numbers.{Numbers}
 use Rattle.chart_procedures.specs.StateProcedures.{require, life_test, state_of_life, block_code}
 use Rattle.chart_procedures.specs.Kinds.{running, Targets, Tells, DoesBlock, DoesSend, AllDo, program}

@@ -26,11 +26,11 @@ use Rattle.sos_rules.proofs.Keeps.{Keeps, Consistent}
 use Rattle.code_language.specs.Code.{Procedures, fetch}
 use Rattle.code_language.specs.Machine.{Program, Frame, machine, fresh, next, past}
 use Rattle.code_language.specs.Instrs as instrs
-use Rattle.code_simulation.specs.Reach.{Reaches, MeetsAim, returns, Any, HasAt}
-use Rattle.code_simulation.proofs.Joins.{on_to, meets_on, meets_more, then_meets_with, choose_meets}
-use Rattle.code_simulation.proofs.Steps.{go_call, go_home, go_mark, go_keep, go_skip, go_ret}
-use Rattle.code_simulation.proofs.Tests.{yes_on, no_on, yes_bare, no_bare, yes_on_home, no_on_home, yes_bare_home}
-use Rattle.code_simulation.proofs.Tests.{no_bare_home}
+use Rattle.code_language.specs.Reach.{Reaches, MeetsAim, returns, Any, HasAt}
+use Rattle.code_language.proofs.Joins.{on_to, meets_on, meets_more, then_meets_with, choose_meets}
+use Rattle.code_language.proofs.Steps.{go_call, go_home, go_mark, go_keep, go_skip, go_ret}
+use Rattle.code_language.proofs.Tests.{yes_on, no_on, yes_bare, no_bare, yes_on_home, no_on_home, yes_bare_home}
+use Rattle.code_language.proofs.Tests.{no_bare_home}
 use Rattle.chart_procedures.specs.Numbers.{Numbers}
 use Rattle.chart_procedures.specs.StateProcedures.{toward_code, enters_code, takes_test, parent_test, inside_code}
 use Rattle.chart_procedures.specs.StateProcedures.{keep_code, active_entry_code, entry_code}

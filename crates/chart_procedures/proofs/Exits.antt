@@ -21,10 +21,10 @@ use Rattle.sos_rules.proofs.MarkedStates.{all_reverse}
 use Rattle.sos_rules.proofs.Keeps.{Keeps, Consistent, exit_children_finishes, consistent_closed}
 use Rattle.code_language.specs.Code.{Procedures}
 use Rattle.code_language.specs.Machine.{Program, Frame, machine, fresh}
-use Rattle.code_simulation.specs.Reach.{Reaches, MeetsAim, returns, Any, HasAt}
-use Rattle.code_simulation.proofs.Joins.{on_to, meets_on, meets_more, then_meets, then_meets_with, choose_meets}
-use Rattle.code_simulation.proofs.Steps.{go_call, go_home, go_clear, go_skip, go_ret}
-use Rattle.code_simulation.proofs.Tests.{yes_on, no_on, yes_on_home, no_on_home, yes_bare_home, no_bare_home}
+use Rattle.code_language.specs.Reach.{Reaches, MeetsAim, returns, Any, HasAt}
+use Rattle.code_language.proofs.Joins.{on_to, meets_on, meets_more, then_meets, then_meets_with, choose_meets}
+use Rattle.code_language.proofs.Steps.{go_call, go_home, go_clear, go_skip, go_ret}
+use Rattle.code_language.proofs.Tests.{yes_on, no_on, yes_on_home, no_on_home, yes_bare_home, no_bare_home}
 use Rattle.chart_procedures.specs.Numbers.{Numbers}
 use Rattle.chart_procedures.specs.StateProcedures.{active_code, each_code, leave_code}
 use Rattle.chart_procedures.specs.Kinds.{running, Tells, DoesExit, DoesExitEach, AllDo, program}

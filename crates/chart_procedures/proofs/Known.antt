@@ -5,7 +5,7 @@ use Rattle.checked_chart.specs.declared.parts.ListKind.{ListKind}
 use Rattle.checked_chart.specs.Chart.{life_of}
 use Rattle.code_language.specs.Code.{Procedures}
 use Rattle.code_language.specs.Instrs as instrs
-use Rattle.code_simulation.specs.Reach.{HasAt}
+use Rattle.code_language.specs.Reach.{HasAt}
 use Rattle.chart_procedures.specs.Kinds.{HasBlock, IsDestination}
 use Rattle.chart_procedures.specs.Numbers.{Numbers}
 use Rattle.chart_procedures.specs.StateProcedures.{guard_code, life_test}

@@ -17,10 +17,10 @@ use Rattle.sos_rules.specs.Parts.{Found, Fire, DeadEnd, No, Stop, Parts}
 use Rattle.sos_rules.specs.Rules.{upto}
 use Rattle.code_language.specs.Code.{Procedures}
 use Rattle.code_language.specs.Machine.{Program, Frame, machine, fresh}
-use Rattle.code_simulation.specs.Reach.{Reaches, Arrives, MeetsAim, HasAt, with_note, pending}
-use Rattle.code_simulation.proofs.Joins.{here, on_to, meets_on, meets_end, meets_fall, meets_more}
-use Rattle.code_simulation.proofs.Steps.{go_begin, go_ret}
-use Rattle.code_simulation.proofs.Tests.{yes_test, no_test, fall_test}
+use Rattle.code_language.specs.Reach.{Reaches, Arrives, MeetsAim, HasAt, with_note, pending}
+use Rattle.code_language.proofs.Joins.{here, on_to, meets_on, meets_end, meets_fall, meets_more}
+use Rattle.code_language.proofs.Steps.{go_begin, go_ret}
+use Rattle.code_language.proofs.Tests.{yes_test, no_test, fall_test}
 use Rattle.chart_procedures.specs.Numbers.{Numbers, TransNumbers, ListNumbers}
 use Rattle.chart_procedures.specs.StateProcedures.{guard_code}
 use Rattle.chart_procedures.specs.Kinds.{AreNotes, EndFacts, end_at, finds, DoesBlock, program}

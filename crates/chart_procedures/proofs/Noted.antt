@@ -7,8 +7,8 @@ use Rattle.checked_chart.specs.Chart.{life_of}
 use Rattle.checked_chart.specs.declared.parts.ListKind.{ListKind}
 use Rattle.checked_chart.specs.declared.parts.ListKind.TheVariants.{Outer, Inner, Default}
 use Rattle.code_language.specs.Machine.{Frame}
-use Rattle.code_simulation.specs.Reach.{with_note, pending}
-use Rattle.code_simulation.proofs.Notes.{pending_at, pending_past}
+use Rattle.code_language.specs.Reach.{with_note, pending}
+use Rattle.code_language.proofs.Notes.{pending_at, pending_past}
 use Rattle.chart_procedures.specs.StateProcedures.{state_of_life}
 use Rattle.chart_procedures.specs.Kinds.{NotesBy}
 use Rattle.chart_procedures.specs.Compiled.{PartBy}

@@ -7,9 +7,9 @@ use Rattle.sos_rules.proofs.Keeps.{Finishes, ended, faulted, unfinished}
 use Rattle.code_language.specs.Code.{fetch}
 use Rattle.code_language.specs.Machine.{Program, Frame, CodeState, machine, next, past}
 use Rattle.code_language.specs.Instrs as instrs
-use Rattle.code_simulation.specs.Reach.{Reaches, Arrives, MeetsAim, returns, Any}
-use Rattle.code_simulation.proofs.Joins.{meets_end, Leaves, Leaving}
-use Rattle.code_simulation.proofs.Tests.{yes_on_home, no_on_home, yes_bare_home, no_bare_home}
+use Rattle.code_language.specs.Reach.{Reaches, Arrives, MeetsAim, returns, Any}
+use Rattle.code_language.proofs.Joins.{meets_end, Leaves, Leaving}
+use Rattle.code_language.proofs.Tests.{yes_on_home, no_on_home, yes_bare_home, no_bare_home}
 use Rattle.chart_procedures.specs.StateProcedures.{life_test, state_of_life}
 
 module _ {C : Program} {w : World} {now : Now} {r : ℕ} {f : Frame} {fs : List Frame} {k : ℕ} where

@@ -20,10 +20,10 @@ use Rattle.sos_rules.proofs.Keeps.{Keeps, Consistent}
 use Rattle.code_language.specs.Code.{Procedures, fetch}
 use Rattle.code_language.specs.Machine.{Program, Frame, machine, later, noted}
 use Rattle.code_language.specs.Instrs as instrs
-use Rattle.code_simulation.specs.Reach.{MeetsAim, pending}
-use Rattle.code_simulation.proofs.Notes.{IsHead, noted_head}
-use Rattle.code_simulation.proofs.Joins.{meets_end, then_meets_with}
-use Rattle.code_simulation.proofs.Steps.{go_play_none, go_play_lame, go_play}
+use Rattle.code_language.specs.Reach.{MeetsAim, pending}
+use Rattle.code_language.proofs.Notes.{IsHead, noted_head}
+use Rattle.code_language.proofs.Joins.{meets_end, then_meets_with}
+use Rattle.code_language.proofs.Steps.{go_play_none, go_play_lame, go_play}
 use Rattle.chart_procedures.specs.Numbers.{Numbers}
 use Rattle.chart_procedures.specs.Kinds.{aimed, Tells, AreNotes, HasBlock, behind, DoesPlay, AllDo, program}
 use Rattle.chart_procedures.specs.Compiled.{Compiled}

@@ -24,10 +24,10 @@ use Rattle.sos_rules.specs.Rules.{rules}
 use Rattle.sos_rules.proofs.Keeps.{Keeps, Consistent}
 use Rattle.code_language.specs.Code.{Procedures}
 use Rattle.code_language.specs.Machine.{Program, Frame, machine, fresh}
-use Rattle.code_simulation.specs.Reach.{Reaches, Aim, MeetsAim, leaves, HasAt}
-use Rattle.code_simulation.proofs.Joins.{on_to, meets_on, meets_end, then_meets, then_meets_with, choose_meets}
-use Rattle.code_simulation.proofs.Steps.{go_call, go_home, go_skip, go_ret, go_pass, go_pass_zero}
-use Rattle.code_simulation.proofs.Tests.{yes_on, no_on, yes_on_home, no_on_home, yes_result, no_result}
+use Rattle.code_language.specs.Reach.{Reaches, Aim, MeetsAim, leaves, HasAt}
+use Rattle.code_language.proofs.Joins.{on_to, meets_on, meets_end, then_meets, then_meets_with, choose_meets}
+use Rattle.code_language.proofs.Steps.{go_call, go_home, go_skip, go_ret, go_pass, go_pass_zero}
+use Rattle.code_language.proofs.Tests.{yes_on, no_on, yes_on_home, no_on_home, yes_result, no_result}
 use Rattle.chart_procedures.specs.Numbers.{Numbers}
 use Rattle.chart_procedures.specs.StateProcedures.{went_result, active_child_code, regions_code, children_code}
 use Rattle.chart_procedures.specs.Kinds.{running, Tells, FoundFacts, found_at, DoesProcess, DoesProcessEach, AllDo}

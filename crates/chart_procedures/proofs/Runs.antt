@@ -23,8 +23,8 @@ use Rattle.code_language.specs.Code.{Code, Procedures}
 use Rattle.code_language.specs.Machine.{Program, CodeState, machine, fresh}
 use Rattle.code_language.specs.Reactions.{Leads, first_frame, CodeRun}
 use Rattle.code_language.specs.Reactions as code
-use Rattle.code_simulation.specs.Reach.{MeetsAim, returns, Any}
-use Rattle.code_simulation.proofs.Endings.{reached_leads, falls_leads, one_end}
+use Rattle.code_language.specs.Reach.{MeetsAim, returns, Any}
+use Rattle.code_language.proofs.Endings.{reached_leads, falls_leads, one_end}
 use Rattle.chart_procedures.specs.Compiled.{Compiled, ListsCompiled}
 use Rattle.chart_procedures.specs.Kinds.{program, AllDo}
 use Rattle.chart_procedures.specs.Numbers.{Numbers, ListNumbers}

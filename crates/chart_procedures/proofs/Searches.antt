@@ -20,12 +20,12 @@ use Rattle.code_language.specs.Instrs.{Instr}
 use Rattle.code_language.specs.Code.{Procedures, fetch}
 use Rattle.code_language.specs.Machine.{Program, Frame, CodeState, machine, fresh}
 use Rattle.code_language.specs.Instrs as instrs
-use Rattle.code_simulation.specs.Reach.{Reaches, Aim, Arrives, MeetsAim, HasAt, with_note, HasResult}
-use Rattle.code_simulation.proofs.Places.{has_front, has_back}
-use Rattle.code_simulation.proofs.Joins.{here, on_to, meets_on, meets_end, meets_unfinished, meets_more, then_meets}
-use Rattle.code_simulation.proofs.Joins.{then_meets_with, choose_meets}
-use Rattle.code_simulation.proofs.Steps.{go_skip, go_call, go_ret, go_pass, go_pass_zero, go_visit}
-use Rattle.code_simulation.proofs.Tests.{yes_result, no_result, yes_current, no_current}
+use Rattle.code_language.specs.Reach.{Reaches, Aim, Arrives, MeetsAim, HasAt, with_note, HasResult}
+use Rattle.code_language.proofs.Places.{has_front, has_back}
+use Rattle.code_language.proofs.Joins.{here, on_to, meets_on, meets_end, meets_unfinished, meets_more, then_meets}
+use Rattle.code_language.proofs.Joins.{then_meets_with, choose_meets}
+use Rattle.code_language.proofs.Steps.{go_skip, go_call, go_ret, go_pass, go_pass_zero, go_visit}
+use Rattle.code_language.proofs.Tests.{yes_result, no_result, yes_current, no_current}
 use Rattle.chart_procedures.specs.Numbers.{TransNumbers, condition_of, first_of_parts, other_parts}
 use Rattle.chart_procedures.specs.StateProcedures.{require, life_test}
 use Rattle.chart_procedures.specs.Kinds.{running, Tells, program}

@@ -27,10 +27,10 @@ use Rattle.sos_rules.proofs.MarkedStates.{may_return_are}
 use Rattle.sos_rules.proofs.Keeps.{Keeps, Consistent, consistent_closed, exit_active_finishes}
 use Rattle.code_language.specs.Code.{Procedures}
 use Rattle.code_language.specs.Machine.{Program, Frame, machine, fresh, later}
-use Rattle.code_simulation.specs.Reach.{Reaches, MeetsAim, returns, Any, pending, with_note, HasAt}
-use Rattle.code_simulation.proofs.Joins.{on_to, meets_on, meets_more, then_meets_with, choose_meets}
-use Rattle.code_simulation.proofs.Steps.{go_call, go_home, go_skip, go_ret, go_play_lame}
-use Rattle.code_simulation.proofs.Tests.{yes_last, no_last, yes_bare_home, no_bare_home}
+use Rattle.code_language.specs.Reach.{Reaches, MeetsAim, returns, Any, pending, with_note, HasAt}
+use Rattle.code_language.proofs.Joins.{on_to, meets_on, meets_more, then_meets_with, choose_meets}
+use Rattle.code_language.proofs.Steps.{go_call, go_home, go_skip, go_ret, go_play_lame}
+use Rattle.code_language.proofs.Tests.{yes_last, no_last, yes_bare_home, no_bare_home}
 use Rattle.chart_procedures.specs.Numbers.{Numbers}
 use Rattle.chart_procedures.specs.StateProcedures.{search_code, return_code}
 use Rattle.chart_procedures.specs.Kinds.{running, aimed, IsPath, Tells, AreNotes, FoundFacts, found_at, DoesDefaults}

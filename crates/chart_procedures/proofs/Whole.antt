@@ -8,7 +8,7 @@ use Rattle.sos_rules.specs.Rules.{upto}
 use Rattle.sos_rules.proofs.Keeps.{Consistent, consistent_closed, upto_keep}
 use Rattle.code_language.specs.Code.{Procedures}
 use Rattle.code_language.specs.Machine.{Program}
-use Rattle.code_simulation.proofs.Joins.{meets_unfinished}
+use Rattle.code_language.proofs.Joins.{meets_unfinished}
 use Rattle.chart_procedures.specs.Numbers.{Numbers}
 use Rattle.chart_procedures.specs.Kinds.{DoesBlock, DoesSearch, AllDo, program}
 use Rattle.chart_procedures.specs.Compiled.{Compiled}

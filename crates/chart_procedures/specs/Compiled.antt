@@ -8,7 +8,7 @@ use Rattle.checked_chart.specs.Reached.{links_of, Reached}
 use Rattle.code_language.specs.Code.{Procedures}
 use Rattle.code_language.specs.Instrs.{Cond}
 use Rattle.code_language.specs.Instrs as instrs
-use Rattle.code_simulation.specs.Reach.{HasAt}
+use Rattle.code_language.specs.Reach.{HasAt}
 use Rattle.chart_procedures.specs.Kinds.{IsPath}
 use Rattle.chart_procedures.specs.ListProcedures.{Search, search_of, list_code, junction_code}
 use Rattle.chart_procedures.specs.Numbers.{Numbers, TransNumbers, ListNumbers, condition_of, first_of_parts}

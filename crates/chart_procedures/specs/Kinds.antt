@@ -18,7 +18,7 @@ use Rattle.code_language.specs.Code.{Procedures, fetch}
 use Rattle.code_language.specs.Instrs.{Cond}
 use Rattle.code_language.specs.Machine.{Program, Frame, CodeState, machine, fresh, next, later}
 use Rattle.code_language.specs.Instrs as instrs
-use Rattle.code_simulation.specs.Reach.{Reaches, Aim, MeetsAim, leaves, returns, Any, HasAt, pending}
+use Rattle.code_language.specs.Reach.{Reaches, Aim, MeetsAim, leaves, returns, Any, HasAt, pending}
 use Rattle.chart_procedures.specs.ListProcedures.{context_of, fired_result}
 use Rattle.chart_procedures.specs.Numbers.{Numbers}
 use Rattle.chart_procedures.specs.StateProcedures.{went_result, life_test, state_of_life, block_code, each_code}

@@ -8,7 +8,7 @@ use Rattle.actions.specs.Work.{Now}
 use Rattle.checked_chart.specs.Chart.{Trans, life_of}
 use Rattle.sos_rules.specs.Parts.{Found, Fire, DeadEnd, No, Stop, Parts}
 use Rattle.code_language.specs.Machine.{Program, Frame, CodeState, machine, fresh}
-use Rattle.code_simulation.specs.Reach.{Reaches, Aim, MeetsAim, with_note}
+use Rattle.code_language.specs.Reach.{Reaches, Aim, MeetsAim, with_note}
 use Rattle.chart_procedures.specs.Kinds.{running, NotesBy}
 use Rattle.chart_procedures.specs.ListProcedures.{Search}
 use Rattle.chart_procedures.specs.SearchParts.{Meaning}

@@ -17,7 +17,7 @@ use Rattle.sos_rules.specs.Rules.{upto}
 use Rattle.code_language.specs.Code.{Procedures}
 use Rattle.code_language.specs.Instrs as instrs
 use Rattle.code_language.specs.Machine.{Program, Frame, machine, fresh}
-use Rattle.code_simulation.specs.Reach.{MeetsAim, returns, HasAt}
+use Rattle.code_language.specs.Reach.{MeetsAim, returns, HasAt}
 use Rattle.chart_procedures.specs.Compiled.{GuardBy, PartBy}
 use Rattle.chart_procedures.specs.Kinds.{Tells, program}
 use Rattle.chart_procedures.specs.ListProcedures.{Search, list_code, junction_code}

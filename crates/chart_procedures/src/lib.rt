@@ -20,4 +20,4 @@ pub use laws::{
 pub use sos_rules as rules;
 
 /// The code, and how its runs are compared with the rules.
-pub use code_simulation as steps;
+pub use code_language as steps;

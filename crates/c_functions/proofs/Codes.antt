@@ -39,16 +39,16 @@ use Rattle.c_subset.specs.Trees.{File}
 use Rattle.c_subset.specs.declared.trees.Width.{Width}
 use Rattle.c_subset.specs.Meaning.{bits, Store}
 use Rattle.c_subset.specs.Running.{Outcome, call}
-use Rattle.c_procedures.specs.Statements.{CMemory, Out, Fell, Left, Failed, Starved, Wrong}
-use Rattle.c_procedures.specs.Statements as plan
-use Rattle.c_procedures.specs.Meaning.{call_fn}
-use Rattle.c_procedures.specs.Runs.{Stands}
-use Rattle.c_procedures.specs.Runs as runs
-use Rattle.c_procedures.specs.Written.{AreWritten}
-use Rattle.c_procedures.proofs.Agreeing.{own_agrees}
-use Rattle.c_procedures.proofs.Ending.{called_outside}
-use Rattle.c_procedures.proofs.Lasting.{ends_as_code}
-use Rattle.c_procedures.proofs.Starting.{suc_numbers}
+use Rattle.c_functions.specs.Statements.{CMemory, Out, Fell, Left, Failed, Starved, Wrong}
+use Rattle.c_functions.specs.Statements as plan
+use Rattle.c_functions.specs.Meaning.{call_fn}
+use Rattle.c_functions.specs.Runs.{Stands}
+use Rattle.c_functions.specs.Runs as runs
+use Rattle.c_functions.specs.Written.{AreWritten}
+use Rattle.c_functions.proofs.Agreeing.{own_agrees}
+use Rattle.c_functions.proofs.Ending.{called_outside}
+use Rattle.c_functions.proofs.Lasting.{ends_as_code}
+use Rattle.c_functions.proofs.Starting.{suc_numbers}
 use Rattle.c_functions.specs.Plans.{Tests, event_number, bad}
 use Rattle.c_functions.specs.Failing.{AfterIsRight}
 use Rattle.c_functions.specs.Notes.{noted_in}

@@ -25,8 +25,8 @@ use Rattle.c_subset.specs.Running.{Outcome, Returns, Calls, with_value, and_on, 
 use Rattle.c_subset.specs.Running.{with_field}
 use Rattle.c_subset.specs.Running.{with_entry, with_element, with_values, with_arguments, called, outcome}
 use Rattle.c_subset.proofs.TypeLemmas.{truth-stays}
-use Rattle.c_expressions.specs.Claims.{Has}
-use Rattle.c_procedures.specs.Meaning.{front}
+use Rattle.c_functions.specs.Claims.{Has}
+use Rattle.c_functions.specs.Meaning.{front}
 use Rattle.c_functions.specs.Plans.{word, number}
 use Rattle.c_functions.specs.Files.{HasWord, HasRow}
 use Rattle.c_functions.proofs.Tests.{unsigned, own-stays, word_stays, compared-unsigned}

@@ -13,7 +13,7 @@ use Rattle.chart_code.specs.Bodies.{code_of_chart}
 use Rattle.c_subset.specs.declared.trees.Width.{Width}
 use Rattle.c_subset.specs.Trees.{File}
 use Rattle.c_subset.specs.Meaning.{bits, Store}
-use Rattle.c_procedures.specs.Statements.{Block}
+use Rattle.c_functions.specs.Statements.{Block}
 use Rattle.c_functions.specs.Files.{shape_of}
 use Rattle.c_functions.specs.Moments.{MayEndIn}
 use Rattle.c_functions.specs.Plans.{Shape, Tests}

@@ -6,7 +6,7 @@ ghost use Rattle.checked_chart.specs.Valid.{IsValid};
 ghost use Rattle.code_language.specs.Code.{Code};
 ghost use Rattle.code_shrink.specs.Shrunk.{IsShrunk};
 ghost use Rattle.chart_code.specs.Bodies.{code_of_chart};
-ghost use Rattle.c_procedures.specs.Writer.{plans_of};
+ghost use Rattle.c_functions.specs.Writer.{plans_of};
 ghost use Rattle.c_functions.specs.Failing.{AfterIsRight};
 ghost use Rattle.c_functions.specs.Plans.{Tests, all_tests};
 ghost use Rattle.c_runs.specs.Claims.{FitsChart, RunsAsRules, Serves};

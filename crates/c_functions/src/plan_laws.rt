@@ -1,4 +1,4 @@
-//! What holds of the fields of the C program.
+//! What holds of the plans of C functions, and of the fields of states.
 ghost use Rattle.std.specs.Prelude.{◌≡◌, ◌<◌, ℕ, suc, pred, List, [], length, true, false, Some};
 ghost use Rattle.std.specs.Prelude.{if◌then◌else◌};
 ghost use Rattle.active_config.specs.Tree.{Tree, state_count, parent_of, comp_of};

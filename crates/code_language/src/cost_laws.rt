@@ -1,4 +1,4 @@
-//! The laws of the counts.
+//! Laws of what a run of code costs, and of what is true at each of its moments.
 ghost use Rattle.std.specs.Prelude.{◌≡◌, ◌<◌, ◌≤◌, ◌∷◌, ℕ, List, length, true};
 ghost use Rattle.flow_base.specs.declared.bounds.Bounds.{Bounds};
 ghost use Rattle.actions.specs.declared.event.Event.{Event};

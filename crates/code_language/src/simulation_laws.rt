@@ -1,4 +1,4 @@
-//! What holds of all code.
+//! Laws of how a run of code is compared with a piece of work of a run by the rules.
 ghost use Rattle.std.specs.Prelude.{◌≡◌, ◌<◌, ◌≤◌, ℕ, suc, List, []};
 ghost use Rattle.std.specs.Prelude.{◌∷◌, length, Option, Some, None};
 ghost use Rattle.flow_base.specs.declared.fault.Fault.{Fault};

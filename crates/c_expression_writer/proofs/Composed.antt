@@ -16,10 +16,10 @@ use Rattle.c_subset.specs.Trees as c
 use Rattle.c_subset.specs.declared.trees.Line.{Line}
 use Rattle.c_subset.specs.declared.trees.Width.{Width}
 use Rattle.c_subset.specs.declared.trees.CType.TheVariants.{Signed, Truth}
-use Rattle.c_expressions.specs.Code.{CCode, Then, Set, Divide, FaultIf, If, written}
-use Rattle.c_expressions.specs.Translation.{Flat, is_nothing, operator_c, operator_flat}
-use Rattle.c_expressions.specs.Translation.{eager_flat, quotient_flat, lazy_flat}
-use Rattle.c_expressions.specs.Translation.{division_width, dividend_c, is_zero_c}
+use Rattle.c_functions.specs.Code.{CCode, Then, Set, Divide, FaultIf, If, written}
+use Rattle.c_functions.specs.Translation.{Flat, is_nothing, operator_c, operator_flat}
+use Rattle.c_functions.specs.Translation.{eager_flat, quotient_flat, lazy_flat}
+use Rattle.c_functions.specs.Translation.{division_width, dividend_c, is_zero_c}
 use Rattle.c_functions.specs.Plans.{Shape, helper, faulted}
 use Rattle.c_expression_writer.specs.declared.operand.Operand.{Operand}
 use Rattle.c_expression_writer.specs.Locals.{is_lazy, going_on}

@@ -17,8 +17,8 @@ use Rattle.c_subset.specs.Trees.{Const, Field}
 use Rattle.c_subset.specs.declared.trees.Line.{Line}
 use Rattle.c_subset.specs.declared.trees.Width.{Width}
 use Rattle.c_subset.specs.declared.trees.CType.TheVariants.{Signed, Truth}
-use Rattle.c_expressions.specs.Code.{CCode, Nothing, Then, written}
-use Rattle.c_expressions.specs.Translation.{Flat, flat, sort_in, width_for}
+use Rattle.c_functions.specs.Code.{CCode, Nothing, Then, written}
+use Rattle.c_functions.specs.Translation.{Flat, flat, sort_in, width_for}
 use Rattle.c_functions.specs.Layout.{on_c}
 use Rattle.c_functions.specs.Plans.{Shape, layout, helper, faulted}
 use Rattle.c_expression_writer.specs.declared.operand.Operand.{Operand}

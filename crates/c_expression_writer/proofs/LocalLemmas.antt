@@ -9,7 +9,7 @@ use Rattle.actions.specs.Exprs as exprs
 use Rattle.actions.specs.Exprs.{Expr}
 use Rattle.actions.specs.Sorts.{Scope, sort_of}
 use Rattle.c_subset.specs.Trees.{CExpr}
-use Rattle.c_expressions.specs.Translation.{Flat, flat, operator_flat, is_nothing, sort_in}
+use Rattle.c_functions.specs.Translation.{Flat, flat, operator_flat, is_nothing, sort_in}
 use Rattle.c_expression_writer.specs.Locals.{own_locals, locals_of}
 
 -- ---- an operator

@@ -6,7 +6,7 @@ use Rattle.std.proofs.lemmas.List.Sums.{sum_by_more}
 use Rattle.active_config.specs.Tree.{Tree, IsTree, state_count, comp_of}
 use Rattle.active_config.specs.declared.comp.Comp.{Comp}
 use Rattle.active_config.specs.declared.comp.Comp.TheVariants.{Leaf}
-use Rattle.c_procedures.specs.States.{is_or}
+use Rattle.c_functions.specs.States.{is_or}
 use Rattle.c_functions.specs.Layout.{or_count, or_rank}
 use Rattle.c_expression_writer.specs.Parts.{AreRanks}
 

@@ -7,7 +7,7 @@ use Rattle.actions.specs.Exprs as exprs
 use Rattle.actions.specs.Exprs.{Expr}
 use Rattle.actions.specs.Sorts.{Sorted, sort_of, scope_of, with_sort, binary_sort, negative_sort, not_sort}
 use Rattle.checked_chart.specs.Expressions.{operator_count}
-use Rattle.c_expressions.specs.Translation.{sort_in}
+use Rattle.c_functions.specs.Translation.{sort_in}
 use Rattle.c_functions.specs.Plans.{Shape}
 use Rattle.c_expression_writer.specs.Written.{sort_at}
 

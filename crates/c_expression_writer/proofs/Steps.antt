@@ -16,8 +16,8 @@ use Rattle.c_subset.specs.Lines as lines
 use Rattle.c_subset.specs.Trees.{Bang, Local}
 use Rattle.c_subset.specs.declared.trees.Line.{Line}
 use Rattle.c_subset.specs.declared.trees.CType.TheVariants.{Truth}
-use Rattle.c_expressions.specs.Code.{written}
-use Rattle.c_expressions.specs.Translation.{Flat, flat, operator_flat, negation_c, sort_in}
+use Rattle.c_functions.specs.Code.{written}
+use Rattle.c_functions.specs.Translation.{Flat, flat, operator_flat, negation_c, sort_in}
 use Rattle.c_functions.specs.Layout.{on_c}
 use Rattle.c_functions.specs.Plans.{Shape, layout}
 use Rattle.c_expression_writer.specs.declared.operand.Operand.{Operand}

@@ -26,11 +26,11 @@ use Rattle.c_subset.specs.declared.trees.Width.{Width}
 use Rattle.c_subset.specs.declared.trees.Width.TheVariants.{W64}
 use Rattle.c_subset.specs.declared.trees.CType.{CType}
 use Rattle.c_subset.specs.declared.trees.CType.TheVariants.{Signed, Unsigned}
-use Rattle.c_expressions.specs.Assigning.{assigned_block, stores_of}
-use Rattle.c_expressions.specs.Code.{Nothing, Set, Divide, FaultIf, written}
-use Rattle.c_expressions.specs.Storing.{Stores, stored_c, floored_code, floored_width, saturated_c, out_c, low_bits_c}
-use Rattle.c_expressions.specs.Storing.{rest_c, signed_c}
-use Rattle.c_expressions.specs.Translation.{Flat, brought}
+use Rattle.c_functions.specs.Assigning.{assigned_block, stores_of}
+use Rattle.c_functions.specs.Code.{Nothing, Set, Divide, FaultIf, written}
+use Rattle.c_functions.specs.Storing.{Stores, stored_c, floored_code, floored_width, saturated_c, out_c, low_bits_c}
+use Rattle.c_functions.specs.Storing.{rest_c, signed_c}
+use Rattle.c_functions.specs.Translation.{Flat, brought}
 use Rattle.c_functions.specs.Plans.{Shape, layout, helper, faulted, declared_at, first_free, expression_c, assign_c}
 use Rattle.c_functions.specs.Layout.{on_c}
 use Rattle.checked_chart.specs.Expressions.{operator_count}

@@ -5,8 +5,8 @@ use Rattle.actions.specs.Exprs.{Expr}
 use Rattle.actions.specs.Sorts.{scope_of, sort_of, IsNarrow}
 use Rattle.c_subset.specs.Lines.{Appends, expr_of}
 use Rattle.c_subset.specs.declared.trees.Line.{Line}
-use Rattle.c_expressions.specs.Code.{Nothing, written}
-use Rattle.c_expressions.specs.Translation.{Flat, flat, negation_c, sort_in, width_for}
+use Rattle.c_functions.specs.Code.{Nothing, written}
+use Rattle.c_functions.specs.Translation.{Flat, flat, negation_c, sort_in, width_for}
 use Rattle.c_subset.specs.Trees.{Bang}
 use Rattle.c_subset.specs.declared.trees.Width.{Width}
 use Rattle.c_subset.specs.declared.trees.Width.TheVariants.{W32}

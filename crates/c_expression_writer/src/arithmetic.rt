@@ -2,7 +2,7 @@
 ghost use Rattle.std.specs.Prelude.{◌≡◌, ◌≤◌, ◌<◌, ◌^◌, pos, IfOk};
 ghost use Rattle.c_subset.specs.Lines.{expr_of};
 ghost use Rattle.c_subset.specs.Trees as c;
-ghost use Rattle.c_expressions.specs.Translation as spec;
+ghost use Rattle.c_functions.specs.Translation as spec;
 
 use crate::precision::{Precisions, comparison_width, product_width, sum_width};
 use actions::Op;

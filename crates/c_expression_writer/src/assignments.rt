@@ -8,9 +8,9 @@ ghost use Rattle.checked_chart.specs.Expressions.{operator_count};
 ghost use Rattle.c_subset.specs.Lines as lines;
 ghost use Rattle.c_subset.specs.Lines.{Appends, expr_of, lines_in};
 ghost use Rattle.c_subset.specs.Trees as c;
-ghost use Rattle.c_expressions.specs.Assigning.{assigned_block, stores_of};
-ghost use Rattle.c_expressions.specs.Code as code;
-ghost use Rattle.c_expressions.specs.Storing as spec;
+ghost use Rattle.c_functions.specs.Assigning.{assigned_block, stores_of};
+ghost use Rattle.c_functions.specs.Code as code;
+ghost use Rattle.c_functions.specs.Storing as spec;
 ghost use Rattle.c_functions.specs.Plans as plans;
 ghost use Rattle.c_expression_writer.specs.FileShapes.{shape_seen};
 ghost use Rattle.c_expression_writer.specs.Written.{seen};
@@ -31,7 +31,7 @@ use flow_base::{Fault, List, Memory};
 use std::alloc::Global;
 
 /// Appends that a number is brought to a fraction, by floor, as a local.
-#[tactic(auto, using(std::proofs::Common::append_assoc), unfolding(c_subset::specs::Lines::lines_of, c_expressions::specs::Code::written))]
+#[tactic(auto, using(std::proofs::Common::append_assoc), unfolding(c_subset::specs::Lines::lines_of, c_functions::specs::Code::written))]
 fn put_floored(
     alloc: Global,
     shape: &FileShape<'_>,
@@ -56,7 +56,7 @@ fn put_floored(
 }
 
 /// Appends that a datum takes the nearest number in range.
-#[tactic(auto, using(std::proofs::Common::append_assoc), unfolding(c_subset::specs::Lines::lines_of, c_expressions::specs::Code::written))]
+#[tactic(auto, using(std::proofs::Common::append_assoc), unfolding(c_subset::specs::Lines::lines_of, c_functions::specs::Code::written))]
 fn store_saturated(
     alloc: Global,
     out: &mut List<Line>,
@@ -72,7 +72,7 @@ fn store_saturated(
 }
 
 /// Appends that a datum takes a number in range, and the fault where it isn't.
-#[tactic(auto, using(std::proofs::Common::append_assoc), unfolding(c_subset::specs::Lines::lines_of, c_expressions::specs::Code::written))]
+#[tactic(auto, using(std::proofs::Common::append_assoc), unfolding(c_subset::specs::Lines::lines_of, c_functions::specs::Code::written))]
 fn store_checked(
     alloc: Global,
     shape: &FileShape<'_>,
@@ -184,7 +184,7 @@ fn store_number(
 }
 
 /// Appends that a datum of that sort and mode takes an operand.
-#[tactic(auto, using(std::proofs::Common::append_assoc), unfolding(c_subset::specs::Lines::lines_of, c_expressions::specs::Code::written))]
+#[tactic(auto, using(std::proofs::Common::append_assoc), unfolding(c_subset::specs::Lines::lines_of, c_functions::specs::Code::written))]
 fn store_operand(
     alloc: Global,
     shape: &FileShape<'_>,

@@ -3,7 +3,7 @@ ghost use Rattle.std.specs.Prelude.{◌≡◌, IfOk, if◌then◌else◌};
 ghost use Rattle.fixed_point.specs.Scales as scales;
 ghost use Rattle.c_subset.specs.Lines.{expr_of};
 ghost use Rattle.c_subset.specs.Trees as c;
-ghost use Rattle.c_expressions.specs.Storing as spec;
+ghost use Rattle.c_functions.specs.Storing as spec;
 
 use crate::arithmetic::power_of_two;
 use c_subset::{CExpr, CType, Comparison, Width};

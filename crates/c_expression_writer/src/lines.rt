@@ -3,7 +3,7 @@ ghost use Rattle.std.specs.Prelude.{◌≡◌, ◌++◌, ◌∷◌, [], OnOk};
 ghost use Rattle.std.specs.Prelude.{Some};
 ghost use Rattle.flow_base.specs.Lists.{items_of};
 ghost use Rattle.c_subset.specs.Lines.{Appends, expr_of, line_of, lines_in, lines_of};
-ghost use Rattle.c_expressions.specs.Code.{FaultIf, written};
+ghost use Rattle.c_functions.specs.Code.{FaultIf, written};
 ghost use Rattle.c_functions.specs.Plans.{faulted, helper};
 ghost use Rattle.c_functions.specs.Plans as plans;
 ghost use Rattle.c_expression_writer.specs.FileShapes.{shape_seen};
@@ -72,7 +72,7 @@ pub fn write_fault(shape: &FileShape<'_>, out: &mut List<Line>, fault: Fault) ->
 }
 
 /// Appends a test, and what is done for a fault where it holds.
-#[tactic(auto, using(std::proofs::Common::append_assoc), unfolding(c_subset::specs::Lines::lines_of, c_expressions::specs::Code::written))]
+#[tactic(auto, using(std::proofs::Common::append_assoc), unfolding(c_subset::specs::Lines::lines_of, c_functions::specs::Code::written))]
 pub(crate) fn put_fault_if(
     shape: &FileShape<'_>,
     out: &mut List<Line>,

@@ -3,7 +3,7 @@ ghost use Rattle.std.specs.Prelude.{◌≡◌, IfOk};
 ghost use Rattle.actions.specs.Sorts.{IsNarrow};
 ghost use Rattle.c_subset.specs.Lines.{expr_of};
 ghost use Rattle.c_subset.specs.Trees as c;
-ghost use Rattle.c_expressions.specs.Translation as spec;
+ghost use Rattle.c_functions.specs.Translation as spec;
 
 use crate::arithmetic::{comparison, product, sum};
 use crate::precision::{Precisions, precision_of, width_for};

@@ -1,8 +1,8 @@
 //! The precision of numbers, and the width in which they are computed.
 ghost use Rattle.std.specs.Prelude.{◌≡◌, ◌+◌, ◌≤◌, MatchOption};
 ghost use Rattle.actions.specs.Sorts.{IsNarrow, size_at};
-ghost use Rattle.c_expressions.specs.Translation as spec;
-ghost use Rattle.c_expressions.specs.Storing.{floored_width};
+ghost use Rattle.c_functions.specs.Translation as spec;
+ghost use Rattle.c_functions.specs.Storing.{floored_width};
 
 use actions::ExprSort;
 use c_subset::Width;

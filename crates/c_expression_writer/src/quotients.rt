@@ -4,8 +4,8 @@ ghost use Rattle.flow_base.specs.Lists.{items_of};
 ghost use Rattle.actions.specs.Sorts.{IsNarrow, binary_sort};
 ghost use Rattle.c_subset.specs.Lines.{Appends, expr_of};
 ghost use Rattle.c_subset.specs.Trees as c;
-ghost use Rattle.c_expressions.specs.Code as code;
-ghost use Rattle.c_expressions.specs.Translation as spec;
+ghost use Rattle.c_functions.specs.Code as code;
+ghost use Rattle.c_functions.specs.Translation as spec;
 ghost use Rattle.c_functions.specs.Plans.{faulted};
 ghost use Rattle.c_functions.specs.Plans as plans;
 ghost use Rattle.c_expression_writer.specs.FileShapes.{shape_seen};
@@ -86,7 +86,7 @@ pub fn helper(shape: &FileShape<'_>, width: Width) -> u32
 }
 
 /// Appends a call of the function for quotients.
-#[tactic(auto, using(std::proofs::Common::append_assoc), unfolding(c_subset::specs::Lines::lines_of, c_expressions::specs::Code::written))]
+#[tactic(auto, using(std::proofs::Common::append_assoc), unfolding(c_subset::specs::Lines::lines_of, c_functions::specs::Code::written))]
 pub(crate) fn put_division(
     alloc: Global,
     shape: &FileShape<'_>,
@@ -110,7 +110,7 @@ pub(crate) fn put_division(
 }
 
 /// Appends that the divisor is set as a local, and the fault where it is 0.
-#[tactic(auto, using(std::proofs::Common::append_assoc), unfolding(c_subset::specs::Lines::lines_of, c_expressions::specs::Code::written))]
+#[tactic(auto, using(std::proofs::Common::append_assoc), unfolding(c_subset::specs::Lines::lines_of, c_functions::specs::Code::written))]
 fn put_divisor(
     alloc: Global,
     shape: &FileShape<'_>,

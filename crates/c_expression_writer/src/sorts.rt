@@ -1,7 +1,7 @@
 //! The sorts of operands.
 ghost use Rattle.std.specs.Prelude.{◌≡◌, IfOk};
 ghost use Rattle.actions.specs.Sorts.{IsNarrow};
-ghost use Rattle.c_expressions.specs.Translation as spec;
+ghost use Rattle.c_functions.specs.Translation as spec;
 
 use actions::{ExprFault, ExprSort};
 

@@ -12,7 +12,7 @@ impl FileShape<'_> {
     ghost use Rattle.active_config.specs.Tree.{state_count, parent_of, comp_of, children_of};
     ghost use Rattle.c_subset.specs.Trees as c;
     ghost use Rattle.c_subset.specs.Lines.{expr_of};
-    ghost use Rattle.c_procedures.specs.States as states;
+    ghost use Rattle.c_functions.specs.States as states;
     ghost use Rattle.c_functions.specs.Layout as spec;
     ghost use Rattle.c_functions.specs.Plans.{layout};
     ghost use Rattle.c_expression_writer.specs.FileShapes.{shape_seen};

@@ -2,7 +2,7 @@
 ghost use Rattle.std.specs.Prelude.{◌≡◌, ◌-◌, ◌≤◌, ◌^◌, pos, IfOk};
 ghost use Rattle.c_subset.specs.Lines.{expr_of};
 ghost use Rattle.c_subset.specs.Trees as c;
-ghost use Rattle.c_expressions.specs.Storing as spec;
+ghost use Rattle.c_functions.specs.Storing as spec;
 
 use crate::arithmetic::power_of_two;
 use c_subset::{Arithmetic, Bitwise, CExpr, CType, Comparison, Width};

@@ -9,7 +9,7 @@ use Rattle.actions.specs.Names.{Names}
 use Rattle.actions.specs.Runs.{EventWithInputs, Moment}
 use Rattle.checked_chart.specs.Chart.{Chart}
 use Rattle.code_language.specs.Code.{Code}
-use Rattle.chart_layout.specs.Bodies.{code_of_chart}
+use Rattle.chart_code.specs.Bodies.{code_of_chart}
 use Rattle.code_language.specs.Reactions.{CodeRun}
 use Rattle.code_language.specs.WellFormed.{IsCode}
 use Rattle.code_copies.specs.SameRuns.{HasSameRuns}

@@ -9,8 +9,8 @@ use Rattle.c_subset.specs.Trees.{Function, File, End}
 use Rattle.c_subset.specs.Lines.{IsFunction}
 use Rattle.c_subset.specs.declared.trees.Function as declared
 use Rattle.c_subset.specs.declared.trees.CType.TheVariants.{Truth}
-use Rattle.c_procedures.specs.Statements as plan
-use Rattle.c_procedures.specs.Writer.{plans_of}
+use Rattle.c_functions.specs.Statements as plan
+use Rattle.c_functions.specs.Writer.{plans_of}
 use Rattle.c_functions.specs.Plans.{Shape, Tests}
 use Rattle.c_functions.specs.Files.{shape_of, functions_c, procedure_c}
 use Rattle.c_functions.specs.Starts.{file_of}

@@ -10,7 +10,7 @@ use Rattle.code_passes.specs.declared.tag.Tag.{Tag}
 use Rattle.c_subset.specs.Lines.{lines_of}
 use Rattle.c_subset.specs.Trees.{Function}
 use Rattle.c_subset.specs.declared.trees.CType.{CType}
-use Rattle.c_procedures.specs.Writer.{plans_of}
+use Rattle.c_functions.specs.Writer.{plans_of}
 use Rattle.c_functions.specs.Files.{shape_of}
 use Rattle.c_functions.specs.Plans.{Tests}
 use Rattle.c_functions.specs.Starts.{file_of}

@@ -7,7 +7,7 @@ use Rattle.actions.specs.Names.{Names}
 use Rattle.checked_chart.specs.Chart.{Chart}
 use Rattle.code_language.specs.Code.{Code, Procedures}
 use Rattle.code_language.specs.Instrs.{Instr}
-use Rattle.chart_layout.specs.Bodies.{code_of_chart}
+use Rattle.chart_code.specs.Bodies.{code_of_chart}
 use Rattle.code_shrink.specs.Smaller.{straight, smaller}
 use Rattle.code_shrink.specs.Whole.{collected, number_in, smaller_procedures, AreReached, AllReached, IsExact}
 use Rattle.code_shrink.specs.Origins.{kept_from}

@@ -13,8 +13,8 @@ use Rattle.code_language.specs.Reactions.{Starts, Reacts, CodeRun}
 use Rattle.code_counts.specs.Needed as needed
 use Rattle.code_counts.specs.Needed.{IsLimit}
 use Rattle.code_counts.specs.declared.numbers.Limits.{Limits}
-use Rattle.chart_layout.specs.Bodies.{code_of_chart}
-use Rattle.chart_layout.proofs.Whole.{code_runs}
+use Rattle.chart_code.specs.Bodies.{code_of_chart}
+use Rattle.chart_code.proofs.Whole.{code_runs}
 use Rattle.c_functions.specs.Moments.{MayEnd, MayEndIn}
 use Rattle.c_functions.specs.Plans.{Tests}
 use Rattle.c_runs.specs.Claims.{Serves}

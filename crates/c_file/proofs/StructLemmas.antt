@@ -6,7 +6,7 @@ use Rattle.actions.specs.Names.{Names}
 use Rattle.actions.specs.declared.names.Var.{Var}
 use Rattle.code_language.specs.Code.{Code}
 use Rattle.c_subset.specs.Meaning.{CValue, Store}
-use Rattle.c_expressions.specs.Claims.{field_type}
+use Rattle.c_functions.specs.Claims.{field_type}
 use Rattle.c_functions.specs.Files.{HasRow, shape_of}
 use Rattle.c_functions.specs.Plans.{Tests, note_row, out_row}
 use Rattle.c_functions.specs.Starts.{HasShape, first_values, state_values, zero_word}

@@ -4,7 +4,7 @@ use Rattle.std.specs.List.{All}
 use Rattle.flow_base.specs.declared.bounds.Bounds.{Bounds}
 use Rattle.checked_chart.specs.Chart.{Chart}
 use Rattle.code_language.specs.Code.{Code, code_of}
-use Rattle.chart_layout.specs.Bodies.{code_of_chart}
+use Rattle.chart_code.specs.Bodies.{code_of_chart}
 use Rattle.code_shrink.specs.Shrunk.{IsShrunk}
 use Rattle.code_shrink.specs.Origins.{HadNumbers}
 use Rattle.code_passes.specs.Passed.{IsFaster}

@@ -3,7 +3,7 @@ use Rattle.std.specs.Prelude.{ℕ, length}
 use Rattle.flow_base.specs.declared.bounds.Bounds.{Bounds}
 use Rattle.code_language.specs.Code.{Code}
 use Rattle.c_subset.specs.Trees.{File}
-use Rattle.c_procedures.specs.Writer.{plans_of}
+use Rattle.c_functions.specs.Writer.{plans_of}
 use Rattle.c_functions.specs.Plans.{Tests}
 use Rattle.c_functions.specs.Starts.{file_of}
 use Rattle.c_loops.specs.Loops.{with_loops}

@@ -35,28 +35,28 @@ use Rattle.actions.proofs.SizeLemmas.{CanTake-assignable}
 use Rattle.code_language.specs.Instrs.{Assign, Unless, Test}
 use Rattle.code_language.specs.WellFormed.{Known, is_plain, is_flag, is_assigned, is_fine, takes, instr_typed}
 use Rattle.code_language.specs.WellFormed.{cond_typed}
-use Rattle.code_costs.proofs.AssignLemmas.{IsTyped, got_within}
-use Rattle.code_costs.proofs.FaultLemmas.{Gives, Any, value_gives}
-use Rattle.code_costs.proofs.Sound.{both_true}
+use Rattle.code_language.proofs.AssignLemmas.{IsTyped, got_within}
+use Rattle.code_language.proofs.ExprFaults.{Gives, Any, value_gives}
+use Rattle.code_language.proofs.Sound.{both_true}
 use Rattle.c_subset.specs.Trees.{CExpr, Block, If}
 use Rattle.c_subset.specs.declared.trees.Width.{Width}
 use Rattle.c_subset.specs.declared.trees.Width.TheVariants.{W32}
 use Rattle.c_subset.specs.Meaning.{one_if, Store, Locals}
 use Rattle.c_subset.specs.Running.{Outcome, Calls, with_field, outcome}
-use Rattle.c_expressions.specs.Assigning.{stores_of, assigned_block, assigned_by, EndsAssigned}
-use Rattle.c_expressions.specs.Claims.{Has, ShowsActive, EndsAs}
-use Rattle.c_expressions.specs.Code.{written, Returning}
-use Rattle.c_expressions.specs.Translation.{flat, sort_in}
-use Rattle.c_expressions.proofs.Assigning.{assigns-data}
-use Rattle.c_expressions.proofs.Correct.{ends_as_value, value_has_sort}
-use Rattle.c_expressions.proofs.Running.{agree-itself, agree-less}
-use Rattle.c_expressions.proofs.Writing.{written-goes, written-faults}
-use Rattle.c_procedures.specs.States.{States, c_on}
-use Rattle.c_procedures.specs.Statements.{CMemory, Locals as Inner, Out}
-use Rattle.c_procedures.specs.Statements as plan
-use Rattle.c_procedures.specs.Meaning as p
-use Rattle.c_procedures.specs.Meaning.{exec}
-use Rattle.c_procedures.specs.Runs.{told, world_of, with_vals}
+use Rattle.c_functions.specs.Assigning.{stores_of, assigned_block, assigned_by, EndsAssigned}
+use Rattle.c_functions.specs.Claims.{Has, ShowsActive, EndsAs}
+use Rattle.c_functions.specs.Code.{written, Returning}
+use Rattle.c_functions.specs.Translation.{flat, sort_in}
+use Rattle.c_functions.proofs.Assigning.{assigns-data}
+use Rattle.c_functions.proofs.Correct.{ends_as_value, value_has_sort}
+use Rattle.c_functions.proofs.Running.{agree-itself, agree-less}
+use Rattle.c_functions.proofs.WrittenCode.{written-goes, written-faults}
+use Rattle.c_functions.specs.States.{States, c_on}
+use Rattle.c_functions.specs.Statements.{CMemory, Locals as Inner, Out}
+use Rattle.c_functions.specs.Statements as plan
+use Rattle.c_functions.specs.Meaning as p
+use Rattle.c_functions.specs.Meaning.{exec}
+use Rattle.c_functions.specs.Runs.{told, world_of, with_vals}
 use Rattle.c_functions.specs.Layout.{on_c}
 use Rattle.c_functions.specs.Plans.{Shape, layout, helper, faulted, fault_datum, fault_field, fault_datum_field}
 use Rattle.c_functions.specs.Plans.{first_free, declared_at, expression_c, assign_c, bad}

@@ -19,15 +19,15 @@ use Rattle.c_subset.specs.Meaning.{element, Object, Store, Locals, meaning}
 use Rattle.c_subset.specs.Running.{Outcome, Falls, Calls, with_value, and_on, with_local, with_values, called}
 use Rattle.c_subset.specs.Running.{turns, outcome}
 use Rattle.c_subset.proofs.TypeLemmas.{truth-stays}
-use Rattle.c_expressions.specs.Claims.{Has}
-use Rattle.c_expressions.proofs.Quotients.{local-has}
-use Rattle.c_expressions.proofs.Running.{agree-set, set-there}
-use Rattle.c_procedures.specs.States.{c_on, c_bare}
-use Rattle.c_procedures.specs.Statements.{CMemory, Locals as Inner, Out, Fell, Left, Failed, Starved, Wrong}
-use Rattle.c_procedures.specs.Statements as plan
-use Rattle.c_procedures.specs.Meaning as p
-use Rattle.c_procedures.specs.Meaning.{exec}
-use Rattle.c_procedures.specs.Written.{noted_call}
+use Rattle.c_functions.specs.Claims.{Has}
+use Rattle.c_functions.proofs.Quotients.{local-has}
+use Rattle.c_functions.proofs.Running.{agree-set, set-there}
+use Rattle.c_functions.specs.States.{c_on, c_bare}
+use Rattle.c_functions.specs.Statements.{CMemory, Locals as Inner, Out, Fell, Left, Failed, Starved, Wrong}
+use Rattle.c_functions.specs.Statements as plan
+use Rattle.c_functions.specs.Meaning as p
+use Rattle.c_functions.specs.Meaning.{exec}
+use Rattle.c_functions.specs.Written.{noted_call}
 use Rattle.c_functions.specs.Plans.{Shape, noted_field, on_function, bare_function, noted_function, event_number, word}
 use Rattle.c_functions.specs.Plans.{number}
 use Rattle.c_functions.specs.Plans.{event_local, depth_local, base_local, home_local, result_local, cursor_local}

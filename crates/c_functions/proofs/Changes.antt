@@ -19,7 +19,7 @@ use Rattle.c_subset.specs.Trees.{Store as PutField}
 use Rattle.c_subset.specs.Meaning.{bits, CValue, Meaning, with_meaning, gives, converted, combined, combined_in}
 use Rattle.c_subset.specs.Meaning.{bits_of, Object, read, Store, Locals, meaning}
 use Rattle.c_subset.specs.Running.{Calls, with_value, object_of, brought_to, with_field, outcome}
-use Rattle.c_procedures.specs.States.{States, is_or, or_parent, choose_child, set_flag}
+use Rattle.c_functions.specs.States.{States, is_or, or_parent, choose_child, set_flag}
 use Rattle.c_functions.specs.Layout.{Layout, HasBit, IsLayout, HoldsStates, put_number, put_bit, Changes}
 use Rattle.c_functions.proofs.Tests.{unsigned, own-stays, word_stays, bit-small}
 

@@ -12,17 +12,17 @@ use Rattle.c_subset.specs.declared.trees.Width.{Width}
 use Rattle.c_subset.specs.declared.trees.Comparison.TheVariants.{IsEqual}
 use Rattle.c_subset.specs.Meaning.{one_if, Store, Locals}
 use Rattle.c_subset.specs.Running.{Calls}
-use Rattle.c_expressions.specs.Claims.{Has}
-use Rattle.c_expressions.proofs.Operators.{bang-has}
-use Rattle.c_expressions.proofs.Storing.{flag-const}
-use Rattle.c_procedures.specs.States.{is_or, or_parent}
-use Rattle.c_procedures.specs.Statements.{CMemory, Locals as Inner, Check}
-use Rattle.c_procedures.specs.Statements as plan
-use Rattle.c_procedures.specs.Meaning as p
-use Rattle.c_procedures.specs.Meaning.{check}
-use Rattle.c_procedures.specs.Written.{and_no_flag, on_under, on_check, and_childless, bare_check, last_under}
-use Rattle.c_procedures.specs.Written.{takes_if, takes_check}
-use Rattle.c_procedures.proofs.Checks.{on_test, bare_test}
+use Rattle.c_functions.specs.Claims.{Has}
+use Rattle.c_functions.proofs.Operators.{bang-has}
+use Rattle.c_functions.proofs.Storing.{flag-const}
+use Rattle.c_functions.specs.States.{is_or, or_parent}
+use Rattle.c_functions.specs.Statements.{CMemory, Locals as Inner, Check}
+use Rattle.c_functions.specs.Statements as plan
+use Rattle.c_functions.specs.Meaning as p
+use Rattle.c_functions.specs.Meaning.{check}
+use Rattle.c_functions.specs.Written.{and_no_flag, on_under, on_check, and_childless, bare_check, last_under}
+use Rattle.c_functions.specs.Written.{takes_if, takes_check}
+use Rattle.c_functions.proofs.Checks.{on_test, bare_test}
 use Rattle.c_functions.specs.Layout.{on_c, on_by_c, bare_c, and_no_bits, and_childless_c}
 use Rattle.c_functions.specs.Plans.{Shape, layout, check_c, event_number, event_local, result_local, number}
 use Rattle.c_functions.specs.Plans.{bad}

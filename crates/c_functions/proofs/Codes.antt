@@ -31,24 +31,24 @@ use Rattle.code_language.specs.Sound.{AreSound}
 use Rattle.code_language.specs.WellFormed.{IsCode, Known, known_of, first_of, unless, first_over, later_fault}
 use Rattle.code_language.specs.WellFormed.{starts_known}
 use Rattle.code_language.specs.WellFormed.{procs_fault, instr_known, instr_typed, instr_keeps}
-use Rattle.code_costs.specs.Ahead.{IsOver}
-use Rattle.code_costs.specs.Moments.{HasStateNames, IsEvent, IsWorld, IsMoment}
-use Rattle.code_costs.proofs.Numbers.{are_heights}
-use Rattle.code_costs.proofs.Sound.{code_parts, proc_there, proc_at}
+use Rattle.code_language.specs.Ahead.{IsOver}
+use Rattle.code_language.specs.Moments.{HasStateNames, IsEvent, IsWorld, IsMoment}
+use Rattle.code_language.proofs.Numbers.{are_heights}
+use Rattle.code_language.proofs.Sound.{code_parts, proc_there, proc_at}
 use Rattle.c_subset.specs.Trees.{File}
 use Rattle.c_subset.specs.declared.trees.Width.{Width}
 use Rattle.c_subset.specs.Meaning.{bits, Store}
 use Rattle.c_subset.specs.Running.{Outcome, call}
-use Rattle.c_procedures.specs.Statements.{CMemory, Out, Fell, Left, Failed, Starved, Wrong}
-use Rattle.c_procedures.specs.Statements as plan
-use Rattle.c_procedures.specs.Meaning.{call_fn}
-use Rattle.c_procedures.specs.Runs.{Stands}
-use Rattle.c_procedures.specs.Runs as runs
-use Rattle.c_procedures.specs.Written.{AreWritten}
-use Rattle.c_procedures.proofs.Agreeing.{own_agrees}
-use Rattle.c_procedures.proofs.Ending.{called_outside}
-use Rattle.c_procedures.proofs.Lasting.{ends_as_code}
-use Rattle.c_procedures.proofs.Starting.{suc_numbers}
+use Rattle.c_functions.specs.Statements.{CMemory, Out, Fell, Left, Failed, Starved, Wrong}
+use Rattle.c_functions.specs.Statements as plan
+use Rattle.c_functions.specs.Meaning.{call_fn}
+use Rattle.c_functions.specs.Runs.{Stands}
+use Rattle.c_functions.specs.Runs as runs
+use Rattle.c_functions.specs.Written.{AreWritten}
+use Rattle.c_functions.proofs.Agreeing.{own_agrees}
+use Rattle.c_functions.proofs.Ending.{called_outside}
+use Rattle.c_functions.proofs.Lasting.{ends_as_code}
+use Rattle.c_functions.proofs.Starting.{suc_numbers}
 use Rattle.c_functions.specs.Plans.{Tests, event_number, bad}
 use Rattle.c_functions.specs.Failing.{AfterIsRight}
 use Rattle.c_functions.specs.Notes.{noted_in}

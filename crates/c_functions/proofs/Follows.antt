@@ -17,14 +17,14 @@ use Rattle.c_subset.specs.declared.trees.Comparison.TheVariants.{IsAtLeast}
 use Rattle.c_subset.specs.Meaning.{bits, one_if, Store, Locals, meaning}
 use Rattle.c_subset.specs.Running.{Outcome, Falls, Returns, Calls, and_on, with_field, with_element}
 use Rattle.c_subset.specs.Running.{outcome}
-use Rattle.c_expressions.specs.Claims.{Has}
-use Rattle.c_expressions.specs.Code.{Returning}
-use Rattle.c_procedures.specs.States.{States, is_or, or_parent, choose_child, set_flag}
-use Rattle.c_procedures.specs.Statements.{CMemory, Locals as Inner, Out, Fell, Left, Failed, Starved, Wrong}
-use Rattle.c_procedures.specs.Statements as plan
-use Rattle.c_procedures.specs.Meaning as p
-use Rattle.c_procedures.specs.Meaning.{CProgram, exec, with_states}
-use Rattle.c_procedures.specs.Runs.{own_sums}
+use Rattle.c_functions.specs.Claims.{Has}
+use Rattle.c_functions.specs.Code.{Returning}
+use Rattle.c_functions.specs.States.{States, is_or, or_parent, choose_child, set_flag}
+use Rattle.c_functions.specs.Statements.{CMemory, Locals as Inner, Out, Fell, Left, Failed, Starved, Wrong}
+use Rattle.c_functions.specs.Statements as plan
+use Rattle.c_functions.specs.Meaning as p
+use Rattle.c_functions.specs.Meaning.{CProgram, exec, with_states}
+use Rattle.c_functions.specs.Runs.{own_sums}
 use Rattle.c_functions.specs.Layout.{IsLayout}
 use Rattle.c_functions.specs.Moments.{MayEnd}
 use Rattle.c_functions.specs.Plans.{Shape, Tests, layout, used_field, outs_field, noted_field, fault_field}

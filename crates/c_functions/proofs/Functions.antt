@@ -19,13 +19,13 @@ use Rattle.c_subset.specs.Running.{Outcome, Falls, Returns, Calls, with_value, a
 use Rattle.c_subset.specs.Running.{returned, run, outcome, call}
 use Rattle.c_subset.specs.Helpers.{floor_function}
 use Rattle.c_subset.proofs.TypeLemmas.{truth-stays}
-use Rattle.c_expressions.specs.Claims.{Has}
-use Rattle.c_expressions.proofs.Writing.{file-divides}
-use Rattle.c_procedures.specs.Statements.{CMemory, Locals as Inner, Out, Fell, Left, Failed, Starved, Wrong}
-use Rattle.c_procedures.specs.Statements as plan
-use Rattle.c_procedures.specs.Meaning as p
-use Rattle.c_procedures.specs.Meaning.{begins, call_fn, exec}
-use Rattle.c_procedures.specs.Written.{Written}
+use Rattle.c_functions.specs.Claims.{Has}
+use Rattle.c_functions.proofs.WrittenCode.{file-divides}
+use Rattle.c_functions.specs.Statements.{CMemory, Locals as Inner, Out, Fell, Left, Failed, Starved, Wrong}
+use Rattle.c_functions.specs.Statements as plan
+use Rattle.c_functions.specs.Meaning as p
+use Rattle.c_functions.specs.Meaning.{begins, call_fn, exec}
+use Rattle.c_functions.specs.Written.{Written}
 use Rattle.c_functions.specs.Layout.{on_c, bare_c}
 use Rattle.c_functions.specs.Plans.{Shape, layout, on_function, bare_function, noted_function, helper, event_number}
 use Rattle.c_functions.specs.Plans.{bad, word, number, plays, plan_c}

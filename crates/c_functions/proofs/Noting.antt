@@ -7,7 +7,7 @@ use Rattle.std.specs.Prelude.{filter}
 use Rattle.code_language.specs.Instrs.{Instr}
 use Rattle.code_language.specs.Instrs as i
 use Rattle.code_language.specs.WellFormed.{Known, is_proc, note_known, instr_known}
-use Rattle.code_costs.proofs.Sound.{both_true, proc_there}
+use Rattle.code_language.proofs.Sound.{both_true, proc_there}
 use Rattle.c_functions.specs.Notes.{is_note, has_note, is_noted, noted_in}
 
 -- a number is one of a list

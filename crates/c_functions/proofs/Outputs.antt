@@ -8,12 +8,12 @@ use Rattle.actions.specs.Data.{Datum}
 use Rattle.actions.specs.World.{World}
 use Rattle.actions.specs.Changes.{assigned_in}
 use Rattle.actions.specs.Work.{Now, deeper}
-use Rattle.c_procedures.specs.States.{c_bare, choose_child, set_flag}
-use Rattle.c_procedures.specs.Statements.{CMemory, Locals as Inner, Out, Fell, Left, Failed, Starved, Wrong}
-use Rattle.c_procedures.specs.Statements as plan
-use Rattle.c_procedures.specs.Meaning as p
-use Rattle.c_procedures.specs.Meaning.{begins, call_fn, exec, truth_c, with_states}
-use Rattle.c_procedures.specs.Runs.{with_vals, world_of}
+use Rattle.c_functions.specs.States.{c_bare, choose_child, set_flag}
+use Rattle.c_functions.specs.Statements.{CMemory, Locals as Inner, Out, Fell, Left, Failed, Starved, Wrong}
+use Rattle.c_functions.specs.Statements as plan
+use Rattle.c_functions.specs.Meaning as p
+use Rattle.c_functions.specs.Meaning.{begins, call_fn, exec, truth_c, with_states}
+use Rattle.c_functions.specs.Runs.{with_vals, world_of}
 use Rattle.c_functions.specs.Plans.{Shape}
 use Rattle.c_functions.proofs.Words.{length-push}
 use Rattle.c_functions.proofs.Follows.{Keeps, StatementsKeep, CallsKeep, program_c}

@@ -7,7 +7,7 @@ use Rattle.std.specs.List.{count_by}
 use Rattle.active_config.specs.declared.comp.Comp.{Comp}
 use Rattle.active_config.specs.declared.comp.Comp.TheVariants.{Leaf}
 use Rattle.active_config.specs.Tree.{Tree, state_count, comp_of}
-use Rattle.c_procedures.specs.States.{is_or}
+use Rattle.c_functions.specs.States.{is_or}
 use Rattle.c_functions.specs.Layout.{IsLayout, or_count, or_rank, layout_after}
 
 -- ---- how many ORs there are

@@ -13,8 +13,8 @@ use Rattle.c_subset.specs.declared.trees.CType.{CType}
 use Rattle.c_subset.specs.Meaning.{bits, CValue, Meaning, gives, converted, promoted, Store, Locals, meaning}
 use Rattle.c_subset.specs.Running.{Outcome, Returns, Calls, with_value, with_local, no_locals, with_values, called}
 use Rattle.c_subset.specs.Running.{selected, returned, run, outcome, call}
-use Rattle.c_procedures.specs.Statements.{CMemory, Out, Fell, Left, Failed, Starved, Wrong}
-use Rattle.c_procedures.specs.Meaning as p
+use Rattle.c_functions.specs.Statements.{CMemory, Out, Fell, Left, Failed, Starved, Wrong}
+use Rattle.c_functions.specs.Meaning as p
 use Rattle.c_functions.specs.Plans.{Shape, noted_function, event_number, bad, word}
 use Rattle.c_functions.specs.Plans.{event_local, depth_local, base_local, home_local, result_local, cases_of}
 use Rattle.c_functions.specs.Files.{noted_c}

@@ -11,22 +11,22 @@ use Rattle.code_language.specs.Instrs as i
 use Rattle.code_language.specs.WellFormed.{Known, is_state, is_event, is_proc, note_known, instr_known}
 use Rattle.code_language.specs.WellFormed.{cond_known, instr_typed, instr_keeps}
 use Rattle.code_language.specs.WellFormed.{cond_keeps}
-use Rattle.code_costs.proofs.Sound.{both_true}
+use Rattle.code_language.proofs.Sound.{both_true}
 use Rattle.c_subset.specs.Trees.{Block}
 use Rattle.c_subset.specs.declared.trees.Width.{Width}
 use Rattle.c_subset.specs.Meaning.{one_if, Store, Locals}
 use Rattle.c_subset.specs.Running.{Outcome, Calls, outcome}
-use Rattle.c_expressions.specs.Claims.{Has}
-use Rattle.c_procedures.specs.States.{is_or, or_parent}
-use Rattle.c_procedures.specs.Statements.{CMemory, Locals as Inner, Check, Out}
-use Rattle.c_procedures.specs.Statements as plan
-use Rattle.c_procedures.specs.Meaning as p
-use Rattle.c_procedures.specs.Meaning.{check, exec}
-use Rattle.c_procedures.specs.Written.{Written, Stops, Steps, Returns as WrittenReturns, Skips, Forks, IsStraight}
-use Rattle.c_procedures.specs.Written.{IsOrChild, straight, test_of}
-use Rattle.c_procedures.specs.Written.{takes_check, bare_check, on_check, set_block, unset_block, keep_block}
-use Rattle.c_procedures.specs.Written.{noted_call, last_under}
-use Rattle.c_procedures.proofs.Showing.{or_parent_is}
+use Rattle.c_functions.specs.Claims.{Has}
+use Rattle.c_functions.specs.States.{is_or, or_parent}
+use Rattle.c_functions.specs.Statements.{CMemory, Locals as Inner, Check, Out}
+use Rattle.c_functions.specs.Statements as plan
+use Rattle.c_functions.specs.Meaning as p
+use Rattle.c_functions.specs.Meaning.{check, exec}
+use Rattle.c_functions.specs.Written.{Written, Stops, Steps, Returns as WrittenReturns, Skips, Forks, IsStraight}
+use Rattle.c_functions.specs.Written.{IsOrChild, straight, test_of}
+use Rattle.c_functions.specs.Written.{takes_check, bare_check, on_check, set_block, unset_block, keep_block}
+use Rattle.c_functions.specs.Written.{noted_call, last_under}
+use Rattle.c_functions.proofs.Showing.{or_parent_is}
 use Rattle.c_functions.specs.Notes.{has_note}
 use Rattle.c_functions.specs.Failing.{can_fail}
 use Rattle.c_functions.specs.Plans.{Shape, event_number, bad, number, check_c, plays, plan_c, result_local}

@@ -14,13 +14,13 @@ use Rattle.c_subset.specs.declared.trees.CType.TheVariants.{Truth}
 use Rattle.c_subset.specs.Meaning.{CValue, one_if, Store, Locals}
 use Rattle.c_subset.specs.Running.{Outcome, Falls, Returns, Calls, and_on, with_local, called, outcome}
 use Rattle.c_subset.proofs.TypeLemmas.{truth-stays}
-use Rattle.c_expressions.specs.Claims.{Has, AgreeBelow}
-use Rattle.c_expressions.specs.Code.{Divides}
-use Rattle.c_procedures.specs.States.{States, c_on, c_bare}
-use Rattle.c_procedures.specs.Statements.{CMemory, Locals as Inner, Check, Out, Fell, Left, Failed, Starved, Wrong}
-use Rattle.c_procedures.specs.Statements as plan
-use Rattle.c_procedures.specs.Meaning as p
-use Rattle.c_procedures.specs.Meaning.{check, exec}
+use Rattle.c_functions.specs.Claims.{Has, AgreeBelow}
+use Rattle.c_functions.specs.Code.{Divides}
+use Rattle.c_functions.specs.States.{States, c_on, c_bare}
+use Rattle.c_functions.specs.Statements.{CMemory, Locals as Inner, Check, Out, Fell, Left, Failed, Starved, Wrong}
+use Rattle.c_functions.specs.Statements as plan
+use Rattle.c_functions.specs.Meaning as p
+use Rattle.c_functions.specs.Meaning.{check, exec}
 use Rattle.c_functions.specs.Layout.{HoldsStates}
 use Rattle.c_functions.specs.Moments.{MayEnd}
 use Rattle.c_functions.specs.Plans.{Shape, Tests, layout, noted_field, on_function, bare_function, helper}

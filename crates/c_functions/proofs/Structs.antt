@@ -7,10 +7,10 @@ use Rattle.actions.specs.Data.{Datum}
 use Rattle.c_subset.specs.declared.trees.Width.TheVariants.{W32}
 use Rattle.c_subset.specs.Meaning.{CValue, Object, Store}
 use Rattle.c_subset.specs.Running.{object_of, with_field, with_element}
-use Rattle.c_expressions.specs.Claims.{ShowsData}
-use Rattle.c_procedures.specs.States.{States}
-use Rattle.c_procedures.specs.Statements.{CMemory}
-use Rattle.c_procedures.specs.Meaning.{front}
+use Rattle.c_functions.specs.Claims.{ShowsData}
+use Rattle.c_functions.specs.States.{States}
+use Rattle.c_functions.specs.Statements.{CMemory}
+use Rattle.c_functions.specs.Meaning.{front}
 use Rattle.c_functions.specs.Layout.{HoldsStates}
 use Rattle.c_functions.specs.Plans.{Shape, layout, used_field, outs_field, noted_field, fault_field, fault_datum_field}
 use Rattle.c_functions.specs.Plans.{fault_number, fault_datum, out_row, note_row}

@@ -23,11 +23,11 @@ use Rattle.c_subset.specs.declared.trees.Comparison.TheVariants.{IsUnequal}
 use Rattle.c_subset.specs.Meaning.{bits, fits_signed, CValue, Meaning, Wrong, with_meaning, gives, converted, common_of}
 use Rattle.c_subset.specs.Meaning.{common, combined, combined_in, compared, passes, truth, one_if, Object, read, Store}
 use Rattle.c_subset.specs.Meaning.{Locals, meaning}
-use Rattle.c_expressions.specs.Claims.{Has, ShowsActive}
-use Rattle.c_expressions.proofs.Operators.{bang-has}
-use Rattle.c_expressions.proofs.Deciding.{both-decides}
-use Rattle.c_procedures.specs.States.{States, Shows, is_or, or_parent, on_by, c_on, c_bare, childless_by, last_by}
-use Rattle.c_procedures.proofs.Showing.{on_is, or_parent_is}
+use Rattle.c_functions.specs.Claims.{Has, ShowsActive}
+use Rattle.c_functions.proofs.Operators.{bang-has}
+use Rattle.c_functions.proofs.Deciding.{both-decides}
+use Rattle.c_functions.specs.States.{States, Shows, is_or, or_parent, on_by, c_on, c_bare, childless_by, last_by}
+use Rattle.c_functions.proofs.Showing.{on_is, or_parent_is}
 use Rattle.c_functions.specs.Layout.{Layout, HasBit, IsLayout, HoldsStates, number_test, bit_test, on_by_c}
 use Rattle.c_functions.specs.Layout.{and_no_bits, and_childless_c, bare_c, on_c, last_c}
 

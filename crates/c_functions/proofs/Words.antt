@@ -7,7 +7,7 @@ use Rattle.std.proofs.Common.{refl, sym, ap, ◌∙◌, arith, inl, inr, ⊎_eli
 use Rattle.std.proofs.lemmas.Int.{ints}
 use Rattle.std.proofs.lemmas.Bool.Decides.{nat_tests}
 use Rattle.active_config.proofs.TableLemmas.{same_or_other}
-use Rattle.code_costs.proofs.AssignLemmas.{got_within}
+use Rattle.code_language.proofs.AssignLemmas.{got_within}
 use Rattle.c_subset.specs.Trees.{CExpr}
 use Rattle.c_subset.specs.declared.trees.Width.{Width}
 use Rattle.c_subset.specs.declared.trees.Width.TheVariants.{W32}
@@ -25,8 +25,8 @@ use Rattle.c_subset.specs.Running.{Outcome, Returns, Calls, with_value, and_on, 
 use Rattle.c_subset.specs.Running.{with_field}
 use Rattle.c_subset.specs.Running.{with_entry, with_element, with_values, with_arguments, called, outcome}
 use Rattle.c_subset.proofs.TypeLemmas.{truth-stays}
-use Rattle.c_expressions.specs.Claims.{Has}
-use Rattle.c_procedures.specs.Meaning.{front}
+use Rattle.c_functions.specs.Claims.{Has}
+use Rattle.c_functions.specs.Meaning.{front}
 use Rattle.c_functions.specs.Plans.{word, number}
 use Rattle.c_functions.specs.Files.{HasWord, HasRow}
 use Rattle.c_functions.proofs.Tests.{unsigned, own-stays, word_stays, compared-unsigned}

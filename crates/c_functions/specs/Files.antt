@@ -15,9 +15,9 @@ use Rattle.c_subset.specs.Trees.{Function}
 use Rattle.c_subset.specs.Trees as c
 use Rattle.c_subset.specs.Meaning.{Object, Store}
 use Rattle.c_subset.specs.Helpers.{floor_function}
-use Rattle.c_expressions.specs.Claims.{ShowsData}
-use Rattle.c_procedures.specs.Statements.{CMemory}
-use Rattle.c_procedures.specs.Statements as plan
+use Rattle.c_functions.specs.Claims.{ShowsData}
+use Rattle.c_functions.specs.Statements.{CMemory}
+use Rattle.c_functions.specs.Statements as plan
 use Rattle.c_functions.specs.Layout.{HoldsStates, on_c, bare_c}
 use Rattle.c_functions.specs.Notes.{noted_in}
 use Rattle.c_functions.specs.Plans.{Shape, Tests, layout, word, number, plays, plan_c, used_field, outs_field}

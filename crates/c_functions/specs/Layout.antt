@@ -14,7 +14,7 @@ use Rattle.c_subset.specs.Trees.{Field, Bang, Bits, Compare, Both}
 use Rattle.c_subset.specs.Trees.{Block, Store as PutField}
 use Rattle.c_subset.specs.Meaning.{bits, CValue, Object, Store, Locals}
 use Rattle.c_subset.specs.Running.{Calls, with_field, outcome}
-use Rattle.c_procedures.specs.States.{States, is_or, or_parent}
+use Rattle.c_functions.specs.States.{States, is_or, or_parent}
 
 -- the width of the numbers of children; for each OR the fields of its active child's number and of that which it
 -- remembers; for each other state the word of 32 bits that has its bit, and which bit

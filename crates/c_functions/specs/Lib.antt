@@ -1,3 +1,14 @@
+pub mod Code
+pub mod Translation
+pub mod Claims
+pub mod Storing
+pub mod Assigning
+pub mod States
+pub mod Statements
+pub mod Meaning
+pub mod Written
+pub mod Runs
+pub mod Writer
 pub mod Layout
 pub mod Plans
 pub mod Failing

@@ -13,8 +13,8 @@ use Rattle.c_subset.specs.Trees.{Function, File}
 use Rattle.c_subset.specs.declared.trees.Width.{Width}
 use Rattle.c_subset.specs.Meaning.{CValue, Store}
 use Rattle.c_subset.specs.Running.{Returns, call}
-use Rattle.c_procedures.specs.Statements.{CMemory}
-use Rattle.c_procedures.specs.Runs.{Stands}
+use Rattle.c_functions.specs.Statements.{CMemory}
+use Rattle.c_functions.specs.Runs.{Stands}
 use Rattle.c_functions.specs.Plans.{Shape, Tests, event_number, word, bad}
 use Rattle.c_functions.specs.Files.{Represents, shape_of}
 

@@ -23,11 +23,11 @@ use Rattle.c_subset.specs.declared.trees.Comparison.TheVariants.{IsAtLeast}
 use Rattle.c_subset.specs.Trees.{CExpr, Const, Field, Element, Local, Bang, Calc, Compare, Both, Block}
 use Rattle.c_subset.specs.declared.trees.Case.{Case}
 use Rattle.c_subset.specs.Trees as c
-use Rattle.c_expressions.specs.Assigning.{stores_of, assigned_block}
-use Rattle.c_expressions.specs.Code.{written}
-use Rattle.c_expressions.specs.Translation.{Flat, flat, sort_in}
-use Rattle.c_procedures.specs.Statements.{Check, Test}
-use Rattle.c_procedures.specs.Statements as plan
+use Rattle.c_functions.specs.Assigning.{stores_of, assigned_block}
+use Rattle.c_functions.specs.Code.{written}
+use Rattle.c_functions.specs.Translation.{Flat, flat, sort_in}
+use Rattle.c_functions.specs.Statements.{Check, Test}
+use Rattle.c_functions.specs.Statements as plan
 use Rattle.c_functions.specs.Layout.{Layout, layout_after, number_test, bit_test, on_c, put_number, put_bit}
 
 -- Which faults are tested: whether the steps and the depth are, which isn't needed where no event overruns the bound;

@@ -21,8 +21,8 @@ use Rattle.c_subset.specs.Trees.{Function, File}
 use Rattle.c_subset.specs.Trees as c
 use Rattle.c_subset.specs.Meaning.{CValue, Object, Store, one_if}
 use Rattle.c_subset.specs.Running.{Returns, call, with_field}
-use Rattle.c_expressions.specs.Claims.{field_type}
-use Rattle.c_procedures.specs.Statements as plan
+use Rattle.c_functions.specs.Claims.{field_type}
+use Rattle.c_functions.specs.Statements as plan
 use Rattle.c_functions.specs.Layout.{or_count}
 use Rattle.c_functions.specs.Plans.{Shape, Tests, word, number, bad, result_local, event_number, declared_at}
 use Rattle.c_functions.specs.Plans.{used_field, outs_field}

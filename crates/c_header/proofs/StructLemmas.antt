@@ -12,11 +12,11 @@ use Rattle.chart_lexer.specs.Words.{is_name}
 use Rattle.code_fields.specs.Spelling.{var_kind_word}
 use Rattle.chart_parts.specs.Plain.{IsPlain}
 use Rattle.chart_parts.proofs.PlainLemmas.{tested, plain_append}
-use Rattle.c_procedures.specs.States.{is_or}
+use Rattle.c_functions.specs.States.{is_or}
 use Rattle.c_subset.specs.declared.trees.CType.{CType}
 use Rattle.c_subset.specs.declared.trees.CType.TheVariants.{Unsigned}
 use Rattle.c_subset.specs.declared.trees.Width.TheVariants.{W16, W32}
-use Rattle.c_expressions.specs.Claims.{field_type}
+use Rattle.c_functions.specs.Claims.{field_type}
 use Rattle.c_functions.specs.Layout.{or_count, or_rank}
 use Rattle.c_functions.specs.Plans.{Shape}
 use Rattle.c_text.specs.Labels.{Labels, labels_for, field_types, field_labels, field_label, type_of_field, row_labels}

@@ -9,7 +9,7 @@ use Rattle.actions.specs.declared.names.Sort.{Sort}
 use Rattle.actions.specs.declared.names.Sort.TheVariants as sorts
 use Rattle.actions.specs.declared.names.Var.{Var}
 use Rattle.code_fields.specs.Spelling.{sort_word, var_kind_word}
-use Rattle.c_procedures.specs.States.{is_or}
+use Rattle.c_functions.specs.States.{is_or}
 use Rattle.c_functions.specs.Plans.{Shape, layout}
 use Rattle.c_text.specs.Labels.{Labels, field_label, type_of_field}
 use Rattle.c_text.specs.Types.{type_text}

@@ -1,2 +1,7 @@
+pub mod TextLeaf
+pub mod TextAnswers
+pub mod Agreement
+pub mod Worked
+pub mod NeedLemmas
 pub mod UsageLemmas
 pub mod OthersLemmas

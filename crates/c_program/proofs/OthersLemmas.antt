@@ -1,7 +1,7 @@
 -- Where no file was read, all files keep what they have left.
 use Rattle.std.proofs.Common.{◌≡◌, ℕ, List, [], Option, Some, None, ap}
 use Rattle.commands.specs.Call.{Sources, Call, OthersStay}
-use Rattle.c_words.specs.Commands.{Command, Header, Source, files_named}
+use Rattle.c_program.specs.Commands.{Command, Header, Source, files_named}
 use Rattle.c_program.specs.Answer.{OthersKeep}
 
 -- files of any names

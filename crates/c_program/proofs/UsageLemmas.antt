@@ -7,7 +7,7 @@ use Rattle.commands.specs.declared.text.TextEnd.{TextEnd}
 use Rattle.commands.specs.declared.text.TextEnd.TheVariants as texts
 use Rattle.commands.specs.declared.refusal.Refusal.{Refusal}
 use Rattle.commands.specs.Call.{Call}
-use Rattle.c_words.specs.Commands.{Command, Header, Source}
+use Rattle.c_program.specs.Commands.{Command, Header, Source}
 use Rattle.c_program.specs.declared.ending.Ending.{Ending}
 use Rattle.c_program.specs.declared.ending.Ending.TheVariants as endings
 use Rattle.c_program.specs.Ending.{of_chart_file, of_text, status_of}

@@ -4,10 +4,10 @@ use Rattle.std.specs.Io.KnownBytes.{append_known}
 use Rattle.flow_base.specs.Causes.{Stands}
 use Rattle.flow_base.specs.declared.status.Status.{Status}
 use Rattle.commands.specs.Call.{Output, Call, OthersStay}
-use Rattle.program_answers.specs.Endings.{EndsAs, EndsAtOnce}
-use Rattle.program_answers.specs.Lines.{LineStands}
-use Rattle.c_words.specs.Commands.{Command, Header, Source, files_named}
-use Rattle.c_command.specs.Texts.{HeaderEnds, SourceEnds}
+use Rattle.commands.specs.Endings.{EndsAs, EndsAtOnce}
+use Rattle.commands.specs.ErrorLines.{LineStands}
+use Rattle.c_program.specs.Commands.{Command, Header, Source, files_named}
+use Rattle.c_program.specs.Texts.{HeaderEnds, SourceEnds}
 use Rattle.c_program.specs.declared.ending.Ending.{Ending}
 use Rattle.c_program.specs.declared.ending.Ending.TheVariants as endings
 use Rattle.c_program.specs.Ending.{of_text, status_of, line_of}

@@ -7,7 +7,7 @@ use Rattle.commands.specs.declared.file.FileEnd.TheVariants as files
 use Rattle.commands.specs.declared.text.TextEnd.{TextEnd}
 use Rattle.commands.specs.declared.text.TextEnd.TheVariants as texts
 use Rattle.commands.specs.declared.refusal.Refusal.{Refusal}
-use Rattle.program_answers.specs.Lines.{refusal_line}
+use Rattle.commands.specs.ErrorLines.{refusal_line}
 use Rattle.c_program.specs.declared.ending.Ending.{Ending}
 use Rattle.c_program.specs.declared.ending.Ending.TheVariants as endings
 

@@ -1,2 +1,9 @@
+pub mod Commands
+pub mod Words
+pub mod Seen
+pub mod Parser
+pub mod Asked
+pub mod Bounds
+pub mod Texts
 pub mod Ending
 pub mod Answer

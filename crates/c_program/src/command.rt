@@ -1,14 +1,15 @@
 //! The program.
 ghost use Rattle.std.specs.Prelude.{◌≡◌, ◌⊎◌, Some, None, option_map};
-ghost use Rattle.c_words.specs.Seen.{command_seen};
-ghost use Rattle.c_words.specs.Words.{command_of};
 ghost use Rattle.commands.specs.Call.{output_of, call_of};
+ghost use Rattle.c_program.specs.Seen.{command_seen};
+ghost use Rattle.c_program.specs.Words.{command_of};
 ghost use Rattle.c_program.specs.Answer.{Ends, CallEnds, OthersKeep, CAnswer};
 
 use crate::ending::Ending;
+use crate::header::write_header;
 use crate::report::report;
-use c_command::{write_header, write_source};
-use c_words::{CCommand, command_from};
+use crate::source::write_source;
+use crate::words::{CCommand, command_from};
 use flow_base::{Inputs, Memory, Sink, Status};
 use std::alloc::Global;
 

@@ -6,8 +6,8 @@ ghost use Rattle.flow_base.specs.Causes.{HasCause};
 ghost use Rattle.c_program.specs.Ending.{line_of};
 
 use crate::ending::Ending;
+use commands::write_refusal;
 use flow_base::{Failed, Sink, write_all};
-use program_answers::write_refusal;
 
 /// Writes the line of an ending on standard error. Takes no memory. Where a write fails a proper
 /// prefix of the line stands there.

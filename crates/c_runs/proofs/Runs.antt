@@ -15,16 +15,16 @@ use Rattle.code_language.specs.Instrs.{Unless, Result, Ret}
 use Rattle.code_language.specs.Reactions.{Starts, Reacts, CodeRun}
 use Rattle.code_counts.proofs.Room.{start_few, reaction_few}
 use Rattle.code_copies.specs.SameRuns.{HasSameRuns}
-use Rattle.chart_layout.specs.Bodies.{code_of_chart}
-use Rattle.chart_layout.proofs.ListResults.{results_below}
-use Rattle.chart_layout.proofs.Whole.{code_runs}
-use Rattle.c_procedures.specs.Writer.{plans_of}
-use Rattle.c_procedures.proofs.Writing.{plans_are}
+use Rattle.chart_code.specs.Bodies.{code_of_chart}
+use Rattle.chart_code.proofs.ListResults.{results_below}
+use Rattle.chart_code.proofs.Whole.{code_runs}
+use Rattle.c_functions.specs.Writer.{plans_of}
+use Rattle.c_functions.proofs.Writing.{plans_are}
 use Rattle.c_functions.specs.Failing.{AfterIsRight}
 use Rattle.c_functions.specs.Plans.{Tests, all_tests, bad}
 use Rattle.c_functions.specs.Moments.{HasSmallResults, MayEnd, MayEndIn}
 use Rattle.c_functions.specs.Starts.{AllGiven}
-use Rattle.c_functions.proofs.Running.{runs-on}
+use Rattle.c_functions.proofs.FileRuns.{runs-on}
 use Rattle.c_runs.specs.Claims.{FitsChart, RunsAsRules, Serves}
 use Rattle.c_runs.proofs.EachMoment.{run_ends}
 

@@ -9,11 +9,11 @@ use Rattle.code_language.specs.Code.{Code}
 use Rattle.code_language.specs.Reactions.{CodeRun}
 use Rattle.code_language.specs.WellFormed.{IsCode}
 use Rattle.code_shrink.specs.Shrunk.{KeepsResults}
-use Rattle.chart_layout.specs.Bodies.{code_of_chart}
+use Rattle.chart_code.specs.Bodies.{code_of_chart}
 use Rattle.c_subset.specs.declared.trees.Width.{Width}
 use Rattle.c_subset.specs.Trees.{File}
 use Rattle.c_subset.specs.Meaning.{bits, Store}
-use Rattle.c_procedures.specs.Statements.{Block}
+use Rattle.c_functions.specs.Statements.{Block}
 use Rattle.c_functions.specs.Files.{shape_of}
 use Rattle.c_functions.specs.Moments.{MayEndIn}
 use Rattle.c_functions.specs.Plans.{Shape, Tests}

@@ -13,7 +13,7 @@ use Rattle.c_subset.specs.declared.trees.Width.TheVariants.{W8, W16, W32, W64, W
 use Rattle.c_subset.specs.declared.trees.CType.TheVariants.{Unsigned}
 use Rattle.c_subset.specs.Trees.{Function}
 use Rattle.c_subset.specs.Helpers.{floor_function}
-use Rattle.c_procedures.specs.Statements as plan
+use Rattle.c_functions.specs.Statements as plan
 use Rattle.c_functions.specs.Layout.{on_c, bare_c}
 use Rattle.c_functions.specs.Plans.{Shape, layout}
 use Rattle.c_functions.specs.Files.{procedure_c, home_function, noted_c, functions_c}

@@ -11,7 +11,7 @@ use Rattle.c_subset.specs.declared.trees.CType.{CType}
 use Rattle.c_subset.specs.declared.trees.Width.TheVariants.{W16, W32}
 use Rattle.c_subset.specs.declared.trees.CType.TheVariants.{Unsigned}
 use Rattle.c_subset.specs.Meaning.{CValue}
-use Rattle.c_expressions.specs.Claims.{field_type}
+use Rattle.c_functions.specs.Claims.{field_type}
 use Rattle.c_functions.specs.Layout.{or_count}
 use Rattle.c_functions.specs.Plans.{Shape}
 use Rattle.c_functions.specs.Starts.{first_values, state_values, zero_word}

@@ -11,7 +11,7 @@ use Rattle.c_subset.specs.declared.trees.Width.TheVariants.{W8, W16, W32, W64, W
 use Rattle.c_subset.specs.declared.trees.CType.{CType}
 use Rattle.c_subset.specs.declared.trees.CType.TheVariants.{Signed, Unsigned, Truth}
 use Rattle.c_subset.specs.Running.{same_type}
-use Rattle.c_expressions.specs.Claims.{field_type}
+use Rattle.c_functions.specs.Claims.{field_type}
 use Rattle.c_functions.specs.Layout.{or_count}
 use Rattle.c_text.specs.declared.kinds.Kind.{Kind}
 use Rattle.c_text.specs.declared.kinds.Kind.TheVariants.{Procedure, Home, Noted, Floor, Outside}

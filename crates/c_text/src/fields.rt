@@ -1,7 +1,7 @@
 //! The names and types of fields, and the names of arrays.
 ghost use Rattle.std.specs.Prelude.{◌≡◌, ◌+◌, ◌++◌, [], replicate, string_bytes};
 ghost use Rattle.std.specs.Prelude.{slice_index_or, OnOk};
-ghost use Rattle.c_expressions.specs.Claims.{field_type, least_width};
+ghost use Rattle.c_functions.specs.Claims.{field_type, least_width};
 ghost use Rattle.c_text.specs.Labels as spec;
 
 use crate::labels::Labels;

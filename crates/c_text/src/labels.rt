@@ -2,7 +2,7 @@
 ghost use Rattle.std.specs.Prelude.{◌≡◌};
 ghost use Rattle.actions.specs.Names.{names_of};
 ghost use Rattle.c_functions.specs.Layout.{or_count};
-ghost use Rattle.c_procedures.specs.States.{is_or};
+ghost use Rattle.c_functions.specs.States.{is_or};
 ghost use Rattle.c_text.specs.Labels as spec;
 
 use actions::Names;

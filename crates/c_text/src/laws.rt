@@ -5,7 +5,7 @@ ghost use Rattle.actions.specs.declared.names.Var.{Var};
 ghost use Rattle.c_subset.specs.declared.trees.CType.{CType};
 ghost use Rattle.c_subset.specs.Meaning.{CValue};
 ghost use Rattle.c_subset.specs.Trees.{Function};
-ghost use Rattle.c_procedures.specs.Statements as plan;
+ghost use Rattle.c_functions.specs.Statements as plan;
 ghost use Rattle.c_functions.specs.Plans.{Shape};
 ghost use Rattle.c_functions.specs.Files.{functions_c};
 ghost use Rattle.c_functions.specs.Starts.{first_values, start_c, react_c};

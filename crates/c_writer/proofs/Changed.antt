@@ -5,8 +5,8 @@ use Rattle.c_subset.specs.Trees.{CExpr}
 use Rattle.c_subset.specs.Trees as c
 use Rattle.c_subset.specs.declared.trees.Line.{Line}
 use Rattle.c_subset.specs.Lines.{Appends, lines_in, lines_of}
-use Rattle.c_procedures.specs.States.{or_parent}
-use Rattle.c_procedures.specs.Written.{set_block, unset_block}
+use Rattle.c_functions.specs.States.{or_parent}
+use Rattle.c_functions.specs.Written.{set_block, unset_block}
 use Rattle.c_functions.specs.Layout.{put_bit}
 use Rattle.c_functions.specs.Plans.{Shape, layout, plan_c}
 use Rattle.c_writer.specs.Changes.{child_type, set_plan, unset_plan}

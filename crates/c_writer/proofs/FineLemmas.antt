@@ -9,7 +9,7 @@ use Rattle.actions.specs.declared.sort.ExprSort.TheVariants as sorts
 use Rattle.actions.specs.Exprs.{Expr}
 use Rattle.actions.specs.Sorts.{Sorted, scope_of, sort_of}
 use Rattle.checked_chart.specs.Expressions.{operator_count}
-use Rattle.code_costs.proofs.Sound.{both_true}
+use Rattle.code_language.proofs.Sound.{both_true}
 use Rattle.code_language.specs.Instrs.{Test, Assign}
 use Rattle.code_language.specs.WellFormed.{cond_typed, instr_typed, has_literals, is_flag, is_plain, takes}
 use Rattle.c_functions.specs.Plans.{Shape}

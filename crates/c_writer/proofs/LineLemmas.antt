@@ -15,15 +15,15 @@ use Rattle.c_subset.specs.Trees.{CExpr, Block}
 use Rattle.c_subset.specs.Trees as c
 use Rattle.c_subset.specs.declared.trees.Width.{Width}
 use Rattle.c_subset.specs.Lines.{Line, If, Else, Close, else_lines, lines_of}
-use Rattle.c_expressions.specs.Assigning.{stores_of}
-use Rattle.c_expressions.specs.Code.{CCode, Nothing, Then, Set, Divide, FaultIf, written}
-use Rattle.c_expressions.specs.Code as code
-use Rattle.c_expressions.specs.Translation.{sort_in}
+use Rattle.c_functions.specs.Assigning.{stores_of}
+use Rattle.c_functions.specs.Code.{CCode, Nothing, Then, Set, Divide, FaultIf, written}
+use Rattle.c_functions.specs.Code as code
+use Rattle.c_functions.specs.Translation.{sort_in}
 use Rattle.actions.specs.Sorts.{scope_of, sort_of}
-use Rattle.c_procedures.specs.States.{or_parent}
-use Rattle.c_procedures.specs.Statements.{Test}
-use Rattle.c_procedures.specs.Statements as plan
-use Rattle.c_procedures.specs.Written.{straight, set_block, unset_block, keep_block, noted_call, test_of, on_check}
+use Rattle.c_functions.specs.States.{or_parent}
+use Rattle.c_functions.specs.Statements.{Test}
+use Rattle.c_functions.specs.Statements as plan
+use Rattle.c_functions.specs.Written.{straight, set_block, unset_block, keep_block, noted_call, test_of, on_check}
 use Rattle.c_functions.specs.Plans.{Shape, helper, faulted, declared_at, expression_c, pay_c, deep_c, if_c, plan_c}
 use Rattle.c_functions.specs.Plans.{plays}
 use Rattle.c_writer.specs.Fine.{known_in}

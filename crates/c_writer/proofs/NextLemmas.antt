@@ -8,8 +8,8 @@ use Rattle.code_language.specs.WellFormed.{instr_known, instr_typed}
 use Rattle.c_subset.specs.Trees as c
 use Rattle.c_subset.specs.declared.trees.Line as declared_line
 use Rattle.c_subset.specs.Lines.{lines_in, lines_of}
-use Rattle.c_procedures.specs.Statements as plan
-use Rattle.c_procedures.specs.Written.{test_of, straight}
+use Rattle.c_functions.specs.Statements as plan
+use Rattle.c_functions.specs.Written.{test_of, straight}
 use Rattle.c_functions.specs.Plans.{Shape, number, plan_c, plays}
 use Rattle.c_writer.specs.Appending.{PlanAppends}
 use Rattle.c_writer.specs.Fine.{IsFine, IsFineTest}

@@ -7,8 +7,8 @@ use Rattle.code_language.specs.declared.instr.Instr as declared
 use Rattle.code_language.specs.Code.{instr_of, instrs_of}
 use Rattle.c_subset.specs.Trees.{CExpr}
 use Rattle.c_subset.specs.Lines.{lines_of}
-use Rattle.c_procedures.specs.Statements as plan
-use Rattle.c_procedures.specs.Writer.{write, plan_of}
+use Rattle.c_functions.specs.Statements as plan
+use Rattle.c_functions.specs.Writer.{write, plan_of}
 use Rattle.c_functions.specs.Files.{procedure_c, home_body}
 use Rattle.c_functions.specs.Plans.{Shape, plan_c, plays}
 use Rattle.c_writer.specs.Parts.{part}

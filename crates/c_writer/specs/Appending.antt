@@ -4,8 +4,8 @@ use Rattle.c_subset.specs.Trees.{CExpr, Block}
 use Rattle.c_subset.specs.Trees as c
 use Rattle.c_subset.specs.declared.trees.Line.{Line}
 use Rattle.c_subset.specs.Lines.{lines_in, lines_of}
-use Rattle.c_procedures.specs.Statements.{Test}
-use Rattle.c_procedures.specs.Statements as plan
+use Rattle.c_functions.specs.Statements.{Test}
+use Rattle.c_functions.specs.Statements as plan
 use Rattle.c_functions.specs.Plans.{Shape, if_c, plan_c}
 
 -- what was appended is the C of the statements that a plan has before others

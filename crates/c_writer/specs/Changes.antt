@@ -4,10 +4,10 @@ use Rattle.active_config.specs.Tree.{parent_of}
 use Rattle.c_subset.specs.declared.trees.CType.{CType}
 use Rattle.c_subset.specs.declared.trees.CType.TheVariants.{Unsigned}
 use Rattle.c_subset.specs.declared.trees.Width.TheVariants.{W16}
-use Rattle.c_procedures.specs.States.{or_parent}
-use Rattle.c_procedures.specs.Statements.{Block}
-use Rattle.c_procedures.specs.Statements as plan
-use Rattle.c_procedures.specs.Written.{takes_check, bare_check, set_block, unset_block}
+use Rattle.c_functions.specs.States.{or_parent}
+use Rattle.c_functions.specs.Statements.{Block}
+use Rattle.c_functions.specs.Statements as plan
+use Rattle.c_functions.specs.Written.{takes_check, bare_check, set_block, unset_block}
 use Rattle.c_functions.specs.Plans.{Shape}
 
 -- the type of the numbers of children

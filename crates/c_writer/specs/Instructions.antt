@@ -1,8 +1,8 @@
 -- The plans of instructions that neither jump nor return.
 use Rattle.std.specs.Prelude.{ℕ}
-use Rattle.c_procedures.specs.Statements.{Block}
-use Rattle.c_procedures.specs.Statements as plan
-use Rattle.c_procedures.specs.Written.{on_check}
+use Rattle.c_functions.specs.Statements.{Block}
+use Rattle.c_functions.specs.Statements as plan
+use Rattle.c_functions.specs.Written.{on_check}
 use Rattle.c_functions.specs.Plans.{Shape}
 
 -- an event is emitted

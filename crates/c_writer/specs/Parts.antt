@@ -6,8 +6,8 @@ use Rattle.code_language.specs.Instrs as i
 use Rattle.code_language.specs.declared.limits.TheConstants.{INSTR_LIMIT}
 use Rattle.c_subset.specs.declared.trees.Line.{Line}
 use Rattle.c_subset.specs.Lines.{Else, else_lines, lines_in, lines_of}
-use Rattle.c_procedures.specs.Statements.{Block}
-use Rattle.c_procedures.specs.Writer.{stays_within, join_of, write}
+use Rattle.c_functions.specs.Statements.{Block}
+use Rattle.c_functions.specs.Writer.{stays_within, join_of, write}
 use Rattle.c_functions.specs.Plans.{Shape, plan_c, plays}
 use Rattle.c_writer.specs.Fine.{IsFine}
 use Rattle.c_writer.specs.declared.parts.Next.{Next}

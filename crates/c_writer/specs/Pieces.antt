@@ -5,7 +5,7 @@ use Rattle.c_subset.specs.Trees.{CExpr, Block}
 use Rattle.c_subset.specs.Trees as c
 use Rattle.c_subset.specs.declared.trees.Arithmetic.TheVariants.{Plus, Less}
 use Rattle.c_subset.specs.declared.trees.Comparison.TheVariants.{IsAtLeast, IsBelow}
-use Rattle.c_procedures.specs.Statements as plan
+use Rattle.c_functions.specs.Statements as plan
 use Rattle.c_functions.specs.Plans.{Shape, event_local, depth_local, base_local, home_local, result_local, cursor_local}
 use Rattle.c_functions.specs.Plans.{tested_local, word, number, faulted, note_row, noted_field, pay_c, called_c}
 use Rattle.c_functions.specs.Plans.{used_field, count_up, unless_bad, ask_home, noted_function, bare_function, plan_c}

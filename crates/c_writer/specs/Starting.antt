@@ -5,7 +5,7 @@ use Rattle.c_subset.specs.Trees.{Block}
 use Rattle.c_subset.specs.Trees as c
 use Rattle.c_subset.specs.declared.trees.CType.{CType}
 use Rattle.c_subset.specs.Meaning.{CValue}
-use Rattle.c_expressions.specs.Claims.{field_type}
+use Rattle.c_functions.specs.Claims.{field_type}
 use Rattle.c_functions.specs.Plans.{Shape, number, outs_field, noted_field}
 use Rattle.c_functions.specs.Starts.{clear_used_c}
 

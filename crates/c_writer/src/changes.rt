@@ -4,7 +4,7 @@ ghost use Rattle.flow_base.specs.Lists.{items_of};
 ghost use Rattle.active_config.specs.Tree.{parent_of, state_count};
 ghost use Rattle.c_subset.specs.Lines.{Appends, expr_of, lines_in, lines_of};
 ghost use Rattle.c_subset.specs.Trees as c;
-ghost use Rattle.c_procedures.specs.Written.{keep_block};
+ghost use Rattle.c_functions.specs.Written.{keep_block};
 ghost use Rattle.c_functions.specs.Layout.{put_bit};
 ghost use Rattle.c_functions.specs.Plans.{layout, plan_c};
 ghost use Rattle.c_expression_writer.specs.FileShapes.{shape_seen};

@@ -4,7 +4,7 @@ ghost use Rattle.flow_base.specs.Lists.{items_of};
 ghost use Rattle.active_config.specs.Tree.{parent_of, state_count};
 ghost use Rattle.code_language.specs.Code.{cond_of};
 ghost use Rattle.c_subset.specs.Lines.{expr_of};
-ghost use Rattle.c_procedures.specs.Written as written;
+ghost use Rattle.c_functions.specs.Written as written;
 ghost use Rattle.c_functions.specs.Plans.{check_c};
 ghost use Rattle.c_expression_writer.specs.FileShapes.{shape_seen};
 ghost use Rattle.c_writer.specs.Appending.{TestAppends};

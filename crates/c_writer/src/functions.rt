@@ -3,7 +3,7 @@ ghost use Rattle.std.specs.Prelude.{◌≡◌, ◌≤◌, ◌<◌, ◌+◌, leng
 ghost use Rattle.code_language.specs.Code.{code_of, instrs_of, instructions};
 ghost use Rattle.code_language.specs.WellFormed.{IsCode};
 ghost use Rattle.c_subset.specs.Lines.{IsFunction};
-ghost use Rattle.c_procedures.specs.Writer.{plans_of};
+ghost use Rattle.c_functions.specs.Writer.{plans_of};
 ghost use Rattle.c_functions.specs.Files.{procedure_c};
 ghost use Rattle.c_functions.specs.Starts.{file_of};
 ghost use Rattle.c_expression_writer.specs.FileShapes.{shape_seen};

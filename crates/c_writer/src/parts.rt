@@ -3,8 +3,8 @@ ghost use Rattle.std.specs.Prelude.{◌≡◌, ◌≤◌, ◌<◌, ◌+◌, ◌+
 ghost use Rattle.flow_base.specs.Lists.{items_of};
 ghost use Rattle.code_language.specs.Code.{cond_of, instr_of, instrs_of};
 ghost use Rattle.c_subset.specs.Lines.{else_lines, lines_in, lines_of};
-ghost use Rattle.c_procedures.specs.Statements as plan;
-ghost use Rattle.c_procedures.specs.Written.{test_of};
+ghost use Rattle.c_functions.specs.Statements as plan;
+ghost use Rattle.c_functions.specs.Written.{test_of};
 ghost use Rattle.c_functions.specs.Plans.{plan_c};
 ghost use Rattle.c_functions.specs.Plans as plans;
 ghost use Rattle.c_expression_writer.specs.FileShapes.{shape_seen};

@@ -2,7 +2,7 @@
 ghost use Rattle.std.specs.Prelude.{◌≡◌, ◌≤◌, ◌<◌, ◌+◌, ◌-◌, ◌^◌, Some, drop, length};
 ghost use Rattle.code_language.specs.Code.{instr_of, instrs_of};
 ghost use Rattle.code_language.specs.declared.limits.TheConstants.{INSTR_LIMIT};
-ghost use Rattle.c_procedures.specs.Writer as spec;
+ghost use Rattle.c_functions.specs.Writer as spec;
 ghost use Rattle.c_writer.specs.Parts.{StaysWithin, fork_end};
 
 use code_language::Instr;

@@ -3,7 +3,7 @@ ghost use Rattle.std.specs.Prelude.{◌≡◌, ◌++◌, IfOk, OnOk};
 ghost use Rattle.flow_base.specs.Lists.{items_of};
 ghost use Rattle.c_subset.specs.Lines.{Appends, expr_of, lines_in, lines_of};
 ghost use Rattle.c_subset.specs.Trees as c;
-ghost use Rattle.c_procedures.specs.Statements as plan;
+ghost use Rattle.c_functions.specs.Statements as plan;
 ghost use Rattle.c_functions.specs.Plans as spec;
 ghost use Rattle.c_expression_writer.specs.FileShapes.{shape_seen};
 ghost use Rattle.c_writer.specs.Appending.{PlanAppends};

@@ -3,7 +3,7 @@ ghost use Rattle.std.specs.Prelude.{◌≡◌, ◌∷◌, [], length, IfOk};
 ghost use Rattle.flow_base.specs.Lists.{items_of};
 ghost use Rattle.code_language.specs.Code.{instrs_of};
 ghost use Rattle.c_subset.specs.Lines.{IsFunction, lines_in, lines_of};
-ghost use Rattle.c_procedures.specs.Writer.{plan_of};
+ghost use Rattle.c_functions.specs.Writer.{plan_of};
 ghost use Rattle.c_functions.specs.Files.{procedure_c};
 ghost use Rattle.c_functions.specs.Plans.{word};
 ghost use Rattle.c_expression_writer.specs.FileShapes.{shape_seen};

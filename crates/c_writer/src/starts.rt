@@ -4,7 +4,7 @@ ghost use Rattle.std.specs.Prelude.{IfOk, OnOk};
 ghost use Rattle.flow_base.specs.Lists.{items_of};
 ghost use Rattle.actions.specs.declared.event.Event.TheVariants as events;
 ghost use Rattle.c_subset.specs.Lines.{Appends, IsFunction, expr_of, lines_in, lines_of};
-ghost use Rattle.c_expressions.specs.Claims as claims;
+ghost use Rattle.c_functions.specs.Claims as claims;
 ghost use Rattle.c_functions.specs.Plans as spec;
 ghost use Rattle.c_functions.specs.Starts as starts;
 ghost use Rattle.c_expression_writer.specs.FileShapes.{shape_seen};

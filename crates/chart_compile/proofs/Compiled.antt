@@ -3,8 +3,8 @@ use Rattle.std.proofs.Common.{◌≡◌, sym, subst}
 use Rattle.checked_chart.specs.Chart.{Chart}
 use Rattle.checked_chart.specs.Valid.{IsValid}
 use Rattle.code_language.specs.Code.{Code}
-use Rattle.chart_layout.specs.Bodies.{code_of_chart}
-use Rattle.chart_layout.proofs.Whole.{code_runs}
+use Rattle.chart_code.specs.Bodies.{code_of_chart}
+use Rattle.chart_code.proofs.Whole.{code_runs}
 use Rattle.layout_bounds.proofs.FewProcedures.{procedures_few}
 use Rattle.layout_bounds.proofs.CodeHeights.{greatest_low}
 use Rattle.layout_bounds.proofs.CodeWorks.{greatest_work_within}

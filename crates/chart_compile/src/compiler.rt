@@ -2,7 +2,7 @@
 ghost use Rattle.std.specs.Prelude.{◌≡◌, IfOk};
 ghost use Rattle.checked_chart.specs.Kept.{chart_of};
 ghost use Rattle.code_language.specs.Code.{code_of};
-ghost use Rattle.chart_layout.specs.Bodies.{code_of_chart};
+ghost use Rattle.chart_code.specs.Bodies.{code_of_chart};
 ghost use Rattle.chart_compile.specs.Compiled.{IsSmall, RunsAs};
 
 use crate::laws::the_code_of_a_chart_is_well_formed;

@@ -2,7 +2,7 @@
 ghost use Rattle.checked_chart.specs.Chart.{Chart};
 ghost use Rattle.checked_chart.specs.Valid.{IsValid};
 ghost use Rattle.code_language.specs.WellFormed.{IsCode};
-ghost use Rattle.chart_layout.specs.Bodies.{code_of_chart};
+ghost use Rattle.chart_code.specs.Bodies.{code_of_chart};
 
 use layout_bounds::{
     the_code_of_a_chart_has_little_work, the_code_of_a_chart_is_low, the_code_of_a_chart_is_sound,

@@ -1,6 +1,6 @@
 //! Compiles a chart to code.
 //!
-//! The code of a chart is `code_of_chart` of `chart_layout`: its states and its names, and the
+//! The code of a chart is `code_of_chart` of `chart_code`: its states and its names, and the
 //! procedures of its layout. Read `specs/Compiled.antt`, what that code keeps.
 #![tactic(auto)]
 

@@ -8,11 +8,11 @@ use Rattle.actions.specs.Exprs.{Expr, Stmt}
 use Rattle.checked_chart.specs.declared.parts.ListKind.{ListKind}
 use Rattle.checked_chart.specs.declared.parts.ListKind.TheVariants.{Outer, Inner, Default}
 use Rattle.checked_chart.specs.Chart.{Chart, Trans, list_of, junction_count}
-use Rattle.chart_layout.specs.Ends.{below_count}
-use Rattle.chart_layout.specs.Keys as keys
-use Rattle.chart_layout.specs.Keys.{Key, layout}
-use Rattle.chart_layout.specs.Orders.{ascending, descending, span}
-use Rattle.chart_layout.specs.ReachedJunctions.{reached}
+use Rattle.chart_code.specs.Ends.{below_count}
+use Rattle.chart_code.specs.Keys as keys
+use Rattle.chart_code.specs.Keys.{Key, layout}
+use Rattle.chart_code.specs.Orders.{ascending, descending, span}
+use Rattle.chart_code.specs.ReachedJunctions.{reached}
 use Rattle.chart_parts.specs.PartKeys.{key_of, trans_key, transitions}
 use Rattle.chart_parts.specs.Parts.{guard_parts, condition_parts, action_parts, trans_parts, list_parts, block_parts}
 use Rattle.chart_parts.specs.Parts.{process_parts, own_parts, state_parts, junction_parts, search_parts, lists_parts}

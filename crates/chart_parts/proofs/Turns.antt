@@ -12,7 +12,7 @@ use Rattle.checked_chart.specs.Counts.{node_transitions}
 use Rattle.checked_chart.specs.Valid.{IsValid}
 use Rattle.checked_chart.specs.Views.{trans_seen, list_seen}
 use Rattle.code_language.proofs.ListLemmas.{drop_at, drop_past}
-use Rattle.chart_layout.specs.Orders.{ascending, descending, span}
+use Rattle.chart_code.specs.Orders.{ascending, descending, span}
 use Rattle.chart_parts.specs.Parts.{trans_parts, list_parts}
 use Rattle.chart_parts.specs.declared.part.Owner.{Owner}
 use Rattle.chart_parts.specs.declared.part.Part.{Part}

@@ -2,8 +2,8 @@
 use Rattle.std.specs.Prelude.{List, Option, Some, option_map, option_and_then, slice_get}
 use Rattle.checked_chart.specs.declared.parts.BlockKind.TheVariants.{Entry, During, Exit}
 use Rattle.checked_chart.specs.Chart.{Chart, Trans, list_of, junction}
-use Rattle.chart_layout.specs.Keys.{Key}
-use Rattle.chart_layout.specs.Keys as keys
+use Rattle.chart_code.specs.Keys.{Key}
+use Rattle.chart_code.specs.Keys as keys
 use Rattle.chart_parts.specs.declared.part.Owner.{Owner}
 use Rattle.chart_parts.specs.declared.part.Owner.TheVariants as owners
 use Rattle.chart_parts.specs.declared.part.Part.{Part}

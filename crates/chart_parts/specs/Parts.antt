@@ -6,9 +6,9 @@ use Rattle.checked_chart.specs.declared.parts.BlockKind.TheVariants.{Entry, Duri
 use Rattle.checked_chart.specs.declared.parts.ListKind.{ListKind}
 use Rattle.checked_chart.specs.declared.parts.ListKind.TheVariants.{Outer, Inner, Default}
 use Rattle.checked_chart.specs.Chart.{Chart, Trans, list_of, junction, junction_count}
-use Rattle.chart_layout.specs.Ends.{below_count}
-use Rattle.chart_layout.specs.Orders.{ascending, descending, span}
-use Rattle.chart_layout.specs.ReachedJunctions.{reached}
+use Rattle.chart_code.specs.Ends.{below_count}
+use Rattle.chart_code.specs.Orders.{ascending, descending, span}
+use Rattle.chart_code.specs.ReachedJunctions.{reached}
 use Rattle.chart_parts.specs.declared.part.Owner.{Owner}
 use Rattle.chart_parts.specs.declared.part.Owner.TheVariants as owners
 use Rattle.chart_parts.specs.declared.part.Part.{Part}

@@ -2,7 +2,7 @@
 use Rattle.std.specs.Prelude.{ℕ, List, ◌∷◌, ◌++◌}
 use Rattle.active_config.specs.Tree.{state_count}
 use Rattle.checked_chart.specs.Chart.{Chart, junction_count}
-use Rattle.chart_layout.specs.Orders.{ascending, descending}
+use Rattle.chart_code.specs.Orders.{ascending, descending}
 use Rattle.chart_parts.specs.declared.part.Part.{Part}
 use Rattle.chart_parts.specs.declared.part.Part.TheVariants as parts
 use Rattle.chart_parts.specs.declared.regions.Region.{Region}

@@ -4,7 +4,7 @@ ghost use Rattle.flow_base.specs.Lists.{items_of};
 ghost use Rattle.active_config.specs.Tree.{state_count};
 ghost use Rattle.checked_chart.specs.declared.parts.ListKind.TheVariants.{Default};
 ghost use Rattle.checked_chart.specs.Kept.{chart_of};
-ghost use Rattle.chart_layout.specs.Orders.{span};
+ghost use Rattle.chart_code.specs.Orders.{span};
 ghost use Rattle.chart_parts.specs.declared.part.Part.TheVariants as parts;
 ghost use Rattle.chart_parts.specs.declared.part.Toward.TheVariants.{Arrive, Take, Enter};
 ghost use Rattle.chart_parts.specs.Parts as spec;

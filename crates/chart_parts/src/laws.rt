@@ -5,7 +5,7 @@ ghost use Rattle.active_config.specs.Tree.{Tree};
 ghost use Rattle.actions.specs.Names.{Names};
 ghost use Rattle.chart_lexer.specs.Words.{is_name};
 ghost use Rattle.checked_chart.specs.Chart.{Chart};
-ghost use Rattle.chart_layout.specs.Keys.{layout};
+ghost use Rattle.chart_code.specs.Keys.{layout};
 ghost use Rattle.chart_parts.specs.PartKeys.{key_of};
 ghost use Rattle.chart_parts.specs.declared.part.Part.{Part};
 ghost use Rattle.chart_parts.specs.PartText.{part_text};

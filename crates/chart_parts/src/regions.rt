@@ -5,7 +5,7 @@ ghost use Rattle.flow_base.specs.Lists.{items_of};
 ghost use Rattle.active_config.specs.Tree.{state_count};
 ghost use Rattle.checked_chart.specs.Chart.{junction_count};
 ghost use Rattle.checked_chart.specs.Kept.{chart_of};
-ghost use Rattle.chart_layout.specs.Orders.{ascending, descending};
+ghost use Rattle.chart_code.specs.Orders.{ascending, descending};
 ghost use Rattle.chart_parts.specs.Parts as spec;
 ghost use Rattle.chart_parts.specs.Regions.{region_parts, first_parts, last_parts};
 

@@ -6,7 +6,7 @@ use Rattle.actions.specs.Runs.{Moment}
 use Rattle.actions.specs.World.{World, world_before, begun}
 use Rattle.actions.specs.Work.{from_outside}
 use Rattle.code_language.specs.Code.{Code}
-use Rattle.code_costs.specs.Ahead.{next_then, ahead}
+use Rattle.code_language.specs.Ahead.{next_then, ahead}
 use Rattle.code_language.specs.Machine.{Program, CodeState, Next, Goes, Stops, Ending, Over, step, and_then, run}
 use Rattle.code_language.specs.Reactions.{Leads, program_of}
 use Rattle.code_counts.specs.Certificate.{Numbers, IsCertificate, IsMost}

@@ -4,7 +4,7 @@ use Rattle.std.proofs.Common.{arith, get_or, below_more, option_map}
 use Rattle.std.specs.Prelude.{slice_get}
 use Rattle.std.proofs.lemmas.List.{length-map}
 use Rattle.std.proofs.lemmas.Option.{slice_get_read, slice_get-map, slice_get_within}
-use Rattle.code_costs.proofs.Sound.{or_none, instructions_at}
+use Rattle.code_language.proofs.Sound.{or_none, instructions_at}
 use Rattle.code_language.specs.Code.{Procedures, fetch, instructions}
 use Rattle.code_language.specs.Instrs as forms
 use Rattle.code_counts.specs.Certificate.{Numbers, IsEnough, IsCertificate}

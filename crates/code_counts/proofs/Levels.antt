@@ -19,7 +19,7 @@ use Rattle.code_language.specs.Machine.{Program, Frame, CodeState, machine, fres
 use Rattle.code_language.specs.Machine.{if_ok}
 use Rattle.code_language.specs.Machine.{test_next, now_after, pass_on, noted, later, sent, if_deep, play_next, act}
 use Rattle.code_language.specs.Machine.{act_on, step}
-use Rattle.code_costs.specs.Ahead.{next_then, ahead}
+use Rattle.code_language.specs.Ahead.{next_then, ahead}
 use Rattle.code_counts.specs.Certificate.{Numbers, joined, of_step, of_send, of_note, of_play, HandsOn}
 use Rattle.code_counts.specs.Certificate.{IsCertificate}
 use Rattle.code_counts.specs.Claims.{note_count, notes_of, amount, end_amount, MayFault, IsWithin}

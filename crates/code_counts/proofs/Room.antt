@@ -10,8 +10,8 @@ use Rattle.actions.specs.declared.event.Event.{Event}
 use Rattle.actions.specs.Changes.{paid_in, assigned_in}
 use Rattle.actions.specs.World.{World, emitted}
 use Rattle.actions.specs.Work.{Now}
-use Rattle.code_costs.specs.Ahead.{next_then, ahead}
-use Rattle.code_costs.proofs.Used.{Leaving, Pays, paid_used}
+use Rattle.code_language.specs.Ahead.{next_then, ahead}
+use Rattle.code_language.proofs.Used.{Leaving, Pays, paid_used}
 use Rattle.code_language.specs.Code.{Code, fetch}
 use Rattle.code_language.specs.Instrs.{Instr, Assign, Emit, Mark, Clear, Keep, Unless, Skip, Call, Visit, Send, SendTo}
 use Rattle.code_language.specs.Instrs.{Play, Home, Begin, Pass, Ret}

@@ -9,7 +9,7 @@ use Rattle.actions.specs.declared.event.Event.{Event}
 use Rattle.actions.specs.Runs.{Moment, EventWithInputs}
 use Rattle.actions.specs.World.{World}
 use Rattle.actions.proofs.RunLemmas.{Runs-along}
-use Rattle.code_costs.specs.Ahead.{ahead}
+use Rattle.code_language.specs.Ahead.{ahead}
 use Rattle.code_language.specs.Code.{Code}
 use Rattle.code_language.specs.Machine.{CodeState, Stops}
 use Rattle.code_language.specs.Reactions.{Leads, program_of, start_machine, react_machine, Starts, Reacts, CodeRun}

@@ -10,7 +10,7 @@ use Rattle.actions.specs.Changes.{paid_in}
 use Rattle.actions.specs.Runs.{Moment}
 use Rattle.actions.specs.World.{World, emitted}
 use Rattle.actions.specs.Work.{Now}
-use Rattle.code_costs.specs.Ahead.{next_then, ahead}
+use Rattle.code_language.specs.Ahead.{next_then, ahead}
 use Rattle.code_language.specs.Code.{Code, fetch}
 use Rattle.code_language.specs.Instrs.{Instr, Assign, Emit, Mark, Clear, Keep, Unless, Skip, Call, Visit, Send, SendTo}
 use Rattle.code_language.specs.Instrs.{Play, Home, Begin, Pass, Ret}

@@ -5,7 +5,7 @@ use Rattle.flow_base.specs.declared.fault.Fault.{Fault}
 use Rattle.flow_base.specs.declared.fault.Fault.TheVariants as faults
 use Rattle.actions.specs.declared.event.Event.{Event}
 use Rattle.actions.specs.World.{World}
-use Rattle.code_costs.specs.Ahead.{ahead}
+use Rattle.code_language.specs.Ahead.{ahead}
 use Rattle.code_language.specs.Code.{Code}
 use Rattle.code_language.specs.Machine.{Frame, CodeState, Next, Goes, Stops}
 use Rattle.code_language.specs.Reactions.{program_of, start_machine, react_machine}

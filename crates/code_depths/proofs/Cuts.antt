@@ -3,7 +3,7 @@ use Rattle.std.proofs.Common.{◌≡◌, ℕ, zero, suc, ◌+◌, List, [], ◌�
 use Rattle.std.proofs.Common.{option_map}
 use Rattle.std.specs.Prelude.{slice_get, slice_index_or}
 use Rattle.std.proofs.lemmas.Option.{slice_get-map}
-use Rattle.code_costs.proofs.Sound.{or_none, instructions_at}
+use Rattle.code_language.proofs.Sound.{or_none, instructions_at}
 use Rattle.code_language.specs.Code.{Procedures, fetch, instructions}
 use Rattle.code_language.specs.Instrs.{Instr}
 use Rattle.code_depths.specs.Depths.{level_of, instead, led, cut_from, cut_procedures}

@@ -9,3 +9,8 @@ pub mod Sound
 pub mod Form
 pub mod Acceptance
 pub mod Kept
+pub mod Ahead
+pub mod Left
+pub mod Room
+pub mod Moments
+pub mod Reach

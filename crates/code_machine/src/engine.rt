@@ -1,7 +1,7 @@
 //! The engine that runs code.
 ghost use Rattle.std.specs.Prelude.{◌≡◌};
 ghost use Rattle.actions.specs.Names.{Names};
-ghost use Rattle.code_costs.specs.Moments.{IsEvent};
+ghost use Rattle.code_language.specs.Moments.{IsEvent};
 
 use crate::encoding::number_of;
 use crate::loaded::LoadedCode;

@@ -20,7 +20,7 @@ ghost use Rattle.code_language.specs.Code.{code_of, instr_of, instrs_of};
 ghost use Rattle.code_language.specs.Instrs.{Ret};
 ghost use Rattle.code_language.specs.declared.limits.TheConstants.{INSTR_LIMIT};
 ghost use Rattle.code_shrink.specs.Shrunk.{IsThere};
-ghost use Rattle.code_simulation.specs.Reach.{with_note};
+ghost use Rattle.code_language.specs.Reach.{with_note};
 ghost use Rattle.code_notes.specs.Checked.{AreRight};
 ghost use Rattle.code_notes.specs.Views.{list_of, notes_of, place_in, plan_of};
 ghost use Rattle.code_notes.specs.Noteless as spec;

@@ -1,6 +1,6 @@
 //! Lists of notes that are compared.
 ghost use Rattle.std.specs.Prelude.{◌≡◌, ◌++◌, [], IsTrue};
-ghost use Rattle.code_simulation.specs.Reach.{with_note};
+ghost use Rattle.code_language.specs.Reach.{with_note};
 
 /// Whether both lists are the same.
 pub(crate) fn is_same(first: &[u32], second: &[u32]) -> bool

@@ -8,7 +8,7 @@ use Rattle.code_language.specs.Code.{Code, code_of, fetch, instructions}
 use Rattle.code_language.specs.Instrs.{Instr, Unless, Result, Ret}
 use Rattle.code_language.specs.Sound.{IsProc}
 use Rattle.code_language.specs.WellFormed.{known_of, IsCode}
-use Rattle.code_costs.proofs.Sound.{code_parts, proc_at, proc_there}
+use Rattle.code_language.proofs.Sound.{code_parts, proc_at, proc_there}
 use Rattle.code_shrink.specs.Follows.{renamed, Follows, HasCopy}
 use Rattle.code_shrink.specs.Numbers.{number_by}
 use Rattle.code_shrink.specs.Shrunk.{IsThere, KeepsResults}

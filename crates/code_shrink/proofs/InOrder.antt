@@ -4,7 +4,7 @@ use Rattle.std.proofs.Common.{sym, ap, ◌∙◌, subst, arith}
 use Rattle.std.specs.Prelude.{slice_get, slice_index_or}
 use Rattle.code_language.specs.Code.{Procedures, instructions, fetch}
 use Rattle.code_language.specs.Instrs.{Instr}
-use Rattle.code_costs.proofs.Sound.{or_none, instructions_at}
+use Rattle.code_language.proofs.Sound.{or_none, instructions_at}
 use Rattle.code_shrink.specs.Neat.{Names, IsReached, AtStart, AtReaction, Named}
 use Rattle.code_shrink.specs.Smaller.{folded, slides, threaded, straight}
 use Rattle.code_shrink.specs.Whole.{is_live, number_in, collected, smaller_procedures, IsLive, LiveStart}

@@ -21,7 +21,7 @@ use Rattle.code_language.specs.Sound.{AreSound}
 use Rattle.code_language.specs.WellFormed.{Known, known_of, is_event, is_state}
 use Rattle.code_language.specs.WellFormed.{is_proc, note_known, instr_known, IsCode}
 use Rattle.code_language.proofs.ListLemmas.{or_false}
-use Rattle.code_costs.proofs.Sound.{code_parts, proc_at, both_true, proc_there}
+use Rattle.code_language.proofs.Sound.{code_parts, proc_at, both_true, proc_there}
 use Rattle.code_shrink.specs.Neat.{Names, constant_truth}
 use Rattle.code_shrink.specs.Ways.{way_of}
 use Rattle.code_shrink.specs.declared.places.Way.{Way}

@@ -20,7 +20,7 @@ use Rattle.code_language.specs.Machine.{act}
 use Rattle.code_language.specs.Machine.{step, and_then, run, Over}
 use Rattle.code_language.specs.Reactions.{Leads, first_frame}
 use Rattle.actions.specs.Runs.{Moment}
-use Rattle.code_simulation.proofs.Endings.{over_longer}
+use Rattle.code_language.proofs.Endings.{over_longer}
 use Rattle.code_language.specs.Machine as m
 use Rattle.code_shrink.specs.Follows.{note_by, renamed, NoteIn, NamesIn, goes_on}
 use Rattle.code_shrink.specs.Follows.{Follows, Nothing, Goes, Returns, Tests, Passes, Jumps, AreCopied}

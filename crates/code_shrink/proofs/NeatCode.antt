@@ -6,7 +6,7 @@ use Rattle.std.specs.Prelude.{slice_get, slice_index_or, not, ◌&&◌}
 use Rattle.code_language.specs.Code.{Procedures, instructions, fetch}
 use Rattle.code_language.specs.Instrs.{Instr, Assign, Emit, Mark, Clear, Keep, Unless, Skip, Call, Visit, Send}
 use Rattle.code_language.specs.Instrs.{SendTo, Play, Home, Begin, Pass, Ret}
-use Rattle.code_costs.proofs.Sound.{or_none, instructions_at}
+use Rattle.code_language.proofs.Sound.{or_none, instructions_at}
 use Rattle.code_shrink.specs.Follows.{renamed, note_by}
 use Rattle.code_shrink.specs.Neat.{Names, IsReached, AtStart, AtReaction, Named, IsNeat, IsNeatProcedure}
 use Rattle.code_shrink.specs.Smaller.{count, one_if, keeps, is_idle, straight, smaller, recounted}

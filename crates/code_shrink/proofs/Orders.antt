@@ -8,7 +8,7 @@ use Rattle.code_language.specs.Sound.{AreProcs, CallsBelow}
 use Rattle.code_language.specs.WellFormed.{Known}
 use Rattle.code_language.proofs.Measures.{height_measure, work_measure}
 use Rattle.code_language.proofs.Reckoned.{IsMeasure, reckon_is, reckon_bounded}
-use Rattle.code_costs.proofs.Sound.{calls_at}
+use Rattle.code_language.proofs.Sound.{calls_at}
 use Rattle.code_shrink.specs.Smaller.{straight, count, smaller}
 use Rattle.code_shrink.specs.Whole.{is_live, number_in, collected}
 use Rattle.code_shrink.proofs.Closed.{IsMarked, AreClosed, old_of, AllClosed}

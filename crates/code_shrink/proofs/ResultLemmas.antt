@@ -5,7 +5,7 @@ use Rattle.std.specs.Prelude.{slice_get, slice_index_or}
 use Rattle.code_language.specs.Code.{Procedures, instructions, fetch}
 use Rattle.code_language.specs.Instrs.{Instr, Assign, Emit, Mark, Clear, Keep, Unless, Skip, Call, Visit, Send}
 use Rattle.code_language.specs.Instrs.{SendTo, Play, Home, Begin, Pass, Ret, Cond, Result}
-use Rattle.code_costs.proofs.Sound.{or_none, instructions_at}
+use Rattle.code_language.proofs.Sound.{or_none, instructions_at}
 use Rattle.code_shrink.specs.Follows.{renamed}
 use Rattle.code_shrink.specs.Shrunk.{IsThere, KeepsResults}
 use Rattle.code_shrink.specs.Smaller.{folded, slides, threaded, straight, keeps, recounted, squeezed, smaller}

@@ -12,7 +12,7 @@ use Rattle.code_language.specs.Sound.{AreSound}
 use Rattle.code_language.specs.WellFormed.{Known, known_of, is_state, is_event, is_proc, note_known, instr_known}
 use Rattle.code_language.specs.WellFormed.{skips_within, IsCode}
 use Rattle.code_language.proofs.Accepted.{first_true, second_true}
-use Rattle.code_costs.proofs.Sound.{code_parts, proc_at, or_none, instructions_at}
+use Rattle.code_language.proofs.Sound.{code_parts, proc_at, or_none, instructions_at}
 use Rattle.code_shrink.specs.Follows.{renamed, note_by}
 use Rattle.code_shrink.specs.Neat.{Comes, IsReached, AtStart, AtReaction, Named, IsNeat, IsNeatProcedure}
 use Rattle.code_shrink.specs.Smaller.{count, one_if, straight, smaller}

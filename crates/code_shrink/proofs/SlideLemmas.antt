@@ -14,7 +14,7 @@ use Rattle.code_language.specs.Instrs.{SendTo, Play, Home, Begin, Pass, Ret}
 use Rattle.code_language.specs.Sound.{IsSound, AreSound, EndsInRet}
 use Rattle.code_language.specs.WellFormed.{Known, skips_within, instr_typed, cond_typed, is_plain, is_flag}
 use Rattle.code_language.proofs.ListLemmas.{drop_map_at, drop_past}
-use Rattle.code_costs.proofs.Sound.{both_true}
+use Rattle.code_language.proofs.Sound.{both_true}
 use Rattle.code_shrink.specs.declared.places.Way.{Way}
 use Rattle.code_shrink.specs.Follows.{goes_on}
 use Rattle.code_shrink.specs.Neat.{is_closed}

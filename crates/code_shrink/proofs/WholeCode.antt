@@ -18,7 +18,7 @@ use Rattle.code_language.specs.declared.fault.CodeKind.{CodeKind}
 use Rattle.code_language.specs.declared.fault.CodeKind.TheVariants as kinds
 use Rattle.code_language.specs.declared.limits.TheConstants.{PROC_LIMIT, INSTR_LIMIT, HEIGHT_LIMIT, WORK_LIMIT}
 use Rattle.code_language.proofs.Accepted.{no_procs_fault, none_over, both_true, first_none, unless_none, holds_none}
-use Rattle.code_costs.proofs.Sound.{code_parts, proc_at, or_none, instructions_at}
+use Rattle.code_language.proofs.Sound.{code_parts, proc_at, or_none, instructions_at}
 use Rattle.code_shrink.specs.Follows.{NoteIn, NamesIn}
 use Rattle.code_shrink.specs.Neat.{IsAfter, Comes, First, After, Names}
 use Rattle.code_shrink.specs.Smaller.{count, one_if, straight, smaller}

@@ -12,7 +12,7 @@ use Rattle.code_language.specs.Instrs.{SendTo, Play, Home, Begin, Pass, Ret}
 use Rattle.code_language.specs.WellFormed.{known_of, IsCode}
 use Rattle.code_language.specs.declared.limits.TheConstants.{PROC_LIMIT, INSTR_LIMIT}
 use Rattle.code_language.proofs.ListLemmas.{or_false, drop_past}
-use Rattle.code_costs.proofs.Sound.{code_parts}
+use Rattle.code_language.proofs.Sound.{code_parts}
 use Rattle.code_shrink.specs.Follows.{renamed, note_by}
 use Rattle.code_shrink.specs.Numbers.{number_by}
 use Rattle.code_shrink.specs.Shrunk.{IsShrunk}

@@ -7,7 +7,7 @@ pub record RunBounds : Type 0 where
   pub depth : ℕ
   pub steps : ℕ
 
--- the default bounds, which are those of `Bounds::usual` of `flow_base` and of `CaseRun` of `selftest_command`
+-- the default bounds, which are those of `Bounds::usual` of `flow_base` and of `CaseRun` of `flow_program`
 abbrev pub usual_bounds : RunBounds
 usual_bounds = record { depth = 8; steps = 10000 }
 

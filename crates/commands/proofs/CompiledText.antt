@@ -9,7 +9,7 @@ use Rattle.code_text.specs.Reading.{spelled}
 use Rattle.code_text.specs.Spelling.{code_text}
 use Rattle.code_text.specs.Written.{written_of, code_written}
 use Rattle.code_text.proofs.OutcomeLemmas.{spelled-text, code_text-one}
-use Rattle.chart_layout.specs.Bodies.{code_of_chart}
+use Rattle.chart_code.specs.Bodies.{code_of_chart}
 use Rattle.commands.specs.CodeText.{IsCodeText}
 use Rattle.commands.specs.Compile.{IsCompiled}
 

@@ -20,3 +20,5 @@ pub mod NetRulesLemmas
 pub mod NetMachineLemmas
 pub mod NetJoinLemmas
 pub mod NetEndLemmas
+pub mod FrontLemmas
+pub mod ErrorLineLemmas

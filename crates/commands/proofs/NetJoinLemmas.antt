@@ -6,7 +6,7 @@ use lib.ListN.{get_or}
 use Rattle.flow_base.specs.declared.bounds.Bounds.{Bounds}
 use Rattle.actions.specs.Names.{Names}
 use Rattle.checked_chart.specs.Chart.{Chart}
-use Rattle.chart_layout.specs.Bodies.{code_of_chart}
+use Rattle.chart_code.specs.Bodies.{code_of_chart}
 use Rattle.chart_net.specs.NetParts.{IsNet, net_shown, routes_of}
 use Rattle.chart_net.specs.Nets.{ChartOf}
 use Rattle.chart_net.specs.Routes.{IsRoute}

@@ -12,8 +12,8 @@ use Rattle.checked_chart.specs.Valid.{IsValid}
 use Rattle.code_language.specs.Reactions as code
 use Rattle.code_machine.specs.Engine.{Program}
 use Rattle.code_machine.specs.contracts.engine.MachineEngine.TheImpl as machine
-use Rattle.chart_layout.specs.Bodies.{code_of_chart}
-use Rattle.chart_layout.proofs.Whole.{code_runs}
+use Rattle.chart_code.specs.Bodies.{code_of_chart}
+use Rattle.chart_code.proofs.Whole.{code_runs}
 use Rattle.chart_net.specs.Nets.{Net, ChartOf, net_of, start_of, reaction_of}
 use Rattle.net_text.specs.declared.net.NetChart.{NetChart}
 use Rattle.net_text.specs.declared.route.Route.{Route}

@@ -13,8 +13,8 @@ use Rattle.code_language.specs.Code.{Code}
 use Rattle.code_language.specs.Reactions as code
 use Rattle.code_shrink.specs.Shrunk.{IsShrunk}
 use Rattle.chart_compile.specs.Compiled.{RunsAs}
-use Rattle.chart_layout.specs.Bodies.{code_of_chart}
-use Rattle.chart_layout.proofs.Whole.{code_runs}
+use Rattle.chart_code.specs.Bodies.{code_of_chart}
+use Rattle.chart_code.proofs.Whole.{code_runs}
 use Rattle.commands.specs.Call.{Call}
 use Rattle.step_driver.specs.Traces.{RunFault, Ran}
 use Rattle.step_driver.specs.Driving.{Seen, Wrote, RanFirst, IsStartLine, engine_runs, Drives}

@@ -14,7 +14,7 @@ use Rattle.code_lines.specs.declared.format.Format.TheVariants.{Two}
 use Rattle.code_text.specs.declared.limits.TheConstants.{TEXT_LIMIT}
 use Rattle.code_text.specs.Spelling.{code_text, IsSpellable}
 use Rattle.code_text.specs.Written.{written_of}
-use Rattle.chart_layout.specs.Bodies.{code_of_chart}
+use Rattle.chart_code.specs.Bodies.{code_of_chart}
 use Rattle.commands.specs.declared.text.TextEnd.{TextEnd}
 use Rattle.commands.specs.Call.{Call}
 use Rattle.commands.specs.Texts.{TextEnds}

@@ -22,3 +22,5 @@ pub mod NetRules
 pub mod NetMachines
 pub mod Schedule
 pub mod NetCommand
+pub mod Endings
+pub mod ErrorLines

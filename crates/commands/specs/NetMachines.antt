@@ -4,7 +4,7 @@ use Rattle.std.specs.List.{AllByRecursion}
 use Rattle.flow_base.specs.declared.bounds.Bounds.{Bounds}
 use Rattle.checked_chart.specs.Chart.{Chart}
 use Rattle.checked_chart.specs.Valid.{IsValid}
-use Rattle.chart_layout.specs.Bodies.{code_of_chart}
+use Rattle.chart_code.specs.Bodies.{code_of_chart}
 use Rattle.chart_net.specs.NetParts.{IsNet, charts_of, routes_of}
 use Rattle.chart_net.specs.Nets.{ChartOf}
 use Rattle.chart_net.specs.declared.net.Net.{Net as Parts}

@@ -5,7 +5,7 @@ ghost use Rattle.code_language.specs.declared.code.RawCode.{RawCode};
 ghost use Rattle.code_language.specs.Code.{code_of};
 ghost use Rattle.code_text.specs.Reading.{spelled};
 ghost use Rattle.code_text.specs.Written.{written_of};
-ghost use Rattle.chart_layout.specs.Bodies.{code_of_chart};
+ghost use Rattle.chart_code.specs.Bodies.{code_of_chart};
 ghost use Rattle.commands.specs.CodeText.{IsCodeText};
 ghost use Rattle.commands.specs.Compile.{IsCompiled};
 

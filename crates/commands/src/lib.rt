@@ -1,6 +1,7 @@
 //! The commands over files: `check`, `bounds`, `rules`, `compile`, `exec`, `run`, `upgrade`,
 //! `shrink` and `net`, and what they share: a file read whole, a text that is written, and the trace
-//! of any engine.
+//! of any engine. And what the answers of both programs share: how a call ends, and pieces of the
+//! line on standard error.
 //!
 //! Read `specs/Call.antt` first, then `specs/Reading.antt`, `specs/Writing.antt` and
 //! `specs/Texts.antt`, which says how a command ends that writes one text made of one file;
@@ -11,6 +12,10 @@
 //! `specs/CodeText.antt` which code texts are read. For `net` read `specs/NetCharts.antt`,
 //! `specs/NetRoutes.antt`, `specs/NetRules.antt`, `specs/Schedule.antt` and
 //! `specs/NetCommand.antt`, in this order.
+//!
+//! `specs/Endings.antt` says how a call ends at once, and how it ends as its command does.
+//! `specs/ErrorLines.antt` has the line on standard error of a chart text that is refused, and says
+//! what stands there where a write fails.
 #![tactic(auto)]
 
 mod accepted_file;
@@ -19,6 +24,7 @@ mod check;
 mod code_file;
 mod compile;
 mod compile_laws;
+mod error_line;
 mod exec;
 mod fault_word;
 mod file;
@@ -42,6 +48,7 @@ pub use bounds::bound_chart;
 pub use check::check_chart;
 pub use compile::{compile_chart, compiled_text};
 pub use compile_laws::what_compile_writes_is_read;
+pub use error_line::{write_kind, write_number, write_refusal};
 pub use exec::{ExecEnd, exec_code, run_code};
 pub use fault_word::FaultWord;
 pub use file::{FileEnd, read_text};

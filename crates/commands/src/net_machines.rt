@@ -3,7 +3,7 @@ ghost use Rattle.std.specs.Prelude.{◌≡◌, ◌<◌, ◌≤◌, [], false, is
 ghost use Rattle.std.specs.Prelude.{length, true, IfOk, OnOk, None};
 ghost use Rattle.std.specs.List.{list_any};
 ghost use Rattle.std.specs.Str.{bytes_eq};
-ghost use Rattle.chart_layout.specs.Bodies.{code_of_chart};
+ghost use Rattle.chart_code.specs.Bodies.{code_of_chart};
 ghost use Rattle.chart_net.specs.NetParts.{IsNet, net_shown};
 ghost use Rattle.checked_chart.specs.Kept.{chart_of};
 ghost use Rattle.checked_chart.specs.Valid.{IsValid};

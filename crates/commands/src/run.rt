@@ -2,7 +2,7 @@
 ghost use Rattle.std.specs.Prelude.{◌≡◌, ◌∷◌, [], IfOk};
 ghost use Rattle.checked_chart.specs.Kept.{chart_of};
 ghost use Rattle.code_language.specs.Code.{code_of};
-ghost use Rattle.chart_layout.specs.Bodies.{code_of_chart};
+ghost use Rattle.chart_code.specs.Bodies.{code_of_chart};
 ghost use Rattle.commands.specs.Call.{sources_of, call_of, OthersStay};
 ghost use Rattle.commands.specs.Trace.{TraceEnds};
 ghost use Rattle.commands.specs.Run.{by_compiled, RunEnds};

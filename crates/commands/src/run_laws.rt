@@ -9,7 +9,7 @@ ghost use Rattle.bound_prove.specs.declared.need.Need.{Need};
 ghost use Rattle.bound_prove.specs.Roots.{NoOverrun};
 ghost use Rattle.bound_prove.specs.Searches.{IsNeedOf};
 ghost use Rattle.chart_compile.specs.Compiled.{RunsAs};
-ghost use Rattle.chart_layout.specs.Bodies.{code_of_chart};
+ghost use Rattle.chart_code.specs.Bodies.{code_of_chart};
 ghost use Rattle.code_language.specs.Code.{Code};
 ghost use Rattle.code_language.specs.Reactions.{CodeRun};
 ghost use Rattle.code_shrink.specs.Shrunk.{IsShrunk};

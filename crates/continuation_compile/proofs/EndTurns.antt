@@ -2,8 +2,8 @@
 use Rattle.std.proofs.Common.{◌≡◌, ℕ, ◌<◌, ◌≤◌, true, false, arith}
 use Rattle.std.proofs.lemmas.Bool.Decides.{nat_tests}
 use Rattle.active_config.specs.Tree.{Tree, IsTree, state_count, is_below}
-use Rattle.chart_layout.specs.Ends.{end_of}
-use Rattle.chart_layout.proofs.EndsLemmas.{end_is}
+use Rattle.chart_code.specs.Ends.{end_of}
+use Rattle.chart_code.proofs.EndsLemmas.{end_is}
 
 module _ (t : Tree) (tree : IsTree t) (s x : ℕ) (low : s < state_count t) (there : x < state_count t) (after : s < x) where
   -- a state below another one stands before its end

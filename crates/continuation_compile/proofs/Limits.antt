@@ -11,12 +11,12 @@ use Rattle.checked_chart.specs.declared.parts.ListKind.TheVariants.{Outer, Inner
 use Rattle.checked_chart.specs.Chart.{Chart, Node, Trans, node, no_node, node_list, list_of, junction, junction_count}
 use Rattle.checked_chart.specs.Counts.{node_transitions}
 use Rattle.checked_chart.specs.Valid.{IsValid, AreTrans}
-use Rattle.chart_layout.specs.Ends.{below_count}
-use Rattle.chart_layout.specs.Places.{guard_count, block_count, trans_size, parts_size, reached_count}
-use Rattle.chart_layout.specs.ReachedJunctions.{reached}
-use Rattle.chart_layout.proofs.EndsLemmas.{end_is}
-use Rattle.chart_layout.proofs.Weights.{at_most_all}
-use Rattle.chart_layout.proofs.ReachedLemmas.{are_reached, list_valid}
+use Rattle.chart_code.specs.Ends.{below_count}
+use Rattle.chart_code.specs.Places.{guard_count, block_count, trans_size, parts_size, reached_count}
+use Rattle.chart_code.specs.ReachedJunctions.{reached}
+use Rattle.chart_code.proofs.EndsLemmas.{end_is}
+use Rattle.chart_code.proofs.Weights.{at_most_all}
+use Rattle.chart_code.proofs.ReachedLemmas.{are_reached, list_valid}
 use Rattle.continuation_compile.specs.declared.number_limits.TheConstants.{LIST_PARTS_LIMIT}
 
 -- what stands at a place is one of those that are summed

@@ -10,13 +10,13 @@ use Rattle.checked_chart.specs.Chart.{Chart, Trans, life_of}
 use Rattle.checked_chart.specs.Valid.{IsDest, AreTrans}
 use Rattle.checked_chart.specs.Views.{trans_seen, list_seen}
 use Rattle.code_language.specs.Instrs.{Cond, Instr}
-use Rattle.chart_procedures.specs.ListProcedures.{Search, dest_code, condition_code}
-use Rattle.chart_procedures.specs.ListProcedures.{guarded_code, event_code, trans_code}
-use Rattle.chart_procedures.specs.ListProcedures.{list_code}
-use Rattle.chart_procedures.specs.Numbers.{TransNumbers, condition_of}
-use Rattle.chart_procedures.specs.StateProcedures.{life_test}
+use Rattle.chart_code.specs.ListProcedures.{Search, dest_code, condition_code}
+use Rattle.chart_code.specs.ListProcedures.{guarded_code, event_code, trans_code}
+use Rattle.chart_code.specs.ListProcedures.{list_code}
+use Rattle.chart_code.specs.Numbers.{TransNumbers, condition_of}
+use Rattle.chart_code.specs.StateProcedures.{life_test}
 use Rattle.code_language.specs.Instrs as instrs
-use Rattle.chart_layout.specs.Places.{trans_size, parts_size, trans_numbers, parts_numbers}
+use Rattle.chart_code.specs.Places.{trans_size, parts_size, trans_numbers, parts_numbers}
 use Rattle.continuation_compile.specs.Drafts.{test_of}
 use Rattle.continuation_compile.specs.Searches.{lasting_seen}
 

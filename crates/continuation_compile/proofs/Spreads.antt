@@ -8,7 +8,7 @@ use Rattle.checked_chart.specs.declared.parts.Dest.{Dest}
 use Rattle.checked_chart.specs.declared.parts.Dest.TheVariants.{State, Junction}
 use Rattle.checked_chart.specs.Chart.{Chart, Trans, junction_count}
 use Rattle.checked_chart.specs.Valid.{AreTrans, IsDest}
-use Rattle.chart_layout.specs.ReachedJunctions.{has, meet_one, meet, on_some, spread, with_junction, junctions_to}
+use Rattle.chart_code.specs.ReachedJunctions.{has, meet_one, meet, on_some, spread, with_junction, junctions_to}
 
 -- within a list an item stands
 pub get_there : (xs : List ℕ) (i d : ℕ) → i < length xs → slice_get xs i ≡ Some (slice_index_or xs i d)

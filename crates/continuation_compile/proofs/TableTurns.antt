@@ -3,7 +3,7 @@ use Rattle.std.proofs.Common.{◌≡◌, ℕ, zero, suc, ◌+◌, ◌*◌, ◌<�
 use Rattle.std.proofs.Common.{arith, inl, inr, length-append, subst}
 use Rattle.std.specs.Prelude.{slice_index_or}
 use Rattle.std.proofs.lemmas.Bool.{cases_lt}
-use Rattle.chart_layout.specs.Orders.{sum_to}
+use Rattle.chart_code.specs.Orders.{sum_to}
 use Rattle.continuation_compile.specs.declared.number_limits.TheConstants.{SIZE_LIMIT, SUM_LIMIT}
 use Rattle.continuation_compile.specs.Tables.{IsTable, AreLow}
 

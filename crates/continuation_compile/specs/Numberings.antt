@@ -7,9 +7,9 @@ use Rattle.checked_chart.specs.declared.parts.ListKind.TheVariants.{Outer, Defau
 use Rattle.checked_chart.specs.Chart.{Chart, junction_count}
 use Rattle.checked_chart.specs.Kept.{chart_of}
 use Rattle.checked_chart.specs.Valid.{IsValid}
-use Rattle.chart_layout.specs.Ends.{below_count}
-use Rattle.chart_layout.specs.Orders.{sum_to}
-use Rattle.chart_layout.specs.Places.{reached_count, state_parts_size, junction_parts_size, group_size, lists_size}
+use Rattle.chart_code.specs.Ends.{below_count}
+use Rattle.chart_code.specs.Orders.{sum_to}
+use Rattle.chart_code.specs.Places.{reached_count, state_parts_size, junction_parts_size, group_size, lists_size}
 use Rattle.continuation_compile.specs.declared.number_limits.TheConstants.{SUM_LIMIT}
 use Rattle.continuation_compile.specs.declared.numbering.Numbering.{Numbering}
 use Rattle.continuation_compile.specs.Tables.{IsTable}

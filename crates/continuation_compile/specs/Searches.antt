@@ -5,9 +5,9 @@ use Rattle.active_config.specs.Tree.{state_count}
 use Rattle.checked_chart.specs.declared.parts.ListKind.{ListKind}
 use Rattle.checked_chart.specs.declared.parts.ListKind.TheVariants.{Outer, Inner, Default}
 use Rattle.checked_chart.specs.Chart.{Chart, list_of}
-use Rattle.chart_procedures.specs.ListProcedures as templates
-use Rattle.chart_layout.specs.Places.{numbers, list_numbers, list_at}
-use Rattle.chart_layout.specs.ReachedJunctions.{reached}
+use Rattle.chart_code.specs.ListProcedures as templates
+use Rattle.chart_code.specs.Places.{numbers, list_numbers, list_at}
+use Rattle.chart_code.specs.ReachedJunctions.{reached}
 use Rattle.continuation_compile.specs.declared.blocks.Lasting.{Lasting}
 use Rattle.continuation_compile.specs.declared.blocks.Lasting.TheVariants.{On, Bare}
 use Rattle.continuation_compile.specs.declared.number_limits.TheConstants.{SEARCH_LIMIT}

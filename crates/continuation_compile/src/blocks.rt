@@ -3,10 +3,10 @@ ghost use Rattle.std.specs.Prelude.{◌≡◌, ◌++◌, ◌∷◌, [], map, OnO
 ghost use Rattle.actions.specs.Trees.{expr_of, stmt_of};
 ghost use Rattle.code_language.specs.Code.{cond_of};
 ghost use Rattle.checked_chart.specs.Views.{block_seen, trans_seen, list_seen};
-ghost use Rattle.chart_procedures.specs.StateProcedures as templates;
-ghost use Rattle.chart_layout.specs.Places.{numbers};
-ghost use Rattle.chart_layout.specs.Keys as keys;
-ghost use Rattle.chart_layout.specs.Bodies.{body};
+ghost use Rattle.chart_code.specs.StateProcedures as templates;
+ghost use Rattle.chart_code.specs.Places.{numbers};
+ghost use Rattle.chart_code.specs.Keys as keys;
+ghost use Rattle.chart_code.specs.Bodies.{body};
 ghost use Rattle.continuation_compile.specs.Drafts.{Stmts, code_seen, procs_of, test_of};
 ghost use Rattle.continuation_compile.specs.Numberings.{chart_in, IsNumbering};
 
@@ -135,7 +135,7 @@ fn append_trans_parts(
 }
 
 /// Appends the procedures of the parts of the transitions of a list.
-#[tactic(auto, unfolding(chart_layout::specs::Keys::parts_keys))]
+#[tactic(auto, unfolding(chart_code::specs::Keys::parts_keys))]
 pub fn append_parts(
     alloc: Global,
     draft: &mut Draft,

@@ -5,8 +5,8 @@ ghost use Rattle.flow_base.specs.Lists.{items_of};
 ghost use Rattle.active_config.specs.Tree.{IsTree, state_count};
 ghost use Rattle.checked_chart.specs.Chart.{junction_count};
 ghost use Rattle.checked_chart.specs.Kept.{chart_of};
-ghost use Rattle.chart_layout.specs.Ends as ends;
-ghost use Rattle.chart_layout.specs.Places as places;
+ghost use Rattle.chart_code.specs.Ends as ends;
+ghost use Rattle.chart_code.specs.Places as places;
 ghost use Rattle.continuation_compile.specs.declared.number_limits.TheConstants as limits;
 ghost use Rattle.continuation_compile.specs.Tables.{IsTable, AreLow};
 
@@ -64,7 +64,7 @@ pub(crate) fn list_parts_size(chart: &Chart, state: u32, kind: ListKind) -> u32
 }
 
 /// How many procedures the parts of the transitions of a state have.
-#[tactic(auto, unfolding(chart_layout::specs::Places::state_parts_size))]
+#[tactic(auto, unfolding(chart_code::specs::Places::state_parts_size))]
 fn state_parts_size(chart: &Chart, state: u32) -> u32
     requires { state < state_count (chart_of chart.now).tree }
     ensures size { result ≡ places.state_parts_size (chart_of chart.now) state }
@@ -88,7 +88,7 @@ pub(crate) fn state_parts_sizes(alloc: Global, chart: &Chart) -> Result<List<u32
 }
 
 /// How many procedures the parts of the transitions of a junction have.
-#[tactic(auto, unfolding(chart_layout::specs::Places::junction_parts_size))]
+#[tactic(auto, unfolding(chart_code::specs::Places::junction_parts_size))]
 fn junction_parts_size(chart: &Chart, junction: u32) -> u32
     requires { junction < junction_count (chart_of chart.now) }
     ensures size { result ≡ places.junction_parts_size (chart_of chart.now) junction }

@@ -2,7 +2,7 @@
 ghost use Rattle.std.specs.Prelude.{◌≡◌, [], ◌∷◌, ◌++◌, OnOk, OnErr, None};
 ghost use Rattle.code_language.specs.Code.{cond_of, instr_of};
 ghost use Rattle.code_language.specs.Instrs as instrs;
-ghost use Rattle.chart_procedures.specs.StateProcedures as templates;
+ghost use Rattle.chart_code.specs.StateProcedures as templates;
 ghost use Rattle.continuation_compile.specs.Drafts.{code_seen, procs_of};
 
 use crate::results::{DONE, EMPTY_JUNCTION};

@@ -2,8 +2,8 @@
 //!
 //! Read `specs/Drafts.antt`, what a draft and the code of a procedure are as contracts see them,
 //! and `specs/Numberings.antt`, what a numbering keeps. Each call says what it appends, in the
-//! words of `chart_procedures` and `chart_layout`. `reached::reached` gives the junctions of a list
-//! in the order of their procedures.
+//! words of `chart_code`. `reached::reached` gives the junctions of a list in the order of their
+//! procedures.
 #![tactic(auto)]
 
 mod blocks;

@@ -1,6 +1,6 @@
 //! Where the procedures of a state stand among each other.
 //!
-//! They are the numbers of `chart_layout/specs/Places.antt`.
+//! They are the numbers of `chart_code/specs/Places.antt`.
 
 /// The number of the end mark, the first procedure of all.
 pub const END_MARK: u32 = 0;

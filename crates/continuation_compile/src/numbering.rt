@@ -5,8 +5,8 @@ ghost use Rattle.active_config.specs.Tree.{state_count};
 ghost use Rattle.checked_chart.specs.Chart.{junction_count};
 ghost use Rattle.checked_chart.specs.declared.parts.ListKind.TheVariants.{Outer, Default};
 ghost use Rattle.checked_chart.specs.Kept.{chart_of};
-ghost use Rattle.chart_layout.specs.Ends as ends;
-ghost use Rattle.chart_layout.specs.Places as places;
+ghost use Rattle.chart_code.specs.Ends as ends;
+ghost use Rattle.chart_code.specs.Places as places;
 ghost use Rattle.continuation_compile.specs.declared.number_limits.TheConstants as limits;
 ghost use Rattle.continuation_compile.specs.Numberings.{chart_in, IsNumbering};
 
@@ -107,7 +107,7 @@ impl<'a> Numbering<'a> {
     }
 
     /// The number of the first part of a transition of a state.
-    #[tactic(auto, unfolding(chart_layout::specs::Places::state_parts_start))]
+    #[tactic(auto, unfolding(chart_code::specs::Places::state_parts_start))]
     fn state_parts_start(&self) -> u32
         requires numbers { IsNumbering self.now }
         ensures start { result ≡ places.state_parts_start (chart_in self.now) }
@@ -218,7 +218,7 @@ impl<'a> Numbering<'a> {
     }
 
     /// The number of the procedure that enters a state by default.
-    #[tactic(auto, unfolding(chart_layout::specs::Places::numbers))]
+    #[tactic(auto, unfolding(chart_code::specs::Places::numbers))]
     pub fn defaults(&self, state: u32) -> u32
         requires numbers { IsNumbering self.now }
         requires state { state < state_count (chart_in self.now).tree }
@@ -228,7 +228,7 @@ impl<'a> Numbering<'a> {
     }
 
     /// The number of the procedure that arrives in a state on the way to another one.
-    #[tactic(auto, unfolding(chart_layout::specs::Places::numbers))]
+    #[tactic(auto, unfolding(chart_code::specs::Places::numbers))]
     pub fn arrive(&self, state: u32, dest: u32) -> u32
         requires numbers { IsNumbering self.now }
         requires state { state < state_count (chart_in self.now).tree }
@@ -242,7 +242,7 @@ impl<'a> Numbering<'a> {
     }
 
     /// The number of the procedure of a firing in a state to another one.
-    #[tactic(auto, unfolding(chart_layout::specs::Places::numbers))]
+    #[tactic(auto, unfolding(chart_code::specs::Places::numbers))]
     pub fn take(&self, state: u32, dest: u32) -> u32
         requires numbers { IsNumbering self.now }
         requires state { state < state_count (chart_in self.now).tree }
@@ -257,7 +257,7 @@ impl<'a> Numbering<'a> {
     }
 
     /// The number of the procedure that enters a state on the way to another one.
-    #[tactic(auto, unfolding(chart_layout::specs::Places::numbers))]
+    #[tactic(auto, unfolding(chart_code::specs::Places::numbers))]
     pub fn enter(&self, state: u32, dest: u32) -> u32
         requires numbers { IsNumbering self.now }
         requires state { state < state_count (chart_in self.now).tree }
@@ -272,7 +272,7 @@ impl<'a> Numbering<'a> {
     }
 
     /// The number of the procedure that processes a state.
-    #[tactic(auto, unfolding(chart_layout::specs::Places::numbers))]
+    #[tactic(auto, unfolding(chart_code::specs::Places::numbers))]
     pub fn process(&self, state: u32) -> u32
         requires numbers { IsNumbering self.now }
         ensures { result ≡ (places.numbers (chart_in self.now)).process state }

@@ -6,9 +6,9 @@ ghost use Rattle.active_config.specs.Tree.{state_count};
 ghost use Rattle.checked_chart.specs.Chart.{junction_count};
 ghost use Rattle.checked_chart.specs.declared.parts.ListKind.TheVariants.{Outer, Default};
 ghost use Rattle.checked_chart.specs.Kept.{chart_of};
-ghost use Rattle.chart_layout.specs.Ends as ends;
-ghost use Rattle.chart_layout.specs.Orders.{sum_to};
-ghost use Rattle.chart_layout.specs.Places as places;
+ghost use Rattle.chart_code.specs.Ends as ends;
+ghost use Rattle.chart_code.specs.Orders.{sum_to};
+ghost use Rattle.chart_code.specs.Places as places;
 ghost use Rattle.continuation_compile.specs.declared.number_limits.TheConstants as limits;
 ghost use Rattle.continuation_compile.specs.Tables.{IsTable};
 

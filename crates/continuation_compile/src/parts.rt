@@ -1,8 +1,8 @@
 //! The numbers of the parts of a transition.
 ghost use Rattle.std.specs.Prelude.{◌≡◌, ◌≤◌, ◌+◌};
 ghost use Rattle.checked_chart.specs.Views.{trans_seen};
-ghost use Rattle.chart_procedures.specs.Numbers.{condition_of};
-ghost use Rattle.chart_layout.specs.Places.{guard_count, trans_numbers};
+ghost use Rattle.chart_code.specs.Numbers.{condition_of};
+ghost use Rattle.chart_code.specs.Places.{guard_count, trans_numbers};
 ghost use Rattle.continuation_compile.specs.declared.number_limits.TheConstants as limits;
 
 use checked_chart::{ListKind, Trans};

@@ -6,14 +6,14 @@ ghost use Rattle.checked_chart.specs.Chart.{junction_count};
 ghost use Rattle.checked_chart.specs.Kept.{chart_of};
 ghost use Rattle.checked_chart.specs.Valid.{AreTrans};
 ghost use Rattle.checked_chart.specs.Views.{list_seen};
-ghost use Rattle.chart_layout.specs.ReachedJunctions as spec;
+ghost use Rattle.chart_code.specs.ReachedJunctions as spec;
 
 use checked_chart::{Chart, Dest, Trans};
 use flow_base::{List, Memory};
 use std::alloc::Global;
 
 /// Whether a number is in a list.
-#[tactic(auto, unfolding(chart_layout::specs::ReachedJunctions::has))]
+#[tactic(auto, unfolding(chart_code::specs::ReachedJunctions::has))]
 fn has(list: &[u32], number: u32) -> bool
     ensures { result ≡ spec.has list.now number }
 {
@@ -37,7 +37,7 @@ fn meet_one(found: &mut List<u32>, number: u32) -> Result<(), Memory>
 }
 
 /// The junctions to which a list leads, those that are new.
-#[tactic(auto, unfolding(chart_layout::specs::ReachedJunctions::meet, chart_layout::specs::ReachedJunctions::junctions_to))]
+#[tactic(auto, unfolding(chart_code::specs::ReachedJunctions::meet, chart_code::specs::ReachedJunctions::junctions_to))]
 fn meet_all(found: &mut List<u32>, list: &[Trans]) -> Result<(), Memory>
     ensures { OnOk result (items_of found.new
         ≡ spec.meet (items_of found.old) (spec.junctions_to (list_seen list.now))) }
@@ -72,7 +72,7 @@ pub fn reached(alloc: Global, chart: &Chart, list: &[Trans]) -> Result<List<u32>
 }
 
 /// The place of a junction among those that were found.
-#[tactic(auto, unfolding(chart_layout::specs::ReachedJunctions::place_of))]
+#[tactic(auto, unfolding(chart_code::specs::ReachedJunctions::place_of))]
 pub(crate) fn place_of(found: &[u32], junction: u32) -> u32
     requires { length found.now < 2 ^ 32 }
     ensures place { result ≡ spec.place_of found.now junction }

@@ -1,6 +1,6 @@
 //! What the procedures of a chart return.
 //!
-//! The templates have these numbers: `went_result` of `chart_procedures/specs/StateProcedures.antt`
+//! The templates have these numbers: `went_result` of `chart_code/specs/StateProcedures.antt`
 //! gives `DONE` for `Stay`, and `FIRST_HOME + h` for `Out h`.
 
 /// A search found nothing.

@@ -5,11 +5,11 @@ ghost use Rattle.active_config.specs.Tree.{state_count};
 ghost use Rattle.checked_chart.specs.Chart.{junction_count};
 ghost use Rattle.checked_chart.specs.Valid.{AreTrans, IsDest};
 ghost use Rattle.checked_chart.specs.Views.{list_seen, trans_seen};
-ghost use Rattle.chart_procedures.specs.ListProcedures as templates;
+ghost use Rattle.chart_code.specs.ListProcedures as templates;
 ghost use Rattle.code_language.specs.Instrs as instrs;
-ghost use Rattle.chart_layout.specs.Places as places;
-ghost use Rattle.chart_layout.specs.Keys as keys;
-ghost use Rattle.chart_layout.specs.Bodies.{body};
+ghost use Rattle.chart_code.specs.Places as places;
+ghost use Rattle.chart_code.specs.Keys as keys;
+ghost use Rattle.chart_code.specs.Bodies.{body};
 ghost use Rattle.continuation_compile.specs.declared.number_limits.TheConstants as limits;
 ghost use Rattle.continuation_compile.specs.Drafts.{Instrs, IsFront, code_seen, procs_of, test_of};
 ghost use Rattle.continuation_compile.specs.Numberings.{chart_in, IsNumbering};
@@ -52,7 +52,7 @@ fn lasting(kind: ListKind) -> Lasting
 }
 
 /// The number of the procedure of a firing of a list.
-#[tactic(auto, unfolding(chart_layout::specs::Places::numbers))]
+#[tactic(auto, unfolding(chart_code::specs::Places::numbers))]
 fn fire(numbering: &Numbering<'_>, state: u32, kind: ListKind, dest: u32) -> u32
     requires numbers { IsNumbering numbering.now }
     requires state { state < state_count (chart_in numbering.now).tree }
@@ -85,7 +85,7 @@ fn fired(numbering: &Numbering<'_>, state: u32, kind: ListKind, dest: u32) -> u3
 }
 
 /// Appends where a transition leads: a firing, or a visit of a junction.
-#[tactic(auto, unfolding(chart_layout::specs::Places::list_numbers))]
+#[tactic(auto, unfolding(chart_code::specs::Places::list_numbers))]
 fn put_dest(
     code: &mut List<Instr>,
     numbering: &Numbering<'_>,
@@ -209,7 +209,7 @@ fn put_trans(
 }
 
 /// Appends the code of a list, the first of whose parts has the number `first`.
-#[tactic(auto, unfolding(chart_layout::specs::Places::parts_numbers, chart_layout::specs::Places::parts_size))]
+#[tactic(auto, unfolding(chart_code::specs::Places::parts_numbers, chart_code::specs::Places::parts_size))]
 fn put_list(
     code: &mut List<Instr>,
     numbering: &Numbering<'_>,
@@ -235,7 +235,7 @@ fn put_list(
 }
 
 /// Appends the code of an empty junction: a search ends there, unless it is that of a default list.
-#[tactic(auto, unfolding(chart_layout::specs::Places::numbers))]
+#[tactic(auto, unfolding(chart_code::specs::Places::numbers))]
 fn put_empty(
     code: &mut List<Instr>,
     numbering: &Numbering<'_>,
@@ -279,7 +279,7 @@ fn put_junction(
 }
 
 /// Appends the procedure of a junction that is reached from a list.
-#[tactic(auto, unfolding(chart_layout::specs::Places::list_numbers))]
+#[tactic(auto, unfolding(chart_code::specs::Places::list_numbers))]
 fn append_junction(
     alloc: Global,
     draft: &mut Draft,
@@ -326,7 +326,7 @@ fn append_junctions(
 }
 
 /// Appends the procedure of a list.
-#[tactic(auto, unfolding(chart_layout::specs::Places::list_numbers))]
+#[tactic(auto, unfolding(chart_code::specs::Places::list_numbers))]
 fn append_first(
     alloc: Global,
     draft: &mut Draft,

@@ -3,14 +3,14 @@ ghost use Rattle.std.specs.Prelude.{◌≡◌, ◌<◌, ◌≤◌, ◌^◌};
 ghost use Rattle.active_config.specs.Tree.{state_count};
 ghost use Rattle.active_config.specs.Tree as trees;
 ghost use Rattle.checked_chart.specs.Views.{list_seen, trans_seen};
-ghost use Rattle.chart_layout.specs.Ends as ends;
-ghost use Rattle.chart_layout.specs.Places as places;
+ghost use Rattle.chart_code.specs.Ends as ends;
+ghost use Rattle.chart_code.specs.Places as places;
 
 use active_config::Shape;
 use checked_chart::Trans;
 
 /// How many procedures the parts of a transition have.
-#[tactic(auto, unfolding(chart_layout::specs::Places::trans_size))]
+#[tactic(auto, unfolding(chart_code::specs::Places::trans_size))]
 pub(crate) fn trans_size(trans: &Trans) -> u32
     ensures size { result ≡ places.trans_size (trans_seen trans.now) }
     ensures few { result ≤ 4 }
@@ -22,7 +22,7 @@ pub(crate) fn trans_size(trans: &Trans) -> u32
 }
 
 /// How many procedures the parts of the transitions of a list have.
-#[tactic(auto, unfolding(chart_layout::specs::Places::parts_size))]
+#[tactic(auto, unfolding(chart_code::specs::Places::parts_size))]
 pub(crate) fn parts_size(list: &[Trans]) -> u32
     requires { places.parts_size (list_seen list.now) < 2 ^ 32 }
     ensures { result ≡ places.parts_size (list_seen list.now) }

@@ -2,7 +2,7 @@
 ghost use Rattle.std.specs.Prelude.{◌≡◌, ◌<◌, ◌≤◌, ℕ, suc, length, slice_index_or, IfOk};
 ghost use Rattle.flow_base.specs.declared.chart_limits.TheConstants.{JUNCTION_LIMIT};
 ghost use Rattle.flow_base.specs.Lists.{items_of};
-ghost use Rattle.chart_layout.specs.Orders.{sum_to};
+ghost use Rattle.chart_code.specs.Orders.{sum_to};
 ghost use Rattle.continuation_compile.specs.declared.number_limits.TheConstants as limits;
 ghost use Rattle.continuation_compile.specs.Tables.{IsTable, AreLow};
 

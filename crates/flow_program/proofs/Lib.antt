@@ -1,3 +1,6 @@
 pub mod ChartTextLemmas
+pub mod TraceLines
+pub mod MeasureLemmas
+pub mod SelftestLemmas
 pub mod UsageLemmas
 pub mod OthersLemmas

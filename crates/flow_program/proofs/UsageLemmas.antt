@@ -22,9 +22,9 @@ use Rattle.commands.specs.declared.net.NetCommandEnd.TheVariants as nets
 use Rattle.commands.specs.declared.schedule.ScheduleEnd.{ScheduleEnd}
 use Rattle.commands.specs.declared.schedule.ScheduleEnd.TheVariants as schedules
 use Rattle.net_text.specs.declared.fault.NetFault.{NetFault}
-use Rattle.selftest_command.specs.declared.command.SelftestEnd.{SelftestEnd}
-use Rattle.selftest_command.specs.declared.command.SelftestEnd.TheVariants as cases
 use Rattle.commands.specs.declared.refusal.Refusal.{Refusal}
+use Rattle.flow_program.specs.declared.selftest.SelftestEnd.{SelftestEnd}
+use Rattle.flow_program.specs.declared.selftest.SelftestEnd.TheVariants as cases
 use Rattle.flow_program.specs.declared.ending.Ending.{Ending}
 use Rattle.flow_program.specs.declared.ending.Ending.TheVariants as endings
 use Rattle.flow_program.specs.Ending.{of_chart_file, of_text, of_trace, of_rules}

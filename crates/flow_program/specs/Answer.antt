@@ -18,15 +18,15 @@ use Rattle.commands.specs.Upgrade.{UpgradeEnds}
 use Rattle.commands.specs.Compile.{CompileEnds}
 use Rattle.commands.specs.NetCommand.{NetEnds, NetOthersStay}
 use Rattle.commands.specs.Run.{RunEnds}
-use Rattle.selftest_command.specs.Selftest.{SelftestEnds}
-use Rattle.selftest_command.specs.declared.command.SelftestEnd.{SelftestEnd}
-use Rattle.program_answers.specs.Endings.{EndsAs, EndsAtOnce}
-use Rattle.program_answers.specs.Lines.{LineStands}
+use Rattle.commands.specs.Endings.{EndsAs, EndsAtOnce}
+use Rattle.commands.specs.ErrorLines.{LineStands}
 use Rattle.flow_program.specs.declared.ending.Ending.{Ending}
 use Rattle.flow_program.specs.declared.ending.Ending.TheVariants as endings
 use Rattle.flow_program.specs.Ending.{of_text, of_rules, of_exec, of_run, of_upgrade}
 use Rattle.flow_program.specs.Ending.{of_net, of_selftest, status_of, line_of}
 use Rattle.flow_program.specs.Fmt.{FmtEnds}
+use Rattle.flow_program.specs.Selftest.{SelftestEnds}
+use Rattle.flow_program.specs.declared.selftest.SelftestEnd.{SelftestEnd}
 
 -- a run ends so under the bounds of these numbers
 pub record Under {E : Type 0} (given : RunBounds) (EndsUnder : Bounds → E → Type 0) (end : E) : Type 0 where

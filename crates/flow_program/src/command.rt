@@ -8,13 +8,13 @@ ghost use Rattle.flow_program.specs.Answer.{Ends, CallEnds, OthersKeep, Answer};
 use crate::ending::Ending;
 use crate::fmt::format_chart;
 use crate::report::report;
+use crate::selftest::selftest;
 use command_words::{Command, command_from};
 use commands::{
     bound_chart, check_chart, compile_chart, exec_code, run_chart, run_compiled, run_net,
     shrink_code, upgrade_code,
 };
 use flow_base::{Inputs, Memory, Sink, Status};
-use selftest_command::selftest;
 use std::alloc::Global;
 
 /// Does all that the program does: reads the files that the words name, writes the answer on

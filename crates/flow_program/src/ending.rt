@@ -2,6 +2,7 @@
 ghost use Rattle.std.specs.Prelude.{◌≡◌};
 ghost use Rattle.flow_program.specs.Ending as spec;
 
+use crate::selftest::SelftestEnd;
 use code_text::CodeTextFault;
 use commands::{
     ChartOfNet, ExecEnd, FaultWord, FileEnd, NetCommandEnd, Refusal, RulesEnd, RunEnd, ScheduleEnd,
@@ -10,7 +11,6 @@ use commands::{
 use event_file::LineFault;
 use flow_base::Status;
 use net_text::NetFault;
-use selftest_command::SelftestEnd;
 
 /// How a call of the program ends.
 #[derive(Drop)]

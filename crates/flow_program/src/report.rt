@@ -7,9 +7,9 @@ ghost use Rattle.flow_program.specs.Ending.{event_fault_text, line_of, named_pla
 ghost use Rattle.flow_program.specs.Ending.{spot_text, stop_text};
 
 use crate::ending::Ending;
+use commands::{write_kind, write_number, write_refusal};
 use event_file::LineFault;
 use flow_base::{Failed, Sink, write_all};
-use program_answers::{write_kind, write_number, write_refusal};
 use token_grammar::Span;
 
 /// The line for words that ask for no command.

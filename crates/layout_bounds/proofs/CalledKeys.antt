@@ -12,22 +12,22 @@ use Rattle.checked_chart.specs.Homes.{home_of}
 use Rattle.checked_chart.specs.Reached.{links_of, Reached}
 use Rattle.checked_chart.specs.Valid.{IsValid}
 use Rattle.code_language.specs.Code.{Procedures}
-use Rattle.chart_procedures.specs.Compiled.{GuardBy, PartBy, ListCompiled}
-use Rattle.chart_procedures.specs.Kinds.{IsDestination}
-use Rattle.chart_procedures.specs.ListProcedures.{Search, context_of, search_of}
-use Rattle.chart_procedures.specs.Numbers.{Numbers, TransNumbers, ListNumbers, condition_of, first_of_parts}
-use Rattle.chart_procedures.specs.Numbers.{other_parts}
-use Rattle.chart_procedures.proofs.Known.{Meaning, DestBy, EachBy, meaning_of}
-use Rattle.chart_procedures.proofs.Validity.{list_by, junction_by}
-use Rattle.chart_layout.specs.Keys.{Key, Guard, ConditionOn, ConditionBare, Arrive, Take}
-use Rattle.chart_layout.specs.Places.{numbers, list_numbers}
-use Rattle.chart_layout.specs.ReachedJunctions.{has, reached}
-use Rattle.chart_layout.specs.Bodies.{procedures_of}
-use Rattle.chart_layout.proofs.EndsLemmas.{path_range}
-use Rattle.chart_layout.proofs.PartStands.{PartsStand, EachStands, list_parts_stand, junction_list_stands}
-use Rattle.chart_layout.proofs.ReachedLemmas.{are_reached, reached_within, list_valid}
-use Rattle.chart_layout.proofs.StateStands.{StandsAt, take_stands, arrive_stands}
-use Rattle.chart_layout.proofs.Whole.{lists_compiled}
+use Rattle.chart_code.specs.Compiled.{GuardBy, PartBy, ListCompiled}
+use Rattle.chart_code.specs.Kinds.{IsDestination}
+use Rattle.chart_code.specs.ListProcedures.{Search, context_of, search_of}
+use Rattle.chart_code.specs.Numbers.{Numbers, TransNumbers, ListNumbers, condition_of, first_of_parts}
+use Rattle.chart_code.specs.Numbers.{other_parts}
+use Rattle.chart_code.proofs.Known.{Meaning, DestBy, EachBy, meaning_of}
+use Rattle.chart_code.proofs.Validity.{list_by, junction_by}
+use Rattle.chart_code.specs.Keys.{Key, Guard, ConditionOn, ConditionBare, Arrive, Take}
+use Rattle.chart_code.specs.Places.{numbers, list_numbers}
+use Rattle.chart_code.specs.ReachedJunctions.{has, reached}
+use Rattle.chart_code.specs.Bodies.{procedures_of}
+use Rattle.chart_code.proofs.EndsLemmas.{path_range}
+use Rattle.chart_code.proofs.PartStands.{PartsStand, EachStands, list_parts_stand, junction_list_stands}
+use Rattle.chart_code.proofs.ReachedLemmas.{are_reached, reached_within, list_valid}
+use Rattle.chart_code.proofs.StateStands.{StandsAt, take_stands, arrive_stands}
+use Rattle.chart_code.proofs.Whole.{lists_compiled}
 use Rattle.layout_bounds.specs.Calls.{EachTrans, FiringCalls, ListCalls}
 
 -- what a list calls for a destination: an outer or an inner list takes a firing, a default list arrives

@@ -1,9 +1,9 @@
 -- How many children the states of a tree have, and how many states are below them.
 use Rattle.std.proofs.Common.{◌≡◌, ℕ, zero, suc, ◌+◌, ◌*◌, ◌≤◌, List, [], ◌∷◌, length, ap, arith, mul_comm, mul-one}
 use Rattle.active_config.specs.Tree.{Tree, IsTree, state_count, children_of, ancestors}
-use Rattle.chart_layout.specs.Ends.{end_of, below_count}
-use Rattle.chart_layout.specs.Orders.{sum_to}
-use Rattle.chart_layout.proofs.Sums.{sum_next, sum_to_plus, sum_to_constant}
+use Rattle.chart_code.specs.Ends.{end_of, below_count}
+use Rattle.chart_code.specs.Orders.{sum_to}
+use Rattle.chart_code.proofs.Sums.{sum_next, sum_to_plus, sum_to_constant}
 use Rattle.layout_bounds.specs.TreeSums.{sum_below, HasDepth}
 use Rattle.layout_bounds.proofs.SumLemmas.{sum_to_most, sum_to_equal}
 use Rattle.layout_bounds.proofs.Fills.{Fills, end_bounds, children_fill}

@@ -12,8 +12,8 @@ use Rattle.checked_chart.specs.Valid.{IsValid}
 use Rattle.checked_chart.proofs.Trees.{IsChild, all_map, children_are, toward_is_child}
 use Rattle.code_language.specs.WellFormed.{can_be_kept}
 use Rattle.code_language.proofs.Accepted.{first_true}
-use Rattle.chart_procedures.specs.Numbers.{Numbers}
-use Rattle.chart_procedures.proofs.Enters.{path_at}
+use Rattle.chart_code.specs.Numbers.{Numbers}
+use Rattle.chart_code.proofs.Enters.{path_at}
 use Rattle.layout_bounds.specs.Calls.{EnterCalls, ArriveCalls}
 
 -- a state that is remembered has a parent that is able to

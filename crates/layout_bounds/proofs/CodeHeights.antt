@@ -10,9 +10,9 @@ use Rattle.code_language.specs.Measures.{height_by, heights, greatest}
 use Rattle.code_language.specs.WellFormed.{first_over}
 use Rattle.code_language.proofs.Greatest.{none_over_greatest}
 use Rattle.code_language.proofs.Measures.{height_measure}
-use Rattle.chart_layout.specs.Keys.{Key}
-use Rattle.chart_layout.specs.Bodies.{code_of_chart}
-use Rattle.chart_layout.proofs.StateStands.{StandsAt}
+use Rattle.chart_code.specs.Keys.{Key}
+use Rattle.chart_code.specs.Bodies.{code_of_chart}
+use Rattle.chart_code.proofs.StateStands.{StandsAt}
 use Rattle.layout_bounds.specs.HeightBounds.{height_bound}
 use Rattle.layout_bounds.proofs.KeyBounds.{greatest_most, bound_at, at_key, at_most}
 use Rattle.layout_bounds.proofs.KindBounds.{bounded}

@@ -16,15 +16,15 @@ use Rattle.checked_chart.specs.Valid.{IsValid, IsTrans, IsBlock}
 use Rattle.checked_chart.proofs.PartsLemmas.{node_valid, junction_valid}
 use Rattle.code_language.specs.declared.limits.TheConstants.{INSTR_LIMIT}
 use Rattle.code_language.specs.Instrs.{OnHome, BareHome, Instr}
-use Rattle.chart_procedures.specs.ListProcedures.{search_of}
-use Rattle.chart_procedures.specs.Numbers.{Numbers, ListNumbers}
-use Rattle.chart_layout.specs.Bodies.{body, procedures_of}
-use Rattle.chart_layout.specs.Keys.{Key, JunctionOf, guard_keys, condition_keys, action_keys, trans_keys, layout}
-use Rattle.chart_layout.specs.Places.{numbers, list_numbers}
-use Rattle.chart_layout.specs.ReachedJunctions.{has, reached}
-use Rattle.chart_layout.proofs.EachFrom.{EachFrom, from_append}
-use Rattle.chart_layout.proofs.Every.{Every, every}
-use Rattle.chart_layout.proofs.ReachedLemmas.{are_reached, reached_within, list_valid}
+use Rattle.chart_code.specs.ListProcedures.{search_of}
+use Rattle.chart_code.specs.Numbers.{Numbers, ListNumbers}
+use Rattle.chart_code.specs.Bodies.{body, procedures_of}
+use Rattle.chart_code.specs.Keys.{Key, JunctionOf, guard_keys, condition_keys, action_keys, trans_keys, layout}
+use Rattle.chart_code.specs.Places.{numbers, list_numbers}
+use Rattle.chart_code.specs.ReachedJunctions.{has, reached}
+use Rattle.chart_code.proofs.EachFrom.{EachFrom, from_append}
+use Rattle.chart_code.proofs.Every.{Every, every}
+use Rattle.chart_code.proofs.ReachedLemmas.{are_reached, reached_within, list_valid}
 use Rattle.layout_bounds.specs.Lengths.{StateLengths, ListLengths}
 use Rattle.layout_bounds.proofs.StateLengths.{state_lengths}
 use Rattle.layout_bounds.proofs.ListLengths.{list_lengths}

@@ -13,13 +13,13 @@ use Rattle.code_language.specs.Measures.{greatest, work_by, works}
 use Rattle.code_language.specs.WellFormed.{first_over}
 use Rattle.code_language.proofs.Accepted.{none_over}
 use Rattle.code_language.proofs.Measures.{work_measure}
-use Rattle.chart_layout.specs.Bodies.{body, code_of_chart}
-use Rattle.chart_layout.specs.Keys.{Key}
-use Rattle.chart_layout.specs.Keys.{guard_keys, condition_keys, action_keys, trans_keys}
-use Rattle.chart_layout.specs.Places.{numbers}
-use Rattle.chart_layout.proofs.EachFrom.{EachFrom, from_append}
-use Rattle.chart_layout.proofs.Every.{Every, every}
-use Rattle.chart_layout.proofs.StateStands.{StandsAt}
+use Rattle.chart_code.specs.Bodies.{body, code_of_chart}
+use Rattle.chart_code.specs.Keys.{Key}
+use Rattle.chart_code.specs.Keys.{guard_keys, condition_keys, action_keys, trans_keys}
+use Rattle.chart_code.specs.Places.{numbers}
+use Rattle.chart_code.proofs.EachFrom.{EachFrom, from_append}
+use Rattle.chart_code.proofs.Every.{Every, every}
+use Rattle.chart_code.proofs.StateStands.{StandsAt}
 use Rattle.layout_bounds.specs.Works.{StateWorks}
 use Rattle.layout_bounds.specs.WorkBounds.{work_bound}
 use Rattle.layout_bounds.proofs.StateWorks.{state_works}

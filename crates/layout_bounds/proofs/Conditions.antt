@@ -7,7 +7,7 @@ use Rattle.code_language.specs.Instrs.{Cond, Instr}
 use Rattle.code_language.specs.Instrs as instrs
 use Rattle.code_language.specs.Sound.{IsProc}
 use Rattle.code_language.specs.WellFormed.{Known, cond_known, cond_typed, cond_keeps, can_be_kept}
-use Rattle.chart_procedures.specs.StateProcedures.{require, refuse, unless_found, life_test}
+use Rattle.chart_code.specs.StateProcedures.{require, refuse, unless_found, life_test}
 use Rattle.layout_bounds.proofs.Instructions.{IsCond, some, ret, pass, unless, skip}
 
 module _ (K : Known) where

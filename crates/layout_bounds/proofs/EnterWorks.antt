@@ -12,11 +12,11 @@ use Rattle.checked_chart.specs.Valid.{IsValid}
 use Rattle.checked_chart.proofs.Trees.{find_all, toward_is_child}
 use Rattle.code_language.specs.Instrs.{Instr}
 use Rattle.code_language.specs.Measures.{work_from, lefts, work_by}
-use Rattle.chart_procedures.specs.Kinds.{IsPath}
-use Rattle.chart_procedures.specs.Numbers.{Numbers}
-use Rattle.chart_procedures.specs.StateProcedures.{toward_code, enters_code, parent_test, inside_code, keep_code}
-use Rattle.chart_procedures.specs.StateProcedures.{active_entry_code, entry_code, enter_code}
-use Rattle.chart_procedures.proofs.Enters.{path_at}
+use Rattle.chart_code.specs.Kinds.{IsPath}
+use Rattle.chart_code.specs.Numbers.{Numbers}
+use Rattle.chart_code.specs.StateProcedures.{toward_code, enters_code, parent_test, inside_code, keep_code}
+use Rattle.chart_code.specs.StateProcedures.{active_entry_code, entry_code, enter_code}
+use Rattle.chart_code.proofs.Enters.{path_at}
 use Rattle.layout_bounds.specs.Calls.{ArriveCalls}
 use Rattle.layout_bounds.specs.Works.{EnterShares}
 use Rattle.layout_bounds.proofs.Children.{on_children, to_defaults, to_child}

@@ -13,13 +13,13 @@ use Rattle.checked_chart.specs.Valid.{IsValid}
 use Rattle.code_language.specs.declared.limits.TheConstants.{PROC_LIMIT, INSTR_LIMIT}
 use Rattle.code_language.specs.Instrs.{Instr}
 use Rattle.code_language.specs.WellFormed.{too_many}
-use Rattle.chart_layout.specs.Bodies.{procedures_of, code_of_chart}
-use Rattle.chart_layout.specs.Places.{below_total}
-use Rattle.chart_layout.specs.ReachedJunctions.{has, reached}
-use Rattle.chart_layout.proofs.Count.{total_is}
-use Rattle.chart_layout.proofs.Pairs.{reached_pairs}
-use Rattle.chart_layout.proofs.ReachedLemmas.{are_reached, list_valid}
-use Rattle.chart_layout.proofs.Whole.{procedures_length}
+use Rattle.chart_code.specs.Bodies.{procedures_of, code_of_chart}
+use Rattle.chart_code.specs.Places.{below_total}
+use Rattle.chart_code.specs.ReachedJunctions.{has, reached}
+use Rattle.chart_code.proofs.Count.{total_is}
+use Rattle.chart_code.proofs.Pairs.{reached_pairs}
+use Rattle.chart_code.proofs.ReachedLemmas.{are_reached, list_valid}
+use Rattle.chart_code.proofs.Whole.{procedures_length}
 use Rattle.layout_bounds.specs.FilledBlocks.{filled_blocks}
 use Rattle.layout_bounds.proofs.ChildCounts.{below_counts_most}
 use Rattle.layout_bounds.proofs.PartCounts.{parts_few, parts_fourfold}

@@ -13,8 +13,8 @@ use Rattle.active_config.proofs.ParentLemmas.{child_within}
 use Rattle.active_config.proofs.PathLemmas.{Path, Here, Up, path_of, of_path, path_le, path_joins, parent_lt}
 use Rattle.active_config.proofs.PathLemmas.{parent_before, is_at_or_below-other, ancestors-step}
 use Rattle.active_config.proofs.SiblingLemmas.{children_of-from, children_from-next}
-use Rattle.chart_layout.specs.Ends.{end_of}
-use Rattle.chart_layout.proofs.EndsLemmas.{end_is, path_range}
+use Rattle.chart_code.specs.Ends.{end_of}
+use Rattle.chart_code.proofs.EndsLemmas.{end_is, path_range}
 
 -- states with k ancestors, each with the states below it, fill the numbers from a to before b, one after the other
 abbrev pub Fills : Tree → ℕ → ℕ → List ℕ → ℕ → Type 0

@@ -8,9 +8,9 @@ use Rattle.checked_chart.specs.declared.parts.ListKind.TheVariants.{Outer, Inner
 use Rattle.checked_chart.specs.Chart.{Chart, Trans, node, list_of, junction}
 use Rattle.checked_chart.specs.Counts.{trans_statements, statement_count, item_count}
 use Rattle.checked_chart.specs.Valid.{IsValid}
-use Rattle.chart_layout.specs.Keys.{Entry, During, ExitAction, Leave, Exit, Arrive, ListOf, JunctionOf, Defaults}
-use Rattle.chart_layout.specs.Keys.{Enter, Process}
-use Rattle.chart_layout.specs.Orders.{sum_to}
+use Rattle.chart_code.specs.Keys.{Entry, During, ExitAction, Leave, Exit, Arrive, ListOf, JunctionOf, Defaults}
+use Rattle.chart_code.specs.Keys.{Enter, Process}
+use Rattle.chart_code.specs.Orders.{sum_to}
 use Rattle.layout_bounds.specs.WorkBounds.{tests_of, process_share, enters_below, defaults_work}
 use Rattle.layout_bounds.specs.WorkBounds.{firing_work, found_work, work_bound}
 use Rattle.layout_bounds.proofs.SumLemmas.{sum_to_term}

@@ -6,9 +6,9 @@ use Rattle.checked_chart.specs.Chart.{Chart}
 use Rattle.code_language.specs.Instrs.{Instr}
 use Rattle.code_language.specs.Measures.{greatest, reckon}
 use Rattle.code_language.proofs.Reckoned.{IsMeasure, reckon_bounded}
-use Rattle.chart_layout.specs.Bodies.{body, procedures_of}
-use Rattle.chart_layout.specs.Keys.{Key, layout}
-use Rattle.chart_layout.proofs.StateStands.{StandsAt}
+use Rattle.chart_code.specs.Bodies.{body, procedures_of}
+use Rattle.chart_code.specs.Keys.{Key, layout}
+use Rattle.chart_code.proofs.StateStands.{StandsAt}
 
 -- the greatest of numbers is at most what each is
 pub greatest_most : (m : ℕ) (ns : List ℕ) → ((p : ℕ) → slice_index ns p ≤ m) → greatest ns ≤ m

@@ -11,22 +11,22 @@ use Rattle.checked_chart.specs.Valid.{IsValid}
 use Rattle.code_language.specs.Instrs.{Instr}
 use Rattle.code_language.specs.Measures.{reckon}
 use Rattle.code_language.proofs.Reckoned.{IsMeasure}
-use Rattle.chart_procedures.specs.Kinds.{IsPath}
-use Rattle.chart_procedures.specs.Numbers.{Numbers}
-use Rattle.chart_layout.specs.Ends.{end_of}
-use Rattle.chart_layout.specs.ReachedJunctions.{has, reached}
-use Rattle.chart_layout.specs.Keys.{Key, EndMark, Entry, During, ExitAction, Guard, ConditionOn, ConditionBare, Action}
-use Rattle.chart_layout.specs.Keys.{Leave, Exit, Arrive, ListOf, JunctionOf, Defaults, Take, Enter, Process}
-use Rattle.chart_layout.specs.Keys.{guard_keys, condition_keys, action_keys, trans_keys}
-use Rattle.chart_layout.specs.Places.{numbers}
-use Rattle.chart_layout.specs.Bodies.{body, procedures_of}
-use Rattle.chart_layout.proofs.EachFrom.{EachFrom, from_append}
-use Rattle.chart_layout.proofs.EndsLemmas.{path_range}
-use Rattle.chart_layout.proofs.Every.{Every, every}
-use Rattle.chart_layout.proofs.ListStands.{list_stands}
-use Rattle.chart_layout.proofs.StateStands.{StandsAt, end_mark_stands, entry_stands, during_stands, exit_action_stands}
-use Rattle.chart_layout.proofs.StateStands.{leave_stands, exit_stands, defaults_stand, processing_stands}
-use Rattle.chart_layout.proofs.StateStands.{enter_stands, arrive_stands}
+use Rattle.chart_code.specs.Kinds.{IsPath}
+use Rattle.chart_code.specs.Numbers.{Numbers}
+use Rattle.chart_code.specs.Ends.{end_of}
+use Rattle.chart_code.specs.ReachedJunctions.{has, reached}
+use Rattle.chart_code.specs.Keys.{Key, EndMark, Entry, During, ExitAction, Guard, ConditionOn, ConditionBare, Action}
+use Rattle.chart_code.specs.Keys.{Leave, Exit, Arrive, ListOf, JunctionOf, Defaults, Take, Enter, Process}
+use Rattle.chart_code.specs.Keys.{guard_keys, condition_keys, action_keys, trans_keys}
+use Rattle.chart_code.specs.Places.{numbers}
+use Rattle.chart_code.specs.Bodies.{body, procedures_of}
+use Rattle.chart_code.proofs.EachFrom.{EachFrom, from_append}
+use Rattle.chart_code.proofs.EndsLemmas.{path_range}
+use Rattle.chart_code.proofs.Every.{Every, every}
+use Rattle.chart_code.proofs.ListStands.{list_stands}
+use Rattle.chart_code.proofs.StateStands.{StandsAt, end_mark_stands, entry_stands, during_stands, exit_action_stands}
+use Rattle.chart_code.proofs.StateStands.{leave_stands, exit_stands, defaults_stand, processing_stands}
+use Rattle.chart_code.proofs.StateStands.{enter_stands, arrive_stands}
 use Rattle.layout_bounds.proofs.KeyBounds.{bound_at, at_key, all_bounded}
 
 -- ---- each procedure of the code

@@ -13,16 +13,16 @@ use Rattle.checked_chart.specs.Valid.{IsValid}
 use Rattle.checked_chart.proofs.Trees.{IsChild, child_is}
 use Rattle.code_language.specs.Instrs as instrs
 use Rattle.code_language.specs.Measures.{height_by}
-use Rattle.chart_procedures.specs.Kinds.{IsPath, IsDestination}
-use Rattle.chart_procedures.specs.ListProcedures.{context_of, search_of}
-use Rattle.chart_procedures.specs.Numbers.{Numbers, ListNumbers}
-use Rattle.chart_layout.specs.Ends.{end_of}
-use Rattle.chart_layout.specs.ReachedJunctions.{has, reached}
-use Rattle.chart_layout.specs.Keys.{Key, Guard, Leave, Exit, Arrive, ListOf, JunctionOf, Defaults, Take, Enter}
-use Rattle.chart_layout.specs.Keys.{Process}
-use Rattle.chart_layout.specs.Places.{numbers, list_numbers}
-use Rattle.chart_layout.specs.Bodies.{body}
-use Rattle.chart_layout.proofs.StateStands.{StandsAt}
+use Rattle.chart_code.specs.Kinds.{IsPath, IsDestination}
+use Rattle.chart_code.specs.ListProcedures.{context_of, search_of}
+use Rattle.chart_code.specs.Numbers.{Numbers, ListNumbers}
+use Rattle.chart_code.specs.Ends.{end_of}
+use Rattle.chart_code.specs.ReachedJunctions.{has, reached}
+use Rattle.chart_code.specs.Keys.{Key, Guard, Leave, Exit, Arrive, ListOf, JunctionOf, Defaults, Take, Enter}
+use Rattle.chart_code.specs.Keys.{Process}
+use Rattle.chart_code.specs.Places.{numbers, list_numbers}
+use Rattle.chart_code.specs.Bodies.{body}
+use Rattle.chart_code.proofs.StateStands.{StandsAt}
 use Rattle.layout_bounds.specs.Heights.{StateHeights, ListHeights}
 use Rattle.layout_bounds.specs.HeightBounds.{rank, search_height, height_bound}
 use Rattle.layout_bounds.proofs.StateHeights.{state_heights}

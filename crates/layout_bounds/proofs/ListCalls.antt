@@ -12,17 +12,17 @@ use Rattle.checked_chart.specs.Chart.{Chart, Trans, list_of, junction}
 use Rattle.checked_chart.specs.Homes.{home_of}
 use Rattle.checked_chart.specs.Reached.{links_of, Reached}
 use Rattle.checked_chart.specs.Valid.{IsValid}
-use Rattle.chart_procedures.specs.Kinds.{IsDestination}
-use Rattle.chart_procedures.specs.ListProcedures.{Search, context_of, search_of}
-use Rattle.chart_procedures.specs.Numbers.{Numbers, TransNumbers, ListNumbers, other_parts}
-use Rattle.chart_procedures.proofs.Known.{Meaning, DestBy, EachBy, meaning_of}
-use Rattle.chart_procedures.proofs.Validity.{list_by, junction_by}
-use Rattle.chart_layout.specs.Bodies.{procedures_of}
-use Rattle.chart_layout.specs.ReachedJunctions.{place_of, reached}
-use Rattle.chart_layout.specs.Places.{reached_count, groups_start, total, arrive_at, numbers, list_numbers}
-use Rattle.chart_layout.proofs.Members.{place_get}
-use Rattle.chart_layout.proofs.ReachedLemmas.{has_reached, reached_within, list_valid}
-use Rattle.chart_layout.proofs.Whole.{lists_compiled}
+use Rattle.chart_code.specs.Kinds.{IsDestination}
+use Rattle.chart_code.specs.ListProcedures.{Search, context_of, search_of}
+use Rattle.chart_code.specs.Numbers.{Numbers, TransNumbers, ListNumbers, other_parts}
+use Rattle.chart_code.proofs.Known.{Meaning, DestBy, EachBy, meaning_of}
+use Rattle.chart_code.proofs.Validity.{list_by, junction_by}
+use Rattle.chart_code.specs.Bodies.{procedures_of}
+use Rattle.chart_code.specs.ReachedJunctions.{place_of, reached}
+use Rattle.chart_code.specs.Places.{reached_count, groups_start, total, arrive_at, numbers, list_numbers}
+use Rattle.chart_code.proofs.Members.{place_get}
+use Rattle.chart_code.proofs.ReachedLemmas.{has_reached, reached_within, list_valid}
+use Rattle.chart_code.proofs.Whole.{lists_compiled}
 use Rattle.layout_bounds.specs.Calls.{EachTrans, FiringCalls, ListCalls, JunctionVisits, ListNames}
 use Rattle.layout_bounds.proofs.NumberOrder.{lists_from, list_from, list_end, near, take_low}
 use Rattle.layout_bounds.proofs.PartNumbers.{PartsBelow, some_below, condition_below, list_below, junction_below}

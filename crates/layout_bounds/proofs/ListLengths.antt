@@ -5,10 +5,10 @@ use Rattle.checked_chart.specs.declared.parts.Dest.{Dest}
 use Rattle.checked_chart.specs.declared.parts.Dest.TheVariants.{State, Junction}
 use Rattle.checked_chart.specs.Chart.{Trans, life_of}
 use Rattle.code_language.specs.Instrs.{Cond, Instr}
-use Rattle.chart_procedures.specs.ListProcedures.{Search, dest_code, condition_code, guarded_code, event_code}
-use Rattle.chart_procedures.specs.ListProcedures.{lead_code, trans_code, list_code, empty_code, junction_code}
-use Rattle.chart_procedures.specs.Numbers.{TransNumbers, condition_of, first_of_parts, other_parts}
-use Rattle.chart_procedures.specs.StateProcedures.{life_test}
+use Rattle.chart_code.specs.ListProcedures.{Search, dest_code, condition_code, guarded_code, event_code}
+use Rattle.chart_code.specs.ListProcedures.{lead_code, trans_code, list_code, empty_code, junction_code}
+use Rattle.chart_code.specs.Numbers.{TransNumbers, condition_of, first_of_parts, other_parts}
+use Rattle.chart_code.specs.StateProcedures.{life_test}
 use Rattle.layout_bounds.specs.Lengths.{ListLengths}
 
 -- where a transition leads

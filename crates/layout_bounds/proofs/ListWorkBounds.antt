@@ -10,18 +10,18 @@ use Rattle.checked_chart.specs.declared.parts.ListKind.TheVariants.{Outer, Inner
 use Rattle.checked_chart.specs.Chart.{Chart, Trans, list_of, junction}
 use Rattle.checked_chart.specs.Valid.{IsValid}
 use Rattle.code_language.specs.Measures.{work_by}
-use Rattle.chart_procedures.specs.Compiled.{GuardBy, PartBy}
-use Rattle.chart_procedures.specs.Kinds.{IsDestination}
-use Rattle.chart_procedures.specs.ListProcedures.{Search, context_of, search_of}
-use Rattle.chart_procedures.specs.Numbers.{Numbers, TransNumbers, ListNumbers, condition_of, first_of_parts}
-use Rattle.chart_procedures.specs.Numbers.{other_parts}
-use Rattle.chart_layout.specs.Bodies.{body}
-use Rattle.chart_layout.specs.Keys.{EndMark, Guard, ConditionOn, ConditionBare, ListOf, JunctionOf}
-use Rattle.chart_layout.specs.Places.{numbers, list_numbers}
-use Rattle.chart_layout.specs.ReachedJunctions.{has, reached}
-use Rattle.chart_layout.proofs.PartStands.{PartsStand, EachStands, list_parts_stand, junction_list_stands}
-use Rattle.chart_layout.proofs.ReachedLemmas.{reached_within, list_valid}
-use Rattle.chart_layout.proofs.StateStands.{StandsAt, end_mark_stands}
+use Rattle.chart_code.specs.Compiled.{GuardBy, PartBy}
+use Rattle.chart_code.specs.Kinds.{IsDestination}
+use Rattle.chart_code.specs.ListProcedures.{Search, context_of, search_of}
+use Rattle.chart_code.specs.Numbers.{Numbers, TransNumbers, ListNumbers, condition_of, first_of_parts}
+use Rattle.chart_code.specs.Numbers.{other_parts}
+use Rattle.chart_code.specs.Bodies.{body}
+use Rattle.chart_code.specs.Keys.{EndMark, Guard, ConditionOn, ConditionBare, ListOf, JunctionOf}
+use Rattle.chart_code.specs.Places.{numbers, list_numbers}
+use Rattle.chart_code.specs.ReachedJunctions.{has, reached}
+use Rattle.chart_code.proofs.PartStands.{PartsStand, EachStands, list_parts_stand, junction_list_stands}
+use Rattle.chart_code.proofs.ReachedLemmas.{reached_within, list_valid}
+use Rattle.chart_code.proofs.StateStands.{StandsAt, end_mark_stands}
 use Rattle.layout_bounds.specs.Works.{work_if, tests_work, ListWorks}
 use Rattle.layout_bounds.specs.WorkBounds.{test_work, tests_of, enters_below, defaults_work, found_work}
 use Rattle.layout_bounds.specs.WorkBounds.{work_bound}

@@ -7,16 +7,16 @@ use Rattle.checked_chart.specs.declared.parts.ListKind.TheVariants.{Outer, Inner
 use Rattle.checked_chart.specs.Chart.{Chart, list_of, junction, junction_count}
 use Rattle.checked_chart.specs.Valid.{IsValid}
 use Rattle.checked_chart.proofs.Trees.{child_is}
-use Rattle.chart_procedures.specs.Kinds.{IsPath}
-use Rattle.chart_procedures.specs.Numbers.{Numbers}
-use Rattle.chart_layout.specs.Orders.{sum_to}
-use Rattle.chart_layout.specs.Ends.{below_count}
-use Rattle.chart_layout.specs.Places.{parts_size, reached_count, state_parts_size, junction_parts_size, group_size}
-use Rattle.chart_layout.specs.Places.{lists_size, state_parts_start, junction_parts_start, groups_start, lists_start}
-use Rattle.chart_layout.specs.Places.{processes_start, total, parts_at, junction_parts_at, group_at, lists_at, list_at}
-use Rattle.chart_layout.specs.Places.{numbers}
-use Rattle.chart_layout.proofs.EndsLemmas.{end_after, path_range}
-use Rattle.chart_layout.proofs.Sums.{sum_next, sum_to_le, sum_between_is}
+use Rattle.chart_code.specs.Kinds.{IsPath}
+use Rattle.chart_code.specs.Numbers.{Numbers}
+use Rattle.chart_code.specs.Orders.{sum_to}
+use Rattle.chart_code.specs.Ends.{below_count}
+use Rattle.chart_code.specs.Places.{parts_size, reached_count, state_parts_size, junction_parts_size, group_size}
+use Rattle.chart_code.specs.Places.{lists_size, state_parts_start, junction_parts_start, groups_start, lists_start}
+use Rattle.chart_code.specs.Places.{processes_start, total, parts_at, junction_parts_at, group_at, lists_at, list_at}
+use Rattle.chart_code.specs.Places.{numbers}
+use Rattle.chart_code.proofs.EndsLemmas.{end_after, path_range}
+use Rattle.chart_code.proofs.Sums.{sum_next, sum_to_le, sum_between_is}
 
 module _ (c : Chart) where
   abbrev N : Numbers

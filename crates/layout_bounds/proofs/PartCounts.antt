@@ -7,10 +7,10 @@ use Rattle.actions.specs.Exprs.{Expr, Stmt}
 use Rattle.checked_chart.specs.Chart.{Chart, Node, Trans, node, no_node, junction, junction_count}
 use Rattle.checked_chart.specs.Counts.{node_transitions, transition_count}
 use Rattle.checked_chart.specs.Valid.{IsValid}
-use Rattle.chart_layout.specs.Orders.{sum_to}
-use Rattle.chart_layout.specs.Places.{guard_count, block_count, trans_size, parts_size, state_parts_size}
-use Rattle.chart_layout.specs.Places.{junction_parts_size, parts_total}
-use Rattle.chart_layout.proofs.Sums.{sum_to_same}
+use Rattle.chart_code.specs.Orders.{sum_to}
+use Rattle.chart_code.specs.Places.{guard_count, block_count, trans_size, parts_size, state_parts_size}
+use Rattle.chart_code.specs.Places.{junction_parts_size, parts_total}
+use Rattle.chart_code.proofs.Sums.{sum_to_same}
 use Rattle.layout_bounds.specs.FilledBlocks.{filled_of_trans, filled_of_list, filled_of_node, filled_blocks}
 use Rattle.layout_bounds.proofs.ListSums.{sum_listed, sum_by_fourfold, sum_by_twice}
 

@@ -6,10 +6,10 @@ use Rattle.actions.specs.Exprs.{Expr, Stmt}
 use Rattle.checked_chart.specs.declared.parts.ListKind.{ListKind}
 use Rattle.checked_chart.specs.declared.parts.ListKind.TheVariants.{Outer, Inner, Default}
 use Rattle.checked_chart.specs.Chart.{Chart, Trans, list_of, junction, junction_count}
-use Rattle.chart_procedures.specs.Numbers.{TransNumbers, condition_of}
-use Rattle.chart_layout.specs.Places.{guard_count, block_count, trans_size, parts_size, if_guard, if_block}
-use Rattle.chart_layout.specs.Places.{trans_numbers, parts_numbers, groups_start, parts_at, junction_parts_at}
-use Rattle.chart_layout.specs.Places.{list_numbers}
+use Rattle.chart_code.specs.Numbers.{TransNumbers, condition_of}
+use Rattle.chart_code.specs.Places.{guard_count, block_count, trans_size, parts_size, if_guard, if_block}
+use Rattle.chart_code.specs.Places.{trans_numbers, parts_numbers, groups_start, parts_at, junction_parts_at}
+use Rattle.chart_code.specs.Places.{list_numbers}
 use Rattle.layout_bounds.specs.Calls.{EachTrans}
 use Rattle.layout_bounds.proofs.NumberOrder.{parts_low, junction_parts_low}
 

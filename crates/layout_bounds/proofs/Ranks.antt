@@ -10,8 +10,8 @@ use Rattle.checked_chart.specs.declared.parts.ListKind.TheVariants.{Outer, Inner
 use Rattle.checked_chart.specs.Chart.{Chart}
 use Rattle.checked_chart.specs.Valid.{IsValid}
 use Rattle.checked_chart.proofs.Trees.{child_is}
-use Rattle.chart_layout.specs.Keys.{Key, EndMark, Entry, During, ExitAction, Guard, ConditionOn, ConditionBare, Action}
-use Rattle.chart_layout.specs.Keys.{Leave, Exit, Arrive, ListOf, JunctionOf, Defaults, Take, Enter, Process}
+use Rattle.chart_code.specs.Keys.{Key, EndMark, Entry, During, ExitAction, Guard, ConditionOn, ConditionBare, Action}
+use Rattle.chart_code.specs.Keys.{Leave, Exit, Arrive, ListOf, JunctionOf, Defaults, Take, Enter, Process}
 use Rattle.layout_bounds.specs.HeightBounds.{rank, search_height, height_bound}
 
 -- no rank is over the greatest depth

@@ -14,8 +14,8 @@ use Rattle.code_language.specs.Sound.{IsProc}
 use Rattle.code_language.specs.WellFormed.{Known, instr_known, skips_within, calls_lower, instr_typed, instr_keeps}
 use Rattle.code_language.specs.WellFormed.{is_event, is_state, is_proc, is_output, is_local}
 use Rattle.code_language.proofs.Accepted.{both_true}
-use Rattle.chart_procedures.specs.Numbers.{Numbers}
-use Rattle.chart_procedures.specs.StateProcedures.{life_test, block_code, guard_code}
+use Rattle.chart_code.specs.Numbers.{Numbers}
+use Rattle.chart_code.specs.StateProcedures.{life_test, block_code, guard_code}
 use Rattle.layout_bounds.specs.Sound.{known}
 use Rattle.layout_bounds.proofs.Instructions.{in_front, ret_alone, ret, unless}
 use Rattle.layout_bounds.proofs.Expressions.{guard_is, assign_known, assign_typed, event_known, event_typed}

@@ -13,20 +13,20 @@ use Rattle.checked_chart.specs.Valid.{IsValid, IsTrans, HasGuard, AreStmts}
 use Rattle.checked_chart.proofs.PartsLemmas.{node_valid, junction_valid}
 use Rattle.code_language.specs.Sound.{IsProc, AreProcs}
 use Rattle.code_language.specs.WellFormed.{Known, known_of}
-use Rattle.chart_procedures.specs.ListProcedures.{search_of}
-use Rattle.chart_procedures.specs.Numbers.{Numbers, ListNumbers}
-use Rattle.chart_layout.specs.Bodies.{body, procedures_of, code_of_chart}
-use Rattle.chart_layout.specs.Ends.{end_of, below_count}
-use Rattle.chart_layout.specs.Keys.{Key, guard_keys, condition_keys, ListOf, JunctionOf, action_keys, trans_keys}
-use Rattle.chart_layout.specs.Keys.{layout}
-use Rattle.chart_layout.specs.Places.{total, numbers, list_numbers}
-use Rattle.chart_layout.specs.ReachedJunctions.{has, reached}
-use Rattle.chart_layout.proofs.EachFrom.{EachFrom, from_append}
-use Rattle.chart_layout.proofs.EndsLemmas.{end_after}
-use Rattle.chart_layout.proofs.Every.{Every, every}
-use Rattle.chart_layout.proofs.ReachedLemmas.{are_reached, list_valid}
-use Rattle.chart_layout.proofs.Sizes.{layout_length}
-use Rattle.chart_layout.proofs.Whole.{procedures_length}
+use Rattle.chart_code.specs.ListProcedures.{search_of}
+use Rattle.chart_code.specs.Numbers.{Numbers, ListNumbers}
+use Rattle.chart_code.specs.Bodies.{body, procedures_of, code_of_chart}
+use Rattle.chart_code.specs.Ends.{end_of, below_count}
+use Rattle.chart_code.specs.Keys.{Key, guard_keys, condition_keys, ListOf, JunctionOf, action_keys, trans_keys}
+use Rattle.chart_code.specs.Keys.{layout}
+use Rattle.chart_code.specs.Places.{total, numbers, list_numbers}
+use Rattle.chart_code.specs.ReachedJunctions.{has, reached}
+use Rattle.chart_code.proofs.EachFrom.{EachFrom, from_append}
+use Rattle.chart_code.proofs.EndsLemmas.{end_after}
+use Rattle.chart_code.proofs.Every.{Every, every}
+use Rattle.chart_code.proofs.ReachedLemmas.{are_reached, list_valid}
+use Rattle.chart_code.proofs.Sizes.{layout_length}
+use Rattle.chart_code.proofs.Whole.{procedures_length}
 use Rattle.layout_bounds.specs.Sound.{known, SoundStates, SoundLists}
 use Rattle.layout_bounds.proofs.SoundStates.{sound_states}
 use Rattle.layout_bounds.proofs.SoundLists.{sound_lists}

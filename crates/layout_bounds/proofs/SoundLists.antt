@@ -11,10 +11,10 @@ use Rattle.code_language.specs.Instrs.{Instr}
 use Rattle.code_language.specs.Instrs as instrs
 use Rattle.code_language.specs.Sound.{IsProc}
 use Rattle.code_language.specs.WellFormed.{Known}
-use Rattle.chart_procedures.specs.ListProcedures.{Search, dest_code, condition_code, guarded_code, event_code}
-use Rattle.chart_procedures.specs.ListProcedures.{lead_code, trans_code, list_code, empty_code, junction_code}
-use Rattle.chart_procedures.specs.Numbers.{TransNumbers, condition_of, first_of_parts, other_parts}
-use Rattle.chart_procedures.specs.StateProcedures.{life_test}
+use Rattle.chart_code.specs.ListProcedures.{Search, dest_code, condition_code, guarded_code, event_code}
+use Rattle.chart_code.specs.ListProcedures.{lead_code, trans_code, list_code, empty_code, junction_code}
+use Rattle.chart_code.specs.Numbers.{TransNumbers, condition_of, first_of_parts, other_parts}
+use Rattle.chart_code.specs.StateProcedures.{life_test}
 use Rattle.layout_bounds.specs.Calls.{FiringCalls, TransCalls, ListCalls, JunctionVisits, TransNames, ListNames}
 use Rattle.layout_bounds.specs.Sound.{known, SoundLists}
 use Rattle.layout_bounds.proofs.Instructions.{some, ret_alone, ret, pass, begin, unless, call_noting, call, visit}

@@ -17,13 +17,13 @@ use Rattle.code_language.specs.Instrs.{Instr}
 use Rattle.code_language.specs.Instrs as instrs
 use Rattle.code_language.specs.Sound.{IsProc}
 use Rattle.code_language.specs.WellFormed.{Known, can_be_kept}
-use Rattle.chart_procedures.specs.Numbers.{Numbers}
-use Rattle.chart_procedures.specs.StateProcedures.{active_code, each_code, leave_code, exit_code}
-use Rattle.chart_procedures.specs.StateProcedures.{toward_code, enters_code, takes_test}
-use Rattle.chart_procedures.specs.StateProcedures.{parent_test, inside_code, keep_code, enter_code, return_code}
-use Rattle.chart_procedures.specs.StateProcedures.{defaults_code, arrive_code, take_code}
-use Rattle.chart_procedures.specs.StateProcedures.{active_child_code, regions_code, children_code, process_code}
-use Rattle.chart_procedures.specs.StateProcedures.{went_result}
+use Rattle.chart_code.specs.Numbers.{Numbers}
+use Rattle.chart_code.specs.StateProcedures.{active_code, each_code, leave_code, exit_code}
+use Rattle.chart_code.specs.StateProcedures.{toward_code, enters_code, takes_test}
+use Rattle.chart_code.specs.StateProcedures.{parent_test, inside_code, keep_code, enter_code, return_code}
+use Rattle.chart_code.specs.StateProcedures.{defaults_code, arrive_code, take_code}
+use Rattle.chart_code.specs.StateProcedures.{active_child_code, regions_code, children_code, process_code}
+use Rattle.chart_code.specs.StateProcedures.{went_result}
 use Rattle.layout_bounds.specs.Calls.{LeaveCalls, ExitCalls, EnterCalls, DefaultsCalls, ArriveCalls, TakeCalls}
 use Rattle.layout_bounds.specs.Calls.{ProcessCalls}
 use Rattle.layout_bounds.specs.Sound.{known, SoundStates}

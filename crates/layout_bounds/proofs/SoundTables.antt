@@ -8,10 +8,10 @@ use Rattle.checked_chart.specs.Valid.{IsValid}
 use Rattle.code_language.specs.Tables.{IsTable}
 use Rattle.code_language.specs.WellFormed.{starts_known}
 use Rattle.code_language.proofs.Accepted.{both_true}
-use Rattle.chart_procedures.specs.Kinds.{IsPath}
-use Rattle.chart_layout.specs.Bodies.{procedures_of, code_of_chart}
-use Rattle.chart_layout.specs.Places.{total, numbers}
-use Rattle.chart_layout.proofs.Whole.{procedures_length}
+use Rattle.chart_code.specs.Kinds.{IsPath}
+use Rattle.chart_code.specs.Bodies.{procedures_of, code_of_chart}
+use Rattle.chart_code.specs.Places.{total, numbers}
+use Rattle.chart_code.proofs.Whole.{procedures_length}
 use Rattle.layout_bounds.proofs.NumberOrder.{process_low, enter_there}
 
 module _ (c : Chart) (valid : IsValid c) where

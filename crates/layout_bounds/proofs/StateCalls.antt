@@ -6,10 +6,10 @@ use Rattle.checked_chart.specs.declared.parts.ListKind.TheVariants.{Default}
 use Rattle.checked_chart.specs.Chart.{Chart}
 use Rattle.checked_chart.specs.Valid.{IsValid}
 use Rattle.checked_chart.proofs.Trees.{child_is}
-use Rattle.chart_procedures.specs.Kinds.{IsPath}
-use Rattle.chart_procedures.specs.Numbers.{Numbers}
-use Rattle.chart_layout.specs.Ends.{below_count}
-use Rattle.chart_layout.specs.Places.{reached_count, group_at, arrive_at, numbers}
+use Rattle.chart_code.specs.Kinds.{IsPath}
+use Rattle.chart_code.specs.Numbers.{Numbers}
+use Rattle.chart_code.specs.Ends.{below_count}
+use Rattle.chart_code.specs.Places.{reached_count, group_at, arrive_at, numbers}
 use Rattle.layout_bounds.specs.Calls.{LeaveCalls, ExitCalls, EnterCalls, DefaultsCalls, ArriveCalls, TakeCalls}
 use Rattle.layout_bounds.specs.Calls.{ProcessCalls}
 use Rattle.layout_bounds.proofs.NumberOrder.{group_from, groups_before, entry_low, during_low, exit_action_low, outer_low}

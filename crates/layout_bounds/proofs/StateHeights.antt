@@ -13,12 +13,12 @@ use Rattle.checked_chart.specs.Valid.{IsValid}
 use Rattle.sos_rules.proofs.MarkedStates.{all_reverse}
 use Rattle.code_language.specs.Instrs.{Cond, Instr}
 use Rattle.code_language.specs.Measures.{rise, height_by}
-use Rattle.chart_procedures.specs.Numbers.{Numbers}
-use Rattle.chart_procedures.specs.StateProcedures.{end_code, block_code, guard_code, active_code, each_code, leave_code}
-use Rattle.chart_procedures.specs.StateProcedures.{exit_code, toward_code, enters_code, parent_test, inside_code}
-use Rattle.chart_procedures.specs.StateProcedures.{keep_code, active_entry_code, entry_code, enter_code, return_code}
-use Rattle.chart_procedures.specs.StateProcedures.{search_code, defaults_code, arrive_code, take_code}
-use Rattle.chart_procedures.specs.StateProcedures.{active_child_code, regions_code, children_code, process_code}
+use Rattle.chart_code.specs.Numbers.{Numbers}
+use Rattle.chart_code.specs.StateProcedures.{end_code, block_code, guard_code, active_code, each_code, leave_code}
+use Rattle.chart_code.specs.StateProcedures.{exit_code, toward_code, enters_code, parent_test, inside_code}
+use Rattle.chart_code.specs.StateProcedures.{keep_code, active_entry_code, entry_code, enter_code, return_code}
+use Rattle.chart_code.specs.StateProcedures.{search_code, defaults_code, arrive_code, take_code}
+use Rattle.chart_code.specs.StateProcedures.{active_child_code, regions_code, children_code, process_code}
 use Rattle.layout_bounds.specs.Calls.{LeaveCalls, ExitCalls, EnterCalls, DefaultsCalls, ArriveCalls, TakeCalls}
 use Rattle.layout_bounds.specs.Calls.{ProcessCalls}
 use Rattle.layout_bounds.specs.Heights.{StateHeights}

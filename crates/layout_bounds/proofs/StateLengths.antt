@@ -11,12 +11,12 @@ use Rattle.checked_chart.specs.Chart.{Chart, is_remembered, may_return}
 use Rattle.checked_chart.specs.Homes.{child_toward}
 use Rattle.checked_chart.specs.Valid.{IsValid}
 use Rattle.code_language.specs.Instrs.{Cond, Instr}
-use Rattle.chart_procedures.specs.Numbers.{Numbers}
-use Rattle.chart_procedures.specs.StateProcedures.{block_code, active_code, each_code, leave_code, toward_code}
-use Rattle.chart_procedures.specs.StateProcedures.{enters_code}
-use Rattle.chart_procedures.specs.StateProcedures.{parent_test, inside_code, keep_code, active_entry_code, entry_code}
-use Rattle.chart_procedures.specs.StateProcedures.{enter_code, return_code, search_code, defaults_code, arrive_code}
-use Rattle.chart_procedures.specs.StateProcedures.{active_child_code, regions_code, children_code}
+use Rattle.chart_code.specs.Numbers.{Numbers}
+use Rattle.chart_code.specs.StateProcedures.{block_code, active_code, each_code, leave_code, toward_code}
+use Rattle.chart_code.specs.StateProcedures.{enters_code}
+use Rattle.chart_code.specs.StateProcedures.{parent_test, inside_code, keep_code, active_entry_code, entry_code}
+use Rattle.chart_code.specs.StateProcedures.{enter_code, return_code, search_code, defaults_code, arrive_code}
+use Rattle.chart_code.specs.StateProcedures.{active_child_code, regions_code, children_code}
 use Rattle.layout_bounds.specs.Lengths.{StateLengths}
 use Rattle.layout_bounds.proofs.Children.{returns_few}
 

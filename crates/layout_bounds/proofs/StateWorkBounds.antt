@@ -9,18 +9,18 @@ use Rattle.checked_chart.specs.declared.parts.ListKind.TheVariants.{Outer, Inner
 use Rattle.checked_chart.specs.Chart.{Chart, list_of}
 use Rattle.checked_chart.specs.Valid.{IsValid}
 use Rattle.code_language.specs.Measures.{work_by}
-use Rattle.chart_procedures.specs.Kinds.{IsPath}
-use Rattle.chart_procedures.specs.Numbers.{Numbers}
-use Rattle.chart_layout.specs.Bodies.{body}
-use Rattle.chart_layout.specs.Ends.{end_of}
-use Rattle.chart_layout.specs.Keys.{Key, Entry, During, ExitAction, Leave, Exit, Arrive, ListOf, Defaults, Take}
-use Rattle.chart_layout.specs.Keys.{Enter, Process}
-use Rattle.chart_layout.specs.Places.{numbers}
-use Rattle.chart_layout.proofs.EndsLemmas.{path_range}
-use Rattle.chart_layout.proofs.ListStands.{list_stands}
-use Rattle.chart_layout.proofs.StateStands.{StandsAt, entry_stands, during_stands, exit_action_stands}
-use Rattle.chart_layout.proofs.StateStands.{leave_stands, exit_stands, defaults_stand, processing_stands}
-use Rattle.chart_layout.proofs.StateStands.{enter_stands, arrive_stands}
+use Rattle.chart_code.specs.Kinds.{IsPath}
+use Rattle.chart_code.specs.Numbers.{Numbers}
+use Rattle.chart_code.specs.Bodies.{body}
+use Rattle.chart_code.specs.Ends.{end_of}
+use Rattle.chart_code.specs.Keys.{Key, Entry, During, ExitAction, Leave, Exit, Arrive, ListOf, Defaults, Take}
+use Rattle.chart_code.specs.Keys.{Enter, Process}
+use Rattle.chart_code.specs.Places.{numbers}
+use Rattle.chart_code.proofs.EndsLemmas.{path_range}
+use Rattle.chart_code.proofs.ListStands.{list_stands}
+use Rattle.chart_code.proofs.StateStands.{StandsAt, entry_stands, during_stands, exit_action_stands}
+use Rattle.chart_code.proofs.StateStands.{leave_stands, exit_stands, defaults_stand, processing_stands}
+use Rattle.chart_code.proofs.StateStands.{enter_stands, arrive_stands}
 use Rattle.layout_bounds.specs.Calls.{DefaultsCalls, ArriveCalls}
 use Rattle.layout_bounds.specs.Works.{StateWorks}
 use Rattle.layout_bounds.specs.TreeSums.{sum_below}

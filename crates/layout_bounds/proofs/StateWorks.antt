@@ -14,11 +14,11 @@ use Rattle.checked_chart.specs.Valid.{IsValid}
 use Rattle.sos_rules.proofs.MarkedStates.{all_reverse}
 use Rattle.code_language.specs.Instrs.{Cond, Instr}
 use Rattle.code_language.specs.Measures.{work_from, lefts, work_by}
-use Rattle.chart_procedures.specs.Numbers.{Numbers}
-use Rattle.chart_procedures.specs.StateProcedures.{end_code, block_code, guard_code, active_code, each_code, leave_code}
-use Rattle.chart_procedures.specs.StateProcedures.{exit_code, return_code, search_code}
-use Rattle.chart_procedures.specs.StateProcedures.{defaults_code, arrive_code, take_code}
-use Rattle.chart_procedures.specs.StateProcedures.{active_child_code, regions_code, children_code, process_code}
+use Rattle.chart_code.specs.Numbers.{Numbers}
+use Rattle.chart_code.specs.StateProcedures.{end_code, block_code, guard_code, active_code, each_code, leave_code}
+use Rattle.chart_code.specs.StateProcedures.{exit_code, return_code, search_code}
+use Rattle.chart_code.specs.StateProcedures.{defaults_code, arrive_code, take_code}
+use Rattle.chart_code.specs.StateProcedures.{active_child_code, regions_code, children_code, process_code}
 use Rattle.layout_bounds.specs.Calls.{DefaultsCalls, ArriveCalls}
 use Rattle.layout_bounds.specs.Works.{ChildShares, StateWorks}
 use Rattle.layout_bounds.proofs.Children.{on_children, on_returns, returns_few}

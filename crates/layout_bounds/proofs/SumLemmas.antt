@@ -1,10 +1,10 @@
 -- Sums over numbers, over the numbers between two, and over lists. Those up to a number of sums, of one number and of
--- multiples are `sum_to_plus`, `sum_to_constant` and `sum_to_times` of `chart_layout/proofs/Sums.antt`.
+-- multiples are `sum_to_plus`, `sum_to_constant` and `sum_to_times` of `chart_code/proofs/Sums.antt`.
 use Rattle.std.proofs.Common.{◌≡◌, ℕ, zero, suc, ◌+◌, ◌-◌, ◌*◌, ◌<◌, ◌≤◌, refl, ap}
 use Rattle.std.proofs.Common.{◌⊎◌, inl, inr, arith, add-mul}
 use Rattle.std.proofs.lemmas.Bool.{cases_lt}
-use Rattle.chart_layout.specs.Orders.{sum_to, sum_between}
-use Rattle.chart_layout.proofs.Sums.{sum_next, sum_to_le, sum_between_is, sum_to_constant}
+use Rattle.chart_code.specs.Orders.{sum_to, sum_between}
+use Rattle.chart_code.proofs.Sums.{sum_next, sum_to_le, sum_between_is, sum_to_constant}
 
 -- ---- sums to a number
 

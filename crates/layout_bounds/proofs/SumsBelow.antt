@@ -2,10 +2,10 @@
 use Rattle.std.proofs.Common.{◌≡◌, ℕ, suc, ◌+◌, ◌-◌, ◌*◌, ◌<◌, ◌≤◌, List, [], ◌∷◌, sum_by, ap, ◌∙◌, arith}
 use Rattle.std.proofs.lemmas.List.Sums.{sum_by-cons}
 use Rattle.active_config.specs.Tree.{Tree, IsTree, state_count, children_of}
-use Rattle.chart_layout.specs.Ends.{end_of, below_count}
-use Rattle.chart_layout.specs.Orders.{sum_to}
-use Rattle.chart_layout.proofs.EndsLemmas.{end_after}
-use Rattle.chart_layout.proofs.Sums.{sum_next, sum_to_le, sum_between_is}
+use Rattle.chart_code.specs.Ends.{end_of, below_count}
+use Rattle.chart_code.specs.Orders.{sum_to}
+use Rattle.chart_code.proofs.EndsLemmas.{end_after}
+use Rattle.chart_code.proofs.Sums.{sum_next, sum_to_le, sum_between_is}
 use Rattle.layout_bounds.specs.TreeSums.{sum_below}
 use Rattle.layout_bounds.proofs.SumLemmas.{sum_between_constant}
 use Rattle.layout_bounds.proofs.Fills.{Fills, end_bounds, children_fill, root_end}

@@ -4,9 +4,9 @@ use Rattle.std.proofs.Common.{suc-mul, mul-add}
 use Rattle.std.proofs.lemmas.Nat.{mul-le}
 use Rattle.active_config.specs.Tree.{Tree, IsTree, state_count, children_of, ancestors}
 use Rattle.active_config.proofs.PathLemmas.{ancestors-root}
-use Rattle.chart_layout.specs.Ends.{end_of}
-use Rattle.chart_layout.specs.Orders.{sum_to}
-use Rattle.chart_layout.proofs.Sums.{sum_to_times}
+use Rattle.chart_code.specs.Ends.{end_of}
+use Rattle.chart_code.specs.Orders.{sum_to}
+use Rattle.chart_code.proofs.Sums.{sum_to_times}
 use Rattle.layout_bounds.specs.TreeSums.{sum_below, HasDepth}
 use Rattle.layout_bounds.proofs.SumLemmas.{sum_to_most}
 use Rattle.layout_bounds.proofs.Fills.{Fills, end_bounds, children_fill, root_end}

@@ -9,7 +9,7 @@ use Rattle.checked_chart.specs.Chart.{Chart, Trans, node, no_node, list_of, junc
 use Rattle.checked_chart.specs.Counts.{trans_statements, node_transitions, node_statements}
 use Rattle.checked_chart.specs.Counts.{statement_count, item_count}
 use Rattle.checked_chart.specs.Valid.{IsValid}
-use Rattle.chart_layout.specs.Orders.{sum_to}
+use Rattle.chart_code.specs.Orders.{sum_to}
 use Rattle.layout_bounds.specs.WorkBounds.{test_work, tests_of, exit_share, enter_share, process_share, firing_work}
 use Rattle.layout_bounds.proofs.ListSums.{sum_listed}
 use Rattle.layout_bounds.proofs.ListTerms.{at_most_sum}

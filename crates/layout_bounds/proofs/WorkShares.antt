@@ -4,7 +4,7 @@ use Rattle.active_config.specs.Tree.{state_count, children_of}
 use Rattle.checked_chart.specs.declared.parts.ListKind.TheVariants.{Outer, Inner, Default}
 use Rattle.checked_chart.specs.Chart.{Chart, Trans, node, list_of}
 use Rattle.checked_chart.specs.Valid.{IsValid}
-use Rattle.chart_layout.specs.Orders.{sum_to}
+use Rattle.chart_code.specs.Orders.{sum_to}
 use Rattle.layout_bounds.specs.TreeSums.{sum_below}
 use Rattle.layout_bounds.specs.WorkBounds.{test_work, tests_of, exit_share, enter_share, process_share, firing_work}
 use Rattle.layout_bounds.specs.WorkBounds.{exits_below, enters_below, processes_below, defaults_work}

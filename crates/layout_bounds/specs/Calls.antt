@@ -5,9 +5,9 @@ use Rattle.checked_chart.specs.declared.parts.Dest.{Dest}
 use Rattle.checked_chart.specs.declared.parts.Dest.TheVariants.{State, Junction}
 use Rattle.checked_chart.specs.declared.parts.ListKind.TheVariants.{Outer, Inner, Default}
 use Rattle.checked_chart.specs.Chart.{Trans}
-use Rattle.chart_procedures.specs.Kinds.{IsPath}
-use Rattle.chart_procedures.specs.ListProcedures.{Search}
-use Rattle.chart_procedures.specs.Numbers.{Numbers, TransNumbers, condition_of, first_of_parts, other_parts}
+use Rattle.chart_code.specs.Kinds.{IsPath}
+use Rattle.chart_code.specs.ListProcedures.{Search}
+use Rattle.chart_code.specs.Numbers.{Numbers, TransNumbers, condition_of, first_of_parts, other_parts}
 
 -- ---- procedures of states
 

@@ -1,7 +1,7 @@
 -- How many actions of a chart aren't empty.
 use Rattle.std.specs.Prelude.{◌+◌, ℕ, List, sum_by}
 use Rattle.checked_chart.specs.Chart.{Chart, Node, Trans}
-use Rattle.chart_layout.specs.Places.{block_count}
+use Rattle.chart_code.specs.Places.{block_count}
 
 -- those of a transition: its condition and its transition action
 abbrev pub filled_of_trans : Trans → ℕ

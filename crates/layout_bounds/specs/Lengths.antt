@@ -4,10 +4,10 @@ use Rattle.active_config.specs.Tree.{state_count, comp_of, children_of}
 use Rattle.actions.specs.Exprs.{Expr, Stmt}
 use Rattle.checked_chart.specs.Chart.{Chart, Trans, is_remembered, may_return}
 use Rattle.code_language.specs.Instrs.{Cond, Begin}
-use Rattle.chart_procedures.specs.ListProcedures.{Search, list_code, junction_code}
-use Rattle.chart_procedures.specs.Numbers.{Numbers, TransNumbers}
-use Rattle.chart_procedures.specs.StateProcedures.{end_code, block_code, guard_code, leave_code, exit_code, enter_code}
-use Rattle.chart_procedures.specs.StateProcedures.{defaults_code, arrive_code, take_code, process_code}
+use Rattle.chart_code.specs.ListProcedures.{Search, list_code, junction_code}
+use Rattle.chart_code.specs.Numbers.{Numbers, TransNumbers}
+use Rattle.chart_code.specs.StateProcedures.{end_code, block_code, guard_code, leave_code, exit_code, enter_code}
+use Rattle.chart_code.specs.StateProcedures.{defaults_code, arrive_code, take_code, process_code}
 
 -- the procedures of states, by the number of statements or of children
 pub record StateLengths (c : Chart) (N : Numbers) : Type 0 where

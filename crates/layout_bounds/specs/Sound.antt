@@ -8,10 +8,10 @@ use Rattle.checked_chart.specs.Valid.{AreStmts, HasGuard, AreTrans}
 use Rattle.code_language.specs.Instrs.{Begin}
 use Rattle.code_language.specs.Sound.{IsProc}
 use Rattle.code_language.specs.WellFormed.{Known}
-use Rattle.chart_procedures.specs.ListProcedures.{Search, list_code, junction_code}
-use Rattle.chart_procedures.specs.Numbers.{Numbers, TransNumbers}
-use Rattle.chart_procedures.specs.StateProcedures.{life_test, end_code, block_code, guard_code, leave_code, exit_code}
-use Rattle.chart_procedures.specs.StateProcedures.{enter_code, defaults_code, arrive_code, take_code, process_code}
+use Rattle.chart_code.specs.ListProcedures.{Search, list_code, junction_code}
+use Rattle.chart_code.specs.Numbers.{Numbers, TransNumbers}
+use Rattle.chart_code.specs.StateProcedures.{life_test, end_code, block_code, guard_code, leave_code, exit_code}
+use Rattle.chart_code.specs.StateProcedures.{enter_code, defaults_code, arrive_code, take_code, process_code}
 use Rattle.layout_bounds.specs.Calls.{LeaveCalls, ExitCalls, EnterCalls, DefaultsCalls, ArriveCalls, TakeCalls}
 use Rattle.layout_bounds.specs.Calls.{ProcessCalls, ListCalls, ListNames}
 

@@ -1,8 +1,8 @@
 -- Sums over the states at or below a state.
 use Rattle.std.specs.Prelude.{ℕ, ◌<◌, ◌≤◌, length}
 use Rattle.active_config.specs.Tree.{Tree, state_count, ancestors}
-use Rattle.chart_layout.specs.Ends.{end_of}
-use Rattle.chart_layout.specs.Orders.{sum_between}
+use Rattle.chart_code.specs.Ends.{end_of}
+use Rattle.chart_code.specs.Orders.{sum_between}
 
 -- the sum of f over the states at or below s
 unfoldable pub sum_below : Tree → (ℕ → ℕ) → ℕ → ℕ

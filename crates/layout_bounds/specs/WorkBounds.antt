@@ -6,9 +6,9 @@ use Rattle.actions.specs.Exprs.{Stmt}
 use Rattle.checked_chart.specs.declared.parts.ListKind.{ListKind}
 use Rattle.checked_chart.specs.declared.parts.ListKind.TheVariants.{Outer, Inner, Default}
 use Rattle.checked_chart.specs.Chart.{Chart, Trans, node, list_of, junction}
-use Rattle.chart_layout.specs.Keys.{Key, EndMark, Entry, During, ExitAction, Guard, ConditionOn, ConditionBare, Action}
-use Rattle.chart_layout.specs.Keys.{Leave, Exit, Arrive, ListOf, JunctionOf, Defaults, Take, Enter, Process}
-use Rattle.chart_layout.specs.Orders.{sum_to}
+use Rattle.chart_code.specs.Keys.{Key, EndMark, Entry, During, ExitAction, Guard, ConditionOn, ConditionBare, Action}
+use Rattle.chart_code.specs.Keys.{Leave, Exit, Arrive, ListOf, JunctionOf, Defaults, Take, Enter, Process}
+use Rattle.chart_code.specs.Orders.{sum_to}
 use Rattle.layout_bounds.specs.TreeSums.{sum_below}
 
 -- ---- actions and tests

@@ -8,11 +8,11 @@ use Rattle.checked_chart.specs.declared.parts.ListKind.TheVariants.{Outer, Inner
 use Rattle.checked_chart.specs.Chart.{Chart, Trans, is_remembered, may_return}
 use Rattle.code_language.specs.Instrs.{Cond, Begin}
 use Rattle.code_language.specs.Measures.{work_by}
-use Rattle.chart_procedures.specs.Kinds.{IsPath}
-use Rattle.chart_procedures.specs.ListProcedures.{Search, list_code, junction_code}
-use Rattle.chart_procedures.specs.Numbers.{Numbers, TransNumbers, condition_of, first_of_parts, other_parts}
-use Rattle.chart_procedures.specs.StateProcedures.{end_code, block_code, guard_code, leave_code, exit_code, enter_code}
-use Rattle.chart_procedures.specs.StateProcedures.{defaults_code, arrive_code, take_code, process_code}
+use Rattle.chart_code.specs.Kinds.{IsPath}
+use Rattle.chart_code.specs.ListProcedures.{Search, list_code, junction_code}
+use Rattle.chart_code.specs.Numbers.{Numbers, TransNumbers, condition_of, first_of_parts, other_parts}
+use Rattle.chart_code.specs.StateProcedures.{end_code, block_code, guard_code, leave_code, exit_code, enter_code}
+use Rattle.chart_code.specs.StateProcedures.{defaults_code, arrive_code, take_code, process_code}
 use Rattle.layout_bounds.specs.Calls.{DefaultsCalls, ArriveCalls, EachTrans, FiringCalls}
 
 -- ---- states

@@ -7,8 +7,8 @@ ghost use Rattle.code_language.specs.declared.fault.CodeKind.TheVariants as kind
 ghost use Rattle.code_language.specs.declared.limits.TheConstants.{HEIGHT_LIMIT};
 ghost use Rattle.code_language.specs.Measures.{heights, greatest};
 ghost use Rattle.code_language.specs.WellFormed.{first_over};
-ghost use Rattle.chart_layout.specs.Bodies.{code_of_chart};
-ghost use Rattle.chart_layout.specs.Keys.{Key, layout};
+ghost use Rattle.chart_code.specs.Bodies.{code_of_chart};
+ghost use Rattle.chart_code.specs.Keys.{Key, layout};
 ghost use Rattle.layout_bounds.specs.HeightBounds.{height_bound};
 
 /// No procedure of the code of a valid chart is higher than its kind and the rank of its state

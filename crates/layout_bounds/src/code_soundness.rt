@@ -8,7 +8,7 @@ ghost use Rattle.checked_chart.specs.Valid.{IsValid};
 ghost use Rattle.code_language.specs.Sound.{AreProcs};
 ghost use Rattle.code_language.specs.Tables.{IsTable};
 ghost use Rattle.code_language.specs.WellFormed.{known_of, procs_fault, starts_known, too_many};
-ghost use Rattle.chart_layout.specs.Bodies.{code_of_chart};
+ghost use Rattle.chart_code.specs.Bodies.{code_of_chart};
 ghost use Rattle.layout_bounds.specs.FilledBlocks.{filled_blocks};
 
 /// The code of a valid chart has no fault in its procedures: each names what is there,

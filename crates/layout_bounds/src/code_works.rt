@@ -8,8 +8,8 @@ ghost use Rattle.code_language.specs.WellFormed.{first_over};
 ghost use Rattle.checked_chart.specs.Chart.{Chart};
 ghost use Rattle.checked_chart.specs.Counts.{item_count};
 ghost use Rattle.checked_chart.specs.Valid.{IsValid};
-ghost use Rattle.chart_layout.specs.Bodies.{code_of_chart};
-ghost use Rattle.chart_layout.specs.Keys.{Key, layout};
+ghost use Rattle.chart_code.specs.Bodies.{code_of_chart};
+ghost use Rattle.chart_code.specs.Keys.{Key, layout};
 ghost use Rattle.layout_bounds.specs.WorkBounds.{work_bound};
 
 /// In the code of a valid chart each procedure has no more work than its kind may have.

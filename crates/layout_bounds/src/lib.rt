@@ -1,7 +1,7 @@
 //! The code of a valid chart is sound, and how many procedures, what heights and how much work it
 //! has at most.
 //!
-//! No code is compiled here, and the public calls are laws of the code that `chart_layout` defines:
+//! No code is compiled here, and the public calls are laws of the code that `chart_code` defines:
 //! what `chart_compile` says of the code that it makes follows from them.
 //!
 //! - `procedure_costs`: each kind of procedure taken alone, by what is known of the procedures that
@@ -44,7 +44,5 @@ pub use procedure_costs::{
 };
 pub use tree_sums::{children_and_states_below, the_sum_below_a_state, the_sum_of_all_sums_below};
 
-/// Where each procedure stands, the ends of states, and sums over numbers.
-pub use chart_layout as layout;
-/// The procedures, and what they do.
-pub use chart_procedures as procedures;
+/// The procedures, what they do, and where each stands; the ends of states, and sums over numbers.
+pub use chart_code as layout;

@@ -2,7 +2,7 @@
 ghost use Rattle.std.specs.Prelude.{◌<◌, ℕ};
 ghost use Rattle.checked_chart.specs.Chart.{Chart};
 ghost use Rattle.checked_chart.specs.Valid.{IsValid};
-ghost use Rattle.chart_procedures.specs.Numbers.{Numbers};
+ghost use Rattle.chart_code.specs.Numbers.{Numbers};
 ghost use Rattle.layout_bounds.specs.Heights.{StateHeights, ListHeights};
 ghost use Rattle.layout_bounds.specs.Lengths.{StateLengths, ListLengths};
 ghost use Rattle.layout_bounds.specs.Sound.{SoundStates, SoundLists};

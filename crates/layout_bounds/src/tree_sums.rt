@@ -1,8 +1,8 @@
 //! What holds of sums over a tree of states.
 ghost use Rattle.std.specs.Prelude.{◌≡◌, ◌<◌, ◌≤◌, ◌+◌, ◌*◌, ℕ, suc, length, sum_by};
 ghost use Rattle.active_config.specs.Tree.{Tree, IsTree, state_count, children_of, ancestors};
-ghost use Rattle.chart_layout.specs.Ends.{below_count};
-ghost use Rattle.chart_layout.specs.Orders.{sum_to};
+ghost use Rattle.chart_code.specs.Ends.{below_count};
+ghost use Rattle.chart_code.specs.Orders.{sum_to};
 ghost use Rattle.layout_bounds.specs.TreeSums.{sum_below, HasDepth};
 
 /// The sum over the states at or below a state is the share of the state itself and the sums at its

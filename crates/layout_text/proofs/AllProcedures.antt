@@ -4,13 +4,13 @@ use Rattle.active_config.specs.Tree.{state_count}
 use Rattle.checked_chart.specs.Chart.{Chart}
 use Rattle.checked_chart.specs.Counts.{item_count}
 use Rattle.checked_chart.specs.Valid.{IsValid}
-use Rattle.chart_layout.specs.Keys.{EndMark, all_actions, all_state_parts, all_junction_parts, all_groups, all_lists}
-use Rattle.chart_layout.specs.Keys.{all_processes, layout}
-use Rattle.chart_layout.specs.Orders.{sum_to}
-use Rattle.chart_layout.specs.Places.{below_total}
-use Rattle.chart_layout.proofs.EndsLemmas.{end_is, end_after}
-use Rattle.chart_layout.proofs.Sizes.{from_lists, from_groups, from_junction_parts, from_state_parts, from_actions}
-use Rattle.chart_layout.proofs.Sums.{sum_to_times}
+use Rattle.chart_code.specs.Keys.{EndMark, all_actions, all_state_parts, all_junction_parts, all_groups, all_lists}
+use Rattle.chart_code.specs.Keys.{all_processes, layout}
+use Rattle.chart_code.specs.Orders.{sum_to}
+use Rattle.chart_code.specs.Places.{below_total}
+use Rattle.chart_code.proofs.EndsLemmas.{end_is, end_after}
+use Rattle.chart_code.proofs.Sizes.{from_lists, from_groups, from_junction_parts, from_state_parts, from_actions}
+use Rattle.chart_code.proofs.Sums.{sum_to_times}
 use Rattle.layout_bounds.proofs.SumLemmas.{sum_to_most}
 use Rattle.layout_bounds.proofs.ChildCounts.{children_count, below_counts_most}
 use Rattle.layout_text.proofs.Procedures.{keys_limit, keys_more, keys_append}

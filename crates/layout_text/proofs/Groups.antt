@@ -5,15 +5,15 @@ use Rattle.checked_chart.specs.declared.parts.ListKind.{ListKind}
 use Rattle.checked_chart.specs.declared.parts.ListKind.TheVariants.{Outer, Inner, Default}
 use Rattle.checked_chart.specs.Chart.{Chart, list_of, junction}
 use Rattle.checked_chart.specs.Valid.{IsValid}
-use Rattle.chart_procedures.specs.ListProcedures.{search_of}
-use Rattle.chart_layout.specs.Ends.{below_count}
-use Rattle.chart_layout.specs.Keys.{Leave, Exit, Arrive, ListOf, JunctionOf, Defaults, Take, Enter}
-use Rattle.chart_layout.specs.Keys.{process_keys, search_keys, lists_keys, group_keys, all_groups, all_lists}
-use Rattle.chart_layout.specs.Keys.{all_processes}
-use Rattle.chart_layout.specs.Orders.{sum_to, span}
-use Rattle.chart_layout.specs.Places.{numbers, list_numbers, reached_count, reached_total, below_total}
-use Rattle.chart_layout.specs.ReachedJunctions.{reached, sum_over}
-use Rattle.chart_layout.proofs.Sizes.{group_enters, group_takes, group_defaults, group_search, group_arrives}
+use Rattle.chart_code.specs.ListProcedures.{search_of}
+use Rattle.chart_code.specs.Ends.{below_count}
+use Rattle.chart_code.specs.Keys.{Leave, Exit, Arrive, ListOf, JunctionOf, Defaults, Take, Enter}
+use Rattle.chart_code.specs.Keys.{process_keys, search_keys, lists_keys, group_keys, all_groups, all_lists}
+use Rattle.chart_code.specs.Keys.{all_processes}
+use Rattle.chart_code.specs.Orders.{sum_to, span}
+use Rattle.chart_code.specs.Places.{numbers, list_numbers, reached_count, reached_total, below_total}
+use Rattle.chart_code.specs.ReachedJunctions.{reached, sum_over}
+use Rattle.chart_code.proofs.Sizes.{group_enters, group_takes, group_defaults, group_search, group_arrives}
 use Rattle.layout_text.proofs.Procedures.{keys_limit, keys_more, keys_append, keys_descending, keys_span}
 use Rattle.layout_text.proofs.StateBodies.{leave_lines, enter_lines, defaults_lines, arrive_lines, process_lines}
 use Rattle.layout_text.proofs.ListBodies.{list_lines, junction_lines}

@@ -6,10 +6,10 @@ use Rattle.checked_chart.specs.declared.parts.ListKind.{ListKind}
 use Rattle.checked_chart.specs.declared.parts.ListKind.TheVariants.{Outer, Inner, Default}
 use Rattle.checked_chart.specs.Chart.{Trans, life_of}
 use Rattle.code_language.specs.Instrs.{Cond, Instr, Begin}
-use Rattle.chart_procedures.specs.ListProcedures.{Search, dest_code, condition_code, guarded_code, event_code}
-use Rattle.chart_procedures.specs.ListProcedures.{lead_code, trans_code, list_code, empty_code, junction_code}
-use Rattle.chart_procedures.specs.Numbers.{TransNumbers, condition_of, first_of_parts, other_parts}
-use Rattle.chart_procedures.specs.StateProcedures.{life_test}
+use Rattle.chart_code.specs.ListProcedures.{Search, dest_code, condition_code, guarded_code, event_code}
+use Rattle.chart_code.specs.ListProcedures.{lead_code, trans_code, list_code, empty_code, junction_code}
+use Rattle.chart_code.specs.Numbers.{TransNumbers, condition_of, first_of_parts, other_parts}
+use Rattle.chart_code.specs.StateProcedures.{life_test}
 use Rattle.layout_text.specs.Sizes.{cond_limit, lines_limit}
 use Rattle.layout_text.proofs.Procedures.{lines_append}
 

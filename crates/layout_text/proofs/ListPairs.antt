@@ -5,12 +5,12 @@ use Rattle.checked_chart.specs.declared.parts.ListKind.TheVariants.{Outer, Inner
 use Rattle.checked_chart.specs.Chart.{Chart, Trans, list_of, junction, junction_count}
 use Rattle.checked_chart.specs.Reached.{links_of, ArePairs, StatePairs, PairsBelow}
 use Rattle.checked_chart.specs.Valid.{IsValid, AreTrans}
-use Rattle.chart_layout.specs.Orders.{sum_to}
-use Rattle.chart_layout.specs.ReachedJunctions.{has, reached, sum_over}
-use Rattle.chart_layout.specs.Places.{reached_total}
-use Rattle.chart_layout.proofs.Pairs.{reached_pairs}
-use Rattle.chart_layout.proofs.ReachedLemmas.{are_reached, list_valid}
-use Rattle.chart_layout.proofs.Weights.{sum_weight}
+use Rattle.chart_code.specs.Orders.{sum_to}
+use Rattle.chart_code.specs.ReachedJunctions.{has, reached, sum_over}
+use Rattle.chart_code.specs.Places.{reached_total}
+use Rattle.chart_code.proofs.Pairs.{reached_pairs}
+use Rattle.chart_code.proofs.ReachedLemmas.{are_reached, list_valid}
+use Rattle.chart_code.proofs.Weights.{sum_weight}
 
 module _ (c : Chart) (valid : IsValid c) where
   -- the transitions of a junction

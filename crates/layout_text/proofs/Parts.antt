@@ -10,12 +10,12 @@ use Rattle.checked_chart.specs.Counts.{trans_statements, node_transitions, node_
 use Rattle.checked_chart.specs.Counts.{item_count}
 use Rattle.checked_chart.specs.Valid.{IsValid}
 use Rattle.code_language.specs.Instrs.{OnHome, BareHome}
-use Rattle.chart_layout.specs.Keys.{guard_keys}
-use Rattle.chart_layout.specs.Keys.{condition_keys, action_keys, trans_keys, parts_keys, action_keys_of}
-use Rattle.chart_layout.specs.Keys.{state_parts_keys}
-use Rattle.chart_layout.specs.Keys.{junction_parts_keys, all_actions, all_state_parts, all_junction_parts}
-use Rattle.chart_layout.specs.Orders.{sum_to}
-use Rattle.chart_layout.specs.Places.{numbers}
+use Rattle.chart_code.specs.Keys.{guard_keys}
+use Rattle.chart_code.specs.Keys.{condition_keys, action_keys, trans_keys, parts_keys, action_keys_of}
+use Rattle.chart_code.specs.Keys.{state_parts_keys}
+use Rattle.chart_code.specs.Keys.{junction_parts_keys, all_actions, all_state_parts, all_junction_parts}
+use Rattle.chart_code.specs.Orders.{sum_to}
+use Rattle.chart_code.specs.Places.{numbers}
 use Rattle.layout_bounds.proofs.ListSums.{sum_listed}
 use Rattle.layout_text.proofs.Procedures.{keys_limit, keys_append, keys_ascending}
 use Rattle.layout_text.proofs.StateBodies.{block_lines}

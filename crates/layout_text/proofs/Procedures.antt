@@ -2,9 +2,9 @@
 use Rattle.std.proofs.Common.{◌≡◌, ℕ, zero, suc, ◌+◌, ◌*◌, ◌<◌, ◌≤◌, List, [], ◌∷◌, ◌++◌, map, refl, ap, arith, suc-mul}
 use Rattle.checked_chart.specs.Chart.{Chart}
 use Rattle.code_language.specs.Instrs.{Instr}
-use Rattle.chart_layout.specs.Bodies.{body}
-use Rattle.chart_layout.specs.Keys.{Key}
-use Rattle.chart_layout.specs.Orders.{sum_to, ascending, descending, span}
+use Rattle.chart_code.specs.Bodies.{body}
+use Rattle.chart_code.specs.Keys.{Key}
+use Rattle.chart_code.specs.Orders.{sum_to, ascending, descending, span}
 use Rattle.layout_text.specs.Sizes.{lines_limit, proc_limit, procs_limit}
 
 -- two lists

@@ -17,7 +17,7 @@ use Rattle.code_language.specs.WellFormed.{is_state, is_proc, is_datum}
 use Rattle.code_language.proofs.Accepted.{first_true, second_true}
 use Rattle.code_fields.specs.Spelling.{IsNumber}
 use Rattle.code_lines.specs.Spelling.{CondHasNumbers, HasNote, HasNumbers}
-use Rattle.chart_layout.proofs.Results.{TestBelow, ResultBelow, ResultsBelow}
+use Rattle.chart_code.proofs.Results.{TestBelow, ResultBelow, ResultsBelow}
 
 -- few enough of each
 pub record FewKnown (K : Known) : Type 0 where

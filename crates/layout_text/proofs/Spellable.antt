@@ -21,11 +21,11 @@ use Rattle.code_lines.specs.Spelling.{HasParent, HasNumbers}
 use Rattle.code_text.specs.Spelling.{HasItsParent, IsSpellable}
 use Rattle.code_text.specs.Written.{Written, code_written}
 use Rattle.code_text.proofs.SpellableLemmas.{right_spellable}
-use Rattle.chart_layout.specs.Bodies.{procedures_of, code_of_chart}
+use Rattle.chart_code.specs.Bodies.{procedures_of, code_of_chart}
 use Rattle.layout_bounds.proofs.SoundCode.{code_sound}
 use Rattle.layout_bounds.proofs.SoundTables.{table, starts}
 use Rattle.layout_bounds.proofs.FewProcedures.{code_few}
-use Rattle.chart_layout.proofs.ListResults.{layout_results}
+use Rattle.chart_code.proofs.ListResults.{layout_results}
 use Rattle.layout_text.proofs.SoundNumbers.{FewKnown, procs_numbers}
 
 -- ---- parents

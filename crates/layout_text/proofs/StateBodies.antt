@@ -11,12 +11,12 @@ use Rattle.checked_chart.specs.Chart.{Chart, is_remembered, may_return}
 use Rattle.checked_chart.specs.Homes.{child_toward}
 use Rattle.checked_chart.specs.Valid.{IsValid}
 use Rattle.code_language.specs.Instrs.{Cond, Instr}
-use Rattle.chart_procedures.specs.Numbers.{Numbers}
-use Rattle.chart_procedures.specs.StateProcedures.{block_code, active_code, each_code, leave_code, toward_code}
-use Rattle.chart_procedures.specs.StateProcedures.{enters_code, takes_test, parent_test, inside_code, keep_code}
-use Rattle.chart_procedures.specs.StateProcedures.{active_entry_code, entry_code, enter_code, return_code, search_code}
-use Rattle.chart_procedures.specs.StateProcedures.{defaults_code, arrive_code, active_child_code, regions_code}
-use Rattle.chart_procedures.specs.StateProcedures.{children_code, process_code}
+use Rattle.chart_code.specs.Numbers.{Numbers}
+use Rattle.chart_code.specs.StateProcedures.{block_code, active_code, each_code, leave_code, toward_code}
+use Rattle.chart_code.specs.StateProcedures.{enters_code, takes_test, parent_test, inside_code, keep_code}
+use Rattle.chart_code.specs.StateProcedures.{active_entry_code, entry_code, enter_code, return_code, search_code}
+use Rattle.chart_code.specs.StateProcedures.{defaults_code, arrive_code, active_child_code, regions_code}
+use Rattle.chart_code.specs.StateProcedures.{children_code, process_code}
 use Rattle.layout_bounds.proofs.Children.{returns_few}
 use Rattle.layout_text.specs.Sizes.{cond_limit, lines_limit}
 

@@ -12,8 +12,8 @@ use Rattle.code_text.specs.Spelling.{code_text}
 use Rattle.code_text.specs.Written.{Written, code_written}
 use Rattle.layout_text.specs.Sizes.{procs_limit}
 use Rattle.layout_text.proofs.Texts.{text_size}
-use Rattle.chart_layout.specs.Bodies.{body, procedures_of, code_of_chart}
-use Rattle.chart_layout.specs.Keys.{layout}
+use Rattle.chart_code.specs.Bodies.{body, procedures_of, code_of_chart}
+use Rattle.chart_code.specs.Keys.{layout}
 use Rattle.layout_text.proofs.Procedures.{keys_are}
 use Rattle.layout_text.proofs.AllProcedures.{procedures_size}
 use Rattle.layout_text.proofs.Spellable.{code_spellable}

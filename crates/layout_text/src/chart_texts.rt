@@ -9,7 +9,7 @@ ghost use Rattle.code_text.specs.declared.limits.TheConstants.{TEXT_LIMIT};
 ghost use Rattle.code_text.specs.Reading.{spelled};
 ghost use Rattle.code_text.specs.Spelling.{code_text, IsSpellable};
 ghost use Rattle.code_text.specs.Written.{written_of};
-ghost use Rattle.chart_layout.specs.Bodies.{code_of_chart};
+ghost use Rattle.chart_code.specs.Bodies.{code_of_chart};
 
 /// The text of the code of a valid chart is no longer than a text that is read.
 pub fn the_text_of_a_charts_code_is_short()

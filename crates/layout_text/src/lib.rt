@@ -5,7 +5,7 @@
 //! (`specs/Sizes.antt`). Nothing is said there of charts, nor of how much code there is. Those of
 //! `chart_texts` are of the code of a valid chart: it has a text, which is short enough to be read
 //! again, and is read as that code. How many procedures of each kind there are stands in
-//! `chart_layout`, and the sums over a chart are made here.
+//! `chart_code`, and the sums over a chart are made here.
 #![tactic(auto)]
 
 mod chart_texts;
@@ -15,6 +15,6 @@ pub use chart_texts::{the_text_of_a_charts_code_is_read, the_text_of_a_charts_co
 pub use line_lengths::{lines_are_short, texts_are_short};
 
 /// The layout of a chart's code.
-pub use chart_layout as layout;
+pub use chart_code as layout;
 /// The text of code.
 pub use code_text as text;

@@ -1,7 +1,7 @@
 -- Code that is written in parts, and one turn of a loop over the states or junctions of a chart.
 use Rattle.std.proofs.Common.{◌≡◌, ◌∙◌, ℕ, suc, List, ◌++◌, map, sym, ap, append_assoc}
 use Rattle.std.proofs.lemmas.List.{map-append, append-nil}
-use Rattle.chart_layout.specs.Orders.{ascending, descending}
+use Rattle.chart_code.specs.Orders.{ascending, descending}
 
 -- two parts
 pub two_parts : {A : Type 0} (old one new a b : List A) → one ≡ old ++ a → new ≡ one ++ b → new ≡ old ++ (a ++ b)

@@ -1,8 +1,8 @@
 -- The procedures of the layout that one loop appends, by what they are of.
 use Rattle.std.specs.Prelude.{ℕ, List}
 use Rattle.checked_chart.specs.Chart.{Chart}
-use Rattle.chart_layout.specs.Keys as keys
-use Rattle.chart_layout.specs.Keys.{Key}
+use Rattle.chart_code.specs.Keys as keys
+use Rattle.chart_code.specs.Keys.{Key}
 use Rattle.state_compile.specs.declared.regions.StateKeys.{StateKeys}
 use Rattle.state_compile.specs.declared.regions.StateKeys.TheVariants.{Actions, Parts, Group, Lists, Process}
 use Rattle.state_compile.specs.declared.pairs.PairKey.{PairKey}

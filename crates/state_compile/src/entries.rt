@@ -6,10 +6,10 @@ ghost use Rattle.active_config.specs.Tree as trees;
 ghost use Rattle.active_config.specs.Tree.{state_count};
 ghost use Rattle.checked_chart.specs.declared.parts.ListKind.TheVariants.{Default};
 ghost use Rattle.checked_chart.specs.Chart as charts;
-ghost use Rattle.chart_procedures.specs.StateProcedures as templates;
-ghost use Rattle.chart_layout.specs.Places.{numbers};
-ghost use Rattle.chart_layout.specs.Keys as keys;
-ghost use Rattle.chart_layout.specs.Bodies.{body};
+ghost use Rattle.chart_code.specs.StateProcedures as templates;
+ghost use Rattle.chart_code.specs.Places.{numbers};
+ghost use Rattle.chart_code.specs.Keys as keys;
+ghost use Rattle.chart_code.specs.Bodies.{body};
 ghost use Rattle.continuation_compile.specs.Drafts.{Instrs, code_seen, procs_of};
 ghost use Rattle.continuation_compile.specs.Numberings.{chart_in, IsNumbering};
 
@@ -27,7 +27,7 @@ use flow_base::{List, Memory};
 use std::alloc::Global;
 
 /// The number of the procedure of the entry action of a state.
-#[tactic(auto, unfolding(chart_layout::specs::Places::numbers))]
+#[tactic(auto, unfolding(chart_code::specs::Places::numbers))]
 fn entry_action(numbering: &Numbering<'_>, state: u32) -> u32
     requires numbers { IsNumbering numbering.now }
     requires state { state < state_count (chart_in numbering.now).tree }
@@ -39,7 +39,7 @@ fn entry_action(numbering: &Numbering<'_>, state: u32) -> u32
 }
 
 /// The number of the procedure of the default list of a state.
-#[tactic(auto, unfolding(chart_layout::specs::Places::numbers))]
+#[tactic(auto, unfolding(chart_code::specs::Places::numbers))]
 fn default_list(numbering: &Numbering<'_>, state: u32) -> u32
     requires numbers { IsNumbering numbering.now }
     requires state { state < state_count (chart_in numbering.now).tree }

@@ -3,10 +3,10 @@ ghost use Rattle.std.specs.Prelude.{◌≡◌, ◌<◌, ◌++◌, ◌∷◌, [],
 ghost use Rattle.std.specs.List.{AllByRecursion};
 ghost use Rattle.active_config.specs.Tree.{state_count, comp_of, children_of};
 ghost use Rattle.code_language.specs.Instrs as instrs;
-ghost use Rattle.chart_procedures.specs.StateProcedures as templates;
-ghost use Rattle.chart_layout.specs.Bodies.{body};
-ghost use Rattle.chart_layout.specs.Keys as keys;
-ghost use Rattle.chart_layout.specs.Places.{numbers};
+ghost use Rattle.chart_code.specs.StateProcedures as templates;
+ghost use Rattle.chart_code.specs.Bodies.{body};
+ghost use Rattle.chart_code.specs.Keys as keys;
+ghost use Rattle.chart_code.specs.Places.{numbers};
 ghost use Rattle.continuation_compile.specs.Drafts.{code_seen, procs_of};
 ghost use Rattle.continuation_compile.specs.Numberings.{chart_in, IsNumbering};
 
@@ -20,7 +20,7 @@ use flow_base::{List, Memory};
 use std::alloc::Global;
 
 /// The number of the procedure of the exit action of a state.
-#[tactic(auto, unfolding(chart_layout::specs::Places::numbers))]
+#[tactic(auto, unfolding(chart_code::specs::Places::numbers))]
 fn exit_action(numbering: &Numbering<'_>, state: u32) -> u32
     requires numbers { IsNumbering numbering.now }
     requires state { state < state_count (chart_in numbering.now).tree }
@@ -32,7 +32,7 @@ fn exit_action(numbering: &Numbering<'_>, state: u32) -> u32
 }
 
 /// The number of the procedure by which the children of a state are left.
-#[tactic(auto, unfolding(chart_layout::specs::Places::numbers))]
+#[tactic(auto, unfolding(chart_code::specs::Places::numbers))]
 fn leave(numbering: &Numbering<'_>, state: u32) -> u32
     requires numbers { IsNumbering numbering.now }
     requires state { state < state_count (chart_in numbering.now).tree }
@@ -42,7 +42,7 @@ fn leave(numbering: &Numbering<'_>, state: u32) -> u32
 }
 
 /// The number of the procedure by which a state is left.
-#[tactic(auto, unfolding(chart_layout::specs::Places::numbers))]
+#[tactic(auto, unfolding(chart_code::specs::Places::numbers))]
 fn exit(numbering: &Numbering<'_>, state: u32) -> u32
     requires numbers { IsNumbering numbering.now }
     requires state { state < state_count (chart_in numbering.now).tree }

@@ -2,8 +2,8 @@
 ghost use Rattle.std.specs.Prelude.{◌≡◌, ◌<◌, ◌==◌, ◌++◌, ◌∷◌, [], OnOk};
 ghost use Rattle.active_config.specs.Tree.{state_count};
 ghost use Rattle.checked_chart.specs.Homes as homes;
-ghost use Rattle.chart_procedures.specs.StateProcedures as templates;
-ghost use Rattle.chart_layout.specs.Places.{numbers};
+ghost use Rattle.chart_code.specs.StateProcedures as templates;
+ghost use Rattle.chart_code.specs.Places.{numbers};
 ghost use Rattle.continuation_compile.specs.Drafts.{code_seen, procs_of};
 ghost use Rattle.continuation_compile.specs.Numberings.{chart_in, IsNumbering};
 
@@ -65,7 +65,7 @@ pub(crate) fn append_arrive(
 }
 
 /// Appends the procedure of a firing with this home.
-#[tactic(auto, unfolding(chart_layout::specs::Places::numbers))]
+#[tactic(auto, unfolding(chart_code::specs::Places::numbers))]
 pub(crate) fn append_take(
     alloc: Global,
     draft: &mut Draft,

@@ -2,10 +2,10 @@
 ghost use Rattle.std.specs.Prelude.{◌≡◌, ◌<◌, suc, ◌++◌, ◌∷◌, [], map, OnOk};
 ghost use Rattle.active_config.specs.Tree.{state_count};
 ghost use Rattle.checked_chart.specs.declared.parts.ListKind.TheVariants.{Default};
-ghost use Rattle.chart_layout.specs.Ends.{below_count};
-ghost use Rattle.chart_layout.specs.Orders.{span};
-ghost use Rattle.chart_layout.specs.Keys as keys;
-ghost use Rattle.chart_layout.specs.Bodies.{body};
+ghost use Rattle.chart_code.specs.Ends.{below_count};
+ghost use Rattle.chart_code.specs.Orders.{span};
+ghost use Rattle.chart_code.specs.Keys as keys;
+ghost use Rattle.chart_code.specs.Bodies.{body};
 ghost use Rattle.continuation_compile.specs.Drafts.{procs_of};
 ghost use Rattle.continuation_compile.specs.Numberings.{chart_in, IsNumbering};
 

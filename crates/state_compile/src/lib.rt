@@ -1,6 +1,6 @@
 //! Compiles the procedures of the states of a chart.
 //!
-//! Each call says what it appends, in the words of `chart_procedures` and `chart_layout`.
+//! Each call says what it appends, in the words of `chart_code`.
 #![tactic(auto)]
 
 mod children;

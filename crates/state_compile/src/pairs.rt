@@ -2,9 +2,9 @@
 ghost use Rattle.std.specs.Prelude.{◌≡◌, ◌<◌, ◌≤◌, ◌-◌, ◌++◌, ◌∷◌, [], map, OnOk};
 ghost use Rattle.flow_base.specs.declared.chart_limits.TheConstants.{STATE_LIMIT};
 ghost use Rattle.active_config.specs.Tree.{state_count};
-ghost use Rattle.chart_layout.specs.Bodies.{body};
-ghost use Rattle.chart_layout.specs.Ends.{end_of};
-ghost use Rattle.chart_layout.specs.Orders.{span};
+ghost use Rattle.chart_code.specs.Bodies.{body};
+ghost use Rattle.chart_code.specs.Ends.{end_of};
+ghost use Rattle.chart_code.specs.Orders.{span};
 ghost use Rattle.continuation_compile.specs.Drafts.{procs_of};
 ghost use Rattle.continuation_compile.specs.Numberings.{chart_in, IsNumbering};
 ghost use Rattle.state_compile.specs.Keyed.{pair_key};

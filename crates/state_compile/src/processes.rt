@@ -4,10 +4,10 @@ ghost use Rattle.active_config.specs.Tree.{state_count, comp_of, children_of};
 ghost use Rattle.checked_chart.specs.declared.parts.ListKind.TheVariants as kinds;
 ghost use Rattle.sos_rules.specs.Parts.{Out};
 ghost use Rattle.code_language.specs.Instrs as instrs;
-ghost use Rattle.chart_procedures.specs.StateProcedures as templates;
-ghost use Rattle.chart_layout.specs.Bodies.{body};
-ghost use Rattle.chart_layout.specs.Keys as keys;
-ghost use Rattle.chart_layout.specs.Places.{numbers};
+ghost use Rattle.chart_code.specs.StateProcedures as templates;
+ghost use Rattle.chart_code.specs.Bodies.{body};
+ghost use Rattle.chart_code.specs.Keys as keys;
+ghost use Rattle.chart_code.specs.Places.{numbers};
 ghost use Rattle.continuation_compile.specs.Drafts.{code_seen, procs_of};
 ghost use Rattle.continuation_compile.specs.Numberings.{chart_in, IsNumbering};
 
@@ -24,7 +24,7 @@ use flow_base::{List, Memory};
 use std::alloc::Global;
 
 /// The number of the procedure of the during action of a state.
-#[tactic(auto, unfolding(chart_layout::specs::Places::numbers))]
+#[tactic(auto, unfolding(chart_code::specs::Places::numbers))]
 fn during(numbering: &Numbering<'_>, state: u32) -> u32
     requires numbers { IsNumbering numbering.now }
     requires state { state < state_count (chart_in numbering.now).tree }
@@ -36,7 +36,7 @@ fn during(numbering: &Numbering<'_>, state: u32) -> u32
 }
 
 /// The number of the procedure of a list.
-#[tactic(auto, unfolding(chart_layout::specs::Places::numbers))]
+#[tactic(auto, unfolding(chart_code::specs::Places::numbers))]
 fn search(numbering: &Numbering<'_>, state: u32, kind: ListKind) -> u32
     requires numbers { IsNumbering numbering.now }
     requires state { state < state_count (chart_in numbering.now).tree }

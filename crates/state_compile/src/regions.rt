@@ -1,9 +1,9 @@
 //! The regions of the layout, each of them in the order of its procedures.
 ghost use Rattle.std.specs.Prelude.{◌≡◌, ◌<◌, ◌++◌, map, OnOk};
 ghost use Rattle.active_config.specs.Tree.{state_count};
-ghost use Rattle.chart_layout.specs.Bodies.{body};
-ghost use Rattle.chart_layout.specs.Keys as keys;
-ghost use Rattle.chart_layout.specs.Orders.{ascending, descending};
+ghost use Rattle.chart_code.specs.Bodies.{body};
+ghost use Rattle.chart_code.specs.Keys as keys;
+ghost use Rattle.chart_code.specs.Orders.{ascending, descending};
 ghost use Rattle.continuation_compile.specs.Drafts.{procs_of};
 ghost use Rattle.continuation_compile.specs.Numberings.{chart_in, IsNumbering};
 ghost use Rattle.state_compile.specs.Keyed.{keys_of};
@@ -51,7 +51,7 @@ fn append_actions_of(
 }
 
 /// Appends the procedures of the parts of the transitions of a state.
-#[tactic(auto, unfolding(chart_layout::specs::Keys::state_parts_keys))]
+#[tactic(auto, unfolding(chart_code::specs::Keys::state_parts_keys))]
 fn append_parts_of_state(
     alloc: Global,
     draft: &mut Draft,
@@ -73,7 +73,7 @@ fn append_parts_of_state(
 }
 
 /// Appends the procedures of the outer and of the inner list of a state.
-#[tactic(auto, unfolding(chart_layout::specs::Keys::lists_keys))]
+#[tactic(auto, unfolding(chart_code::specs::Keys::lists_keys))]
 fn append_lists_of(
     alloc: Global,
     draft: &mut Draft,

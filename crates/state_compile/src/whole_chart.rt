@@ -2,9 +2,9 @@
 ghost use Rattle.std.specs.Prelude.{◌≡◌, ◌++◌, ◌∷◌, [], map, OnOk, IfOk};
 ghost use Rattle.flow_base.specs.Lists.{items_of};
 ghost use Rattle.code_language.specs.Code.{instrs_of};
-ghost use Rattle.chart_procedures.specs.StateProcedures as templates;
-ghost use Rattle.chart_layout.specs.Keys as keys;
-ghost use Rattle.chart_layout.specs.Bodies.{body};
+ghost use Rattle.chart_code.specs.StateProcedures as templates;
+ghost use Rattle.chart_code.specs.Keys as keys;
+ghost use Rattle.chart_code.specs.Bodies.{body};
 ghost use Rattle.continuation_compile.specs.Drafts.{procs_of};
 ghost use Rattle.continuation_compile.specs.Numberings.{chart_in, IsNumbering};
 

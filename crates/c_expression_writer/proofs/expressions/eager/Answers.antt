@@ -1,5 +1,5 @@
 use Rattle.std.proofs.Common.{refl, ap, ◌∙◌}
-use Rattle.c_expressions.specs.Translation.{eager_flat, sort_in}
+use Rattle.c_functions.specs.Translation.{eager_flat, sort_in}
 use Rattle.c_expression_writer.specs.Written.{seen}
 use Rattle.c_expression_writer.proofs.LeafLemmas.{nothing_twice}
 use Rattle.c_expression_writer.proofs.expressions.eager.Goals as goal

@@ -2,7 +2,7 @@ use Rattle.std.proofs.Common.{subst, sym}
 use Rattle.std.proofs.lemmas.Result.{IfOk-weaker}
 use Rattle.flow_base.specs.Lists.{items_of}
 use Rattle.actions.specs.Sorts.{binary_sort}
-use Rattle.c_expressions.specs.Translation.{Flat, sort_in}
+use Rattle.c_functions.specs.Translation.{Flat, sort_in}
 use Rattle.c_expression_writer.specs.FileShapes.{shape_seen}
 use Rattle.c_expression_writer.specs.Written.{IsWritten}
 use Rattle.c_expression_writer.proofs.Composed.{seen_eager}

@@ -1,7 +1,7 @@
 use Rattle.std.proofs.Common.{FitsSigned, refl, ap, ◌∙◌, rules}
 use Rattle.std.proofs.lemmas.Int.{to_z-of_z}
 use Rattle.std.specs.Int.{w128}
-use Rattle.c_expressions.specs.Translation.{sort_in}
+use Rattle.c_functions.specs.Translation.{sort_in}
 use Rattle.c_expression_writer.proofs.LeafLemmas.{literal_written}
 use Rattle.c_expression_writer.proofs.leaves.literal.Goals as goal
 

@@ -2,7 +2,7 @@ use Rattle.std.proofs.Common.{length}
 use Rattle.std.proofs.lemmas.Result.{IfOk-weaker}
 use Rattle.checked_chart.specs.Kept.{chart_of}
 use Rattle.code_language.specs.Code.{code_of}
-use Rattle.c_procedures.specs.Writer.{plans_of}
+use Rattle.c_functions.specs.Writer.{plans_of}
 use Rattle.c_functions.specs.Files.{shape_of}
 use Rattle.c_functions.specs.Starts.{file_of}
 use Rattle.c_expression_writer.specs.FileShapes.{tests_seen}

@@ -1,9 +1,9 @@
 use Rattle.std.proofs.Common.{Option, subst}
 use Rattle.commands.specs.Call.{Output, Call, call_of, output_of}
-use Rattle.c_words.specs.Commands.{Command}
+use Rattle.c_program.specs.Commands.{Command}
 use Rattle.c_program.specs.Ending.{line_of}
 use Rattle.c_program.specs.Answer.{CallEnds}
-use Rattle.program_answers.proofs.LineLemmas.{line_stands, line_whole}
+use Rattle.commands.proofs.ErrorLineLemmas.{line_stands, line_whole}
 use Rattle.c_program.proofs.UsageLemmas.{usage_only, no_command}
 use Rattle.c_program.proofs.command.c_main.Goals as goal
 

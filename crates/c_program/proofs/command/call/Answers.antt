@@ -1,6 +1,6 @@
 use Rattle.std.proofs.Common.{refl}
-use Rattle.c_words.specs.Words.{command_of}
 use Rattle.commands.specs.Call.{call_of}
+use Rattle.c_program.specs.Words.{command_of}
 use Rattle.c_program.proofs.OthersLemmas.{none_read}
 use Rattle.c_program.proofs.command.call.Goals as goal
 

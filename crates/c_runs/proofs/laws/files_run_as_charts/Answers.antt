@@ -1,5 +1,5 @@
 use Rattle.std.proofs.Common.{refl}
-use Rattle.chart_layout.specs.Bodies.{code_of_chart}
+use Rattle.chart_code.specs.Bodies.{code_of_chart}
 use Rattle.code_copies.proofs.SameRunsLemmas.{same_shrunk}
 use Rattle.c_functions.specs.Plans.{all_tests}
 use Rattle.c_runs.proofs.Runs.{runs-as-rules, same-fits, all-serve}

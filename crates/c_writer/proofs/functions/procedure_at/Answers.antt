@@ -3,7 +3,7 @@ use Rattle.std.proofs.lemmas.List.{length-map}
 use Rattle.std.proofs.lemmas.Result.{IfOk-weaker}
 use Rattle.code_language.specs.Code.{code_of, instr_of, instrs_of}
 use Rattle.c_subset.specs.Lines.{IsFunction}
-use Rattle.c_procedures.specs.Writer.{plan_of, plans_of}
+use Rattle.c_functions.specs.Writer.{plan_of, plans_of}
 use Rattle.c_functions.specs.Files.{procedure_c}
 use Rattle.c_functions.specs.Plans.{Shape}
 use Rattle.c_expression_writer.specs.FileShapes.{shape_seen}

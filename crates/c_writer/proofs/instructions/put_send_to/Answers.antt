@@ -1,7 +1,7 @@
 use Rattle.std.proofs.Common.{◌∙◌}
 use Rattle.std.proofs.lemmas.Result.{on_ok_weaker}
-use Rattle.c_procedures.specs.Statements as plan
-use Rattle.c_procedures.specs.Written.{on_check}
+use Rattle.c_functions.specs.Statements as plan
+use Rattle.c_functions.specs.Written.{on_check}
 use Rattle.c_functions.specs.Plans.{pay_c, plan_c}
 use Rattle.c_expression_writer.specs.FileShapes.{shape_seen}
 use Rattle.c_writer.proofs.instructions.put_send_to.Goals as goal

@@ -3,7 +3,7 @@ use Rattle.std.proofs.lemmas.Result.{on_ok_weaker}
 use Rattle.actions.specs.Trees.{expr_of}
 use Rattle.code_language.specs.Code.{instr_of}
 use Rattle.code_language.specs.WellFormed.{instr_typed}
-use Rattle.c_procedures.specs.Written.{straight}
+use Rattle.c_functions.specs.Written.{straight}
 use Rattle.c_functions.specs.Plans.{plan_c}
 use Rattle.c_expression_writer.specs.FileShapes.{shape_seen}
 use Rattle.c_writer.specs.Fine.{known_in}

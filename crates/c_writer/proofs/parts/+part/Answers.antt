@@ -5,7 +5,7 @@ use Rattle.code_language.specs.Instrs as i
 use Rattle.code_language.proofs.ListLemmas.{drop_map_at}
 use Rattle.c_subset.specs.Trees.{Return}
 use Rattle.c_subset.specs.Lines.{expr_of, lines_in, lines_of}
-use Rattle.c_procedures.specs.Written.{test_of}
+use Rattle.c_functions.specs.Written.{test_of}
 use Rattle.c_functions.specs.Plans.{plan_c, plays}
 use Rattle.c_expression_writer.specs.FileShapes.{shape_seen}
 use Rattle.c_writer.specs.Fine.{IsFine}

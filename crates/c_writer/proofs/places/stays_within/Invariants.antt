@@ -1,6 +1,6 @@
 use Rattle.std.proofs.Common.{◌≡◌, ◌-◌, drop}
 use Rattle.code_language.specs.Code.{instrs_of}
-use Rattle.c_procedures.specs.Writer.{stays_within}
+use Rattle.c_functions.specs.Writer.{stays_within}
 use Rattle.c_writer.proofs.places.stays_within.Given as goal
 
 -- those that were passed stay, so all stay where the others do

@@ -3,7 +3,7 @@ use Rattle.std.proofs.lemmas.Result.{IfOk-weaker}
 use Rattle.flow_base.specs.Lists.{items_of}
 use Rattle.code_language.specs.Code.{instrs_of}
 use Rattle.c_subset.specs.Lines.{lines_in, lines_of}
-use Rattle.c_procedures.specs.Writer.{plan_of}
+use Rattle.c_functions.specs.Writer.{plan_of}
 use Rattle.c_functions.specs.Plans.{plan_c, plays}
 use Rattle.c_expression_writer.specs.FileShapes.{shape_seen}
 use Rattle.c_writer.proofs.ProcedureLemmas.{whole, body_plays, body_rests}

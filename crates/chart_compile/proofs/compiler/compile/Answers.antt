@@ -2,7 +2,7 @@ use Rattle.std.proofs.Common.{◌≡◌, sym, ap, subst, ◌∙◌}
 use Rattle.checked_chart.specs.Kept.{chart_of}
 use Rattle.code_language.specs.Code.{code_of}
 use Rattle.code_language.specs.WellFormed.{IsCode}
-use Rattle.chart_layout.specs.Bodies.{code_of_chart}
+use Rattle.chart_code.specs.Bodies.{code_of_chart}
 use Rattle.chart_compile.proofs.Compiled.{is_small, runs_as}
 use Rattle.chart_compile.proofs.compiler.compile.Goals as goal
 

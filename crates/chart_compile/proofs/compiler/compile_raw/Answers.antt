@@ -3,9 +3,9 @@ use Rattle.actions.specs.Names.{Names, names_of}
 use Rattle.checked_chart.specs.Chart.{Chart}
 use Rattle.checked_chart.specs.Kept.{chart_of}
 use Rattle.code_language.specs.Code.{Code, code_of}
-use Rattle.chart_layout.specs.Keys.{layout}
-use Rattle.chart_layout.specs.Places.{numbers}
-use Rattle.chart_layout.specs.Bodies.{body, procedures_of, code_of_chart}
+use Rattle.chart_code.specs.Keys.{layout}
+use Rattle.chart_code.specs.Places.{numbers}
+use Rattle.chart_code.specs.Bodies.{body, procedures_of, code_of_chart}
 use Rattle.chart_compile.proofs.Codes.{same_names, same_procedures, same_code}
 use Rattle.chart_compile.proofs.compiler.compile_raw.Goals as goal
 

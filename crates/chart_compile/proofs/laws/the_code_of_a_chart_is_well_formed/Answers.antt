@@ -1,4 +1,4 @@
-use Rattle.chart_layout.specs.Bodies.{code_of_chart}
+use Rattle.chart_code.specs.Bodies.{code_of_chart}
 use Rattle.chart_compile.proofs.WellFormed.{is_code}
 use Rattle.chart_compile.proofs.laws.the_code_of_a_chart_is_well_formed.Goals as goal
 

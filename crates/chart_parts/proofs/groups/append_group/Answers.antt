@@ -2,9 +2,9 @@ use Rattle.std.proofs.Common.{◌≡◌, ◌∙◌, ◌+◌, ◌-◌, suc, ◌�
 use Rattle.flow_base.specs.Lists.{items_of}
 use Rattle.checked_chart.specs.declared.parts.ListKind.TheVariants.{Default}
 use Rattle.checked_chart.specs.Kept.{chart_of}
-use Rattle.chart_layout.specs.Ends.{below_count}
-use Rattle.chart_layout.specs.Orders.{span}
-use Rattle.chart_layout.proofs.EndsLemmas.{end_is, end_after}
+use Rattle.chart_code.specs.Ends.{below_count}
+use Rattle.chart_code.specs.Orders.{span}
+use Rattle.chart_code.proofs.EndsLemmas.{end_is, end_after}
 use Rattle.chart_parts.specs.declared.part.Part.TheVariants as parts
 use Rattle.chart_parts.specs.declared.part.Toward.TheVariants.{Arrive, Take, Enter}
 use Rattle.chart_parts.specs.Parts.{search_parts, group_parts}

@@ -1,6 +1,6 @@
 use Rattle.std.proofs.Common.{◌≡◌, ◌-◌, ◌++◌}
 use Rattle.flow_base.specs.Lists.{items_of}
-use Rattle.chart_layout.specs.Orders.{span}
+use Rattle.chart_code.specs.Orders.{span}
 use Rattle.chart_parts.specs.declared.part.Part.TheVariants.{Way}
 use Rattle.chart_parts.proofs.groups.append_ways.Given as goal
 

@@ -1,7 +1,7 @@
 use Rattle.std.proofs.Common.{◌≡◌, ◌++◌}
 use Rattle.flow_base.specs.Lists.{items_of}
 use Rattle.checked_chart.specs.Kept.{chart_of}
-use Rattle.chart_layout.specs.Orders.{ascending}
+use Rattle.chart_code.specs.Orders.{ascending}
 use Rattle.chart_parts.specs.Regions.{region_parts}
 use Rattle.chart_parts.proofs.regions.append_ascending.Given as goal
 

@@ -2,7 +2,7 @@ use Rattle.std.proofs.Common.{◌≡◌, ◌++◌}
 use Rattle.flow_base.specs.Lists.{items_of}
 use Rattle.active_config.specs.Tree.{state_count}
 use Rattle.checked_chart.specs.Kept.{chart_of}
-use Rattle.chart_layout.specs.Orders.{descending}
+use Rattle.chart_code.specs.Orders.{descending}
 use Rattle.chart_parts.specs.Regions.{region_parts}
 use Rattle.chart_parts.proofs.regions.append_descending.Given as goal
 

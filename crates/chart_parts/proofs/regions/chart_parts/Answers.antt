@@ -4,7 +4,7 @@ use Rattle.flow_base.specs.Lists.{items_of}
 use Rattle.active_config.specs.Tree.{state_count}
 use Rattle.checked_chart.specs.Chart.{junction_count}
 use Rattle.checked_chart.specs.Kept.{chart_of}
-use Rattle.chart_layout.specs.Orders.{ascending}
+use Rattle.chart_code.specs.Orders.{ascending}
 use Rattle.chart_parts.specs.declared.part.Part.TheVariants as parts
 use Rattle.chart_parts.specs.Parts.{block_parts, state_parts, junction_parts, parts_of, IsPart}
 use Rattle.chart_parts.specs.Regions.{last_parts}

@@ -1,4 +1,4 @@
-use Rattle.chart_layout.proofs.Whole.{code_runs}
+use Rattle.chart_code.proofs.Whole.{code_runs}
 use Rattle.commands.proofs.WithinNeed.{code_fine}
 use Rattle.commands.proofs.run_laws.code_of_a_chart_overruns_no_bounds_of_its_need.Goals as goal
 

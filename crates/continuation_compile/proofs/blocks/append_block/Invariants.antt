@@ -1,7 +1,7 @@
 use Rattle.std.proofs.Common.{◌≡◌, ◌++◌, drop}
 use Rattle.checked_chart.specs.Views.{block_seen}
-use Rattle.chart_procedures.specs.StateProcedures.{block_code}
-use Rattle.chart_layout.specs.Places.{numbers}
+use Rattle.chart_code.specs.StateProcedures.{block_code}
+use Rattle.chart_code.specs.Places.{numbers}
 use Rattle.continuation_compile.specs.Drafts.{code_seen, test_of}
 use Rattle.continuation_compile.specs.Numberings.{chart_in}
 use Rattle.continuation_compile.proofs.blocks.append_block.Given as goal

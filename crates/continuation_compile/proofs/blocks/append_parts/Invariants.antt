@@ -1,7 +1,7 @@
 use Rattle.std.proofs.Common.{◌≡◌, ◌++◌, drop, map}
 use Rattle.checked_chart.specs.Views.{list_seen}
-use Rattle.chart_layout.specs.Keys.{parts_keys}
-use Rattle.chart_layout.specs.Bodies.{body}
+use Rattle.chart_code.specs.Keys.{parts_keys}
+use Rattle.chart_code.specs.Bodies.{body}
 use Rattle.continuation_compile.specs.Drafts.{procs_of}
 use Rattle.continuation_compile.specs.Numberings.{chart_in}
 use Rattle.continuation_compile.proofs.blocks.append_parts.Given as goal

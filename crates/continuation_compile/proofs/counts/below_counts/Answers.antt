@@ -1,7 +1,7 @@
 use Rattle.std.proofs.Common.{◌+◌, refl, arith}
 use Rattle.flow_base.specs.declared.chart_limits.TheConstants.{STATE_LIMIT}
 use Rattle.flow_base.specs.Lists.{items_of}
-use Rattle.chart_layout.specs.Ends.{below_count}
+use Rattle.chart_code.specs.Ends.{below_count}
 use Rattle.continuation_compile.proofs.Limits.{below_low}
 use Rattle.continuation_compile.proofs.TableTurns.{table_more}
 use Rattle.continuation_compile.proofs.counts.below_counts.Goals as goal

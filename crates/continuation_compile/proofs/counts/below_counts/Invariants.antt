@@ -1,6 +1,6 @@
 use Rattle.flow_base.specs.declared.chart_limits.TheConstants.{STATE_LIMIT}
 use Rattle.flow_base.specs.Lists.{items_of}
-use Rattle.chart_layout.specs.Ends.{below_count}
+use Rattle.chart_code.specs.Ends.{below_count}
 use Rattle.continuation_compile.specs.Tables.{IsTable}
 use Rattle.continuation_compile.proofs.counts.below_counts.Given as goal
 

@@ -1,6 +1,6 @@
 use Rattle.flow_base.specs.Lists.{items_of}
 use Rattle.checked_chart.specs.Kept.{chart_of}
-use Rattle.chart_layout.specs.Places.{junction_parts_size}
+use Rattle.chart_code.specs.Places.{junction_parts_size}
 use Rattle.continuation_compile.specs.declared.number_limits.TheConstants.{SIZE_LIMIT}
 use Rattle.continuation_compile.specs.Tables.{IsTable}
 use Rattle.continuation_compile.proofs.counts.junction_parts_sizes.Given as goal

@@ -1,6 +1,6 @@
 use Rattle.std.proofs.Common.{ap, arith}
 use Rattle.checked_chart.specs.Kept.{chart_of}
-use Rattle.chart_layout.specs.Places.{parts_size}
+use Rattle.chart_code.specs.Places.{parts_size}
 use Rattle.continuation_compile.proofs.Limits.{list_parts_low}
 use Rattle.continuation_compile.proofs.counts.list_parts_size.Goals as goal
 

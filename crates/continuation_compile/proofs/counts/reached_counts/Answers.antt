@@ -2,8 +2,8 @@ use Rattle.std.proofs.Common.{◌+◌, ◌∙◌, length, refl, ap, arith}
 use Rattle.flow_base.specs.declared.chart_limits.TheConstants.{JUNCTION_LIMIT}
 use Rattle.flow_base.specs.Lists.{items_of}
 use Rattle.checked_chart.specs.Kept.{chart_of}
-use Rattle.chart_layout.specs.Places.{reached_count}
-use Rattle.chart_layout.specs.ReachedJunctions.{reached}
+use Rattle.chart_code.specs.Places.{reached_count}
+use Rattle.chart_code.specs.ReachedJunctions.{reached}
 use Rattle.continuation_compile.proofs.Limits.{reached_count_low}
 use Rattle.continuation_compile.proofs.TableTurns.{table_more}
 use Rattle.continuation_compile.proofs.counts.reached_counts.Goals as goal

@@ -1,7 +1,7 @@
 use Rattle.flow_base.specs.declared.chart_limits.TheConstants.{JUNCTION_LIMIT}
 use Rattle.flow_base.specs.Lists.{items_of}
 use Rattle.checked_chart.specs.Kept.{chart_of}
-use Rattle.chart_layout.specs.Places.{reached_count}
+use Rattle.chart_code.specs.Places.{reached_count}
 use Rattle.continuation_compile.specs.Tables.{IsTable}
 use Rattle.continuation_compile.proofs.counts.reached_counts.Given as goal
 

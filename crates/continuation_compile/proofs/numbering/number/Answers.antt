@@ -2,7 +2,7 @@ use Rattle.std.proofs.Common.{subst}
 use Rattle.flow_base.specs.declared.chart_limits.TheConstants.{STATE_LIMIT}
 use Rattle.flow_base.specs.Lists.{items_of}
 use Rattle.active_config.specs.Tree.{state_count}
-use Rattle.chart_layout.specs.Ends.{below_count}
+use Rattle.chart_code.specs.Ends.{below_count}
 use Rattle.continuation_compile.specs.Tables.{IsTable}
 use Rattle.continuation_compile.proofs.numbering.number.Goals as goal
 

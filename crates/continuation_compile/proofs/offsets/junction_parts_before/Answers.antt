@@ -2,7 +2,7 @@ use Rattle.std.proofs.lemmas.Result.{IfOk-weaker}
 use Rattle.flow_base.specs.Lists.{items_of}
 use Rattle.checked_chart.specs.Chart.{junction_count}
 use Rattle.checked_chart.specs.Kept.{chart_of}
-use Rattle.chart_layout.specs.Places.{junction_parts_size}
+use Rattle.chart_code.specs.Places.{junction_parts_size}
 use Rattle.continuation_compile.proofs.TableTurns.{table_sums}
 use Rattle.continuation_compile.proofs.offsets.junction_parts_before.Goals as goal
 

@@ -4,7 +4,7 @@ use Rattle.std.specs.Prelude.{slice_index_or}
 use Rattle.flow_base.specs.Lists.{items_of}
 use Rattle.active_config.specs.Tree.{state_count}
 use Rattle.checked_chart.specs.Kept.{chart_of}
-use Rattle.chart_layout.specs.Places.{lists_size}
+use Rattle.chart_code.specs.Places.{lists_size}
 use Rattle.continuation_compile.specs.declared.number_limits.TheConstants.{SIZE_LIMIT}
 use Rattle.continuation_compile.specs.declared.number_offsets.TheConstants.{LISTS_SIZE}
 use Rattle.continuation_compile.specs.Tables.{IsTable}

@@ -2,7 +2,7 @@ use Rattle.std.proofs.lemmas.Result.{IfOk-weaker}
 use Rattle.flow_base.specs.Lists.{items_of}
 use Rattle.active_config.specs.Tree.{state_count}
 use Rattle.checked_chart.specs.Kept.{chart_of}
-use Rattle.chart_layout.specs.Places.{state_parts_size}
+use Rattle.chart_code.specs.Places.{state_parts_size}
 use Rattle.continuation_compile.proofs.TableTurns.{table_sums}
 use Rattle.continuation_compile.proofs.offsets.parts_before.Goals as goal
 

@@ -1,5 +1,5 @@
 use Rattle.std.proofs.Common.{◌≡◌, drop}
-use Rattle.chart_layout.specs.ReachedJunctions.{has}
+use Rattle.chart_code.specs.ReachedJunctions.{has}
 use Rattle.continuation_compile.proofs.reached.has.Given as goal
 
 -- the number is in the list just where it is in what is left

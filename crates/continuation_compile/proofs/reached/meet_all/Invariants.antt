@@ -1,7 +1,7 @@
 use Rattle.std.proofs.Common.{◌≡◌, drop}
 use Rattle.flow_base.specs.Lists.{items_of}
 use Rattle.checked_chart.specs.Views.{list_seen}
-use Rattle.chart_layout.specs.ReachedJunctions.{meet, junctions_to}
+use Rattle.chart_code.specs.ReachedJunctions.{meet, junctions_to}
 use Rattle.continuation_compile.proofs.reached.meet_all.Given as goal
 
 -- what is met, with what the rest leads to, is what was there with what the whole list leads to

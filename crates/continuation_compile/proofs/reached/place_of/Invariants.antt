@@ -1,5 +1,5 @@
 use Rattle.std.proofs.Common.{◌≡◌, ◌+◌, drop}
-use Rattle.chart_layout.specs.ReachedJunctions.{place_of}
+use Rattle.chart_code.specs.ReachedJunctions.{place_of}
 use Rattle.continuation_compile.proofs.reached.place_of.Given as goal
 
 -- the places that were passed, and the place in what is left

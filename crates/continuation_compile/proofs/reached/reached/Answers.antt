@@ -3,7 +3,7 @@ use Rattle.flow_base.specs.Lists.{items_of}
 use Rattle.checked_chart.specs.Chart.{junction, junction_count}
 use Rattle.checked_chart.specs.Kept.{chart_of}
 use Rattle.checked_chart.specs.Views.{list_seen}
-use Rattle.chart_layout.specs.ReachedJunctions.{reached, meet, junctions_to}
+use Rattle.chart_code.specs.ReachedJunctions.{reached, meet, junctions_to}
 use Rattle.continuation_compile.proofs.Spreads.{get_in, spread_start, spread_turn, spread_over, spread_none, met_below}
 use Rattle.continuation_compile.proofs.Spreads.{targets_below}
 use Rattle.continuation_compile.proofs.reached.reached.Goals as goal

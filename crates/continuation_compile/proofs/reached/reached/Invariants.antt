@@ -4,7 +4,7 @@ use Rattle.flow_base.specs.Lists.{items_of}
 use Rattle.checked_chart.specs.Chart.{junction, junction_count}
 use Rattle.checked_chart.specs.Kept.{chart_of}
 use Rattle.checked_chart.specs.Views.{list_seen}
-use Rattle.chart_layout.specs.ReachedJunctions.{spread, junctions_to, reached}
+use Rattle.chart_code.specs.ReachedJunctions.{spread, junctions_to, reached}
 use Rattle.continuation_compile.proofs.reached.reached.Given as goal
 
 -- what is found, with what is left to look at, is what is reached; all are junctions of the chart

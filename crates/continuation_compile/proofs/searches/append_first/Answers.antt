@@ -1,5 +1,5 @@
 use Rattle.std.proofs.Common.{ap, arith}
-use Rattle.chart_layout.specs.Places.{parts_size}
+use Rattle.chart_code.specs.Places.{parts_size}
 use Rattle.continuation_compile.specs.Numberings.{chart_in}
 use Rattle.continuation_compile.proofs.Limits.{list_parts_low}
 use Rattle.continuation_compile.proofs.searches.append_first.Goals as goal

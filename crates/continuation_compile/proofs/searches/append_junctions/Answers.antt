@@ -1,5 +1,5 @@
-use Rattle.chart_layout.specs.Bodies.{body}
-use Rattle.chart_layout.specs.Keys.{JunctionOf}
+use Rattle.chart_code.specs.Bodies.{body}
+use Rattle.chart_code.specs.Keys.{JunctionOf}
 use Rattle.continuation_compile.specs.Drafts.{procs_of}
 use Rattle.continuation_compile.specs.Numberings.{chart_in}
 use Rattle.continuation_compile.proofs.FrontLemmas.{on_err, front_at, front_so_far}

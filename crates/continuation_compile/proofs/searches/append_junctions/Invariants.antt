@@ -1,6 +1,6 @@
 use Rattle.std.proofs.Common.{◌≡◌, ◌++◌, drop, map}
-use Rattle.chart_layout.specs.Keys.{JunctionOf}
-use Rattle.chart_layout.specs.Bodies.{body}
+use Rattle.chart_code.specs.Keys.{JunctionOf}
+use Rattle.chart_code.specs.Bodies.{body}
 use Rattle.continuation_compile.specs.Drafts.{procs_of}
 use Rattle.continuation_compile.specs.Numberings.{chart_in}
 use Rattle.continuation_compile.proofs.searches.append_junctions.Given as goal

@@ -2,10 +2,10 @@ use Rattle.std.proofs.Common.{◌≡◌, ◌∙◌, ℕ, List, [], ◌∷◌, �
 use Rattle.checked_chart.specs.declared.parts.ListKind.{ListKind}
 use Rattle.checked_chart.specs.Chart.{Chart, list_of}
 use Rattle.code_language.specs.Instrs.{Instr}
-use Rattle.chart_layout.specs.Bodies.{body}
-use Rattle.chart_layout.specs.Keys.{ListOf, JunctionOf, search_keys}
-use Rattle.chart_layout.specs.Places.{reached_count}
-use Rattle.chart_layout.specs.ReachedJunctions.{reached}
+use Rattle.chart_code.specs.Bodies.{body}
+use Rattle.chart_code.specs.Keys.{ListOf, JunctionOf, search_keys}
+use Rattle.chart_code.specs.Places.{reached_count}
+use Rattle.chart_code.specs.ReachedJunctions.{reached}
 use Rattle.continuation_compile.specs.Drafts.{procs_of}
 use Rattle.continuation_compile.specs.Numberings.{chart_in}
 use Rattle.continuation_compile.proofs.FrontLemmas.{on_err, front_same, front_then}

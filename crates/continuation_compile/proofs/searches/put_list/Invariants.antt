@@ -1,7 +1,7 @@
 use Rattle.std.proofs.Common.{◌≡◌, ◌+◌, ◌++◌, drop}
 use Rattle.checked_chart.specs.Views.{list_seen}
-use Rattle.chart_procedures.specs.ListProcedures.{list_code}
-use Rattle.chart_layout.specs.Places.{parts_numbers, parts_size}
+use Rattle.chart_code.specs.ListProcedures.{list_code}
+use Rattle.chart_code.specs.Places.{parts_numbers, parts_size}
 use Rattle.continuation_compile.specs.Drafts.{code_seen}
 use Rattle.continuation_compile.specs.Numberings.{chart_in}
 use Rattle.continuation_compile.specs.Searches.{search_seen}

@@ -1,7 +1,7 @@
 use Rattle.std.proofs.Common.{◌∙◌, ◌++◌, ap}
 use Rattle.checked_chart.specs.Views.{trans_seen}
-use Rattle.chart_procedures.specs.ListProcedures.{condition_code}
-use Rattle.chart_layout.specs.Places.{trans_numbers}
+use Rattle.chart_code.specs.ListProcedures.{condition_code}
+use Rattle.chart_code.specs.Places.{trans_numbers}
 use Rattle.continuation_compile.specs.Drafts.{code_seen, test_of}
 use Rattle.continuation_compile.specs.Numberings.{chart_in}
 use Rattle.continuation_compile.specs.Searches.{search_seen}

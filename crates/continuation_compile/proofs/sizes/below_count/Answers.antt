@@ -1,6 +1,6 @@
 use Rattle.std.proofs.Common.{◌∙◌, sym, arith}
-use Rattle.chart_layout.specs.Ends.{below_count}
-use Rattle.chart_layout.proofs.EndsLemmas.{end_is}
+use Rattle.chart_code.specs.Ends.{below_count}
+use Rattle.chart_code.proofs.EndsLemmas.{end_is}
 use Rattle.continuation_compile.proofs.EndTurns.{below_before, other_after}
 use Rattle.continuation_compile.proofs.sizes.below_count.Goals as goal
 use Rattle.continuation_compile.proofs.sizes.below_count.Goals.{then-loop-next-test+else-is_below, else-loop-next-test}

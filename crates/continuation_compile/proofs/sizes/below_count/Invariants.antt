@@ -1,5 +1,5 @@
 use Rattle.std.proofs.Common.{◌<◌, ◌≤◌, ◌-◌}
-use Rattle.chart_layout.specs.Ends.{end_of}
+use Rattle.chart_code.specs.Ends.{end_of}
 use Rattle.continuation_compile.proofs.sizes.below_count.Given as goal
 
 -- the end isn't passed

@@ -1,6 +1,6 @@
 use Rattle.std.proofs.Common.{◌≡◌, ◌+◌, drop}
 use Rattle.checked_chart.specs.Views.{list_seen}
-use Rattle.chart_layout.specs.Places.{parts_size}
+use Rattle.chart_code.specs.Places.{parts_size}
 use Rattle.continuation_compile.proofs.sizes.parts_size.Given as goal
 
 -- those that are counted and those of the rest are all

@@ -1,7 +1,7 @@
 use Rattle.std.proofs.Common.{◌≡◌, ◌+◌, ◌<◌, ◌∙◌, suc, length, slice_index_or, refl, ap, arith}
 use Rattle.flow_base.specs.Lists.{items_of}
-use Rattle.chart_layout.specs.Orders.{sum_to}
-use Rattle.chart_layout.proofs.Sums.{sum_next}
+use Rattle.chart_code.specs.Orders.{sum_to}
+use Rattle.chart_code.proofs.Sums.{sum_next}
 use Rattle.continuation_compile.specs.declared.number_limits.TheConstants.{SUM_LIMIT}
 use Rattle.continuation_compile.proofs.TableTurns.{table_none, table_more}
 use Rattle.continuation_compile.proofs.tables.sums_before.Goals as goal

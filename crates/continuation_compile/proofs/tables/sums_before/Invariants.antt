@@ -1,6 +1,6 @@
 use Rattle.std.proofs.Common.{◌≡◌, ◌*◌, ◌≤◌, ℕ, length}
 use Rattle.flow_base.specs.Lists.{items_of}
-use Rattle.chart_layout.specs.Orders.{sum_to}
+use Rattle.chart_code.specs.Orders.{sum_to}
 use Rattle.continuation_compile.specs.declared.number_limits.TheConstants.{SIZE_LIMIT, SUM_LIMIT}
 use Rattle.continuation_compile.specs.Tables.{IsTable}
 use Rattle.continuation_compile.proofs.tables.sums_before.Given as goal

@@ -3,7 +3,7 @@ use Rattle.commands.specs.Call.{Output, Call, call_of, output_of}
 use Rattle.command_words.specs.Commands.{Command}
 use Rattle.flow_program.specs.Ending.{line_of}
 use Rattle.flow_program.specs.Answer.{CallEnds}
-use Rattle.program_answers.proofs.LineLemmas.{line_stands, line_whole}
+use Rattle.commands.proofs.ErrorLineLemmas.{line_stands, line_whole}
 use Rattle.flow_program.proofs.UsageLemmas.{usage_only, no_command}
 use Rattle.flow_program.proofs.command.chart_main.Goals as goal
 

@@ -1,9 +1,9 @@
 use Rattle.std.proofs.Common.{◌++◌, sym, codes, decimal, append_assoc}
 use Rattle.std.proofs.lemmas.Result.{on_ok_weaker, on_err_weaker}
+use Rattle.commands.specs.ErrorLines.{kind_text}
 use Rattle.flow_program.specs.declared.ending.Ending.TheVariants as endings
-use Rattle.program_answers.specs.Lines.{kind_text}
 use Rattle.flow_program.specs.Ending.{event_fault_text, line_of, named_place_text}
-use Rattle.program_answers.proofs.FrontLemmas.{front_first, front_after, front_as, written_after, written_as, at_exit}
+use Rattle.commands.proofs.FrontLemmas.{front_first, front_after, front_as, written_after, written_as, at_exit}
 use Rattle.flow_program.proofs.report.report.Goals as goal
 
 -- ---- a chart of a net that is refused

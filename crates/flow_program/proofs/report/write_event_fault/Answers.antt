@@ -1,7 +1,7 @@
 use Rattle.std.proofs.Common.{◌++◌, ap, ◌∙◌, codes, decimal}
 use Rattle.std.proofs.lemmas.Result.{on_err_weaker}
 use Rattle.event_file.specs.Faults.{line_fault_number, line_fault_name}
-use Rattle.program_answers.proofs.FrontLemmas.{front_first, front_after, front_as, written_after, written_as, at_exit}
+use Rattle.commands.proofs.FrontLemmas.{front_first, front_after, front_as, written_after, written_as, at_exit}
 use Rattle.flow_program.proofs.report.write_event_fault.Goals as goal
 
 -- what stands after the number isn't written

@@ -1,6 +1,6 @@
 use Rattle.std.proofs.Common.{◌++◌, codes, decimal}
 use Rattle.std.proofs.lemmas.Result.{on_err_weaker}
-use Rattle.program_answers.proofs.FrontLemmas.{front_first, front_after, written_after, written_as, at_exit}
+use Rattle.commands.proofs.FrontLemmas.{front_first, front_after, written_after, written_as, at_exit}
 use Rattle.flow_program.proofs.report.write_head.Goals as goal
 
 -- the number isn't written

@@ -1,6 +1,6 @@
 use Rattle.std.proofs.Common.{codes}
 use Rattle.std.proofs.lemmas.Result.{on_err_weaker}
-use Rattle.program_answers.proofs.FrontLemmas.{front_after, written_as}
+use Rattle.commands.proofs.FrontLemmas.{front_after, written_as}
 use Rattle.flow_program.proofs.report.write_line.Goals as goal
 
 -- the end of the line isn't written

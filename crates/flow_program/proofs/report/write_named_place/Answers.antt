@@ -1,7 +1,7 @@
 use Rattle.std.proofs.Common.{◌++◌, codes}
 use Rattle.std.proofs.lemmas.Result.{on_err_weaker}
 use Rattle.flow_program.specs.Ending.{spot_text}
-use Rattle.program_answers.proofs.FrontLemmas.{front_first, front_after, front_as, written_after, written_as, at_exit}
+use Rattle.commands.proofs.FrontLemmas.{front_first, front_after, front_as, written_after, written_as, at_exit}
 use Rattle.flow_program.proofs.report.write_named_place.Goals as goal
 
 -- what stands before the name isn't written

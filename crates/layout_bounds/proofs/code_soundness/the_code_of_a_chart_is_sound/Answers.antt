@@ -1,6 +1,6 @@
 use Rattle.code_language.specs.WellFormed.{known_of}
 use Rattle.code_language.proofs.Accepted.{no_procs_fault}
-use Rattle.chart_layout.specs.Bodies.{code_of_chart}
+use Rattle.chart_code.specs.Bodies.{code_of_chart}
 use Rattle.layout_bounds.proofs.SoundCode.{code_sound}
 use Rattle.layout_bounds.proofs.SoundTables.{table, starts}
 use Rattle.layout_bounds.proofs.FewProcedures.{code_few}

@@ -1,6 +1,6 @@
 use Rattle.std.proofs.Common.{◌≡◌, ◌++◌, drop}
-use Rattle.chart_procedures.specs.StateProcedures.{return_code}
-use Rattle.chart_layout.specs.Places.{numbers}
+use Rattle.chart_code.specs.StateProcedures.{return_code}
+use Rattle.chart_code.specs.Places.{numbers}
 use Rattle.continuation_compile.specs.Drafts.{Instrs, code_seen}
 use Rattle.continuation_compile.specs.Numberings.{chart_in}
 use Rattle.state_compile.proofs.entries.put_return_to.Given as goal

@@ -1,7 +1,7 @@
 use Rattle.std.proofs.Common.{◌∷◌, []}
 use Rattle.checked_chart.specs.declared.parts.ListKind.TheVariants.{Default}
-use Rattle.chart_layout.specs.Bodies.{body}
-use Rattle.chart_layout.specs.Keys.{Defaults, Arrive, search_keys}
+use Rattle.chart_code.specs.Bodies.{body}
+use Rattle.chart_code.specs.Keys.{Defaults, Arrive, search_keys}
 use Rattle.continuation_compile.specs.Drafts.{procs_of}
 use Rattle.continuation_compile.specs.Numberings.{chart_in}
 use Rattle.state_compile.proofs.Spans.{both}

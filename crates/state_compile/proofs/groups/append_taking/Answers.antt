@@ -1,9 +1,9 @@
 use Rattle.std.proofs.Common.{suc, refl, ◌∙◌, arith}
-use Rattle.chart_layout.specs.Bodies.{body}
-use Rattle.chart_layout.specs.Ends.{below_count}
-use Rattle.chart_layout.specs.Keys.{Take, Enter}
-use Rattle.chart_layout.specs.Orders.{span}
-use Rattle.chart_layout.proofs.EndsLemmas.{end_after}
+use Rattle.chart_code.specs.Bodies.{body}
+use Rattle.chart_code.specs.Ends.{below_count}
+use Rattle.chart_code.specs.Keys.{Take, Enter}
+use Rattle.chart_code.specs.Orders.{span}
+use Rattle.chart_code.proofs.EndsLemmas.{end_after}
 use Rattle.continuation_compile.specs.Drafts.{procs_of}
 use Rattle.continuation_compile.specs.Numberings.{chart_in}
 use Rattle.state_compile.proofs.Spans.{both, span_same}

@@ -1,6 +1,6 @@
 use Rattle.std.proofs.Common.{refl, arith}
-use Rattle.chart_layout.specs.Bodies.{body}
-use Rattle.chart_layout.proofs.EndsLemmas.{end_is}
+use Rattle.chart_code.specs.Bodies.{body}
+use Rattle.chart_code.proofs.EndsLemmas.{end_is}
 use Rattle.continuation_compile.specs.Drafts.{procs_of}
 use Rattle.continuation_compile.specs.Numberings.{chart_in}
 use Rattle.state_compile.specs.Keyed.{pair_key}

@@ -1,7 +1,7 @@
 use Rattle.std.proofs.Common.{◌≡◌, ◌++◌, ◌-◌, map}
-use Rattle.chart_layout.specs.Bodies.{body}
-use Rattle.chart_layout.specs.Ends.{end_of}
-use Rattle.chart_layout.specs.Orders.{span}
+use Rattle.chart_code.specs.Bodies.{body}
+use Rattle.chart_code.specs.Ends.{end_of}
+use Rattle.chart_code.specs.Orders.{span}
 use Rattle.continuation_compile.specs.Drafts.{procs_of}
 use Rattle.continuation_compile.specs.Numberings.{chart_in}
 use Rattle.state_compile.specs.Keyed.{pair_key}

@@ -1,5 +1,5 @@
 use Rattle.std.proofs.Common.{arith}
-use Rattle.chart_layout.proofs.EndsLemmas.{end_is, end_after}
+use Rattle.chart_code.proofs.EndsLemmas.{end_is, end_after}
 use Rattle.continuation_compile.specs.Numberings.{chart_in}
 use Rattle.state_compile.proofs.pairs.end.Goals as goal
 

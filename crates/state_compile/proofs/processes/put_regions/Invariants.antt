@@ -1,6 +1,6 @@
 use Rattle.std.proofs.Common.{◌≡◌, ◌++◌, drop}
-use Rattle.chart_procedures.specs.StateProcedures.{regions_code}
-use Rattle.chart_layout.specs.Places.{numbers}
+use Rattle.chart_code.specs.StateProcedures.{regions_code}
+use Rattle.chart_code.specs.Places.{numbers}
 use Rattle.continuation_compile.specs.Drafts.{code_seen}
 use Rattle.continuation_compile.specs.Numberings.{chart_in}
 use Rattle.state_compile.proofs.processes.put_regions.Given as goal

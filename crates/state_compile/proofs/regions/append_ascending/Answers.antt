@@ -1,5 +1,5 @@
 use Rattle.std.proofs.Common.{◌+◌, arith}
-use Rattle.chart_layout.specs.Bodies.{body}
+use Rattle.chart_code.specs.Bodies.{body}
 use Rattle.continuation_compile.specs.Drafts.{procs_of}
 use Rattle.continuation_compile.specs.Numberings.{chart_in}
 use Rattle.state_compile.specs.Keyed.{keys_of}

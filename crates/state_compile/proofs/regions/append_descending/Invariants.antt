@@ -1,7 +1,7 @@
 use Rattle.std.proofs.Common.{◌≡◌, ◌++◌, map}
 use Rattle.active_config.specs.Tree.{state_count}
-use Rattle.chart_layout.specs.Bodies.{body}
-use Rattle.chart_layout.specs.Orders.{descending}
+use Rattle.chart_code.specs.Bodies.{body}
+use Rattle.chart_code.specs.Orders.{descending}
 use Rattle.continuation_compile.specs.Drafts.{procs_of}
 use Rattle.continuation_compile.specs.Numberings.{chart_in}
 use Rattle.state_compile.specs.Keyed.{keys_of}

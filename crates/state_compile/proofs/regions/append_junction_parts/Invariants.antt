@@ -1,7 +1,7 @@
 use Rattle.std.proofs.Common.{◌≡◌, ◌++◌, map}
-use Rattle.chart_layout.specs.Orders.{ascending}
-use Rattle.chart_layout.specs.Keys.{junction_parts_keys}
-use Rattle.chart_layout.specs.Bodies.{body}
+use Rattle.chart_code.specs.Orders.{ascending}
+use Rattle.chart_code.specs.Keys.{junction_parts_keys}
+use Rattle.chart_code.specs.Bodies.{body}
 use Rattle.continuation_compile.specs.Drafts.{procs_of}
 use Rattle.continuation_compile.specs.Numberings.{chart_in}
 use Rattle.state_compile.proofs.regions.append_junction_parts.Given as goal

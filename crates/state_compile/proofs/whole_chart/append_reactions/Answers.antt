@@ -1,6 +1,6 @@
 use Rattle.std.proofs.Common.{◌++◌}
-use Rattle.chart_layout.specs.Bodies.{body}
-use Rattle.chart_layout.specs.Keys.{all_groups, all_lists, all_processes}
+use Rattle.chart_code.specs.Bodies.{body}
+use Rattle.chart_code.specs.Keys.{all_groups, all_lists, all_processes}
 use Rattle.continuation_compile.specs.Drafts.{procs_of}
 use Rattle.continuation_compile.specs.Numberings.{chart_in}
 use Rattle.state_compile.proofs.Spans.{both}

@@ -1,6 +1,6 @@
 use Rattle.std.proofs.Common.{◌≡◌, ◌+◌, suc, ap, arith}
-use Rattle.chart_layout.specs.Orders.{sum_to, sum_between}
-use Rattle.chart_layout.specs.Places.{group_at, group_size}
+use Rattle.chart_code.specs.Orders.{sum_to, sum_between}
+use Rattle.chart_code.specs.Places.{group_at, group_size}
 use Rattle.continuation_compile.specs.Numberings.{chart_in}
 use Rattle.continuation_compile.proofs.numbering.Numbering.group.Goals as goal
 

@@ -1,6 +1,6 @@
 use Rattle.std.proofs.Common.{ap, arith}
-use Rattle.chart_layout.specs.Orders.{sum_to}
-use Rattle.chart_layout.specs.Places.{lists_start, group_size}
+use Rattle.chart_code.specs.Orders.{sum_to}
+use Rattle.chart_code.specs.Places.{lists_start, group_size}
 use Rattle.continuation_compile.specs.Numberings.{chart_in}
 use Rattle.continuation_compile.proofs.numbering.Numbering.lists_start.Goals as goal
 

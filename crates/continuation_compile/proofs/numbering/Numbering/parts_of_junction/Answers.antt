@@ -1,5 +1,5 @@
 use Rattle.std.proofs.Common.{arith}
-use Rattle.chart_layout.specs.Places.{junction_parts_at}
+use Rattle.chart_code.specs.Places.{junction_parts_at}
 use Rattle.continuation_compile.proofs.numbering.Numbering.parts_of_junction.Goals as goal
 
 pub returns-clause-parts : goal.returns-clause-parts

@@ -1,6 +1,6 @@
 use Rattle.std.proofs.Common.{ap, arith}
-use Rattle.chart_layout.specs.Orders.{sum_to}
-use Rattle.chart_layout.specs.Places.{processes_start, lists_size}
+use Rattle.chart_code.specs.Orders.{sum_to}
+use Rattle.chart_code.specs.Places.{processes_start, lists_size}
 use Rattle.continuation_compile.specs.Numberings.{chart_in}
 use Rattle.continuation_compile.proofs.numbering.Numbering.processes_start.Goals as goal
 

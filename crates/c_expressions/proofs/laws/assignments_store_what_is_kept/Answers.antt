@@ -1,9 +1,0 @@
-use Rattle.c_expressions.proofs.Assigned.{assigns}
-use Rattle.c_expressions.proofs.Fields.{field-takes}
-use Rattle.c_expressions.proofs.laws.assignments_store_what_is_kept.Goals as goal
-
-pub returns-clause-kept : goal.returns-clause-kept
-returns-clause-kept c = assigns
-
-pub returns-clause-field : goal.returns-clause-field
-returns-clause-field c = field-takes

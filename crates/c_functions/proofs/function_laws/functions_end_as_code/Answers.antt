@@ -1,0 +1,5 @@
+use Rattle.c_functions.proofs.Codes.{ends-as-code}
+use Rattle.c_functions.proofs.function_laws.functions_end_as_code.Goals as goal
+
+pub returns : goal.returns
+returns c = ends-as-code

@@ -1,5 +1,0 @@
-use Rattle.c_functions.proofs.Codes.{ends-as-code}
-use Rattle.c_functions.proofs.laws.functions_end_as_code.Goals as goal
-
-pub returns : goal.returns
-returns c = ends-as-code

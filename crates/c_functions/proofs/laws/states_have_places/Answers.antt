@@ -1,5 +1,0 @@
-use Rattle.c_functions.proofs.Places.{is-layout}
-use Rattle.c_functions.proofs.laws.states_have_places.Goals as goal
-
-pub returns : goal.returns
-returns c = is-layout

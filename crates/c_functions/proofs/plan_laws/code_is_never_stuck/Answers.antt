@@ -1,0 +1,5 @@
+use Rattle.c_functions.proofs.Staying.{never_stuck}
+use Rattle.c_functions.proofs.plan_laws.code_is_never_stuck.Goals as goal
+
+pub returns : goal.returns
+returns c = never_stuck

@@ -1,5 +1,0 @@
-use Rattle.c_procedures.proofs.Writing.{plans_are}
-use Rattle.c_procedures.proofs.laws.plans_are_written_for_their_code.Goals as goal
-
-pub returns : goal.returns
-returns c = plans_are

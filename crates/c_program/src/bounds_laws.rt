@@ -1,0 +1,20 @@
+//! What the bounds of a chart are worth.
+ghost use Rattle.std.specs.Prelude.{ℕ, List, Some, None};
+ghost use Rattle.std.specs.List.{AllByRecursion};
+ghost use Rattle.flow_base.specs.declared.bounds.Bounds.{Bounds};
+ghost use Rattle.actions.specs.Runs.{CanBeGiven, EventWithInputs, Moment};
+ghost use Rattle.checked_chart.specs.Chart.{Chart};
+ghost use Rattle.sos_rules.specs.Reactions.{RulesRun};
+ghost use Rattle.bound_prove.specs.declared.need.Need.{Need};
+ghost use Rattle.bound_prove.specs.Roots.{NoOverrun};
+ghost use Rattle.bound_prove.specs.Searches.{IsNeedOf};
+ghost use Rattle.c_program.specs.Bounds.{IsBoundsFor};
+
+/// Where no bounds are asked for and the chart has bounds that no event overruns, no run of the
+/// chart under the bounds of its C is ended by a bound, whatever events it is given.
+pub fn bounds_of_need_are_not_overrun()
+    ensures { (c : Chart) (n : Need) (bounds : Bounds) (events : List EventWithInputs)
+        (moments : List Moment) → IsNeedOf c (Some n) → IsBoundsFor None c bounds
+        → AllByRecursion (CanBeGiven c.names) events → RulesRun c bounds events moments
+        → AllByRecursion (λ (m : Moment). NoOverrun m.fault) moments }
+{}

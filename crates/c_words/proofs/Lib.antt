@@ -1,4 +1,0 @@
-pub mod TextLeaf
-pub mod TextAnswers
-pub mod Agreement
-pub mod Worked

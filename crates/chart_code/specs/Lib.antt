@@ -1,0 +1,13 @@
+pub mod Numbers
+pub mod StateProcedures
+pub mod ListProcedures
+pub mod Kinds
+pub mod Compiled
+pub mod SearchParts
+pub mod SearchFrames
+pub mod Orders
+pub mod Ends
+pub mod ReachedJunctions
+pub mod Keys
+pub mod Places
+pub mod Bodies

@@ -1,8 +1,0 @@
-use Rattle.chart_layout.proofs.Whole.{compiled, lists_compiled}
-use Rattle.chart_layout.proofs.laws.each_procedure_stands_at_its_number.Goals as goal
-
-pub returns-clause-states : goal.returns-clause-states
-returns-clause-states x c valid = compiled c valid
-
-pub returns-clause-lists : goal.returns-clause-lists
-returns-clause-lists x c valid = lists_compiled c valid

@@ -1,5 +1,0 @@
-use Rattle.chart_layout.proofs.ReachedLemmas.{are_reached}
-use Rattle.chart_layout.proofs.laws.reached_junctions_are_listed.Goals as goal
-
-pub returns : goal.returns
-returns x c list valid are = are_reached c valid list are

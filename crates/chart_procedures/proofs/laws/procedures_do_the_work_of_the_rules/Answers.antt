@@ -1,5 +1,0 @@
-use Rattle.chart_procedures.proofs.Runs.{each_does}
-use Rattle.chart_procedures.proofs.laws.procedures_do_the_work_of_the_rules.Goals as goal
-
-pub returns : goal.returns
-returns x c k N M valid K L b height = each_does c valid b k N M K L height

@@ -1,4 +1,0 @@
-pub mod Ahead
-pub mod Left
-pub mod Room
-pub mod Moments

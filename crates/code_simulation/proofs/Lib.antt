@@ -1,6 +1,0 @@
-pub mod Places
-pub mod Joins
-pub mod Steps
-pub mod Tests
-pub mod Notes
-pub mod Endings

@@ -1,3 +1,0 @@
-pub mod TraceLines
-pub mod RunLemmas
-pub mod SelftestLemmas

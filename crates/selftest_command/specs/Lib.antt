@@ -1,4 +1,0 @@
-pub mod Newlines
-pub mod Measures
-pub mod Lines
-pub mod Selftest

@@ -19,8 +19,10 @@ import importlib.machinery
 import importlib.util
 import os
 import re
+import shutil
 import subprocess
 import sys
+import tempfile
 from concurrent.futures import ThreadPoolExecutor
 
 import tables
@@ -31,6 +33,7 @@ TRIED = os.path.join(ROOT, 'checks', 'edits_tried.txt')
 PARTS = ('src', 'specs', 'proofs')
 COMMENTS = {'.rt': r'(?m)^ *//.*\n', '.antt': r'(?m)^ *--.*\n'}
 MEMORY = 5 * 2 ** 30                                        # bytes that a check of a crate may take
+FLAGS = ['--jobs', '1']
 
 
 def kit():
@@ -94,9 +97,34 @@ def lanes(rt):
     return max(1, min(rt.processors(), rt.free() // MEMORY))
 
 
+def tried_over_seed(rt, crate, edit, seed):
+    """What came of an edit, tried over what a check of the crate proved, and from nothing where that tells nothing."""
+    with tempfile.TemporaryDirectory() as room:
+        over = os.path.join(room, 'over')
+        rt.linked(seed, over)
+        kind, said = rt.must_fail(crate, edit, FLAGS, over)
+    return (kind, said) if kind in (rt.REFUSED, rt.AT_LIMIT, rt.BAD) else rt.must_fail(crate, edit, FLAGS)
+
+
+def tried_by(rt, crate):
+    """For each edit of a crate, whether the prover refuses it, and what the kit says of it. Kits differ in how they try edits: those
+    before 13f have one call for it, and later ones begin with what an earlier check of the crate left, where it is there."""
+    if hasattr(rt, 'must_fail_all'):
+        return rt.must_fail_all(crate, edits_of(crate), FLAGS)
+    kept = os.path.join(crate.folder, 'out', 'incremental')
+    room = rt.seeded(crate, FLAGS, kept if os.path.isdir(kept) else None)
+    if room is None:
+        return [(False, '%s: the crate is not proved without an edit' % crate.name)]
+    try:
+        tried = [tried_over_seed(rt, crate, edit, os.path.join(room, 'seed')) for edit in edits_of(crate)]
+    finally:
+        shutil.rmtree(room, ignore_errors=True)
+    return [(kind in (rt.REFUSED, rt.AT_LIMIT), said) for kind, said in tried]
+
+
 def is_refused(rt, crate):
     """Whether the prover refuses all edits of a crate. What the kit says of each is printed."""
-    tried = rt.must_fail_all(crate, edits_of(crate), ['--jobs', '1'])
+    tried = tried_by(rt, crate)
     for _, said in tried:
         print(said, flush=True)
     return all(was_refused for was_refused, _ in tried)

@@ -333,6 +333,8 @@ class Table:
         memory = block.values('memory')
         memory = int(memory[0]) if memory else None
         runs = [(word, rest) for word, rest in block.parts if word in ('words', 'c_words')]
+        if not runs or not block.expected:
+            raise SystemExit('block %s has no run, or no answer that was worked out by hand' % block.name)
         kept = {word for word, _ in runs if self.is_run(block, word, memory)}
         self.left += sum(word not in kept for word, _ in runs)
         self.blocks += bool(kept)

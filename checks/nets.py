@@ -500,9 +500,12 @@ def answer_table(check, large):
     earlier = Blocks()
 
     def answered(block):
-        files = earlier.files(block)
-        return block.expected if is_left(block, large) else answer_lines(answer(words_of(block), reader(files)))
-    return tables.answer_table(sys.stdin.buffer, answered, check)
+        return answer_lines(answer(words_of(block), reader(earlier.files(block))))
+
+    def is_left_out(block):
+        earlier.files(block)                                # later blocks may take files of this one
+        return is_left(block, large)
+    return tables.answer_table(sys.stdin.buffer, answered, check, is_left_out)
 
 
 def read_file(name):

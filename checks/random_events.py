@@ -224,6 +224,7 @@ def main():
     print(tables.head(options.cases, 'blocks'))
     for number in range(options.first, options.first + options.cases):
         print(random_block(options.seed, number))
+    print(tables.END)
 
 
 if __name__ == '__main__':

@@ -1,10 +1,10 @@
 """Tables of cases, in one text each. Its first line is its head, which says how many cases the table has, one at least:
 
-    # N blocks          The lines after the head make blocks, as is said below.
+    # N blocks          The lines after the head make blocks, as is said below. The last line is `# end`.
     # N rows            Each line after the head is a case.
 
-A table without a head, without a case, or with more or fewer cases than its head says is refused with status 1: so no check is
-passed by a table that is empty or was cut.
+A table without a head, without a case, or with more or fewer cases than its head says is refused with status 1, and so is a table
+of blocks whose last line is another one: so no check is passed by a table that is empty or was cut.
 
 A line of a table of blocks is empty, a comment that begins with `#`, or one of
 
@@ -64,9 +64,13 @@ def head(number, what):
     return '# %d %s' % (number, what)
 
 
+# The last line of a table of blocks.
+END = '# end'
+
+
 def blocks_of(lines):
     """The blocks that lines make."""
-    block, names = None, set()
+    block, names, line = None, set(), ''
     for line in lines:
         if not line or line.startswith('#'):
             continue
@@ -84,6 +88,8 @@ def blocks_of(lines):
             block.expected.append(rest)
         else:
             block.parts.append((word, rest))
+    if line != END:
+        raise SystemExit('the last line of a table of blocks is `%s`' % END)
     if block is not None:
         yield block
 
@@ -112,10 +118,16 @@ def times(rest):
     return unescaped(text) * int(count)
 
 
-def answer_table(source, answer, check):
-    """Writes the answers of a table, or with `check` where they differ from those worked out by hand. Gives the status."""
-    blocks_seen = wrong = 0
+def answer_table(source, answer, check, is_left=lambda block: False):
+    """Writes the answers of a table, or with `check` where they differ from those worked out by hand. Blocks that are left are passed
+    over, and counted. A block without an answer that was worked out by hand is none. Gives the status."""
+    blocks_seen = wrong = left = 0
     for block in blocks(source):
+        if check and not block.expected:
+            raise SystemExit('block %s has no answer that was worked out by hand' % block.name)
+        if is_left(block):
+            left += 1
+            continue
         blocks_seen += 1
         got = answer(block)
         if not check:
@@ -128,5 +140,5 @@ def answer_table(source, answer, check):
             if sorted(got) == sorted(block.expected):
                 sys.stdout.write('  the lines differ in order or number\n')
     if check:
-        print('%d blocks, %d of them differ' % (blocks_seen, wrong))
+        print('%d blocks, %d of them differ%s' % (blocks_seen, wrong, '; %d left out' % left if left else ''))
     return 1 if wrong else 0

@@ -48,4 +48,4 @@ def written_again(name, answer):
     for block in found:
         out += ['', 'block ' + block.name] + ['%s %s' % part for part in block.parts]
         out += ['> ' + line for line in answer(block)]
-    return ''.join(line + '\n' for line in out)
+    return ''.join(line + '\n' for line in [*out, '', tables.END])

@@ -7,9 +7,10 @@
 
 `rt ci` tries the edits in `must-fail/` at each run, and so proves the crate once more. An edit in `edits/` has the same form and is
 judged by the same code of the kit, but only where something changed: `edits_tried.txt` has a row for each crate with such edits, on
-which texts they were all refused. The texts are the files of the crate and its edits, and the definitions of all crates below it,
-less lines that are comments. A row stands for the logic of the kit that is named in the first line. Trying needs the libraries that
-`rt ci` leaves, takes as long as a proof of the crate and some seconds for each edit, and writes the rows anew.
+which texts they were all refused. The texts are the files of the crate and its edits, and of all crates below it the definitions and
+the public items of the code with their contracts and without their bodies, all less lines that are comments. A row stands for the
+logic of the kit that is named in the first line. Trying needs the libraries that `rt ci` leaves, takes as long as a proof of the crate and
+some seconds for each edit, and writes the rows anew.
 
 The status is 1 where edits weren't tried on the present texts, where the prover took one, where one can't be applied, or where no
 crate has any."""
@@ -32,6 +33,11 @@ ROOT = os.path.dirname(os.path.dirname(os.path.abspath(__file__)))
 TRIED = os.path.join(ROOT, 'checks', 'edits_tried.txt')
 PARTS = ('src', 'specs', 'proofs')
 COMMENTS = {'.rt': r'(?m)^ *//.*\n', '.antt': r'(?m)^ *--.*\n'}
+# The line on which an item begins, with how public it is and its kind; the one on which the body of a function begins, after
+# contracts or behind its type; and an attribute that says nothing to crates above.
+ITEM = re.compile(r' *(pub(?:\(\w+\))? |)(?:const |unsafe |ghost )*(fn|impl|trait|struct|enum|mod)\b')
+BODY = re.compile(r'( *)(?:(?:pub(?:\(\w+\))? |)(?:const |unsafe )*fn .* |\)(?: -> .*)? |)\{$')
+ATTRIBUTE = re.compile(r' *#\[(?!derive)')
 MEMORY = 5 * 2 ** 30                                        # bytes that a check of a crate may take
 FLAGS = ['--jobs', '1']
 
@@ -61,20 +67,49 @@ def edits_of(crate):
 
 
 @functools.lru_cache(None)
-def text_of(path):
-    """The name of a file and its text, less comments."""
+def plain(path):
+    """The text of a file, less comments."""
     with open(path, encoding='utf-8') as file:
-        text = re.sub(COMMENTS.get(os.path.splitext(path)[1], r'(?!)'), '', file.read())
+        return re.sub(COMMENTS.get(os.path.splitext(path)[1], r'(?!)'), '', file.read())
+
+
+@functools.lru_cache(None)
+def seen_above(path):
+    """What crates above see of a file of code: its text, less comments, functions that are private, and bodies of functions."""
+    kept, is_of_trait, is_private, closing = [], False, False, None
+    for line in plain(path).split('\n'):
+        if closing is not None:
+            closing = None if line == closing else closing
+            continue
+        head, opening = ITEM.match(line), BODY.match(line)
+        if head:
+            is_of_trait = {'impl': ' for ' in line, 'trait': True}.get(head[2], is_of_trait and line[:1] == ' ')
+            is_private = head[2] == 'fn' and head[1] != 'pub ' and not is_of_trait
+        if line and not is_private and not ATTRIBUTE.match(line):
+            kept.append(line)
+        if opening:
+            closing, is_private = opening[1] + '}', False
+    return '\n'.join(kept)
+
+
+def named(path, text):
+    """The name of a file and a text of it."""
     return '%s %d\n%s' % (os.path.relpath(path, ROOT), len(text), text)
+
+
+def texts_of(crate):
+    """The texts on which it depends whether the edits of a crate are refused."""
+    for part in (*PARTS, 'edits'):
+        yield from (named(path, plain(path)) for path in files_below(os.path.join(crate.folder, part)))
+    for library in sorted(crate.below(), key=lambda it: it.name):
+        yield from (named(path, plain(path)) for path in files_below(os.path.join(library.folder, 'specs')))
+        yield from (named(path, seen_above(path)) for path in files_below(os.path.join(library.folder, 'src')))
 
 
 @functools.lru_cache(None)
 def row_of(crate):
     """The row of a crate whose edits were all refused: its name, their number, and a sum of the texts on which that depends."""
-    folders = [os.path.join(crate.folder, part) for part in (*PARTS, 'edits')]
-    folders += [os.path.join(library.folder, 'specs') for library in sorted(crate.below(), key=lambda it: it.name)]
-    texts = ''.join(text_of(path) for folder in folders for path in files_below(folder))
-    return '%s %d %s' % (crate.name, len(edits_of(crate)), hashlib.sha256(texts.encode()).hexdigest())
+    return '%s %d %s' % (crate.name, len(edits_of(crate)), hashlib.sha256(''.join(texts_of(crate)).encode()).hexdigest())
 
 
 def kept_rows():

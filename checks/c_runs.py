@@ -28,7 +28,7 @@ from c_subset import ENDINGS, Run, ending
 from chart_c import Failed, Kept, field_of, make_c, state_name
 from chart_check import check_chart
 from programs import Ended, differences, keep_files, parser, results_of
-from random_compiled import USUAL_BOUNDS, bounds_of
+from random_compiled import DEFAULT_BOUNDS, bounds_of
 
 FUEL = 100000
 FAULTS = {1: 'depth', 2: 'steps', 3: 'overflow', 4: 'zero'}
@@ -94,8 +94,8 @@ def compared(name, program, text, events, expected, options=()):
 
 
 def words_for(bounds):
-    """The options of bounds, and none where they are the usual ones."""
-    return [] if bounds == USUAL_BOUNDS else ['--depth', str(bounds[0]), '--steps', str(bounds[1])]
+    """The options of bounds, and none where they are the default ones."""
+    return [] if bounds == DEFAULT_BOUNDS else ['--depth', str(bounds[0]), '--steps', str(bounds[1])]
 
 
 class Compared(NamedTuple):

@@ -5,10 +5,10 @@ r"""Runs a chart over an event file by the rules of the language alone, as plain
     python3 checks/chart_rules.py --table < checks/run_table.txt | diff - checks/run_answers.txt
 
 The first form writes what the command `rules` writes, with the same line on standard error and the same status. The depth
-is 1 to 32, usually 8, and the steps are 1 to 50,000, usually 10,000.
+is 1 to 32, by default 8, and the steps are 1 to 50,000, by default 10,000.
 
 The second form runs a table in one process, whose form is in tables.py. A row is one run, of three fields with a tab between
-them: `DEPTH STEPS`, or `-` for the usual bounds; the chart text; the event file. The answer is one line of three fields with
+them: `DEPTH STEPS`, or `-` for the default bounds; the chart text; the event file. The answer is one line of three fields with
 a tab between them: the status, standard output, standard error. Texts are written as in the table of chart_texts.py, so that a tab in them
 stands as `\t`, and ends of lines in the answer stand as `\n`. The answer `not a run` is given where a line has no such
 form. With the word `--without-history` before the others either form means the older form of the language.
@@ -129,8 +129,8 @@ from chart_syntax import (COMPARISON, LEVELS, MOST_DIGITS, WITH_HISTORY, WITHOUT
 from demands import demand
 from programs import Ended
 
-USUAL_DEPTH, MOST_DEPTH = 8, 32
-USUAL_STEPS, MOST_STEPS = 10000, 50000
+DEFAULT_DEPTH, MOST_DEPTH = 8, 32
+DEFAULT_STEPS, MOST_STEPS = 10000, 50000
 LONGEST_LINE = 4096
 LONGEST_FILE = 67108864
 MOST_EVENTS = 1000000
@@ -283,7 +283,7 @@ Life = namedtuple('Life', 'word state')                      # the word is 'on' 
 class Rules:
     """A chart with its bounds, and its world."""
 
-    def __init__(self, chart, depth=USUAL_DEPTH, steps=USUAL_STEPS, met=None):
+    def __init__(self, chart, depth=DEFAULT_DEPTH, steps=DEFAULT_STEPS, met=None):
         self.chart, self.most_depth, self.most_steps = chart, depth, steps
         self.cases = Counter() if met is None else met
         self.active = set()
@@ -777,7 +777,7 @@ def trace_line(rules, index, event, result):
 # ---- a whole run
 
 
-def run_rules(text, data, depth=USUAL_DEPTH, steps=USUAL_STEPS, language=WITH_HISTORY, met=None):
+def run_rules(text, data, depth=DEFAULT_DEPTH, steps=DEFAULT_STEPS, language=WITH_HISTORY, met=None):
     """The answer of `rules` for a chart text, a character for each byte, and the bytes of an event file."""
     try:
         chart = check_chart(text, language)
@@ -819,7 +819,7 @@ def run_events(rules, data):
 
 # ---- the words of the command, and the table
 
-def words_of(words, most_steps=MOST_STEPS, usual_steps=USUAL_STEPS):
+def words_of(words, most_steps=MOST_STEPS, default_steps=DEFAULT_STEPS):
     """The files and the bounds of the words, or None where they aren't right."""
     files, bounds, most = [], {}, {'--depth': MOST_DEPTH, '--steps': most_steps}
     words = list(words)
@@ -841,7 +841,7 @@ def words_of(words, most_steps=MOST_STEPS, usual_steps=USUAL_STEPS):
             files.append(word)
     if len(files) != 2:
         return None
-    return files, bounds.get('--depth', USUAL_DEPTH), bounds.get('--steps', usual_steps)
+    return files, bounds.get('--depth', DEFAULT_DEPTH), bounds.get('--steps', default_steps)
 
 
 def command(words, language):
@@ -872,7 +872,7 @@ def table_answer(line, language):
         text, data = text_of(found[3]), text_of(found[4]).encode('latin-1')
     except NotAText:
         return 'not a run'
-    depth, steps = (int(found[1]), int(found[2])) if found[1] else (USUAL_DEPTH, USUAL_STEPS)
+    depth, steps = (int(found[1]), int(found[2])) if found[1] else (DEFAULT_DEPTH, DEFAULT_STEPS)
     if not (1 <= depth <= MOST_DEPTH and 1 <= steps <= MOST_STEPS):
         return 'not a run'
     answer = run_rules(text, data, depth, steps, language)

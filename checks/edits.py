@@ -26,9 +26,10 @@ import sys
 import tempfile
 from concurrent.futures import ThreadPoolExecutor
 
-import tables
-
 sys.dont_write_bytecode = True
+
+import tables                                               # noqa: E402, which is a module beside this one
+
 ROOT = os.path.dirname(os.path.dirname(os.path.abspath(__file__)))
 TRIED = os.path.join(ROOT, 'checks', 'edits_tried.txt')
 PARTS = ('src', 'specs', 'proofs')

@@ -6,7 +6,7 @@ r"""Runs a net of charts over a schedule by the rules of the language alone, as 
     python3 checks/nets.py --against PROGRAM [--large] < checks/net_table.txt
 
 The first form writes what the command `net` writes, with the same line on standard error and the same status. The depth is 1 to
-32, usually 8, and the steps are 1 to 2,500, usually 2,500; they are the bounds of the start and of each event of each chart.
+32, by default 8, and the steps are 1 to 2,500, by default 2,500; they are the bounds of the start and of each event of each chart.
 
 Net text
     The lines end with byte 10. Fields are separated by one space, and numbers are decimal without leading zeros.

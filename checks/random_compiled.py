@@ -3,7 +3,7 @@ r"""Compares the commands of a built program with each other on random charts an
 
     python3 checks/random_compiled.py --seed S --cases N --against PROGRAM [--files K] [--plain] [--first M] [--keep FOLDER]
 
-A case is an accepted chart with an event file and bounds, which are the usual ones in half of the cases. `rules CHART
+A case is an accepted chart with an event file and bounds, which are the default ones in half of the cases. `rules CHART
 EVENTS`, `run CHART EVENTS`, and `exec CODE EVENTS` with the CODE that `compile CHART` writes must give the same status,
 standard output and standard error. `upgrade CODE` must write CODE. A status that none of these commands has, such as that of
 a killed process, is a difference too, and so is a command that doesn't end in time. Where a chart is refused, `check`,
@@ -33,7 +33,7 @@ import random_charts
 from programs import Ended, differences, ended, keep_files, parser, print_counts, status_text
 
 USUAL_FILES = 4
-USUAL_BOUNDS = (rules.USUAL_DEPTH, rules.USUAL_STEPS)
+DEFAULT_BOUNDS = (rules.DEFAULT_DEPTH, rules.DEFAULT_STEPS)
 ONE_IN = 20
 LONGEST = 120               # seconds for one command
 RAN = (0, 1, 3)             # the statuses of a command whose chart or code is accepted
@@ -138,7 +138,7 @@ def make_plain(state):
 def bounds_of(choices):
     """A depth and a number of steps."""
     if choices.random() < 0.5:
-        return USUAL_BOUNDS
+        return DEFAULT_BOUNDS
     depth = choices.choice([1, 2, 3, 4, 8, rules.MOST_DEPTH])
     return depth, choices.choice([choices.randint(1, 40), choices.randint(1, 400), 10000, rules.MOST_STEPS])
 
@@ -215,14 +215,14 @@ class Comparison:
             events = random_charts.event_file(choices, chart).encode('latin-1')
             bounds = bounds_of(choices)
             stopped = self.case('%s file %d' % (name, file), text, code, events, bounds, with_references)
-            if stopped and bounds == USUAL_BOUNDS:
+            if stopped and bounds == DEFAULT_BOUNDS:
                 return file + 1
         return min(most, self.files)
 
     def case(self, name, text, code, events, bounds, with_references):
         """Compares one case, and gives whether the start ended with a fault."""
         self.program.write('events', events)
-        options = [] if bounds == USUAL_BOUNDS else ['--depth', str(bounds[0]), '--steps', str(bounds[1])]
+        options = [] if bounds == DEFAULT_BOUNDS else ['--depth', str(bounds[0]), '--steps', str(bounds[1])]
         expected = self.program.run('rules', 'chart', 'events', options=options)
         lines = []
         if expected.status not in RAN:
@@ -234,7 +234,7 @@ class Comparison:
             told = rules.run_rules(text, events, *bounds, met=self.met)
             lines += differences(name + ' chart_rules.py', expected, told)
             lines += differences(name + ' code_machine.py', expected, code_machine.execute(code, events, *bounds)[0])
-        self.cases['with the usual bounds'] += bounds == USUAL_BOUNDS
+        self.cases['with the default bounds'] += bounds == DEFAULT_BOUNDS
         self.differ('%s %d %d' % (name, *bounds), lines, chart=text.encode('latin-1'), code=code, events=events)
         return self.count(expected)
 

@@ -200,7 +200,7 @@ class Case:
 
     def some_words(self):
         """The words after `net`."""
-        self.depth, self.steps = rules.USUAL_DEPTH, nets.MOST_STEPS
+        self.depth, self.steps = rules.DEFAULT_DEPTH, nets.MOST_STEPS
         words = ['net', 'schedule']
         if self.chance(0.3):
             self.depth, self.steps = self.choices.choice([1, 2, 8, 32]), self.choices.choice([1, 2, 3, 10, 50, 2500])

@@ -6,7 +6,7 @@ r"""Smaller codes of random codes and of the codes of random charts.
 
 A case of `--codes` is a well-formed code of random_codes.py in which more or fewer tests are known before any run and more or fewer
 skips stand, with two event files and bounds. One in ten has a fault in the code or in its text. A case of `--charts` is what
-`PROGRAM compile` writes of a chart of random_charts.py, with two event files and the usual bounds.
+`PROGRAM compile` writes of a chart of random_charts.py, with two event files and the default bounds.
 
 What `PROGRAM shrink` writes, and without a program what shrink.py writes, must be as it must by shrink.py. That again must be
 written as it is, by the program and by shrink.py. A text that differs from that of shrink.py is counted, but isn't wrong by itself.
@@ -31,7 +31,7 @@ import shrink
 from programs import ended, keep_files, parser, print_counts
 
 LONGEST = 120               # seconds for one command
-USUAL_BOUNDS = (cm.USUAL_DEPTH, cm.USUAL_STEPS)
+DEFAULT_BOUNDS = (cm.DEFAULT_DEPTH, cm.DEFAULT_STEPS)
 
 
 # ---- codes with something to leave out
@@ -151,7 +151,7 @@ class Comparison:
             return
         text = random_charts.Writer(choices).chart(made).encode('latin-1')
         code = self.command('compile', text).out.encode('latin-1')
-        runs = [(random_charts.event_file(choices, chart).encode('latin-1'), USUAL_BOUNDS) for _ in range(2)]
+        runs = [(random_charts.event_file(choices, chart).encode('latin-1'), DEFAULT_BOUNDS) for _ in range(2)]
         self.code('chart %d' % number, code, runs)
 
     def print_counts(self):

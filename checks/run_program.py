@@ -10,7 +10,7 @@ r"""Answers tables by the built program, in the form in which chart_texts.py, ch
 
 `fmt` runs `PROGRAM fmt` on each text and prints the canonical text in one line, or the line of standard error. `check` runs
 `PROGRAM check` on each text and prints its one line, from standard output or standard error. `rules` runs `PROGRAM rules` on
-each run of the table, whose first field has the bounds, depth and steps, or `-` for the usual ones, and prints status, standard
+each run of the table, whose first field has the bounds, depth and steps, or `-` for the default ones, and prints status, standard
 output and standard error. `compiled` runs `PROGRAM rules`, `PROGRAM run`, and `PROGRAM exec` on the code that `PROGRAM compile`
 writes, on each run of the table, and prints those whose answers differ. `docs` tries the examples of a page, whose forms
 pages.py has, and prints how many there are, each that the program answers otherwise, and each page without an example. `traces`

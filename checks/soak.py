@@ -103,7 +103,7 @@ class Measured(random_compiled.Program):
         first = self.size(names[0]) if names else 0
         most = 32 * MIB + first * (64 if command in answers.WITH_CODE else 400)
         if command in ('exec', 'run'):
-            steps = int(options[options.index('--steps') + 1]) if '--steps' in options else rules.USUAL_STEPS
+            steps = int(options[options.index('--steps') + 1]) if '--steps' in options else rules.DEFAULT_STEPS
             most += (steps + 1) * ((ca.MOST_HEIGHT if command == 'exec' else CHART_HEIGHT) + 1) * 32
         return most
 
@@ -413,7 +413,7 @@ class Soak:
         if os.path.exists(os.path.join(program.folder, 'formatted')):
             lines += differences(name + ' run of the canonical text', ran,
                                  program.run('run', 'formatted', 'events', options=options))
-        if with_references and bounds[1] <= rules.USUAL_STEPS:
+        if with_references and bounds[1] <= rules.DEFAULT_STEPS:
             self.found['traces compared with chart_rules.py'] += 1
             told = rules.run_rules(text.decode('latin-1'), events, *bounds)
             lines += differences(name + ' chart_rules.py', told, ran)

@@ -4,7 +4,7 @@ import sys
 
 import common                                # noqa: F401, which finds the folder checks
 from chart_check import check_chart, faults_of, pair_faults, structure_faults, type_faults
-from chart_rules import USUAL_DEPTH, USUAL_STEPS, with_deep_calls
+from chart_rules import DEFAULT_DEPTH, DEFAULT_STEPS, with_deep_calls
 from chart_syntax import KINDS, Fault, read_chart
 from common.places import written, written_without_place
 from common.program import MEMORY, REFUSED, RUN_FAULT, read_file, run
@@ -119,7 +119,7 @@ def without_limit(line):
     return ' '.join(line.split(' ')[:4])
 
 
-def answer(program, files, options=(), bounds=(USUAL_DEPTH, USUAL_STEPS), out=None):
+def answer(program, files, options=(), bounds=(DEFAULT_DEPTH, DEFAULT_STEPS), out=None):
     """Runs flowc over one or two files. Gives how it ended, and the lines that go to standard error: flowc's own, and what
     explains it. Its standard output goes where ours goes, or to `out`."""
     texts = []

@@ -4,8 +4,7 @@
 //! Read `specs/Header.antt`, and what it uses: `specs/Fields.antt`, the fields of the struct, and
 //! `specs/Paths.antt`, the names of states. Laws say more of that text: `specs/Struct.antt`, that
 //! it declares the struct of the file, and `specs/Scope.antt`, that no two names at file scope are
-//! the same. The public calls are `print_header`
-//! and `calls_number`.
+//! the same. The public calls are `print_header` and `calls_number`.
 #![tactic(auto)]
 
 mod facts;

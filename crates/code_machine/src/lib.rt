@@ -7,8 +7,8 @@
 //! and those that come next do. The operations are made with the machine.
 //!
 //! The top frame is a value of the loop, which each instruction changes in place; the frames below
-//! it lie on a stack whose room is reserved once, and so is the room for the events that are put
-//! out. Where a run takes many steps that change little, they are done at once: a call of a
+//! it lie on a stack whose room is reserved once, and so is the room for the events that are
+//! emitted. Where a run takes many steps that change little, they are done at once: a call of a
 //! procedure that does nothing but return pushes no frame, and tests of states that aren't active
 //! and stand one after the other are passed over by one look-up.
 //!

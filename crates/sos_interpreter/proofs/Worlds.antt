@@ -151,11 +151,11 @@ assign_fits t n w v value vals (Err fault) fits can taken refused =
 abbrev fixed_of : Datum → Declaration
 fixed_of d = record { sort = d.sort; mode = d.mode }
 
--- the declaration of a variable
+-- the declaration of a datum, as a chart declares it
 abbrev fixed_by : Var → Declaration
 fixed_by v = record { sort = v.sort; mode = v.mode }
 
--- a declared datum is there, and has the sort that its variable declares
+-- a declared datum is there, and has the sort that its declaration says
 sort_there : (vals : List Datum) (vars : List Var) (v : ℕ) (decl : Var) → of_data vals ≡ map fixed_by vars
     → slice_get vars v ≡ Some decl → ((datum vals v).sort ≡ decl.sort) × (v < length vals)
 unfolding datum

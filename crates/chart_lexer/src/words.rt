@@ -49,7 +49,7 @@ pub fn word_kind(word: &[u8]) -> Kind
     }
 }
 
-/// The kind of a word that begins neither a chart nor a state.
+/// The kind of a word that is none of charts and states.
 #[tactic(auto, unfolding(crate::specs::Words::declaration_kind))]
 fn declaration_kind(word: &[u8]) -> Kind
     ensures { result ≡ spec.declaration_kind word.now }
@@ -73,7 +73,7 @@ fn declaration_kind(word: &[u8]) -> Kind
     }
 }
 
-/// The kind of a word that begins no transition and no declaration of an event or a port.
+/// The kind of a word that is none of transitions, junctions and declarations either.
 #[tactic(auto, unfolding(crate::specs::Words::statement_kind))]
 fn statement_kind(word: &[u8]) -> Kind
     ensures { result ≡ spec.statement_kind word.now }

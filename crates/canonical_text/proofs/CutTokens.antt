@@ -13,7 +13,7 @@ use Rattle.chart_lexer.specs.declared.front.Front.{Front}
 use Rattle.chart_lexer.specs.declared.front.Front.TheVariants as fronts
 use Rattle.chart_lexer.specs.declared.front.Stop.TheVariants as stops
 use Rattle.chart_lexer.specs.Bytes.{is_blank, is_allowed, is_letter, is_digit, is_name_byte, begins}
-use Rattle.chart_lexer.specs.Words.{name_length, word_kind, is_name}
+use Rattle.chart_lexer.specs.Words.{name_length, word_kind, declaration_kind, statement_kind, mode_kind, is_name}
 use Rattle.chart_lexer.specs.Numbers.{number_length}
 use Rattle.chart_lexer.specs.Symbols.{pair_kind, single_kind, first_pair, first_single}
 use Rattle.chart_lexer.specs.Lex.{comment_length, begins_comment, longer_symbol, word_front, number_front}
@@ -61,7 +61,7 @@ name_no_number = refl
 
 -- nor is any word
 word_no_number : (w : List ℕ) → NoNumber (word_kind w)
-unfolding word_kind
+unfolding word_kind declaration_kind statement_kind mode_kind
 word_no_number w =
     either_word (bytes_eq w (codes "chart")) kinds.Chart _ refl
     (either_word (bytes_eq w (codes "or")) kinds.Or _ refl

@@ -14,7 +14,7 @@ use Rattle.token_grammar.proofs.Sets.{within}
 use Rattle.chart_lexer.specs.declared.front.Front.TheVariants as fronts
 use Rattle.chart_lexer.specs.declared.front.Stop.TheVariants as stops
 use Rattle.chart_lexer.specs.Bytes.{is_blank, is_letter, is_digit, is_name_byte, begins}
-use Rattle.chart_lexer.specs.Words.{word_kind}
+use Rattle.chart_lexer.specs.Words.{word_kind, declaration_kind, statement_kind, mode_kind}
 use Rattle.chart_lexer.specs.Symbols.{pair_kind, single_kind}
 use Rattle.chart_lexer.specs.Lex.{Lexemes, front_of, lexed, after_byte, begin, cut_of}
 use Rattle.chart_lexer.proofs.Cuts.{blank_turn, token_turn}
@@ -34,7 +34,7 @@ is_keyword k = nat_le (kind_number k) 25
 
 -- a keyword is a word of its kind
 keyword_is_word : (k : Kind) → is_keyword k ≡ true → is_word k (kind_bytes k) ≡ true
-unfolding kind_bytes word_kind
+unfolding kind_bytes word_kind declaration_kind statement_kind mode_kind
 keyword_is_word k h = within is_keyword (λ j. is_word j (kind_bytes j)) refl k h
 
 -- a keyword is written as a word

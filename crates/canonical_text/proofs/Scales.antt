@@ -14,7 +14,7 @@ use Rattle.fixed_point.proofs.Numerals.{numeral_decimal}
 use Rattle.chart_tree.specs.Trees.{ScaleParts}
 use Rattle.chart_lexer.specs.declared.words.TheConstants.{NAME_LIMIT}
 use Rattle.chart_lexer.specs.Bytes.{is_letter, is_digit, is_name_byte}
-use Rattle.chart_lexer.specs.Words.{name_length, word_kind, is_name}
+use Rattle.chart_lexer.specs.Words.{name_length, word_kind, declaration_kind, statement_kind, mode_kind, is_name}
 use Rattle.chart_grammar.specs.Types.{ScaleWord, plain_number, scale_within, frac_told, scale_told, scale_of}
 use Rattle.chart_grammar.specs.Types.{scale_word, type_word}
 use Rattle.chart_print.specs.Words.{is_int, int_bytes, fix_bytes}
@@ -45,7 +45,7 @@ whole_number signed width = record { signed = signed; width = width; frac = 0 }
 
 -- of 8, 16, 32 and 64 bits
 read_8 : (signed : Bool) → ScaleIsRead (whole_number signed 8)
-unfolding int_bytes word_kind scale_of type_word
+unfolding int_bytes word_kind scale_of type_word declaration_kind statement_kind mode_kind
 read_8 true =
     read_as (whole_number true 8) (codes "int8") (behind (codes "int") (decimal_digit 8 (omega arith))) refl refl
 read_8 false =
@@ -53,7 +53,7 @@ read_8 false =
 
 -- a whole number of 16 bits
 read_16 : (signed : Bool) → ScaleIsRead (whole_number signed 16)
-unfolding int_bytes word_kind scale_of type_word
+unfolding int_bytes word_kind scale_of type_word declaration_kind statement_kind mode_kind
 read_16 true = read_as (whole_number true 16) (codes "int16")
     (behind (codes "int") (decimal_two 16 (omega arith) (omega arith))) refl refl
 read_16 false = read_as (whole_number false 16) (codes "uint16")
@@ -61,7 +61,7 @@ read_16 false = read_as (whole_number false 16) (codes "uint16")
 
 -- of 32 bits
 read_32 : (signed : Bool) → ScaleIsRead (whole_number signed 32)
-unfolding int_bytes word_kind scale_of type_word
+unfolding int_bytes word_kind scale_of type_word declaration_kind statement_kind mode_kind
 read_32 true = read_as (whole_number true 32) (codes "int32")
     (behind (codes "int") (decimal_two 32 (omega arith) (omega arith))) refl refl
 read_32 false = read_as (whole_number false 32) (codes "uint32")
@@ -69,7 +69,7 @@ read_32 false = read_as (whole_number false 32) (codes "uint32")
 
 -- of 64 bits
 read_64 : (signed : Bool) → ScaleIsRead (whole_number signed 64)
-unfolding int_bytes word_kind scale_of type_word
+unfolding int_bytes word_kind scale_of type_word declaration_kind statement_kind mode_kind
 read_64 true = read_as (whole_number true 64) (codes "int64")
     (behind (codes "int") (decimal_two 64 (omega arith) (omega arith))) refl refl
 read_64 false = read_as (whole_number false 64) (codes "uint64")
@@ -158,12 +158,12 @@ fixed_named letter s first all few kind =
 
 -- it is no reserved word, since none begins that way
 signed_kind : (s : List ℕ) → word_kind (115 ∷ 102 ∷ 105 ∷ 120 ∷ s) ≡ kinds.Name
-unfolding word_kind
+unfolding word_kind declaration_kind statement_kind mode_kind
 signed_kind s = refl
 
 -- a word that begins with `ufix` is no keyword
 unsigned_kind : (s : List ℕ) → word_kind (117 ∷ 102 ∷ 105 ∷ 120 ∷ s) ≡ kinds.Name
-unfolding word_kind
+unfolding word_kind declaration_kind statement_kind mode_kind
 unsigned_kind s = refl
 
 -- it is read as digits, `_En` and digits

@@ -11,7 +11,41 @@ use Rattle.chart_lexer.specs.declared.words.TheConstants.{NAME_LIMIT}
 abbrev pub name_length : List ℕ → ℕ
 name_length s = prefix_len is_name_byte s
 
--- the kind of a word: one of the reserved words, or else a name
+-- the kind of a word: `tick`, a mode, `history`, or else a name
+unfoldable pub mode_kind : List ℕ → Kind
+mode_kind w =
+    if bytes_eq w (codes "tick") then kinds.Tick else
+    if bytes_eq w (codes "saturate") then kinds.Saturate else
+    if bytes_eq w (codes "wrap") then kinds.Wrap else
+    if bytes_eq w (codes "error") then kinds.Error else
+    if bytes_eq w (codes "history") then kinds.History else
+    kinds.Name
+
+-- the kind of a word: one of statements and expressions, or what `mode_kind` says
+unfoldable pub statement_kind : List ℕ → Kind
+statement_kind w =
+    if bytes_eq w (codes "local") then kinds.Local else
+    if bytes_eq w (codes "send") then kinds.Send else
+    if bytes_eq w (codes "to") then kinds.To else
+    if bytes_eq w (codes "emit") then kinds.Emit else
+    if bytes_eq w (codes "in") then kinds.In else
+    if bytes_eq w (codes "true") then kinds.True else
+    if bytes_eq w (codes "false") then kinds.False else
+    mode_kind w
+
+-- the kind of a word: one of transitions, junctions and declarations, or what `statement_kind` says
+unfoldable pub declaration_kind : List ℕ → Kind
+declaration_kind w =
+    if bytes_eq w (codes "outer") then kinds.Outer else
+    if bytes_eq w (codes "inner") then kinds.Inner else
+    if bytes_eq w (codes "default") then kinds.Default else
+    if bytes_eq w (codes "junction") then kinds.Junction else
+    if bytes_eq w (codes "event") then kinds.Event else
+    if bytes_eq w (codes "input") then kinds.Input else
+    if bytes_eq w (codes "output") then kinds.Output else
+    statement_kind w
+
+-- the kind of a word: one of charts and states, or what `declaration_kind` says, which ends in `Name`
 unfoldable pub word_kind : List ℕ → Kind
 word_kind w =
     if bytes_eq w (codes "chart") then kinds.Chart else
@@ -21,26 +55,7 @@ word_kind w =
     if bytes_eq w (codes "entry") then kinds.Entry else
     if bytes_eq w (codes "during") then kinds.During else
     if bytes_eq w (codes "exit") then kinds.Exit else
-    if bytes_eq w (codes "outer") then kinds.Outer else
-    if bytes_eq w (codes "inner") then kinds.Inner else
-    if bytes_eq w (codes "default") then kinds.Default else
-    if bytes_eq w (codes "junction") then kinds.Junction else
-    if bytes_eq w (codes "event") then kinds.Event else
-    if bytes_eq w (codes "input") then kinds.Input else
-    if bytes_eq w (codes "output") then kinds.Output else
-    if bytes_eq w (codes "local") then kinds.Local else
-    if bytes_eq w (codes "send") then kinds.Send else
-    if bytes_eq w (codes "to") then kinds.To else
-    if bytes_eq w (codes "emit") then kinds.Emit else
-    if bytes_eq w (codes "in") then kinds.In else
-    if bytes_eq w (codes "true") then kinds.True else
-    if bytes_eq w (codes "false") then kinds.False else
-    if bytes_eq w (codes "tick") then kinds.Tick else
-    if bytes_eq w (codes "saturate") then kinds.Saturate else
-    if bytes_eq w (codes "wrap") then kinds.Wrap else
-    if bytes_eq w (codes "error") then kinds.Error else
-    if bytes_eq w (codes "history") then kinds.History else
-    kinds.Name
+    declaration_kind w
 
 -- a text that is one name: a letter, and name bytes to the end, at most 63, and no reserved word
 abbrev pub is_name : List ℕ → Bool

@@ -14,12 +14,12 @@ give_all_back-requires-in-Err c = c.loop.invariant.0
 
 pub loop-preserved : goal.loop-preserved
 loop-preserved c = (
-    subst
+  subst
       (All IsFree)
       (sym c.in_default.ensures.items)
       (All-push IsFree c.loop.taken.items c.in-Ok.chunk c.loop.invariant.0 c.in-Ok.ensures),
-    omega (arith, c.in_default.ensures.len, c.loop.invariant.1),
-  )
+  omega (arith, c.in_default.ensures.len, c.loop.invariant.1),
+)
 
 pub returns : goal.returns
 returns c = (c.loop.invariant.0, omega (arith, c.loop.invariant.1, c.loop-test.false, c.loop.auto.counter-end))

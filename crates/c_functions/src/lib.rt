@@ -38,6 +38,3 @@ pub use plan_laws::{
     memory_tells_its_world, one_store_shows_consistent_marks, plans_are_written_for_their_code,
     tests_of_fields_are_those_of_marks, zeros_show_no_marks,
 };
-
-/// The code, with the world below it.
-pub use code_language as form;

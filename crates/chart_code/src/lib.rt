@@ -34,9 +34,3 @@ pub use procedure_laws::{
     a_list_is_searched_for_any_continuation, code_runs_as_the_rules,
     procedures_do_the_work_of_the_rules,
 };
-
-/// The rules.
-pub use sos_rules as rules;
-
-/// The code, and how its runs are compared with the rules.
-pub use code_language as form;

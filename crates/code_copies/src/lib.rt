@@ -35,6 +35,3 @@ pub use searching::{
     rank_at, ranks_of,
 };
 pub use tested::tested_events;
-
-/// The code, with the world below it.
-pub use code_language as form;

@@ -23,6 +23,3 @@ pub use laws::{
 pub use needed::limits_of;
 pub use numbers::{Counted, Counts, Limits};
 pub use search_limits::COUNT_LIMIT;
-
-/// The code, and what it means.
-pub use code_language as form;

@@ -12,6 +12,3 @@ mod levels;
 
 pub use cutting::cut_sends;
 pub use laws::cut_code_has_the_same_runs;
-
-/// The code, with the world below it.
-pub use code_language as form;

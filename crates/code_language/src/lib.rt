@@ -47,6 +47,3 @@ pub use simulation_laws::{
     code_that_meets_work_ends_as_it, instructions_stand_at_their_places,
     play_finds_the_pending_notes,
 };
-
-/// The tree of states and what is declared.
-pub use actions as base;

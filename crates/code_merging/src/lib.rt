@@ -12,6 +12,3 @@ mod sums;
 
 pub use laws::code_whose_equal_procedures_are_one_has_the_same_runs;
 pub use merging::{Merged, merge};
-
-/// The code, with the world below it.
-pub use code_language as form;

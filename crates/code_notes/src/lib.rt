@@ -18,6 +18,3 @@ mod searching;
 pub use laws::code_by_a_right_plan_of_notes_has_the_same_runs;
 pub use noteless::{Noteless, without_notes};
 pub use plan::{NOTE_LIMIT, PLAYER_LIMIT};
-
-/// The code, with the world below it.
-pub use code_language as form;

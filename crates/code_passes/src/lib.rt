@@ -19,6 +19,3 @@ pub use chain::faster;
 pub use laws::{passed_code_has_the_same_runs, tags_name_procedures_states_and_events_of_the_code};
 pub use made::Faster;
 pub use tag::{EventTag, Tag};
-
-/// The code, with the world below it.
-pub use code_language as form;

@@ -16,6 +16,3 @@ pub use making::{Copies, copy_by_depth, copy_by_notes};
 pub use searching::{
     DEPTH_ROOM, NOTE_PLACE_LIMIT, PENDING_LIMIT, ROUND_LIMIT, SEND_LIMIT, SPREAD_LIMIT,
 };
-
-/// The code, with the world below it.
-pub use code_language as form;

@@ -20,6 +20,3 @@ mod spreading;
 pub use folding::fold_results;
 pub use laws::code_by_a_right_plan_of_results_has_the_same_runs;
 pub use plan::{KnownResults, Place, Results};
-
-/// The code, with the world below it.
-pub use code_language as form;

@@ -25,6 +25,3 @@ pub use numbers::number_at;
 pub use renamed::{copy_cond, renamed_instr};
 pub use shrinking::{Shrunk, shrink, shrink_with_origins};
 pub use tables::with_procedures;
-
-/// The code, with the world below it.
-pub use code_language as form;

@@ -43,6 +43,3 @@ pub use procedure_costs::{
     heights_of_procedures, lengths_of_procedures, procedures_are_sound, works_of_procedures,
 };
 pub use tree_sums::{children_and_states_below, the_sum_below_a_state, the_sum_of_all_sums_below};
-
-/// The procedures, what they do, and where each stands; the ends of states, and sums over numbers.
-pub use chart_code as layout;

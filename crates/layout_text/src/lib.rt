@@ -13,8 +13,3 @@ mod line_lengths;
 
 pub use chart_texts::{the_text_of_a_charts_code_is_read, the_text_of_a_charts_code_is_short};
 pub use line_lengths::{lines_are_short, texts_are_short};
-
-/// The layout of a chart's code.
-pub use chart_code as layout;
-/// The text of code.
-pub use code_text as text;

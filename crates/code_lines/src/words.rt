@@ -1,5 +1,5 @@
 //! The first words of instructions and conditions.
-ghost use Rattle.std.specs.Prelude.{◌≡◌};
+ghost use Rattle.std.specs.Prelude.{◌≡◌, bytes_eq};
 ghost use Rattle.code_lines.specs.Fields as spec;
 
 /// The first word of an instruction that has more than one.
@@ -57,36 +57,43 @@ pub enum CondWord {
     Last,
 }
 
+/// Whether the word is the one that is spelled so.
+fn is_spelled(word: &[u8], spelling: &[u8]) -> bool
+    ensures { result ≡ bytes_eq word.now spelling.now }
+{
+    word == spelling
+}
+
 /// The first word of an instruction.
 #[tactic(auto, unfolding(crate::specs::Fields::word_of))]
 pub fn word_of(word: &[u8]) -> Option<Word>
     ensures { result ≡ spec.word_of word.now }
 {
-    if word == b"set".as_slice() {
+    if is_spelled(word, b"set") {
         Some(Word::Assign)
-    } else if word == b"unless".as_slice() {
+    } else if is_spelled(word, b"unless") {
         Some(Word::Unless)
-    } else if word == b"emit".as_slice() {
+    } else if is_spelled(word, b"emit") {
         Some(Word::Plain(PlainWord::Emit))
-    } else if word == b"mark".as_slice() {
+    } else if is_spelled(word, b"mark") {
         Some(Word::Plain(PlainWord::Mark))
-    } else if word == b"clear".as_slice() {
+    } else if is_spelled(word, b"clear") {
         Some(Word::Plain(PlainWord::Clear))
-    } else if word == b"keep".as_slice() {
+    } else if is_spelled(word, b"keep") {
         Some(Word::Plain(PlainWord::Keep))
-    } else if word == b"skip".as_slice() {
+    } else if is_spelled(word, b"skip") {
         Some(Word::Plain(PlainWord::Skip))
-    } else if word == b"call".as_slice() {
+    } else if is_spelled(word, b"call") {
         Some(Word::Plain(PlainWord::Call))
-    } else if word == b"visit".as_slice() {
+    } else if is_spelled(word, b"visit") {
         Some(Word::Plain(PlainWord::Visit))
-    } else if word == b"send".as_slice() {
+    } else if is_spelled(word, b"send") {
         Some(Word::Plain(PlainWord::Send))
-    } else if word == b"sendto".as_slice() {
+    } else if is_spelled(word, b"sendto") {
         Some(Word::Plain(PlainWord::SendTo))
-    } else if word == b"home".as_slice() {
+    } else if is_spelled(word, b"home") {
         Some(Word::Plain(PlainWord::Home))
-    } else if word == b"ret".as_slice() {
+    } else if is_spelled(word, b"ret") {
         Some(Word::Plain(PlainWord::Ret))
     } else {
         None
@@ -98,17 +105,17 @@ pub fn word_of(word: &[u8]) -> Option<Word>
 pub fn cond_word_of(word: &[u8]) -> Option<CondWord>
     ensures { result ≡ spec.cond_word_of word.now }
 {
-    if word == b"on".as_slice() {
+    if is_spelled(word, b"on") {
         Some(CondWord::On)
-    } else if word == b"bare".as_slice() {
+    } else if is_spelled(word, b"bare") {
         Some(CondWord::Bare)
-    } else if word == b"event".as_slice() {
+    } else if is_spelled(word, b"event") {
         Some(CondWord::Current)
-    } else if word == b"result".as_slice() {
+    } else if is_spelled(word, b"result") {
         Some(CondWord::Result)
-    } else if word == b"expr".as_slice() {
+    } else if is_spelled(word, b"expr") {
         Some(CondWord::Test)
-    } else if word == b"last".as_slice() {
+    } else if is_spelled(word, b"last") {
         Some(CondWord::Last)
     } else {
         None

@@ -16,7 +16,7 @@ use flow_base::Memory;
 use std::alloc::Global;
 
 /// The colours of the cells of one event.
-#[derive(Debug, Drop)]
+#[derive(Drop)]
 pub(crate) struct ColourRow {
     pub(crate) junctions: Vec<Colour>,
     pub(crate) exits: Vec<Colour>,
@@ -25,7 +25,7 @@ pub(crate) struct ColourRow {
 }
 
 /// A colour for each cell.
-#[derive(Debug, Drop)]
+#[derive(Drop)]
 pub(crate) struct Colours {
     pub(crate) rows: Vec<ColourRow>,
 }

@@ -24,7 +24,7 @@ use flow_base::Memory;
 use std::alloc::Global;
 
 /// What a cell needs, and the cells that it looked up and that aren't done.
-#[derive(Debug, Drop)]
+#[derive(Drop)]
 pub(crate) struct Looked {
     pub(crate) need: Need,
     pub(crate) met: Vec<Cell>,

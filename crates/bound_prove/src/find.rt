@@ -35,7 +35,7 @@ use flow_base::Memory;
 use std::alloc::Global;
 
 /// What is found so far. A black cell has its final need, and every other one is at the ends.
-#[derive(Debug, Drop)]
+#[derive(Drop)]
 pub(crate) struct Finder {
     pub(crate) cert: Cert,
     pub(crate) colours: Colours,

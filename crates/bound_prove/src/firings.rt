@@ -10,13 +10,13 @@ use flow_base::Memory;
 use std::alloc::Global;
 
 /// For each home the need of a firing under one event, where it is kept.
-#[derive(Debug, Drop)]
+#[derive(Drop)]
 pub(crate) struct FiringRow {
     pub(crate) needs: Vec<Option<Need>>,
 }
 
 /// For each event and home the need of a firing, where it is kept.
-#[derive(Debug, Drop)]
+#[derive(Drop)]
 pub(crate) struct Firings {
     pub(crate) rows: Vec<FiringRow>,
 }

@@ -20,7 +20,7 @@ use std::alloc::Global;
 
 /// What a walk through junctions has met. It is made once and serves all walks, so that a walk
 /// costs no more than what it meets.
-#[derive(Debug, Drop)]
+#[derive(Drop)]
 pub(crate) struct Marks {
     /// For each junction the number of the last walk that met it, 0 before the first.
     pub(crate) walks: Vec<u32>,

@@ -3,7 +3,7 @@ use actions::ExprSort;
 use c_subset::CExpr;
 
 /// An operand whose code is written: an expression that reads what the code set.
-#[derive(Debug, Drop)]
+#[derive(Drop)]
 pub struct Operand {
     /// The expression.
     pub expr: CExpr,

@@ -10,7 +10,7 @@ use c_subset::{CType, Width};
 use std::alloc::AllocError;
 
 /// A local: its type and its number.
-#[derive(Clone, Copy, Debug)]
+#[derive(Clone, Copy)]
 pub struct LocalName {
     /// Its type.
     pub of: CType,

@@ -133,7 +133,7 @@ fn plain_junctions(
 }
 
 /// The parts of a chart.
-#[derive(Debug, Drop)]
+#[derive(Drop)]
 pub struct ChartParts {
     /// The tree of the states.
     pub shape: Shape,

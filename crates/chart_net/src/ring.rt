@@ -9,7 +9,7 @@ use std::alloc::Global;
 use std::marker::Model;
 
 /// The items that wait on a route, in as many places as the route holds items.
-#[derive(Debug, Drop)]
+#[derive(Drop)]
 pub(crate) struct Ring {
     places: Vec<Option<Value>>,
     first: usize,

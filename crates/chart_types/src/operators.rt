@@ -12,7 +12,7 @@ use chart_tree::{BinWord, FaultAt, FormKind, UnWord};
 use token_grammar::Span;
 
 /// What an expression gives, or why it has no sort; and the first fault so far.
-#[derive(Clone, Copy, Debug)]
+#[derive(Clone, Copy)]
 pub(crate) struct Typed {
     /// The sort.
     pub sort: Result<ExprSort, ExprFault>,

@@ -20,7 +20,7 @@ use std::alloc::{AllocError, Global};
 const INIT_END: u128 = (1 << 64) + 1;
 
 /// A datum, whose name stands in its line.
-#[derive(Clone, Copy, Debug)]
+#[derive(Clone, Copy)]
 pub struct VarParts<'a> {
     /// Its name.
     pub name: &'a [u8],
@@ -35,7 +35,7 @@ pub struct VarParts<'a> {
 }
 
 /// An event, whose name stands in its line.
-#[derive(Clone, Copy, Debug)]
+#[derive(Clone, Copy)]
 pub struct EventParts<'a> {
     /// Its name.
     pub name: &'a [u8],

@@ -11,7 +11,7 @@ use flow_base::chart_limits::OPERATOR_LIMIT;
 use std::alloc::{AllocError, Global};
 
 /// An expression at the front of a text.
-#[derive(Debug, Drop)]
+#[derive(Drop)]
 pub struct ReadExpr<'a> {
     /// The expression.
     pub expr: Expr,

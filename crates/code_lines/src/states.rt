@@ -10,7 +10,7 @@ use code_language::RawState;
 use std::alloc::{AllocError, Global};
 
 /// A state, whose name stands in its line.
-#[derive(Clone, Copy, Debug)]
+#[derive(Clone, Copy)]
 pub struct StateLine<'a> {
     /// Its parent.
     pub parent: Option<u32>,

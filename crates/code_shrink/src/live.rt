@@ -34,7 +34,7 @@ use flow_base::Memory;
 use std::alloc::Global;
 
 /// What is reached of code once constant tests are decided and jumps lead past skips.
-#[derive(Debug, Drop)]
+#[derive(Drop)]
 pub struct Live {
     /// For each procedure whether it is reached: from those of the start and of a reaction, by what
     /// reached places name.

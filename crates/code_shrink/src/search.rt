@@ -9,7 +9,7 @@ use flow_base::Memory;
 use std::alloc::Global;
 
 /// A search for the procedures that are reached.
-#[derive(Debug, Drop)]
+#[derive(Drop)]
 pub(crate) struct Search {
     /// For each procedure whether it is found.
     pub found: Vec<bool>,

@@ -7,7 +7,7 @@ use code_fields::{behind, cut_at, number_of};
 use code_lines::Format;
 
 /// The count of procedures, and those of the start and of a reaction.
-#[derive(Clone, Copy, Debug)]
+#[derive(Clone, Copy)]
 pub struct Procs {
     /// How many there are.
     pub count: u32,

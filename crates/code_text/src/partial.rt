@@ -16,7 +16,7 @@ use std::alloc::{AllocError, Global};
 use std::mem;
 
 /// What was read: whole procedures, the instructions of one that isn't whole, and the next line.
-#[derive(Debug, Drop)]
+#[derive(Drop)]
 pub struct Partial {
     format: Format,
     states: Vec<RawState>,

@@ -10,7 +10,7 @@ use crate::limits::CAP_LIMIT;
 use code_fields::{behind, cut_at, name_of};
 
 /// A chart, whose names stand in its line.
-#[derive(Clone, Copy, Debug)]
+#[derive(Clone, Copy)]
 pub struct ChartParts<'a> {
     /// Its name.
     pub name: &'a [u8],
@@ -19,7 +19,7 @@ pub struct ChartParts<'a> {
 }
 
 /// An event of a chart at the front of a text.
-#[derive(Clone, Copy, Debug)]
+#[derive(Clone, Copy)]
 pub struct EventFront<'a> {
     /// The number of the chart.
     pub chart: u32,
@@ -30,7 +30,7 @@ pub struct EventFront<'a> {
 }
 
 /// The data of a route: both or neither.
-#[derive(Clone, Copy, Debug)]
+#[derive(Clone, Copy)]
 pub struct DataNames<'a> {
     /// The datum whose value is sent.
     pub source: Option<&'a [u8]>,
@@ -39,7 +39,7 @@ pub struct DataNames<'a> {
 }
 
 /// A route, whose names stand in its line.
-#[derive(Clone, Copy, Debug)]
+#[derive(Clone, Copy)]
 pub struct RouteParts<'a> {
     /// The number of its line.
     pub line: u32,

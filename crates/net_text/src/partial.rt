@@ -14,7 +14,7 @@ use flow_base::List;
 use std::alloc::{AllocError, Global};
 
 /// What was read: charts and routes, and the next line.
-#[derive(Debug, Drop)]
+#[derive(Drop)]
 pub struct Partial {
     charts: Vec<NetChart>,
     routes: Vec<RouteText>,

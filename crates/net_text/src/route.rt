@@ -30,7 +30,7 @@ pub struct Route {
 }
 
 /// The data of a route, by number.
-#[derive(Clone, Copy, Debug)]
+#[derive(Clone, Copy)]
 pub struct DataNumbers {
     /// The datum whose value is sent.
     pub source: Option<u32>,

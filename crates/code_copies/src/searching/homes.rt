@@ -5,7 +5,7 @@ use flow_base::{List, Memory};
 use std::alloc::Global;
 
 /// The procedures that are found to look at the home with which they begin.
-#[derive(Debug, Drop)]
+#[derive(Drop)]
 struct FoundProcedures {
     /// For each procedure whether it is found.
     flags: Vec<bool>,

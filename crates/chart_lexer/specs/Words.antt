@@ -11,6 +11,40 @@ use Rattle.chart_lexer.specs.declared.words.TheConstants.{NAME_LIMIT}
 abbrev pub name_length : List ℕ → ℕ
 name_length s = prefix_len is_name_byte s
 
+-- the kind of a word of the last reserved words, or else a name
+unfoldable pub mode_kind : List ℕ → Kind
+mode_kind w =
+    if bytes_eq w (codes "tick") then kinds.Tick else
+    if bytes_eq w (codes "saturate") then kinds.Saturate else
+    if bytes_eq w (codes "wrap") then kinds.Wrap else
+    if bytes_eq w (codes "error") then kinds.Error else
+    if bytes_eq w (codes "history") then kinds.History else
+    kinds.Name
+
+-- the kind of a word that begins no transition and no declaration of an event or a port
+unfoldable pub statement_kind : List ℕ → Kind
+statement_kind w =
+    if bytes_eq w (codes "local") then kinds.Local else
+    if bytes_eq w (codes "send") then kinds.Send else
+    if bytes_eq w (codes "to") then kinds.To else
+    if bytes_eq w (codes "emit") then kinds.Emit else
+    if bytes_eq w (codes "in") then kinds.In else
+    if bytes_eq w (codes "true") then kinds.True else
+    if bytes_eq w (codes "false") then kinds.False else
+    mode_kind w
+
+-- the kind of a word that begins neither a chart nor a state
+unfoldable pub declaration_kind : List ℕ → Kind
+declaration_kind w =
+    if bytes_eq w (codes "outer") then kinds.Outer else
+    if bytes_eq w (codes "inner") then kinds.Inner else
+    if bytes_eq w (codes "default") then kinds.Default else
+    if bytes_eq w (codes "junction") then kinds.Junction else
+    if bytes_eq w (codes "event") then kinds.Event else
+    if bytes_eq w (codes "input") then kinds.Input else
+    if bytes_eq w (codes "output") then kinds.Output else
+    statement_kind w
+
 -- the kind of a word: one of the reserved words, or else a name
 unfoldable pub word_kind : List ℕ → Kind
 word_kind w =

@@ -1,5 +1,5 @@
 //! Names and reserved words.
-ghost use Rattle.std.specs.Prelude.{◌≡◌, ◌≤◌, length, IsTrue, IfOk};
+ghost use Rattle.std.specs.Prelude.{◌≡◌, ◌≤◌, length, IsTrue, IfOk, bytes_eq};
 ghost use Rattle.chart_lexer.specs.Words as spec;
 
 use crate::bytes::{is_letter, is_name_byte};
@@ -18,62 +18,99 @@ pub fn name_length(text: &[u8]) -> usize
     text.iter().take_while(|byte| is_name_byte(**byte)).count()
 }
 
+/// Whether the word is the one that is spelled so.
+fn is_spelled(word: &[u8], spelling: &[u8]) -> bool
+    ensures { result ≡ bytes_eq word.now spelling.now }
+{
+    word == spelling
+}
+
 /// The kind of a word: of one of the reserved words, or else `Name`.
 #[tactic(auto, unfolding(crate::specs::Words::word_kind))]
 pub fn word_kind(word: &[u8]) -> Kind
     ensures { result ≡ spec.word_kind word.now }
 {
-    if word == b"chart".as_slice() {
+    if is_spelled(word, b"chart") {
         Kind::Chart
-    } else if word == b"or".as_slice() {
+    } else if is_spelled(word, b"or") {
         Kind::Or
-    } else if word == b"and".as_slice() {
+    } else if is_spelled(word, b"and") {
         Kind::And
-    } else if word == b"state".as_slice() {
+    } else if is_spelled(word, b"state") {
         Kind::State
-    } else if word == b"entry".as_slice() {
+    } else if is_spelled(word, b"entry") {
         Kind::Entry
-    } else if word == b"during".as_slice() {
+    } else if is_spelled(word, b"during") {
         Kind::During
-    } else if word == b"exit".as_slice() {
+    } else if is_spelled(word, b"exit") {
         Kind::Exit
-    } else if word == b"outer".as_slice() {
+    } else {
+        declaration_kind(word)
+    }
+}
+
+/// The kind of a word that begins neither a chart nor a state.
+#[tactic(auto, unfolding(crate::specs::Words::declaration_kind))]
+fn declaration_kind(word: &[u8]) -> Kind
+    ensures { result ≡ spec.declaration_kind word.now }
+{
+    if is_spelled(word, b"outer") {
         Kind::Outer
-    } else if word == b"inner".as_slice() {
+    } else if is_spelled(word, b"inner") {
         Kind::Inner
-    } else if word == b"default".as_slice() {
+    } else if is_spelled(word, b"default") {
         Kind::Default
-    } else if word == b"junction".as_slice() {
+    } else if is_spelled(word, b"junction") {
         Kind::Junction
-    } else if word == b"event".as_slice() {
+    } else if is_spelled(word, b"event") {
         Kind::Event
-    } else if word == b"input".as_slice() {
+    } else if is_spelled(word, b"input") {
         Kind::Input
-    } else if word == b"output".as_slice() {
+    } else if is_spelled(word, b"output") {
         Kind::Output
-    } else if word == b"local".as_slice() {
+    } else {
+        statement_kind(word)
+    }
+}
+
+/// The kind of a word that begins no transition and no declaration of an event or a port.
+#[tactic(auto, unfolding(crate::specs::Words::statement_kind))]
+fn statement_kind(word: &[u8]) -> Kind
+    ensures { result ≡ spec.statement_kind word.now }
+{
+    if is_spelled(word, b"local") {
         Kind::Local
-    } else if word == b"send".as_slice() {
+    } else if is_spelled(word, b"send") {
         Kind::Send
-    } else if word == b"to".as_slice() {
+    } else if is_spelled(word, b"to") {
         Kind::To
-    } else if word == b"emit".as_slice() {
+    } else if is_spelled(word, b"emit") {
         Kind::Emit
-    } else if word == b"in".as_slice() {
+    } else if is_spelled(word, b"in") {
         Kind::In
-    } else if word == b"true".as_slice() {
+    } else if is_spelled(word, b"true") {
         Kind::True
-    } else if word == b"false".as_slice() {
+    } else if is_spelled(word, b"false") {
         Kind::False
-    } else if word == b"tick".as_slice() {
+    } else {
+        mode_kind(word)
+    }
+}
+
+/// The kind of a word of the last reserved words, or else `Name`.
+#[tactic(auto, unfolding(crate::specs::Words::mode_kind))]
+fn mode_kind(word: &[u8]) -> Kind
+    ensures { result ≡ spec.mode_kind word.now }
+{
+    if is_spelled(word, b"tick") {
         Kind::Tick
-    } else if word == b"saturate".as_slice() {
+    } else if is_spelled(word, b"saturate") {
         Kind::Saturate
-    } else if word == b"wrap".as_slice() {
+    } else if is_spelled(word, b"wrap") {
         Kind::Wrap
-    } else if word == b"error".as_slice() {
+    } else if is_spelled(word, b"error") {
         Kind::Error
-    } else if word == b"history".as_slice() {
+    } else if is_spelled(word, b"history") {
         Kind::History
     } else {
         Kind::Name

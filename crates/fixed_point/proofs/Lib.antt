@@ -1,5 +1,6 @@
 pub mod Powers
 pub mod Floors
+pub mod Small
 pub mod Ranges
 pub mod Digits
 pub mod Values

@@ -9,7 +9,5 @@ mod cells;
 mod chunk;
 mod slot;
 mod stack;
-#[cfg(test)]
-mod tests;
 
 pub use stack::FrameStack;

@@ -2,12 +2,16 @@
 ghost use Rattle.std.specs.Prelude.{◌≡◌, ◌≤◌, length};
 ghost use Rattle.frame_stack.specs.Chunks.{words_in, IsSlot};
 
+use std::mem::size_of;
+
 /// A frame: its first `count` words, from 1 to 7.
 #[derive(Clone, Copy)]
 pub(crate) struct Slot {
     pub(crate) count: u32,
     pub(crate) words: [u32; 7],
 }
+
+const _: () = prove!(size_of::<Slot>() == 32);
 
 impl Slot {
     /// The frame of these words, from 1 to 7.

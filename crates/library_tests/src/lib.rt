@@ -1,5 +1,5 @@
-//! Tests of the libraries: files, marks and tokens, expressions and data, and the driver over the
-//! engine of `sample_engine`. What no contract says, worked by hand.
+//! Tests of the libraries: files, marks and frames, tokens, expressions and data, and the driver
+//! over the engine of `sample_engine`. What no contract says, worked by hand.
 #![tactic(auto)]
 
 #[cfg(test)]
@@ -22,6 +22,8 @@ mod event_limits;
 mod expressions;
 #[cfg(test)]
 mod files;
+#[cfg(test)]
+mod frames;
 #[cfg(test)]
 mod marks;
 #[cfg(test)]

@@ -1,7 +1,7 @@
 -- A run of an engine over an event file, as its lines are taken one after the other, and how it ends.
-use Rattle.std.proofs.Common.{◌≡◌, ◌≢◌, ℕ, ◌+◌, ◌⊎◌, Bool, true, false, nat_le, List, [], ◌∷◌, ◌++◌, length, Option}
+use Rattle.std.proofs.Common.{◌≡◌, ◌≢◌, ℕ, ◌+◌, ◌-◌, ◌<◌, ◌≤◌, ◌⊎◌, Bool, true, false, nat_le, List, [], ◌∷◌, ◌++◌, length, Option}
 use Rattle.std.proofs.Common.{Some, None, Result, Ok, Err, refl, sym, ap, ◌∙◌, subst, arith, append-nil, inl, inr}
-use Rattle.flow_base.specs.Causes.{Rose, AllStay}
+use Rattle.flow_base.specs.Causes.{Rose, AllStay, NoneFalls}
 use Rattle.flow_base.specs.declared.fault.Fault.{Fault}
 use Rattle.active_config.specs.Tree.{Tree}
 use Rattle.actions.specs.Names.{Names}
@@ -9,7 +9,7 @@ use Rattle.actions.specs.Runs.{EventWithInputs, StartRelation, ReactionRelation,
 use Rattle.actions.specs.World.{World}
 use Rattle.actions.specs.declared.event.Event.TheVariants.{Start}
 use Rattle.event_file.specs.declared.fault.LineFault.{LineFault}
-use Rattle.event_file.specs.declared.limits.TheConstants.{FILE_EVENT_LIMIT}
+use Rattle.event_file.specs.declared.limits.TheConstants.{FILE_LIMIT, FILE_EVENT_LIMIT}
 use Rattle.event_file.specs.EventLines.{event_of_line}
 use Rattle.event_file.specs.NextLine.{Nexts}
 use Rattle.event_file.specs.Reading.{Reading, unused}
@@ -18,7 +18,7 @@ use Rattle.step_driver.specs.declared.driver.DriveEnd.{DriveEnd}
 use Rattle.step_driver.specs.declared.driver.DriveEnd.TheVariants as ends
 use Rattle.step_driver.specs.declared.lines.NoLine.{NoLine}
 use Rattle.step_driver.specs.declared.lines.NoLine.TheVariants as no_lines
-use Rattle.step_driver.specs.Causes.{is_read, is_write, ReadCause, HasReadCause}
+use Rattle.step_driver.specs.Causes.{is_read, is_write, ReadCause, HasReadCause, HasWriteCause}
 use Rattle.step_driver.specs.Driving.{Seen, Drives, IsStartLine, engine_runs}
 use Rattle.step_driver.specs.Ending.{given_text}
 use Rattle.step_driver.specs.NextLines.{failed_to_read, failed_to_write}
@@ -59,6 +59,43 @@ read_cause name before between after end stay c = record {
   others = λ is other. c.others (sym (reads_same end) ∙ is) other ∙ stay other;
 }
 
+-- no count rose, and the answer is no read fault
+pub no_read_fault : (name : List ℕ) (before after : List ℕ → ℕ) (result : Result (Unit {0}) DriveEnd)
+    → is_read result ≡ false → AllStay before after → HasReadCause {T = Unit {0}} name before after result
+no_read_fault name before after result no_read stay =
+    record { fault = λ is. absurd (let both : true ≡ false = sym is ∙ no_read in cc); others = λ _. stay }
+
+-- no count rose, and the end is no read fault
+pub no_read_end : (name : List ℕ) (before after : List ℕ → ℕ) (end : DriveEnd)
+    → is_read {T = Unit {0}} (Err end) ≡ false → AllStay before after
+    → HasReadCause {T = Unit {0}} name before after (Err end)
+no_read_end name before after end no_read stay = no_read_fault name before after (Err end) no_read stay
+
+-- no count rose, and the answer is no write fault
+pub no_write_fault : (before after : ℕ) (result : Result (Unit {0}) DriveEnd) → is_write result ≡ false → after ≡ before
+    → HasWriteCause {T = Unit {0}} before after result
+no_write_fault before after result no_write same =
+    record { fault = λ is. absurd (let both : true ≡ false = sym is ∙ no_write in cc); others = λ _. same }
+
+-- the count rose, and the answer is a write fault
+pub write_fault : (before after : ℕ) → Rose before after → HasWriteCause {T = Unit {0}} before after (Err ends.Write)
+write_fault before after rose = record { fault = λ _. rose; others = λ is. absurd (cc) }
+
+-- a count that stays doesn't fall
+pub none_falls : (counts : List ℕ → ℕ) → NoneFalls counts counts
+none_falls counts = λ other. omega arith
+
+-- a count that was kept so far doesn't fall
+pub falls_after : (before between after : ℕ) → between ≡ before → between ≤ after → before ≤ after
+falls_after before between after stay later = subst (λ (m : ℕ). m ≤ after) stay later
+
+-- each line takes bytes of the file
+pub farther : (r r' : Reading) (left left' : Option (List ℕ)) → Nexts r r' left left' (Ok true)
+    → FILE_LIMIT - r'.at < FILE_LIMIT - r.at
+farther r r' left left' next =
+    let line = next.answer.1 in
+    omega (arith, line.at, line.some, line.within, next.fills.at)
+
 -- it isn't that memory ran out
 pub never_memory : (end : NoLine) (result : Result (Unit {0}) DriveEnd) → result ≡ Err (end_of_line end)
     → result ≢ Err ends.Memory
@@ -66,6 +103,13 @@ never_memory (no_lines.TooLong number) result is e = absurd (cc)
 never_memory no_lines.FileTooLong result is e = absurd (cc)
 never_memory no_lines.Read result is e = absurd (cc)
 never_memory no_lines.Write result is e = absurd (cc)
+
+-- an end of a line that isn't want of memory is none of the run either
+pub no_memory : (end : DriveEnd) (line : Result ℕ DriveEnd) → line ≡ Err end → (line ≢ Err ends.Memory)
+    → (result : Result (Unit {0}) DriveEnd) → result ≡ Err end → result ≢ Err ends.Memory
+no_memory end line of_line not_memory result of_end is =
+    let same : end ≡ ends.Memory = cc in
+    not_memory (of_line ∙ ap (λ (e : DriveEnd). Err e) same)
 
 module _ (start : StartRelation) (react : ReactionRelation) (t : Tree) (n : Names) where
   -- the runs

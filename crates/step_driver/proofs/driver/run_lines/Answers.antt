@@ -1,12 +1,16 @@
-use Rattle.std.proofs.Common.{refl, sym, ◌∙◌}
+use Rattle.std.proofs.Common.{Ok, refl, sym, ap, ◌∙◌}
 use Rattle.std.proofs.lemmas.Result.{err_from_is_err_and}
-use Rattle.trace_text.specs.Pieces.{Puts}
+use Rattle.trace_text.specs.Pieces.{Held, Puts}
 use Rattle.step_driver.specs.Driving.{Drives, engine_runs}
 use Rattle.step_driver.proofs.Buffered.{between, end_stops, next_failed}
 use Rattle.step_driver.proofs.EngineMoves.{start_over, start_put, next_over, line_put, line_over}
-use Rattle.step_driver.proofs.EngineRuns.{driver_laws, read_cause, never_memory, writes_same}
+use Rattle.step_driver.proofs.EngineRuns.{driver_laws, falls_after, farther, no_memory, no_read_end, no_read_fault, none_falls}
+use Rattle.step_driver.proofs.EngineRuns.{read_cause, never_memory, writes_same}
 use Rattle.step_driver.proofs.LeavingLemmas.{start_leaves, end_leaves, next_leaves, line_leaves}
 use Rattle.step_driver.proofs.driver.run_lines.Goals as goal
+
+pub run_start-requires-clause-usable : goal.run_start-requires-clause-usable
+run_start-requires-clause-usable g c = ap (λ (h : Held). h.failed) c.requires.empty
 
 -- the start isn't taken, or its line can't be written
 pub returns-in_err-run_start-clause-ends : goal.returns-in_err-run_start-clause-ends
@@ -18,6 +22,30 @@ returns-in_err-run_start-clause-ends g c =
     rw (p.1, p.2) (start_over (x.Starts k) (x.Reacts k) (x.tree k) (x.declared k) _ _ _ _ _ _ _ _ _
     (g.met.G.Engine.one_start k)
     c.requires.empty e.failed e.reads e.done)
+
+pub returns-in_err-run_start-clause-failed : goal.returns-in_err-run_start-clause-failed
+returns-in_err-run_start-clause-failed g c =
+    let p = err_from_is_err_and c.from_residual.result c.from_residual.ensures.1 in
+    rw (p.1, p.2) c.in_err-run_start.ensures.failed
+
+pub returns-in_err-run_start-clause-program : goal.returns-in_err-run_start-clause-program
+returns-in_err-run_start-clause-program g c = c.in_err-run_start.ensures.program
+
+pub returns-in_err-run_start-clause-others : goal.returns-in_err-run_start-clause-others
+returns-in_err-run_start-clause-others g c = λ other ne. refl
+
+pub returns-in_err-run_start-clause-counts : goal.returns-in_err-run_start-clause-counts
+returns-in_err-run_start-clause-counts g c = none_falls _
+
+pub returns-in_err-run_start-clause-reads : goal.returns-in_err-run_start-clause-reads
+returns-in_err-run_start-clause-reads g c =
+    let p = err_from_is_err_and c.from_residual.result c.from_residual.ensures.1 in
+    rw (p.1, p.2) (no_read_end _ _ _ _ c.in_err-run_start.ensures.reads (λ other. refl))
+
+pub returns-in_err-run_start-clause-memory : goal.returns-in_err-run_start-clause-memory
+returns-in_err-run_start-clause-memory g c =
+    let p = err_from_is_err_and c.from_residual.result c.from_residual.ensures.1 in
+    rw (p.1, p.2) c.in_err-run_start.ensures.memory
 
 pub lines-init : goal.lines-init
 lines-init g c =
@@ -32,6 +60,12 @@ lines-init g c =
       others = λ other ne. refl;
       counts = λ other. refl;
     }
+
+pub next_line-requires-clause-lines : goal.next_line-requires-clause-lines
+next_line-requires-clause-lines g c = c.lines.invariant.driven.driven.reads.place.failed
+
+pub next_line-requires-clause-usable : goal.next_line-requires-clause-usable
+next_line-requires-clause-usable g c = c.lines.invariant.driven.usable
 
 -- the next line can't be taken
 pub returns-in_err-next_line-clause-ends : goal.returns-in_err-next_line-clause-ends
@@ -62,6 +96,40 @@ returns-in_err-next_line-clause-failed g c =
     (x.declared k)) _ _ _ _ _ _ _ _ _ _ _ _ _ _ _
     c.lines.invariant.driven c.in_err-next_line.ensures.moves ∙ sym (writes_same _))
 
+pub returns-in_err-next_line-clause-program : goal.returns-in_err-next_line-clause-program
+returns-in_err-next_line-clause-program g c = c.lines.invariant.program
+
+pub returns-in_err-next_line-clause-others : goal.returns-in_err-next_line-clause-others
+returns-in_err-next_line-clause-others g c =
+    λ other ne. c.in_err-next_line.ensures.others other ne ∙ c.lines.invariant.others other ne
+
+pub returns-in_err-next_line-clause-counts : goal.returns-in_err-next_line-clause-counts
+returns-in_err-next_line-clause-counts g c =
+    λ other. falls_after _ _ _ (c.lines.invariant.counts other) (c.in_err-next_line.ensures.counts other)
+
+-- what a line needs
+pub run_line-requires-clause-running : goal.run_line-requires-clause-running
+run_line-requires-clause-running g c = c.lines.invariant.running
+
+pub run_line-requires-clause-few : goal.run_line-requires-clause-few
+run_line-requires-clause-few g c = rw c.lines.invariant.program c.requires.few
+
+pub run_line-requires-clause-few_data : goal.run_line-requires-clause-few_data
+run_line-requires-clause-few_data g c = rw c.lines.invariant.program c.requires.few_data
+
+pub run_line-requires-clause-vals : goal.run_line-requires-clause-vals
+run_line-requires-clause-vals g c = rw c.lines.invariant.program c.lines.invariant.vals
+
+pub run_line-requires-clause-index : goal.run_line-requires-clause-index
+run_line-requires-clause-index g c = c.lines.invariant.driven.driven.limit
+
+pub run_line-requires-clause-usable : goal.run_line-requires-clause-usable
+run_line-requires-clause-usable g c =
+    let x = g.G.Engine in
+    let k = x.program c.args.engine.now in
+    next_failed (engine_runs (x.Starts k) (x.Reacts k) (x.tree k) (x.declared k)) _ _ _ _ _ _ _ _ _ _ _ _ _ _ _
+    c.lines.invariant.driven c.in_ok-next_line.ensures.moves
+
 -- the run ends at a line
 pub returns-in_err-index-clause-ends : goal.returns-in_err-index-clause-ends
 returns-in_err-index-clause-ends g c =
@@ -80,7 +148,41 @@ returns-in_err-index-clause-ends g c =
     rw (p.1, p.2) (line_over (x.Starts k) (x.Reacts k) (x.tree k) (x.declared k) _ _ _ _ _ _ _ _ _ _ _ _ _ _ _ _ _
     (g.met.G.Engine.one_start k) b e.failed e.reads taken)
 
+pub returns-in_err-index-clause-failed : goal.returns-in_err-index-clause-failed
+returns-in_err-index-clause-failed g c =
+    let p = err_from_is_err_and c.from_residual-in_err-index.result c.from_residual-in_err-index.ensures.1 in
+    rw (p.1, p.2) c.in_err-index.ensures.failed
+
+pub returns-in_err-index-clause-program : goal.returns-in_err-index-clause-program
+returns-in_err-index-clause-program g c = c.in_err-index.ensures.program ∙ c.lines.invariant.program
+
+pub returns-in_err-index-clause-others : goal.returns-in_err-index-clause-others
+returns-in_err-index-clause-others g c =
+    λ other ne. c.in_ok-next_line.ensures.others other ne ∙ c.lines.invariant.others other ne
+
+pub returns-in_err-index-clause-counts : goal.returns-in_err-index-clause-counts
+returns-in_err-index-clause-counts g c =
+    λ other. falls_after _ _ _ (c.lines.invariant.counts other) (c.in_ok-next_line.ensures.counts other)
+
+pub returns-in_err-index-clause-reads : goal.returns-in_err-index-clause-reads
+returns-in_err-index-clause-reads g c =
+    let p = err_from_is_err_and c.from_residual-in_err-index.result c.from_residual-in_err-index.ensures.1 in
+    let stay = c.in_ok-next_line.ensures.reads.others refl in
+    rw (p.1, p.2) (no_read_end _ _ _ _ c.in_err-index.ensures.reads
+    (λ other. stay other ∙ c.lines.invariant.counts other))
+
+pub returns-in_err-index-clause-memory : goal.returns-in_err-index-clause-memory
+returns-in_err-index-clause-memory g c =
+    let p = err_from_is_err_and c.from_residual-in_err-index.result c.from_residual-in_err-index.ensures.1 in
+    rw (p.1, p.2) (λ never. no_memory _ _ refl (c.in_err-index.ensures.memory never) _ refl)
+
 -- one line more
+pub lines-smaller : goal.lines-smaller
+lines-smaller g c =
+    let n = c.in_ok-next_line.ensures.next in
+    let next = rw c.if-branch.true at n in
+    farther _ _ _ _ next
+
 pub lines-preserved : goal.lines-preserved
 lines-preserved g c =
     let x = g.G.Engine in
@@ -157,3 +259,31 @@ returns-clause-leaves g c =
     let next = rw c.if-branch.false at n in
     end_leaves (x.Starts k) (x.Reacts k) (x.tree k) (x.declared k) _ _ _ g.G.Engine.never_wants_memory _ _ _ _ _
     c.lines.invariant.driven.driven next
+
+-- ---- what else holds where no line is left
+
+pub returns-clause-failed : goal.returns-clause-failed
+returns-clause-failed g c =
+    let x = g.G.Engine in
+    let k = x.program c.args.engine.now in
+    next_failed (engine_runs (x.Starts k) (x.Reacts k) (x.tree k) (x.declared k)) _ _ _ _ _ _ _ _ _ _ _ _ _ _ _
+    c.lines.invariant.driven c.in_ok-next_line.ensures.moves
+
+pub returns-clause-program : goal.returns-clause-program
+returns-clause-program g c = c.lines.invariant.program
+
+pub returns-clause-others : goal.returns-clause-others
+returns-clause-others g c =
+    λ other ne. c.in_ok-next_line.ensures.others other ne ∙ c.lines.invariant.others other ne
+
+pub returns-clause-counts : goal.returns-clause-counts
+returns-clause-counts g c =
+    λ other. falls_after _ _ _ (c.lines.invariant.counts other) (c.in_ok-next_line.ensures.counts other)
+
+pub returns-clause-reads : goal.returns-clause-reads
+returns-clause-reads g c =
+    let stay = c.in_ok-next_line.ensures.reads.others refl in
+    no_read_fault _ _ _ (Ok tt) refl (λ other. stay other ∙ c.lines.invariant.counts other)
+
+pub returns-clause-memory : goal.returns-clause-memory
+returns-clause-memory g c = λ _ is. absurd (cc)

@@ -1,0 +1,138 @@
+//! The stack of frames: a few frames, past the end of a chunk, and where memory is refused.
+use crate::checks::check;
+use flow_base::Memory;
+use frame_stack::FrameStack;
+use std::process::Abort;
+
+/// Pushes a frame of these words, where it can be.
+fn push(stack: &mut FrameStack, words: &[u32]) {
+    if stack.spare() > 0 && !words.is_empty() && words.len() <= 7 {
+        stack.push(words);
+    }
+}
+
+/// Takes the top frame away, where there is one.
+fn pop(stack: &mut FrameStack) {
+    if stack.len() > 0 {
+        stack.pop();
+    }
+}
+
+/// The words of a frame, if there is one of the number.
+fn frame(stack: &FrameStack, i: usize) -> Option<&[u32]> {
+    if i < stack.len() {
+        Some(stack.at(i))
+    } else {
+        None
+    }
+}
+
+/// Asserts how many frames there are, and the words of some of them.
+fn check_frames(rt: &impl Abort, stack: &FrameStack, len: usize, rows: &[(usize, &[u32])]) {
+    check(rt, &"how many frames", &stack.len(), &len);
+    for (i, words) in rows {
+        check(rt, i, &frame(stack, *i), &Some(*words));
+    }
+}
+
+/// A frame that is pushed, or none where the top one is taken away, how many frames there are
+/// then, and their words.
+const STEPS: &[(Option<&[u32]>, usize, &[(usize, &[u32])])] = &[
+    (Some(&[7, 8]), 1, &[(0, &[7, 8])]),
+    (Some(&[9]), 2, &[(0, &[7, 8]), (1, &[9])]),
+    (None, 1, &[(0, &[7, 8])]),
+];
+
+/// Pushes a frame, or takes the top one away.
+fn step(stack: &mut FrameStack, pushed: Option<&[u32]>) {
+    match pushed {
+        Some(words) => push(stack, words),
+        None => pop(stack),
+    }
+}
+
+/// Asserts what stands on a stack with room for that many frames after each step, and how many
+/// more can be pushed.
+fn check_steps(rt: &impl Abort, stack: &mut FrameStack, room: usize) {
+    for (pushed, len, rows) in STEPS {
+        step(stack, *pushed);
+        check_frames(rt, stack, *len, rows);
+        check(rt, len, &stack.spare(), &room.saturating_sub(*len));
+    }
+}
+
+#[test]
+fn frames_are_pushed_and_popped(rt: HostRuntime) {
+    let mut stack = FrameStack::new(rt.alloc());
+    check(&rt, &"no frame", &(stack.len(), stack.spare()), &(0, 0));
+    stack.reserve(2).expect(&rt, "memory");
+    let room = stack.spare();
+    check(&rt, &room, &(room >= 2), &true);
+    check_steps(&rt, &mut stack, room);
+}
+
+/// Frames on both sides of the end of a chunk, and the top one.
+const NUMBERED: &[(usize, &[u32])] = &[
+    (1023, &[1023, 1, 2, 3, 4, 5, 6]),
+    (1024, &[1024, 1, 2, 3, 4, 5, 6]),
+    (2499, &[2499, 1, 2, 3, 4, 5, 6]),
+];
+
+/// Pushes 2,500 frames, and takes 1,500 away.
+fn check_numbered(rt: &impl Abort, stack: &mut FrameStack) {
+    for i in 0..2500u32 {
+        push(stack, &[i, 1, 2, 3, 4, 5, 6]);
+    }
+    check_frames(rt, stack, 2500, NUMBERED);
+    for _ in 0..1500 {
+        pop(stack);
+    }
+    check_frames(rt, stack, 1000, &[]);
+}
+
+#[test]
+fn frames_go_on_in_the_next_chunk(rt: HostRuntime) {
+    let mut stack = FrameStack::new(rt.alloc());
+    stack.reserve(3000).expect(&rt, "memory");
+    check_numbered(&rt, &mut stack);
+    let spare = stack.spare();
+    check(&rt, &spare, &(spare >= 2000), &true);
+}
+
+/// Asks for room for 5,000 more frames, and says whether it is there, or as much as before where it
+/// is refused.
+fn keeps_room(stack: &mut FrameStack) -> bool {
+    let spare = stack.spare();
+    match stack.reserve(5000) {
+        Ok(()) => stack.spare() >= 5000,
+        Err(_) => stack.spare() == spare,
+    }
+}
+
+/// The first frame, and the last one of those that are pushed after it.
+const PUSHED: &[(usize, &[u32])] = &[(0, &[3, 4]), (1000, &[999])];
+
+/// Pushes a frame, asks for more room than there is and for some, and pushes what fits.
+fn check_refused(rt: &impl Abort, stack: &mut FrameStack) {
+    push(stack, &[3, 4]);
+    let spare = stack.spare();
+    check(rt, &"too much", &stack.reserve(usize::MAX), &Err(Memory));
+    check(rt, &"too much", &(stack.spare(), stack.len()), &(spare, 1));
+    check(rt, &"room for 5,000", &keeps_room(stack), &true);
+    check_frames(rt, stack, 1, &[]);
+    for i in 0..1000u32 {
+        push(stack, &[i]);
+    }
+    check_frames(rt, stack, 1001, PUSHED);
+}
+
+/// Whichever request for memory is refused, frames and spare stay, and what fits can be pushed.
+/// `rt try --test --fail-alloc N` refuses the requests from the Nth on.
+#[test]
+fn refused_memory_leaves_the_stack(rt: HostRuntime) {
+    let mut stack = FrameStack::new(rt.alloc());
+    match stack.reserve(1) {
+        Ok(()) => check_refused(&rt, &mut stack),
+        Err(_) => check(&rt, &"refused", &stack.spare(), &0),
+    }
+}

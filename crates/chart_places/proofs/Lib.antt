@@ -1,3 +1,4 @@
+pub mod LoopLemmas
 pub mod TableLemmas
 pub mod ScopeLemmas
 pub mod TreeLemmas

@@ -1,6 +1,7 @@
 -- The tables of a chart text are tables, and those of its names.
 use Rattle.std.proofs.Common.{◌≡◌, List, [], ◌∷◌, map, refl, ap, ◌∙◌}
 use Rattle.std.specs.List.{AllByRecursion}
+use Rattle.active_config.specs.Tree.{Tree}
 use Rattle.chart_tree.specs.declared.name.NameText.{NameText}
 use Rattle.chart_tree.specs.declared.chart.EventText.{EventText}
 use Rattle.chart_tree.specs.Trees.{Var, Chart}
@@ -28,6 +29,16 @@ are_tables ps os es vs = record {
   free_events = all_map IsFree event_name es (λ e. refl);
   free_vars = all_map IsFree var_name vs (λ v. refl);
 }
+
+-- equal tables are seen alike
+pub scopes_seen-same : {t u : Tree} {ss sn js jn es en vs vn : List Declared} → t ≡ u → ss ≡ sn → js ≡ jn → es ≡ en
+    → vs ≡ vn → scopes_seen t ss js es vs ≡ scopes_seen u sn jn en vn
+scopes_seen-same {t} {u} {ss} {sn} {js} {jn} {es} {en} {vs} {vn} tree states junctions events vars =
+    ap (λ (x : Tree). scopes_seen x ss js es vs) tree
+    ∙ ap (λ (ds : List Declared). scopes_seen u ds js es vs) states
+    ∙ ap (λ (ds : List Declared). scopes_seen u sn ds es vs) junctions
+    ∙ ap (λ (ds : List Declared). scopes_seen u sn jn ds vs) events
+    ∙ ap (λ (ds : List Declared). scopes_seen u sn jn en ds) vars
 
 -- what they are seen as
 pub tables-seen : (c : Chart) → scopes_seen (placed_tree (placed_states c.root)) (map state_name (placed_states c.root))

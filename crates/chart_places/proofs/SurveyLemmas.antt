@@ -1,9 +1,9 @@
 -- A state of the code, placed with those below it.
-use Rattle.std.proofs.Common.{◌≡◌, ℕ, suc, ◌+◌, List, [], ◌∷◌, ◌++◌, map, length, not, false}
+use Rattle.std.proofs.Common.{◌≡◌, ℕ, suc, ◌+◌, ◌<◌, List, [], ◌∷◌, ◌++◌, map, length, drop, get_or, not, false}
 use Rattle.std.proofs.Common.{Option, Some, refl, ap, sym, ◌∙◌, append_assoc, Bor, arith}
 use Rattle.std.proofs.lemmas.Bool.Decides.{nat_tests}
 use Rattle.std.proofs.lemmas.Grind.{common_steps}
-use Rattle.std.proofs.lemmas.List.{map-append}
+use Rattle.std.proofs.lemmas.List.{map-append, length-map, length-append, drop_more}
 use Rattle.std.specs.Prelude.{◌==◌}
 use Rattle.flow_base.specs.Lists.{items_of}
 use Rattle.chart_tree.specs.declared.state.StateText.{StateText, StateText', Row_of-StateText, end_of-StateText}
@@ -64,6 +64,30 @@ placed-after olds news parent n m x push next =
     ∙ ap (λ (ps : List Placed). ps ++ rest) (map-append placed_of olds (p ∷ []))
     ∙ append_assoc (map placed_of olds) (placed_of p ∷ []) rest
     ∙ ap (λ (ps : List Placed). map placed_of olds ++ ps) (sym (placed_from-seen parent n m x.now next))
+
+-- once a child state and those below it are appended, the others are left
+pub row-next : (s : ℕ) (olds news : List PlacedState) (n m : ℕ) (xs : List StateText) (i : ℕ) (x : StateText)
+    (all : List Placed) → i < length xs → x ≡ get_or xs i x → n ≡ length olds → m ≡ length news
+    → map placed_of news ≡ map placed_of olds ++ placed_from (Some s) n (state_of x)
+    → map placed_of olds ++ placed_row s n (map state_of (drop i xs)) ≡ all
+    → map placed_of news ++ placed_row s m (map state_of (drop (i + 1) xs)) ≡ all
+row-next s olds news n m xs i x all within at old_size new_size step so_far =
+    let before = map placed_of olds in
+    let here = placed_from (Some s) n (state_of x) in
+    let rest = map state_of (drop (i + 1) xs) in
+    let cut : drop i xs ≡ x ∷ drop (i + 1) xs =
+    drop_more xs i x within ∙ ap (λ (y : StateText). y ∷ drop (i + 1) xs) (sym at) in
+    let size : m ≡ n + length here =
+    omega (
+      arith,
+      length-map news placed_of,
+      length-map olds placed_of,
+      ap length step,
+      length-append before here,
+    ) in
+    ap (λ (ps : List Placed). ps ++ placed_row s m rest) step ∙ append_assoc before here (placed_row s m rest)
+    ∙ ap (λ (k : ℕ). before ++ (here ++ placed_row s k rest)) size
+    ∙ sym (ap (λ (ys : List StateText). before ++ placed_row s n (map state_of ys)) cut) ∙ so_far
 
 -- ---- parts of a state of the code
 

@@ -94,13 +94,27 @@ impl<'a> Scopes<'a> {
         requires junctions { map owned_of junctions.now ≡ placed_junctions (map placed_of states.now) }
         ensures { IfOk result (λ p. p ≡ spec.scopes_of (chart_of chart.now)) }
     {
-        Ok(Scopes {
-            shape,
-            states: entries::of_states(alloc, states)?,
-            junctions: entries::of_junctions(alloc, junctions)?,
-            events: entries::of_events(alloc, chart.events.items())?,
-            vars: entries::of_vars(alloc, chart.vars.items())?,
-        })
+        match entries::of_tree(alloc, states, junctions) {
+            Ok((states, junctions)) => match entries::of_declarations(alloc, chart) {
+                Ok((events, vars)) => Ok(Scopes {
+                    shape,
+                    states,
+                    junctions,
+                    events,
+                    vars,
+                }),
+                Err(refused) => {
+                    drop(shape);
+                    drop(states);
+                    drop(junctions);
+                    Err(refused)
+                }
+            },
+            Err(refused) => {
+                drop(shape);
+                Err(refused)
+            }
+        }
     }
 
     /// The state above a state, none above the root.
@@ -116,7 +130,18 @@ impl<'a> Scopes<'a> {
     pub fn into_shape(self) -> Shape
         ensures { result ≡ self.entry.tree }
     {
-        self.shape
+        let Scopes {
+            shape,
+            states,
+            junctions,
+            events,
+            vars,
+        } = self;
+        drop(states);
+        drop(junctions);
+        drop(events);
+        drop(vars);
+        shape
     }
 
     /// The child of a state that has the name.

@@ -1,11 +1,11 @@
-use Rattle.std.proofs.Common.{◌≡◌, ◌++◌, ap, ◌∙◌, List, map, ℕ, subst}
+use Rattle.std.proofs.Common.{◌≡◌, ◌++◌, ap, ◌∙◌, List, map, ℕ, subst, arith}
 use Rattle.std.specs.Prelude.{vec_len, OnOk}
 use Rattle.flow_base.specs.Lists.{items_of}
 use Rattle.chart_tree.specs.declared.state.StateText.{StateText, out-StateText}
 use Rattle.chart_tree.specs.Views.{state_of}
 use Rattle.chart_places.specs.Placed.{Placed}
 use Rattle.chart_places.specs.Survey.{placed_of, placed_row}
-use Rattle.chart_places.proofs.SurveyLemmas.{placed-after}
+use Rattle.chart_places.proofs.SurveyLemmas.{placed-after, row-next}
 use Rattle.chart_places.proofs.states.+survey.Goals as goal
 
 pub place_state-returns-in-Ok : goal.place_state-returns-in-Ok
@@ -20,3 +20,12 @@ place_state-returns-in-Ok t c =
     c.args.state c.in-Ok.ensures.items c.in-Ok.ensures.len in
     subst (λ (ps : List Placed). OnOk c.place_below.result (map placed_of c.place_below.new.places.items ≡ ps)) same
     c.place_below.ensures
+
+-- the states below one more child state are placed
+pub place_below-loop-state-preserved : goal.place_below-loop-state-preserved
+place_below-loop-state-preserved t c =
+    let olds = c.loop-state.places in
+    let news = c.place_state.new.places in
+    row-next c.args.parent olds.items news.items olds.len news.len c.args.states.now c.loop-state.state-index
+    c.state-item.result _ c.loop-state-test.true c.state-item.is (omega (arith, olds.ok.0)) (omega (arith, news.ok.0))
+    c.in_ok-place_state.ensures c.loop-state.invariant

@@ -60,7 +60,7 @@ pub(crate) fn never_clears(code: &RawCode) -> bool
 }
 
 /// Where a walk through a procedure goes on.
-#[derive(Clone, Copy, Debug)]
+#[derive(Clone, Copy)]
 struct Walk {
     /// How many instructions it passes over.
     over: u32,

@@ -9,7 +9,7 @@ use flow_base::Memory;
 use std::alloc::Global;
 
 /// What a copy takes for known of the event, among those that its procedure tests.
-#[derive(Clone, Copy, Debug, PartialEq, Eq, Hash)]
+#[derive(Clone, Copy, PartialEq, Eq, Hash)]
 pub(crate) enum EventClass {
     /// Nothing.
     Unknown,
@@ -20,7 +20,7 @@ pub(crate) enum EventClass {
 }
 
 /// A copy that is wanted.
-#[derive(Clone, Copy, Debug, PartialEq, Eq, Hash)]
+#[derive(Clone, Copy, PartialEq, Eq, Hash)]
 pub(crate) struct Wanted {
     /// The procedure.
     pub proc: u32,
@@ -60,7 +60,7 @@ impl Wanted {
 }
 
 /// What procedures look at where they begin.
-#[derive(Debug, Drop)]
+#[derive(Drop)]
 pub(crate) struct Looks {
     /// For each procedure whether it looks at its home.
     homes: Vec<bool>,
@@ -84,6 +84,12 @@ impl Looks {
             homes: home_lookers(alloc, code.procs.items())?,
             sets: EventSets::none(alloc),
         })
+    }
+
+    /// The sets of events.
+    pub(crate) fn into_sets(self) -> Vec<Vec<u32>> {
+        let sets = self.sets;
+        sets.all
     }
 
     /// What a copy of the procedure takes for known of the event, by what is known of it.

@@ -3,7 +3,7 @@ use crate::root_code::{never_clears, starts_root};
 use code_language::{Instr, RawCode};
 
 /// What is known of the root of the code, where it sends events.
-#[derive(Clone, Copy, Debug)]
+#[derive(Clone, Copy)]
 pub(crate) struct Roots {
     /// Whether the root stays active once it is.
     pub keeps_root: bool,

@@ -7,7 +7,7 @@ use flow_base::Memory;
 use std::alloc::Global;
 
 /// Sets of events, by number.
-#[derive(Debug, Drop)]
+#[derive(Drop)]
 pub(crate) struct EventSets {
     /// The sets: the empty one, for each procedure the events that it tests, and then those that
     /// grow by one asked event each.

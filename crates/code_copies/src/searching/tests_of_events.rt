@@ -14,7 +14,7 @@ pub(crate) fn set_number(proc: u32) -> u32 {
 }
 
 /// Who uses what.
-#[derive(Debug, Drop)]
+#[derive(Drop)]
 struct Users {
     /// For each procedure those that call or visit it.
     callers: Vec<Vec<u32>>,
@@ -79,7 +79,7 @@ fn users_of(alloc: Global, procs: &[List<Instr>], events: usize) -> Result<Users
 }
 
 /// The tests that are found so far, event by event.
-#[derive(Debug, Drop)]
+#[derive(Drop)]
 struct Tests {
     /// The sets of events, as `set_number` numbers them.
     sets: Vec<Vec<u32>>,

@@ -13,6 +13,7 @@ use crate::known::{EventFact, Facts};
 use crate::plan::Plan;
 use crate::searching::copying::Search;
 use crate::searching::looks::Looks;
+use crate::searching::ordering::{RankedCopies, ranked};
 use crate::searching::roots::Roots;
 use actions::Event;
 use code_language::{Code, PROC_LIMIT, RawCode};
@@ -61,19 +62,59 @@ pub fn copies_allowed(procs: usize) -> usize {
     allowed.min(PROC_LIMIT)
 }
 
+/// The numbers of the copies of the start and of a reaction, once all copies are made that these
+/// want. None where there would be too many.
+fn made_from(
+    alloc: Global,
+    code: &RawCode,
+    is_rooted: bool,
+    search: &mut Search<'_>,
+) -> Result<Option<(u32, u32)>, Memory> {
+    let procs = code.procs.items();
+    let start = search.copy_for(code.start, AT_START)?;
+    let react = search.copy_for(code.react, at_reaction(is_rooted))?;
+    search.make_all(alloc, procs, copies_allowed(procs.len()))?;
+    if search.is_done() {
+        Ok(Some((start, react)))
+    } else {
+        Ok(None)
+    }
+}
+
+/// The copies that are wanted where procedures look at these things. None where there would be too
+/// many.
+fn copies_for(
+    alloc: Global,
+    code: &RawCode,
+    looks: &Looks,
+    roots: Roots,
+) -> Result<Option<RankedCopies>, Memory> {
+    let mut search = Search::new(alloc, looks, roots, code.react, PLACE_LIMIT);
+    let firsts = made_from(alloc, code, roots.is_rooted, &mut search);
+    let found = search.into_copies();
+    match firsts? {
+        Some((start, react)) => Ok(Some(ranked(alloc, found, start, react)?)),
+        None => Ok(None),
+    }
+}
+
 /// The plan of the copies that are wanted where procedures look at these things. None where there
 /// would be too many.
 fn plan_for(alloc: Global, code: &RawCode, looks: Looks) -> Result<Option<Plan>, Memory> {
-    let procs = code.procs.items();
     let roots = Roots::of(code);
-    let mut search = Search::new(alloc, looks, roots, code.react, PLACE_LIMIT);
-    let start = search.copy_for(code.start, AT_START)?;
-    let react = search.copy_for(code.react, at_reaction(roots.is_rooted))?;
-    search.make_all(alloc, procs, copies_allowed(procs.len()))?;
-    if !search.is_done() {
-        return Ok(None);
+    let found = copies_for(alloc, code, &looks, roots);
+    let sets = looks.into_sets();
+    match found? {
+        Some(found) => Ok(Some(Plan {
+            sets,
+            copies: found.copies,
+            start: found.start,
+            react: found.react,
+            keeps_root: roots.keeps_root,
+            is_rooted: roots.is_rooted,
+        })),
+        None => Ok(None),
     }
-    Ok(Some(search.into_plan(alloc, start, react)?))
 }
 
 /// A plan of copies by home and by event: a procedure has a copy for each home with which it is

@@ -1,8 +1,11 @@
 -- Lists from a place on, and tests of what is mapped.
-use Rattle.std.proofs.Common.{◌≡◌, ℕ, zero, suc, ◌+◌, ◌-◌, ◌<◌, ◌≤◌, ◌||◌, ◌&&◌, Bool, true, false, List, [], ◌∷◌}
+use Rattle.std.proofs.Common.{◌≡◌, ℕ, zero, suc, ◌+◌, ◌-◌, ◌<◌, ◌≤◌, ◌||◌, ◌&&◌, Bool, true, false, List, [], ◌∷◌, ◌++◌}
 use Rattle.std.proofs.Common.{length, map, take, drop, get_or, refl, sym, ap, ◌∙◌, arith, drop-cons}
 use Rattle.std.specs.List.{list_all}
-use Rattle.std.proofs.lemmas.List.{length-drop, take_all}
+use Rattle.std.specs.Option.{option_map_or}
+use Rattle.std.specs.Prelude.{slice_get}
+use Rattle.std.proofs.lemmas.List.{length-drop, map_more, take_all}
+use Rattle.std.proofs.lemmas.Option.{slice_get_read, slice_get_past}
 
 -- the list from a place on begins with what stands there
 pub drop_at : {X : Type 0} (xs : List X) (i : ℕ) (x : X) → i < length xs → x ≡ get_or xs i x
@@ -40,3 +43,23 @@ list_all-map p f (x ∷ xs) = ap (λ b. p (f x) && b) (list_all-map p f xs)
 pub or_false : (a b : Bool) → (a || b) ≡ false → (a ≡ false) × (b ≡ false)
 or_false true b h = absurd (cc h)
 or_false false b h = (refl, h)
+
+-- one more item of a list that is mapped, which was appended
+pub map_pushed : {X Y : Type 0} (f : X → Y) (xs : List X) (i : ℕ) (x : X) (ys more : List Y) (y : Y) → i < length xs
+    → x ≡ get_or xs i x → ys ≡ map f (take i xs) → y ≡ f x → more ≡ ys ++ y ∷ [] → more ≡ map f (take (i + 1) xs)
+map_pushed f xs i x ys more y lt at so_far is pushed =
+    pushed ∙ ap (λ l. l ++ y ∷ []) so_far ∙ ap (λ z. map f (take i xs) ++ z ∷ []) (is ∙ ap f at)
+    ∙ sym (map_more f xs i x lt)
+
+-- a test of what stands at a place, as the list gives it there
+pub test_there : {X : Type 0} (test : X → Bool) (xs items : List X) (i : ℕ) (x : X) (b : Bool) → items ≡ xs
+    → i < length items → x ≡ get_or items i x → b ≡ test x → b ≡ option_map_or test (slice_get xs i) false
+test_there test xs items i x b e lt at is =
+    is ∙ ap (λ o. option_map_or test o false)
+    (sym (slice_get_read items (length items) i x refl lt at) ∙ ap (λ l. slice_get l i) e)
+
+-- past the end of the list it fails
+pub test_past : {X : Type 0} (test : X → Bool) (xs items : List X) (i : ℕ) → items ≡ xs → length items ≤ i
+    → false ≡ option_map_or test (slice_get xs i) false
+test_past test xs items i e past =
+    ap (λ o. option_map_or test o false) (sym (slice_get_past items i past) ∙ ap (λ l. slice_get l i) e)

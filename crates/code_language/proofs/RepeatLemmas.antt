@@ -1,9 +1,8 @@
 -- Names differ from one another exactly where each is new after those that were seen before it.
 use Rattle.std.proofs.Common.{◌≡◌, ℕ, ◌||◌, ◌&&◌, not, Bool, true, false, cond, List, [], ◌∷◌, ◌++◌, map, Option, Some}
-use Rattle.std.proofs.Common.{None, Bor, is_some, nat_eq, refl, sym, ap, ◌∙◌}
+use Rattle.std.proofs.Common.{None, Bor, is_some, refl, sym, ap, ◌∙◌}
 use Rattle.std.specs.Prelude.{bytes_eq, if◌then◌else◌}
 use Rattle.std.specs.List.{list_any}
-use Rattle.std.specs.Option.{option_eq}
 use Rattle.std.proofs.lemmas.List.{map-append}
 use Rattle.std.proofs.lemmas.List.Folds.{list_any-append}
 use Rattle.flow_base.specs.Names.{index_of, after, are_distinct}

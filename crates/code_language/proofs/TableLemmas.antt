@@ -1,20 +1,22 @@
 -- What is tested of the tables, as lists of the code have it.
-use Rattle.std.proofs.Common.{◌≡◌, ◌≢◌, ℕ, suc, ◌+◌, ◌<◌, ◌≤◌, ◌&&◌, not, Bool, true, false, cond, ℤ, List, []}
+use Rattle.std.proofs.Common.{◌≡◌, ◌≢◌, ℕ, suc, ◌+◌, ◌<◌, ◌≤◌, ◌&&◌, Bool, true, false, cond, ℤ, List, []}
 use Rattle.std.proofs.Common.{◌∷◌, length, map, drop, get_or, Option, Some, None, is_some, refl, sym, ap, ◌∙◌, subst}
 use Rattle.std.proofs.Common.{arith}
 use Rattle.std.specs.Prelude.{IsSomeAnd, is_none, slice_index_or, unwrap_or, Result, Ok, Err, IfOk, OnOk}
 use Rattle.std.specs.List.{list_all}
 use Rattle.std.proofs.lemmas.Bool.{and_parts}
-use Rattle.std.proofs.lemmas.List.{length-map}
+use Rattle.std.proofs.lemmas.List.{get_or-map, get_or_past, length-map}
 use Rattle.fixed_point.proofs.Floors.{is_whole-raised}
 use Rattle.fixed_point.specs.Numbers.{is_whole}
 use Rattle.fixed_point.specs.Scales.{is_in_range, exact_mantissa}
 use Rattle.fixed_point.specs.declared.num.Num.{Num}
 use Rattle.fixed_point.specs.declared.scale.Scale.{Scale}
 use Rattle.active_config.specs.declared.comp.Comp.{Comp}
-use Rattle.active_config.specs.Tree.{Tree, IsTree, tree_of, parents_of, parent_of, state_count, ancestors}
+use Rattle.active_config.specs.declared.comp.Comp.TheVariants.{Leaf}
+use Rattle.active_config.specs.Tree.{Tree, IsTree, tree_of, parents_of, parent_of, comp_of, state_count, ancestors}
 use Rattle.active_config.proofs.PathLemmas.{parent_lt, ancestors-step, ancestors-root}
 use Rattle.actions.proofs.SizeLemmas.{floored_at_own}
+use Rattle.checked_chart.specs.Chart.{is_or}
 use Rattle.code_language.specs.declared.code.RawState.{RawState}
 use Rattle.code_language.specs.Acceptance.{has_parents, parent_or_0, comp_written}
 use Rattle.code_language.specs.Code.{tree_of_states}
@@ -156,3 +158,21 @@ pub shape_err : (states : List RawState) (parents : List ℕ) (comps : List Comp
     → has_parents states ≡ true → parents ≡ map parent_or_0 states → comps ≡ map comp_written states
     → ¬ IsTree (tree_of parents comps) → ¬ IsTree (tree_of_states states)
 shape_err states parents comps h p c none tree = none (subst IsTree (sym (tree_by states parents comps h p c)) tree)
+
+-- how the state at a place is composed, as the tree says
+pub comp_there : (states items : List RawState) (i : ℕ) (s : RawState) → items ≡ states → i < length items
+    → s ≡ get_or items i s → s.comp ≡ comp_of (tree_of_states states) i
+unfolding comp_of
+comp_there states items i s e lt at =
+    ap (λ (x : RawState). x.comp) at ∙ sym (get_or-map (λ (x : RawState). x.comp) items i s Leaf lt)
+    ∙ ap (λ l. get_or (map (λ (x : RawState). x.comp) l) i Leaf) e
+
+-- a number that is no state is no OR
+pub comp_past : (states items : List RawState) (i : ℕ) → items ≡ states → length items ≤ i
+    → false ≡ is_or (comp_of (tree_of_states states) i)
+unfolding comp_of
+comp_past states items i e past =
+    let comps = map (λ (x : RawState). x.comp) items in
+    let beyond : length comps ≤ i = omega (arith, length-map items (λ (x : RawState). x.comp)) in
+    sym (ap is_or (get_or_past comps i Leaf beyond))
+    ∙ ap (λ l. is_or (get_or (map (λ (x : RawState). x.comp) l) i Leaf)) e

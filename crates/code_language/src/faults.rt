@@ -124,13 +124,23 @@ fn parent_of(raw: &RawCode, state: u32) -> Option<u32>
     raw.states.items().get(state as usize)?.parent
 }
 
+/// Whether states that are composed so are ORs.
+fn is_or_comp(comp: Comp) -> bool
+    ensures { result ≡ is_or comp }
+{
+    match comp {
+        Comp::Or => true,
+        Comp::Leaf | Comp::And => false,
+    }
+}
+
 /// Whether a state is an OR.
 #[tactic(auto, unfolding(active_config::specs::Tree::comp_of))]
 fn is_or(raw: &RawCode, state: u32) -> bool
     ensures { result ≡ is_or (comp_of (code_of raw.now).tree state) }
 {
     match raw.states.items().get(state as usize) {
-        Some(state) => matches!(state.comp, Comp::Or),
+        Some(state) => is_or_comp(state.comp),
         None => false,
     }
 }

@@ -27,18 +27,50 @@ fn is_first<'a>(
     }
 }
 
+/// Whether no name stands twice among data and events, each of which is marked up to the first name
+/// that does; no name is marked before.
+fn are_both_first<'a>(
+    seen: &mut IndexSet<(Option<u32>, &'a str)>,
+    vars: &'a [Var],
+    events: &'a [EventDecl],
+) -> Result<bool, Memory>
+    requires { seen.old.keys ≡ [] }
+    ensures { IfOk result (λ fits. fits ≡ are_distinct (spec.names_of_both vars.now events.now)) }
+{
+    for var in vars {
+        if !is_first(seen, None, &var.name)? {
+            return Ok(false);
+        }
+    }
+    for event in events {
+        if !is_first(seen, None, &event.name)? {
+            return Ok(false);
+        }
+    }
+    Ok(true)
+}
+
 /// Whether no name stands twice among data and events.
 pub fn are_names_distinct(alloc: Global, vars: &[Var], events: &[EventDecl]) -> Result<bool, Memory>
     ensures { IfOk result (λ fits. fits ≡ are_distinct (spec.names_of_both vars.now events.now)) }
 {
     let mut seen = IndexSet::new(alloc);
-    for var in vars {
-        if !is_first(&mut seen, None, &var.name)? {
-            return Ok(false);
-        }
-    }
-    for event in events {
-        if !is_first(&mut seen, None, &event.name)? {
+    let fits = are_both_first(&mut seen, vars, events);
+    drop(seen);
+    fits
+}
+
+/// Whether no two states have the same parent and the same name; each name is marked up to the first
+/// that stands twice, and none is marked before.
+fn are_states_first<'a>(
+    seen: &mut IndexSet<(Option<u32>, &'a str)>,
+    states: &'a [RawState],
+) -> Result<bool, Memory>
+    requires { seen.old.keys ≡ [] }
+    ensures { IfOk result (λ fits. fits ≡ spec.has_no_twins states.now) }
+{
+    for state in states {
+        if !is_first(seen, state.parent, &state.name)? {
             return Ok(false);
         }
     }
@@ -50,10 +82,7 @@ pub fn has_no_twins(alloc: Global, states: &[RawState]) -> Result<bool, Memory>
     ensures { IfOk result (λ fits. fits ≡ spec.has_no_twins states.now) }
 {
     let mut seen = IndexSet::new(alloc);
-    for state in states {
-        if !is_first(&mut seen, state.parent, &state.name)? {
-            return Ok(false);
-        }
-    }
-    Ok(true)
+    let fits = are_states_first(&mut seen, states);
+    drop(seen);
+    fits
 }

@@ -10,7 +10,7 @@ ghost use Rattle.code_language.specs.WellFormed as spec;
 use crate::code::RawCode;
 use crate::instr::{Cond, Instr};
 use actions::{
-    EventKind, Expr, ExprFault, ExprSort, Sort, VarKind, assignment_fault, binary_sort,
+    EventKind, Expr, ExprFault, ExprSort, Sort, Var, VarKind, assignment_fault, binary_sort,
     literal_sort, negative_sort, not_sort,
 };
 use fixed_point::{Num, PLACES_LIMIT, READ_LIMIT};
@@ -120,6 +120,13 @@ fn sort_of(raw: &RawCode, expr: &Expr) -> Result<ExprSort, ExprFault>
     }
 }
 
+/// Whether a datum can be given a value of that sort: it is no input, and its sort is such.
+fn accepts(var: &Var, given: ExprSort) -> bool
+    ensures { result ≡ spec.takes var.now (Ok given) }
+{
+    is_assigned(var.kind) && assignment_fault(var.sort, given).is_none()
+}
+
 /// Whether a datum can be given what the expression gives: it is no input, and of that sort.
 fn takes(raw: &RawCode, datum: u32, expr: &Expr) -> bool
     ensures { let k = code_of raw.now in result ≡ option_map_or
@@ -130,7 +137,7 @@ fn takes(raw: &RawCode, datum: u32, expr: &Expr) -> bool
         return false;
     };
     match sort_of(raw, expr) {
-        Ok(given) => is_assigned(var.kind) && assignment_fault(var.sort, given).is_none(),
+        Ok(given) => accepts(var, given),
         Err(_) => false,
     }
 }
@@ -156,13 +163,33 @@ fn is_flag(raw: &RawCode, expr: &Expr) -> bool
     }
 }
 
+/// Whether events of that kind are output events.
+fn is_output_kind(kind: EventKind) -> bool
+    ensures { result ≡ spec.is_output kind }
+{
+    match kind {
+        EventKind::Output => true,
+        EventKind::Input | EventKind::Local => false,
+    }
+}
+
 /// Whether the event of that number is an output event.
 fn is_output(raw: &RawCode, event: u32) -> bool
     ensures { result ≡ spec.event_is (spec.known_of (code_of raw.now)) spec.is_output event }
 {
     match raw.events.items().get(event as usize) {
-        Some(decl) => matches!(decl.kind, EventKind::Output),
+        Some(decl) => is_output_kind(decl.kind),
         None => false,
+    }
+}
+
+/// Whether events of that kind are local events.
+fn is_local_kind(kind: EventKind) -> bool
+    ensures { result ≡ spec.is_local kind }
+{
+    match kind {
+        EventKind::Local => true,
+        EventKind::Input | EventKind::Output => false,
     }
 }
 
@@ -171,8 +198,18 @@ fn is_local(raw: &RawCode, event: u32) -> bool
     ensures { result ≡ spec.event_is (spec.known_of (code_of raw.now)) spec.is_local event }
 {
     match raw.events.items().get(event as usize) {
-        Some(decl) => matches!(decl.kind, EventKind::Local),
+        Some(decl) => is_local_kind(decl.kind),
         None => false,
+    }
+}
+
+/// Whether events of that kind can be current.
+fn is_trigger_kind(kind: EventKind) -> bool
+    ensures { result ≡ spec.is_trigger kind }
+{
+    match kind {
+        EventKind::Input | EventKind::Local => true,
+        EventKind::Output => false,
     }
 }
 
@@ -181,7 +218,7 @@ fn is_trigger(raw: &RawCode, event: u32) -> bool
     ensures { result ≡ spec.event_is (spec.known_of (code_of raw.now)) spec.is_trigger event }
 {
     match raw.events.items().get(event as usize) {
-        Some(decl) => matches!(decl.kind, EventKind::Input | EventKind::Local),
+        Some(decl) => is_trigger_kind(decl.kind),
         None => false,
     }
 }

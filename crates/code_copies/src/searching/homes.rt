@@ -140,6 +140,39 @@ fn first_home_places(alloc: Global, instrs: &[Instr]) -> Result<Vec<bool>, Memor
     Ok(flags)
 }
 
+/// Finds a procedure if an instruction of it that is reached with the home with which it begins
+/// looks at it, and marks it as a caller of what such an instruction calls with that home.
+fn look_at(
+    proc: u32,
+    instr: &Instr,
+    found: &mut FoundProcedures,
+    callers: &mut [Vec<u32>],
+) -> Result<(), Memory> {
+    if looks_at_home(instr) {
+        found.find(proc)?;
+    }
+    match callee_of(instr) {
+        Some(callee) => append_to(callers, callee, proc),
+        None => Ok(()),
+    }
+}
+
+/// The same for all instructions of the procedure; the flags mark those that are reached so.
+fn look_at_all(
+    proc: u32,
+    instrs: &[Instr],
+    flags: &[bool],
+    found: &mut FoundProcedures,
+    callers: &mut [Vec<u32>],
+) -> Result<(), Memory> {
+    for (place, instr) in instrs.iter().enumerate() {
+        if flags.get(place).copied() == Some(true) {
+            look_at(proc, instr, found, callers)?;
+        }
+    }
+    Ok(())
+}
+
 /// Finds a procedure if an instruction of it looks at the home with which it begins, and marks it
 /// as a caller of those that it calls with that home.
 fn look_through(
@@ -150,15 +183,26 @@ fn look_through(
     callers: &mut [Vec<u32>],
 ) -> Result<(), Memory> {
     let flags = first_home_places(alloc, instrs)?;
-    for (instr, is_first) in instrs.iter().zip(flags.iter()) {
-        if *is_first {
-            if looks_at_home(instr) {
-                found.find(proc)?;
-            }
-            if let Some(callee) = callee_of(instr) {
-                append_to(callers, callee, proc)?;
-            }
-        }
+    look_at_all(proc, instrs, &flags, found, callers)
+}
+
+/// Finds the procedures that look at the home with which they begin, and those that call or visit
+/// them with that home.
+fn find_lookers(
+    alloc: Global,
+    procs: &[List<Instr>],
+    found: &mut FoundProcedures,
+    callers: &mut [Vec<u32>],
+) -> Result<(), Memory> {
+    for (proc, instrs) in procs.iter().enumerate() {
+        look_through(alloc, number_of(proc), instrs.items(), found, callers)?;
+    }
+    // A procedure is found at most once.
+    for _ in 0..procs.len() {
+        let Some(proc) = found.todo.pop() else {
+            break;
+        };
+        found.find_all(list_at(callers, proc))?;
     }
     Ok(())
 }
@@ -174,21 +218,6 @@ pub(crate) fn home_lookers(alloc: Global, procs: &[List<Instr>]) -> Result<Vec<b
         todo: Vec::new(alloc),
     };
     let mut callers = empty_lists(alloc, procs.len())?;
-    for (proc, instrs) in procs.iter().enumerate() {
-        look_through(
-            alloc,
-            number_of(proc),
-            instrs.items(),
-            &mut found,
-            &mut callers,
-        )?;
-    }
-    // A procedure is found at most once.
-    for _ in 0..procs.len() {
-        let Some(proc) = found.todo.pop() else {
-            break;
-        };
-        found.find_all(list_at(&callers, proc))?;
-    }
+    find_lookers(alloc, procs, &mut found, &mut callers)?;
     Ok(found.flags)
 }

@@ -86,6 +86,12 @@ impl Looks {
         })
     }
 
+    /// The sets of events.
+    pub(crate) fn into_sets(self) -> Vec<Vec<u32>> {
+        let sets = self.sets;
+        sets.all
+    }
+
     /// What a copy of the procedure takes for known of the event, by what is known of it.
     fn class(&self, proc: u32, fact: EventFact) -> EventClass {
         let tested = self.sets.tested(proc);

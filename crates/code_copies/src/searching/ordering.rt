@@ -51,7 +51,7 @@ fn rename(places: &mut [Option<Place>], ranks: &[u32]) {
 }
 
 /// The copies alone, with the numbers that they have.
-pub(crate) fn renamed(
+fn renamed(
     alloc: Global,
     found: Vec<FoundCopy<ProcedureCopy>>,
     ranks: &[u32],
@@ -68,9 +68,37 @@ pub(crate) fn renamed(
 }
 
 /// Puts the copies in the order of their procedures, those of one procedure as they are.
-pub(crate) fn sort(copies: &mut Vec<FoundCopy<ProcedureCopy>>) -> Result<(), Memory> {
+fn sort(copies: &mut Vec<FoundCopy<ProcedureCopy>>) -> Result<(), Memory> {
     match copies.sort_by_key(|found| found.copy.key.proc) {
         Ok(()) => Ok(()),
         Err(_) => Err(Memory),
     }
+}
+
+/// Copies in the order of their procedures, with those of the start and of a reaction.
+#[derive(Drop)]
+pub(crate) struct RankedCopies {
+    /// The copies.
+    pub copies: Vec<ProcedureCopy>,
+    /// The number of the one of the start.
+    pub start: u32,
+    /// The number of the one of a reaction.
+    pub react: u32,
+}
+
+/// The copies in the order of their procedures, with the numbers that they have then; `start` and
+/// `react` are those that the copies of the start and of a reaction had.
+pub(crate) fn ranked(
+    alloc: Global,
+    mut found: Vec<FoundCopy<ProcedureCopy>>,
+    start: u32,
+    react: u32,
+) -> Result<RankedCopies, Memory> {
+    sort(&mut found)?;
+    let ranks = ranks_of(alloc, &found)?;
+    Ok(RankedCopies {
+        copies: renamed(alloc, found, &ranks)?,
+        start: rank_at(&ranks, start),
+        react: rank_at(&ranks, react),
+    })
 }

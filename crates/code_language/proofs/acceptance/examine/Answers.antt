@@ -1,4 +1,4 @@
-use Rattle.std.proofs.Common.{◌≡◌, ◌∙◌, refl, sym, subst}
+use Rattle.std.proofs.Common.{◌∙◌, refl, sym, subst}
 use Rattle.code_language.specs.Code.{code_of}
 use Rattle.code_language.specs.Kept.{KeepsMeasures}
 use Rattle.code_language.specs.WellFormed.{TooMany, BadTable}

@@ -1,4 +1,4 @@
-use Rattle.std.proofs.Common.{◌∙◌, sym, ap}
+use Rattle.std.proofs.Common.{◌∙◌, sym}
 use Rattle.code_language.proofs.RepeatLemmas.{first_is, seen_next}
 use Rattle.code_language.proofs.repeats.is_first.Goals as goal
 

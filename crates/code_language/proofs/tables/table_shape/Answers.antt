@@ -1,7 +1,4 @@
-use Rattle.std.proofs.Common.{◌≡◌, ◌∙◌, true, false, sym, subst}
-use Rattle.flow_base.specs.Lists.{items_of}
-use Rattle.flow_base.specs.Names.{are_distinct}
-use Rattle.code_language.specs.Acceptance.{names_of_both}
+use Rattle.std.proofs.Common.{◌∙◌, sym}
 use Rattle.code_language.proofs.WholeTable.{no_table, no_distinct, table_result}
 use Rattle.code_language.proofs.tables.table_shape.Goals as goal
 use Rattle.code_language.proofs.tables.table_shape.Goals.{then-not-is_declared-via-then-not-is_declared}

@@ -1,10 +1,10 @@
-use Rattle.std.proofs.Common.{◌≡◌, ◌+◌, List, [], None, map, drop, sym, ap, ◌∙◌}
+use Rattle.std.proofs.Common.{◌+◌, List, [], None, map, drop, sym, ap, ◌∙◌}
 use Rattle.actions.specs.declared.names.EventDecl.{EventDecl}
 use Rattle.actions.specs.declared.names.Var.{Var}
 use Rattle.code_language.specs.Acceptance.{Named, named, named_of, names_of_both}
 use Rattle.code_language.proofs.ListLemmas.{drop_at, drop_past}
 use Rattle.code_language.proofs.RepeatLemmas.{all_new, free_new-first, name_again, name_first}
-use Rattle.code_language.proofs.repeats.are_names_distinct.Goals as goal
+use Rattle.code_language.proofs.repeats.are_both_first.Goals as goal
 
 -- the names of data and events, which stand in no state
 abbrev left : List Var → List EventDecl → List Named
@@ -12,7 +12,7 @@ left vars events = map (named None) (names_of_both vars events)
 
 pub loop-var-init : goal.loop-var-init
 loop-var-init c =
-    ap (λ keys. all_new (map named_of keys) (left c.args.vars.now c.args.events.now)) c.new-seen.ensures.empty
+    ap (λ keys. all_new (map named_of keys) (left c.args.vars.now c.args.events.now)) c.requires
     ∙ free_new-first (names_of_both c.args.vars.now c.args.events.now)
 
 pub returns-then-not-branch : goal.returns-then-not-branch

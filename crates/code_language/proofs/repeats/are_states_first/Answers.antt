@@ -1,12 +1,12 @@
-use Rattle.std.proofs.Common.{◌≡◌, ◌+◌, map, drop, sym, ap, ◌∙◌}
+use Rattle.std.proofs.Common.{◌+◌, map, drop, sym, ap, ◌∙◌}
 use Rattle.code_language.specs.Acceptance.{named_of, state_named}
 use Rattle.code_language.proofs.ListLemmas.{drop_at, drop_past}
 use Rattle.code_language.proofs.RepeatLemmas.{all_new, all_new-first, name_again, name_first}
-use Rattle.code_language.proofs.repeats.has_no_twins.Goals as goal
+use Rattle.code_language.proofs.repeats.are_states_first.Goals as goal
 
 pub loop-state-init : goal.loop-state-init
 loop-state-init c =
-    ap (λ keys. all_new (map named_of keys) (map state_named c.args.states.now)) c.new-seen.ensures.empty
+    ap (λ keys. all_new (map named_of keys) (map state_named c.args.states.now)) c.requires
     ∙ all_new-first (map state_named c.args.states.now)
 
 pub returns-then-not-branch : goal.returns-then-not-branch

@@ -2,7 +2,7 @@ use Rattle.std.proofs.Common.{◌≡◌, [], None, map, drop}
 use Rattle.flow_base.specs.Names.{are_distinct}
 use Rattle.code_language.specs.Acceptance.{named, named_of, names_of_both}
 use Rattle.code_language.proofs.RepeatLemmas.{all_new}
-use Rattle.code_language.proofs.repeats.are_names_distinct.Given as goal
+use Rattle.code_language.proofs.repeats.are_both_first.Given as goal
 
 -- the names that are left, of data and then of events, are new exactly where all names differ
 abbrev pub invariant-loop-var : goal.invariant-loop-var

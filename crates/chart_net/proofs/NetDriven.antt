@@ -8,7 +8,7 @@ use Rattle.std.specs.Str.{bytes_eq}
 use Rattle.actions.specs.Runs.{EventWithInputs}
 use Rattle.std.proofs.lemmas.List.{take-append-drop}
 use Rattle.std.proofs.lemmas.List.FromFn.{take-map-range_with_len, map-range_with_len_more}
-use Rattle.flow_base.specs.Causes.{Rose, AllStay}
+use Rattle.flow_base.specs.Causes.{Rose, AllStay, NoneFalls}
 use Rattle.flow_base.specs.declared.fault.Fault.{Fault}
 use Rattle.event_file.specs.EventLines.{event_of_tokens, tokens_of}
 use Rattle.event_file.specs.NextLine.{Nexts}
@@ -16,7 +16,7 @@ use Rattle.event_file.specs.Reading.{Reading, unused}
 use Rattle.event_file.specs.declared.fault.LineFault.{LineFault}
 use Rattle.event_file.specs.declared.fault.LineFault.TheVariants as faults
 use Rattle.event_file.specs.declared.limits.TheConstants.{FILE_EVENT_LIMIT}
-use Rattle.step_driver.specs.Causes.{ReadCause}
+use Rattle.step_driver.specs.Causes.{ReadCause, WriteCause}
 use Rattle.step_driver.specs.Driving.{Seen, Wrote}
 use Rattle.step_driver.specs.Ending.{given_text}
 use Rattle.step_driver.specs.NextLines.{failed_to_read, failed_to_write}
@@ -163,6 +163,25 @@ read_cause name before between after end stay c = record {
 pub no_read : (name : List ℕ) (before after : List ℕ → ℕ) (fault : Bool) → fault ≡ false → AllStay before after
     → ReadCause fault name before after
 no_read name before after fault never stay = record { fault = λ is. absurd (cc); others = λ _. stay }
+
+-- where an answer is no write fault, the count is as it was
+pub no_write : (before after : ℕ) (fault : Bool) → fault ≡ false → after ≡ before → WriteCause fault before after
+no_write before after fault never same = record { fault = λ is. absurd (cc); others = λ _. same }
+
+-- a count that stays doesn't fall
+pub none_falls : (counts : List ℕ → ℕ) → NoneFalls counts counts
+none_falls counts = λ other. omega arith
+
+-- a count that was kept so far doesn't fall
+pub falls_after : (before between after : ℕ) → between ≡ before → between ≤ after → before ≤ after
+falls_after before between after stay later = subst (λ (m : ℕ). m ≤ after) stay later
+
+-- a run whose end is that of a line wants memory only where the line does
+pub same_memory : (end : NetEnd) (line : Result ℕ NetEnd) → line ≡ Err end → (result : Result (Unit {0}) NetEnd)
+    → result ≡ Err end → result ≡ Err ends.Memory → line ≡ Err ends.Memory
+same_memory end line of_line result of_end is =
+    let same : end ≡ ends.Memory = cc in
+    of_line ∙ ap (λ (e : NetEnd). Err e) same
 
 -- it isn't that memory ran out
 pub never_memory : (end : NoLine) (result : Result (Unit {0}) NetEnd) → result ≡ Err (end_of_line end)

@@ -1,4 +1,4 @@
-use Rattle.std.proofs.Common.{◌≡◌, ◌<◌, length, refl, sym, ap, ◌∙◌, arith}
+use Rattle.std.proofs.Common.{◌≡◌, ◌<◌, false, length, refl, sym, ap, ◌∙◌, arith}
 use Rattle.std.proofs.lemmas.Result.{err_from_is_err_and}
 use Rattle.trace_text.specs.Pieces.{Held}
 use Rattle.trace_text.proofs.PieceLemmas.{nothing_put}
@@ -6,8 +6,8 @@ use Rattle.step_driver.proofs.Buffered.{between, end_stops, next_failed}
 use Rattle.chart_net.specs.NetDriving.{NetDrives, net_runs}
 use Rattle.chart_net.specs.NetParts.{charts_of, net_shown, routes_of}
 use Rattle.chart_net.proofs.DriverLemmas.{all_started, names_count, none_started, shown_same, stands_before}
-use Rattle.chart_net.proofs.NetDriven.{driver_laws, never_memory, no_read, read_cause, starting_all, starting_first}
-use Rattle.chart_net.proofs.NetDriven.{writes_same}
+use Rattle.chart_net.proofs.NetDriven.{driver_laws, falls_after, never_memory, no_read, none_falls, read_cause}
+use Rattle.chart_net.proofs.NetDriven.{same_memory, starting_all, starting_first, writes_same}
 use Rattle.chart_net.proofs.NetMoves.{line_over, line_put, next_over, start_more, start_over, starts_put}
 use Rattle.chart_net.proofs.OneRun.{gives_one}
 use Rattle.chart_net.proofs.driver.run_lines.Goals as goal
@@ -29,6 +29,28 @@ loop-c-init g c =
       usable = ap (λ (h : Held). h.failed) c.requires.empty;
     }
 
+-- what a start needs
+pub start_chart-requires-clause-sound : goal.start_chart-requires-clause-sound
+start_chart-requires-clause-sound g c = c.loop-c.invariant.sound
+
+pub start_chart-requires-clause-there : goal.start_chart-requires-clause-there
+start_chart-requires-clause-there g c =
+    let x = g.G.Engine in
+    let first = c.args.net.now in
+    let inv = c.loop-c.invariant in
+    omega (
+      arith,
+      names_count x first,
+      names_count x c.loop-c.net,
+      ap (λ n. length n.names) (shown_same x first c.loop-c.net inv.charts inv.routes),
+    )
+
+pub start_chart-requires-clause-stages : goal.start_chart-requires-clause-stages
+start_chart-requires-clause-stages g c = c.loop-c.invariant.stages
+
+pub start_chart-requires-clause-usable : goal.start_chart-requires-clause-usable
+start_chart-requires-clause-usable g c = c.loop-c.invariant.usable
+
 -- the run ends at a start
 pub returns-in_err-start_chart-clause-ends : goal.returns-in_err-start_chart-clause-ends
 returns-in_err-start_chart-clause-ends g c =
@@ -43,6 +65,38 @@ returns-in_err-start_chart-clause-ends g c =
     let few : c.loop-c.c < length net.names = omega (arith, names_count x first) in
     rw (p.1, p.2) (start_over net (net_shown x c.loop-c.net) _ _ _ _ _ _ _ _ _ _ _ _ c.loop-c.c _ same one
     c.requires.empty e.failed e.reads few inv.starting e.done)
+
+pub returns-in_err-start_chart-clause-failed : goal.returns-in_err-start_chart-clause-failed
+returns-in_err-start_chart-clause-failed g c =
+    let p = err_from_is_err_and c.from_residual.result c.from_residual.ensures.1 in
+    rw (p.1, p.2) c.in_err-start_chart.ensures.failed
+
+pub returns-in_err-start_chart-clause-charts : goal.returns-in_err-start_chart-clause-charts
+returns-in_err-start_chart-clause-charts g c = c.in_err-start_chart.ensures.charts ∙ c.loop-c.invariant.charts
+
+pub returns-in_err-start_chart-clause-routes : goal.returns-in_err-start_chart-clause-routes
+returns-in_err-start_chart-clause-routes g c = c.in_err-start_chart.ensures.routes ∙ c.loop-c.invariant.routes
+
+pub returns-in_err-start_chart-clause-others : goal.returns-in_err-start_chart-clause-others
+returns-in_err-start_chart-clause-others g c = λ other ne. refl
+
+pub returns-in_err-start_chart-clause-counts : goal.returns-in_err-start_chart-clause-counts
+returns-in_err-start_chart-clause-counts g c = none_falls _
+
+pub returns-in_err-start_chart-clause-reads : goal.returns-in_err-start_chart-clause-reads
+returns-in_err-start_chart-clause-reads g c =
+    let p = err_from_is_err_and c.from_residual.result c.from_residual.ensures.1 in
+    rw (p.1, p.2) (no_read _ _ _ _ c.in_err-start_chart.ensures.reads (λ other. refl))
+
+pub returns-in_err-start_chart-clause-over : goal.returns-in_err-start_chart-clause-over
+returns-in_err-start_chart-clause-over g c =
+    let p = err_from_is_err_and c.from_residual.result c.from_residual.ensures.1 in
+    rw (p.1, p.2) c.in_err-start_chart.ensures.over
+
+pub returns-in_err-start_chart-clause-memory : goal.returns-in_err-start_chart-clause-memory
+returns-in_err-start_chart-clause-memory g c =
+    let p = err_from_is_err_and c.from_residual.result c.from_residual.ensures.1 in
+    rw (p.1, p.2) c.in_err-start_chart.ensures.memory
 
 -- one chart more was started
 pub loop-c-preserved : goal.loop-c-preserved
@@ -85,6 +139,12 @@ lines-init g c =
       counts = λ other. refl;
     }
 
+pub next_line-requires-clause-lines : goal.next_line-requires-clause-lines
+next_line-requires-clause-lines g c = c.lines.invariant.driven.driven.reads.place.failed
+
+pub next_line-requires-clause-usable : goal.next_line-requires-clause-usable
+next_line-requires-clause-usable g c = c.lines.invariant.driven.usable
+
 -- the next line can't be taken
 pub returns-in_err-next_line-clause-ends : goal.returns-in_err-next_line-clause-ends
 returns-in_err-next_line-clause-ends g c =
@@ -112,6 +172,40 @@ returns-in_err-next_line-clause-failed g c =
     let p = err_from_is_err_and c.from_residual-in_err-next_line.result c.from_residual-in_err-next_line.ensures.1 in
     rw (p.1, p.2) (next_failed (net_runs net) _ _ _ _ _ _ _ _ _ _ _ _ _ _ _ c.lines.invariant.driven
     c.in_err-next_line.ensures.moves ∙ sym (writes_same _))
+
+pub returns-in_err-next_line-clause-charts : goal.returns-in_err-next_line-clause-charts
+returns-in_err-next_line-clause-charts g c = c.lines.invariant.charts
+
+pub returns-in_err-next_line-clause-routes : goal.returns-in_err-next_line-clause-routes
+returns-in_err-next_line-clause-routes g c = c.lines.invariant.routes
+
+pub returns-in_err-next_line-clause-others : goal.returns-in_err-next_line-clause-others
+returns-in_err-next_line-clause-others g c =
+    λ other ne. c.in_err-next_line.ensures.others other ne ∙ c.lines.invariant.others other ne
+
+pub returns-in_err-next_line-clause-counts : goal.returns-in_err-next_line-clause-counts
+returns-in_err-next_line-clause-counts g c =
+    λ other. falls_after _ _ _ (c.lines.invariant.counts other) (c.in_err-next_line.ensures.counts other)
+
+pub returns-in_err-next_line-clause-over : goal.returns-in_err-next_line-clause-over
+returns-in_err-next_line-clause-over g c =
+    let p = err_from_is_err_and c.from_residual-in_err-next_line.result c.from_residual-in_err-next_line.ensures.1 in
+    rw (p.1, p.2) (λ is. absurd (never_memory _ _ refl is))
+
+-- what a line needs
+pub run_line-requires-clause-sound : goal.run_line-requires-clause-sound
+run_line-requires-clause-sound g c = c.lines.invariant.sound
+
+pub run_line-requires-clause-stages : goal.run_line-requires-clause-stages
+run_line-requires-clause-stages g c = c.lines.invariant.running
+
+pub run_line-requires-clause-few : goal.run_line-requires-clause-few
+run_line-requires-clause-few g c = c.lines.invariant.driven.driven.limit
+
+pub run_line-requires-clause-usable : goal.run_line-requires-clause-usable
+run_line-requires-clause-usable g c =
+    next_failed (net_runs (net_shown g.G.Engine c.args.net.now)) _ _ _ _ _ _ _ _ _ _ _ _ _ _ _
+    c.lines.invariant.driven c.in_ok-next_line.ensures.moves
 
 -- the run ends at a line
 pub returns-in_err-last_step-clause-ends : goal.returns-in_err-last_step-clause-ends
@@ -143,6 +237,31 @@ returns-in_err-last_step-clause-reads g c =
     let inv = c.lines.invariant in
     let stay = c.in_ok-next_line.ensures.reads.others refl in
     rw (p.1, p.2) (no_read _ _ _ _ c.in_err-last_step.ensures.reads (λ other. stay other ∙ inv.counts other))
+
+pub returns-in_err-last_step-clause-failed : goal.returns-in_err-last_step-clause-failed
+returns-in_err-last_step-clause-failed g c =
+    let p = err_from_is_err_and c.from_residual-in_err-last_step.result c.from_residual-in_err-last_step.ensures.1 in
+    rw (p.1, p.2) c.in_err-last_step.ensures.failed
+
+pub returns-in_err-last_step-clause-charts : goal.returns-in_err-last_step-clause-charts
+returns-in_err-last_step-clause-charts g c = c.in_err-last_step.ensures.charts ∙ c.lines.invariant.charts
+
+pub returns-in_err-last_step-clause-routes : goal.returns-in_err-last_step-clause-routes
+returns-in_err-last_step-clause-routes g c = c.in_err-last_step.ensures.routes ∙ c.lines.invariant.routes
+
+pub returns-in_err-last_step-clause-counts : goal.returns-in_err-last_step-clause-counts
+returns-in_err-last_step-clause-counts g c =
+    λ other. falls_after _ _ _ (c.lines.invariant.counts other) (c.in_ok-next_line.ensures.counts other)
+
+pub returns-in_err-last_step-clause-over : goal.returns-in_err-last_step-clause-over
+returns-in_err-last_step-clause-over g c =
+    let p = err_from_is_err_and c.from_residual-in_err-last_step.result c.from_residual-in_err-last_step.ensures.1 in
+    rw (p.1, p.2) (λ is. c.in_err-last_step.ensures.over (same_memory _ _ refl _ refl is))
+
+pub returns-in_err-last_step-clause-memory : goal.returns-in_err-last_step-clause-memory
+returns-in_err-last_step-clause-memory g c =
+    let p = err_from_is_err_and c.from_residual-in_err-last_step.result c.from_residual-in_err-last_step.ensures.1 in
+    rw (p.1, p.2) (λ never is. c.in_err-last_step.ensures.memory never (same_memory _ _ refl _ refl is))
 
 -- one line more
 pub lines-preserved : goal.lines-preserved
@@ -181,3 +300,33 @@ returns-clause-ends g c =
     end_stops (net_runs net) (NetDrives net)
     (driver_laws net one) _ _ _ _ _ _ _ _ _ _ _ _ _ _ _ c.lines.invariant.driven next
     c.in_ok-next_line.ensures.moves
+
+pub returns-clause-failed : goal.returns-clause-failed
+returns-clause-failed g c =
+    next_failed (net_runs (net_shown g.G.Engine c.args.net.now)) _ _ _ _ _ _ _ _ _ _ _ _ _ _ _
+    c.lines.invariant.driven c.in_ok-next_line.ensures.moves
+
+pub returns-clause-charts : goal.returns-clause-charts
+returns-clause-charts g c = c.lines.invariant.charts
+
+pub returns-clause-routes : goal.returns-clause-routes
+returns-clause-routes g c = c.lines.invariant.routes
+
+pub returns-clause-others : goal.returns-clause-others
+returns-clause-others g c =
+    λ other ne. c.in_ok-next_line.ensures.others other ne ∙ c.lines.invariant.others other ne
+
+pub returns-clause-counts : goal.returns-clause-counts
+returns-clause-counts g c =
+    λ other. falls_after _ _ _ (c.lines.invariant.counts other) (c.in_ok-next_line.ensures.counts other)
+
+pub returns-clause-reads : goal.returns-clause-reads
+returns-clause-reads g c =
+    let stay = c.in_ok-next_line.ensures.reads.others refl in
+    no_read _ _ _ false refl (λ other. stay other ∙ c.lines.invariant.counts other)
+
+pub returns-clause-over : goal.returns-clause-over
+returns-clause-over g c = λ is. absurd (cc)
+
+pub returns-clause-memory : goal.returns-clause-memory
+returns-clause-memory g c = λ _ is. absurd (cc)

@@ -4,6 +4,7 @@ ghost use Rattle.c_subset.specs.Lines.{expr_of};
 ghost use Rattle.c_subset.specs.Trees as c;
 ghost use Rattle.c_functions.specs.Translation as spec;
 
+use crate::pairs::both_made;
 use crate::precision::{Precisions, comparison_width, product_width, sum_width};
 use actions::Op;
 use c_subset::{Arithmetic, CExpr, CType, Comparison, Width};
@@ -61,8 +62,9 @@ pub(crate) fn sum(
 {
     let frac = of.left.frac.max(of.right.frac);
     let width = sum_width(of);
-    let a = brought(alloc, width, frac - of.left.frac, a)?;
-    let b = brought(alloc, width, frac - of.right.frac, b)?;
+    let a = brought(alloc, width, frac - of.left.frac, a);
+    let b = brought(alloc, width, frac - of.right.frac, b);
+    let (a, b) = both_made(a, b)?;
     CExpr::calc(alloc, op, a, b)
 }
 
@@ -72,8 +74,7 @@ pub(crate) fn product(alloc: Global, of: Precisions, a: CExpr, b: CExpr) -> Resu
         ≡ spec.product_c of.left.size of.right.size (expr_of a) (expr_of b)) }
 {
     let to = CType::Signed(product_width(of));
-    let a = CExpr::cast(alloc, to, a)?;
-    let b = CExpr::cast(alloc, to, b)?;
+    let (a, b) = both_made(CExpr::cast(alloc, to, a), CExpr::cast(alloc, to, b))?;
     CExpr::calc(alloc, Arithmetic::Times, a, b)
 }
 
@@ -91,7 +92,8 @@ pub(crate) fn comparison(
 {
     let frac = of.left.frac.max(of.right.frac);
     let width = comparison_width(of);
-    let a = brought(alloc, width, frac - of.left.frac, a)?;
-    let b = brought(alloc, width, frac - of.right.frac, b)?;
+    let a = brought(alloc, width, frac - of.left.frac, a);
+    let b = brought(alloc, width, frac - of.right.frac, b);
+    let (a, b) = both_made(a, b)?;
     CExpr::compare(alloc, op, a, b)
 }

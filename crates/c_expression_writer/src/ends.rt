@@ -6,6 +6,7 @@ ghost use Rattle.c_subset.specs.Trees as c;
 ghost use Rattle.c_functions.specs.Storing as spec;
 
 use crate::arithmetic::power_of_two;
+use crate::pairs::both_made;
 use c_subset::{CExpr, CType, Comparison, Width};
 use fixed_point::Scale;
 use flow_base::Memory;
@@ -118,11 +119,11 @@ pub(crate) fn saturated(alloc: Global, of: Brought) -> Result<CExpr, Memory>
     ensures { IfOk result (λ made. expr_of made ≡ spec.saturated_c of.scale of.size of.width
         (c.Local (CType.Signed of.width) of.local)) }
 {
-    let upper = up_to_high(alloc, of)?;
+    let upper = up_to_high(alloc, of);
     if !can_pass_low(of.scale, of.size) {
-        return Ok(upper);
+        return upper;
     }
-    let test = below(alloc, of)?;
+    let (test, upper) = both_made(below(alloc, of), upper)?;
     CExpr::choose(alloc, CType::Signed(of.width), test, low(of), upper)
 }
 
@@ -133,8 +134,7 @@ pub(crate) fn out_of_range(alloc: Global, of: Brought) -> Result<CExpr, Memory>
 {
     match (can_pass_low(of.scale, of.size), can_pass(of.scale, of.size)) {
         (true, true) => {
-            let below = below(alloc, of)?;
-            let above = above(alloc, of)?;
+            let (below, above) = both_made(below(alloc, of), above(alloc, of))?;
             CExpr::either(alloc, below, above)
         }
         (true, false) => below(alloc, of),

@@ -144,8 +144,13 @@ pub(crate) fn write_operand(
                 end_right_side(out, local, second.expr)?;
                 return Ok(decided(local));
             }
-            let second = write_operand(alloc, shape, out, from, right)?;
-            join(alloc, shape, out, *op, first, second)
+            match write_operand(alloc, shape, out, from, right) {
+                Ok(second) => join(alloc, shape, out, *op, first, second),
+                Err(Memory) => {
+                    drop(first);
+                    Err(Memory)
+                }
+            }
         }
     }
 }

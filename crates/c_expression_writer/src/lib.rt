@@ -14,6 +14,7 @@ mod locals;
 mod notes;
 mod operand;
 mod operators;
+mod pairs;
 mod precision;
 mod quotients;
 mod ranks;

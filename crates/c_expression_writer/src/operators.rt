@@ -6,6 +6,7 @@ ghost use Rattle.c_subset.specs.Trees as c;
 ghost use Rattle.c_functions.specs.Translation as spec;
 
 use crate::arithmetic::{comparison, product, sum};
+use crate::pairs::both_made;
 use crate::precision::{Precisions, precision_of, width_for};
 use actions::{ExprSort, Op};
 use c_subset::{Arithmetic, CExpr, CType, Comparison};
@@ -36,7 +37,10 @@ fn numbers(
         Op::Add => sum(alloc, Arithmetic::Plus, of, left, right),
         Op::Sub => sum(alloc, Arithmetic::Less, of, left, right),
         Op::Mul => product(alloc, of, left, right),
-        Op::Div => Ok(left),
+        Op::Div => {
+            drop(right);
+            Ok(left)
+        }
     }
 }
 
@@ -45,8 +49,9 @@ fn truths(alloc: Global, op: Comparison, left: CExpr, right: CExpr) -> Result<CE
     ensures { IfOk result (λ made. expr_of made
         ≡ c.Compare op (c.Cast CType.Truth (expr_of left)) (c.Cast CType.Truth (expr_of right))) }
 {
-    let left = CExpr::cast(alloc, CType::Truth, left)?;
-    let right = CExpr::cast(alloc, CType::Truth, right)?;
+    let left = CExpr::cast(alloc, CType::Truth, left);
+    let right = CExpr::cast(alloc, CType::Truth, right);
+    let (left, right) = both_made(left, right)?;
     CExpr::compare(alloc, op, left, right)
 }
 

@@ -1,8 +1,8 @@
 //! Quotients.
-ghost use Rattle.std.specs.Prelude.{◌≡◌, ◌+◌, ◌<◌, ◌^◌, ◌-◌, ◌≤◌, max, IfOk, OnOk, IsOk};
+ghost use Rattle.std.specs.Prelude.{◌≡◌, ◌+◌, ◌<◌, ◌^◌, ◌-◌, ◌≤◌, ◌∷◌, [], max, IfOk, OnOk, IsOk};
 ghost use Rattle.flow_base.specs.Lists.{items_of};
 ghost use Rattle.actions.specs.Sorts.{IsNarrow, binary_sort};
-ghost use Rattle.c_subset.specs.Lines.{Appends, expr_of};
+ghost use Rattle.c_subset.specs.Lines.{Appends, expr_of, exprs_of};
 ghost use Rattle.c_subset.specs.Trees as c;
 ghost use Rattle.c_functions.specs.Code as code;
 ghost use Rattle.c_functions.specs.Translation as spec;
@@ -85,6 +85,16 @@ pub fn helper(shape: &FileShape<'_>, width: Width) -> u32
     shape.procs + 3 + place
 }
 
+/// Two arguments.
+fn two(alloc: Global, left: CExpr, right: CExpr) -> Result<List<CExpr>, Memory>
+    ensures { IfOk result (λ list. exprs_of (items_of list) ≡ expr_of left ∷ expr_of right ∷ []) }
+{
+    match vec![in alloc; left, right] {
+        Ok(list) => Ok(List::of(list)),
+        Err(_) => Err(Memory),
+    }
+}
+
 /// Appends a call of the function for quotients.
 #[tactic(auto, using(std::proofs::Common::append_assoc), unfolding(c_subset::specs::Lines::lines_of, c_functions::specs::Code::written))]
 pub(crate) fn put_division(
@@ -100,9 +110,7 @@ pub(crate) fn put_division(
         (code.written (plans.helper (shape_seen shape.now)) (faulted (shape_seen shape.now))
         (code.Divide width local (expr_of dividend) (expr_of divisor)))) }
 {
-    let mut arguments = List::of(Vec::new(alloc));
-    arguments.push(dividend)?;
-    arguments.push(divisor)?;
+    let arguments = two(alloc, dividend, divisor)?;
     put(
         out,
         Line::Call(CType::Signed(width), local, helper(shape, width), arguments),
@@ -150,13 +158,20 @@ pub(crate) fn quotient(
     let width = division_width(left.sort, right.sort);
     let local = right.next;
     let sort = sort_in(binary_sort(Op::Div, left.sort, right.sort));
-    put_divisor(alloc, shape, out, width, local, right.expr)?;
-    let dividend = dividend(alloc, left.sort, right.sort, left.expr)?;
-    let divisor = CExpr::Local(CType::Signed(width), local);
-    put_division(alloc, shape, out, width, local + 1, dividend, divisor)?;
-    Ok(Operand {
-        expr: CExpr::Local(CType::Signed(width), local + 1),
-        sort,
-        next: local + 2,
-    })
+    match put_divisor(alloc, shape, out, width, local, right.expr) {
+        Ok(()) => {
+            let dividend = dividend(alloc, left.sort, right.sort, left.expr)?;
+            let divisor = CExpr::Local(CType::Signed(width), local);
+            put_division(alloc, shape, out, width, local + 1, dividend, divisor)?;
+            Ok(Operand {
+                expr: CExpr::Local(CType::Signed(width), local + 1),
+                sort,
+                next: local + 2,
+            })
+        }
+        Err(Memory) => {
+            drop(left);
+            Err(Memory)
+        }
+    }
 }

@@ -2,6 +2,7 @@
 use crate::arithmetic::power_of_two;
 use crate::file_shape::FileShape;
 use crate::lines::number;
+use crate::pairs::both_made;
 use active_config::Comp;
 use c_subset::{Bitwise, CExpr, CType, Comparison, Width};
 use flow_base::Memory;
@@ -65,14 +66,23 @@ impl FileShape<'_> {
         }
     }
 
+    /// The test that the bit of a state isn't set.
+    fn unset_test(&self, alloc: Global, state: u32) -> Result<CExpr, Memory>
+        requires { state < state_count (shape_seen self.now).tree }
+        ensures { IfOk result (λ test.
+            expr_of test ≡ c.Bang (spec.bit_test (layout (shape_seen self.now)) state)) }
+    {
+        let bit = self.bit_test(alloc, state)?;
+        CExpr::bang(alloc, bit)
+    }
+
     /// A test, and that the bit of a state isn't set.
     fn and_unset(&self, alloc: Global, test: CExpr, state: u32) -> Result<CExpr, Memory>
         requires { state < state_count (shape_seen self.now).tree }
         ensures { IfOk result (λ made. expr_of made
             ≡ c.Both (expr_of test) (c.Bang (spec.bit_test (layout (shape_seen self.now)) state))) }
     {
-        let bit = self.bit_test(alloc, state)?;
-        let unset = CExpr::bang(alloc, bit)?;
+        let (test, unset) = both_made(Ok(test), self.unset_test(alloc, state))?;
         CExpr::both(alloc, test, unset)
     }
 
@@ -103,8 +113,9 @@ impl FileShape<'_> {
             (spec.number_test (layout (shape_seen self.now))
             ((layout (shape_seen self.now)).chosen state) 0)) }
     {
-        let on = self.on_test(alloc, state)?;
-        let childless = self.number_test(alloc, self.chosen_field(state), 0)?;
+        let on = self.on_test(alloc, state);
+        let childless = self.number_test(alloc, self.chosen_field(state), 0);
+        let (on, childless) = both_made(on, childless)?;
         CExpr::both(alloc, on, childless)
     }
 

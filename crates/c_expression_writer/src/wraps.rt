@@ -5,6 +5,7 @@ ghost use Rattle.c_subset.specs.Trees as c;
 ghost use Rattle.c_functions.specs.Storing as spec;
 
 use crate::arithmetic::power_of_two;
+use crate::pairs::both_made;
 use c_subset::{Arithmetic, Bitwise, CExpr, CType, Comparison, Width};
 use fixed_point::Scale;
 use flow_base::Memory;
@@ -63,7 +64,12 @@ pub(crate) fn signed(alloc: Global, scale: Scale, low: u32, rest: u32) -> Result
 {
     let half = mask(u32::from(scale.width) - 1);
     let test = CExpr::compare(alloc, Comparison::IsAtMost, CExpr::Local(WORD, low), half)?;
-    let same = CExpr::cast(alloc, SIGNED_WORD, CExpr::Local(WORD, low))?;
-    let negative = negative(alloc, rest)?;
-    CExpr::choose(alloc, SIGNED_WORD, test, same, negative)
+    let same = CExpr::cast(alloc, SIGNED_WORD, CExpr::Local(WORD, low));
+    match both_made(same, negative(alloc, rest)) {
+        Ok((same, negative)) => CExpr::choose(alloc, SIGNED_WORD, test, same, negative),
+        Err(Memory) => {
+            drop(test);
+            Err(Memory)
+        }
+    }
 }

@@ -1,5 +1,6 @@
 -- The text of lines that are written one after another.
 use Rattle.std.proofs.Common.{◌≡◌, ℕ, List, [], ◌∷◌, ◌++◌, refl, sym, ap, ◌∙◌, append_assoc, append-nil}
+use Rattle.std.proofs.Common.{cond, Result, Ok, Err, OnOk, is_ok}
 use Rattle.chart_gen.specs.Cases.{text_of}
 
 -- the text of lines and of those after them
@@ -8,6 +9,17 @@ unfolding text_of
 text_of-append [] others = refl
 text_of-append (line ∷ lines) others =
     rw (text_of-append lines others, append_assoc line (10 ∷ text_of lines) (text_of others)) refl
+
+-- what follows where there was memory
+pub after : {T E P Q : Type 0} (r : Result T E) → OnOk r P → (P → Q) → OnOk r Q
+after (Ok x) p f = f p
+after (Err e) p f = tt
+
+-- a text is appended where there was memory
+pub appended : {T E : Type 0} (r : Result T E) (before now text : List ℕ)
+    → now ≡ cond (is_ok r) (before ++ text) before → OnOk r (now ≡ before ++ text)
+appended (Ok x) before now text e = e
+appended (Err x) before now text e = tt
 
 -- no line is written
 pub no_line : (all : List ℕ) → all ≡ all ++ text_of []

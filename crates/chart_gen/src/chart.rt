@@ -19,21 +19,23 @@ pub(crate) fn print_chart(out: &mut String, draws: &mut Draws) -> Result<(), All
     writeln!(out, "input x : int16;")?;
     print_data(out, sizes.regions)?;
     print_regions(out, draws, sizes)?;
-    writeln!(out, "}}")?;
-    Ok(())
+    writeln!(out, "}}")
 }
+
+/// The first lines of a chart.
+const HEAD: &str = "chart G and {
+event input e0;
+event input e1;
+event input e2;
+event input e3;
+";
 
 /// Appends the first lines of a chart.
 fn print_head(out: &mut String) -> Result<(), AllocError>
     ensures { OnOk result
         (string_bytes out.new ≡ string_bytes out.old ++ spec.text_of spec.chart_head) }
 {
-    writeln!(out, "chart G and {{")?;
-    writeln!(out, "event input e0;")?;
-    writeln!(out, "event input e1;")?;
-    writeln!(out, "event input e2;")?;
-    writeln!(out, "event input e3;")?;
-    Ok(())
+    out.push_str(HEAD)
 }
 
 /// Appends the local event of each region.
@@ -88,8 +90,7 @@ fn print_region(
 {
     print_region_head(out, region, draws.region(sizes.states))?;
     print_states(out, draws, sizes, region)?;
-    writeln!(out, "}}")?;
-    Ok(())
+    writeln!(out, "}}")
 }
 
 /// Appends the first lines of a region.
@@ -108,8 +109,7 @@ fn print_region_head(out: &mut String, region: u32, drawn: RegionDraws) -> Resul
         out,
         "junction j {{ [x > {over}] -> s{destination}; [x < {under}] -> @z; }}"
     )?;
-    writeln!(out, "junction z {{ }}")?;
-    Ok(())
+    writeln!(out, "junction z {{ }}")
 }
 
 /// Appends the states of a region.
@@ -152,18 +152,41 @@ fn print_state(
         local_destination,
     } = drawn;
     writeln!(out, "state s{number} {{")?;
-    writeln!(out, "entry {{ n{region} = n{region} + {added}; }}")?;
+    print_entry(out, region, added)?;
+    print_leading(out, region, event)?;
+    print_sending(out, regions, region, (event + 1) % 4, destination)?;
+    print_local(out, region, local_destination)?;
+    writeln!(out, "}}")
+}
+
+/// Appends the entry of a state, which adds to the datum of the region.
+fn print_entry(out: &mut String, region: u32, added: u32) -> Result<(), AllocError>
+    ensures { OnOk result (string_bytes out.new ≡ string_bytes out.old
+        ++ (spec.entry_line region added ++ 10 ∷ [])) }
+{
+    writeln!(out, "entry {{ n{region} = n{region} + {added}; }}")
+}
+
+/// Appends the transition that leads to the junction.
+fn print_leading(out: &mut String, region: u32, event: u32) -> Result<(), AllocError>
+    ensures { OnOk result (string_bytes out.new ≡ string_bytes out.old
+        ++ (spec.junction_line region event ++ 10 ∷ [])) }
+{
     writeln!(
         out,
         "outer e{event} {{ n{region} = n{region} + 1; }} -> @j;"
-    )?;
-    print_sending(out, regions, region, (event + 1) % 4, destination)?;
+    )
+}
+
+/// Appends the transition on the local event of the region.
+fn print_local(out: &mut String, region: u32, destination: u32) -> Result<(), AllocError>
+    ensures { OnOk result (string_bytes out.new ≡ string_bytes out.old
+        ++ (spec.local_line region destination ++ 10 ∷ [])) }
+{
     writeln!(
         out,
-        "outer l{region} / {{ n{region} = n{region} * 3; }} -> s{local_destination};"
-    )?;
-    writeln!(out, "}}")?;
-    Ok(())
+        "outer l{region} / {{ n{region} = n{region} * 3; }} -> s{destination};"
+    )
 }
 
 /// Appends the transition that sends the local event of the next region, where there is one.
@@ -180,9 +203,8 @@ fn print_sending(
 {
     let next = region + 1;
     if next == regions {
-        writeln!(out, "outer e{event} -> s{destination};")?;
+        writeln!(out, "outer e{event} -> s{destination};")
     } else {
-        writeln!(out, "outer e{event} {{ send l{next}; }} -> s{destination};")?;
+        writeln!(out, "outer e{event} {{ send l{next}; }} -> s{destination};")
     }
-    Ok(())
 }

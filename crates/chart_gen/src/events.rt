@@ -28,9 +28,8 @@ fn print_event(out: &mut String, drawn: EventDraws) -> Result<(), AllocError>
     let event = drawn.event;
     let input = i64::from(drawn.input) - 100;
     if event < 4 {
-        writeln!(out, "e{event} x={input}")?;
+        writeln!(out, "e{event} x={input}")
     } else {
-        writeln!(out, "tick x={input}")?;
+        writeln!(out, "tick x={input}")
     }
-    Ok(())
 }

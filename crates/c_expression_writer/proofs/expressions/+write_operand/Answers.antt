@@ -160,7 +160,7 @@ join-requires-clause-sorted t c =
     own_sorted (shape_seen c.args.shape.now) (items_of c.args.out.now) (items_of c.write_operand-in-Bin.new.out)
     (items_of c.write_operand-in-Bin-2.new.out) c.args.next c.in_ok-first-in-Bin.first.next c.in-Bin.op
     (expr_of c.deref-in-Bin.result.now) (expr_of c.deref-right.result.now) c.in_ok-first-in-Bin.first
-    c.in_ok-second-in-Bin-2.second at.parts c.in_ok-first-in-Bin.ensures c.in_ok-second-in-Bin-2.ensures
+    c.in-Ok.second at.parts c.in_ok-first-in-Bin.ensures c.in-Ok.ensures
 
 pub join-requires-clause-room : goal.join-requires-clause-room
 join-requires-clause-room t c =
@@ -171,10 +171,10 @@ join-requires-clause-room t c =
     in
     join_room (shape_seen c.args.shape.now) (items_of c.write_operand-in-Bin.new.out)
     (items_of c.write_operand-in-Bin-2.new.out) c.args.next (expr_of c.deref-right.result.now)
-    c.in_ok-first-in-Bin.first c.in_ok-second-in-Bin-2.second at.room c.in_ok-second-in-Bin-2.ensures
+    c.in_ok-first-in-Bin.first c.in-Ok.second at.room c.in-Ok.ensures
 
-pub returns-in_ok-second-in-Bin-2 : goal.returns-in_ok-second-in-Bin-2
-returns-in_ok-second-in-Bin-2 t c =
+pub returns-in-Ok : goal.returns-in-Ok
+returns-in-Ok t c =
     let at = split (shape_seen c.args.shape.now) (items_of c.args.out.now) (items_of c.write_operand-in-Bin.new.out)
     c.args.next c.in-Bin.op (expr_of c.args.expr.now) c.deref-in-Bin.result.now c.deref-right.result.now
     c.in-Bin.left.value c.in-Bin.right.value c.in_ok-first-in-Bin.first (ap expr_of c.in-Bin.is) c.deref-in-Bin.ensures
@@ -184,7 +184,7 @@ returns-in_ok-second-in-Bin-2 t c =
     (λ x h. joined_result (shape_seen c.args.shape.now) (items_of c.args.out.now)
     (items_of c.write_operand-in-Bin.new.out) (items_of c.write_operand-in-Bin-2.new.out) (items_of c.join.new.out)
     c.args.next c.local_count-locals.result c.in-Bin.op (expr_of c.args.expr.now) (expr_of c.deref-in-Bin.result.now)
-    (expr_of c.deref-right.result.now) c.in_ok-first-in-Bin.first c.in_ok-second-in-Bin-2.second x at.whole at.can
+    (expr_of c.deref-right.result.now) c.in_ok-first-in-Bin.first c.in-Ok.second x at.whole at.can
     (sym c.is_lazy.ensures ∙ c.if-is_lazy.false) c.local_count-locals.ensures.locals c.in_ok-first-in-Bin.ensures
-    c.in_ok-second-in-Bin-2.ensures h)
+    c.in-Ok.ensures h)
     c.join.ensures

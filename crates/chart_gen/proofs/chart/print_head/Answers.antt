@@ -1,13 +1,11 @@
-use Rattle.std.proofs.Common.{refl}
-use Rattle.chart_gen.proofs.TextLemmas.{no_line, line_then}
+use Rattle.std.specs.Prelude.{string_bytes}
+use Rattle.chart_gen.specs.Cases.{text_of, chart_head}
+use Rattle.chart_gen.proofs.TextLemmas.{appended}
 use Rattle.chart_gen.proofs.chart.print_head.Goals as goal
 
--- five lines, one after another
+-- the text of five lines
 pub returns : goal.returns
+unfolding text_of
 returns c =
-    line_then _ _ _ _ _ _ c.in_ok-writeln.ensures.bytes refl
-    (line_then _ _ _ _ _ _ c.in_ok-writeln-2.ensures.bytes refl
-    (line_then _ _ _ _ _ _ c.in_ok-writeln-3.ensures.bytes refl
-    (line_then _ _ _ _ _ _ c.in_ok-writeln-4.ensures.bytes refl
-    (line_then _ _ _ _ _ _ c.in_ok-writeln-5.ensures.bytes refl
-    (no_line _)))))
+    appended c.push_str.result (string_bytes c.args.out.now) (string_bytes c.push_str.new.self) (text_of chart_head)
+    c.push_str.ensures.bytes

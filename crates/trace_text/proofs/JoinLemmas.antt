@@ -41,3 +41,8 @@ joined_more xs i text within is =
 pub listed_all : (xs : List (List ℕ)) (i : ℕ) → length xs ≤ i → false ≡ nat_eq (length xs) 0 → listed xs ≡ join_with_byte 44 (take i xs)
 listed_all [] i all some = absurd (cc)
 listed_all (x ∷ xs) i all some = ap (join_with_byte 44) (sym (take_all i (x ∷ xs) all))
+
+-- no text, of which there are as many as of other things
+pub listed_none : (xs : List (List ℕ)) (count : ℕ) → length xs ≡ count → true ≡ nat_eq count 0 → listed xs ≡ 45 ∷ []
+listed_none [] count same none = refl
+listed_none (x ∷ xs) count same none = absurd (let zero : count ≡ 0 = grind (arith, nat_tests) in omega (arith, zero, same))

@@ -68,6 +68,15 @@ pub written_kept : (w w1 : Option (List ℕ)) (f f1 : ℕ) (text more : List ℕ
     → Written w w1 f f1 text held → Written w w1 f f1 (text ++ more) new
 written_kept w w1 f f1 text more held new is h = rw is (kept_at w w1 f f1 text more held held.failed refl h)
 
+-- two texts more are kept
+pub kept_both : (w w1 : Option (List ℕ)) (f f1 : ℕ) (text first second : List ℕ) (held between new : Held)
+    → between ≡ kept held first → new ≡ kept between second → Written w w1 f f1 text held
+    → Written w w1 f f1 (text ++ (first ++ second)) new
+kept_both w w1 f f1 text first second held between new one two h =
+    subst (λ (z : List ℕ). Written w w1 f f1 z new) (append_assoc text first second)
+    (written_kept w w1 f f1 (text ++ first) second between new two
+    (written_kept w w1 f f1 text first held between one h))
+
 -- after a failed write a text more is left out
 pub written_failed : (w w1 : Option (List ℕ)) (f f1 : ℕ) (text more : List ℕ) (held : Held) → held.failed ≡ true
     → Written w w1 f f1 text held → Written w w1 f f1 (text ++ more) held

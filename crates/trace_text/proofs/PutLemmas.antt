@@ -19,6 +19,17 @@ pub puts_same : (b0 b1 : Option (List ℕ)) (f0 f1 : ℕ) (h0 h1 : Held) (text o
 puts_same b0 b1 f0 f1 h0 h1 text other p is = λ w f all h.
     subst (λ (z : List ℕ). Written w b1 f f1 (all ++ z) h1) (sym is) (p w f all h)
 
+three_parts : (all x y z text : List ℕ) → text ≡ x ++ (y ++ z) → ((all ++ x) ++ y) ++ z ≡ all ++ text
+three_parts all x y z text is = rw is (simp append_assoc)
+
+-- three texts are put one after the other
+pub puts_three : (b0 b1 b2 b3 : Option (List ℕ)) (f0 f1 f2 f3 : ℕ) (h0 h1 h2 h3 : Held) (x y z text : List ℕ)
+    → Puts b0 b1 f0 f1 h0 h1 x → Puts b1 b2 f1 f2 h1 h2 y → Puts b2 b3 f2 f3 h2 h3 z → text ≡ x ++ (y ++ z)
+    → Puts b0 b3 f0 f3 h0 h3 text
+puts_three b0 b1 b2 b3 f0 f1 f2 f3 h0 h1 h2 h3 x y z text p q r is = λ w f all h.
+    subst (λ (t : List ℕ). Written w b3 f f3 t h3) (three_parts all x y z text is)
+    (r w f ((all ++ x) ++ y) (q w f (all ++ x) (p w f all h)))
+
 -- the parts of a trace line up to its result, put one after the other, make that front
 pub front_parts : (all index word states vals outputs : List ℕ)
     → (((((((all ++ (index ++ codes " " ++ word)) ++ codes " [") ++ states) ++ codes "] ") ++ vals) ++ 32 ∷ []) ++ outputs) ++ 32 ∷ []

@@ -1,11 +1,26 @@
-use Rattle.std.proofs.Common.{◌<◌, List, length, sym, ap, arith}
+use Rattle.std.proofs.Common.{◌<◌, List, length, refl, sym, ap, ◌∙◌, arith}
 use Rattle.actions.specs.Names.{names_of}
 use Rattle.actions.specs.declared.names.Var.{Var}
 use Rattle.trace_text.specs.Trace.{value_texts}
 use Rattle.trace_text.proofs.DataLemmas.{data_count, texts_count, datum_text, some_texts}
-use Rattle.trace_text.proofs.JoinLemmas.{joined_more, listed_all}
+use Rattle.trace_text.proofs.JoinLemmas.{joined_more, listed_all, listed_none}
+use Rattle.trace_text.proofs.PieceLemmas.{nothing_put}
 use Rattle.trace_text.proofs.PutLemmas.{puts_both, puts_same}
 use Rattle.trace_text.proofs.trace_parts.put_data.Goals as goal
+
+-- where there are no data the mark of that is put
+pub returns-then-is_empty : goal.returns-then-is_empty
+returns-then-is_empty g c =
+    let n = names_of c.args.names.now in
+    let same = data_count c.args.vals.now n c.requires.declared in
+    puts_same _ _ _ _ _ _ _ _ c.put_byte.ensures
+    (listed_none (value_texts n.vars c.args.vals.now) _
+    (texts_count n.vars c.args.vals.now same ∙ ap (λ (z : List Var). length z) (sym c.items-vars.ensures))
+    c.if-is_empty.ensures)
+
+-- nothing is put yet
+pub loop-index-init : goal.loop-index-init
+loop-index-init g c = nothing_put _ _ _ _ _ _ refl refl refl
 
 pub loop-index-preserved : goal.loop-index-preserved
 loop-index-preserved g c =

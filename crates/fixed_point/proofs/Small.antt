@@ -103,11 +103,12 @@ same_num m n f g m_is f_is = ap (λ (z : ℤ). num z f) m_is ∙ ap (λ (x : ℕ
 
 -- ---- numbers that are wrapped
 
--- the magnitude of the least mantissa
+-- the magnitude of a number that is negated
 abs_neg : (n : ℕ) → unsigned_abs (neg_ℤ (pos n)) ≡ n
 abs_neg zero = refl
 abs_neg (suc n) = refl
 
+-- the least mantissa is at most 2 ^ 64 in magnitude
 least_of : (signed : Bool) (width : ℕ) → width ≤ 64
     → unsigned_abs (cond signed (neg_ℤ (pos (2 ^ (width - 1)))) (pos 0)) ≤ 2 ^ 64
 least_of true width bits = omega (arith, abs_neg (2 ^ (width - 1)), power-le (width - 1) 64 (omega arith))

@@ -1,6 +1,7 @@
 //! Reads and writes that fail.
 ghost use Rattle.std.specs.Prelude.{◌<◌};
 
+use crate::checks::check;
 use crate::driver_setup::{Devices, compare_end, run_text};
 use flow_base::{Inputs, MemInputs};
 use std::process::Abort;
@@ -31,7 +32,7 @@ fn check_read(rt: &(impl AllocGlobal + Abort), read: u64, length: usize) {
     };
     let ran = run_text(rt, b"GO\nGO\nGO\n", &devices);
     compare_end(rt, "read", (read, 3), ran.answer, Err(DriveEnd::Read));
-    assert!(rt; front(ran.out.bytes()) == Some(length), "read {read}");
+    check(rt, &read, &front(ran.out.bytes()), &Some(length));
 }
 
 /// The length of what was written, where that is a front of the trace.
@@ -74,10 +75,7 @@ fn check_write(rt: &(impl AllocGlobal + Abort), read_size: usize, write: u64)
     );
     let left = left(&mut ran.inputs);
     let stands = is_short_front(ran.out.bytes()) && (write > 5 || left == 9);
-    assert!(rt;
-        stands,
-        "write {write}, reads of {read_size}, {left} bytes left"
-    );
+    check(rt, &(write, read_size, left), &stands, &true);
 }
 
 /// Whether less than the trace was written.

@@ -2,6 +2,7 @@
 ghost use Rattle.std.specs.Prelude.{◌≡◌, ◌<◌, ◌^◌, length};
 ghost use Rattle.actions.specs.Engines.{Fresh};
 
+use crate::checks::check;
 use actions::Engine;
 use event_file::{InputVals, LineReader};
 use fixed_point::Scale;
@@ -106,5 +107,5 @@ pub fn compare_end(
     got: Result<(), DriveEnd>,
     want: Result<(), DriveEnd>,
 ) {
-    assert!(rt; got == want, "{row} {numbers:?}: {got:?}, not {want:?}");
+    check(rt, &(row, numbers), &got, &want);
 }

@@ -5,6 +5,7 @@ ghost use Rattle.fixed_point.specs.Scales.{HasParts};
 ghost use Rattle.actions.specs.Engines.{Fresh, CanReactTo, IsInputValue};
 ghost use Rattle.sample_engine.specs.Chart.{chart_names};
 
+use crate::checks::check;
 use actions::{Engine, Event, Halt, Value};
 use fixed_point::{Num, Scale};
 use flow_base::{Bounds, Fault, Memory};
@@ -132,25 +133,13 @@ fn compare_end(
     end: Result<(), Halt>,
     want: Result<(), Halt>,
 ) {
-    assert!(rt;
-        end == want,
-        "{times} times with {rounds} rounds: {end:?}, not {want:?}"
-    );
+    check(rt, &(times, rounds), &end, &want);
 }
 
-/// Compares what the counter shows: its count, its input of 100, its outputs and its root.
+/// Asserts that the counter shows that count, an input of 100, those outputs and an active root.
 fn compare(rt: &impl Abort, counter: &Counter, count: i128, outputs: &[u32]) {
-    let (got, out) = (shown(counter, COUNT), counter.view().outputs);
-    assert!(rt;
-        shows(counter, count, outputs),
-        "{got:?} {out:?}, not {count} {outputs:?}"
-    );
-}
-
-/// Whether the counter shows that count, an input of 100, those outputs and an active root.
-fn shows(counter: &Counter, count: i128, outputs: &[u32]) -> bool {
-    shown(counter, COUNT) == number(count)
-        && shown(counter, BY) == number(100)
-        && counter.view().outputs == outputs
-        && is_root_active(counter)
+    let numbers = (shown(counter, COUNT), shown(counter, BY));
+    check(rt, &"the numbers", &numbers, &(number(count), number(100)));
+    let rest = (counter.view().outputs, is_root_active(counter));
+    check(rt, &"outputs and root", &rest, &(outputs, true));
 }

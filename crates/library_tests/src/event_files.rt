@@ -1,6 +1,7 @@
 //! Event files, in pieces of several sizes.
 ghost use Rattle.std.specs.Prelude.{◌<◌};
 
+use crate::checks::check;
 use crate::driver_setup::{Devices, compare_end, run_text};
 use event_file::LineFault;
 use flow_base::Fault;
@@ -150,5 +151,5 @@ fn whole_trace(rt: &(impl AllocGlobal + Abort), trace: &str) -> String {
 
 /// Compares the trace of a file with the one that is wanted.
 fn compare_trace(rt: &impl Abort, text: &str, got: &[u8], want: &[u8]) {
-    assert!(rt; got == want, "{text:?}: {got:?}, not {want:?}");
+    check(rt, &text, &got, &want);
 }

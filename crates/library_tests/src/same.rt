@@ -1,10 +1,11 @@
 //! Values that are to be the same.
+use crate::checks::check;
 use std::fmt::Debug;
 use std::process::Abort;
 
 /// Asserts that two values are the same.
 pub fn same<T: Debug + PartialEq>(rt: &impl Abort, got: &T, wanted: &T, why: &str) {
-    assert_eq!(rt; *got, *wanted, "{why}");
+    check(rt, &why, got, wanted);
 }
 
 /// Asserts that bytes are the same.

@@ -222,3 +222,13 @@ expr_words-line (Not a) h = word_line (codes "!") (expr_words a) (operator_word-
 expr_words-line (Bin op a b) h =
     word_line (op_word op) (expr_words a ++ 32 ∷ expr_words b) (operator_word-lacks (operators.Bin op))
     (lines_joined (expr_words a) (expr_words b) (expr_words-line a h.0) (expr_words-line b h.1))
+
+-- an operator between two operands that are read one after the other
+pub both_read : (depth d left l : ℕ) (text : List ℕ) (op : Op) (token : Field) (rest rest' : List ℕ)
+    (first second : ReadExpr) → depth ≡ suc d → left ≡ suc l → token ≡ field_of text
+    → operator_of token.word ≡ Some (operators.Bin op) → token.rest ≡ Some rest → front_of d l rest ≡ Some first
+    → first.rest ≡ Some rest' → front_of d first.left rest' ≡ Some second
+    → front_of depth left text ≡ Some (with_second op first.expr second)
+unfolding front_of
+both_read depth d left l text op token rest rest' first second ed el et eo er ef er' es =
+    rw (ed, el, ← et, eo, er, ef, er', es) refl

@@ -63,32 +63,34 @@ fn front_of(
     let Some(first) = front_of(alloc, rest, depth, left)? else {
         return Ok(None);
     };
-    let op = match operator {
-        Operator::Neg => return Ok(Some(negated(alloc, first)?)),
-        Operator::Not => return Ok(Some(denied(alloc, first)?)),
-        Operator::Bin(op) => op,
-    };
-    let Some(rest) = first.rest else {
-        return Ok(None);
-    };
-    let Some(second) = front_of(alloc, rest, depth, first.left)? else {
-        return Ok(None);
-    };
-    Ok(Some(joined(alloc, op, first.expr, second)?))
+    match operator {
+        Operator::Neg => Ok(Some(negated(alloc, first)?)),
+        Operator::Not => Ok(Some(denied(alloc, first)?)),
+        Operator::Bin(op) => {
+            let expr = Box::new(alloc, first.expr)?;
+            let Some(rest) = first.rest else {
+                return Ok(None);
+            };
+            let Some(second) = front_of(alloc, rest, depth, first.left)? else {
+                return Ok(None);
+            };
+            Ok(Some(joined(alloc, op, expr, second)?))
+        }
+    }
 }
 
 /// An operator between its first operand and its second.
 fn joined(
     alloc: Global,
     op: Op,
-    first: Expr,
+    first: Box<Expr>,
     second: ReadExpr<'_>,
 ) -> Result<ReadExpr<'_>, AllocError>
     ensures { IfOk result (λ front.
-        views.front_of front ≡ spec.with_second op (expr_of first) (views.front_of second.entry)) }
+        views.front_of front ≡ spec.with_second op (expr_of first.value) (views.front_of second.entry)) }
 {
     Ok(ReadExpr {
-        expr: Expr::Bin(op, Box::new(alloc, first)?, Box::new(alloc, second.expr)?),
+        expr: Expr::Bin(op, first, Box::new(alloc, second.expr)?),
         left: second.left,
         rest: second.rest,
     })

@@ -21,7 +21,7 @@ pub(crate) const NUMBER_LIMIT: u32 = 4_294_967_295;
 pub const NET_STEP_LIMIT: u32 = 2_500;
 
 /// A command with its files, and with its bounds or its number.
-#[derive(Clone, Copy, Debug, PartialEq, Eq)]
+#[derive(Clone, Copy)]
 pub enum Command<'a> {
     /// `check CHART`
     Check(&'a str),

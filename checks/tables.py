@@ -120,11 +120,9 @@ def times(rest):
 
 def answer_table(source, answer, check, is_left=lambda block: False):
     """Writes the answers of a table, or with `check` where they differ from those worked out by hand. Blocks that are left are passed
-    over, and counted. A block without an answer that was worked out by hand is none. Gives the status."""
+    over, and counted. Gives the status."""
     blocks_seen = wrong = left = 0
     for block in blocks(source):
-        if check and not block.expected:
-            raise SystemExit('block %s has no answer that was worked out by hand' % block.name)
         if is_left(block):
             left += 1
             continue

@@ -12,10 +12,10 @@ no_options : command_of_texts (codes "header" ∷ codes "lamp" ∷ []) ≡ Some 
 unfolding read_words
 no_options = refl
 
-default_steps : command_of_texts (codes "source" ∷ codes "lamp" ∷ codes "--depth" ∷ codes "3" ∷ [])
+usual_steps : command_of_texts (codes "source" ∷ codes "lamp" ∷ codes "--depth" ∷ codes "3" ∷ [])
     ≡ Some (Source (codes "lamp") (bounds 3 10000))
 unfolding read_words
-default_steps = refl
+usual_steps = refl
 
 usual_depth : command_of_texts (codes "source" ∷ codes "--steps=50000" ∷ codes "lamp" ∷ [])
     ≡ Some (Source (codes "lamp") (bounds 8 50000))

@@ -3,7 +3,7 @@ use std::alloc::{AllocError, Global};
 use std::marker::Model;
 
 /// A list of flags, 64 of them in a word. Contracts see the list of the flags.
-#[derive(Debug, Drop)]
+#[derive(Drop)]
 pub struct BitList {
     words: Vec<u64>,
     count: u32,

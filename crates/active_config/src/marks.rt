@@ -9,7 +9,7 @@ use std::marker::Model;
 
 /// The active configuration of a shape: the set of its active states, and the child that each OR
 /// remembers, if any. Contracts see it as a `Configuration`.
-#[derive(Debug, Drop)]
+#[derive(Drop)]
 pub struct Marks {
     flags: BitList,
     last: Vec<Option<u32>>,

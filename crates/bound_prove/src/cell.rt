@@ -3,7 +3,7 @@ use crate::need::Part;
 use actions::Event;
 
 /// A cell: a part of a chart under an event.
-#[derive(Clone, Copy, Debug, PartialEq, Eq)]
+#[derive(Clone, Copy, PartialEq, Eq)]
 pub struct Cell {
     /// The event.
     pub event: Event,
@@ -14,7 +14,7 @@ pub struct Cell {
 }
 
 /// How far a cell is looked at.
-#[derive(Clone, Copy, Debug, PartialEq, Eq)]
+#[derive(Clone, Copy, PartialEq, Eq)]
 pub enum Colour {
     /// Not at all.
     White,

@@ -17,7 +17,7 @@ use flow_base::Memory;
 use std::alloc::Global;
 
 /// The needs of the parts of a chart under one event.
-#[derive(Debug, Drop)]
+#[derive(Drop)]
 pub(crate) struct Row {
     pub(crate) junctions: Vec<Need>,
     pub(crate) exits: Vec<Need>,
@@ -26,7 +26,7 @@ pub(crate) struct Row {
 }
 
 /// A certificate: for each event the needs of the junctions and states.
-#[derive(Debug, Drop)]
+#[derive(Drop)]
 pub struct Cert {
     pub(crate) rows: Vec<Row>,
 }

@@ -8,7 +8,7 @@ use c_subset::{Case, Line};
 use flow_base::Memory;
 
 /// A call, by the numbers of the two functions.
-#[derive(Clone, Copy, Debug)]
+#[derive(Clone, Copy)]
 pub(crate) struct FunctionCall {
     /// The function that calls.
     pub caller: u32,

@@ -13,7 +13,7 @@ use flow_base::Memory;
 use std::alloc::Global;
 
 /// What is known of the functions.
-#[derive(Debug, Drop)]
+#[derive(Drop)]
 pub(crate) struct Uses {
     /// Of each function whether it is called from outside, or by one that is reached.
     pub reached: Vec<bool>,

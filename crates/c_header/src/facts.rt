@@ -3,7 +3,7 @@ ghost use Rattle.std.specs.Prelude.{◌≡◌};
 ghost use Rattle.c_header.specs.Header as spec;
 
 /// What is known of the functions of a source before it is written.
-#[derive(Clone, Copy, Debug)]
+#[derive(Clone, Copy)]
 pub struct SourceFacts {
     /// How many of them are open at once at most, with the one that is called from outside. `None`
     /// where that isn't known.

@@ -9,7 +9,7 @@ use active_config::Shape;
 use std::alloc::AllocError;
 
 /// How the path of a state is written.
-#[derive(Clone, Copy, Debug, PartialEq, Eq)]
+#[derive(Clone, Copy, PartialEq, Eq)]
 pub enum Form {
     /// In words: `/` stands between the names.
     Words,

@@ -21,7 +21,7 @@ use code_fields::print_number;
 use std::alloc::{AllocError, Global};
 
 /// What is written about each state.
-#[derive(Clone, Copy, Debug, PartialEq, Eq)]
+#[derive(Clone, Copy, PartialEq, Eq)]
 pub enum About {
     /// The field of the active child of an OR.
     Active,

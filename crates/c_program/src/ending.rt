@@ -6,7 +6,7 @@ use commands::{FileEnd, Refusal, TextEnd};
 use flow_base::Status;
 
 /// How a call of the program ends.
-#[derive(Clone, Copy, Debug, PartialEq, Eq)]
+#[derive(Clone, Copy, PartialEq, Eq)]
 pub enum Ending {
     /// The whole answer was written.
     Done,

@@ -4,7 +4,7 @@
 use flow_base::List;
 
 /// How many bits an integer type has.
-#[derive(Clone, Copy, Debug, PartialEq, Eq)]
+#[derive(Clone, Copy, PartialEq, Eq)]
 pub enum Width {
     /// 8 bits.
     W8,
@@ -21,7 +21,7 @@ pub enum Width {
 /// An integer type.
 ///
 /// Source: C99, 7.18.1.1 and 7.16; of 128 bits an extended type (6.2.5 p4, p6).
-#[derive(Clone, Copy, Debug, PartialEq, Eq)]
+#[derive(Clone, Copy, PartialEq, Eq)]
 pub enum CType {
     /// `intN_t`
     Signed(Width),
@@ -32,7 +32,7 @@ pub enum CType {
 }
 
 /// An operator whose result is exact where it is one of the type.
-#[derive(Clone, Copy, Debug, PartialEq, Eq)]
+#[derive(Clone, Copy, PartialEq, Eq)]
 pub enum Arithmetic {
     /// `+`
     Plus,
@@ -43,7 +43,7 @@ pub enum Arithmetic {
 }
 
 /// A division, which truncates towards 0.
-#[derive(Clone, Copy, Debug, PartialEq, Eq)]
+#[derive(Clone, Copy, PartialEq, Eq)]
 pub enum Division {
     /// `/`
     Quotient,
@@ -52,7 +52,7 @@ pub enum Division {
 }
 
 /// An operator on the bits of unsigned numbers.
-#[derive(Clone, Copy, Debug, PartialEq, Eq)]
+#[derive(Clone, Copy, PartialEq, Eq)]
 pub enum Bitwise {
     /// `&`
     BitAnd,
@@ -61,7 +61,7 @@ pub enum Bitwise {
 }
 
 /// A comparison.
-#[derive(Clone, Copy, Debug, PartialEq, Eq)]
+#[derive(Clone, Copy, PartialEq, Eq)]
 pub enum Comparison {
     /// `==`
     IsEqual,
@@ -79,7 +79,7 @@ pub enum Comparison {
 
 /// An expression. Fields and arrays of the struct are told by number, a local by its type and its
 /// number.
-#[derive(Debug, Drop)]
+#[derive(Drop)]
 pub enum CExpr {
     /// A constant of that type.
     Const(CType, i128),
@@ -112,7 +112,7 @@ pub enum CExpr {
 }
 
 /// A case of a `switch`: for that value the function is called.
-#[derive(Clone, Copy, Debug, PartialEq, Eq)]
+#[derive(Clone, Copy, PartialEq, Eq)]
 pub struct Case {
     /// The value.
     pub label: u32,
@@ -121,7 +121,7 @@ pub struct Case {
 }
 
 /// A line of statements. What stands between `If` or `While` and its `Close` is nested.
-#[derive(Debug, Drop)]
+#[derive(Drop)]
 pub enum Line {
     /// `x = e;`
     Set(CType, u32, CExpr),
@@ -146,7 +146,7 @@ pub enum Line {
 }
 
 /// A function: its parameters are the locals of these types with the numbers from 0 on.
-#[derive(Debug, Drop)]
+#[derive(Drop)]
 pub struct Function {
     /// The type of what it returns.
     pub result: CType,

@@ -9,7 +9,7 @@ use actions::Names;
 use active_config::{Comp, Shape};
 
 /// What the names in a file are made of.
-#[derive(Clone, Copy, Debug)]
+#[derive(Clone, Copy)]
 pub struct Labels<'a> {
     /// The name of the chart.
     pub(crate) chart: &'a str,

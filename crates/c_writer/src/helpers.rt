@@ -19,7 +19,7 @@ use flow_base::{List, Memory};
 use std::alloc::Global;
 
 /// What a function tells of the state that is its argument.
-#[derive(Clone, Copy, Debug, PartialEq, Eq)]
+#[derive(Clone, Copy, PartialEq, Eq)]
 pub enum Home {
     /// Whether it is active.
     On,

@@ -10,7 +10,7 @@ use std::alloc::{AllocError, Global};
 use std::marker::Model;
 
 /// A chart text and an event file for it. A contract sees the bytes of both.
-#[derive(Debug, Drop)]
+#[derive(Drop)]
 pub struct Case {
     chart: String,
     events: String,

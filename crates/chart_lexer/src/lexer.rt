@@ -7,7 +7,7 @@ use std::alloc::{AllocError, Global};
 use token_grammar::{Span, Token};
 
 /// The tokens of a text, and what stands after them.
-#[derive(Debug, Drop)]
+#[derive(Drop)]
 pub struct Lexed<'a> {
     /// The tokens in the order of the text, comments among them.
     pub tokens: Vec<Token<'a>>,

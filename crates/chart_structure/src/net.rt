@@ -5,7 +5,7 @@ use std::marker::Model;
 use token_grammar::Span;
 
 /// A transition: whether it has an event or a guard, and where it leads.
-#[derive(Clone, Copy, Debug, PartialEq, Eq)]
+#[derive(Clone, Copy, PartialEq, Eq)]
 pub struct Arrow {
     /// The place of the transition.
     pub at: Span,

@@ -21,7 +21,7 @@ use checked_chart::limits::PAIR_LIMIT;
 use std::alloc::{AllocError, Global};
 
 /// What the pass finds.
-#[derive(Clone, Copy, Debug)]
+#[derive(Clone, Copy)]
 pub struct Structure {
     /// The first fault.
     pub fault: Option<FaultAt>,

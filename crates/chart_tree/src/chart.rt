@@ -5,7 +5,7 @@ use crate::state::StateText;
 use flow_base::List;
 
 /// Who raises an event.
-#[derive(Clone, Copy, Debug, PartialEq, Eq)]
+#[derive(Clone, Copy, PartialEq, Eq)]
 pub enum EventWord {
     /// The environment of the chart.
     Input,
@@ -16,7 +16,7 @@ pub enum EventWord {
 }
 
 /// The declaration of an event.
-#[derive(Debug, Drop)]
+#[derive(Drop)]
 pub struct EventText {
     /// Who raises it.
     pub kind: EventWord,
@@ -25,7 +25,7 @@ pub struct EventText {
 }
 
 /// Who sets a datum.
-#[derive(Clone, Copy, Debug, PartialEq, Eq)]
+#[derive(Clone, Copy, PartialEq, Eq)]
 pub enum VarWord {
     /// The environment of the chart.
     Input,
@@ -36,7 +36,7 @@ pub enum VarWord {
 }
 
 /// The declaration of a datum.
-#[derive(Debug, Drop)]
+#[derive(Drop)]
 pub struct VarText {
     /// Who sets it.
     pub kind: VarWord,
@@ -49,7 +49,7 @@ pub struct VarText {
 }
 
 /// A chart.
-#[derive(Debug, Drop)]
+#[derive(Drop)]
 pub struct ChartText {
     /// The events in order of declaration.
     pub events: List<EventText>,

@@ -3,7 +3,7 @@ use crate::name::{LitText, NameText, PathText};
 use token_grammar::Span;
 
 /// An operator with one operand.
-#[derive(Clone, Copy, Debug, PartialEq, Eq)]
+#[derive(Clone, Copy, PartialEq, Eq)]
 pub enum UnWord {
     /// `-`
     Neg,
@@ -12,7 +12,7 @@ pub enum UnWord {
 }
 
 /// An operator with two operands.
-#[derive(Clone, Copy, Debug, PartialEq, Eq)]
+#[derive(Clone, Copy, PartialEq, Eq)]
 pub enum BinWord {
     /// `||`
     Or,
@@ -42,7 +42,7 @@ pub enum BinWord {
 
 /// An expression. Parentheses leave no trace. Its place is that of its first token; the place of a
 /// binary expression is that of its operator.
-#[derive(Debug, Drop)]
+#[derive(Drop)]
 pub enum ExprText {
     /// A number.
     Lit(LitText, Span),

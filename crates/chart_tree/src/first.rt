@@ -6,7 +6,7 @@ use crate::fault::FormKind;
 use token_grammar::Span;
 
 /// A fault: its kind and its place.
-#[derive(Clone, Copy, Debug, PartialEq, Eq)]
+#[derive(Clone, Copy, PartialEq, Eq)]
 pub struct FaultAt {
     /// What is wrong.
     pub kind: FormKind,

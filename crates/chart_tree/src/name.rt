@@ -3,7 +3,7 @@ use flow_base::{List, Text};
 use token_grammar::Span;
 
 /// A name, with the place of its first byte.
-#[derive(Debug, Drop)]
+#[derive(Drop)]
 pub struct NameText {
     /// The name: a letter, and letters, digits and underscores, at most 63 bytes.
     pub text: Text,
@@ -12,7 +12,7 @@ pub struct NameText {
 }
 
 /// A path: the name of a state, and below it names of children. It has at least one name.
-#[derive(Debug, Drop)]
+#[derive(Drop)]
 pub struct PathText {
     /// The names from the top down.
     pub names: List<NameText>,
@@ -20,7 +20,7 @@ pub struct PathText {
 
 /// A number as it is written: `units / 10^places`, and how many bits are to be kept after the
 /// point where a `q` says so.
-#[derive(Clone, Copy, Debug, PartialEq, Eq)]
+#[derive(Clone, Copy, PartialEq, Eq)]
 pub struct LitText {
     /// The digits as a whole number.
     pub units: u128,

@@ -5,7 +5,7 @@ use flow_base::List;
 use token_grammar::Span;
 
 /// A statement.
-#[derive(Debug, Drop)]
+#[derive(Drop)]
 pub enum StmtText {
     /// `NAME = EXPR;`
     Assign(NameText, ExprText),
@@ -16,7 +16,7 @@ pub enum StmtText {
 }
 
 /// Where a transition leads.
-#[derive(Debug, Drop)]
+#[derive(Drop)]
 pub enum DestText {
     /// To a state.
     State(PathText),
@@ -25,7 +25,7 @@ pub enum DestText {
 }
 
 /// A guard, with the place of its bracket.
-#[derive(Debug, Drop)]
+#[derive(Drop)]
 pub struct GuardText {
     /// The expression between the brackets.
     pub expr: ExprText,
@@ -34,7 +34,7 @@ pub struct GuardText {
 }
 
 /// A transition. A missing block is an empty one.
-#[derive(Debug, Drop)]
+#[derive(Drop)]
 pub struct TransText {
     /// The place of its keyword; in a junction, which has no keywords, the place of its first
     /// token.
@@ -52,7 +52,7 @@ pub struct TransText {
 }
 
 /// A junction.
-#[derive(Debug, Drop)]
+#[derive(Drop)]
 pub struct JunctionText {
     /// Its name.
     pub name: NameText,
@@ -61,7 +61,7 @@ pub struct JunctionText {
 }
 
 /// How a state is composed.
-#[derive(Clone, Copy, Debug, PartialEq, Eq)]
+#[derive(Clone, Copy, PartialEq, Eq)]
 pub enum CompText {
     /// Neither word stands there, and the state has no child states. A state with child states is
     /// `Or` then.
@@ -73,7 +73,7 @@ pub enum CompText {
 }
 
 /// A state. Each of its lists is in the order of the text.
-#[derive(Debug, Drop)]
+#[derive(Drop)]
 pub struct StateText {
     /// Its name.
     pub name: NameText,

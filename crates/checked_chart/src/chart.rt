@@ -11,7 +11,7 @@ use active_config::{Comp, Shape};
 use std::marker::Model;
 
 /// A valid chart. No look-up takes memory.
-#[derive(Debug, Drop)]
+#[derive(Drop)]
 pub struct Chart {
     shape: Shape,
     names: Names,

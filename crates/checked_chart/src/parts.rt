@@ -3,7 +3,7 @@ use actions::{Expr, Stmt};
 use flow_base::List;
 
 /// The three lists of transitions of a state.
-#[derive(Clone, Copy, Debug, PartialEq, Eq)]
+#[derive(Clone, Copy, PartialEq, Eq)]
 pub enum ListKind {
     /// Outer transitions: they are tried first while the state is active, and leave it.
     Outer,
@@ -14,7 +14,7 @@ pub enum ListKind {
 }
 
 /// The three actions of a state.
-#[derive(Clone, Copy, Debug, PartialEq, Eq)]
+#[derive(Clone, Copy, PartialEq, Eq)]
 pub enum BlockKind {
     /// It runs once the state has become active.
     Entry,
@@ -25,7 +25,7 @@ pub enum BlockKind {
 }
 
 /// What a transition leads to.
-#[derive(Clone, Copy, Debug, PartialEq, Eq)]
+#[derive(Clone, Copy, PartialEq, Eq)]
 pub enum Dest {
     /// The state of that number.
     State(u32),
@@ -34,7 +34,7 @@ pub enum Dest {
 }
 
 /// A transition. Events, data, states and junctions are given by number.
-#[derive(Debug, Drop)]
+#[derive(Drop)]
 pub struct Trans {
     /// The event that triggers it. Without one every event does.
     pub event: Option<u32>,
@@ -49,7 +49,7 @@ pub struct Trans {
 }
 
 /// What a state does. A state without a list or an action has an empty one.
-#[derive(Debug, Drop)]
+#[derive(Drop)]
 pub struct StateParts {
     /// Its entry action.
     pub entry: List<Stmt>,

@@ -4,7 +4,7 @@ use crate::known::Facts;
 /// What a copy is: of which procedure, and what it takes for known where it begins.
 ///
 /// Source: this project's choice.
-#[derive(Clone, Copy, Debug, PartialEq, Eq)]
+#[derive(Clone, Copy, PartialEq, Eq)]
 pub struct CopyKey {
     /// The procedure.
     pub proc: u32,
@@ -15,7 +15,7 @@ pub struct CopyKey {
 /// A place of a copy that is reached.
 ///
 /// Source: this project's choice.
-#[derive(Clone, Copy, Debug)]
+#[derive(Clone, Copy)]
 pub struct Place {
     /// What is known there.
     pub facts: Facts,
@@ -30,7 +30,7 @@ pub struct Place {
 /// reached.
 ///
 /// Source: this project's choice.
-#[derive(Debug, Drop)]
+#[derive(Drop)]
 pub struct ProcedureCopy {
     /// What the copy is.
     pub key: CopyKey,
@@ -41,7 +41,7 @@ pub struct ProcedureCopy {
 /// Which copies there shall be.
 ///
 /// Source: this project's choice.
-#[derive(Debug, Drop)]
+#[derive(Drop)]
 pub struct Plan {
     /// The sets of events that what is known of events names.
     pub sets: Vec<Vec<u32>>,

@@ -11,7 +11,7 @@ use crate::parts::{brings, joined, mark_of, of_play};
 use code_language::{INSTR_LIMIT, Instr, RawCode};
 
 /// A place of code, and what is counted there.
-#[derive(Clone, Copy, Debug)]
+#[derive(Clone, Copy)]
 struct Spot {
     /// What is counted.
     counted: Counted,

@@ -7,7 +7,7 @@ use flow_base::{List, Memory};
 use std::alloc::Global;
 
 /// The numbers at all places so far.
-#[derive(Debug, Drop)]
+#[derive(Drop)]
 struct Search {
     /// What is counted.
     counted: Counted,

@@ -10,7 +10,7 @@ use flow_base::{Bounds, Memory};
 use std::alloc::Global;
 
 /// A bound of what is counted.
-#[derive(Clone, Copy, Debug)]
+#[derive(Clone, Copy)]
 struct Limit {
     /// The bound.
     bound: u32,

@@ -5,7 +5,7 @@ use flow_base::Bounds;
 /// What is counted of an event.
 ///
 /// Source: this project's choice.
-#[derive(Clone, Copy, Debug, PartialEq, Eq)]
+#[derive(Clone, Copy, PartialEq, Eq)]
 pub enum Counted {
     /// The steps that are paid.
     Steps,
@@ -20,7 +20,7 @@ pub enum Counted {
 /// How much an event can take at most, for the start and for all reactions.
 ///
 /// Source: this project's choice.
-#[derive(Clone, Copy, Debug, PartialEq, Eq)]
+#[derive(Clone, Copy, PartialEq, Eq)]
 pub struct Counts {
     /// The steps that are paid.
     pub steps: u32,
@@ -36,7 +36,7 @@ pub struct Counts {
 /// outputs take.
 ///
 /// Source: this project's choice.
-#[derive(Clone, Copy, Debug)]
+#[derive(Clone, Copy)]
 pub struct Limits {
     /// The bounds of a run, no greater than those that were given.
     pub bounds: Bounds,
@@ -51,7 +51,7 @@ pub struct Limits {
 /// The numbers at a place of code.
 ///
 /// Source: this project's choice.
-#[derive(Clone, Copy, Debug, PartialEq, Eq)]
+#[derive(Clone, Copy, PartialEq, Eq)]
 pub(crate) struct Mark {
     /// How much comes at most from here until the procedure returns.
     pub left: u32,

@@ -10,7 +10,7 @@ use flow_base::{List, Memory};
 use std::alloc::Global;
 
 /// Levels of procedures, and where sends lead for which no depth is left.
-#[derive(Debug, Drop)]
+#[derive(Drop)]
 pub(crate) struct Cut {
     /// For each procedure its level.
     pub levels: Vec<u32>,

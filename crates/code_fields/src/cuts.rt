@@ -6,7 +6,7 @@ ghost use Rattle.code_fields.specs.Views as views;
 use memchr::memchr;
 
 /// What stands before a byte and after it.
-#[derive(Clone, Copy, Debug)]
+#[derive(Clone, Copy)]
 pub struct Parts<'a> {
     /// What stands before it.
     pub front: &'a [u8],
@@ -15,7 +15,7 @@ pub struct Parts<'a> {
 }
 
 /// The first word of a text.
-#[derive(Clone, Copy, Debug)]
+#[derive(Clone, Copy)]
 pub struct Field<'a> {
     /// The word, up to the first space.
     pub word: &'a [u8],

@@ -6,7 +6,7 @@ use flow_base::{List, Text};
 use std::marker::Model;
 
 /// A state as code declares it.
-#[derive(Debug, Drop)]
+#[derive(Drop)]
 pub struct RawState {
     /// Its parent; none of the root.
     pub parent: Option<u32>,
@@ -18,7 +18,7 @@ pub struct RawState {
 
 /// Code as it is written. States, data, events and procedures are numbered from 0, each in its
 /// list.
-#[derive(Debug, Drop)]
+#[derive(Drop)]
 pub struct RawCode {
     /// The states in pre-order, the root first.
     pub states: List<RawState>,
@@ -35,7 +35,7 @@ pub struct RawCode {
 }
 
 /// What was well-formed code, taken apart.
-#[derive(Debug, Drop)]
+#[derive(Drop)]
 pub struct CodeParts {
     /// The code as it is written.
     pub raw: RawCode,
@@ -44,7 +44,7 @@ pub struct CodeParts {
 }
 
 /// Code that is well formed. A contract sees what is written; `accept` makes it.
-#[derive(Debug, Drop)]
+#[derive(Drop)]
 pub struct Code {
     raw: RawCode,
     shape: Shape,

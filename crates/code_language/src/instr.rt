@@ -5,7 +5,7 @@ use actions::Expr;
 /// What `Unless` tests. The home is a state that each call in progress has.
 ///
 /// Source: this project's choice.
-#[derive(Debug, Drop)]
+#[derive(Drop)]
 pub enum Cond {
     /// The state is active.
     On(u32),
@@ -28,7 +28,7 @@ pub enum Cond {
 /// One instruction.
 ///
 /// Source: this project's choice.
-#[derive(Debug, Drop)]
+#[derive(Drop)]
 pub enum Instr {
     /// The datum takes the value of the expression.
     Assign(u32, Expr),

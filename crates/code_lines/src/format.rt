@@ -6,7 +6,7 @@ ghost use Rattle.code_lines.specs.Spelling as spec;
 use code_language::{Cond, Instr};
 
 /// The format of a code text, which its first line names.
-#[derive(Clone, Copy, Debug, PartialEq, Eq)]
+#[derive(Clone, Copy, PartialEq, Eq)]
 pub enum Format {
     /// The first format: nothing is remembered.
     One,

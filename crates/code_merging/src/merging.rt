@@ -81,7 +81,7 @@ fn by_table(alloc: Global, code: Code, numbers: &[u32]) -> Result<Code, Memory>
 }
 
 /// Code in which equal procedures are one, and which one it is.
-#[derive(Debug, Drop)]
+#[derive(Drop)]
 pub struct Merged {
     /// The code.
     pub code: Code,

@@ -11,7 +11,7 @@ pub const NOTE_LIMIT: usize = 32;
 pub const PLAYER_LIMIT: usize = 4_096;
 
 /// What is known at a place of a procedure.
-#[derive(Clone, Copy, Debug)]
+#[derive(Clone, Copy)]
 pub(crate) struct Place {
     /// Whether a run may come there.
     pub(crate) reached: bool,
@@ -24,7 +24,7 @@ pub(crate) struct Place {
 }
 
 /// What is known at each place of each procedure. To a place that isn't there no run comes.
-#[derive(Debug, Drop)]
+#[derive(Drop)]
 pub(crate) struct KnownNotes {
     /// The lists of notes.
     pub(crate) lists: Vec<Vec<u32>>,

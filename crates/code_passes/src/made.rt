@@ -5,7 +5,7 @@ use code_language::Code;
 /// Code that passes have made, and for what its procedures are.
 ///
 /// Source: this project's choice.
-#[derive(Debug, Drop)]
+#[derive(Drop)]
 pub struct Faster {
     /// The code.
     pub code: Code,

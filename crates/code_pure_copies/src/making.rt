@@ -155,7 +155,7 @@ fn made_by(
 }
 
 /// Code whose procedures are copies, and of which ones they are.
-#[derive(Debug, Drop)]
+#[derive(Drop)]
 pub struct Copies {
     /// The code.
     pub code: Code,

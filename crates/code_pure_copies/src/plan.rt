@@ -1,7 +1,7 @@
 //! Which copies there shall be, as the search finds them.
 
 /// The copies that an instruction of a copy names.
-#[derive(Clone, Copy, Debug)]
+#[derive(Clone, Copy)]
 pub(crate) struct Named {
     /// The copy that it calls, visits or sends to, if it does.
     pub proc: u32,
@@ -16,7 +16,7 @@ pub(crate) const NONE_NAMED: Named = Named {
 };
 
 /// Which copies there shall be. They have numbers from 0, in the order of their origins.
-#[derive(Debug, Drop)]
+#[derive(Drop)]
 pub(crate) struct PureCopyPlan {
     /// For each copy the procedure that it is a copy of.
     pub origins: Vec<u32>,

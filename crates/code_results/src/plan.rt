@@ -3,7 +3,7 @@
 /// The results that the last return may have left.
 ///
 /// Source: this project's choice.
-#[derive(Clone, Copy, Debug, PartialEq, Eq)]
+#[derive(Clone, Copy, PartialEq, Eq)]
 pub enum Results {
     /// Any result.
     Any,
@@ -16,7 +16,7 @@ pub enum Results {
 /// What is known at a place of a procedure.
 ///
 /// Source: this project's choice.
-#[derive(Clone, Copy, Debug)]
+#[derive(Clone, Copy)]
 pub struct Place {
     /// The results that the last return may have left there.
     pub results: Results,
@@ -30,7 +30,7 @@ pub struct Place {
 /// Of a place that isn't there nothing is known.
 ///
 /// Source: this project's choice.
-#[derive(Debug, Drop)]
+#[derive(Drop)]
 pub struct KnownResults {
     /// For each procedure its places.
     pub places: Vec<Vec<Place>>,

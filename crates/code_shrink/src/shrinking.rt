@@ -23,7 +23,7 @@ use flow_base::{List, Memory};
 use std::alloc::Global;
 
 /// Smaller code, and where its procedures come from.
-#[derive(Debug, Drop)]
+#[derive(Drop)]
 pub struct Shrunk {
     /// The smaller code.
     pub code: Code,

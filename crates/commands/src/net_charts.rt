@@ -26,7 +26,7 @@ pub(crate) struct ReadFile {
 }
 
 /// A chart of whose file nothing comes, by its number, and why.
-#[derive(Clone, Copy, Debug)]
+#[derive(Clone, Copy)]
 pub(crate) struct UnreadChart {
     /// The number of the chart.
     pub number: usize,

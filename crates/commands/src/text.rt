@@ -6,7 +6,7 @@ use crate::file::FileEnd;
 use flow_base::{Sink, write_all};
 
 /// How a command ends that writes one text, which it makes of a file.
-#[derive(Clone, Copy, Debug, PartialEq, Eq)]
+#[derive(Clone, Copy, PartialEq, Eq)]
 pub enum TextEnd<R> {
     /// The whole text was written.
     Done,

@@ -20,7 +20,7 @@ use flow_base::{List, Memory};
 use std::alloc::Global;
 
 /// How long an action or a search goes on, for the state that is the home of the call.
-#[derive(Clone, Copy, Debug, PartialEq, Eq)]
+#[derive(Clone, Copy, PartialEq, Eq)]
 pub enum Lasting {
     /// While the state is active.
     On,

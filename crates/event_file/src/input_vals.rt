@@ -14,7 +14,7 @@ const NAMED_LIMIT: usize = 16;
 
 /// The values that one line of an event file names, one for each datum that it names. Beside them
 /// it keeps the numbers of the names of the chart that it was made for.
-#[derive(Debug, Drop)]
+#[derive(Drop)]
 pub struct InputVals {
     values: Vec<Option<Value>>,
     /// The first `count` of these are the numbers of the data that have a value, unless there are

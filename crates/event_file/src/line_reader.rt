@@ -47,7 +47,7 @@ pub enum LineEnd {
 }
 
 /// Reads a file line by line, whatever pieces its bytes come in.
-#[derive(Debug, Drop)]
+#[derive(Drop)]
 pub struct LineReader {
     buffer: Vec<u8>,
     /// The line stands in the buffer from `first` to `last`.

@@ -12,7 +12,7 @@ use std::collections::HashMap;
 use std::marker::Model;
 
 /// Names with their numbers. A look-up takes about as long among many names as among few.
-#[derive(Debug, Drop)]
+#[derive(Drop)]
 pub(crate) struct NameTable {
     numbers: HashMap<String, usize>,
 }

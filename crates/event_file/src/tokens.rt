@@ -4,7 +4,7 @@ ghost use Rattle.std.specs.List.{position};
 ghost use Rattle.event_file.specs.EventLines.{is_blank, tokens_of};
 
 /// A text cut after its first token.
-#[derive(Clone, Copy, Debug)]
+#[derive(Clone, Copy)]
 pub struct TokenCut<'a> {
     /// The first token, which isn't empty.
     pub token: &'a [u8],

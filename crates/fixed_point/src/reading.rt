@@ -112,7 +112,7 @@ fn read_bits(digits: &[u8]) -> Option<u32>
 }
 
 /// The parts of a number's text.
-#[derive(Clone, Copy, Debug)]
+#[derive(Clone, Copy)]
 pub struct Numeral<'a> {
     /// Whether a minus sign stands at the front.
     pub negative: bool,

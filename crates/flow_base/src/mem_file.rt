@@ -11,7 +11,7 @@ use std::marker::Model;
 
 /// A file in memory: its name, its bytes, the most that one read gives, and which reads fail. It
 /// keeps how many of its bytes were given, how often it was read, and how many reads failed.
-#[derive(Debug, Drop)]
+#[derive(Drop)]
 pub struct MemFile {
     name: String,
     bytes: Vec<u8>,

@@ -13,7 +13,7 @@ use std::marker::Model;
 
 /// Files in memory. The first file of a name serves it; a read fails exactly where its number is
 /// listed for that file, or where no file has the name.
-#[derive(Debug, Drop)]
+#[derive(Drop)]
 pub struct MemInputs {
     files: Vec<MemFile>,
     missed: u64,

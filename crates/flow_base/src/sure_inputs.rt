@@ -12,7 +12,7 @@ use std::marker::Model;
 
 /// Files in memory of which no read fails, whatever a file lists. The first file of a name serves
 /// it, and a name that isn't there is empty.
-#[derive(Debug, Drop)]
+#[derive(Drop)]
 pub struct SureInputs {
     files: Vec<MemFile>,
 }

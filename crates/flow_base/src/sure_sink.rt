@@ -9,7 +9,7 @@ use crate::sink::Sink;
 
 /// Takes every piece whole and keeps nothing. Contracts don't know what was written. No write
 /// fails.
-#[derive(Clone, Copy, Debug)]
+#[derive(Clone, Copy)]
 pub struct SureSink;
 
 impl SureSink {

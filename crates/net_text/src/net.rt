@@ -2,7 +2,7 @@
 use flow_base::{List, Text};
 
 /// A chart of a net.
-#[derive(Debug, Drop)]
+#[derive(Drop)]
 pub struct NetChart {
     /// Its name, which no other chart of the net has.
     pub name: Text,
@@ -11,7 +11,7 @@ pub struct NetChart {
 }
 
 /// A route of a net, with names for events and data. Charts are given by number.
-#[derive(Debug, Drop)]
+#[derive(Drop)]
 pub struct RouteText {
     /// The line of the net text in which it stands, counted from 1.
     pub line: u32,
@@ -32,7 +32,7 @@ pub struct RouteText {
 }
 
 /// A net: 1 to `CHART_LIMIT` charts and at most `ROUTE_LIMIT` routes.
-#[derive(Debug, Drop)]
+#[derive(Drop)]
 pub struct NetText {
     /// The charts in order of their numbers.
     pub charts: List<NetChart>,

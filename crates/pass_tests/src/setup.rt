@@ -3,11 +3,10 @@ use actions::{EventDecl, EventKind};
 use active_config::Comp;
 use code_language::{Code, Cond, Instr, RawCode, RawState, accept};
 use flow_base::{List, Text};
-use std::fmt::Debug;
 use std::process::Abort;
 
 /// The list of these items.
-pub fn list<T: Debug + Drop, const N: usize>(
+pub fn list<T: Drop, const N: usize>(
     rt: &(impl AllocGlobal + Abort),
     items: [T; N],
 ) -> List<T> {

@@ -7,7 +7,7 @@ use token_grammar::Span;
 
 /// What a name or a path denotes, by number, and where it stands. The place of a path is that of
 /// its first name.
-#[derive(Clone, Copy, Debug, PartialEq, Eq)]
+#[derive(Clone, Copy, PartialEq, Eq)]
 pub struct Ref {
     /// The number of the event, datum, state or junction.
     pub number: u32,
@@ -16,7 +16,7 @@ pub struct Ref {
 }
 
 /// An expression. Its places are those of the chart text.
-#[derive(Debug, Drop)]
+#[derive(Drop)]
 pub enum ResolvedExpr {
     /// A number.
     Lit(LitText, Span),
@@ -33,7 +33,7 @@ pub enum ResolvedExpr {
 }
 
 /// A statement.
-#[derive(Debug, Drop)]
+#[derive(Drop)]
 pub enum ResolvedStmt {
     /// A datum is assigned the value of an expression.
     Assign(Ref, ResolvedExpr),
@@ -44,7 +44,7 @@ pub enum ResolvedStmt {
 }
 
 /// Where a transition leads.
-#[derive(Clone, Copy, Debug, PartialEq, Eq)]
+#[derive(Clone, Copy, PartialEq, Eq)]
 pub enum ResolvedDest {
     /// To a state.
     State(Ref),
@@ -53,7 +53,7 @@ pub enum ResolvedDest {
 }
 
 /// A guard, with the place of its bracket.
-#[derive(Debug, Drop)]
+#[derive(Drop)]
 pub struct ResolvedGuard {
     /// The expression between the brackets.
     pub expr: ResolvedExpr,
@@ -62,7 +62,7 @@ pub struct ResolvedGuard {
 }
 
 /// A transition.
-#[derive(Debug, Drop)]
+#[derive(Drop)]
 pub struct ResolvedTrans {
     /// The place of its keyword; in a junction the place of its first token.
     pub at: Span,
@@ -79,7 +79,7 @@ pub struct ResolvedTrans {
 }
 
 /// A junction.
-#[derive(Debug, Drop)]
+#[derive(Drop)]
 pub struct ResolvedJunction {
     /// The place of its name.
     pub at: Span,
@@ -88,7 +88,7 @@ pub struct ResolvedJunction {
 }
 
 /// A state. Each of its lists is in the order of the text.
-#[derive(Debug, Drop)]
+#[derive(Drop)]
 pub struct ResolvedState {
     /// The place of its name.
     pub at: Span,

@@ -16,7 +16,7 @@ use flow_base::Memory;
 use std::alloc::Global;
 
 /// The procedures that are appended together for one state.
-#[derive(Clone, Copy, Debug, PartialEq, Eq)]
+#[derive(Clone, Copy, PartialEq, Eq)]
 pub(crate) enum StateKeys {
     /// Those of its actions.
     Actions,

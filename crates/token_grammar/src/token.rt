@@ -123,7 +123,7 @@ pub enum Kind {
 }
 
 /// A token, its bytes and the place of the first of them.
-#[derive(Clone, Copy, Debug)]
+#[derive(Clone, Copy)]
 pub struct Token<'a> {
     /// What it is.
     pub kind: Kind,

@@ -7,7 +7,7 @@ use std::alloc::Global;
 /// A copy that was found, under the number that it had then.
 ///
 /// Source: this project's choice.
-#[derive(Debug, Drop)]
+#[derive(Drop)]
 pub struct FoundCopy<C> {
     /// The number.
     pub number: u32,

@@ -15,7 +15,7 @@ pub(crate) fn instrs_at(procs: &[List<Instr>], proc: u32) -> &[Instr] {
 }
 
 /// A copy that is wanted.
-#[derive(Clone, Copy, Debug, PartialEq, Eq, Hash)]
+#[derive(Clone, Copy, PartialEq, Eq, Hash)]
 pub(crate) struct Wanted {
     /// The procedure.
     pub proc: u32,
@@ -24,7 +24,7 @@ pub(crate) struct Wanted {
 }
 
 /// A copy.
-#[derive(Debug, Drop)]
+#[derive(Drop)]
 pub(crate) struct NamingCopy {
     /// The procedure.
     pub origin: u32,

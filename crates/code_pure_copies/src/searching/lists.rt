@@ -13,7 +13,7 @@ pub const PENDING_LIMIT: usize = 16;
 pub(crate) const NO_NOTES: u32 = 0;
 
 /// A list that has notes: the number of the list before the last one, and the last one.
-#[derive(Clone, Copy, Debug, PartialEq, Eq, Hash)]
+#[derive(Clone, Copy, PartialEq, Eq, Hash)]
 struct Longer {
     /// The list.
     list: u32,

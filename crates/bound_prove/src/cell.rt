@@ -3,7 +3,7 @@ use crate::need::Part;
 use actions::Event;
 
 /// A cell: a part of a chart under an event.
-#[derive(Clone, Copy, PartialEq, Eq)]
+#[derive(Clone, Copy)]
 pub struct Cell {
     /// The event.
     pub event: Event,

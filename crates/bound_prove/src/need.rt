@@ -10,7 +10,7 @@ pub const DEPTH_END: u32 = 33;
 pub const STEP_END: u32 = 50_001;
 
 /// How much depth and how many steps a piece of work may take.
-#[derive(Clone, Copy, PartialEq, Eq)]
+#[derive(Clone, Copy)]
 pub struct Need {
     /// How deep its sends may nest.
     pub depth: u32,
@@ -19,7 +19,7 @@ pub struct Need {
 }
 
 /// The pieces of work that have a cell in a certificate.
-#[derive(Clone, Copy, PartialEq, Eq)]
+#[derive(Clone, Copy)]
 pub enum Part {
     /// The list of a junction is searched.
     Junction,

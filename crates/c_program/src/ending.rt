@@ -6,7 +6,7 @@ use commands::{FileEnd, Refusal, TextEnd};
 use flow_base::Status;
 
 /// How a call of the program ends.
-#[derive(Clone, Copy, PartialEq, Eq)]
+#[derive(Clone, Copy)]
 pub enum Ending {
     /// The whole answer was written.
     Done,

@@ -15,7 +15,7 @@ use std::alloc::Global;
 
 /// A command of `chart_to_c`: the file of its chart, and the bounds that its options set, if one
 /// of them stands there.
-#[derive(Clone, Copy, PartialEq, Eq)]
+#[derive(Clone, Copy)]
 pub enum CCommand<'a> {
     /// `header CHART`
     Header(&'a str, Option<Bounds>),

@@ -21,7 +21,7 @@ pub enum Width {
 /// An integer type.
 ///
 /// Source: C99, 7.18.1.1 and 7.16; of 128 bits an extended type (6.2.5 p4, p6).
-#[derive(Clone, Copy, PartialEq, Eq)]
+#[derive(Clone, Copy)]
 pub enum CType {
     /// `intN_t`
     Signed(Width),
@@ -112,7 +112,7 @@ pub enum CExpr {
 }
 
 /// A case of a `switch`: for that value the function is called.
-#[derive(Clone, Copy, PartialEq, Eq)]
+#[derive(Clone, Copy)]
 pub struct Case {
     /// The value.
     pub label: u32,

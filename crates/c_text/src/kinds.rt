@@ -8,7 +8,7 @@ use c_subset::Width;
 use std::alloc::AllocError;
 
 /// What a function is for.
-#[derive(Clone, Copy, PartialEq, Eq)]
+#[derive(Clone, Copy)]
 pub enum Kind {
     /// A procedure of the code.
     Procedure,

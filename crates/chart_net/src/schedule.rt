@@ -25,7 +25,7 @@ use itoa::Buffer;
 use trace_text::Pieces;
 
 /// A step of a schedule. The values that an event gives to inputs are kept with its chart.
-#[derive(Clone, Copy, PartialEq, Eq)]
+#[derive(Clone, Copy)]
 pub(crate) enum ScheduleStep {
     /// The chart of that number is given the event.
     Give(u32, Event),

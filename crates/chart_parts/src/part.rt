@@ -2,7 +2,7 @@
 use checked_chart::{BlockKind, ListKind};
 
 /// Where a transition stands.
-#[derive(Clone, Copy, PartialEq, Eq)]
+#[derive(Clone, Copy)]
 pub enum Owner {
     /// In this list of the state of that number.
     State(u32, ListKind),
@@ -11,7 +11,7 @@ pub enum Owner {
 }
 
 /// What a transition has procedures for.
-#[derive(Clone, Copy, PartialEq, Eq)]
+#[derive(Clone, Copy)]
 pub enum TransPart {
     /// Its guard.
     Guard,
@@ -26,7 +26,7 @@ pub enum TransPart {
 }
 
 /// What is done in a state on the way to a state at or below it.
-#[derive(Clone, Copy, PartialEq, Eq)]
+#[derive(Clone, Copy)]
 pub enum Toward {
     /// The rest of a firing whose home is the state, once its active children are left.
     Arrive,
@@ -38,7 +38,7 @@ pub enum Toward {
 
 /// What a procedure is of. States, junctions and the places of transitions are given by number,
 /// from 0 on.
-#[derive(Clone, Copy, PartialEq, Eq)]
+#[derive(Clone, Copy)]
 pub enum Part {
     /// The end mark, to which a search of an outer or inner list goes at an empty junction.
     EndMark,

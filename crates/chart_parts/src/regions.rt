@@ -17,7 +17,7 @@ use flow_base::{List, Memory};
 use std::alloc::Global;
 
 /// The parts of one state that stand together.
-#[derive(Clone, Copy, PartialEq, Eq)]
+#[derive(Clone, Copy)]
 pub(crate) enum Region {
     /// Its actions.
     Blocks,

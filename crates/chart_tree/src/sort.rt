@@ -4,7 +4,7 @@ use fixed_point::{Mode, Scale};
 use token_grammar::Span;
 
 /// The sort of a datum: which values it may have.
-#[derive(Clone, Copy, PartialEq, Eq)]
+#[derive(Clone, Copy)]
 pub enum SortText {
     /// True or false.
     Flag,
@@ -13,7 +13,7 @@ pub enum SortText {
 }
 
 /// The first value of a datum. A missing one is 0 or false, with the place of the datum's name.
-#[derive(Clone, Copy, PartialEq, Eq)]
+#[derive(Clone, Copy)]
 pub enum InitText {
     /// A number. One of value 0 isn't negative, and has no digits after the point and no `q`.
     Number {

@@ -4,7 +4,7 @@ use crate::known::Facts;
 /// What a copy is: of which procedure, and what it takes for known where it begins.
 ///
 /// Source: this project's choice.
-#[derive(Clone, Copy, PartialEq, Eq)]
+#[derive(Clone, Copy)]
 pub struct CopyKey {
     /// The procedure.
     pub proc: u32,

@@ -5,7 +5,7 @@ use flow_base::Bounds;
 /// What is counted of an event.
 ///
 /// Source: this project's choice.
-#[derive(Clone, Copy, PartialEq, Eq)]
+#[derive(Clone, Copy)]
 pub enum Counted {
     /// The steps that are paid.
     Steps,
@@ -20,7 +20,7 @@ pub enum Counted {
 /// How much an event can take at most, for the start and for all reactions.
 ///
 /// Source: this project's choice.
-#[derive(Clone, Copy, PartialEq, Eq)]
+#[derive(Clone, Copy)]
 pub struct Counts {
     /// The steps that are paid.
     pub steps: u32,
@@ -51,7 +51,7 @@ pub struct Limits {
 /// The numbers at a place of code.
 ///
 /// Source: this project's choice.
-#[derive(Clone, Copy, PartialEq, Eq)]
+#[derive(Clone, Copy)]
 pub(crate) struct Mark {
     /// How much comes at most from here until the procedure returns.
     pub left: u32,

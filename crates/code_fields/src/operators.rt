@@ -9,7 +9,7 @@ use actions::{Expr, Op};
 use fixed_point::{Num, PLACES_LIMIT, READ_LIMIT};
 
 /// An operator with one or two operands.
-#[derive(Clone, Copy, PartialEq, Eq)]
+#[derive(Clone, Copy)]
 pub enum Operator {
     /// `-` of one number.
     Neg,

@@ -3,7 +3,7 @@ ghost use Rattle.std.specs.Prelude.{◌≡◌, bytes_eq};
 ghost use Rattle.code_lines.specs.Fields as spec;
 
 /// The first word of an instruction that has more than one.
-#[derive(Clone, Copy, PartialEq, Eq)]
+#[derive(Clone, Copy)]
 pub enum Word {
     /// `set`
     Assign,
@@ -14,7 +14,7 @@ pub enum Word {
 }
 
 /// The first word of an instruction that has no expression, and more than one word.
-#[derive(Clone, Copy, PartialEq, Eq)]
+#[derive(Clone, Copy)]
 pub enum PlainWord {
     /// `emit`
     Emit,
@@ -41,7 +41,7 @@ pub enum PlainWord {
 }
 
 /// The first word of a condition that has more than one.
-#[derive(Clone, Copy, PartialEq, Eq)]
+#[derive(Clone, Copy)]
 pub enum CondWord {
     /// `on`
     On,

@@ -4,7 +4,7 @@ use actions::Event;
 /// For which current events a procedure is.
 ///
 /// Source: this project's choice.
-#[derive(Clone, Copy, PartialEq, Eq)]
+#[derive(Clone, Copy)]
 pub enum EventTag {
     /// For all events.
     Any,
@@ -17,7 +17,7 @@ pub enum EventTag {
 /// For what a procedure is of the code that passes make.
 ///
 /// Source: this project's choice.
-#[derive(Clone, Copy, PartialEq, Eq)]
+#[derive(Clone, Copy)]
 pub struct Tag {
     /// The procedure of the code as it was given.
     pub proc: u32,

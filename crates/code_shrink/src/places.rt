@@ -26,7 +26,7 @@ use flow_base::Memory;
 use std::alloc::Global;
 
 /// How a run goes on after an instruction.
-#[derive(Clone, Copy, PartialEq, Eq)]
+#[derive(Clone, Copy)]
 pub enum Way {
     /// At the next place.
     On,

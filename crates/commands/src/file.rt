@@ -6,7 +6,7 @@ use flow_base::{Inputs, ReadEnd, read_whole};
 use std::alloc::Global;
 
 /// Why nothing comes of a file.
-#[derive(Clone, Copy, PartialEq, Eq)]
+#[derive(Clone, Copy)]
 pub enum FileEnd<R> {
     /// Its text is refused, for that reason.
     Refused(R),

@@ -7,7 +7,7 @@ use chart_tree::{FormFault, FormKind};
 use token_grammar::Span;
 
 /// Why a chart text is refused: the kind of its first fault, and its place.
-#[derive(Clone, Copy, PartialEq, Eq)]
+#[derive(Clone, Copy)]
 pub struct Refusal {
     /// The kind of the fault.
     pub kind: FormKind,

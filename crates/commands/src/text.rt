@@ -6,7 +6,7 @@ use crate::file::FileEnd;
 use flow_base::{Sink, write_all};
 
 /// How a command ends that writes one text, which it makes of a file.
-#[derive(Clone, Copy, PartialEq, Eq)]
+#[derive(Clone, Copy)]
 pub enum TextEnd<R> {
     /// The whole text was written.
     Done,

@@ -31,7 +31,7 @@ pub(crate) fn length_without_return(line: &[u8]) -> usize
 }
 
 /// What bytes begin with.
-#[derive(Clone, Copy, PartialEq, Eq)]
+#[derive(Clone, Copy)]
 pub(crate) enum Cut {
     /// A line with over `LINE_LIMIT` bytes, where the first byte too many is earlier than the first
     /// byte that the file has no room for.

@@ -11,7 +11,7 @@ use fixed_point::Scale;
 use flow_base::Text;
 
 /// A route of a net. Charts, events and data are given by number.
-#[derive(Clone, Copy, PartialEq, Eq)]
+#[derive(Clone, Copy)]
 pub struct Route {
     /// The chart that sends.
     pub from: u32,

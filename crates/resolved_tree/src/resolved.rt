@@ -7,7 +7,7 @@ use token_grammar::Span;
 
 /// What a name or a path denotes, by number, and where it stands. The place of a path is that of
 /// its first name.
-#[derive(Clone, Copy, PartialEq, Eq)]
+#[derive(Clone, Copy)]
 pub struct Ref {
     /// The number of the event, datum, state or junction.
     pub number: u32,
@@ -44,7 +44,7 @@ pub enum ResolvedStmt {
 }
 
 /// Where a transition leads.
-#[derive(Clone, Copy, PartialEq, Eq)]
+#[derive(Clone, Copy)]
 pub enum ResolvedDest {
     /// To a state.
     State(Ref),

@@ -16,7 +16,7 @@ use flow_base::Memory;
 use std::alloc::Global;
 
 /// What a procedure of a state for another state does.
-#[derive(Clone, Copy, PartialEq, Eq)]
+#[derive(Clone, Copy)]
 pub(crate) enum PairKey {
     /// The rest of a firing with this home, once the active child of the home is left.
     Arrive,

@@ -16,7 +16,7 @@ use flow_base::Memory;
 use std::alloc::Global;
 
 /// The procedures that are appended together for one state.
-#[derive(Clone, Copy, PartialEq, Eq)]
+#[derive(Clone, Copy)]
 pub(crate) enum StateKeys {
     /// Those of its actions.
     Actions,

@@ -14,24 +14,56 @@ use std::alloc::{AllocError, Global};
 pub(crate) fn program<'a>(alloc: Global) -> Result<Command<'a>, AllocError>
     ensures { IfOk result (λ parser. app_of parser ≡ program_app) }
 {
-    let parser = first_commands(alloc)?;
-    let parser = with_command(parser, with_run(alloc, "exec"))?;
-    let parser = with_command(parser, with_run(alloc, "run"))?;
-    let parser = with_command(parser, with_file(alloc, "upgrade"))?;
-    let parser = with_command(parser, with_file(alloc, "bounds"))?;
-    let parser = with_command(parser, with_file(alloc, "shrink"))?;
-    let parser = with_command(parser, with_run(alloc, "net"))?;
-    with_command(parser, with_number(alloc, "selftest"))
+    let parser = first_commands(alloc);
+    let parser = then_run(alloc, parser, "exec");
+    let parser = then_run(alloc, parser, "run");
+    let parser = then_file(alloc, parser, "upgrade");
+    let parser = then_file(alloc, parser, "bounds");
+    let parser = then_file(alloc, parser, "shrink");
+    match then_run(alloc, parser, "net") {
+        Ok(parser) => with_command(parser, with_number(alloc, "selftest")),
+        Err(error) => Err(error),
+    }
 }
 
 /// The parser with the first of its commands.
 fn first_commands<'a>(alloc: Global) -> Result<Command<'a>, AllocError>
     ensures { IfOk result (λ parser. app_of parser ≡ first_app) }
 {
-    let parser = with_command(bare(alloc, "flowc"), with_file(alloc, "check"))?;
-    let parser = with_command(parser, with_file(alloc, "fmt"))?;
-    let parser = with_command(parser, with_run(alloc, "rules"))?;
-    with_command(parser, with_file(alloc, "compile"))
+    let parser = with_command(bare(alloc, "flowc"), with_file(alloc, "check"));
+    let parser = then_file(alloc, parser, "fmt");
+    let parser = then_run(alloc, parser, "rules");
+    then_file(alloc, parser, "compile")
+}
+
+/// The parser with one more command of one file.
+fn then_file<'a>(
+    alloc: Global,
+    parser: Result<Command<'a>, AllocError>,
+    name: &'a str,
+) -> Result<Command<'a>, AllocError>
+    ensures { (app : App) → IfOk parser.entry (λ before. app_of before ≡ app)
+        → IfOk result (λ more. app_of more ≡ with_subcommand app (file_app name.entry.now).top) }
+{
+    match parser {
+        Ok(parser) => with_command(parser, with_file(alloc, name)),
+        Err(error) => Err(error),
+    }
+}
+
+/// The parser with one more command of two files, which takes bounds.
+fn then_run<'a>(
+    alloc: Global,
+    parser: Result<Command<'a>, AllocError>,
+    name: &'a str,
+) -> Result<Command<'a>, AllocError>
+    ensures { (app : App) → IfOk parser.entry (λ before. app_of before ≡ app)
+        → IfOk result (λ more. app_of more ≡ with_subcommand app (run_app name.entry.now).top) }
+{
+    match parser {
+        Ok(parser) => with_command(parser, with_run(alloc, name)),
+        Err(error) => Err(error),
+    }
 }
 
 /// The parser with one more command, where there was memory for it.
@@ -42,7 +74,13 @@ pub fn with_command<'a>(
     ensures { (app : App) → IfOk command.entry (Builds app)
         → IfOk result (λ more. app_of more ≡ with_subcommand (app_of parser.entry) app.top) }
 {
-    parser.subcommand(command?)
+    match command {
+        Ok(command) => parser.subcommand(command),
+        Err(error) => {
+            drop(parser);
+            Err(error)
+        }
+    }
 }
 
 /// The parser of a program of that name that has no help and no version, and wants a command. It
@@ -77,7 +115,10 @@ fn with_run<'a>(alloc: Global, name: &'a str) -> Result<Command<'a>, AllocError>
 fn with_files<'a>(alloc: Global, name: &'a str) -> Result<Command<'a>, AllocError>
     ensures { IfOk result (Builds (files_app name.entry.now)) }
 {
-    with_file(alloc, name)?.arg(file(alloc, "second"))
+    match with_file(alloc, name) {
+        Ok(command) => command.arg(file(alloc, "second")),
+        Err(error) => Err(error),
+    }
 }
 
 /// A command of one number, up to `NUMBER_LIMIT`.

@@ -10,7 +10,7 @@ added : (old sub new : Command) (app : App) → Builds app sub → AddsSubcomman
     → app_of new ≡ with_subcommand (app_of old) app.top
 added old sub new app builds adds = adds.shape builds.1 ∙ ap (λ (x : App). with_subcommand (app_of old) x.top) builds.0
 
-pub returns : goal.returns
-returns c = λ app builds.
-    let built = rw c.in_ok-command.was at builds in
+pub returns-in-Ok : goal.returns-in-Ok
+returns-in-Ok c = λ app builds.
+    let built = rw c.in-Ok.is at builds in
     IfOk-weaker c.subcommand.result _ _ (λ more adds. added _ _ more app built adds) c.subcommand.ensures

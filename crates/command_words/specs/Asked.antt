@@ -65,6 +65,25 @@ net_found rows =
 abbrev pub number_found : (ℕ → Command) → List Row → Option Command
 number_found command rows = option_map command (number_at (codes "first") rows)
 
+-- the command of one file of that name, if it is one
+abbrev pub file_command : Text → Text → Option Command
+file_command name first =
+    if bytes_eq (codes "check") name then Some (Check first) else
+    if bytes_eq (codes "fmt") name then Some (Fmt first) else
+    if bytes_eq (codes "compile") name then Some (Compile first) else
+    if bytes_eq (codes "upgrade") name then Some (Upgrade first) else
+    if bytes_eq (codes "bounds") name then Some (Bound first) else
+    if bytes_eq (codes "shrink") name then Some (Shrink first) else None
+
+-- the command of one file of that name with what its rows give
+abbrev pub file_found_named : Text → List Row → Option Command
+file_found_named name rows = option_and_then (file_command name) (first_of (codes "first") rows)
+
+-- the command of two files and bounds of that name, `run` for any other name
+abbrev pub run_of_name : Text → Text → Text → RunBounds → Command
+run_of_name name =
+    if bytes_eq (codes "rules") name then Rules else if bytes_eq (codes "exec") name then Exec else Run
+
 -- the command of that name with what its rows give
 abbrev pub found_named : Text → List Row → Option Command
 found_named name rows =

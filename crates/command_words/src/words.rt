@@ -2,8 +2,8 @@
 ghost use Rattle.std.specs.Prelude.{◌≡◌, IfOk, option_map};
 ghost use Rattle.clap.specs.Words.{found_of, rows_of, subcommand_rows_of};
 ghost use Rattle.command_words.specs.Commands as spec;
-ghost use Rattle.command_words.specs.Asked.{command_found, file_found, found_named};
-ghost use Rattle.command_words.specs.Asked.{net_found, number_found, run_found};
+ghost use Rattle.command_words.specs.Asked.{command_found, file_found_named, found_named};
+ghost use Rattle.command_words.specs.Asked.{net_found, number_found, run_found, run_of_name};
 ghost use Rattle.command_words.specs.Seen.{command_seen};
 ghost use Rattle.command_words.specs.Words.{command_of};
 
@@ -81,94 +81,44 @@ fn named<'a>(name: &str, given: &ArgMatches<'a>) -> Option<Command<'a>>
         ≡ found_named name.now (rows_of (found_of given.now)) }
 {
     match name {
-        "check" => check_in(given),
-        "fmt" => fmt_in(given),
-        "rules" => rules_in(given),
-        "compile" => compile_in(given),
-        "exec" => exec_in(given),
-        "run" => run_in(given),
-        "upgrade" => upgrade_in(given),
-        "bounds" => bound_in(given),
-        "shrink" => shrink_in(given),
+        "rules" => run_named(name, given),
+        "exec" => run_named(name, given),
+        "run" => run_named(name, given),
         "net" => net_in(given),
         "selftest" => selftest_in(given),
+        _ => file_named(name, given),
+    }
+}
+
+/// The command of that name with its file, where it is one of a file alone.
+fn file_named<'a>(name: &str, given: &ArgMatches<'a>) -> Option<Command<'a>>
+    ensures { option_map command_seen result
+        ≡ file_found_named name.now (rows_of (found_of given.now)) }
+{
+    let first = text_in(given, "first")?;
+    match name {
+        "check" => Some(Command::Check(first)),
+        "fmt" => Some(Command::Fmt(first)),
+        "compile" => Some(Command::Compile(first)),
+        "upgrade" => Some(Command::Upgrade(first)),
+        "bounds" => Some(Command::Bound(first)),
+        "shrink" => Some(Command::Shrink(first)),
         _ => None,
     }
 }
 
-/// The command `check` with its file.
-fn check_in<'a>(given: &ArgMatches<'a>) -> Option<Command<'a>>
+/// The command `rules`, `exec` or, for any other name, `run`, with its files and bounds.
+fn run_named<'a>(name: &str, given: &ArgMatches<'a>) -> Option<Command<'a>>
     ensures { option_map command_seen result
-        ≡ file_found spec.Check (rows_of (found_of given.now)) }
+        ≡ run_found (run_of_name name.now) (rows_of (found_of given.now)) }
 {
-    Some(Command::Check(text_in(given, "first")?))
-}
-
-/// The command `fmt` with its file.
-fn fmt_in<'a>(given: &ArgMatches<'a>) -> Option<Command<'a>>
-    ensures { option_map command_seen result
-        ≡ file_found spec.Fmt (rows_of (found_of given.now)) }
-{
-    Some(Command::Fmt(text_in(given, "first")?))
-}
-
-/// The command `rules` with its files and bounds.
-fn rules_in<'a>(given: &ArgMatches<'a>) -> Option<Command<'a>>
-    ensures { option_map command_seen result
-        ≡ run_found spec.Rules (rows_of (found_of given.now)) }
-{
-    let (chart, events) = files_in(given)?;
-    Some(Command::Rules(chart, events, bounds_in(given)?))
-}
-
-/// The command `compile` with its file.
-fn compile_in<'a>(given: &ArgMatches<'a>) -> Option<Command<'a>>
-    ensures { option_map command_seen result
-        ≡ file_found spec.Compile (rows_of (found_of given.now)) }
-{
-    Some(Command::Compile(text_in(given, "first")?))
-}
-
-/// The command `exec` with its files and bounds.
-fn exec_in<'a>(given: &ArgMatches<'a>) -> Option<Command<'a>>
-    ensures { option_map command_seen result
-        ≡ run_found spec.Exec (rows_of (found_of given.now)) }
-{
-    let (code, events) = files_in(given)?;
-    Some(Command::Exec(code, events, bounds_in(given)?))
-}
-
-/// The command `run` with its files and bounds.
-fn run_in<'a>(given: &ArgMatches<'a>) -> Option<Command<'a>>
-    ensures { option_map command_seen result
-        ≡ run_found spec.Run (rows_of (found_of given.now)) }
-{
-    let (chart, events) = files_in(given)?;
-    Some(Command::Run(chart, events, bounds_in(given)?))
-}
-
-/// The command `upgrade` with its file.
-fn upgrade_in<'a>(given: &ArgMatches<'a>) -> Option<Command<'a>>
-    ensures { option_map command_seen result
-        ≡ file_found spec.Upgrade (rows_of (found_of given.now)) }
-{
-    Some(Command::Upgrade(text_in(given, "first")?))
-}
-
-/// The command `bounds` with its file.
-fn bound_in<'a>(given: &ArgMatches<'a>) -> Option<Command<'a>>
-    ensures { option_map command_seen result
-        ≡ file_found spec.Bound (rows_of (found_of given.now)) }
-{
-    Some(Command::Bound(text_in(given, "first")?))
-}
-
-/// The command `shrink` with its file.
-fn shrink_in<'a>(given: &ArgMatches<'a>) -> Option<Command<'a>>
-    ensures { option_map command_seen result
-        ≡ file_found spec.Shrink (rows_of (found_of given.now)) }
-{
-    Some(Command::Shrink(text_in(given, "first")?))
+    let (first, second) = files_in(given)?;
+    let bounds = bounds_in(given)?;
+    match name {
+        "rules" => Some(Command::Rules(first, second, bounds)),
+        "exec" => Some(Command::Exec(first, second, bounds)),
+        _ => Some(Command::Run(first, second, bounds)),
+    }
 }
 
 /// The command `net` with its files and bounds.

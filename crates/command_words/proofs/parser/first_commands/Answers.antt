@@ -1,4 +1,4 @@
-use Rattle.std.proofs.Common.{codes, ◌∷◌, []}
+use Rattle.std.proofs.Common.{codes}
 use Rattle.command_words.specs.Parser.{bare_app, file_app, run_app}
 use Rattle.clap.specs.Words.{App, with_subcommand}
 use Rattle.command_words.proofs.ParserLemmas.{further_if_ok}

@@ -3,11 +3,7 @@ use Rattle.std.proofs.Common.{◌≡◌, List, [], ◌∷◌, ◌++◌, refl, ap
 use Rattle.chart_tree.specs.declared.name.NameText.{NameText}
 use Rattle.chart_tree.specs.declared.state.CompText.{CompText}
 use Rattle.chart_grammar.specs.States.{Item, Sorted, no_items, put, sorted}
-
--- items put in front of others
-abbrev pub put_all : List Item → Sorted → Sorted
-put_all [] s = s
-put_all (x ∷ xs) s = put x (put_all xs s)
+use Rattle.chart_reader.specs.Items.{put_all}
 
 -- the last of them first
 pub put_last : (xs : List Item) (x : Item) (s : Sorted) → put_all (xs ++ x ∷ []) s ≡ put_all xs (put x s)

@@ -63,13 +63,12 @@ module _ {S X : Type 0} (set : S → Set) (g : S → Grammar (Counted X)) (next 
 -- ---- what stands after the loop
 
 -- what is read from the list is read from its values and counts
-pub told_then : {X Y : Type 0} (n : Counts) (read : Outcome (List (Counted X))) (y : Counted (List X)) (r : List Lexeme)
-    (h : Counted (List X) → List Lexeme → Outcome Y) → told n read ≡ Ok (y, r)
-    → and_then read (λ found q. h (record { value = values found; counts = counts_behind n found }) q) ≡ h y r
-told_then n (Ok x) y r h e =
-    let same : (record { value = values x.0; counts = counts_behind n x.0 }, x.1) ≡ (y, r) = cc in
-    ap (λ (z : Counted (List _) × List Lexeme). h z.0 z.1) same
-told_then n (Err d) y r h e = absurd cc
+pub told_more : {X Y : Type 0} (n : Counts) (read : Outcome (List (Counted X)))
+    (more : Counted (List X) → List Lexeme → Outcome Y)
+    → and_then read (λ found r. more (record { value = values found; counts = counts_behind n found }) r)
+    ≡ and_then (told n read) more
+told_more n (Ok x) more = refl
+told_more n (Err e) more = refl
 
 -- and so is what failed
 pub told_stops : {X Y : Type 0} (n : Counts) (err : ReadError) (read : Outcome (List (Counted X))) (r : List Lexeme)

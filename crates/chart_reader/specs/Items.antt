@@ -41,6 +41,11 @@ abbrev pub children_of : List StateText → States
 children_of [] = NoState
 children_of (s ∷ ss) = MoreStates (state_of s) (children_of ss)
 
+-- items put in front of others
+abbrev pub put_all : List grammar.Item → Sorted → Sorted
+put_all [] s = s
+put_all (x ∷ xs) s = grammar.put x (put_all xs s)
+
 -- the items in their lists, each list in reverse order
 abbrev pub sorted_of : Lists → Sorted
 sorted_of l = record {

@@ -10,3 +10,4 @@ pub mod Told
 pub mod Items
 pub mod Heads
 pub mod Parts
+pub mod Ends

@@ -7,7 +7,7 @@ ghost use Rattle.chart_grammar.specs.Limits.{usual};
 ghost use Rattle.chart_grammar.specs.States as states;
 ghost use Rattle.chart_reader.specs.Counts.{counts_of};
 ghost use Rattle.chart_reader.specs.Items.{item_of, seen_of};
-ghost use Rattle.chart_reader.specs.Parts.{action_named, trans_named};
+ghost use Rattle.chart_reader.specs.Parts.{action_named, trans_named, state_item};
 ghost use Rattle.chart_reader.specs.Told.{told};
 
 use crate::content::{Item, Seen};
@@ -92,6 +92,39 @@ impl<'t, 'a> Reader<'t, 'a> {
         Ok(Item::trans(keyword, trans))
     }
 
+    /// The declaration of an event as an item.
+    #[tactic(auto, unfolding(chart_grammar::specs::States::event_item))]
+    fn event_item(&mut self) -> Result<Item, ReadError>
+        ensures { Gives (λ x. record { value = item_of x; counts = counts_of self.new.counts })
+            result (lexemes self.new.rest.now)
+            ((states.event_item usual (counts_of self.old.counts)).reads
+            (lexemes self.old.rest.now)) }
+    {
+        Ok(Item::Event(self.event()?))
+    }
+
+    /// The declaration of a datum as an item.
+    #[tactic(auto, unfolding(chart_grammar::specs::States::variable_item))]
+    fn variable_item(&mut self) -> Result<Item, ReadError>
+        ensures { Gives (λ x. record { value = item_of x; counts = counts_of self.new.counts })
+            result (lexemes self.new.rest.now)
+            ((states.variable_item usual (counts_of self.old.counts)).reads
+            (lexemes self.old.rest.now)) }
+    {
+        Ok(Item::Var(self.variable()?))
+    }
+
+    /// A state as an item, where it and the states nested in it take at most `depth` levels.
+    #[cycle(state)]
+    fn state_item(&mut self, depth: u32) -> Result<Item, ReadError>
+        ensures { Gives (λ x. record { value = item_of x; counts = counts_of self.new.counts })
+            result (lexemes self.new.rest.now)
+            ((state_item (states.state usual depth (counts_of self.old.counts))).reads
+            (lexemes self.old.rest.now)) }
+    {
+        Ok(Item::State(self.state(depth)?))
+    }
+
     /// The word `history` and its semicolon.
     #[tactic(auto, unfolding(chart_grammar::specs::States::history_item))]
     fn history(&mut self) -> Result<Item, ReadError>
@@ -153,7 +186,7 @@ impl<'t, 'a> Reader<'t, 'a> {
         } else if self.is_at(Kind::Junction) {
             self.junction_item()
         } else {
-            Ok(Item::State(self.state(depth)?))
+            self.state_item(depth)
         }
     }
 
@@ -179,7 +212,7 @@ impl<'t, 'a> Reader<'t, 'a> {
     }
 
     /// An item of the chart.
-    #[tactic(auto, unfolding(chart_grammar::specs::States::chart_item, chart_grammar::specs::States::event_item, chart_grammar::specs::States::variable_item))]
+    #[tactic(auto, unfolding(chart_grammar::specs::States::chart_item))]
     fn chart_item(&mut self) -> Result<Item, ReadError>
         ensures { Gives (λ x. record { value = item_of x; counts = counts_of self.new.counts })
             result (lexemes self.new.rest.now)
@@ -200,11 +233,11 @@ impl<'t, 'a> Reader<'t, 'a> {
         } else if self.is_at(Kind::Junction) {
             self.junction_item()
         } else if self.is_at(Kind::Event) {
-            Ok(Item::Event(self.event()?))
+            self.event_item()
         } else if self.is_at_one_of(Group::Kinds) {
-            Ok(Item::Var(self.variable()?))
+            self.variable_item()
         } else {
-            Ok(Item::State(self.state(STATE_DEPTH_LIMIT)?))
+            self.state_item(STATE_DEPTH_LIMIT)
         }
     }
 

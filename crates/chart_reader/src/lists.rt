@@ -3,7 +3,7 @@ ghost use Rattle.std.specs.Prelude.{◌≡◌, ◌∷◌, map, reverse, IfOk, On
 ghost use Rattle.chart_tree.specs.Trees as trees;
 ghost use Rattle.chart_tree.specs.Views.{state_of, chart_of};
 ghost use Rattle.chart_grammar.specs.States as states;
-ghost use Rattle.chart_reader.specs.Items.{item_of, sorted_of, children_of};
+ghost use Rattle.chart_reader.specs.Items.{item_of, sorted_of, children_of, put_all};
 
 use crate::content::Item;
 use chart_tree::{
@@ -107,6 +107,18 @@ impl Lists {
         }
     }
 
+    /// Puts the items before those that follow them in the text.
+    fn put_all(&mut self, items: Vec<Item>) -> Result<(), AllocError>
+        ensures { OnOk result
+            (sorted_of self.new ≡ put_all (map item_of items.items) (sorted_of self.old)) }
+    {
+        let mut items = items;
+        'items: while let Some(item) = items.pop() {
+            self.put(item)?;
+        }
+        Ok(())
+    }
+
     /// The items in their lists.
     pub fn sorted(
         alloc: Global,
@@ -118,11 +130,13 @@ impl Lists {
             ≡ states.sorted name comp (map item_of items.items)) }
     {
         let mut lists = Lists::empty(alloc, name, comp);
-        let mut items = items;
-        'items: while let Some(item) = items.pop() {
-            lists.put(item)?;
+        match lists.put_all(items) {
+            Ok(()) => Ok(lists),
+            Err(fault) => {
+                drop(lists);
+                Err(fault)
+            }
         }
-        Ok(lists)
     }
 
     /// The chart of these items. The root of the chart is a state.

@@ -1,17 +1,29 @@
 //! States and charts.
-ghost use Rattle.std.specs.Prelude.{◌≡◌};
+ghost use Rattle.std.specs.Prelude.{◌≡◌, map};
+ghost use Rattle.token_grammar.specs.declared.token.Kind.TheVariants as kinds;
 ghost use Rattle.token_grammar.specs.Token.{lexemes, Gives};
 ghost use Rattle.chart_tree.specs.Views.{state_of, chart_of};
+ghost use Rattle.chart_grammar.specs.Limits as limits;
 ghost use Rattle.chart_grammar.specs.Limits.{usual};
 ghost use Rattle.chart_grammar.specs.States as states;
 ghost use Rattle.chart_reader.specs.Counts.{counts_of};
+ghost use Rattle.chart_reader.specs.Items.{item_of};
+ghost use Rattle.chart_reader.specs.Parts as parts;
 
+use crate::content::Item;
 use crate::counts::Counts;
 use crate::group::Group;
 use crate::lists::Lists;
 use crate::reader::Reader;
-use chart_tree::{ChartText, CompText, StateText};
+use chart_tree::{ChartText, CompText, NameText, StateText};
 use token_grammar::{Kind, ReadError, TokenFault};
+
+/// What stands before the items of a state or the chart.
+#[derive(Drop)]
+pub(crate) struct Head {
+    pub name: NameText,
+    pub comp: CompText,
+}
 
 impl<'t, 'a> Reader<'t, 'a> {
     /// `or` or `and`.
@@ -40,6 +52,37 @@ impl<'t, 'a> Reader<'t, 'a> {
         } else {
             Ok(CompText::None)
         }
+    }
+
+    /// What stands before the items of a state or the chart, and the brace that opens them.
+    #[tactic(auto, unfolding(crate::specs::Parts::head))]
+    fn head(&mut self) -> Result<Head, ReadError>
+        ensures read { Gives (λ h. (h.name, h.comp)) result (lexemes self.new.rest.now)
+            (parts.head.reads (lexemes self.old.rest.now)) }
+        ensures counts { self.new.counts ≡ self.old.counts }
+    {
+        let name = self.name()?;
+        let comp = self.maybe_comp()?;
+        self.closed_by(Kind::OpenBrace, Head { name, comp })
+    }
+
+    /// The chart of its items, after the brace that closes them. The root of the chart is a state.
+    fn body(&mut self, head: Head, items: Vec<Item>) -> Result<ChartText, ReadError>
+        ensures chart { Gives chart_of result (lexemes self.new.rest.now)
+            ((parts.closed_by kinds.CloseBrace (states.chart_with
+            (states.sorted head.name head.comp (map item_of items.items)))).reads
+            (lexemes self.old.rest.now)) }
+        ensures root { (n : limits.Counts)
+            → Gives (λ c. record { value = state_of c.root; counts = n }) result
+            (lexemes self.new.rest.now)
+            ((parts.closed_by kinds.CloseBrace (parts.counted n (states.state_with
+            (states.sorted head.name head.comp (map item_of items.items))))).reads
+            (lexemes self.old.rest.now)) }
+        ensures counts { self.new.counts ≡ self.old.counts }
+    {
+        self.token(Kind::CloseBrace)?;
+        let lists = Lists::sorted(self.alloc, head.name, head.comp, items)?;
+        Ok(lists.into_chart())
     }
 
     /// No state: what would begin one is nested too deep.
@@ -92,13 +135,10 @@ impl<'t, 'a> Reader<'t, 'a> {
             ((states.state_body usual (states.state usual depth)
             (counts_of self.old.counts)).reads (lexemes self.old.rest.now)) }
     {
-        let name = self.name()?;
-        let comp = self.maybe_comp()?;
-        self.token(Kind::OpenBrace)?;
+        let head = self.head()?;
         let items = self.items(depth)?;
-        self.token(Kind::CloseBrace)?;
-        let lists = Lists::sorted(self.alloc, name, comp, items)?;
-        Ok(lists.into_chart().root)
+        let chart = self.body(head, items)?;
+        Ok(chart.root)
     }
 
     /// A chart.
@@ -109,12 +149,8 @@ impl<'t, 'a> Reader<'t, 'a> {
     {
         self.counts = Counts::at_begin();
         self.token(Kind::Chart)?;
-        let name = self.name()?;
-        let comp = self.maybe_comp()?;
-        self.token(Kind::OpenBrace)?;
+        let head = self.head()?;
         let items = self.chart_items()?;
-        self.token(Kind::CloseBrace)?;
-        let lists = Lists::sorted(self.alloc, name, comp, items)?;
-        Ok(lists.into_chart())
+        self.body(head, items)
     }
 }

@@ -1,14 +1,17 @@
 //! Transitions, a method for each production of the grammar.
-ghost use Rattle.std.specs.Prelude.{◌≡◌, None, IfOk, OnOk};
+ghost use Rattle.std.specs.Prelude.{◌≡◌, Option, None, IfOk, OnOk};
 ghost use Rattle.std.specs.Option.{option_map};
+ghost use Rattle.token_grammar.specs.declared.token.Span.{Span as SpanShown};
 ghost use Rattle.token_grammar.specs.Token.{lexeme, lexemes, Gives};
 ghost use Rattle.token_grammar.specs.Grammar.{is, one_of, allowed, at_first, first_place};
 ghost use Rattle.flow_base.specs.Lists.{items_of};
-ghost use Rattle.chart_tree.specs.Trees.{Dest, Trans};
+ghost use Rattle.chart_tree.specs.declared.name.NameText.{NameText as NameShown};
+ghost use Rattle.chart_tree.specs.Trees.{Dest, Guard, Trans};
 ghost use Rattle.chart_tree.specs.Views.{block_of, dest_of, guard_of, trans_of};
 ghost use Rattle.chart_grammar.specs.Limits.{Counted, usual, transition_refused, after_transition};
 ghost use Rattle.chart_grammar.specs.Transitions as grammar;
 ghost use Rattle.chart_reader.specs.Counts.{counts_of};
+ghost use Rattle.chart_reader.specs.Ends.{trans_with};
 ghost use Rattle.chart_reader.specs.Parts as parts;
 
 use crate::group::Group;
@@ -16,6 +19,14 @@ use crate::reader::Reader;
 use chart_tree::{DestText, GuardText, NameText, StmtText, TransText};
 use flow_base::List;
 use token_grammar::{Kind, ReadError, Span, Token, TokenFault};
+
+/// What follows the event and the guard of a transition.
+#[derive(Drop)]
+pub(crate) struct TransEnd {
+    pub cond: List<StmtText>,
+    pub act: List<StmtText>,
+    pub dest: DestText,
+}
 
 impl<'t, 'a> Reader<'t, 'a> {
     #[tactic(auto, unfolding(chart_grammar::specs::Transitions::to_junction))]
@@ -144,6 +155,20 @@ impl<'t, 'a> Reader<'t, 'a> {
 
     /// What follows the event and the guard of a transition.
     #[tactic(auto, unfolding(crate::specs::Parts::trans_rest))]
+    fn trans_end(&mut self) -> Result<TransEnd, ReadError>
+        ensures { (at : SpanShown) (event : Option NameShown) (guard : Option Guard)
+            → Gives (λ e. record { value = trans_with at event guard e; counts = counts_of self.new.counts })
+            result (lexemes self.new.rest.now)
+            ((parts.trans_rest (counts_of self.old.counts) at event guard).reads
+            (lexemes self.old.rest.now)) }
+    {
+        let cond = self.maybe_block()?;
+        let act = self.maybe_action()?;
+        let dest = self.arrow_dest()?;
+        Ok(TransEnd { cond, act, dest })
+    }
+
+    /// A transition with this event and this guard, after both of them.
     fn trans_rest(
         &mut self,
         at: Span,
@@ -155,17 +180,21 @@ impl<'t, 'a> Reader<'t, 'a> {
             ((parts.trans_rest (counts_of self.old.counts) at event
             (option_map guard_of guard)).reads (lexemes self.old.rest.now)) }
     {
-        let cond = self.maybe_block()?;
-        let act = self.maybe_action()?;
-        let dest = self.arrow_dest()?;
-        Ok(TransText {
-            at,
-            event,
-            guard,
-            cond,
-            act,
-            dest,
-        })
+        match self.trans_end() {
+            Ok(end) => Ok(TransText {
+                at,
+                event,
+                guard,
+                cond: end.cond,
+                act: end.act,
+                dest: end.dest,
+            }),
+            Err(fault) => {
+                drop(guard);
+                drop(event);
+                Err(fault)
+            }
+        }
     }
 
     /// A transition, which gets that place.

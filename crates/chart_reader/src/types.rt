@@ -1,5 +1,5 @@
 //! Reads types.
-ghost use Rattle.std.specs.Prelude.{◌≡◌, [], ◌∷◌};
+ghost use Rattle.std.specs.Prelude.{◌≡◌, [], ◌∷◌, bytes_eq};
 ghost use Rattle.std.specs.Option.{option_map};
 ghost use Rattle.token_grammar.specs.Token.{lexemes, Gives};
 ghost use Rattle.chart_tree.specs.Views.{parts_of, sort_of};
@@ -90,26 +90,33 @@ fn told_of(word: &[u8]) -> Option<Scale>
     }
 }
 
+/// Whether the word is the one that is spelled so.
+fn is_spelled(word: &[u8], spelling: &[u8]) -> bool
+    ensures { result ≡ bytes_eq word.now spelling.now }
+{
+    word == spelling
+}
+
 /// The scale that a word names.
 #[tactic(auto, unfolding(chart_grammar::specs::Types::scale_of))]
 fn scale_of(word: &[u8]) -> Option<Scale>
     ensures { option_map parts_of result ≡ spec.scale_of word.now }
 {
-    if word == b"int8".as_slice() {
+    if is_spelled(word, b"int8") {
         Scale::make(true, 8, 0)
-    } else if word == b"int16".as_slice() {
+    } else if is_spelled(word, b"int16") {
         Scale::make(true, 16, 0)
-    } else if word == b"int32".as_slice() {
+    } else if is_spelled(word, b"int32") {
         Scale::make(true, 32, 0)
-    } else if word == b"int64".as_slice() {
+    } else if is_spelled(word, b"int64") {
         Scale::make(true, 64, 0)
-    } else if word == b"uint8".as_slice() {
+    } else if is_spelled(word, b"uint8") {
         Scale::make(false, 8, 0)
-    } else if word == b"uint16".as_slice() {
+    } else if is_spelled(word, b"uint16") {
         Scale::make(false, 16, 0)
-    } else if word == b"uint32".as_slice() {
+    } else if is_spelled(word, b"uint32") {
         Scale::make(false, 32, 0)
-    } else if word == b"uint64".as_slice() {
+    } else if is_spelled(word, b"uint64") {
         Scale::make(false, 64, 0)
     } else {
         told_of(word)
@@ -121,7 +128,7 @@ fn scale_of(word: &[u8]) -> Option<Scale>
 fn type_of(word: &[u8]) -> Option<TypeName>
     ensures { option_map word_of result ≡ spec.type_word word.now }
 {
-    if word == b"bool".as_slice() {
+    if is_spelled(word, b"bool") {
         Some(TypeName::Flag)
     } else {
         match scale_of(word) {

@@ -1,17 +1,19 @@
-use Rattle.std.proofs.Common.{◌≡◌, true, false, map, refl, sym, ap, ◌∙◌, arith}
+use Rattle.std.proofs.Common.{◌≡◌, true, false, Ok, map, refl, sym, ap, ◌∙◌, arith}
 use Rattle.std.proofs.lemmas.Result.{err_from_is_err_and}
 use Rattle.token_grammar.specs.declared.token.Kind.TheVariants as kinds
 use Rattle.token_grammar.specs.Token.{lexemes}
 use Rattle.token_grammar.specs.Grammar.{heads}
 use Rattle.chart_grammar.specs.Limits.{usual}
-use Rattle.chart_grammar.specs.States.{item_heads, item, items, state, state_with}
+use Rattle.chart_tree.specs.Views.{state_of}
+use Rattle.chart_grammar.specs.States.{item_heads, item, items, state}
 use Rattle.chart_grammar.proofs.ItemLaws.{good_next_item}
 use Rattle.chart_grammar.proofs.StateLaws.{good_state}
 use Rattle.chart_grammar.proofs.ReadingLaws.{state_nested}
 use Rattle.chart_reader.specs.Counts.{counts_of}
 use Rattle.chart_reader.specs.Items.{item_of, seen_of}
+use Rattle.chart_reader.specs.Parts.{counted}
 use Rattle.chart_reader.proofs.TokenLemmas.{allowed_passes}
-use Rattle.chart_reader.proofs.StateLemmas.{body_read}
+use Rattle.chart_reader.proofs.StateLemmas.{body_unopened, body_fails, body_closed}
 use Rattle.chart_reader.proofs.ItemLoop.{state_none, items_begin, items_go_on, items_fail, items_end, items_fewer}
 use Rattle.chart_reader.proofs.reader.Reader.+state.Goals as goal
 
@@ -89,13 +91,41 @@ state_over-after_state-self-requires t c =
     ∙ allowed_passes kinds.State c.state_refused.result
     (lexemes c.args.self.now.rest.now) _ _ c.in_ok-allowed_token.ensures.read)
 
+pub state_body-returns-in_err-head : goal.state_body-returns-in_err-head
+state_body-returns-in_err-head t c =
+    let p = err_from_is_err_and c.from_residual.result c.from_residual.ensures.1 in
+    rw (p.1, p.2)
+    (body_unopened (state usual c.args.depth) (counts_of c.args.self.now.counts) _
+    (lexemes c.args.self.now.rest.now) _ c.in_err-head.ensures.read)
+
+pub state_body-returns-in_err-items : goal.state_body-returns-in_err-items
+state_body-returns-in_err-items t c =
+    let p = err_from_is_err_and c.from_residual-in_err-items.result c.from_residual-in_err-items.ensures.1 in
+    rw (p.1, p.2)
+    (body_fails (state usual c.args.depth) (counts_of c.args.self.now.counts) (counts_of c.head.new.self.counts)
+    (ap counts_of c.in_ok-head.ensures.counts) (lexemes c.args.self.now.rest.now) _ _ _ c.in_ok-head.ensures.read
+    _ _ c.in_err-items.ensures)
+
+pub state_body-returns-in_err-chart : goal.state_body-returns-in_err-chart
+state_body-returns-in_err-chart t c =
+    let p = err_from_is_err_and c.from_residual-in_err-chart.result c.from_residual-in_err-chart.ensures.1 in
+    rw (
+      p.1,
+      p.2,
+      body_closed (state usual c.args.depth) (counts_of c.args.self.now.counts)
+          (counts_of c.head.new.self.counts) (ap counts_of c.in_ok-head.ensures.counts)
+          (lexemes c.args.self.now.rest.now) _ _ _ c.in_ok-head.ensures.read
+          _ (map item_of c.in_ok-items.items.items) (counts_of c.items.new.self.counts) c.in_ok-items.ensures,
+    )
+    (c.in_err-chart.ensures.root (counts_of c.items.new.self.counts))
+
 pub state_body-returns : goal.state_body-returns
 state_body-returns t c =
-    let same = c.in_ok-token.ensures.counts ∙ c.in_ok-comp.ensures.counts ∙ c.in_ok-name.ensures.counts in
-    body_read usual (state usual c.args.depth) (counts_of c.args.self.now.counts) (counts_of c.token.new.self.counts)
-    (ap counts_of same)
-    (lexemes c.args.self.now.rest.now) _ _ _ _ _ _ _ _ _ (map item_of c.in_ok-items.items.items)
-    (counts_of c.items.new.self.counts)
-    c.in_ok-name.ensures.read c.in_ok-comp.ensures.read c.in_ok-token.ensures.read c.in_ok-items.ensures c.in_ok-token-2.ensures.read
-    _ (c.into_chart.ensures.root ∙ ap state_with c.in_ok-lists.ensures) (counts_of c.token-2.new.self.counts)
-    (ap counts_of c.in_ok-token-2.ensures.counts)
+    let m = counts_of c.items.new.self.counts in
+    body_closed (state usual c.args.depth) (counts_of c.args.self.now.counts)
+    (counts_of c.head.new.self.counts) (ap counts_of c.in_ok-head.ensures.counts)
+    (lexemes c.args.self.now.rest.now) _ _ _ c.in_ok-head.ensures.read
+    _ (map item_of c.in_ok-items.items.items) m c.in_ok-items.ensures
+    ∙ c.in_ok-chart.ensures.root m
+    ∙ ap (λ k. Ok (counted k (state_of c.in_ok-chart.chart.root), lexemes c.body.new.self.rest.now))
+    (sym (ap counts_of c.in_ok-chart.ensures.counts))

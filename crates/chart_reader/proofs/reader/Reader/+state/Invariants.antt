@@ -11,17 +11,20 @@ use Rattle.chart_reader.proofs.reader.Reader.+state.Given as goal
 abbrev pub decreases-state : goal.decreases-state
 decreases-state l = 8 * l.depth
 
+abbrev pub decreases-state_item : goal.decreases-state_item
+decreases-state_item l = 8 * l.depth + 1
+
 abbrev pub decreases-item : goal.decreases-item
-decreases-item l = 8 * l.depth + 1
+decreases-item l = 8 * l.depth + 2
 
 abbrev pub decreases-items : goal.decreases-items
-decreases-items l = 8 * l.depth + 2
+decreases-items l = 8 * l.depth + 3
 
 abbrev pub decreases-state_body : goal.decreases-state_body
-decreases-state_body l = 8 * l.depth + 3
+decreases-state_body l = 8 * l.depth + 4
 
 abbrev pub decreases-state_over : goal.decreases-state_over
-decreases-state_over l = 8 * l.depth + 4
+decreases-state_over l = 8 * l.depth + 5
 
 abbrev pub invariant-items-items : goal.invariant-items-items
 invariant-items-items l =

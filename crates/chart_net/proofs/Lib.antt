@@ -13,3 +13,4 @@ pub mod NetDriven
 pub mod OneRun
 pub mod NetMoves
 pub mod DriverLemmas
+pub mod LineParts

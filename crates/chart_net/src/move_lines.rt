@@ -53,11 +53,12 @@ fn put_result<G: Engine, O: Sink>(
         pieces.new
         (spec.own_line G.Engine seat.now event fault full) }
 {
+    let view = seat.engine.view();
     match fault {
-        Some(_) => put_trace(seat.index, event, &seat.engine.view(), fault, pieces, out),
+        Some(_) => put_trace(seat.index, event, &view, fault, pieces, out),
         None => match full {
-            Some(route) => put_full(seat.index, event, &seat.engine.view(), route, pieces, out),
-            None => put_trace(seat.index, event, &seat.engine.view(), None, pieces, out),
+            Some(route) => put_full(seat.index, event, &view, route, pieces, out),
+            None => put_trace(seat.index, event, &view, None, pieces, out),
         },
     }
 }

@@ -3,11 +3,13 @@ ghost use Rattle.std.specs.Prelude.{◌≡◌, ◌↔◌, IsTrue};
 ghost use Rattle.bound_prove.specs.Needs as spec;
 ghost use Rattle.bound_prove.specs.Roots as roots;
 
+use flow_base::{DEPTH_LIMIT, STEP_LIMIT};
+
 /// One more than the greatest depth that a run may be given: the end of the depths.
-pub const DEPTH_END: u32 = 33;
+pub const DEPTH_END: u32 = DEPTH_LIMIT + 1;
 
 /// One more than the greatest number of steps that an event may be given: the end of the steps.
-pub const STEP_END: u32 = 50_001;
+pub const STEP_END: u32 = STEP_LIMIT + 1;
 
 /// How much depth and how many steps a piece of work may take.
 #[derive(Clone, Copy)]

@@ -2,6 +2,7 @@
 ghost use Rattle.std.specs.Prelude.{◌≡◌, ◌<◌, None, Some, get_or, slice_set, IfOk};
 ghost use Rattle.frame_stack.specs.Chunks.{IsChunk, IsFree};
 ghost use Rattle.frame_stack.specs.Places.{IsFilled};
+ghost use Rattle.frame_stack.specs.declared.chunk.TheConstants.{CHUNK};
 
 use crate::cells::{Base, Cells, Deed, allocate, deallocate};
 use crate::slot::Slot;
@@ -37,7 +38,7 @@ impl Chunk {
     /// Puts a frame into an empty place.
     pub(crate) fn fill(&mut self, place: usize, slot: Slot)
         requires chunk { IsChunk self.old }
-        requires place { place < 1024 }
+        requires place { place < CHUNK }
         requires empty { get_or self.old.cells.slots place None ≡ None }
         ensures chunk { IsChunk self.new }
         ensures slots { self.new.cells.slots ≡ slice_set self.old.cells.slots place (Some slot) }
@@ -48,7 +49,7 @@ impl Chunk {
     /// Takes the frame out of its place.
     pub(crate) fn empty(&mut self, place: usize)
         requires chunk { IsChunk self.old }
-        requires place { place < 1024 }
+        requires place { place < CHUNK }
         requires filled { IsFilled self.old.cells.slots place }
         ensures chunk { IsChunk self.new }
         ensures slots { self.new.cells.slots ≡ slice_set self.old.cells.slots place None }
@@ -59,7 +60,7 @@ impl Chunk {
     /// The frame at a place.
     pub(crate) fn slot(&self, place: usize) -> &Slot
         requires chunk { IsChunk self.now }
-        requires place { place < 1024 }
+        requires place { place < CHUNK }
         requires filled { IsFilled self.now.cells.slots place }
         ensures { get_or self.now.cells.slots place None ≡ Some result.now }
     {

@@ -99,6 +99,7 @@ impl<'a> FileShape<'a> {
 
 impl FileShape<'_> {
     ghost use Rattle.std.specs.Prelude.{◌≡◌, ◌<◌, ◌≤◌};
+    ghost use Rattle.flow_base.specs.declared.chart_limits.TheConstants.{STATE_LIMIT};
     ghost use Rattle.active_config.specs.Tree.{state_count};
     ghost use Rattle.c_functions.specs.Layout.{or_count};
     ghost use Rattle.c_functions.specs.Plans as plans;
@@ -107,7 +108,7 @@ impl FileShape<'_> {
     /// How many ORs there are, at most 1,024.
     pub fn ors(&self) -> u32
         ensures ors { result ≡ or_count (shape_seen self.now).tree }
-        ensures few { result ≤ 1024 }
+        ensures few { result ≤ STATE_LIMIT }
     {
         self.ors
     }

@@ -9,6 +9,7 @@ ghost use Rattle.c_functions.specs.Plans as spec;
 ghost use Rattle.c_functions.specs.Starts as starts;
 ghost use Rattle.c_expression_writer.specs.FileShapes.{shape_seen};
 ghost use Rattle.c_writer.specs.Starting.{clear_counts, nothing_of, value_of};
+ghost use Rattle.flow_base.specs.declared.chart_limits.TheConstants.{EVENT_LIMIT, VARIABLE_LIMIT};
 
 use crate::calls::five;
 use crate::helpers::one_word;
@@ -55,7 +56,7 @@ fn field_type(sort: Sort) -> CType
 /// Appends that each datum has its first value.
 #[tactic(auto, unfolding(c_subset::specs::Lines::lines_of))]
 fn put_data(lines: &mut List<Line>, vars: &[Var]) -> Result<(), Memory>
-    requires { length vars.now ≤ 1024 }
+    requires { length vars.now ≤ VARIABLE_LIMIT }
     ensures { OnOk result (Appends (items_of lines.old) (items_of lines.new)
         (starts.store_all 0 (map value_of vars.now))) }
 {
@@ -137,7 +138,7 @@ fn put_clear_counts(shape: &FileShape<'_>, lines: &mut List<Line>) -> Result<(),
 
 /// The number of the event of the start.
 fn start_event(shape: &FileShape<'_>) -> u32
-    requires { length (shape_seen shape.now).names.events ≤ 1024 }
+    requires { length (shape_seen shape.now).names.events ≤ EVENT_LIMIT }
     ensures { result ≡ spec.event_number (shape_seen shape.now).names
         events.Start }
 {
@@ -146,7 +147,7 @@ fn start_event(shape: &FileShape<'_>) -> u32
 
 /// The function of the start, where `start` is its procedure.
 pub fn start_function(alloc: Global, shape: &FileShape<'_>, start: u32) -> Result<Function, Memory>
-    requires { length (shape_seen shape.now).names.events ≤ 1024 }
+    requires { length (shape_seen shape.now).names.events ≤ EVENT_LIMIT }
     ensures { IfOk result (λ function.
         IsFunction function (starts.start_c (shape_seen shape.now) start)) }
 {

@@ -6,6 +6,7 @@ ghost use Rattle.checked_chart.specs.Chart.{junction_count};
 ghost use Rattle.checked_chart.specs.Kept.{chart_of};
 ghost use Rattle.checked_chart.specs.Views.{trans_seen, list_seen};
 ghost use Rattle.chart_parts.specs.Parts as spec;
+ghost use Rattle.flow_base.specs.declared.chart_limits.TheConstants.{TRANSITION_LIMIT};
 
 use crate::part::{Owner, Part, TransPart};
 use checked_chart::{Chart, ListKind, Trans};
@@ -36,7 +37,7 @@ fn append_transition(
 
 /// Appends the parts of the transitions of a list.
 fn append_transitions(out: &mut List<Part>, owner: Owner, list: &[Trans]) -> Result<(), Memory>
-    requires { length (list_seen list.now) ≤ 8192 }
+    requires { length (list_seen list.now) ≤ TRANSITION_LIMIT }
     ensures { OnOk result (items_of out.new
         ≡ items_of out.old ++ spec.list_parts owner 0 (list_seen list.now)) }
 {

@@ -11,6 +11,7 @@ use Rattle.c_subset.specs.Running.{same_type}
 use Rattle.c_functions.specs.Plans.{word}
 use Rattle.c_loops.specs.Results.{Known, Exactly, Anything, Test, opposite, where_holds, constant_of}
 use Rattle.c_loops.specs.Results.{is_local, is_end, test_of, gives_each_back}
+use Rattle.c_loops.specs.declared.functions.TheConstants.{MOST_LINES}
 
 -- ---- calls that hand on
 
@@ -131,7 +132,7 @@ is_procedure t ts = same_type t word && are_words 0 ts
 
 -- so many lines aren't too many: the pass goes through a function often, and once more for each part in another
 abbrev pub are_few : ℕ → Bool
-are_few n = nat_le n 1000
+are_few n = nat_le n MOST_LINES
 
 -- a function with this result, these parameters and so many lines may be a loop
 abbrev pub may_loop : CType → List CType → ℕ → Bool

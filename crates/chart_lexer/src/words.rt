@@ -18,8 +18,8 @@ pub fn name_length(text: &[u8]) -> usize
     text.iter().take_while(|byte| is_name_byte(**byte)).count()
 }
 
-/// Whether the word is the one that is spelled so.
-fn is_spelled(word: &[u8], spelling: &[u8]) -> bool
+/// Whether a word is the one that is spelled so, byte by byte.
+pub fn is_spelled(word: &[u8], spelling: &[u8]) -> bool
     ensures { result ≡ bytes_eq word.now spelling.now }
 {
     word == spelling

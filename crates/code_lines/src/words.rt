@@ -1,6 +1,8 @@
 //! The first words of instructions and conditions.
-ghost use Rattle.std.specs.Prelude.{◌≡◌, bytes_eq};
+ghost use Rattle.std.specs.Prelude.{◌≡◌};
 ghost use Rattle.code_lines.specs.Fields as spec;
+
+use chart_lexer::is_spelled;
 
 /// The first word of an instruction that has more than one.
 #[derive(Clone, Copy)]
@@ -55,13 +57,6 @@ pub enum CondWord {
     Test,
     /// `last`
     Last,
-}
-
-/// Whether the word is the one that is spelled so.
-fn is_spelled(word: &[u8], spelling: &[u8]) -> bool
-    ensures { result ≡ bytes_eq word.now spelling.now }
-{
-    word == spelling
 }
 
 /// The first word of an instruction.

@@ -11,7 +11,6 @@ use fixed_point::{Mode, Num, Scale, fit};
 use flow_base::{Fault, List, Memory, Text};
 use std::alloc::Global;
 use std::process::Abort;
-use std::test::Fail;
 
 /// No mantissa in these tests is farther from 0.
 const FARTHEST: u128 = 1 << 66;
@@ -105,7 +104,7 @@ fn give(vals: &mut Vals, v: u32, value: Value) -> Option<Result<(), Fault>>
 }
 
 /// The sort of the scale of these parts.
-fn number_sort(rt: &impl Abort, signed: bool, width: u8, frac: u8) -> Sort {
+pub(crate) fn number_sort(rt: &impl Abort, signed: bool, width: u8, frac: u8) -> Sort {
     Sort::Number(Scale::make(signed, width, frac).expect(rt, "a scale"))
 }
 
@@ -114,29 +113,23 @@ fn number(mantissa: i128, frac: u32) -> Value {
     Value::Number(Num { mantissa, frac })
 }
 
-/// How an assignment to a datum ends that has the value 1, and what the datum is then.
-fn given(
-    alloc: Global,
-    sort: Sort,
-    mode: Mode,
-    value: Value,
-) -> Result<(Option<Result<(), Fault>>, Value), Memory> {
-    let mut vals = first_values(alloc, &[(sort, mode, 1)])?;
-    let end = give(&mut vals, 0, value);
-    Ok((end, vals.get(0)))
-}
-
 /// Asserts how an assignment to a datum ends that has the value 1, and what the datum is then.
 fn check_given(
-    rt: &impl Abort,
-    alloc: Global,
+    rt: &(impl AllocGlobal + Abort),
     (sort, mode): (Sort, Mode),
     value: Value,
     (answer, after): (Result<(), Fault>, Value),
-) -> Result<(), Memory> {
-    let got = given(alloc, sort, mode, value)?;
-    check(rt, &(value, mode), &got, &(Some(answer), after));
-    Ok(())
+) {
+    let vals = first_values(rt.alloc(), &[(sort, mode, 1)]);
+    let mut vals = vals.expect(rt, "memory");
+    let end = give(&mut vals, 0, value);
+    check(
+        rt,
+        &(value, mode),
+        &(end, vals.get(0)),
+        &(Some(answer), after),
+    );
+    drop(vals);
 }
 
 /// Whether a scale of whole numbers has a sign, its width, the mantissa in range, the one beside
@@ -165,25 +158,25 @@ const ENDS: &[(bool, u8, i128, i128, i128)] = &[
     (false, 64, 0xffff_ffff_ffff_ffff, 0x1_0000_0000_0000_0000, 0),
 ];
 
+/// The modes.
+const MODES: &[Mode] = &[Mode::Saturate, Mode::Wrap, Mode::Error];
+
 #[test]
-fn a_mode_decides_out_of_range(rt: HostRuntime) -> Result<(), Fail> {
-    let alloc = rt.alloc();
+fn a_mode_decides_out_of_range(rt: HostRuntime) {
     for (signed, width, end, beyond, wrapped) in ENDS {
         let sort = number_sort(&rt, *signed, *width, 0);
         let (end, beyond) = (number(*end, 0), number(*beyond, 0));
-        let cases = [
-            (Mode::Saturate, beyond, Ok(()), end),
-            (Mode::Wrap, beyond, Ok(()), number(*wrapped, 0)),
-            (Mode::Error, beyond, Err(Fault::Overflow(0)), number(1, 0)),
-            (Mode::Saturate, end, Ok(()), end),
-            (Mode::Wrap, end, Ok(()), end),
-            (Mode::Error, end, Ok(()), end),
-        ];
-        for (mode, value, answer, after) in &cases {
-            check_given(&rt, alloc, (sort, *mode), *value, (*answer, *after))?;
+        let wrapped = number(*wrapped, 0);
+        for &mode in MODES {
+            check_given(&rt, (sort, mode), end, (Ok(()), end));
+            let want = match mode {
+                Mode::Saturate => (Ok(()), end),
+                Mode::Wrap => (Ok(()), wrapped),
+                Mode::Error => (Err(Fault::Overflow(0)), number(1, 0)),
+            };
+            check_given(&rt, (sort, mode), beyond, want);
         }
     }
-    Ok(())
 }
 
 /// The parts of a scale, and the mantissas and fractions of what is assigned to a datum of that
@@ -197,19 +190,17 @@ const SCALED: &[((bool, u8, u8), (i128, u32), (i128, u32))] = &[
 ];
 
 #[test]
-fn a_number_comes_to_its_scale(rt: HostRuntime) -> Result<(), Fail> {
-    let alloc = rt.alloc();
+fn a_number_comes_to_its_scale(rt: HostRuntime) {
     for ((signed, width, frac), value, after) in SCALED {
         let sort = number_sort(&rt, *signed, *width, *frac);
         let value = number(value.0, value.1);
         let after = number(after.0, after.1);
-        check_given(&rt, alloc, (sort, Mode::Wrap), value, (Ok(()), after))?;
+        check_given(&rt, (sort, Mode::Wrap), value, (Ok(()), after));
     }
     for is in [true, false] {
         let flag = Value::Flag(is);
-        check_given(&rt, alloc, (Sort::Flag, Mode::Wrap), flag, (Ok(()), flag))?;
+        check_given(&rt, (Sort::Flag, Mode::Wrap), flag, (Ok(()), flag));
     }
-    Ok(())
 }
 
 /// The values of three data.
@@ -224,32 +215,22 @@ fn wanted_three(mantissa: i128) -> (Value, Value, Value) {
     (Value::Flag(true), number(mantissa, 8), number(7, 0))
 }
 
-/// The values of three data at first, how an assignment to the second ends, and their values then.
-type Assigned = (
-    (Value, Value, Value),
-    Option<Result<(), Fault>>,
-    (Value, Value, Value),
-);
-
-/// What an assignment to the second of three data makes of them.
-fn give_second(alloc: Global, rows: &[(Sort, Mode, i128)], value: Value) -> Result<Assigned, Memory>
-    requires { length rows.now ≡ 3 }
-{
-    let mut vals = first_values(alloc, rows)?;
-    let first = three(&vals);
-    let end = give(&mut vals, 1, value);
-    Ok((first, end, three(&vals)))
-}
-
 #[test]
-fn data_have_their_first_values(rt: HostRuntime) -> Result<(), Fail> {
+fn data_have_their_first_values(rt: HostRuntime) {
     let rows = [
         (Sort::Flag, Mode::Saturate, 1),
         (number_sort(&rt, true, 16, 8), Mode::Wrap, -384),
         (number_sort(&rt, false, 8, 0), Mode::Error, 7),
     ];
-    let found = give_second(rt.alloc(), &rows, number(5, 2))?;
-    let want = (wanted_three(-384), Some(Ok(())), wanted_three(320));
-    check(&rt, &"three data", &found, &want);
-    Ok(())
+    let mut vals = first_values(rt.alloc(), &rows).expect(&rt, "memory");
+    check(&rt, &"at first", &three(&vals), &wanted_three(-384));
+    let end = give(&mut vals, 1, number(5, 2));
+    let found = (end, three(&vals));
+    check(
+        &rt,
+        &"afterwards",
+        &found,
+        &(Some(Ok(())), wanted_three(320)),
+    );
+    drop(vals);
 }

@@ -2,7 +2,7 @@
 ghost use Rattle.std.specs.Prelude.{◌<◌};
 
 use crate::checks::check;
-use crate::driver_setup::{Devices, compare_end, run_text};
+use crate::driver_setup::{Devices, run_text};
 use flow_base::{Inputs, MemInputs};
 use std::process::Abort;
 use step_driver::DriveEnd;
@@ -18,21 +18,17 @@ const READS: &[(u64, usize)] = &[(1, 29), (2, 63), (3, 97), (4, 131)];
 #[test]
 fn a_failed_read_leaves_the_whole_lines(rt: HostRuntime) {
     for &(read, length) in READS {
-        check_read(&rt, read, length);
+        let devices = Devices {
+            read_size: 3,
+            failing_reads: &[read],
+            write_size: 1000,
+            failing_writes: &[],
+        };
+        let ran = run_text(&rt, b"GO\nGO\nGO\n", &devices);
+        let found = (ran.answer, front(ran.out.bytes()));
+        check(&rt, &read, &found, &(Err(DriveEnd::Read), Some(length)));
+        drop(ran);
     }
-}
-
-/// Over a file of which that read fails, lines of the trace with that length are written.
-fn check_read(rt: &(impl AllocGlobal + Abort), read: u64, length: usize) {
-    let devices = Devices {
-        read_size: 3,
-        failing_reads: &[read],
-        write_size: 1000,
-        failing_writes: &[],
-    };
-    let ran = run_text(rt, b"GO\nGO\nGO\n", &devices);
-    compare_end(rt, "read", (read, 3), ran.answer, Err(DriveEnd::Read));
-    check(rt, &read, &front(ran.out.bytes()), &Some(length));
 }
 
 /// The length of what was written, where that is a front of the trace.
@@ -66,24 +62,17 @@ fn check_write(rt: &(impl AllocGlobal + Abort), read_size: usize, write: u64)
         failing_writes: &[write],
     };
     let mut ran = run_text(rt, b"GO\nGO\nGO\n", &devices);
-    compare_end(
-        rt,
-        "write",
-        (write, read_size),
-        ran.answer,
-        Err(DriveEnd::Write),
-    );
     let left = left(&mut ran.inputs);
-    let stands = is_short_front(ran.out.bytes()) && (write > 5 || left == 9);
-    check(rt, &(write, read_size, left), &stands, &true);
-}
-
-/// Whether less than the trace was written.
-fn is_short_front(bytes: &[u8]) -> bool {
-    match front(bytes) {
-        Some(length) => length < TRACE.len(),
-        None => false,
-    }
+    let written = front(ran.out.bytes()).unwrap_or(TRACE.len());
+    let stands = written < TRACE.len() && (write > 5 || left == 9);
+    let found = (ran.answer, stands);
+    check(
+        rt,
+        &(write, read_size, left),
+        &found,
+        &(Err(DriveEnd::Write), true),
+    );
+    drop(ran);
 }
 
 /// How many bytes four more reads give.

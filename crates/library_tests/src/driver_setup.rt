@@ -2,7 +2,6 @@
 ghost use Rattle.std.specs.Prelude.{◌≡◌, ◌<◌, ◌^◌, length};
 ghost use Rattle.actions.specs.Engines.{Fresh};
 
-use crate::checks::check;
 use actions::Engine;
 use event_file::{InputVals, LineReader};
 use fixed_point::Scale;
@@ -21,7 +20,9 @@ pub fn run<I: Inputs, O: Sink>(
 ) -> Result<(), DriveEnd> {
     let bounds = Bounds { depth: 1, steps: 2 };
     let mut counter = Counter::make(rt.alloc(), bounds, scale, 2).expect(rt, "memory");
-    run_engine(rt, &mut counter, inputs, out)
+    let end = run_engine(rt, &mut counter, inputs, out);
+    drop(counter);
+    end
 }
 
 /// Runs an engine over the file `events`.
@@ -38,7 +39,10 @@ fn run_engine<G: Engine, I: Inputs, O: Sink>(
     let mut lines = LineReader::make(rt.alloc()).expect(rt, "memory");
     let vals = InputVals::make(rt.alloc(), engine.view().names);
     let mut vals = vals.expect(rt, "memory");
-    drive(engine, inputs, "events", &mut lines, &mut vals, out)
+    let end = drive(engine, inputs, "events", &mut lines, &mut vals, out);
+    drop(vals);
+    drop(lines);
+    end
 }
 
 /// How files and sinks behave: the most that one read gives and one write takes, and which of them
@@ -81,7 +85,7 @@ fn file(rt: &(impl AllocGlobal + Abort), text: &[u8], devices: &Devices<'_>) -> 
 {
     let name = String::from_str(rt.alloc(), "events").expect(rt, "memory");
     let bytes = Vec::from_slice(rt.alloc(), text).expect(rt, "memory");
-    let fail = numbers(rt, devices.failing_reads);
+    let fail = Vec::from_slice(rt.alloc(), devices.failing_reads).expect(rt, "memory");
     let files = [MemFile::new(name, bytes, devices.read_size, fail)];
     MemInputs::new(Vec::from_array(rt.alloc(), files).expect(rt, "memory"))
 }
@@ -90,22 +94,6 @@ fn file(rt: &(impl AllocGlobal + Abort), text: &[u8], devices: &Devices<'_>) -> 
 fn sink(rt: &(impl AllocGlobal + Abort), devices: &Devices<'_>) -> MemSink
     requires { 0 < devices.now.write_size }
 {
-    let fail = numbers(rt, devices.failing_writes);
+    let fail = Vec::from_slice(rt.alloc(), devices.failing_writes).expect(rt, "memory");
     MemSink::new(rt.alloc(), 1000, devices.write_size, fail).expect(rt, "memory")
-}
-
-/// The numbers of reads or writes.
-fn numbers(rt: &(impl AllocGlobal + Abort), numbers: &[u64]) -> Vec<u64> {
-    Vec::from_slice(rt.alloc(), numbers).expect(rt, "memory")
-}
-
-/// Compares the answer of the run that a word and two numbers name.
-pub fn compare_end(
-    rt: &impl Abort,
-    row: &str,
-    numbers: (u64, usize),
-    got: Result<(), DriveEnd>,
-    want: Result<(), DriveEnd>,
-) {
-    check(rt, &(row, numbers), &got, &want);
 }

@@ -106,40 +106,18 @@ const RUNS: &[(u32, bool, u32, Result<(), Halt>, i128, &[u32])] = &[
 #[test]
 fn a_counter_runs(rt: HostRuntime) {
     for &(rounds, goes, times, end, count, outputs) in RUNS {
-        let counter = check_end(&rt, rounds, goes, times, end);
+        let ran = counter_run(rt.alloc(), int8(&rt), rounds, goes, times);
+        let (counter, found) = ran.expect(&rt, "memory");
+        check(&rt, &(rounds, goes, times), &found, &end);
         compare(&rt, &counter, count, outputs);
+        drop(counter);
     }
-}
-
-/// The counter after a run, which ended as is wanted.
-fn check_end(
-    rt: &(impl AllocGlobal + Abort),
-    rounds: u32,
-    goes: bool,
-    times: u32,
-    want: Result<(), Halt>,
-) -> Counter {
-    let ran = counter_run(rt.alloc(), int8(rt), rounds, goes, times);
-    let (counter, end) = ran.expect(rt, "memory");
-    compare_end(rt, rounds, times, end, want);
-    counter
-}
-
-/// Compares the end of a run.
-fn compare_end(
-    rt: &impl Abort,
-    rounds: u32,
-    times: u32,
-    end: Result<(), Halt>,
-    want: Result<(), Halt>,
-) {
-    check(rt, &(times, rounds), &end, &want);
 }
 
 /// Asserts that the counter shows that count, an input of 100, those outputs and an active root.
 fn compare(rt: &impl Abort, counter: &Counter, count: i128, outputs: &[u32]) {
     let numbers = (shown(counter, COUNT), shown(counter, BY));
-    check(rt, &"the numbers", &numbers, &(number(count), number(100)));
-    let rest = (counter.view().outputs, is_root_active(counter));
-    check(rt, &"outputs and root", &rest, &(outputs, true));
+    let found = (numbers, counter.view().outputs, is_root_active(counter));
+    let want = ((number(count), number(100)), outputs, true);
+    check(rt, &"numbers, outputs and root", &found, &want);
 }

@@ -2,11 +2,14 @@
 ghost use Rattle.std.specs.Prelude.{◌<◌};
 
 use crate::checks::check;
-use crate::driver_setup::{Devices, compare_end, run_text};
+use crate::driver_setup::{Devices, run_text};
 use event_file::LineFault;
 use flow_base::Fault;
 use std::process::Abort;
 use step_driver::DriveEnd;
+
+/// The line with index 0.
+const START: &[u8] = b"0 start [] by=0,count=0 - ok\n";
 
 /// A file, the answer, and the trace after the line with index 0.
 const ROWS: &[(&str, Result<(), DriveEnd>, &str)] = &[
@@ -139,17 +142,12 @@ fn shows(
         failing_writes: &[],
     };
     let ran = run_text(rt, text.as_bytes(), &devices);
-    compare_end(rt, text, (0, piece), ran.answer, answer);
-    let want = whole_trace(rt, trace);
-    compare_trace(rt, text, ran.out.bytes(), want.as_bytes());
-}
-
-/// The line with index 0 and the trace after it.
-fn whole_trace(rt: &(impl AllocGlobal + Abort), trace: &str) -> String {
-    format!(in rt.alloc(); "0 start [] by=0,count=0 - ok\n{trace}").expect(rt, "memory")
-}
-
-/// Compares the trace of a file with the one that is wanted.
-fn compare_trace(rt: &impl Abort, text: &str, got: &[u8], want: &[u8]) {
-    check(rt, &text, &got, &want);
+    let found = (ran.answer, ran.out.bytes().strip_prefix(START));
+    check(
+        rt,
+        &(text, piece),
+        &found,
+        &(answer, Some(trace.as_bytes())),
+    );
+    drop(ran);
 }

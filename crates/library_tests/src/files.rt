@@ -1,7 +1,7 @@
 //! Tests of what no contract says: that calls succeed, and what the file system gives and takes.
 ghost use Rattle.std.specs.Prelude.{◌<◌};
 
-use crate::same::{same, same_bytes};
+use crate::checks::check;
 use flow_base::{
     Bounds, Failed, Inputs, List, MemFile, MemInputs, MemSink, ReadEnd, RealInputs, RealSink, Sink,
     SureInputs, SureSink, Text, read_whole, write_all,
@@ -55,38 +55,21 @@ fn bounds_are_made_in_range(rt: HostRuntime) {
     for row in BOUNDS {
         let (depth, steps, _) = *row;
         let made = (depth, steps, Bounds::make(depth, steps).is_some());
-        same(&rt, &made, row, "whether bounds are made");
+        check(&rt, &"whether bounds are made", &made, row);
     }
+    let usual = Some(Bounds::usual());
+    check(&rt, &"usual", &Bounds::make(8, 10_000), &usual);
 }
 
+/// A text, and a list of two items that gets a third.
 #[test]
-fn the_usual_bounds_are_made(rt: HostRuntime) {
-    same(
-        &rt,
-        &Bounds::make(8, 10_000),
-        &Some(Bounds::usual()),
-        "usual",
-    );
-}
-
-#[test]
-fn texts_keep_what_they_get(rt: HostRuntime) {
+fn texts_and_lists_keep_what_they_get(rt: HostRuntime) {
     let text = Text::of(String::from_str(rt.alloc(), "red").expect(&rt, "memory"));
-    same(&rt, &text.text(), &"red", "the text");
-}
-
-/// A list of two items, and then a third.
-fn three(rt: &impl Abort, alloc: Global) -> List<u32> {
-    let two = Vec::from_slice(alloc, &[1u32, 2]).expect(rt, "memory");
+    check(&rt, &"the text", &text.text(), &"red");
+    let two = Vec::from_slice(rt.alloc(), &[1u32, 2]).expect(&rt, "memory");
     let mut list = List::of(two);
-    list.push(3).expect(rt, "memory");
-    list
-}
-
-#[test]
-fn lists_keep_what_they_get(rt: HostRuntime) {
-    let list = three(&rt, rt.alloc());
-    same(&rt, &list.items(), &[1u32, 2, 3].as_slice(), "the items");
+    list.push(3).expect(&rt, "memory");
+    check(&rt, &"the items", &list.items(), &[1u32, 2, 3].as_slice());
 }
 
 /// A read: the name, the answer and the bytes.
@@ -108,9 +91,8 @@ fn read_once<'a, I: Inputs>(
 /// Asserts what reads into a buffer give, in their order.
 fn check_reads<I: Inputs>(rt: &impl Abort, inputs: &mut I, buffer: &mut [u8], reads: &[ReadRow]) {
     for row in reads {
-        let (answer, bytes) = read_once(inputs, row.0, buffer);
-        same(rt, &answer, &row.1, row.0);
-        same_bytes(rt, bytes, row.2, row.0);
+        let found = read_once(inputs, row.0, buffer);
+        check(rt, &row.0, &found, &(row.1, row.2));
     }
 }
 
@@ -126,12 +108,6 @@ const READS: &[ReadRow] = &[
     ("b", Ok(1), b"e"),
 ];
 
-#[test]
-fn reads_give_the_next_bytes_or_fail(rt: HostRuntime) {
-    let mut inputs = MemInputs::new(files(&rt, rt.alloc()));
-    check_reads(&rt, &mut inputs, &mut [0u8; 4], READS);
-}
-
 /// Reads of `files` where none fails, in their order.
 const SURE_READS: &[ReadRow] = &[
     ("b", Ok(2), b"by"),
@@ -142,9 +118,13 @@ const SURE_READS: &[ReadRow] = &[
 ];
 
 #[test]
-fn sure_reads_never_fail(rt: HostRuntime) {
-    let mut inputs = SureInputs::new(files(&rt, rt.alloc()));
-    check_reads(&rt, &mut inputs, &mut [0u8; 4], SURE_READS);
+fn reads_give_the_next_bytes_or_fail(rt: HostRuntime) {
+    let mut inputs = MemInputs::new(files(&rt, rt.alloc()));
+    check_reads(&rt, &mut inputs, &mut [0u8; 4], READS);
+    drop(inputs);
+    let mut sure = SureInputs::new(files(&rt, rt.alloc()));
+    check_reads(&rt, &mut sure, &mut [0u8; 4], SURE_READS);
+    drop(sure);
 }
 
 /// A name, and then a limit, what `read_whole` answers up to it, and the bytes that it gives.
@@ -175,10 +155,9 @@ fn whole<I: Inputs>(
 
 /// Asserts what `read_whole` gives.
 fn check_whole<I: Inputs>(rt: &impl Abort, alloc: Global, inputs: &mut I, row: &WholeRow) {
-    let (name, wanted) = row;
-    let limit = wanted.0;
-    let (answer, bytes) = whole(alloc, inputs, name, limit);
-    same(rt, &(limit, answer, bytes.as_slice()), wanted, name);
+    let (name, want) = row;
+    let (answer, bytes) = whole(alloc, inputs, name, want.0);
+    check(rt, name, &(want.0, answer, bytes.as_slice()), want);
 }
 
 #[test]
@@ -186,6 +165,7 @@ fn files_are_read_whole_up_to_the_limit(rt: HostRuntime) {
     for row in WHOLE_READS {
         let mut inputs = MemInputs::new(files(&rt, rt.alloc()));
         check_whole(&rt, rt.alloc(), &mut inputs, row);
+        drop(inputs);
     }
 }
 
@@ -199,14 +179,6 @@ const WRITES: &[(&str, Result<usize, Failed>, &[u8])] = &[
     ("d", Err(Failed), b"wxyab"),
 ];
 
-/// Asserts what writes to a sink give, and what it has after each.
-fn check_writes(rt: &impl Abort, sink: &mut MemSink) {
-    for row in WRITES {
-        same(rt, &sink.write(row.0.as_bytes()), &row.1, row.0);
-        same_bytes(rt, sink.bytes(), row.2, row.0);
-    }
-}
-
 /// A sink with room for 5 bytes.
 fn sink_of_five(rt: &impl Abort, alloc: Global, piece: usize, fail: &[u64]) -> MemSink
     requires { 0 < piece }
@@ -215,22 +187,26 @@ fn sink_of_five(rt: &impl Abort, alloc: Global, piece: usize, fail: &[u64]) -> M
     MemSink::new(alloc, 5, piece, fail).expect(rt, "memory")
 }
 
+/// What writes to a sink give, and what it has after each.
 #[test]
 fn writes_take_a_front_or_fail(rt: HostRuntime) {
-    check_writes(&rt, &mut sink_of_five(&rt, rt.alloc(), 3, &[2]));
+    let mut sink = sink_of_five(&rt, rt.alloc(), 3, &[2]);
+    for row in WRITES {
+        let answer = sink.write(row.0.as_bytes());
+        check(&rt, &row.0, &(answer, sink.bytes()), &(row.1, row.2));
+    }
+    drop(sink);
 }
 
 #[test]
 fn whole_writes_end_where_the_room_does(rt: HostRuntime) {
     let mut sink = sink_of_five(&rt, rt.alloc(), 2, &[]);
-    let answers = [write_all(&mut sink, b"abc"), write_all(&mut sink, b"def")];
-    same(&rt, &answers, &[Ok(()), Err(Failed)], "two pieces");
-    same_bytes(&rt, sink.bytes(), b"abcde", "what is written");
-}
-
-#[test]
-fn a_sure_sink_takes_everything(rt: HostRuntime) {
-    same(&rt, &SureSink::new().write(b"abc"), &Ok(3), "three bytes");
+    let answers = (write_all(&mut sink, b"abc"), write_all(&mut sink, b"def"));
+    let want = ((Ok(()), Err(Failed)), b"abcde".as_slice());
+    check(&rt, &"two pieces", &(answers, sink.bytes()), &want);
+    drop(sink);
+    let sure = SureSink::new().write(b"abc");
+    check(&rt, &"three bytes of a sure sink", &sure, &Ok(3));
 }
 
 /// Reads of the system in their order.
@@ -249,38 +225,27 @@ const SYSTEM_WHOLE: &WholeRow = &("there.txt", (5, Ok(()), b"abcde"));
 /// A directory read as a file.
 const DIRECTORY_WHOLE: &WholeRow = &(".", (9, Err(ReadEnd::Failed), b""));
 
-/// Asserts what the files of the system give, in pieces and whole.
-fn check_system<I: Inputs>(rt: &impl Abort, alloc: Global, pieces: &mut I, at_once: &mut I) {
-    check_reads(rt, pieces, &mut [0u8; 3], SYSTEM_READS);
-    check_whole(rt, alloc, at_once, SYSTEM_WHOLE);
-}
-
 #[test]
 fn files_of_the_system_are_read_once(rt: HostRuntime) {
     fs::write(&rt, "there.txt", "abcde").expect(&rt, "written");
     let mut pieces = RealInputs::new(&rt, rt.alloc());
+    check_reads(&rt, &mut pieces, &mut [0u8; 3], SYSTEM_READS);
+    drop(pieces);
     let mut at_once = RealInputs::new(&rt, rt.alloc());
-    check_system(&rt, rt.alloc(), &mut pieces, &mut at_once);
+    check_whole(&rt, rt.alloc(), &mut at_once, SYSTEM_WHOLE);
+    drop(at_once);
 }
 
-/// Asserts that a read fails and leaves its buffer.
-fn check_unread<I: Inputs>(rt: &impl Abort, inputs: &mut I, name: &str) {
-    let mut buffer = [7u8; 3];
-    let answer = inputs.read(name, &mut buffer);
-    same(rt, &(answer, buffer), &(Err(Failed), [7, 7, 7]), name);
-}
-
-/// Asserts that a directory isn't read.
-fn check_directory<I: Inputs>(rt: &impl Abort, alloc: Global, inputs: &mut I) {
-    check_unread(rt, inputs, ".");
-    check_unread(rt, inputs, ".");
-    check_whole(rt, alloc, inputs, DIRECTORY_WHOLE);
-}
-
+/// Two reads of a directory fail and leave their buffer, and so does a third of the whole.
 #[test]
 fn a_directory_is_a_read_fault(rt: HostRuntime) {
     let mut inputs = RealInputs::new(&rt, rt.alloc());
-    check_directory(&rt, rt.alloc(), &mut inputs);
+    let mut buffer = [7u8; 3];
+    let answers = (inputs.read(".", &mut buffer), inputs.read(".", &mut buffer));
+    let want = ((Err(Failed), Err(Failed)), [7, 7, 7]);
+    check(&rt, &"a directory", &(answers, buffer), &want);
+    check_whole(&rt, rt.alloc(), &mut inputs, DIRECTORY_WHOLE);
+    drop(inputs);
 }
 
 /// Takes nothing.
@@ -330,25 +295,19 @@ const ROOMS: &[(usize, Result<(), Failed>, &[u8])] = &[
     (0, Err(Failed), b""),
 ];
 
-/// What a writer of that room answers to five bytes, and the bytes that it takes.
-fn short_write(alloc: Global, room: usize) -> (Result<(), Failed>, Vec<u8>) {
-    let mut writer = ByteWriter {
-        bytes: Vec::new(alloc),
-        room,
-    };
-    let answer = write_all(&mut RealSink::new(&mut writer), b"abcde");
-    (answer, writer.bytes)
-}
-
 #[test]
 fn short_writes_are_gone_on_with_until_one_fails(rt: HostRuntime) {
     for row in ROOMS {
-        let (answer, bytes) = short_write(rt.alloc(), row.0);
-        same(
+        let mut writer = ByteWriter {
+            bytes: Vec::new(rt.alloc()),
+            room: row.0,
+        };
+        let answer = write_all(&mut RealSink::new(&mut writer), b"abcde");
+        check(
             &rt,
-            &(row.0, answer, bytes.as_slice()),
+            &"a room",
+            &(row.0, answer, writer.bytes.as_slice()),
             row,
-            "a writer of that room",
         );
     }
 }
@@ -356,14 +315,14 @@ fn short_writes_are_gone_on_with_until_one_fails(rt: HostRuntime) {
 #[test]
 fn writers_of_the_system_are_written(rt: HostRuntime) {
     let mut sink = RealSink::new(fs::create(&rt, "written.txt").expect(&rt, "created"));
-    same(&rt, &write_all(&mut sink, b"abcde"), &Ok(()), "five bytes");
+    check(&rt, &"five bytes", &write_all(&mut sink, b"abcde"), &Ok(()));
     let written = fs::read(&rt, "written.txt").expect(&rt, "read");
-    same_bytes(&rt, &written, b"abcde", "what is written");
+    check(&rt, &"written", &written.as_slice(), &b"abcde".as_slice());
 }
 
 #[test]
 fn a_write_that_takes_nothing_is_a_fault(rt: HostRuntime) {
     let mut full = RealSink::new(FullWriter);
-    let answers = [full.write(b""), full.write(b"a")];
-    same(&rt, &answers, &[Ok(0), Err(Failed)], "no byte and one");
+    let answers = (full.write(b""), full.write(b"a"));
+    check(&rt, &"no byte and one", &answers, &(Ok(0), Err(Failed)));
 }

@@ -43,24 +43,6 @@ const STEPS: &[(Option<&[u32]>, usize, &[(usize, &[u32])])] = &[
     (None, 1, &[(0, &[7, 8])]),
 ];
 
-/// Pushes a frame, or takes the top one away.
-fn step(stack: &mut FrameStack, pushed: Option<&[u32]>) {
-    match pushed {
-        Some(words) => push(stack, words),
-        None => pop(stack),
-    }
-}
-
-/// Asserts what stands on a stack with room for that many frames after each step, and how many
-/// more can be pushed.
-fn check_steps(rt: &impl Abort, stack: &mut FrameStack, room: usize) {
-    for (pushed, len, rows) in STEPS {
-        step(stack, *pushed);
-        check_frames(rt, stack, *len, rows);
-        check(rt, len, &stack.spare(), &room.saturating_sub(*len));
-    }
-}
-
 #[test]
 fn frames_are_pushed_and_popped(rt: HostRuntime) {
     let mut stack = FrameStack::new(rt.alloc());
@@ -68,7 +50,15 @@ fn frames_are_pushed_and_popped(rt: HostRuntime) {
     stack.reserve(2).expect(&rt, "memory");
     let room = stack.spare();
     check(&rt, &room, &(room >= 2), &true);
-    check_steps(&rt, &mut stack, room);
+    for (pushed, len, rows) in STEPS {
+        match pushed {
+            Some(words) => push(&mut stack, words),
+            None => pop(&mut stack),
+        }
+        check_frames(&rt, &stack, *len, rows);
+        check(&rt, len, &stack.spare(), &room.saturating_sub(*len));
+    }
+    drop(stack);
 }
 
 /// Frames on both sides of the end of a chunk, and the top one.
@@ -79,24 +69,21 @@ const NUMBERED: &[(usize, &[u32])] = &[
 ];
 
 /// Pushes 2,500 frames, and takes 1,500 away.
-fn check_numbered(rt: &impl Abort, stack: &mut FrameStack) {
-    for i in 0..2500u32 {
-        push(stack, &[i, 1, 2, 3, 4, 5, 6]);
-    }
-    check_frames(rt, stack, 2500, NUMBERED);
-    for _ in 0..1500 {
-        pop(stack);
-    }
-    check_frames(rt, stack, 1000, &[]);
-}
-
 #[test]
 fn frames_go_on_in_the_next_chunk(rt: HostRuntime) {
     let mut stack = FrameStack::new(rt.alloc());
     stack.reserve(3000).expect(&rt, "memory");
-    check_numbered(&rt, &mut stack);
+    for i in 0..2500u32 {
+        push(&mut stack, &[i, 1, 2, 3, 4, 5, 6]);
+    }
+    check_frames(&rt, &stack, 2500, NUMBERED);
+    for _ in 0..1500 {
+        pop(&mut stack);
+    }
+    check_frames(&rt, &stack, 1000, &[]);
     let spare = stack.spare();
     check(&rt, &spare, &(spare >= 2000), &true);
+    drop(stack);
 }
 
 /// Asks for room for 5,000 more frames, and says whether it is there, or as much as before where it
@@ -135,4 +122,5 @@ fn refused_memory_leaves_the_stack(rt: HostRuntime) {
         Ok(()) => check_refused(&rt, &mut stack),
         Err(_) => check(&rt, &"refused", &stack.spare(), &0),
     }
+    drop(stack);
 }

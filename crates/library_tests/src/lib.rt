@@ -27,8 +27,6 @@ mod frames;
 #[cfg(test)]
 mod marks;
 #[cfg(test)]
-mod same;
-#[cfg(test)]
 mod tokens;
 mod worked;
 

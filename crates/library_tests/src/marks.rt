@@ -4,7 +4,7 @@ ghost use Rattle.std.specs.Prelude.{◌≡◌, ◌<◌, IfSome};
 ghost use Rattle.active_config.specs.Tree.{state_count, parent_of};
 ghost use Rattle.active_config.specs.Marks.{parent_takes_child, IsConsistent};
 
-use crate::same::same;
+use crate::checks::check;
 use MarkStep::{Clear, IsBare, IsOn, Mark};
 use active_config::Comp::{And, Leaf, Or};
 use active_config::ShapeFault::NotATree;
@@ -34,7 +34,7 @@ const COMPS: &[Comp] = &[Or, And, Or, Leaf, Or, Leaf, Leaf];
 /// The root 0, an OR, has the AND 1 and the leaf 6; 1 has the ORs 2 and 4, each with one leaf.
 fn two_regions(rt: &impl Abort, alloc: Global) -> Shape {
     let shape = shape(rt, alloc, PARENTS, COMPS).expect(rt, "a tree");
-    same(rt, &shape.len(), &7, "how many states");
+    check(rt, &"how many states", &shape.len(), &7);
     shape
 }
 
@@ -74,7 +74,7 @@ const LISTS: &[(&str, &[u32], &[Comp], Option<ShapeFault>)] = &[
 fn lists_give_a_shape_where_they_are_a_tree(rt: HostRuntime) {
     for (name, parents, comps, fault) in LISTS {
         let found = shape(&rt, rt.alloc(), parents, comps).err();
-        same(&rt, &found, fault, name);
+        check(&rt, name, &found, fault);
     }
 }
 
@@ -90,35 +90,6 @@ const LOOK_UPS: &[(u32, Comp, &[Option<u32>])] = &[
     (6, Leaf, &[Some(0), None, None, None, Some(1)]),
 ];
 
-/// What the look-ups of a state but its composition give, in the order of `LOOK_UPS`.
-fn looked_up(shape: &Shape, state: u32) -> [Option<u32>; 5]
-    requires { state < state_count shape.now }
-{
-    [
-        shape.parent(state),
-        shape.first_child(state),
-        shape.last_child(state),
-        shape.next_sibling(state),
-        shape.prev_sibling(state),
-    ]
-}
-
-/// Asserts what each state is and what stands beside it.
-fn check_look_ups(rt: &impl Abort, shape: &Shape) {
-    for row in LOOK_UPS {
-        let state = row.0;
-        assert!(rt; state < shape.len(), "no such state");
-        let beside = looked_up(shape, state);
-        let found = (state, shape.comp(state), beside.as_slice());
-        same(rt, &found, row, "a state looked up");
-    }
-}
-
-#[test]
-fn states_are_looked_up(rt: HostRuntime) {
-    check_look_ups(&rt, &two_regions(&rt, rt.alloc()));
-}
-
 /// A state, one that may be above it, and whether it is.
 const BELOW: &[(u32, u32, bool)] = &[
     (3, 1, true),
@@ -129,18 +100,28 @@ const BELOW: &[(u32, u32, bool)] = &[
     (6, 1, false),
 ];
 
-/// Asserts which states are below others.
-fn check_below(rt: &impl Abort, shape: &Shape) {
+#[test]
+fn states_are_looked_up(rt: HostRuntime) {
+    let shape = two_regions(&rt, rt.alloc());
+    for row in LOOK_UPS {
+        let state = row.0;
+        assert!(rt; state < shape.len(), "no such state");
+        let beside = [
+            shape.parent(state),
+            shape.first_child(state),
+            shape.last_child(state),
+            shape.next_sibling(state),
+            shape.prev_sibling(state),
+        ];
+        let found = (state, shape.comp(state), beside.as_slice());
+        check(&rt, &"a state looked up", &found, row);
+    }
     for row in BELOW {
         assert!(rt; row.0.max(row.1) < shape.len(), "no such state");
         let found = (row.0, row.1, shape.is_below(row.0, row.1));
-        same(rt, &found, row, "whether a state is below one");
+        check(&rt, &"whether a state is below one", &found, row);
     }
-}
-
-#[test]
-fn states_are_below_those_above(rt: HostRuntime) {
-    check_below(&rt, &two_regions(&rt, rt.alloc()));
+    drop(shape);
 }
 
 /// Whether the parent of a state, if it has one, may get it as one more active child.
@@ -258,7 +239,7 @@ fn take(tree: &mut Marked, step: MarkStep, state: u32) -> bool
 fn check_steps(rt: &impl Abort, tree: &mut Marked, steps: &[(MarkStep, u32, bool, &str)]) {
     for (step, state, wanted, why) in steps {
         assert!(rt; *state < tree.shape.len(), "no such state");
-        same(rt, &take(tree, *step, *state), wanted, why);
+        check(rt, why, &take(tree, *step, *state), wanted);
     }
 }
 
@@ -268,12 +249,8 @@ fn check_children(rt: &impl Abort, tree: &Marked, rows: &[(u32, Comp, Option<u32
         let state = row.0;
         assert!(rt; state < tree.shape.len(), "no such state");
         let child = tree.marks.active_child(&tree.shape, state);
-        same(
-            rt,
-            &(state, tree.shape.comp(state), child),
-            row,
-            "a state's active child",
-        );
+        let found = (state, tree.shape.comp(state), child);
+        check(rt, &"a state's active child", &found, row);
     }
 }
 
@@ -308,6 +285,7 @@ fn marks_are_set_and_cleared(rt: HostRuntime) {
     check_steps(&rt, &mut tree, MARKED);
     check_children(&rt, &tree, CHILDREN);
     check_steps(&rt, &mut tree, CLEARED);
+    drop(tree);
 }
 
 /// The root 0, an AND, has the leaves 1 to 130.
@@ -316,7 +294,7 @@ fn wide(rt: &impl Abort, alloc: Global) -> Shape {
     let mut comps = vec![in alloc; Leaf; 131].expect(rt, "memory");
     comps[0] = And;
     let shape = Shape::make(alloc, parents, comps).expect(rt, "a tree");
-    same(rt, &shape.len(), &131, "how many states");
+    check(rt, &"how many states", &shape.len(), &131);
     shape
 }
 
@@ -341,49 +319,17 @@ const SEARCHES: &[(u32, Option<u32>)] = &[
     (131, None),
 ];
 
-/// Asserts what is found from each state.
-fn check_searches(rt: &impl Abort, tree: &Marked, searches: &[(u32, Option<u32>)]) {
-    for row in searches {
-        let from = row.0;
-        assert!(rt; from <= tree.shape.len(), "no such state");
-        same(
-            rt,
-            &(from, tree.marks.next_on(from)),
-            row,
-            "the next active state",
-        );
-    }
-}
-
 #[test]
 fn active_states_are_found_in_order(rt: HostRuntime) {
     let mut tree = unmarked(&rt, rt.alloc(), wide(&rt, rt.alloc()));
     check_steps(&rt, &mut tree, MARKED_WIDE);
-    check_searches(&rt, &tree, SEARCHES);
-    check_children(&rt, &tree, WIDE_CHILDREN);
-}
-
-/// What a state remembers, if it is an OR of the tree.
-fn remembered_at(tree: &Marked, state: u32) -> Option<u32> {
-    if state < tree.shape.len() {
-        remembered(&tree.marks, &tree.shape, state)
-    } else {
-        None
+    for row in SEARCHES {
+        assert!(rt; row.0 <= tree.shape.len(), "no such state");
+        let found = (row.0, tree.marks.next_on(row.0));
+        check(&rt, &"the next active state", &found, row);
     }
-}
-
-/// Tries to make the parent of a state remember it. Gives the state, whether its parent does, and
-/// what 0 and 2 remember then.
-fn kept(tree: &mut Marked, state: u32) -> (u32, bool, Option<u32>, Option<u32>)
-    requires { state < state_count tree.old.shape }
-{
-    let is_kept = try_keep(&mut tree.marks, &tree.shape, state);
-    (
-        state,
-        is_kept,
-        remembered_at(tree, 0),
-        remembered_at(tree, 2),
-    )
+    check_children(&rt, &tree, WIDE_CHILDREN);
+    drop(tree);
 }
 
 /// States of `two_regions`, whether their parent is an OR, and what 0 and 2 remember after each.
@@ -404,11 +350,14 @@ const NONE_MARKED: &[(MarkStep, u32, bool, &str)] = &[
     (IsOn, 3, false, "3 is kept alone"),
 ];
 
-/// Asserts what is kept of each state.
+/// Tries to make the parent of each state remember it, and asserts what is kept then.
 fn check_kept(rt: &impl Abort, tree: &mut Marked, rows: &[(u32, bool, Option<u32>, Option<u32>)]) {
     for row in rows {
-        assert!(rt; row.0 < tree.shape.len(), "no such state");
-        same(rt, &kept(tree, row.0), row, "what is kept");
+        assert!(rt; row.0.max(2) < tree.shape.len(), "no such state");
+        let is_kept = try_keep(&mut tree.marks, &tree.shape, row.0);
+        let first = remembered(&tree.marks, &tree.shape, 0);
+        let second = remembered(&tree.marks, &tree.shape, 2);
+        check(rt, &"what is kept", &(row.0, is_kept, first, second), row);
     }
 }
 
@@ -417,4 +366,5 @@ fn the_child_kept_last_is_remembered(rt: HostRuntime) {
     let mut tree = unmarked(&rt, rt.alloc(), two_regions(&rt, rt.alloc()));
     check_kept(&rt, &mut tree, KEPT);
     check_steps(&rt, &mut tree, NONE_MARKED);
+    drop(tree);
 }

@@ -1,7 +1,7 @@
 //! Texts and what they are cut into, worked by hand.
 ghost use Rattle.std.specs.Prelude.{◌<◌, ◌^◌, length};
 
-use crate::same::same;
+use crate::checks::check;
 use chart_lexer::{is_name, lex};
 use std::alloc::{AllocError, Global};
 use std::fmt::{Debug, Write};
@@ -32,20 +32,12 @@ fn shown(alloc: Global, text: &[u8]) -> Result<String, AllocError>
     Ok(line)
 }
 
-/// What a text is cut into, where it isn't too long.
-fn cut(alloc: Global, text: &[u8]) -> Result<String, AllocError> {
-    if text.len() < 1_000 {
-        shown(alloc, text)
-    } else {
-        String::from_str(alloc, "too long")
-    }
-}
-
 /// Asserts what each text is cut into.
-fn check(rt: &impl Abort, alloc: Global, cases: &[(&[u8], &str)]) {
+fn check_cuts(rt: &(impl AllocGlobal + Abort), cases: &[(&[u8], &str)]) {
     for (text, want) in cases {
-        let found = cut(alloc, text).expect(rt, "memory");
-        same(rt, &found.as_str(), want, "what it is cut into");
+        assert!(rt; text.len() < 1_000, "too long");
+        let found = shown(rt.alloc(), text).expect(rt, "memory");
+        check(rt, text, &found.as_str(), want);
     }
 }
 
@@ -95,11 +87,6 @@ const WORDS: &[(&[u8], &str)] = &[
     (b"_a", "BadToken@1:1"),
 ];
 
-#[test]
-fn cuts_words(rt: HostRuntime) {
-    check(&rt, rt.alloc(), WORDS);
-}
-
 /// Symbols, and what each text is cut into.
 const SYMBOLS: &[(&[u8], &str)] = &[
     (
@@ -130,11 +117,6 @@ const SYMBOLS: &[(&[u8], &str)] = &[
     (b"~", "BadToken@1:1"),
 ];
 
-#[test]
-fn cuts_symbols(rt: HostRuntime) {
-    check(&rt, rt.alloc(), SYMBOLS);
-}
-
 /// Numbers, and what each text is cut into.
 const NUMBERS: &[(&[u8], &str)] = &[
     (
@@ -158,11 +140,6 @@ const NUMBERS: &[(&[u8], &str)] = &[
     (b"1.5e3", "BadToken@1:1"),
 ];
 
-#[test]
-fn cuts_numbers(rt: HostRuntime) {
-    check(&rt, rt.alloc(), NUMBERS);
-}
-
 /// Lines, tabs, comments and bytes of no token, and what each text is cut into.
 const PLACES: &[(&[u8], &str)] = &[
     (b"", "End@1:1"),
@@ -183,8 +160,11 @@ const PLACES: &[(&[u8], &str)] = &[
 ];
 
 #[test]
-fn gives_places(rt: HostRuntime) {
-    check(&rt, rt.alloc(), PLACES);
+fn texts_are_cut_into_tokens(rt: HostRuntime) {
+    check_cuts(&rt, WORDS);
+    check_cuts(&rt, SYMBOLS);
+    check_cuts(&rt, NUMBERS);
+    check_cuts(&rt, PLACES);
 }
 
 /// Texts, and whether each is a name.
@@ -210,6 +190,6 @@ const NAMES: &[(&[u8], bool)] = &[
 #[test]
 fn knows_names(rt: HostRuntime) {
     for row in NAMES {
-        same(&rt, &(row.0, is_name(row.0)), row, "whether it is a name");
+        check(&rt, &"a name", &(row.0, is_name(row.0)), row);
     }
 }

@@ -24,5 +24,5 @@ pub returns-in_default : goal.returns-in_default
 returns-in_default c =
     let name = c.args.name.now in
     let none = no_command name c.in_ok-first.first.now c.in_default.not-check c.in_default.not-fmt
-        c.in_default.not-compile c.in_default.not-upgrade c.in_default.not-bounds c.in_default.not-shrink in
+    c.in_default.not-compile c.in_default.not-upgrade c.in_default.not-bounds c.in_default.not-shrink in
     subst (λ (o : Option Text). None ≡ option_and_then (file_command name) o) c.in_ok-first.ensures (sym none)

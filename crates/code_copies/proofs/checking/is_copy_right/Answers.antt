@@ -11,3 +11,10 @@ returns-then-hands_on c t =
     c.deref-in-Some.ensures.value c.deref-then-hands_on.ensures.value c.items-then-hands_on.ensures
     (item_there c.items.result.now _ c.args.copy.now.key.proc c.in-Some.instrs.now c.items.ensures found.3.0 found.1)
     (c.if-hands_on.ensures refl) (c.are_places_right.ensures t)
+
+-- where one isn't, nothing is said
+pub returns-else-hands_on : goal.returns-else-hands_on
+returns-else-hands_on c t = absurd (cc t)
+
+pub returns-in-None : goal.returns-in-None
+returns-in-None c t = absurd (cc t)

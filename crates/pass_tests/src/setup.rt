@@ -6,10 +6,7 @@ use flow_base::{List, Text};
 use std::process::Abort;
 
 /// The list of these items.
-pub fn list<T: Drop, const N: usize>(
-    rt: &(impl AllocGlobal + Abort),
-    items: [T; N],
-) -> List<T> {
+pub fn list<T: Drop, const N: usize>(rt: &(impl AllocGlobal + Abort), items: [T; N]) -> List<T> {
     List::of(Vec::from_array(rt.alloc(), items).expect(rt, "memory"))
 }
 

@@ -6,6 +6,15 @@ use Rattle.c_expression_writer.proofs.file_shape.FileShape.make.Goals as goal
 pub returns : goal.returns
 returns c = record {
   shape =
-      rw (c.note_room-notes.ensures, c.items.ensures, c.height.ensures, c.in_ok-noted.ensures, c.items-procs.ensures,
-      c.raw.ensures.raw, c.requires.tree, c.requires.names, length-map) refl;
+      rw (
+        c.note_room-notes.ensures,
+        c.items.ensures,
+        c.height.ensures,
+        c.in_ok-noted.ensures,
+        c.items-procs.ensures,
+        c.raw.ensures.raw,
+        c.requires.tree,
+        c.requires.names,
+        length-map,
+      ) refl;
 }

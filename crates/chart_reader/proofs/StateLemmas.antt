@@ -112,6 +112,14 @@ module _ (st : StateGrammar) (n k : Counts) (same : k ≡ n) (s p : List Lexeme)
       ≡ (closed_by kinds.CloseBrace (counted m (state_with (sorted called comp xs)))).reads q
   body_closed q xs m e = body_opened ∙ rw e refl
 
+  -- after its last brace a state is read
+  pub body_read : (q : List Lexeme) (xs : List Item) (m : Counts)
+      → told k ((items usual st (nothing_seen k)).reads p) ≡ Ok (record { value = xs; counts = m }, q)
+      → (r : List Lexeme) (v : State) (j : Counts) → j ≡ m
+      → (closed_by kinds.CloseBrace (counted m (state_with (sorted called comp xs)))).reads q ≡ Ok (counted m v, r)
+      → (state_body usual st n).reads s ≡ Ok (counted j v, r)
+  body_read q xs m e r v j kept closed = rw (body_closed q xs m e, closed, kept) refl
+
 -- ---- charts
 
 -- what is made of a chart's items, after their brace

@@ -1,4 +1,4 @@
-use Rattle.std.proofs.Common.{◌≡◌, true, false, Ok, map, refl, sym, ap, ◌∙◌, arith}
+use Rattle.std.proofs.Common.{◌≡◌, true, false, map, refl, sym, ap, ◌∙◌, arith}
 use Rattle.std.proofs.lemmas.Result.{err_from_is_err_and}
 use Rattle.token_grammar.specs.declared.token.Kind.TheVariants as kinds
 use Rattle.token_grammar.specs.Token.{lexemes}
@@ -11,9 +11,8 @@ use Rattle.chart_grammar.proofs.StateLaws.{good_state}
 use Rattle.chart_grammar.proofs.ReadingLaws.{state_nested}
 use Rattle.chart_reader.specs.Counts.{counts_of}
 use Rattle.chart_reader.specs.Items.{item_of, seen_of}
-use Rattle.chart_reader.specs.Parts.{counted}
 use Rattle.chart_reader.proofs.TokenLemmas.{allowed_passes}
-use Rattle.chart_reader.proofs.StateLemmas.{body_unopened, body_fails, body_closed}
+use Rattle.chart_reader.proofs.StateLemmas.{body_unopened, body_fails, body_closed, body_read}
 use Rattle.chart_reader.proofs.ItemLoop.{state_none, items_begin, items_go_on, items_fail, items_end, items_fewer}
 use Rattle.chart_reader.proofs.reader.Reader.+state.Goals as goal
 
@@ -121,11 +120,10 @@ state_body-returns-in_err-chart t c =
 
 pub state_body-returns : goal.state_body-returns
 state_body-returns t c =
-    let m = counts_of c.items.new.self.counts in
-    body_closed (state usual c.args.depth) (counts_of c.args.self.now.counts)
+    body_read (state usual c.args.depth) (counts_of c.args.self.now.counts)
     (counts_of c.head.new.self.counts) (ap counts_of c.in_ok-head.ensures.counts)
     (lexemes c.args.self.now.rest.now) _ _ _ c.in_ok-head.ensures.read
-    _ (map item_of c.in_ok-items.items.items) m c.in_ok-items.ensures
-    ∙ c.in_ok-chart.ensures.root m
-    ∙ ap (λ k. Ok (counted k (state_of c.in_ok-chart.chart.root), lexemes c.body.new.self.rest.now))
-    (sym (ap counts_of c.in_ok-chart.ensures.counts))
+    _ (map item_of c.in_ok-items.items.items) (counts_of c.items.new.self.counts) c.in_ok-items.ensures
+    _ (state_of c.in_ok-chart.chart.root) (counts_of c.body.new.self.counts)
+    (ap counts_of c.in_ok-chart.ensures.counts)
+    (c.in_ok-chart.ensures.root (counts_of c.items.new.self.counts))

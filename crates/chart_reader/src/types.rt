@@ -1,5 +1,5 @@
 //! Reads types.
-ghost use Rattle.std.specs.Prelude.{◌≡◌, [], ◌∷◌, bytes_eq};
+ghost use Rattle.std.specs.Prelude.{◌≡◌, [], ◌∷◌};
 ghost use Rattle.std.specs.Option.{option_map};
 ghost use Rattle.token_grammar.specs.Token.{lexemes, Gives};
 ghost use Rattle.chart_tree.specs.Views.{parts_of, sort_of};
@@ -8,6 +8,7 @@ ghost use Rattle.chart_reader.specs.Types.{word_of, below_hundred, told_of, firs
 
 use crate::group::Group;
 use crate::reader::Reader;
+use chart_lexer::is_spelled;
 use chart_tree::SortText;
 use fixed_point::{Mode, Scale, split_digits};
 use token_grammar::{Kind, ReadError, TokenFault};
@@ -88,13 +89,6 @@ fn told_of(word: &[u8]) -> Option<Scale>
     } else {
         None
     }
-}
-
-/// Whether the word is the one that is spelled so.
-fn is_spelled(word: &[u8], spelling: &[u8]) -> bool
-    ensures { result ≡ bytes_eq word.now spelling.now }
-{
-    word == spelling
 }
 
 /// The scale that a word names.

@@ -74,19 +74,37 @@ fn plan_of(
     })
 }
 
-/// A plan of copies by the notes that are pending where procedures begin. None where no procedure
-/// has two copies, or where there would be too many.
-pub(crate) fn find_by_notes(alloc: Global, code: &RawCode) -> Result<Option<PureCopyPlan>, Memory> {
+/// Makes the copies that are wanted by notes. The numbers of those of the start and of a reaction.
+fn make_by_notes(alloc: Global, code: &RawCode, search: &mut Search) -> Result<(u32, u32), Memory> {
     let procs = code.procs.items();
-    let Some(playing) = Playing::of(alloc, procs)? else {
-        return Ok(None);
-    };
-    let mut search = Search::new(alloc, playing, NOTE_PLACE_LIMIT);
     let start = search.first_copy(code.start)?;
     let react = search.first_copy(code.react)?;
     search.make_all(alloc, procs, copies_allowed(procs.len()))?;
+    Ok((start, react))
+}
+
+/// The plan of copies by notes, by the procedures that may run what is pending.
+fn by_notes(
+    alloc: Global,
+    code: &RawCode,
+    playing: Playing,
+) -> Result<Option<PureCopyPlan>, Memory> {
+    let mut search = Search::new(alloc, playing, NOTE_PLACE_LIMIT);
+    let Ok((start, react)) = make_by_notes(alloc, code, &mut search) else {
+        drop(search);
+        return Err(Memory);
+    };
     match search.into_copies() {
         Some(copies) => plan_of(alloc, copies, start, react),
+        None => Ok(None),
+    }
+}
+
+/// A plan of copies by the notes that are pending where procedures begin. None where no procedure
+/// has two copies, or where there would be too many.
+pub(crate) fn find_by_notes(alloc: Global, code: &RawCode) -> Result<Option<PureCopyPlan>, Memory> {
+    match Playing::of(alloc, code.procs.items())? {
+        Some(playing) => by_notes(alloc, code, playing),
         None => Ok(None),
     }
 }
@@ -107,6 +125,34 @@ fn nesting_of(alloc: Global, code: &RawCode) -> Result<Option<Nesting>, Memory> 
     })
 }
 
+/// Makes the copies that are wanted by depth. The numbers of those of the start and of a reaction.
+fn make_by_depth(
+    alloc: Global,
+    code: &RawCode,
+    search: &mut DepthSearch,
+) -> Result<(u32, u32), Memory> {
+    let start = search.copy_at(code.start, 0)?;
+    let react = search.copy_at(code.react, 0)?;
+    search.make_all(alloc, code.procs.items())?;
+    Ok((start, react))
+}
+
+/// The plan of copies by depth, by the procedures that need them.
+fn by_depth(
+    alloc: Global,
+    code: &RawCode,
+    nesting: Nesting,
+    depth: u32,
+) -> Result<Option<PureCopyPlan>, Memory> {
+    let room = places_of(code.procs.items()).saturating_add(DEPTH_ROOM);
+    let mut search = DepthSearch::new(alloc, nesting, depth, room);
+    let Ok((start, react)) = make_by_depth(alloc, code, &mut search) else {
+        drop(search);
+        return Err(Memory);
+    };
+    plan_of(alloc, search.into_copies(), start, react)
+}
+
 /// A plan of copies by depth, up to the given one. None where no procedure has two copies, or where
 /// there would be too many.
 pub(crate) fn find_by_depth(
@@ -114,14 +160,8 @@ pub(crate) fn find_by_depth(
     code: &RawCode,
     depth: u32,
 ) -> Result<Option<PureCopyPlan>, Memory> {
-    let procs = code.procs.items();
-    let Some(nesting) = nesting_of(alloc, code)? else {
-        return Ok(None);
-    };
-    let room = places_of(procs).saturating_add(DEPTH_ROOM);
-    let mut search = DepthSearch::new(alloc, nesting, depth, room);
-    let start = search.copy_at(code.start, 0)?;
-    let react = search.copy_at(code.react, 0)?;
-    search.make_all(alloc, procs)?;
-    plan_of(alloc, search.into_copies(), start, react)
+    match nesting_of(alloc, code)? {
+        Some(nesting) => by_depth(alloc, code, nesting, depth),
+        None => Ok(None),
+    }
 }

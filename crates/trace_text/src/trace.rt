@@ -72,6 +72,7 @@ pub fn write_full<O: Sink>(
 ///
 /// What there is no room for goes to the sink at once. After a failed write nothing more is put.
 /// It takes no memory.
+#[inline(always)]
 pub fn put_trace<O: Sink>(
     index: u64,
     event: Event,

@@ -209,6 +209,7 @@ pub(crate) fn put_end<O: Sink>(names: &Names, end: LineEnd, pieces: &mut Pieces,
 }
 
 /// Puts how an event ended, which ends the line.
+#[inline(always)]
 fn put_result<O: Sink>(names: &Names, fault: Option<Fault>, pieces: &mut Pieces, out: &mut O)
     requires { IsFaultOf (names_of names.now) fault }
     ensures { Puts (O.wrote out.old) (O.wrote out.new) (O.faults out.old) (O.faults out.new)

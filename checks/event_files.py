@@ -53,7 +53,8 @@ L is the number of the line. Then come the trace lines of the worlds. A block wi
 
 With `--against PROGRAM` nothing is answered. For each file PROGRAM runs a code that declares the same and does nothing, and
 what it writes is compared with the trace that follows from the file. A world whose result is `ok`, whose index is at most 20
-and which a code can reach is reached by one, and its trace line is compared. Only differences are written."""
+and which a code can reach is reached by one, and its trace line is compared. The differences are written, and the number of
+runs; the status is 1 where there is a difference or no run."""
 import re
 import sys
 from collections import deque, namedtuple
@@ -354,30 +355,36 @@ def world_run(declared, rest):
 
 
 def compare(block, declared, program):
-    """Lines that tell where the program's traces of a block differ."""
-    found, data = [], file_of(block)
+    """For each run of the program that is made of a block, the lines that tell where its trace differs."""
+    data = file_of(block)
     if data is not None:
         got = programs.run(program, ['exec', 'code', 'events'], {'code': code_of(declared, [['ret 0']]), 'events': data})
-        found += programs.differences(block.name, idle_run(declared, data), got)
+        yield programs.differences(block.name, idle_run(declared, data), got)
     for rest in block.values('world'):
         made = world_run(declared, rest)
         if made is not None:
             got = programs.run(program, ['exec', 'code', 'events'], dict(zip(('code', 'events'), made)))
             last = ''.join(got.out.splitlines(True)[-1:])
             expected = Ended(world_text(declared, rest) + '\n', '', 0)
-            found += programs.differences(block.name, expected, got._replace(out=last))
-    return found
+            yield programs.differences(block.name, expected, got._replace(out=last))
+
+
+def compare_all(blocks, earlier, program):
+    """Writes where the program's runs differ, and how many there were. Gives the status, which is 1 where there was none, too."""
+    runs = wrong = 0
+    for block in blocks:
+        for differences in compare(block, earlier.declared(block), program):
+            runs += 1
+            wrong += bool(differences)
+            sys.stdout.write(''.join(line + '\n' for line in differences))
+    print('%d runs, %d of them differ' % (runs, wrong))
+    return 1 if wrong or not runs else 0
 
 
 def main(words):
     earlier = Blocks()
     if words[:1] == ['--against'] and len(words) == 2:
-        wrong = 0
-        for block in tables.blocks(sys.stdin.buffer):
-            differences = compare(block, earlier.declared(block), words[1])
-            wrong += bool(differences)
-            sys.stdout.write(''.join(line + '\n' for line in differences))
-        return 1 if wrong else 0
+        return compare_all(tables.blocks(sys.stdin.buffer), earlier, words[1])
     if words not in ([], ['--check']):
         sys.exit(__doc__)
     return tables.answer_table(sys.stdin.buffer, lambda block: answer(block, earlier.declared(block)), bool(words))

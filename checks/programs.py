@@ -38,6 +38,14 @@ def parser(usage):
     return argparse.ArgumentParser(description=usage, formatter_class=argparse.RawDescriptionHelpFormatter, allow_abbrev=False)
 
 
+def at_least_one(word):
+    """The number of cases that a word asks for. A check that tries none is refused, since it would pass."""
+    number = int(word)
+    if number < 1:
+        raise argparse.ArgumentTypeError('there is nothing to try')
+    return number
+
+
 def print_counts(title, counts):
     """A title, and a line for each count."""
     print('\n%s' % title)

@@ -26,7 +26,7 @@ import chart_check as check
 import chart_rules as rules
 import chart_syntax as syntax
 import random_charts
-from programs import Ended, differences, ended, keep_files, parser, print_counts
+from programs import Ended, at_least_one, differences, ended, keep_files, parser, print_counts
 
 LONGEST = 120               # seconds for one command
 OVERRUN = ('depth', 'steps')
@@ -151,7 +151,7 @@ def main(words):
     reader = parser(__doc__)
     reader.add_argument('--against', metavar='PROGRAM')
     reader.add_argument('--seed', default='1')
-    reader.add_argument('--cases', type=int, default=1000)
+    reader.add_argument('--cases', type=at_least_one, default=1000)
     reader.add_argument('--first', type=int, default=0)
     reader.add_argument('--files', type=int, default=2)
     reader.add_argument('--keep', metavar='FOLDER', default='differences')

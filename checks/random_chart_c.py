@@ -26,7 +26,7 @@ import random_charts
 from chart_c import FOLDER, LONGEST, WARNINGS, Failed, compile_driver, make_c, output_of, write
 from chart_check import check_chart
 from c_runs import words_for
-from programs import differences, ended, keep_files, parser, print_counts, results_of
+from programs import at_least_one, differences, ended, keep_files, parser, print_counts, results_of
 from random_compiled import bounds_of, features_of
 
 SANITIZERS = ['-fsanitize=undefined,address', '-fno-sanitize-recover=all', '-g']
@@ -144,7 +144,7 @@ def main(words):
     """Compares charts until there are enough, and gives the status."""
     reader = parser(__doc__)
     reader.add_argument('--against', metavar='CHART_TO_C', required=True)
-    reader.add_argument('--charts', metavar='N', type=int, required=True)
+    reader.add_argument('--charts', metavar='N', type=at_least_one, required=True)
     reader.add_argument('--seed', default='1')
     reader.add_argument('--first', metavar='M', type=int, default=0)
     reader.add_argument('--both', action='store_true')

@@ -27,7 +27,7 @@ import declarations as de
 import event_files as ev
 import tables
 from demands import Wrong, demand
-from programs import parser
+from programs import at_least_one, parser
 
 MOST_MOVES = 20000          # for one event of a random code
 
@@ -868,7 +868,7 @@ def main(words):
     """Does what the words ask for, and gives the status."""
     reader = parser(__doc__)
     reader.add_argument('--seed', default='1')
-    reader.add_argument('--cases', type=int, default=1000)
+    reader.add_argument('--cases', type=at_least_one, default=1000)
     reader.add_argument('--first', type=int, default=0)
     what = reader.add_mutually_exclusive_group()
     what.add_argument('--table', action='store_true')

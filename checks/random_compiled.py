@@ -30,7 +30,7 @@ import chart_syntax as syntax
 import code_machine
 import code_text
 import random_charts
-from programs import Ended, differences, ended, keep_files, parser, print_counts, status_text
+from programs import Ended, at_least_one, differences, ended, keep_files, parser, print_counts, status_text
 
 USUAL_FILES = 4
 DEFAULT_BOUNDS = (rules.DEFAULT_DEPTH, rules.DEFAULT_STEPS)
@@ -267,7 +267,7 @@ def main(words):
     reader = parser(__doc__)
     reader.add_argument('--against', metavar='PROGRAM', required=True)
     reader.add_argument('--seed', default='1')
-    reader.add_argument('--cases', type=int, default=1000)
+    reader.add_argument('--cases', type=at_least_one, default=1000)
     reader.add_argument('--files', type=int, default=USUAL_FILES)
     reader.add_argument('--plain', action='store_true')
     reader.add_argument('--first', type=int, default=0)

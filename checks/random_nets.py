@@ -32,7 +32,7 @@ import chart_rules as rules
 import chart_syntax as syntax
 import nets
 import random_charts
-from programs import differences, ended, parser, print_counts
+from programs import at_least_one, differences, ended, parser, print_counts
 
 LONGEST = 120               # seconds for one command
 CHARTS, REFUSED, ANY_START = 400, 0, 4
@@ -461,7 +461,7 @@ def main(words):
     reader = parser(__doc__)
     reader.add_argument('--against', metavar='PROGRAM')
     reader.add_argument('--seed', default='1')
-    reader.add_argument('--cases', type=int, default=1000)
+    reader.add_argument('--cases', type=at_least_one, default=1000)
     reader.add_argument('--first', type=int, default=0)
     reader.add_argument('--keep', metavar='FOLDER', default='differences')
     options = reader.parse_args(words)

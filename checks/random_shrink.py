@@ -171,6 +171,8 @@ def main(words):
     options = reader.parse_args(words)
     if options.charts and not options.against:
         reader.error('--charts needs a program that compiles')
+    if options.charts < 1 and options.codes < 1:
+        reader.error('there is nothing to try')
     with tempfile.TemporaryDirectory(dir='/dev/shm' if os.path.isdir('/dev/shm') else None) as folder:
         comparison = Comparison(options.against, options.seed, options.keep, folder)
         for number in range(options.first, options.first + options.codes):

@@ -91,7 +91,7 @@ def wrong_explanation(program, folder, text, data, depth, steps, counts):
 
 def main():
     parser = programs.parser(__doc__)
-    parser.add_argument('--cases', type=int, default=1000)
+    parser.add_argument('--cases', type=programs.at_least_one, default=1000)
     parser.add_argument('--first', type=int, default=0)
     parser.add_argument('--seed', default='1')
     parser.add_argument('--runs', type=int, default=20)

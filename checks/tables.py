@@ -3,8 +3,9 @@
     # N blocks          The lines after the head make blocks, as is said below. The last line is `# end`.
     # N rows            Each line after the head is a case.
 
-A table without a head, without a case, or with more or fewer cases than its head says is refused with status 1, and so is a table
-of blocks whose last line is another one: so no check is passed by a table that is empty or was cut.
+A table without a head, without a case, or with more or fewer cases than its head says is refused with status 1, and so is one whose
+last line has no line feed, and a table of blocks whose last line is another one: so no check is passed by a table that is empty or
+was cut.
 
 A line of a table of blocks is empty, a comment that begins with `#`, or one of
 
@@ -34,7 +35,9 @@ class Block:
 def lines_of(source):
     """The lines of a table that is read as bytes, a character for each byte, whatever the locale is."""
     for line in source:
-        yield line.rstrip(b'\n').decode('latin-1')
+        if not line.endswith(b'\n'):
+            raise SystemExit('the last line of a table has no line feed')
+        yield line[:-1].decode('latin-1')
 
 
 def counted(lines, what, cases):

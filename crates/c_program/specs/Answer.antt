@@ -1,4 +1,4 @@
--- The answer of the program: what it writes and how it ends, for all words, files and faults.
+-- The answer of the program: what it writes and how it ends, for all arguments, files and faults.
 use Rattle.std.specs.Prelude.{◌≡◌, ◌⊎◌, [], Option, Some, None}
 use Rattle.std.specs.Io.KnownBytes.{append_known}
 use Rattle.flow_base.specs.Causes.{Stands}
@@ -12,13 +12,13 @@ use Rattle.c_program.specs.declared.ending.Ending.{Ending}
 use Rattle.c_program.specs.declared.ending.Ending.TheVariants as endings
 use Rattle.c_program.specs.Ending.{of_text, status_of, line_of}
 
--- how a command ends, and when; words that ask for none are Usage
+-- how a command ends, and when; arguments that ask for none are Usage
 abbrev pub Ends : Option Command → Call → Ending → Type 0
 Ends None call ending = EndsAtOnce call endings.Usage ending
 Ends (Some (Header first asked)) call ending = EndsAs of_text (HeaderEnds asked call first) ending
 Ends (Some (Source first asked)) call ending = EndsAs of_text (SourceEnds asked call first) ending
 
--- files that the words don't name keep what they have left
+-- files that the arguments don't name keep what they have left
 abbrev pub OthersKeep : Option Command → Call → Type 0
 OthersKeep None call = OthersStay [] call.sources_before call.sources_after
 OthersKeep (Some (Header first asked)) call =
@@ -26,7 +26,7 @@ OthersKeep (Some (Header first asked)) call =
 OthersKeep (Some (Source first asked)) call =
     OthersStay (files_named (Source first asked)) call.sources_before call.sources_after
 
--- how a call ends, and when: as the command does, or memory runs out before the words are read
+-- how a call ends, and when: as the command does, or memory runs out before the arguments are read
 abbrev pub CallEnds : Option Command → Call → Ending → Type 0
 CallEnds command call ending = Ends command call ending ⊎ EndsAtOnce call endings.Memory ending
 

@@ -13,14 +13,15 @@ use crate::words::{CCommand, command_from};
 use flow_base::{Inputs, Memory, Sink, Status};
 use std::alloc::Global;
 
-/// Does all that the program does: reads the file that the words name, writes the answer on `out`
-/// and a line on `err` where the answer isn't whole, and answers the status with which the process
-/// ends.
+/// Does all that the program does: reads the file that the arguments name, writes the answer on
+/// `out` and a line on `err` where the answer isn't whole, and answers the status with which the
+/// process ends.
 ///
 /// `header CHART` writes the header of the C of the accepted chart of the file, and `source CHART`
 /// its source. Both take the bounds `--depth` and `--steps`; where neither stands there, the bounds
 /// are those that no event of the chart overruns, if it has such bounds, and else the default ones.
-/// All other words are refused as Usage. Any words may end in Memory before anything is read.
+/// All other arguments are refused as Usage. Any arguments may end in Memory before anything is
+/// read.
 pub fn c_main<I: Inputs, O: Sink, E: Sink>(
     alloc: Global,
     words: &[String],
@@ -40,7 +41,7 @@ pub fn c_main<I: Inputs, O: Sink, E: Sink>(
     ending.status()
 }
 
-/// Does what the words ask for.
+/// Does what the arguments ask for.
 fn call<I: Inputs, O: Sink>(alloc: Global, words: &[String], inputs: &mut I, out: &mut O) -> Ending
     ensures ends { CallEnds (command_of words.now)
         (call_of I.Inputs O.Sink inputs.old inputs.new out.old out.new) result }
@@ -53,7 +54,7 @@ fn call<I: Inputs, O: Sink>(alloc: Global, words: &[String], inputs: &mut I, out
     }
 }
 
-/// Does what the words ask for, and ends as Usage where they ask for no command.
+/// Does what the arguments ask for, and ends as Usage where they ask for no command.
 fn answer_asked<I: Inputs, O: Sink>(
     alloc: Global,
     asked: Option<CCommand<'_>>,

@@ -12,9 +12,9 @@ pub enum Ending {
     Done,
     /// The chart text is refused.
     Chart(Refusal),
-    /// The words name no command.
+    /// The arguments name no command.
     Usage,
-    /// The file that the words name couldn't be read.
+    /// The file that the arguments name couldn't be read.
     Read,
     /// Standard output couldn't be written.
     Write,

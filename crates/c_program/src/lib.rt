@@ -1,4 +1,4 @@
-//! The program `chart_to_c`: what its words ask for, what it writes, and how it ends.
+//! The program `chart_to_c`: what its arguments ask for, what it writes, and how it ends.
 //!
 //! The public call is `c_main`, and its one main clause is `CAnswer` of `specs/Answer.antt`. Read
 //! the words first, then the commands, and last the answer.

@@ -48,8 +48,7 @@ pub record RouteRefused (before after : Sources) (first : List ℕ) (line : ℕ)
   pub refused : bad_route loaded net.routes ≡ Some line
 
 -- The files of the net and of its charts were read, each route is good, and the net ran over the schedule by the
--- rules, each
--- event with these bounds. Where the run ended well, nothing is left of any of the files.
+-- rules, each event with these bounds. Where the run ended well, nothing is left of any of the files.
 pub record NetRan (bounds : Bounds) (call : Call) (first second : List ℕ) (end : ScheduleEnd) : Type 0 where
   pub net : NetText
   pub loaded : List LoadedChart

@@ -1,4 +1,4 @@
--- The answer of the program: what it writes and how it ends, for all words, files and faults.
+-- The answer of the program: what it writes and how it ends, for all arguments, files and faults.
 use Rattle.std.specs.Prelude.{◌≡◌, ◌⊎◌, ℕ, [], Option, Some, None}
 use Rattle.std.specs.Io.KnownBytes.{append_known}
 use Rattle.flow_base.specs.Causes.{Stands}
@@ -40,7 +40,7 @@ pub record CaseEnds (call : Call) (number : ℕ) (end : SelftestEnd) : Type 0 wh
   pub case : SelftestEnds number call.output_before call.output_after end
   pub sources : call.sources_after ≡ call.sources_before
 
--- how a command ends, and when; words that ask for none are Usage
+-- how a command ends, and when; arguments that ask for none are Usage
 abbrev pub Ends : Option Command → Call → Ending → Type 0
 Ends None call ending = EndsAtOnce call endings.Usage ending
 Ends (Some (Check first)) call ending = EndsAs of_text (CheckEnds call first) ending
@@ -59,7 +59,8 @@ Ends (Some (Net first second given)) call ending =
     EndsAs of_net (Under given (λ bounds end. NetEnds bounds call first second end)) ending
 Ends (Some (Selftest number)) call ending = EndsAs of_selftest (CaseEnds call number) ending
 
--- files that the words don't name keep what they have left; those of the charts that the text of a net names are read too
+-- files that the arguments don't name keep what they have left; those of the charts that the text of a net names are
+-- read too
 abbrev pub OthersKeep : Option Command → Call → Type 0
 OthersKeep None call = OthersStay [] call.sources_before call.sources_after
 OthersKeep (Some (Check first)) call = OthersStay (files_named (Check first)) call.sources_before call.sources_after
@@ -77,7 +78,7 @@ OthersKeep (Some (Shrink first)) call = OthersStay (files_named (Shrink first)) 
 OthersKeep (Some (Net first second given)) call = NetOthersStay call first second
 OthersKeep (Some (Selftest number)) call = OthersStay (files_named (Selftest number)) call.sources_before call.sources_after
 
--- how a call ends, and when: as the command does, or memory runs out before the words are read
+-- how a call ends, and when: as the command does, or memory runs out before the arguments are read
 abbrev pub CallEnds : Option Command → Call → Ending → Type 0
 CallEnds command call ending = Ends command call ending ⊎ EndsAtOnce call endings.Memory ending
 

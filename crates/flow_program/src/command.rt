@@ -17,7 +17,7 @@ use commands::{
 use flow_base::{Inputs, Memory, Sink, Status};
 use std::alloc::Global;
 
-/// Does all that the program does: reads the files that the words name, writes the answer on
+/// Does all that the program does: reads the files that the arguments name, writes the answer on
 /// `out` and a line on `err` where the answer isn't whole, and answers the status with which the
 /// process ends.
 ///
@@ -34,7 +34,7 @@ use std::alloc::Global;
 /// that the text of the first file names, runs their code over the steps of the second file, and
 /// writes the trace. `selftest N` runs generated case N by the rules and as printed code, and writes
 /// one line of counts. `rules`, `exec`, `run` and `net` take the bounds `--depth` and `--steps`. All
-/// other words are refused as Usage. Any words may end in Memory before anything is read.
+/// other arguments are refused as Usage. Any arguments may end in Memory before anything is read.
 pub fn chart_main<I: Inputs, O: Sink, E: Sink>(
     alloc: Global,
     words: &[String],
@@ -55,7 +55,7 @@ pub fn chart_main<I: Inputs, O: Sink, E: Sink>(
     ending.status()
 }
 
-/// Does what the words ask for.
+/// Does what the arguments ask for.
 fn call<I: Inputs, O: Sink>(alloc: Global, words: &[String], inputs: &mut I, out: &mut O) -> Ending
     ensures ends { CallEnds (command_of words.now)
         (call_of I.Inputs O.Sink inputs.old inputs.new out.old out.new) result }
@@ -68,7 +68,7 @@ fn call<I: Inputs, O: Sink>(alloc: Global, words: &[String], inputs: &mut I, out
     }
 }
 
-/// Does what the words ask for, and ends as Usage where they ask for no command.
+/// Does what the arguments ask for, and ends as Usage where they ask for no command.
 fn answer_asked<I: Inputs, O: Sink>(
     alloc: Global,
     asked: Option<Command<'_>>,

@@ -37,9 +37,9 @@ pub enum Ending {
     Full(u64, u32),
     /// At the step of the first number of a schedule the route of the second was empty.
     Empty(u64, u32),
-    /// The words name no command.
+    /// The arguments name no command.
     Usage,
-    /// A file that the words name couldn't be read.
+    /// A file that the arguments name couldn't be read.
     Read,
     /// Standard output couldn't be written.
     Write,

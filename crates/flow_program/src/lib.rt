@@ -1,4 +1,4 @@
-//! The program: what its words ask for, what it writes, and how it ends.
+//! The program: what its arguments ask for, what it writes, and how it ends.
 //!
 //! The public call is `chart_main`, and its one main clause is `Answer` of `specs/Answer.antt`.
 //! Read `specs/Words.antt` and `specs/Commands.antt` of `command_words` first, then

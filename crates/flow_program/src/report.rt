@@ -12,7 +12,7 @@ use event_file::LineFault;
 use flow_base::{Failed, Sink, write_all};
 use token_grammar::Span;
 
-/// The line for words that ask for no command.
+/// The line for arguments that ask for no command.
 const USAGE: &str = "usage: flowc check CHART, fmt CHART, rules CHART EVENTS, compile CHART, \
     exec CODE EVENTS, run CHART EVENTS, upgrade CODE, bounds CHART, shrink CODE, \
     net NET SCHEDULE, selftest N; --depth D, --steps S\n";

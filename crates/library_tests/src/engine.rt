@@ -44,6 +44,7 @@ fn shown<E: Engine>(engine: &E, v: u32) -> Value
 /// Whether the root is active, as an engine shows it.
 fn is_root_active<E: Engine>(engine: &E) -> bool {
     let view = engine.view();
+    // Only the proof reads the number of states: there is a root.
     let _states = view.shape.len();
     view.marks.on(0)
 }

@@ -2,8 +2,11 @@
 use Rattle.std.specs.Prelude.{ℕ, ◌==◌, map, if◌then◌else◌}
 use Rattle.actions.specs.World as worlds
 use Rattle.actions.specs.Work as work
+use Rattle.checked_chart.specs.Chart.{Chart}
+use Rattle.checked_chart.specs.Kept.{chart_of}
 use Rattle.checked_chart.specs.Views.{block_seen}
 use Rattle.sos_rules.specs.Parts as rules
+use Rattle.sos_rules.specs.Rules.{upto}
 use Rattle.sos_interpreter.specs.declared.blocks.End.{End}
 use Rattle.sos_interpreter.specs.declared.blocks.End.TheVariants as ends
 use Rattle.sos_interpreter.specs.declared.searches.Found.{Found}
@@ -11,8 +14,17 @@ use Rattle.sos_interpreter.specs.declared.searches.Found.TheVariants as founds
 use Rattle.sos_interpreter.specs.declared.blocks.Now.{Now}
 use Rattle.sos_interpreter.specs.declared.processing.Went.{Went}
 use Rattle.sos_interpreter.specs.declared.processing.Went.TheVariants as wents
+use Rattle.sos_interpreter.specs.declared.setting.Setting.{Setting}
 use Rattle.sos_interpreter.specs.declared.world.Life.{Life}
 use Rattle.sos_interpreter.specs.declared.world.Life.TheVariants as lives
+
+-- the chart of a setting
+abbrev pub chart_in : Setting → Chart
+chart_in s = chart_of s.chart.now
+
+-- the rules of a setting, up to a height
+abbrev pub rules_in : Setting → ℕ → rules.Parts
+rules_in s n = upto (chart_in s) s.bounds n
 
 -- the condition under which a piece of work continues
 abbrev pub life_seen : Life → worlds.Life

@@ -5,18 +5,17 @@ ghost use Rattle.checked_chart.specs.Kept.{chart_of};
 ghost use Rattle.checked_chart.specs.Valid.{IsStmt, AreStmts};
 ghost use Rattle.checked_chart.specs.Views.{block_seen};
 ghost use Rattle.actions.specs.Work as work;
-ghost use Rattle.sos_rules.specs.Rules.{upto};
 ghost use Rattle.sos_rules.specs.Searches as searches;
 ghost use Rattle.sos_interpreter.specs.Charts.{IsState, IsLife, FitsChart};
 ghost use Rattle.sos_interpreter.specs.Gives.{Gives};
-ghost use Rattle.sos_interpreter.specs.Views.{life_seen, now_of, end_of};
+ghost use Rattle.sos_interpreter.specs.Views.{chart_in, rules_in, life_seen, now_of, end_of};
 
 use crate::processing::process;
+use crate::setting::Setting;
 use crate::world::{Life, LiveWorld};
 use actions::{Event, Halt, Stmt};
 use checked_chart::Chart;
-use flow_base::{Bounds, Fault};
-use std::alloc::Global;
+use flow_base::Fault;
 
 /// How a block ends.
 #[derive(Clone, Copy)]
@@ -39,25 +38,23 @@ pub struct Now {
 /// Runs statements in order, until one is cut.
 #[cycle(rules)]
 pub(crate) fn run_block(
-    alloc: Global,
-    chart: &Chart,
-    bounds: Bounds,
+    setting: &Setting<'_>,
     world: &mut LiveWorld,
     life: Life,
     stmts: &[Stmt],
     now: Now,
 ) -> Result<End, Halt>
-    requires fits { FitsChart (chart_of chart.now) world.old }
-    requires life { IsLife (chart_of chart.now) (life_seen life) }
-    requires stmts { AreStmts (chart_of chart.now) (block_seen stmts.now) }
+    requires fits { FitsChart (chart_in setting.now) world.old }
+    requires life { IsLife (chart_in setting.now) (life_seen life) }
+    requires stmts { AreStmts (chart_in setting.now) (block_seen stmts.now) }
     ensures gives { Gives (λ e. end_of e)
-        (λ n. (upto (chart_of chart.now) bounds n).block (life_seen life) (block_seen stmts.now)
+        (λ n. (rules_in setting.now n).block (life_seen life) (block_seen stmts.now)
         (now_of now) world.old)
         result world.new }
-    ensures fits { FitsChart (chart_of chart.now) world.new }
+    ensures fits { FitsChart (chart_in setting.now) world.new }
 {
     for stmt in stmts {
-        match statement(alloc, chart, bounds, world, life, stmt, now)? {
+        match statement(setting, world, life, stmt, now)? {
             End::Cut => return Ok(End::Cut),
             End::Done => {}
         }
@@ -68,40 +65,38 @@ pub(crate) fn run_block(
 /// Runs one statement. Directly after a send the life is tested.
 #[cycle(rules)]
 fn statement(
-    alloc: Global,
-    chart: &Chart,
-    bounds: Bounds,
+    setting: &Setting<'_>,
     world: &mut LiveWorld,
     life: Life,
     stmt: &Stmt,
     now: Now,
 ) -> Result<End, Halt>
-    requires fits { FitsChart (chart_of chart.now) world.old }
-    requires life { IsLife (chart_of chart.now) (life_seen life) }
-    requires stmt { IsStmt (chart_of chart.now) (stmt_of stmt.now) }
+    requires fits { FitsChart (chart_in setting.now) world.old }
+    requires life { IsLife (chart_in setting.now) (life_seen life) }
+    requires stmt { IsStmt (chart_in setting.now) (stmt_of stmt.now) }
     ensures gives { Gives (λ e. end_of e)
-        (λ n. searches.statement (chart_of chart.now) bounds (upto (chart_of chart.now) bounds n)
+        (λ n. searches.statement (chart_in setting.now) setting.now.bounds (rules_in setting.now n)
         (life_seen life) (stmt_of stmt.now) (now_of now) world.old)
         result world.new }
-    ensures fits { FitsChart (chart_of chart.now) world.new }
+    ensures fits { FitsChart (chart_in setting.now) world.new }
 {
     match stmt {
         Stmt::Assign(datum, expr) => {
-            world.assign(chart, *datum, expr)?;
+            world.assign(setting.chart, *datum, expr)?;
             Ok(End::Done)
         }
         Stmt::Emit(event) => {
-            world.pay(chart, bounds)?;
-            world.emit(chart, *event)?;
+            world.pay(setting.chart, setting.bounds)?;
+            world.emit(setting.chart, *event)?;
             Ok(End::Done)
         }
         Stmt::Send(event) => {
-            send(alloc, chart, bounds, world, *event, None, now)?;
-            Ok(alive(chart, world, life))
+            send(setting, world, *event, None, now)?;
+            Ok(alive(setting.chart, world, life))
         }
         Stmt::SendTo(event, state) => {
-            send(alloc, chart, bounds, world, *event, Some(*state), now)?;
-            Ok(alive(chart, world, life))
+            send(setting, world, *event, Some(*state), now)?;
+            Ok(alive(setting.chart, world, life))
         }
     }
 }
@@ -123,39 +118,37 @@ fn alive(chart: &Chart, world: &LiveWorld, life: Life) -> End
 /// Sends an event to the chart or to a state, one level deeper.
 #[cycle(rules)]
 fn send(
-    alloc: Global,
-    chart: &Chart,
-    bounds: Bounds,
+    setting: &Setting<'_>,
     world: &mut LiveWorld,
     event: u32,
     to: Option<u32>,
     now: Now,
 ) -> Result<(), Halt>
-    requires fits { FitsChart (chart_of chart.now) world.old }
-    requires to { IfSome to (λ s. IsState (chart_of chart.now) s) }
+    requires fits { FitsChart (chart_in setting.now) world.old }
+    requires to { IfSome to (λ s. IsState (chart_in setting.now) s) }
     ensures gives { Gives (λ _. tt)
-        (λ n. (upto (chart_of chart.now) bounds n).send event to (now_of now) world.old)
+        (λ n. (rules_in setting.now n).send event to (now_of now) world.old)
         result world.new }
-    ensures fits { FitsChart (chart_of chart.now) world.new }
+    ensures fits { FitsChart (chart_in setting.now) world.new }
 {
-    if now.depth >= bounds.depth {
+    if now.depth >= setting.bounds.depth {
         return Err(Halt::Fault(Fault::Depth));
     }
-    world.pay(chart, bounds)?;
+    world.pay(setting.chart, setting.bounds)?;
     let deeper = Now {
         event: Event::Named(event),
         depth: now.depth + 1,
     };
     match to {
         None => {
-            process(alloc, chart, bounds, world, chart.root(), deeper)?;
+            process(setting, world, setting.chart.root(), deeper)?;
             Ok(())
         }
         Some(state) => {
-            if !world.on(chart, state) {
+            if !world.on(setting.chart, state) {
                 return Ok(());
             }
-            process(alloc, chart, bounds, world, state, deeper)?;
+            process(setting, world, state, deeper)?;
             Ok(())
         }
     }

@@ -1,5 +1,6 @@
 //! The engine that runs a chart by the rules.
 use crate::reactions;
+use crate::setting::Setting;
 use crate::world::LiveWorld;
 use actions::{Engine, Event, Halt, Phase, Value, View};
 use checked_chart::Chart;
@@ -86,7 +87,12 @@ impl Engine for Rules {
     ghost stage = { λ r. r.stage };
 
     fn start(&mut self) -> Result<(), Halt> {
-        let end = reactions::start(self.alloc, &self.chart, self.bounds, &mut self.world);
+        let setting = Setting {
+            alloc: self.alloc,
+            chart: &self.chart,
+            bounds: self.bounds,
+        };
+        let end = reactions::start(&setting, &mut self.world);
         self.phase = Phase::after(&end);
         end
     }
@@ -96,7 +102,12 @@ impl Engine for Rules {
     }
 
     fn react(&mut self, event: Event) -> Result<(), Halt> {
-        let end = reactions::react(self.alloc, &self.chart, self.bounds, &mut self.world, event);
+        let setting = Setting {
+            alloc: self.alloc,
+            chart: &self.chart,
+            bounds: self.bounds,
+        };
+        let end = reactions::react(&setting, &mut self.world, event);
         self.phase = Phase::after(&end);
         end
     }

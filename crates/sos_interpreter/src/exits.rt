@@ -1,58 +1,46 @@
 //! Leaving states.
 ghost use Rattle.std.specs.Prelude.{reverse};
 ghost use Rattle.active_config.specs.Tree.{comp_of, children_of};
-ghost use Rattle.checked_chart.specs.Kept.{chart_of};
 ghost use Rattle.sos_rules.specs.Moves as moves;
-ghost use Rattle.sos_rules.specs.Rules.{upto};
 ghost use Rattle.sos_interpreter.specs.Charts.{IsState, FitsChart};
 ghost use Rattle.sos_interpreter.specs.Gives.{Gives};
-ghost use Rattle.sos_interpreter.specs.Views.{now_of};
+ghost use Rattle.sos_interpreter.specs.Views.{chart_in, rules_in, now_of};
 
 use crate::blocks::{End, Now, run_block};
+use crate::setting::Setting;
 use crate::world::{Life, LiveWorld};
 use actions::Halt;
 use active_config::Comp;
-use checked_chart::{BlockKind, Chart};
-use flow_base::Bounds;
-use std::alloc::Global;
+use checked_chart::BlockKind;
 
 /// Leaves a state, its children first.
 #[cycle(rules)]
-fn exit(
-    alloc: Global,
-    chart: &Chart,
-    bounds: Bounds,
-    world: &mut LiveWorld,
-    state: u32,
-    now: Now,
-) -> Result<(), Halt>
-    requires fits { FitsChart (chart_of chart.now) world.old }
-    requires state { IsState (chart_of chart.now) state }
+fn exit(setting: &Setting<'_>, world: &mut LiveWorld, state: u32, now: Now) -> Result<(), Halt>
+    requires fits { FitsChart (chart_in setting.now) world.old }
+    requires state { IsState (chart_in setting.now) state }
     ensures gives { Gives (λ _. tt)
-        (λ n. (upto (chart_of chart.now) bounds n).exit state (now_of now) world.old)
+        (λ n. (rules_in setting.now n).exit state (now_of now) world.old)
         result world.new }
-    ensures fits { FitsChart (chart_of chart.now) world.new }
+    ensures fits { FitsChart (chart_in setting.now) world.new }
 {
-    if !world.on(chart, state) {
+    if !world.on(setting.chart, state) {
         return Ok(());
     }
-    exit_children(alloc, chart, bounds, world, state, now)?;
-    if !world.bare(chart, state) {
+    exit_children(setting, world, state, now)?;
+    if !world.bare(setting.chart, state) {
         return Ok(());
     }
     match run_block(
-        alloc,
-        chart,
-        bounds,
+        setting,
         world,
         Life::Bare(state),
-        chart.block(state, BlockKind::Exit),
+        setting.chart.block(state, BlockKind::Exit),
         now,
     )? {
         End::Cut => Ok(()),
         End::Done => {
-            if world.bare(chart, state) {
-                world.clear(chart, state);
+            if world.bare(setting.chart, state) {
+                world.clear(setting.chart, state);
             }
             Ok(())
         }
@@ -62,51 +50,42 @@ fn exit(
 /// Leaves an AND's children in reverse order, and of an OR the active one.
 #[cycle(rules)]
 fn exit_children(
-    alloc: Global,
-    chart: &Chart,
-    bounds: Bounds,
+    setting: &Setting<'_>,
     world: &mut LiveWorld,
     state: u32,
     now: Now,
 ) -> Result<(), Halt>
-    requires fits { FitsChart (chart_of chart.now) world.old }
-    requires state { IsState (chart_of chart.now) state }
+    requires fits { FitsChart (chart_in setting.now) world.old }
+    requires state { IsState (chart_in setting.now) state }
     ensures gives { Gives (λ _. tt)
-        (λ n. moves.exit_children (chart_of chart.now) (upto (chart_of chart.now) bounds n) state
-        (now_of now) (comp_of (chart_of chart.now).tree state) world.old)
+        (λ n. moves.exit_children (chart_in setting.now) (rules_in setting.now n) state
+        (now_of now) (comp_of (chart_in setting.now).tree state) world.old)
         result world.new }
-    ensures fits { FitsChart (chart_of chart.now) world.new }
+    ensures fits { FitsChart (chart_in setting.now) world.new }
 {
-    match chart.comp(state) {
+    match setting.chart.comp(state) {
         Comp::Leaf => Ok(()),
-        Comp::Or => exit_active(alloc, chart, bounds, world, state, now),
-        Comp::And => exit_all(alloc, chart, bounds, world, state, now),
+        Comp::Or => exit_active(setting, world, state, now),
+        Comp::And => exit_all(setting, world, state, now),
     }
 }
 
 /// Leaves the children, the last first.
 #[cycle(rules)]
-fn exit_all(
-    alloc: Global,
-    chart: &Chart,
-    bounds: Bounds,
-    world: &mut LiveWorld,
-    state: u32,
-    now: Now,
-) -> Result<(), Halt>
-    requires fits { FitsChart (chart_of chart.now) world.old }
-    requires state { IsState (chart_of chart.now) state }
+fn exit_all(setting: &Setting<'_>, world: &mut LiveWorld, state: u32, now: Now) -> Result<(), Halt>
+    requires fits { FitsChart (chart_in setting.now) world.old }
+    requires state { IsState (chart_in setting.now) state }
     ensures gives { Gives (λ _. tt)
-        (λ n. (upto (chart_of chart.now) bounds n).exit_each
-        (reverse (children_of (chart_of chart.now).tree state))
+        (λ n. (rules_in setting.now n).exit_each
+        (reverse (children_of (chart_in setting.now).tree state))
         (now_of now) world.old)
         result world.new }
-    ensures fits { FitsChart (chart_of chart.now) world.new }
+    ensures fits { FitsChart (chart_in setting.now) world.new }
 {
-    let mut next = chart.last_child(state);
+    let mut next = setting.chart.last_child(state);
     while let Some(child) = next {
-        exit(alloc, chart, bounds, world, child, now)?;
-        next = chart.prev_sibling(child);
+        exit(setting, world, child, now)?;
+        next = setting.chart.prev_sibling(child);
     }
     Ok(())
 }
@@ -114,23 +93,21 @@ fn exit_all(
 /// Leaves the active child, if there is one.
 #[cycle(rules)]
 pub(crate) fn exit_active(
-    alloc: Global,
-    chart: &Chart,
-    bounds: Bounds,
+    setting: &Setting<'_>,
     world: &mut LiveWorld,
     state: u32,
     now: Now,
 ) -> Result<(), Halt>
-    requires fits { FitsChart (chart_of chart.now) world.old }
-    requires state { IsState (chart_of chart.now) state }
+    requires fits { FitsChart (chart_in setting.now) world.old }
+    requires state { IsState (chart_in setting.now) state }
     ensures gives { Gives (λ _. tt)
-        (λ n. moves.exit_active (chart_of chart.now) (upto (chart_of chart.now) bounds n) state
+        (λ n. moves.exit_active (chart_in setting.now) (rules_in setting.now n) state
         (now_of now) world.old)
         result world.new }
-    ensures fits { FitsChart (chart_of chart.now) world.new }
+    ensures fits { FitsChart (chart_in setting.now) world.new }
 {
-    match world.active_child(chart, state) {
+    match world.active_child(setting.chart, state) {
         None => Ok(()),
-        Some(child) => exit(alloc, chart, bounds, world, child, now),
+        Some(child) => exit(setting, world, child, now),
     }
 }

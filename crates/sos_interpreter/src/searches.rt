@@ -5,17 +5,16 @@ ghost use Rattle.checked_chart.specs.Kept.{chart_of};
 ghost use Rattle.checked_chart.specs.Valid.{IsTrans, AreTrans};
 ghost use Rattle.checked_chart.specs.Views.{block_seen, list_seen, trans_seen};
 ghost use Rattle.sos_rules.specs.Finds.{IsFound};
-ghost use Rattle.sos_rules.specs.Rules.{upto};
 ghost use Rattle.sos_rules.specs.Searches as searches;
 ghost use Rattle.sos_interpreter.specs.Charts.{IsLife, FitsChart};
 ghost use Rattle.sos_interpreter.specs.Gives.{Does, Gives};
-ghost use Rattle.sos_interpreter.specs.Views.{life_seen, now_of, found_of};
+ghost use Rattle.sos_interpreter.specs.Views.{chart_in, rules_in, life_seen, now_of, found_of};
 
 use crate::blocks::{End, Now, run_block};
+use crate::setting::Setting;
 use crate::world::{Life, LiveWorld};
 use actions::{Event, Halt, Stmt};
 use checked_chart::{Chart, Dest, Trans};
-use flow_base::Bounds;
 use std::alloc::Global;
 
 /// What a search finds.
@@ -42,25 +41,23 @@ struct Place<'a> {
 /// Searches a list of transitions in order; a junction's list comes before the rest.
 #[cycle(rules)]
 pub(crate) fn search<'a>(
-    alloc: Global,
-    chart: &'a Chart,
-    bounds: Bounds,
+    setting: &Setting<'a>,
     world: &mut LiveWorld,
     life: Life,
     list: &'a [Trans],
     now: Now,
 ) -> Result<Found<'a>, Halt>
-    requires fits { FitsChart (chart_of chart.now) world.old }
-    requires life { IsLife (chart_of chart.now) (life_seen life) }
-    requires list { AreTrans (chart_of chart.now) (list_seen list.now) }
+    requires fits { FitsChart (chart_in setting.now) world.old }
+    requires life { IsLife (chart_in setting.now) (life_seen life) }
+    requires list { AreTrans (chart_in setting.now) (list_seen list.now) }
     ensures gives { Gives (λ f. found_of f)
-        (λ n. (upto (chart_of chart.now) bounds n).search (life_seen life) (list_seen list.now)
+        (λ n. (rules_in setting.now n).search (life_seen life) (list_seen list.now)
         (now_of now) world.old)
         result world.new }
-    ensures fits { FitsChart (chart_of chart.now) world.new }
-    ensures found { IfOk result (λ f. IsFound (chart_of chart.now) (found_of f)) }
+    ensures fits { FitsChart (chart_in setting.now) world.new }
+    ensures found { IfOk result (λ f. IsFound (chart_in setting.now) (found_of f)) }
 {
-    let mut places: Vec<Place<'a>> = Vec::new(alloc);
+    let mut places: Vec<Place<'a>> = Vec::new(setting.alloc);
     let mut rest = list;
     loop {
         match rest.split_first() {
@@ -69,19 +66,19 @@ pub(crate) fn search<'a>(
                 Some(place) => rest = place.rest,
             },
             Some((first, others)) => {
-                if enabled(chart, world, first, now)? {
-                    match run_block(alloc, chart, bounds, world, life, first.cond.items(), now)? {
+                if enabled(setting.chart, world, first, now)? {
+                    match run_block(setting, world, life, first.cond.items(), now)? {
                         End::Cut => return Ok(Found::Stop),
                         End::Done => {}
                     }
                     match first.dest {
                         Dest::State(target) => {
-                            let actions = actions_on(alloc, &places, first.act.items())?;
+                            let actions = actions_on(setting.alloc, &places, first.act.items())?;
                             return Ok(Found::Fire(target, actions));
                         }
                         Dest::Junction(junction) => {
-                            world.pay(chart, bounds)?;
-                            let next = chart.junction(junction);
+                            world.pay(setting.chart, setting.bounds)?;
+                            let next = setting.chart.junction(junction);
                             if next.is_empty() {
                                 return Ok(Found::DeadEnd);
                             }

@@ -33,12 +33,10 @@ use Rattle.sos_interpreter.proofs.Turns.{exit_turns_begin, enter_turns_begin, ea
 use Rattle.sos_interpreter.proofs.Uses.{block_uses, pay_done}
 use Rattle.sos_rules.specs.Finds.{AreActions}
 use Rattle.sos_interpreter.specs.Settled.{Settled}
-use Rattle.sos_interpreter.specs.Views.{now_of, end_of, went_of, found_of}
-use Rattle.sos_rules.specs.Rules.{upto}
+use Rattle.sos_interpreter.specs.Views.{chart_in, rules_in, now_of, end_of, went_of, found_of}
 use Rattle.sos_rules.specs.Searches.{receiver, receives}
 use Rattle.checked_chart.proofs.Walks.{stands_first, stands_next, stands_last, stands_prev, ahead_falls}
 use Rattle.checked_chart.specs.Homes.{child_toward}
-use Rattle.checked_chart.specs.Kept.{chart_of}
 use Rattle.checked_chart.specs.Valid.{AreTrans, AreStmts, IsStmt, IsDest}
 use Rattle.checked_chart.specs.Views.{block_seen, list_seen, trans_seen}
 use Rattle.sos_interpreter.proofs.+rules.Goals as goal
@@ -76,7 +74,7 @@ blocks::run_block-statement-requires t c = (
     c.loop-stmt.invariant.fits,
     (
       c.requires.life,
-      all_item stmt_of (IsStmt (chart_of c.args.chart.now)) c.args.stmts.now c.loop-stmt.stmt-index c.stmt-item.result
+      all_item stmt_of (IsStmt (chart_in c.args.setting.now)) c.args.stmts.now c.loop-stmt.stmt-index c.stmt-item.result
           c.requires.stmts (omega arith) c.stmt-item.is,
     ),
   ),
@@ -135,15 +133,15 @@ pub blocks::statement-returns-in_ok-send-in-SendTo-clause-gives :
 blocks::statement-returns-in_ok-send-in-SendTo-clause-gives t c =
     sent_ends _ _ _ _ c.in_ok-send-in-SendTo.ensures.gives (ap stmt_of c.in-SendTo.is) c.alive-in-SendTo.ensures
 
-pub blocks::send-returns-then-now-bounds-clause-gives : goal.blocks::send-returns-then-now-bounds-clause-gives
-blocks::send-returns-then-now-bounds-clause-gives t c =
-    let deep : nat_le c.args.bounds.depth c.args.now.depth ≡ true = grind (arith, nat_tests) in
+pub blocks::send-returns-then-now-setting-clause-gives : goal.blocks::send-returns-then-now-setting-clause-gives
+blocks::send-returns-then-now-setting-clause-gives t c =
+    let deep : nat_le c.args.setting.now.bounds.depth c.args.now.depth ≡ true = grind (arith, nat_tests) in
     send_too_deep _ _ _ deep
 
 pub blocks::send-returns-in_err-pay-clause-gives : goal.blocks::send-returns-in_err-pay-clause-gives
 blocks::send-returns-in_err-pay-clause-gives t c =
     failed_does nothing_of _ _ _ _ c.from_residual.ensures.1 c.in_err-pay.ensures.does (λ x h.
-    let deep : nat_le c.args.bounds.depth c.args.now.depth ≡ false = grind (arith, nat_tests) in
+    let deep : nat_le c.args.setting.now.bounds.depth c.args.now.depth ≡ false = grind (arith, nat_tests) in
     send_fault _ _ _ deep h)
 
 pub blocks::send-returns-in_err-process-in-None-clause-gives :
@@ -152,20 +150,20 @@ blocks::send-returns-in_err-process-in-None-clause-gives t c =
     failed_through went_of _ _ _ _ c.from_residual-in_err-process-in-None.ensures.1
     c.in_err-process-in-None.ensures.gives
     (λ x h.
-    let deep : nat_le c.args.bounds.depth c.args.now.depth ≡ false = grind (arith, nat_tests) in
+    let deep : nat_le c.args.setting.now.bounds.depth c.args.now.depth ≡ false = grind (arith, nat_tests) in
     send_on_fault _ _ _ deep c.in_ok-pay.ensures.does (ap (λ o. receives o c.pay.new.self) c.in-None.is)
     (c.root.ensures.root ∙ ap receiver (sym c.in-None.is)) (omega arith) h)
 
 pub blocks::send-returns-in_ok-process-in-None-clause-gives :
     goal.blocks::send-returns-in_ok-process-in-None-clause-gives
 blocks::send-returns-in_ok-process-in-None-clause-gives t c =
-    let deep : nat_le c.args.bounds.depth c.args.now.depth ≡ false = grind (arith, nat_tests) in
+    let deep : nat_le c.args.setting.now.bounds.depth c.args.now.depth ≡ false = grind (arith, nat_tests) in
     send_on _ _ _ deep c.in_ok-pay.ensures.does (ap (λ o. receives o c.pay.new.self) c.in-None.is)
     (c.root.ensures.root ∙ ap receiver (sym c.in-None.is)) (omega arith) c.in_ok-process-in-None.ensures.gives
 
 pub blocks::send-returns-then-not-on-clause-gives : goal.blocks::send-returns-then-not-on-clause-gives
 blocks::send-returns-then-not-on-clause-gives t c =
-    let deep : nat_le c.args.bounds.depth c.args.now.depth ≡ false = grind (arith, nat_tests) in
+    let deep : nat_le c.args.setting.now.bounds.depth c.args.now.depth ≡ false = grind (arith, nat_tests) in
     let off : is_on c.in-Some.state c.pay.new.self.marks ≡ false = cc in
     send_off _ _ _ deep c.in_ok-pay.ensures.does (ap (λ o. receives o c.pay.new.self) c.in-Some.is ∙ off)
 
@@ -175,7 +173,7 @@ blocks::send-returns-in_err-process-in-Some-clause-gives t c =
     failed_through went_of _ _ _ _ c.from_residual-in_err-process-in-Some.ensures.1
     c.in_err-process-in-Some.ensures.gives
     (λ x h.
-    let deep : nat_le c.args.bounds.depth c.args.now.depth ≡ false = grind (arith, nat_tests) in
+    let deep : nat_le c.args.setting.now.bounds.depth c.args.now.depth ≡ false = grind (arith, nat_tests) in
     let on : is_on c.in-Some.state c.pay.new.self.marks ≡ true = cc in
     send_on_fault _ _ _ deep c.in_ok-pay.ensures.does (ap (λ o. receives o c.pay.new.self) c.in-Some.is ∙ on)
     (ap receiver (sym c.in-Some.is)) (omega arith) h)
@@ -183,7 +181,7 @@ blocks::send-returns-in_err-process-in-Some-clause-gives t c =
 pub blocks::send-returns-in_ok-process-in-Some-clause-gives :
     goal.blocks::send-returns-in_ok-process-in-Some-clause-gives
 blocks::send-returns-in_ok-process-in-Some-clause-gives t c =
-    let deep : nat_le c.args.bounds.depth c.args.now.depth ≡ false = grind (arith, nat_tests) in
+    let deep : nat_le c.args.setting.now.bounds.depth c.args.now.depth ≡ false = grind (arith, nat_tests) in
     let on : is_on c.in-Some.state c.pay.new.self.marks ≡ true = cc in
     send_on _ _ _ deep c.in_ok-pay.ensures.does (ap (λ o. receives o c.pay.new.self) c.in-Some.is ∙ on)
     (ap receiver (sym c.in-Some.is)) (omega arith) c.in_ok-process-in-Some.ensures.gives
@@ -206,7 +204,7 @@ searches::search-returns-in-None-pop-clause-gives t c =
 
 pub searches::search-loop-places-preserved-in-Some-pop : goal.searches::search-loop-places-preserved-in-Some-pop
 searches::search-loop-places-preserved-in-Some-pop t c =
-    let chart = chart_of c.args.chart.now in
+    let chart = chart_in c.args.setting.now in
     let rests =
     of_parts (λ p. AreTrans chart (list_seen p.rest.now)) _ _ c.in-Some-pop.ensures.items
     c.loop-places.invariant.rests in
@@ -240,11 +238,12 @@ searches::search-returns-in_err-run_block-in-Some-clause-gives t c =
 pub searches::search-returns-in-Cut-clause-gives : goal.searches::search-returns-in-Cut-clause-gives
 searches::search-returns-in-Cut-clause-gives t c =
     condition_cut c.in-Some.ensures.cases.0 c.loop-places.invariant.leads
-    c.in_ok-enabled-in-Some.ensures.does c.if-branch.true c.items.ensures c.in-Cut.is c.in_ok-run_block-in-Some.ensures.gives
+    c.in_ok-enabled-in-Some.ensures.does c.if-branch.true c.items.ensures c.in-Cut.is
+    c.in_ok-run_block-in-Some.ensures.gives
 
 pub searches::search-returns-in-State-clause-found : goal.searches::search-returns-in-State-clause-found
 searches::search-returns-in-State-clause-found t c =
-    let chart = chart_of c.args.chart.now in
+    let chart = chart_in c.args.setting.now in
     let list = subst (λ xs. AreTrans chart (list_seen xs)) c.in-Some.ensures.cases.0 c.loop-places.invariant.rest in (
       (subst (IsDest chart) c.in-State.is list.0.dest).1,
       subst (AreActions chart)
@@ -272,17 +271,17 @@ searches::search-returns-then-is_empty-clause-gives t c =
 
 pub searches::search-loop-places-smaller-in-Junction : goal.searches::search-loop-places-smaller-in-Junction
 searches::search-loop-places-smaller-in-Junction t c =
-    let paid = pay_done c.args.bounds c.run_block.new.world _ c.in_ok-pay-in-Junction.ensures.does in
-    visit_falls c.args.bounds.steps c.loop-places.world.used c.run_block.new.world.used _ _
+    let paid = pay_done c.args.setting.now.bounds c.run_block.new.world _ c.in_ok-pay-in-Junction.ensures.does in
+    visit_falls c.args.setting.now.bounds.steps c.loop-places.world.used c.run_block.new.world.used _ _
     (length c.in-Some.others.now) _ _ _
-    (block_uses _ c.junction-next.ensures.tree c.args.bounds _ _ _ c.loop-places.world c.run_block.new.world Done
-    (block_ended _ _ c.items.ensures c.in-Done.is c.in_ok-run_block-in-Some.ensures.gives))
+    (block_uses _ c.junction-next.ensures.tree c.args.setting.now.bounds _ _ _ c.loop-places.world c.run_block.new.world
+    Done (block_ended _ _ c.items.ensures c.in-Done.is c.in_ok-run_block-in-Some.ensures.gives))
     paid.0 paid.1 (omega (arith, c.in-Some.ensures.cases.1)) c.junction-next.ensures.short
     (sum_pushed (λ p. length p.rest.now + 1) _ c.loop-places.places.items _ c.in_ok-push_place-in-Junction.ensures.ok)
 
 pub searches::search-loop-places-preserved-in-Junction : goal.searches::search-loop-places-preserved-in-Junction
 searches::search-loop-places-preserved-in-Junction t c =
-    let chart = chart_of c.args.chart.now in
+    let chart = chart_in c.args.setting.now in
     let list = subst (λ xs. AreTrans chart (list_seen xs)) c.in-Some.ensures.cases.0 c.loop-places.invariant.rest in
     let some = not_empty trans_seen c.junction-next.result.now (grind (arith, nat_tests)) in
     let pushed = c.in_ok-push_place-in-Junction.ensures.ok in
@@ -304,7 +303,7 @@ searches::search-loop-places-preserved-in-Junction t c =
 pub searches::search-loop-places-preserved : goal.searches::search-loop-places-preserved
 searches::search-loop-places-preserved t c =
     let list =
-    subst (λ xs. AreTrans (chart_of c.args.chart.now) (list_seen xs)) c.in-Some.ensures.cases.0
+    subst (λ xs. AreTrans (chart_in c.args.setting.now) (list_seen xs)) c.in-Some.ensures.cases.0
     c.loop-places.invariant.rest in
     record {
       leads =
@@ -338,14 +337,14 @@ exits::exit-returns-in_err-exit_children-clause-gives t c =
 
 pub exits::exit-returns-then-not-bare-clause-gives : goal.exits::exit-returns-then-not-bare-clause-gives
 exits::exit-returns-then-not-bare-clause-gives t c =
-    let chart = chart_of c.args.chart.now in
+    let chart = chart_in c.args.setting.now in
     let on : is_on c.args.state c.args.world.now.marks ≡ true = cc in
     let bare : is_bare chart.tree c.args.state c.exit_children.new.world.marks ≡ false = cc in
     exit_not_bare _ _ _ on c.in_ok-exit_children.ensures.gives bare
 
 pub exits::exit-returns-in_err-run_block-clause-gives : goal.exits::exit-returns-in_err-run_block-clause-gives
 exits::exit-returns-in_err-run_block-clause-gives t c =
-    let chart = chart_of c.args.chart.now in
+    let chart = chart_in c.args.setting.now in
     failed_through end_of _ _ _ _ c.from_residual-in_err-run_block.ensures.1 c.in_err-run_block.ensures.gives
     (λ x h.
     let on : is_on c.args.state c.args.world.now.marks ≡ true = cc in
@@ -354,7 +353,7 @@ exits::exit-returns-in_err-run_block-clause-gives t c =
 
 pub exits::exit-returns-in-Cut-clause-gives : goal.exits::exit-returns-in-Cut-clause-gives
 exits::exit-returns-in-Cut-clause-gives t c =
-    let chart = chart_of c.args.chart.now in
+    let chart = chart_in c.args.setting.now in
     let on : is_on c.args.state c.args.world.now.marks ≡ true = cc in
     let bare : is_bare chart.tree c.args.state c.exit_children.new.world.marks ≡ true = cc in
     exit_cut _ _ _ c.block.ensures.block on c.in_ok-exit_children.ensures.gives bare
@@ -362,7 +361,7 @@ exits::exit-returns-in-Cut-clause-gives t c =
 
 pub exits::exit-returns-else-bare-clause-gives : goal.exits::exit-returns-else-bare-clause-gives
 exits::exit-returns-else-bare-clause-gives t c =
-    let chart = chart_of c.args.chart.now in
+    let chart = chart_in c.args.setting.now in
     let on : is_on c.args.state c.args.world.now.marks ≡ true = cc in
     let bare : is_bare chart.tree c.args.state c.exit_children.new.world.marks ≡ true = cc in
     let off : is_bare chart.tree c.args.state c.run_block.new.world.marks ≡ false = cc in
@@ -371,12 +370,12 @@ exits::exit-returns-else-bare-clause-gives t c =
 
 pub exits::exit-returns-then-bare-clause-gives : goal.exits::exit-returns-then-bare-clause-gives
 exits::exit-returns-then-bare-clause-gives t c =
-    let chart = chart_of c.args.chart.now in
+    let chart = chart_in c.args.setting.now in
     let now = now_of c.args.now in
     let on : is_on c.args.state c.args.world.now.marks ≡ true = cc in
     let bare : is_bare chart.tree c.args.state c.exit_children.new.world.marks ≡ true = cc in
     let off : is_bare chart.tree c.args.state c.run_block.new.world.marks ≡ true = cc in
-    subst (λ v. Settled (λ n. (upto chart c.args.bounds n).exit c.args.state now c.args.world.now) (Ended tt v))
+    subst (λ v. Settled (λ n. (rules_in c.args.setting.now n).exit c.args.state now c.args.world.now) (Ended tt v))
     (sym c.clear.ensures.cleared) (exit_left _ _ _ c.block.ensures.block on c.in_ok-exit_children.ensures.gives bare
     (ended_as end_of c.in-Done.is c.in_ok-run_block.ensures.gives) off)
 
@@ -397,7 +396,7 @@ pub exits::exit_all-loop-next-init : goal.exits::exit_all-loop-next-init
 exits::exit_all-loop-next-init t c = record {
   goes = exit_turns_begin _ _ _ _ c.last_child-next.ensures.child;
   stands =
-      stands_last (chart_of c.args.chart.now).tree c.last_child-next.ensures.tree c.args.state _
+      stands_last (chart_in c.args.setting.now).tree c.last_child-next.ensures.tree c.args.state _
       c.last_child-next.ensures.child;
   fits = c.requires.fits;
 }
@@ -413,7 +412,7 @@ exits::exit_all-prev_sibling-next-requires t c =
 
 pub exits::exit_all-loop-next-preserved : goal.exits::exit_all-loop-next-preserved
 exits::exit_all-loop-next-preserved t c =
-    let chart = chart_of c.args.chart.now in
+    let chart = chart_in c.args.setting.now in
     record {
       goes =
           exit_turn _ _ _ _ c.loop-next.invariant.goes c.in-Some.is c.loop-next.invariant.stands
@@ -445,27 +444,27 @@ exits::exit_active-returns-in-Some-clause-gives t c =
 
 pub entries::enter-returns-then-not-can_mark-clause-gives : goal.entries::enter-returns-then-not-can_mark-clause-gives
 entries::enter-returns-then-not-can_mark-clause-gives t c =
-    let chart = chart_of c.args.chart.now in
+    let chart = chart_in c.args.setting.now in
     let can : can_mark chart.tree c.args.state c.args.world.now.marks ≡ false = cc in
     enter_no _ _ _ can
 
 pub entries::enter-returns-in_err-run_block-clause-gives : goal.entries::enter-returns-in_err-run_block-clause-gives
 entries::enter-returns-in_err-run_block-clause-gives t c =
-    let chart = chart_of c.args.chart.now in
+    let chart = chart_in c.args.setting.now in
     failed_through end_of _ _ _ _ c.from_residual.ensures.1 c.in_err-run_block.ensures.gives (λ x h.
     let can : can_mark chart.tree c.args.state c.args.world.now.marks ≡ true = cc in
     enter_fault _ _ _ c.args.target c.args.world.now c.block.ensures.block can c.enter.ensures.entered h)
 
 pub entries::enter-returns-in-Cut-clause-gives : goal.entries::enter-returns-in-Cut-clause-gives
 entries::enter-returns-in-Cut-clause-gives t c =
-    let chart = chart_of c.args.chart.now in
+    let chart = chart_in c.args.setting.now in
     let can : can_mark chart.tree c.args.state c.args.world.now.marks ≡ true = cc in
     enter_cut _ _ _ c.args.target c.args.world.now c.block.ensures.block can c.enter.ensures.entered
     (ended_as end_of c.in-Cut.is c.in_ok-run_block.ensures.gives)
 
 pub entries::enter-returns-in-Done-clause-gives : goal.entries::enter-returns-in-Done-clause-gives
 entries::enter-returns-in-Done-clause-gives t c =
-    let chart = chart_of c.args.chart.now in
+    let chart = chart_in c.args.setting.now in
     passed _ _ _ c.enter_inside.ensures.gives (λ q h.
     let can : can_mark chart.tree c.args.state c.args.world.now.marks ≡ true = cc in
     enter_done _ _ _ c.args.target c.args.world.now c.block.ensures.block can c.enter.ensures.entered
@@ -488,7 +487,7 @@ pub entries::enter_all-loop-next-init : goal.entries::enter_all-loop-next-init
 entries::enter_all-loop-next-init t c = record {
   goes = enter_turns_begin _ _ _ _ c.first_child-next.ensures.child;
   stands =
-      stands_first (chart_of c.args.chart.now).tree c.first_child-next.ensures.tree c.args.state _
+      stands_first (chart_in c.args.setting.now).tree c.first_child-next.ensures.tree c.args.state _
       c.first_child-next.ensures.child;
   fits = c.requires.fits;
 }
@@ -516,12 +515,12 @@ entries::enter_all-next_sibling-next-requires t c =
 
 pub entries::enter_all-loop-next-smaller : goal.entries::enter_all-loop-next-smaller
 entries::enter_all-loop-next-smaller t c =
-    ahead_falls (chart_of c.args.chart.now).tree c.in-Some.child _ _ c.in-Some.is
+    ahead_falls (chart_in c.args.setting.now).tree c.in-Some.child _ _ c.in-Some.is
     (c.loop-next.invariant.stands.child c.in-Some.child c.in-Some.is).within c.next_sibling-next.ensures.after
 
 pub entries::enter_all-loop-next-preserved : goal.entries::enter_all-loop-next-preserved
 entries::enter_all-loop-next-preserved t c =
-    let chart = chart_of c.args.chart.now in
+    let chart = chart_in c.args.setting.now in
     record {
       goes =
           enter_turn _ _ _ _
@@ -543,17 +542,17 @@ entries::enter_toward-returns-then-state-target-clause-gives t c =
     passed _ _ _ c.defaults.ensures.gives (λ q h.
     let sd : (c.args.state == c.args.target) ≡ true = grind (arith, nat_tests) in
     settled_true (c.args.state == c.args.target)
-    (λ n. (upto (chart_of c.args.chart.now) c.args.bounds n).defaults c.args.state (now_of c.args.now)) _
+    (λ n. (rules_in c.args.setting.now n).defaults c.args.state (now_of c.args.now)) _
     c.args.world.now q sd h)
 
 pub entries::enter_toward-returns-clause-gives : goal.entries::enter_toward-returns-clause-gives
 entries::enter_toward-returns-clause-gives t c =
-    let chart = chart_of c.args.chart.now in
+    let chart = chart_in c.args.setting.now in
     passed _ _ _ c.enter_child.ensures.gives (λ q h.
     let sd : (c.args.state == c.args.target) ≡ false = grind (arith, nat_tests) in
     settled_false (c.args.state == c.args.target) _
     (λ n. if_some (child_toward chart.tree c.args.state c.args.target) nothing
-    (λ x. (upto chart c.args.bounds n).enter x c.args.target (now_of c.args.now))) c.args.world.now q sd h)
+    (λ x. (rules_in c.args.setting.now n).enter x c.args.target (now_of c.args.now))) c.args.world.now q sd h)
 
 pub entries::enter_child-returns-in-None-clause-gives : goal.entries::enter_child-returns-in-None-clause-gives
 entries::enter_child-returns-in-None-clause-gives t c =
@@ -639,7 +638,7 @@ firings::play-run_block-requires t c = (
     c.pay.ensures.fits,
     (
       c.requires.state,
-      all_item (λ a. block_seen a.now) (AreStmts (chart_of c.args.chart.now)) c.args.actions.now
+      all_item (λ a. block_seen a.now) (AreStmts (chart_in c.args.setting.now)) c.args.actions.now
           c.loop-action.action-index c.action-item.result c.requires.actions (omega arith) c.action-item.is,
     ),
   ),
@@ -686,26 +685,26 @@ firings::take-returns-in_err-exit_active-clause-gives t c =
 
 pub firings::take-returns-then-not-bare-clause-gives : goal.firings::take-returns-then-not-bare-clause-gives
 firings::take-returns-then-not-bare-clause-gives t c =
-    let chart = chart_of c.args.chart.now in
+    let chart = chart_in c.args.setting.now in
     let bare : is_bare chart.tree c.args.state c.exit_active.new.world.marks ≡ false = cc in
     take_not_bare _ _ _ c.in_ok-exit_active.ensures.gives bare
 
 pub firings::take-returns-in_err-play-clause-gives : goal.firings::take-returns-in_err-play-clause-gives
 firings::take-returns-in_err-play-clause-gives t c =
-    let chart = chart_of c.args.chart.now in
+    let chart = chart_in c.args.setting.now in
     failed_through end_of _ _ _ _ c.from_residual-in_err-play.ensures.1 c.in_err-play.ensures.gives (λ x h.
     let bare : is_bare chart.tree c.args.state c.exit_active.new.world.marks ≡ true = cc in
     take_play_fault _ _ _ c.in_ok-exit_active.ensures.gives bare h)
 
 pub firings::take-returns-in-Cut-clause-gives : goal.firings::take-returns-in-Cut-clause-gives
 firings::take-returns-in-Cut-clause-gives t c =
-    let chart = chart_of c.args.chart.now in
+    let chart = chart_in c.args.setting.now in
     let bare : is_bare chart.tree c.args.state c.exit_active.new.world.marks ≡ true = cc in
     take_cut _ _ _ c.in_ok-exit_active.ensures.gives bare (ended_as end_of c.in-Cut.is c.in_ok-play.ensures.gives)
 
 pub firings::take-returns-then-not-bare-2-clause-gives : goal.firings::take-returns-then-not-bare-2-clause-gives
 firings::take-returns-then-not-bare-2-clause-gives t c =
-    let chart = chart_of c.args.chart.now in
+    let chart = chart_in c.args.setting.now in
     let bare : is_bare chart.tree c.args.state c.exit_active.new.world.marks ≡ true = cc in
     let off : is_bare chart.tree c.args.state c.play.new.world.marks ≡ false = cc in
     take_left _ _ _ c.in_ok-exit_active.ensures.gives bare
@@ -713,7 +712,7 @@ firings::take-returns-then-not-bare-2-clause-gives t c =
 
 pub firings::take-returns-else-not-bare-2-clause-gives : goal.firings::take-returns-else-not-bare-2-clause-gives
 firings::take-returns-else-not-bare-2-clause-gives t c =
-    let chart = chart_of c.args.chart.now in
+    let chart = chart_in c.args.setting.now in
     passed _ _ _ c.enter_toward.ensures.gives (λ q h.
     let bare : is_bare chart.tree c.args.state c.exit_active.new.world.marks ≡ true = cc in
     let off : is_bare chart.tree c.args.state c.play.new.world.marks ≡ true = cc in
@@ -847,7 +846,7 @@ pub processing::process_all-loop-next-init : goal.processing::process_all-loop-n
 processing::process_all-loop-next-init t c = record {
   goes = each_turns_begin _ _ _ _ c.first_child-next.ensures.child;
   stands =
-      stands_first (chart_of c.args.chart.now).tree c.first_child-next.ensures.tree c.args.state _
+      stands_first (chart_in c.args.setting.now).tree c.first_child-next.ensures.tree c.args.state _
       c.first_child-next.ensures.child;
   fits = c.requires.fits;
 }
@@ -880,7 +879,7 @@ processing::process_all-next_sibling-next-requires t c =
 
 pub processing::process_all-loop-next-smaller : goal.processing::process_all-loop-next-smaller
 processing::process_all-loop-next-smaller t c =
-    ahead_falls (chart_of c.args.chart.now).tree c.in-Some.child _ _ c.in-Some.is
+    ahead_falls (chart_in c.args.setting.now).tree c.in-Some.child _ _ c.in-Some.is
     (c.loop-next.invariant.stands.child c.in-Some.child c.in-Some.is).within c.next_sibling-next.ensures.after
 
 pub processing::process_all-returns-clause-gives : goal.processing::process_all-returns-clause-gives
@@ -890,7 +889,7 @@ processing::process_all-returns-clause-gives t c =
 pub processing::process_all-loop-next-preserved-then-not-on :
     goal.processing::process_all-loop-next-preserved-then-not-on
 processing::process_all-loop-next-preserved-then-not-on t c =
-    let chart = chart_of c.args.chart.now in
+    let chart = chart_in c.args.setting.now in
     let off : is_on c.in-Some.child c.loop-next.world.marks ≡ false = cc in
     record {
       goes =
@@ -904,7 +903,7 @@ processing::process_all-loop-next-preserved-then-not-on t c =
 
 pub processing::process_all-loop-next-preserved : goal.processing::process_all-loop-next-preserved
 processing::process_all-loop-next-preserved t c =
-    let chart = chart_of c.args.chart.now in
+    let chart = chart_in c.args.setting.now in
     let on : is_on c.in-Some.child c.loop-next.world.marks ≡ true = cc in
     record {
       goes =
@@ -918,5 +917,5 @@ processing::process_all-loop-next-preserved t c =
 
 pub processing::process_all-loop-next-smaller-then-not-on : goal.processing::process_all-loop-next-smaller-then-not-on
 processing::process_all-loop-next-smaller-then-not-on t c =
-    ahead_falls (chart_of c.args.chart.now).tree c.in-Some.child _ _ c.in-Some.is
+    ahead_falls (chart_in c.args.setting.now).tree c.in-Some.child _ _ c.in-Some.is
     (c.loop-next.invariant.stands.child c.in-Some.child c.in-Some.is).within c.next_sibling-next.ensures.after

@@ -1,3 +1,5 @@
+pub mod Encoding
+pub mod EncodingLaws
 pub mod Frames
 pub mod Jumps
 pub mod Operations

@@ -3,7 +3,6 @@ ghost use Rattle.std.specs.Prelude.{◌≡◌};
 ghost use Rattle.actions.specs.Names.{Names};
 ghost use Rattle.code_language.specs.Moments.{IsEvent};
 
-use crate::encoding::number_of;
 use crate::loaded::LoadedCode;
 use crate::loading::making::{load, new_state};
 use crate::runs::running::process;
@@ -94,7 +93,7 @@ impl Engine for Machine {
         ensures memory { result ≢ Err halts.Memory }
     {
         let proc = self.code.start;
-        let end = halting(process(&self.code, &mut self.state, proc, 0));
+        let end = halting(process(&self.code, &mut self.state, proc, Event::Start));
         self.phase = Phase::after(&end);
         end
     }
@@ -116,8 +115,7 @@ impl Engine for Machine {
         ensures memory { result ≢ Err halts.Memory }
     {
         let proc = self.code.react;
-        let number = number_of(event);
-        let end = halting(process(&self.code, &mut self.state, proc, number));
+        let end = halting(process(&self.code, &mut self.state, proc, event));
         self.phase = Phase::after(&end);
         end
     }

@@ -3,6 +3,7 @@ ghost use Rattle.std.specs.Prelude.{◌≡◌, ◌+◌, ◌≤◌, true};
 ghost use Rattle.actions.specs.Changes.{paid_in};
 ghost use Rattle.code_machine.specs.States.{world_of, Paid};
 
+use crate::encoding::EventNumber;
 use actions::Vals;
 use active_config::Marks;
 use flow_base::{Bounds, Fault};
@@ -19,8 +20,8 @@ pub(crate) struct MachineState {
     pub outputs: Vec<u32>,
     /// The steps that are used.
     pub used: u32,
-    /// The number of the current event, as `encoding` has it.
-    pub event: u32,
+    /// The number of the current event.
+    pub event: EventNumber,
     /// How deep the current event was sent.
     pub depth: u32,
     /// The last result.

@@ -1,22 +1,21 @@
 use Rattle.std.proofs.Common.{sym, ap, subst, ◌∙◌}
 use Rattle.actions.specs.Engines.{AnswersBy, CanReactTo, IsFaultOf, fault_of, stage_of}
 use Rattle.code_machine.specs.Engine.{EngineState, IsIdle, Reacts, ReactsShortly, program_of, program_of_loaded}
-use Rattle.code_language.specs.Reactions.{Leads}
-use Rattle.code_machine.specs.States.{code_in, fault_in, program_in, world_of, EndsWithin}
-use Rattle.code_machine.proofs.EngineLemmas.{reaction_moment, reaction_room, reaction_from, answers_by, same_fault}
+use Rattle.code_machine.specs.States.{code_in, world_of}
+use Rattle.code_machine.proofs.EngineLemmas.{reaction_moment, reaction_room, answers_by, same_fault}
 use Rattle.code_machine.proofs.EngineLemmas.{never_refused, ended_machine}
 use Rattle.code_machine.proofs.engine.MachineEngine.react.Goals as goal
 
 pub process-requires-clause-moment : goal.process-requires-clause-moment
 process-requires-clause-moment c =
     reaction_moment c.self.inside.code c.self.inside.state (stage_of c.self.inside.phase) c.self.invariant
-    c.number_of-number.result c.args.event c.number_of-number.ensures
+    c.args.event
     (subst (λ (e : EngineState). CanReactTo (code_in e.code).names c.args.event) (sym c.self.view_is) c.requires.event)
 
 pub process-requires-clause-roomy : goal.process-requires-clause-roomy
 process-requires-clause-roomy c =
     reaction_room c.self.inside.code c.self.inside.state (stage_of c.self.inside.phase) c.self.invariant
-    c.number_of-number.result c.args.event c.number_of-number.ensures
+    c.args.event
 
 pub process-requires-clause-code : goal.process-requires-clause-code
 process-requires-clause-code c = c.self.invariant.code
@@ -53,11 +52,7 @@ returns-clause-defined c =
     let w = world_of c.process.new.machine in
     subst (λ (e : EngineState). AnswersBy (Reacts (program_of e) e.world c.args.event w) c.halting-end.result) c.self.view_is
     (answers_by (Reacts (program_of_loaded p) (world_of c.self.inside.state) c.args.event w) c.process.result
-    c.halting-end.result c.halting-end.ensures
-    (reaction_from c.self.inside.code c.self.inside.state (stage_of c.self.inside.phase) c.self.invariant
-    c.number_of-number.result c.args.event c.number_of-number.ensures
-    (λ s. Leads (program_in p) s (record { world = w; fault = fault_in c.process.result }))
-    c.process.ensures.ends.leads))
+    c.halting-end.result c.halting-end.ensures c.process.ensures.ends.leads)
 
 pub returns-clause-short : goal.returns-clause-short
 returns-clause-short c =
@@ -66,10 +61,7 @@ returns-clause-short c =
     subst (λ (e : EngineState). AnswersBy (ReactsShortly (program_of e) e.world c.args.event w) c.halting-end.result)
     c.self.view_is
     (answers_by (ReactsShortly (program_of_loaded p) (world_of c.self.inside.state) c.args.event w) c.process.result
-    c.halting-end.result c.halting-end.ensures
-    (reaction_from c.self.inside.code c.self.inside.state (stage_of c.self.inside.phase) c.self.invariant
-    c.number_of-number.result c.args.event c.number_of-number.ensures
-    (λ s. EndsWithin (code_in p) p.bounds s w (fault_in c.process.result)) c.process.ensures.short))
+    c.halting-end.result c.halting-end.ensures c.process.ensures.short)
 
 pub returns-clause-fault : goal.returns-clause-fault
 returns-clause-fault c =

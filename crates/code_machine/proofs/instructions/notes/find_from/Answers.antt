@@ -16,12 +16,12 @@ returns-then-from-len-clause-note c =
     let long : length (below m) ≡ c.len-len.result = omega (arith, calls_length m.stack.frames, c.len-len.ensures) in
     noted_low c.args.from (seen c.args.top ∷ below m) (omega (arith, long, c.if-from-len.true))
 
-pub returns-in-Some-note_of_word-clause-note : goal.returns-in-Some-note_of_word-clause-note
-returns-in-Some-note_of_word-clause-note c =
-    let m = c.args.machine.now in let p = c.in-Some-note_of_word.note in
+pub returns-in-Some-note-clause-note : goal.returns-in-Some-note-clause-note
+returns-in-Some-note-clause-note c =
+    let m = c.args.machine.now in let p = c.in-Some-note.note in
     let long : length (below m) ≡ c.len-len.result = omega (arith, calls_length m.stack.frames, c.len-len.ensures) in
     noted_here c.args.from p (seen c.args.top) (below m) c.in_default.ensures.note
-    (omega (arith, long, c.if-from-len.false)) (sym c.in-Some-note_of_word.ensures)
+    (omega (arith, long, c.if-from-len.false)) (sym c.in-Some-note.ensures)
     ∙ ap (λ n. Some (n, p)) long
 
 pub returns-in-None-clause-note : goal.returns-in-None-clause-note

@@ -16,6 +16,6 @@ returns-clause-frames c =
       note = None;
       base = b j;
       home = 0;
-      saved = c.word_of_saved-saved.ensures j;
+      saved = c.of-saved.ensures j;
       cursor = 0;
     } ∷ fs j

@@ -18,11 +18,14 @@
 //!   for when a struct shows the memory of a plan, and `specs/Moments.antt` for how a call of a
 //!   function stands to a run of code; `specs/Starts.antt` has the start, the reaction and the runs
 //!   of a file.
+//! - `types`: the type of the field of a datum, which the crates above write and print. It is the
+//!   one code that runs.
 #![tactic(auto)]
 
 mod expression_laws;
 mod function_laws;
 mod plan_laws;
+mod types;
 
 pub use expression_laws::{
     assignments_change_the_struct, assignments_store_what_is_kept, expressions_have_their_values,
@@ -38,3 +41,4 @@ pub use plan_laws::{
     memory_tells_its_world, one_store_shows_consistent_marks, plans_are_written_for_their_code,
     tests_of_fields_are_those_of_marks, zeros_show_no_marks,
 };
+pub use types::field_type;

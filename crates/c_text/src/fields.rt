@@ -1,12 +1,11 @@
 //! The names and types of fields, and the names of arrays.
 ghost use Rattle.std.specs.Prelude.{◌≡◌, ◌+◌, ◌++◌, [], replicate, string_bytes};
 ghost use Rattle.std.specs.Prelude.{slice_index_or, OnOk};
-ghost use Rattle.c_functions.specs.Claims.{field_type, least_width};
 ghost use Rattle.c_text.specs.Labels as spec;
 
 use crate::labels::Labels;
 use crate::numbers::print_number;
-use actions::{Sort, Var, VarKind};
+use actions::{Var, VarKind};
 use c_subset::{CType, Width};
 use std::alloc::AllocError;
 
@@ -94,7 +93,7 @@ pub fn field_type(labels: &Labels<'_>, field: u32) -> CType
     let data = labels.names.vars.items();
     let place = field as usize;
     if place < data.len() {
-        datum_type(data[place].sort)
+        c_functions::field_type(data[place].sort)
     } else {
         state_type(
             labels.ors as usize,
@@ -114,38 +113,6 @@ fn state_type(ors: usize, words: usize, place: usize) -> CType
         CType::Unsigned(Width::W16)
     } else {
         CType::Unsigned(Width::W32)
-    }
-}
-
-/// The type of a datum's field.
-fn datum_type(sort: Sort) -> CType
-    ensures { result ≡ field_type sort }
-{
-    match sort {
-        Sort::Flag => CType::Truth,
-        Sort::Number(scale) => {
-            let width = least_width(u32::from(scale.width));
-            if scale.signed {
-                CType::Signed(width)
-            } else {
-                CType::Unsigned(width)
-            }
-        }
-    }
-}
-
-/// The least width that holds so many bits.
-fn least_width(bits: u32) -> Width
-    ensures { result ≡ least_width bits }
-{
-    if bits <= 8 {
-        Width::W8
-    } else if bits <= 16 {
-        Width::W16
-    } else if bits <= 32 {
-        Width::W32
-    } else {
-        Width::W64
     }
 }
 

@@ -4,7 +4,6 @@ ghost use Rattle.std.specs.Prelude.{IfOk, OnOk};
 ghost use Rattle.flow_base.specs.Lists.{items_of};
 ghost use Rattle.actions.specs.declared.event.Event.TheVariants as events;
 ghost use Rattle.c_subset.specs.Lines.{Appends, IsFunction, expr_of, lines_in, lines_of};
-ghost use Rattle.c_functions.specs.Claims as claims;
 ghost use Rattle.c_functions.specs.Plans as spec;
 ghost use Rattle.c_functions.specs.Starts as starts;
 ghost use Rattle.c_expression_writer.specs.FileShapes.{shape_seen};
@@ -14,44 +13,14 @@ ghost use Rattle.flow_base.specs.declared.chart_limits.TheConstants.{EVENT_LIMIT
 use crate::calls::five;
 use crate::helpers::one_word;
 use crate::pieces::{WORD, local, put_return, put_store};
-use actions::{Sort, Var};
+use actions::Var;
 use c_expression_writer::{BAD, FileShape, number, put};
+use c_functions::field_type;
 use c_subset::{CExpr, CType, Comparison, Function, Line, Width};
 use flow_base::{List, Memory};
 use std::alloc::Global;
 
 // ---- the fields
-
-/// The least width that holds so many bits.
-fn least_width(bits: u32) -> Width
-    ensures { result ≡ claims.least_width bits }
-{
-    if bits <= 8 {
-        Width::W8
-    } else if bits <= 16 {
-        Width::W16
-    } else if bits <= 32 {
-        Width::W32
-    } else {
-        Width::W64
-    }
-}
-
-/// The type of the field of a datum.
-fn field_type(sort: Sort) -> CType
-    ensures { result ≡ claims.field_type sort }
-{
-    match sort {
-        Sort::Flag => CType::Truth,
-        Sort::Number(scale) => {
-            if scale.signed {
-                CType::Signed(least_width(u32::from(scale.width)))
-            } else {
-                CType::Unsigned(least_width(u32::from(scale.width)))
-            }
-        }
-    }
-}
 
 /// Appends that each datum has its first value.
 #[tactic(auto, unfolding(c_subset::specs::Lines::lines_of))]

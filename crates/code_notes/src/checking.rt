@@ -14,6 +14,7 @@ ghost use Rattle.std.specs.Prelude.{
   true,
   false,
   slice_get,
+  slice_index_or,
 };
 ghost use Rattle.std.specs.declared.alloc.Global.{Global};
 ghost use Rattle.code_language.specs.Code.{code_of, instr_of, instrs_of};
@@ -22,7 +23,7 @@ ghost use Rattle.code_language.specs.declared.limits.TheConstants.{INSTR_LIMIT};
 ghost use Rattle.code_shrink.specs.Shrunk.{IsThere};
 ghost use Rattle.code_language.specs.Reach.{with_note};
 ghost use Rattle.code_notes.specs.Checked.{AreRight};
-ghost use Rattle.code_notes.specs.Views.{list_of, notes_of, place_in, plan_of};
+ghost use Rattle.code_notes.specs.Views.{list_of, notes_of, place_in, places_in, plan_of, unreached};
 ghost use Rattle.code_notes.specs.Noteless as spec;
 
 use crate::lists::{is_same, is_with_note};
@@ -37,17 +38,24 @@ pub(crate) const UNREACHED: Place = Place {
     player: None,
 };
 
-/// What is known at a place of a procedure.
-pub(crate) fn place_at(plan: &KnownNotes, proc: usize, place: usize) -> Place
-    ensures { result ≡ place_in plan.now proc place }
+/// What is known at a place of a procedure, of these places of each procedure.
+pub(crate) fn place_among(places: &[Vec<Place>], proc: usize, place: usize) -> Place
+    ensures { result ≡ slice_index_or (places_in places.now proc) place unreached }
 {
-    match plan.places.get(proc) {
-        Some(places) => match places.get(place) {
+    match places.get(proc) {
+        Some(own) => match own.get(place) {
             Some(known) => *known,
             None => UNREACHED,
         },
         None => UNREACHED,
     }
+}
+
+/// What is known at a place of a procedure.
+pub(crate) fn place_at(plan: &KnownNotes, proc: usize, place: usize) -> Place
+    ensures { result ≡ place_in plan.now proc place }
+{
+    place_among(&plan.places, proc, place)
 }
 
 /// The list of notes with that number; one that isn't there is empty.

@@ -1,6 +1,6 @@
 //! Which notes are there at each place: they spread from place to place and to what is called,
 //! until nothing more is found.
-use crate::checking::UNREACHED;
+use crate::checking::{UNREACHED, place_among};
 use crate::plan::{NOTE_LIMIT, Place};
 use crate::searching::table::{NO_NOTES, Table};
 use code_language::{Instr, RawCode};
@@ -45,13 +45,7 @@ impl Spread {
 
     /// What is found of a place.
     fn place_at(&self, proc: usize, place: usize) -> Place {
-        match self.places.get(proc) {
-            Some(places) => match places.get(place) {
-                Some(known) => *known,
-                None => UNREACHED,
-            },
-            None => UNREACHED,
-        }
+        place_among(&self.places, proc, place)
     }
 
     /// The list of notes at a place, where it is known; where no run comes, that without notes.

@@ -18,8 +18,8 @@
 //!   for when a struct shows the memory of a plan, and `specs/Moments.antt` for how a call of a
 //!   function stands to a run of code; `specs/Starts.antt` has the start, the reaction and the runs
 //!   of a file.
-//! - `types`: the type of the field of a datum, which the crates above write and print. It is the
-//!   one code that runs.
+//! - `types`: the type of words and that of the field of a datum, which the crates above write and
+//!   print. It is the one code that runs.
 #![tactic(auto)]
 
 mod expression_laws;
@@ -41,4 +41,4 @@ pub use plan_laws::{
     memory_tells_its_world, one_store_shows_consistent_marks, plans_are_written_for_their_code,
     tests_of_fields_are_those_of_marks, zeros_show_no_marks,
 };
-pub use types::field_type;
+pub use types::{WORD, field_type};

@@ -1,9 +1,12 @@
-//! The types of fields of the struct.
+//! The type of words, and those of the fields of data.
 ghost use Rattle.std.specs.Prelude.{◌≡◌};
 ghost use Rattle.c_functions.specs.Claims.{field_type, least_width};
 
 use actions::Sort;
 use c_subset::{CType, Width};
+
+/// `uint32_t`, the type of counters, parameters and results.
+pub const WORD: CType = CType::Unsigned(Width::W32);
 
 /// The type of the field of a datum.
 pub fn field_type(sort: Sort) -> CType

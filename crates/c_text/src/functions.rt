@@ -13,11 +13,9 @@ use crate::locals::{LocalName, print_local_label};
 use crate::reading::{any_line_reads, any_line_uses_struct, has_cases, is_same_local};
 use crate::statements::{comma, local_of, print_lines};
 use crate::types::print_type;
-use c_subset::{CType, Function, Line, Width};
+use c_functions::WORD;
+use c_subset::{CType, Function, Line};
 use std::alloc::{AllocError, Global};
-
-/// `uint32_t`
-const WORD: CType = CType::Unsigned(Width::W32);
 
 /// The type of what a function gives.
 fn result_type(kind: Kind) -> CType

@@ -6,6 +6,7 @@ ghost use Rattle.c_text.specs.Labels as spec;
 use crate::kinds::Kind;
 use crate::numbers::print_number;
 use crate::types::is_same;
+use c_functions::WORD;
 use c_subset::{CType, Width};
 use std::alloc::AllocError;
 
@@ -17,9 +18,6 @@ pub struct LocalName {
     /// Its number.
     pub number: usize,
 }
-
-/// `uint32_t`
-const WORD: CType = CType::Unsigned(Width::W32);
 
 /// Appends the name of a local.
 #[tactic(auto, unfolding(crate::specs::Labels::local_label))]

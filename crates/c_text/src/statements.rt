@@ -12,7 +12,8 @@ use crate::locals::{LocalName, print_local_label};
 use crate::numbers::print_number;
 use crate::reading::has_cases;
 use crate::types::is_truth;
-use c_subset::{CExpr, CType, Case, Line, Width};
+use c_functions::WORD;
+use c_subset::{CExpr, CType, Case, Line};
 use std::alloc::AllocError;
 
 /// Appends four blanks for each depth.
@@ -304,7 +305,7 @@ fn print_line(
             out.push_str("[")?;
             print_bare(out, labels, kind, index)?;
             out.push_str("] = ")?;
-            print_value(out, labels, kind, CType::Unsigned(Width::W32), expr)
+            print_value(out, labels, kind, WORD, expr)
         }
         Line::Call(of, number, function, args) => {
             let local = local_of(*of, *number);

@@ -7,8 +7,9 @@ ghost use Rattle.c_expression_writer.specs.FileShapes.{shape_seen};
 ghost use Rattle.c_writer.specs.Calls.{own_arguments, send_arguments};
 ghost use Rattle.c_writer.specs.Pieces.{tested_result};
 
-use crate::pieces::{WORD, local, put_return};
+use crate::pieces::{local, put_return};
 use c_expression_writer::{BAD, FileShape, number, put};
+use c_functions::WORD;
 use c_subset::{Arithmetic, CExpr, CType, Comparison, Line};
 use flow_base::{List, Memory};
 use std::alloc::Global;

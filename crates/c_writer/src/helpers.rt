@@ -12,8 +12,9 @@ ghost use Rattle.c_writer.specs.Homes as homes;
 ghost use Rattle.c_writer.specs.Homes.{home_case, test_at};
 
 use crate::calls::five;
-use crate::pieces::{WORD, local, put_return};
+use crate::pieces::{local, put_return};
 use c_expression_writer::{FileShape, number, put};
+use c_functions::WORD;
 use c_subset::{Arithmetic, CExpr, CType, Case, Comparison, Division, Function, Line, Width};
 use flow_base::{List, Memory};
 use std::alloc::Global;

@@ -8,12 +8,10 @@ ghost use Rattle.c_expression_writer.specs.FileShapes.{shape_seen};
 ghost use Rattle.c_writer.specs.Pieces.{tested_depth, tested_step};
 
 use c_expression_writer::{FileShape, number, put, write_fault};
-use c_subset::{Arithmetic, CExpr, CType, Comparison, Line, Width};
+use c_functions::WORD;
+use c_subset::{Arithmetic, CExpr, Comparison, Line};
 use flow_base::{Fault, List, Memory};
 use std::alloc::Global;
-
-/// `uint32_t`, the type of counters, parameters and results.
-pub(crate) const WORD: CType = CType::Unsigned(Width::W32);
 
 /// The local of that type with a number.
 pub(crate) fn local(place: u32) -> CExpr

@@ -11,8 +11,9 @@ ghost use Rattle.c_writer.specs.Pieces as pieces;
 ghost use Rattle.c_writer.specs.Pieces.{note_arguments, note_at_cursor, raise_cursor, turn_before};
 
 use crate::calls::{bare_function, noted_function, put_ask, put_called, six};
-use crate::pieces::{WORD, local, put_pay, put_set};
+use crate::pieces::{local, put_pay, put_set};
 use c_expression_writer::{FileShape, number, put};
+use c_functions::WORD;
 use c_subset::{Arithmetic, CExpr, CType, Comparison, Line};
 use flow_base::{List, Memory};
 use std::alloc::Global;

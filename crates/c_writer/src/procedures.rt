@@ -11,8 +11,9 @@ ghost use Rattle.c_writer.specs.Parts.{CanBeWritten, StaysWithin};
 ghost use Rattle.c_writer.specs.Pieces.{with_cursor};
 
 use crate::parts::write_part;
-use crate::pieces::{WORD, put_set};
+use crate::pieces::put_set;
 use c_expression_writer::{FileShape, number};
+use c_functions::WORD;
 use c_subset::{CType, Function, Line};
 use code_language::Instr;
 use flow_base::{List, Memory};

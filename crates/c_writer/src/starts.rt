@@ -12,10 +12,10 @@ ghost use Rattle.flow_base.specs.declared.chart_limits.TheConstants.{EVENT_LIMIT
 
 use crate::calls::five;
 use crate::helpers::one_word;
-use crate::pieces::{WORD, local, put_return, put_store};
+use crate::pieces::{local, put_return, put_store};
 use actions::Var;
 use c_expression_writer::{BAD, FileShape, number, put};
-use c_functions::field_type;
+use c_functions::{WORD, field_type};
 use c_subset::{CExpr, CType, Comparison, Function, Line, Width};
 use flow_base::{List, Memory};
 use std::alloc::Global;

@@ -19,6 +19,7 @@ pub mod Changing
 pub mod Telling
 pub mod Checks
 pub mod Following
+pub mod Standing
 pub mod Simulates
 pub mod Writing
 pub mod Ending

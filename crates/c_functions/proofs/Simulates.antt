@@ -1,21 +1,18 @@
 -- The functions of the C program do what the procedures of the code do.
 use Rattle.std.proofs.Common.{◌≡◌, ◌≤◌, ◌<◌, ℕ, zero, suc, ◌+◌, ◌++◌, List, [], ◌∷◌, length, drop, Option, Some, None}
 use Rattle.std.proofs.Common.{Bool, true, false, not, ◌&&◌}
-use Rattle.std.proofs.Common.{pred, Result, Ok, Err, refl, sym, ap, ◌∙◌, subst, arith, append-nil, length-append}
-use Rattle.std.proofs.lemmas.List.{drop_all, drop-append-le}
+use Rattle.std.proofs.Common.{pred, Result, Ok, Err, refl, sym, ap, ◌∙◌, subst, arith, append-nil}
+use Rattle.std.proofs.lemmas.List.{drop_all}
 use Rattle.std.specs.Prelude.{if◌then◌else◌, ◌==◌, nat_le, nat_lt, slice_get}
 use Rattle.std.proofs.lemmas.Bool.{lt-ltb, le-ltb}
 use Rattle.flow_base.specs.declared.bounds.Bounds.{Bounds}
 use Rattle.flow_base.specs.declared.fault.Fault.{Fault}
 use Rattle.flow_base.specs.declared.fault.Fault.TheVariants as faults
-use Rattle.active_config.specs.Tree.{Tree, state_count, parent_of, comp_of}
-use Rattle.active_config.specs.Marks.{is_on, is_bare, can_mark, with_mark}
-use Rattle.active_config.specs.declared.comp.Comp.{Comp}
-use Rattle.active_config.specs.declared.comp.Comp.TheVariants.{Leaf, Or, And}
-use Rattle.active_config.proofs.MarksLemmas.{marked, cleared, remembered}
+use Rattle.active_config.specs.Tree.{Tree, state_count, parent_of}
+use Rattle.active_config.specs.Marks.{is_on, is_bare}
 use Rattle.actions.specs.declared.event.Event.{Event}
 use Rattle.actions.specs.World.{World, emitted}
-use Rattle.actions.specs.Changes.{paid_in, assigned_in, mark_in, clear_in, keep_in, set_mark}
+use Rattle.actions.specs.Changes.{paid_in, assigned_in, mark_in, clear_in, keep_in}
 use Rattle.actions.specs.Work.{Now, deeper}
 use Rattle.code_language.specs.Code.{Procedures, instructions, fetch}
 use Rattle.code_language.specs.Instrs.{Cond, Instr}
@@ -25,12 +22,12 @@ use Rattle.actions.specs.Exprs.{Expr}
 use Rattle.code_language.specs.Machine.{Program, Frame, CodeState, machine, later, fresh, next, past, returned, holds}
 use Rattle.code_language.specs.Reach.{Reaches, Falls, with_note, pending}
 use Rattle.code_language.proofs.Joins.{here}
-use Rattle.code_language.proofs.Notes.{pending_at, pending_past, IsHead, noted_head}
+use Rattle.code_language.proofs.Notes.{pending_past, IsHead, noted_head}
 use Rattle.code_language.proofs.Steps.{go_mark, go_clear, go_keep, go_skip, go_home, go_begin, go_ret, go_pass}
 use Rattle.code_language.proofs.Steps.{go_pass_zero}
 use Rattle.code_language.proofs.Steps.{go_unless_true, go_unless_false, fall_unless, one_step, one_fall, go_play_none}
 use Rattle.code_language.proofs.Steps.{go_play_lame}
-use Rattle.c_functions.specs.States.{Numbers, Shows, is_or, c_mark, c_clear, c_keep, keep_by}
+use Rattle.c_functions.specs.States.{Numbers, c_mark, c_clear, c_keep, keep_by}
 use Rattle.c_functions.specs.Statements.{CMemory, Locals, Block, Out, Fell, Left, Failed, Starved, Wrong}
 use Rattle.c_functions.specs.Statements as c
 use Rattle.c_functions.specs.Meaning.{Sums, pay, turn, CProgram, Calls, check, truth_c, exec, branch, and_on, and_with}
@@ -41,11 +38,12 @@ use Rattle.c_functions.specs.Written.{Written, Stops, Steps, Returns, Skips, For
 use Rattle.c_functions.specs.Written.{AreWritten}
 use Rattle.c_functions.specs.Runs.{Stands, Stored, Agree, IsAt, DoesCall, CallsDo}
 use Rattle.c_functions.proofs.Showing.{on_is, bare_is, last_is, differ}
-use Rattle.c_functions.proofs.Changing.{mark_shows, clear_shows, keep_shows}
 use Rattle.c_functions.proofs.Checks.{on_test, bare_test, last_test, mark_runs, clear_runs}
 use Rattle.c_functions.proofs.Following.{fetched, further, onward, same_pending, later_at, later_over, later_under}
-use Rattle.c_functions.proofs.Following.{later_zero, got, dropped, within_some, past_none, does_on, does_then, moved}
+use Rattle.c_functions.proofs.Following.{got, within_some, past_none, does_on, does_then, moved}
 use Rattle.c_functions.proofs.Following.{left_notes, does_step, does_less, Does}
+use Rattle.c_functions.proofs.Standing.{mark_stands, clear_stands, keep_stands, called, resulted, same_notes, sent_at}
+use Rattle.c_functions.proofs.Standing.{played_at, turned_at}
 
 module _ (t : Tree) (n : ℕ → ℕ) (num : Numbers t n) (same : length t.comps ≡ state_count t) (k : Procedures)
     (b : Bounds)
@@ -57,64 +55,6 @@ module _ (t : Tree) (n : ℕ → ℕ) (num : Numbers t n) (same : length t.comps
   -- the C program
   abbrev pub prog : CProgram
   prog = record { sums = sums; tree = t; numbers = n; bounds = b; bodies = bodies }
-
-  -- ---- changes of states
-
-  mark_stands : (s : ℕ) (m : CMemory) (w : World) → s < state_count t → Stands t n m w
-      → Stands t n (with_states (c_mark t n s m.states) m) (mark_in t s w)
-  unfolding mark_in
-  mark_stands s m w lt h = at (can_mark t s w.marks) refl
-      (mark_shows t n num same m.states w.marks h.states h.consistent s lt)
-    where
-      at : (d : Bool) → can_mark t s w.marks ≡ d → Shows t n (c_mark t n s m.states)
-          (if d then with_mark s true w.marks else w.marks)
-          → Stands t n (with_states (c_mark t n s m.states) m) (if d then set_mark s true w else w)
-      at true e sh =
-          record {
-            states = sh;
-            consistent = marked t w.marks h.consistent s e;
-            vals = h.vals;
-            outputs = h.outputs;
-            used = h.used;
-          }
-      at false e sh =
-          record { states = sh; consistent = h.consistent; vals = h.vals; outputs = h.outputs; used = h.used }
-
-  clear_stands : (s : ℕ) (m : CMemory) (w : World) → s < state_count t → Stands t n m w
-      → Stands t n (with_states (c_clear t n s m.states) m) (clear_in t s w)
-  unfolding clear_in
-  clear_stands s m w lt h = at (is_bare t s w.marks) refl
-      (clear_shows t n num same m.states w.marks h.states h.consistent s lt)
-    where
-      at : (d : Bool) → is_bare t s w.marks ≡ d → Shows t n (c_clear t n s m.states)
-          (if d then with_mark s false w.marks else w.marks)
-          → Stands t n (with_states (c_clear t n s m.states) m) (if d then set_mark s false w else w)
-      at true e sh =
-          record {
-            states = sh;
-            consistent = cleared t w.marks h.consistent s e;
-            vals = h.vals;
-            outputs = h.outputs;
-            used = h.used;
-          }
-      at false e sh =
-          record { states = sh; consistent = h.consistent; vals = h.vals; outputs = h.outputs; used = h.used }
-
-  or_of : (x : Comp) → is_or x ≡ true → x ≡ Or
-  or_of Leaf h = absurd cc
-  or_of Or h = refl
-  or_of And h = absurd cc
-
-  keep_stands : (s : ℕ) (m : CMemory) (w : World) → IsOrChild t s → Stands t n m w
-      → Stands t n (with_states (c_keep t n s m.states) m) (keep_in t s w)
-  unfolding keep_in
-  keep_stands s m w o h = record {
-    states = keep_shows t n num same m.states w.marks h.states h.consistent s o.parent o.up o.or;
-    consistent = remembered t w.marks h.consistent s o.parent o.up (or_of (comp_of t o.parent) o.or);
-    vals = h.vals;
-    outputs = h.outputs;
-    used = h.used;
-  }
 
   -- ---- conditions
 
@@ -158,7 +98,8 @@ module _ (t : Tree) (n : ℕ → ℕ) (num : Numbers t n) (same : length t.comps
         (go (with_states (c_mark t n s m.states) m) l (mark_in t s w) r (next f)
         (moved t n k note saved (i.Mark s ∷ rest) rest m l w r f fs h (f.place + 1)
         (with_states (c_mark t n s m.states) m) (mark_in t s w)
-        (onward (instructions k f.proc) f.place (i.Mark s) rest h.code) (mark_stands s m w lt h.stands) refl)))
+        (onward (instructions k f.proc) f.place (i.Mark s) rest h.code)
+        (mark_stands t n num same s m w lt h.stands) refl)))
 
     step_clear : (s : ℕ) (rest ys : List Instr) (a : Block) → s < state_count t → Rest rest ys a
         → Rest (i.Clear s ∷ rest) ys (straight t n k.react (i.Clear s) a)
@@ -171,7 +112,8 @@ module _ (t : Tree) (n : ℕ → ℕ) (num : Numbers t n) (same : length t.comps
         (go (with_states (c_clear t n s m.states) m) l (clear_in t s w) r (next f)
         (moved t n k note saved (i.Clear s ∷ rest) rest m l w r f fs h (f.place + 1)
         (with_states (c_clear t n s m.states) m) (clear_in t s w)
-        (onward (instructions k f.proc) f.place (i.Clear s) rest h.code) (clear_stands s m w lt h.stands) refl)))
+        (onward (instructions k f.proc) f.place (i.Clear s) rest h.code)
+        (clear_stands t n num same s m w lt h.stands) refl)))
 
     keep_runs : (s : ℕ) (o : Option ℕ) (a : Block) (m : CMemory) (l : Locals)
         → after (keep_block n s o a) m l ≡ after a (with_states (keep_by n s o m.states) m) l
@@ -190,7 +132,8 @@ module _ (t : Tree) (n : ℕ → ℕ) (num : Numbers t n) (same : length t.comps
         (go (with_states (c_keep t n s m.states) m) l (keep_in t s w) r (next f)
         (moved t n k note saved (i.Keep s ∷ rest) rest m l w r f fs h (f.place + 1)
         (with_states (c_keep t n s m.states) m) (keep_in t s w)
-        (onward (instructions k f.proc) f.place (i.Keep s) rest h.code) (keep_stands s m w o h.stands) refl)))
+        (onward (instructions k f.proc) f.place (i.Keep s) rest h.code)
+        (keep_stands t n num same s m w o h.stands) refl)))
 
     step_home : (s : ℕ) (rest ys : List Instr) (a : Block) → Rest rest ys a
         → Rest (i.Home s ∷ rest) ys (straight t n k.react (i.Home s) a)
@@ -274,42 +217,6 @@ module _ (t : Tree) (n : ℕ → ℕ) (num : Numbers t n) (same : length t.comps
         subst (λ x. Does code n fuel now note saved fs (machine w now r (f ∷ fs)) ys
         (and_on (branch (Ok (not (x == 0))) m (Left m x) (Fell m l)) (after a))) (sym h.result)
         (pass_by r rest ys a go m l w f h)
-
-    -- ---- calls
-
-    -- the frame of a procedure that is called, with its note
-    called : (p : ℕ) (tag : Option ℕ) (x : Instr) (rest : List Instr) (m m' : CMemory) (l : Locals) (w w' : World)
-        (r : ℕ) (f : Frame)
-        → IsAt t n k note saved (x ∷ rest) m l w r f fs → Stands t n m' w' → m'.notes ≡ m.notes ++ with_note tag []
-        → IsAt t n k tag None (instructions k p) m' (begins l.base l.home l.result) w' l.result
-        (fresh p tag f.base f.home None) (next f ∷ fs)
-    called p tag x rest m m' l w w' r f h st e = record {
-      code = refl;
-      stands = st;
-      notes = notes;
-      note_is = refl;
-      saved_is = refl;
-      home = h.home;
-      result = refl;
-      within = omega (arith, h.within);
-      base = subst (λ y. l.base ≤ length y) (sym e) (at_most (with_note tag []));
-      above_base = over;
-      cursor = omega arith;
-      above_cursor = ap (λ y. drop y m'.notes) (later_zero l.base) ∙ over
-          ∙ sym (ap (λ y. pending y (fresh p tag f.base f.home None ∷ next f ∷ fs)) (later_zero (suc f.base)));
-    }
-      where
-        over : drop l.base m'.notes ≡ pending (suc f.base) (fresh p tag f.base f.home None ∷ next f ∷ fs)
-        over = ap (drop l.base) e ∙ drop-append-le l.base m.notes (with_note tag []) h.base
-            ∙ ap (λ y. y ++ with_note tag []) (h.above_base ∙ same_pending (suc f.base) f (next f) fs refl)
-            ∙ sym (pending_at (suc f.base) (fresh p tag f.base f.home None) (next f ∷ fs) (omega (arith, h.within)))
-
-        notes : m'.notes ≡ pending 0 (fresh p tag f.base f.home None ∷ next f ∷ fs)
-        notes = e ∙ ap (λ y. y ++ with_note tag []) (h.notes ∙ same_pending 0 f (next f) fs refl)
-            ∙ sym (pending_at 0 (fresh p tag f.base f.home None) (next f ∷ fs) (omega arith))
-
-        at_most : (ys : List ℕ) → l.base ≤ length (m.notes ++ ys)
-        at_most ys = omega (arith, h.base, length-append m.notes ys)
 
     -- ---- steps
 
@@ -425,38 +332,10 @@ module _ (t : Tree) (n : ℕ → ℕ) (num : Numbers t n) (same : length t.comps
         → Does code n less now note saved fs s ys o
     low s ys o h = does_less code n fuel now note saved fs less s ys o under h
 
-    -- the function at the next place, with the result of a call
-    resulted : (x : Instr) (rest : List Instr) (m v : CMemory) (l : Locals) (w u : World) (r y : ℕ) (f : Frame)
-        → IsAt t n k note saved (x ∷ rest) m l w r f fs → Stands t n v u → v.notes ≡ m.notes
-        → IsAt t n k note saved rest v (record l { result = y }) u y (next f) fs
-    resulted x rest m v l w u r y f h st e =
-        let at = moved t n k note saved (x ∷ rest) rest m l w r f fs h (f.place + 1) v u
-        (onward (instructions k f.proc) f.place x rest h.code) st e in
-        record {
-          code = at.code;
-          stands = at.stands;
-          notes = at.notes;
-          note_is = at.note_is;
-          saved_is = at.saved_is;
-          home = at.home;
-          result = refl;
-          within = at.within;
-          base = at.base;
-          above_base = at.above_base;
-          cursor = at.cursor;
-          above_cursor = at.above_cursor;
-        }
-
     front_push : (xs : List ℕ) (q : ℕ) → front (xs ++ q ∷ []) ≡ xs
     front_push [] q = refl
     front_push (x ∷ []) q = refl
     front_push (x ∷ y ∷ xs) q = ap (λ l. x ∷ l) (front_push (y ∷ xs) q)
-
-    -- the notes below are those at the place
-    same_notes : (m : CMemory) (x : Instr) (rest : List Instr) (l : Locals) (w : World) (r : ℕ) (f : Frame)
-        → IsAt t n k note saved (x ∷ rest) m l w r f fs
-        → pending 0 (next f ∷ fs) ≡ m.notes
-    same_notes m x rest l w r f h = sym (h.notes ∙ same_pending 0 f (next f) fs refl)
 
     -- a call, from the frame of the procedure on
     call_rest : (p : ℕ) (tag : Option ℕ) (x : Instr) (rest ys : List Instr) (a : Block) → Rest rest ys a
@@ -472,11 +351,11 @@ module _ (t : Tree) (n : ℕ → ℕ) (num : Numbers t n) (same : length t.comps
         (machine u now y (fresh p None f.base f.home None ∷ next f ∷ fs))
         (call p now l.base l.home l.result v)) h.result
         (calls p l.base l.home l.result now None None v u (fresh p None f.base f.home None) (next f ∷ fs) refl refl
-        (called p None x rest m v l w u r f h st (e ∙ sym (append-nil m.notes)))))
+        (called t n k note saved fs p None x rest m v l w u r f h st (e ∙ sym (append-nil m.notes)))))
         (λ o y z so eo. low (machine z now y (next f ∷ fs)) ys (after a o (record l { result = y }))
         (go o (record l { result = y }) z y (next f)
-        (resulted x rest m o l w z r y f h so
-        (eo ∙ append-nil (pending 0 (next f ∷ fs)) ∙ same_notes m x rest l w r f h))))
+        (resulted t n k note saved fs x rest m o l w z r y f h so
+        (eo ∙ append-nil (pending 0 (next f ∷ fs)) ∙ same_notes t n k note saved fs m x rest l w r f h))))
     call_rest p (Some q) x rest ys a go m v l w u r f h st e =
         after_call less (omega arith) now None (Some q) (next f ∷ fs) _ ys
         (call p now l.base l.home l.result (record v { notes = v.notes ++ q ∷ [] }))
@@ -486,7 +365,7 @@ module _ (t : Tree) (n : ℕ → ℕ) (num : Numbers t n) (same : length t.comps
         (call p now l.base l.home l.result (record v { notes = v.notes ++ q ∷ [] }))) h.result
         (calls p l.base l.home l.result now (Some q) None (record v { notes = v.notes ++ q ∷ [] }) u
         (fresh p (Some q) f.base f.home None) (next f ∷ fs) refl refl
-        (called p (Some q) x rest m (record v { notes = v.notes ++ q ∷ [] }) l w u r f h
+        (called t n k note saved fs p (Some q) x rest m (record v { notes = v.notes ++ q ∷ [] }) l w u r f h
         (record {
           states = st.states;
           consistent = st.consistent;
@@ -498,7 +377,7 @@ module _ (t : Tree) (n : ℕ → ℕ) (num : Numbers t n) (same : length t.comps
         (λ o y z so eo. low (machine z now y (next f ∷ fs)) ys
         (after a (record o { notes = front o.notes }) (record l { result = y }))
         (go (record o { notes = front o.notes }) (record l { result = y }) z y (next f)
-        (resulted x rest m (record o { notes = front o.notes }) l w z r y f h
+        (resulted t n k note saved fs x rest m (record o { notes = front o.notes }) l w z r y f h
         (record {
           states = so.states;
           consistent = so.consistent;
@@ -506,7 +385,7 @@ module _ (t : Tree) (n : ℕ → ℕ) (num : Numbers t n) (same : length t.comps
           outputs = so.outputs;
           used = so.used;
         })
-        (ap front eo ∙ front_push (pending 0 (next f ∷ fs)) q ∙ same_notes m x rest l w r f h))))
+        (ap front eo ∙ front_push (pending 0 (next f ∷ fs)) q ∙ same_notes t n k note saved fs m x rest l w r f h))))
 
     step_call : (p : ℕ) (tag : Option ℕ) (rest ys : List Instr) (a : Block) → Rest rest ys a
         → Rest (i.Call p tag ∷ rest) ys (straight t n k.react (i.Call p tag) a)
@@ -527,38 +406,6 @@ module _ (t : Tree) (n : ℕ → ℕ) (num : Numbers t n) (same : length t.comps
 
     -- ---- sends
 
-    -- the frame of a procedure to which an event is sent
-    sent_at : (e p : ℕ) (x : Instr) (rest : List Instr) (m v : CMemory) (l : Locals) (w u : World) (r : ℕ) (f : Frame)
-        → IsAt t n k note saved (x ∷ rest) m l w r f fs → Stands t n v u → v.notes ≡ m.notes
-        → IsAt t n k None (Some now.event) (instructions k p) v (begins (length v.notes) 0 l.result) u l.result
-        (fresh p None (suc (length fs)) 0 (Some now.event)) (next f ∷ fs)
-    sent_at e p x rest m v l w u r f h st same_as = record {
-      code = refl;
-      stands = st;
-      notes = notes;
-      note_is = refl;
-      saved_is = refl;
-      home = refl;
-      result = refl;
-      within = omega arith;
-      base = omega arith;
-      above_base = over;
-      cursor = omega arith;
-      above_cursor = ap (λ y. drop y v.notes) (later_zero (length v.notes)) ∙ over
-          ∙ sym (ap (λ y. pending y (fresh p None (suc (length fs)) 0 (Some now.event) ∷ next f ∷ fs))
-          (later_zero (suc (suc (length fs)))));
-    }
-      where
-        over : drop (length v.notes) v.notes ≡ pending (suc (suc (length fs)))
-            (fresh p None (suc (length fs)) 0 (Some now.event) ∷ next f ∷ fs)
-        over = drop_all (length v.notes) v.notes (omega arith)
-            ∙ sym (pending_past (suc (suc (length fs))) (fresh p None (suc (length fs)) 0 (Some now.event))
-            (next f ∷ fs) (omega arith))
-
-        notes : v.notes ≡ pending 0 (fresh p None (suc (length fs)) 0 (Some now.event) ∷ next f ∷ fs)
-        notes = same_as ∙ sym (same_notes m x rest l w r f h) ∙ sym (append-nil (pending 0 (next f ∷ fs)))
-            ∙ sym (pending_at 0 (fresh p None (suc (length fs)) 0 (Some now.event)) (next f ∷ fs) (omega arith))
-
     send_rest : (e p : ℕ) (x : Instr) (rest ys : List Instr) (a : Block) → Rest rest ys a
         → (m v : CMemory) (l : Locals) (w u : World) (r : ℕ) (f : Frame) → IsAt t n k note saved (x ∷ rest) m l w r f fs
         → Stands t n v u → v.notes ≡ m.notes
@@ -572,11 +419,11 @@ module _ (t : Tree) (n : ℕ → ℕ) (num : Numbers t n) (same : length t.comps
         (call p (deeper e now) (length v.notes) 0 l.result v)) h.result
         (calls p (length v.notes) 0 l.result (deeper e now) None (Some now.event) v u
         (fresh p None (suc (length fs)) 0 (Some now.event)) (next f ∷ fs) refl refl
-        (sent_at e p x rest m v l w u r f h st same_as)))
+        (sent_at t n k note saved fs now e p x rest m v l w u r f h st same_as)))
         (λ o y z so eo. low (machine z now y (next f ∷ fs)) ys (after a o (record l { result = y }))
         (go o (record l { result = y }) z y (next f)
-        (resulted x rest m o l w z r y f h so
-        (eo ∙ append-nil (pending 0 (next f ∷ fs)) ∙ same_notes m x rest l w r f h))))
+        (resulted t n k note saved fs x rest m o l w z r y f h so
+        (eo ∙ append-nil (pending 0 (next f ∷ fs)) ∙ same_notes t n k note saved fs m x rest l w r f h))))
 
     step_send : (e : ℕ) (rest ys : List Instr) (a : Block) → Rest rest ys a
         → Rest (i.Send e ∷ rest) ys (straight t n k.react (i.Send e) a)
@@ -623,68 +470,6 @@ module _ (t : Tree) (n : ℕ → ℕ) (num : Numbers t n) (same : length t.comps
         (heard_by (is_on s u.marks) e s p (i.SendTo e s p) rest ys a go m v l w u r f h st refl))
 
     -- ---- `Play`
-
-    -- the frame of a noted procedure
-    played_at : (p j : ℕ) (x : Instr) (rest : List Instr) (m v : CMemory) (l : Locals) (w u : World) (r : ℕ) (f : Frame)
-        → IsAt t n k note saved (x ∷ rest) m l w r f fs → Stands t n v u → v.notes ≡ m.notes
-        → IsAt t n k None None (instructions k p) v (begins (length v.notes) l.home l.result) u l.result
-        (fresh p None (suc (length fs)) f.home None) (record f { cursor = j } ∷ fs)
-    played_at p j x rest m v l w u r f h st same_as = record {
-      code = refl;
-      stands = st;
-      notes = notes;
-      note_is = refl;
-      saved_is = refl;
-      home = h.home;
-      result = refl;
-      within = omega arith;
-      base = omega arith;
-      above_base = over;
-      cursor = omega arith;
-      above_cursor = ap (λ y. drop y v.notes) (later_zero (length v.notes)) ∙ over
-          ∙ sym (ap (λ y. pending y (fresh p None (suc (length fs)) f.home None ∷ record f { cursor = j } ∷ fs))
-          (later_zero (suc (suc (length fs)))));
-    }
-      where
-        over : drop (length v.notes) v.notes ≡ pending (suc (suc (length fs)))
-            (fresh p None (suc (length fs)) f.home None ∷ record f { cursor = j } ∷ fs)
-        over = drop_all (length v.notes) v.notes (omega arith)
-            ∙ sym (pending_past (suc (suc (length fs))) (fresh p None (suc (length fs)) f.home None)
-            (record f { cursor = j } ∷ fs) (omega arith))
-
-        notes : v.notes ≡ pending 0 (fresh p None (suc (length fs)) f.home None ∷ record f { cursor = j } ∷ fs)
-        notes = same_as ∙ h.notes ∙ same_pending 0 f (record f { cursor = j }) fs refl
-            ∙ sym (append-nil (pending 0 (record f { cursor = j } ∷ fs)))
-            ∙ sym (pending_at 0 (fresh p None (suc (length fs)) f.home None) (record f { cursor = j } ∷ fs)
-            (omega arith))
-
-    -- the function before the next turn
-    turned_at : (q p : ℕ) (rest : List Instr) (m o : CMemory) (l : Locals) (w z : World) (r y : ℕ) (f : Frame)
-        → IsAt t n k note saved (i.Play ∷ rest) m l w r f fs → Stands t n o z → o.notes ≡ m.notes
-        → l.base ≤ l.cursor → suc f.base ≤ q → drop l.cursor m.notes ≡ p ∷ pending (suc q) (f ∷ fs)
-        → IsAt t n k note saved (i.Play ∷ rest) o (record l { cursor = suc l.cursor; result = y }) z y
-        (record f { cursor = suc q }) fs
-    turned_at q p rest m o l w z r y f h so e le ge found = record {
-      code = h.code;
-      stands = so;
-      notes = e ∙ h.notes ∙ same_pending 0 f (record f { cursor = suc q }) fs refl;
-      note_is = h.note_is;
-      saved_is = h.saved_is;
-      home = h.home;
-      result = refl;
-      within = h.within;
-      base = subst (λ x. l.base ≤ length x) (sym e) h.base;
-      above_base = ap (drop l.base) e ∙ h.above_base ∙ same_pending (suc f.base) f
-          (record f { cursor = suc q }) fs refl;
-      cursor = subst (λ x. suc l.cursor ≤ length x) (sym e)
-          (within_some m.notes l.cursor p (pending (suc q) (f ∷ fs)) found);
-      above_cursor = ap (drop (later (suc l.cursor) l.base)) e ∙ ap (λ x. drop x m.notes)
-          (later_at (suc l.cursor) l.base (omega (arith, le)))
-          ∙ dropped m.notes l.cursor p (pending (suc q) (f ∷ fs)) found ∙ same_pending (suc q) f
-          (record f { cursor = suc q }) fs refl
-          ∙ sym (ap (λ x. pending x (record f { cursor = suc q } ∷ fs))
-          (later_at (suc q) (suc f.base) (omega (arith, ge))));
-    }
 
     -- where `Play` ends, the next place follows
     ends_at : (rest : List Instr) (m : CMemory) (l : Locals) (w : World) (r : ℕ) (f : Frame) → IsAt t n k note saved
@@ -760,9 +545,9 @@ module _ (t : Tree) (n : ℕ → ℕ) (num : Numbers t n) (same : length t.comps
         (call q.1 now (length m.notes) l.home l.result v)) h.result
         (calls q.1 (length m.notes) l.home l.result now None None v u (fresh q.1 None (suc (length fs)) f.home None)
         (record f { cursor = suc q.0 } ∷ fs) refl refl
-        (played_at q.1 (suc q.0) i.Play rest m v l w u r f h st refl)))
+        (played_at t n k note saved fs q.1 (suc q.0) i.Play rest m v l w u r f h st refl)))
         (λ o y z so eo. more o (record l { cursor = suc l.cursor; result = y }) z y (record f { cursor = suc q.0 })
-        (turned_at q.0 q.1 rest m o l w z r y f h so
+        (turned_at t n k note saved fs q.0 q.1 rest m o l w z r y f h so
         (eo ∙ append-nil (pending 0 (record f { cursor = suc q.0 } ∷ fs)) ∙ sym
         (h.notes ∙ same_pending 0 f (record f { cursor = suc q.0 }) fs refl)) le ge at_cursor)
         (omega (arith, le))))))

@@ -116,6 +116,7 @@ fn run_event<G: Engine, O: Sink>(
 }
 
 /// Gives each input the value that the line names for it. It takes no memory.
+#[inline(always)]
 pub fn set_inputs<G: Engine>(engine: &mut G, vals: &InputVals)
     requires running { G.stage engine.old ≡ Running }
     requires few { length vals.now.values < 2 ^ 32 }
@@ -132,6 +133,7 @@ pub fn set_inputs<G: Engine>(engine: &mut G, vals: &InputVals)
 }
 
 /// Puts the line for how a call of the engine ended.
+#[inline(always)]
 fn put_end<G: Engine, O: Sink>(
     engine: &G,
     index: u64,

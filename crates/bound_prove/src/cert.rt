@@ -5,7 +5,7 @@ ghost use Rattle.checked_chart.specs.Chart.{Chart as ChartSpec};
 ghost use Rattle.checked_chart.specs.Kept.{chart_of};
 ghost use Rattle.bound_prove.specs.Certs as spec;
 ghost use Rattle.bound_prove.specs.Searches.{the_ends, IsSame};
-ghost use Rattle.bound_prove.specs.Tables.{IsInTable};
+ghost use Rattle.bound_prove.specs.Tables.{IsInTable, event_count};
 ghost use Rattle.bound_prove.specs.declared.need.Part.{Part as PartSpec};
 ghost use Rattle.bound_prove.specs.declared.need.TheConstants.{DEPTH_END, STEP_END};
 
@@ -41,6 +41,9 @@ pub(crate) fn the_ends() -> Need
     }
 }
 
+/// The number of the first named event, before which the start and a tick come.
+const FIRST_NAMED: usize = 2;
+
 /// The number of an event in a certificate.
 pub(crate) fn event_index(event: Event) -> usize
     ensures { result ≡ spec.event_index event }
@@ -48,8 +51,15 @@ pub(crate) fn event_index(event: Event) -> usize
     match event {
         Event::Start => 0,
         Event::Tick => 1,
-        Event::Named(e) => e as usize + 2,
+        Event::Named(e) => e as usize + FIRST_NAMED,
     }
+}
+
+/// How many events there are: the start, a tick, and those that the chart declares.
+pub(crate) fn event_count(chart: &Chart) -> usize
+    ensures { result ≡ event_count (chart_of chart.now) }
+{
+    chart.names().events.items().len() + FIRST_NAMED
 }
 
 /// That many times a need.
@@ -119,9 +129,8 @@ impl Cert {
     {
         let junctions = chart.junctions();
         let states = chart.shape().len();
-        let events = chart.names().events.items().len() + 2;
         let mut rows = Vec::new(alloc);
-        for _ in 0..events {
+        for _ in 0..event_count(chart) {
             let row = Row::make(alloc, junctions, states, first)?;
             let Ok(()) = rows.push(row) else {
                 return Err(Memory);

@@ -9,7 +9,7 @@ ghost use Rattle.bound_prove.specs.declared.cell.Colour.TheVariants.{White};
 ghost use Rattle.bound_prove.specs.declared.need.Part.{Part as PartSpec};
 
 use crate::cell::{Cell, Colour};
-use crate::cert::event_index;
+use crate::cert::{event_count, event_index};
 use crate::need::Part;
 use checked_chart::Chart;
 use flow_base::Memory;
@@ -94,9 +94,8 @@ impl Colours {
     {
         let junctions = chart.junctions();
         let states = chart.shape().len();
-        let events = chart.names().events.items().len() + 2;
         let mut rows = Vec::new(alloc);
-        for _ in 0..events {
+        for _ in 0..event_count(chart) {
             let row = ColourRow::make(alloc, junctions, states)?;
             let Ok(()) = rows.push(row) else {
                 return Err(Memory);

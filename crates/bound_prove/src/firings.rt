@@ -2,7 +2,7 @@
 ghost use Rattle.std.specs.Prelude.{◌≡◌, IfOk};
 ghost use Rattle.bound_prove.specs.Firings as spec;
 
-use crate::cert::event_index;
+use crate::cert::{event_count, event_index};
 use crate::need::Need;
 use actions::Event;
 use checked_chart::Chart;
@@ -49,9 +49,8 @@ impl Firings {
         ensures { IfOk result (λ f. spec.AreNone f) }
     {
         let states = chart.shape().len();
-        let events = chart.names().events.items().len() + 2;
         let mut rows = Vec::new(alloc);
-        for _ in 0..events {
+        for _ in 0..event_count(chart) {
             let row = FiringRow::make(alloc, states)?;
             let Ok(()) = rows.push(row) else {
                 return Err(Memory);

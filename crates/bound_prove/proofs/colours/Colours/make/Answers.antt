@@ -1,4 +1,4 @@
-use Rattle.std.proofs.Common.{◌≡◌, length, ap, arith}
+use Rattle.std.proofs.Common.{◌≡◌, length, arith}
 use Rattle.std.proofs.lemmas.List.{length_push}
 use Rattle.active_config.specs.Tree.{state_count}
 use Rattle.checked_chart.specs.Kept.{chart_of}
@@ -22,9 +22,8 @@ returns-clause-sized c =
     let chart = chart_of c.args.chart.now in
     let sized : length c.loop.rows.items ≡ event_count chart =
     let h = c.loop.invariant.sized in
-    let items = ap length c.items.ensures in
-    let names = ap (λ n. length n.events) c.names.ensures.names in
-    omega (arith, h, items, names) in
+    let count = c.event_count-end.ensures in
+    omega (arith, h, count) in
     let states : c.len-states.result ≡ state_count chart.tree = cc in
     made_for _ _ chart (record { rows = c.loop.rows }) sized c.junctions-junctions.ensures states c.loop.invariant.each
 

@@ -18,7 +18,7 @@ import generated_cases                                      # noqa: E402, which 
 import measuring                                            # noqa: E402, which is a module of bench
 from programs import ended, parser, status_text             # noqa: E402
 
-CASE, EVENTS, MOST = 0, 5_000, 3_961
+CASE, EVENTS, MOST = 0, 5_000, 3_860
 
 
 def written(program, words, folder):

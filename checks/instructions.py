@@ -3,11 +3,11 @@
 
     python3 checks/instructions.py --against PROGRAM
 
-The code is that of the generated case 0. Callgrind, a tool of valgrind, counts the run over the first 5,000 of its events, less a run
-without events, as `bench/compare.py` does. The count doesn't depend on how busy the machine is, and was the same on each that was
-tried, so that one above `MOST` comes from a change of the code, or of the compiler or the C library: most often a function is no
-longer inlined. `bench/compare.py --functions` tells which. The count is written; the status is 1 where it is above `MOST`, or where valgrind isn't
-installed. A change that lowers the count lowers `MOST` too."""
+The code is that of the generated case 0. Callgrind, a tool of valgrind, counts the run over the first 5,000 of its events, less a
+run without events, as `bench/compare.py` does. The count doesn't depend on how busy the machine is, and was the same on each that
+was tried, so that one above `MOST` comes from a change of the code, or of the compiler or the C library: most often a function is
+no longer inlined. `bench/compare.py --functions` tells which. The count is written; the status is 1 where it is above `MOST`, or
+where valgrind isn't installed. A change that lowers the count lowers `MOST` too."""
 import os
 import sys
 import tempfile

@@ -14,9 +14,11 @@ use Rattle.c_text.specs.Labels.{Labels, labels_for}
 use Rattle.c_text.specs.Expressions.{bare}
 use Rattle.c_text.specs.Functions.{prototype_text}
 use Rattle.c_header.specs.declared.facts.SourceFacts.{SourceFacts}
+use Rattle.c_header.specs.declared.identity.Identity.{Identity}
 use Rattle.c_header.specs.declared.states.About.{About}
 use Rattle.c_header.specs.declared.states.About.TheVariants.{Active, Remembered, Bits, Test}
 use Rattle.c_header.specs.declared.paths.Form.TheVariants.{Words, Label}
+use Rattle.c_header.specs.Identity.{identity_text, sums_text}
 use Rattle.c_header.specs.Paths.{path_text}
 use Rattle.c_header.specs.Fields.{texts_below, data_text, counters_text, active_field, last_field, for_or, bits_line}
 
@@ -29,7 +31,7 @@ named_text front chart back = front ++ (chart ++ back)
 -- what an engineer has to know
 unfoldable pub usage_text : List ℕ → List ℕ
 usage_text chart =
-    codes "   All memory is one struct, which the caller owns. Before each event store the inputs\n"
+    codes "\n   All memory is one struct, which the caller owns. Before each event store the inputs\n"
     ++ (codes "   (in_..). After it read the outputs (out_..), the events that were emitted (out[0] to\n"
     ++ (codes "   out[outs - 1]) and which states are active. Each call returns whether it ended\n"
     ++ (codes "   without a fault. After a fault, which fault and fault_datum tell, the run is over:\n"
@@ -119,7 +121,7 @@ calls_number None = 0
 -- how many functions are open at once at most
 unfoldable pub calls_text : List ℕ → Option ℕ → List ℕ
 calls_text chart calls =
-    calls_comment calls ++ (define_line chart (codes "_") (codes "CALLS") (calls_number calls) ++ codes "\n")
+    calls_comment calls ++ define_line chart (codes "_") (codes "CALLS") (calls_number calls)
 
 -- ---- states
 
@@ -190,14 +192,16 @@ react_text chart L K =
 -- ---- the whole
 
 -- what stands before the struct
-unfoldable pub front_text : List ℕ → Shape → SourceFacts → List ℕ
-front_text chart K facts =
-    named_text (codes "/* The C of the chart ") chart (codes ", written by chart_to_c. Do not edit.\n\n")
+unfoldable pub front_text : List ℕ → Shape → SourceFacts → Identity → List ℕ
+front_text chart K facts identity =
+    identity_text chart identity
     ++ (usage_text chart
     ++ (needs_text chart
     ++ (wide_comment facts.wide
     ++ (events_text chart K.names.events
-    ++ (faults_text chart ++ (bounds_text chart K.bounds K.outputs K.notes ++ calls_text chart facts.calls))))))
+    ++ (faults_text chart
+    ++ (bounds_text chart K.bounds K.outputs K.notes
+    ++ (calls_text chart facts.calls ++ (sums_text chart identity ++ codes "\n"))))))))
 
 -- what stands from the struct on
 unfoldable pub back_text : List ℕ → Labels → Shape → List ℕ
@@ -205,7 +209,7 @@ back_text chart L K =
     struct_text chart L K
     ++ (start_text L K ++ (react_text chart L K ++ (states_text chart L K Test ++ codes "#endif\n")))
 
--- the header of a chart of that name, of whose source these facts hold
-unfoldable pub header_text : List ℕ → Shape → SourceFacts → List ℕ
-header_text chart K facts =
-    front_text chart K facts ++ back_text chart (labels_for chart K.names K.tree K.procs) K
+-- the header of a chart of that name, of whose source these facts hold, of this making
+unfoldable pub header_text : List ℕ → Shape → SourceFacts → Identity → List ℕ
+header_text chart K facts identity =
+    front_text chart K facts identity ++ back_text chart (labels_for chart K.names K.tree K.procs) K

@@ -42,13 +42,14 @@ abbrev pub test_labels : Tree → Names → List (List ℕ)
 test_labels t n = map (test_label t n) (range_with_len 1 (state_count t - 1))
 
 -- after the chart's name, the names that all files have: the struct, an event without a name, faults, bounds, for how
--- many outputs and notes there is room, how many functions are open, and the check of the source whether the header
--- fits it
+-- many outputs and notes there is room, how many functions are open, the sum of the chart, and the check of the source
+-- whether the header fits it
 abbrev pub fixed_labels : List (List ℕ)
 fixed_labels =
     codes "_chart" ∷ codes "_TICK" ∷ codes "_FAULT_NONE" ∷ codes "_FAULT_DEPTH" ∷ codes "_FAULT_STEPS"
     ∷ codes "_FAULT_OVERFLOW" ∷ codes "_FAULT_ZERO" ∷ codes "_DEPTH" ∷ codes "_STEPS" ∷ codes "_OUTPUTS"
-    ∷ codes "_NOTES" ∷ codes "_CALLS" ∷ codes "_header_fits" ∷ []
+    ∷ codes "_NOTES" ∷ codes "_CALLS" ∷ codes "_SUM_0" ∷ codes "_SUM_1" ∷ codes "_SUM_2" ∷ codes "_SUM_3"
+    ∷ codes "_header_fits" ∷ []
 
 -- what stands after the chart's name in the names of header and source, but for those of its two functions
 abbrev pub header_labels : Shape → List (List ℕ)

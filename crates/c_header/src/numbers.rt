@@ -112,8 +112,7 @@ pub(crate) fn print_calls(
         ≡ string_bytes out.old ++ spec.calls_text chart.now calls) }
 {
     out.push_str(calls_comment(calls))?;
-    print_define(out, chart, "_", "CALLS", calls_number(calls))?;
-    out.push_str("\n")
+    print_define(out, chart, "_", "CALLS", calls_number(calls))
 }
 
 /// What the header says above that number.

@@ -326,8 +326,16 @@ each_fixed (suc (suc (suc (suc (suc (suc (suc (suc (suc (suc zero)))))))))) with
 each_fixed (suc (suc (suc (suc (suc (suc (suc (suc (suc (suc (suc zero))))))))))) within =
     fixed_by (codes "_CALLS") 67 (omega arith) (omega arith) refl refl refl refl refl
 each_fixed (suc (suc (suc (suc (suc (suc (suc (suc (suc (suc (suc (suc zero)))))))))))) within =
+    fixed_by (codes "_SUM_0") 83 (omega arith) (omega arith) refl refl refl refl refl
+each_fixed (suc (suc (suc (suc (suc (suc (suc (suc (suc (suc (suc (suc (suc zero))))))))))))) within =
+    fixed_by (codes "_SUM_1") 83 (omega arith) (omega arith) refl refl refl refl refl
+each_fixed (suc (suc (suc (suc (suc (suc (suc (suc (suc (suc (suc (suc (suc (suc zero)))))))))))))) within =
+    fixed_by (codes "_SUM_2") 83 (omega arith) (omega arith) refl refl refl refl refl
+each_fixed (suc (suc (suc (suc (suc (suc (suc (suc (suc (suc (suc (suc (suc (suc (suc zero))))))))))))))) within =
+    fixed_by (codes "_SUM_3") 83 (omega arith) (omega arith) refl refl refl refl refl
+each_fixed (suc (suc (suc (suc (suc (suc (suc (suc (suc (suc (suc (suc (suc (suc (suc (suc zero)))))))))))))))) within =
     fixed_by (codes "_header_fits") 101 (omega arith) (omega arith) refl refl refl refl refl
-each_fixed (suc (suc (suc (suc (suc (suc (suc (suc (suc (suc (suc (suc (suc i))))))))))))) within =
+each_fixed (suc (suc (suc (suc (suc (suc (suc (suc (suc (suc (suc (suc (suc (suc (suc (suc (suc i))))))))))))))))) within =
     absurd (omega (arith, within))
 
 all_fixed : AllByRecursion IsFixed fixed_labels
@@ -386,7 +394,11 @@ place name =
     (cond (bytes_eq name (codes "_DEPTH")) 7
     (cond (bytes_eq name (codes "_STEPS")) 8
     (cond (bytes_eq name (codes "_OUTPUTS")) 9
-    (cond (bytes_eq name (codes "_NOTES")) 10 (cond (bytes_eq name (codes "_CALLS")) 11 12)))))))))))
+    (cond (bytes_eq name (codes "_NOTES")) 10
+    (cond (bytes_eq name (codes "_CALLS")) 11
+    (cond (bytes_eq name (codes "_SUM_0")) 12
+    (cond (bytes_eq name (codes "_SUM_1")) 13
+    (cond (bytes_eq name (codes "_SUM_2")) 14 (cond (bytes_eq name (codes "_SUM_3")) 15 16)))))))))))))))
 
 fixed_told : (i : ℕ) → i < length fixed_labels → place (get_or fixed_labels i []) ≡ i
 unfolding place
@@ -403,7 +415,11 @@ fixed_told (suc (suc (suc (suc (suc (suc (suc (suc (suc zero))))))))) within = r
 fixed_told (suc (suc (suc (suc (suc (suc (suc (suc (suc (suc zero)))))))))) within = refl
 fixed_told (suc (suc (suc (suc (suc (suc (suc (suc (suc (suc (suc zero))))))))))) within = refl
 fixed_told (suc (suc (suc (suc (suc (suc (suc (suc (suc (suc (suc (suc zero)))))))))))) within = refl
-fixed_told (suc (suc (suc (suc (suc (suc (suc (suc (suc (suc (suc (suc (suc i))))))))))))) within =
+fixed_told (suc (suc (suc (suc (suc (suc (suc (suc (suc (suc (suc (suc (suc zero))))))))))))) within = refl
+fixed_told (suc (suc (suc (suc (suc (suc (suc (suc (suc (suc (suc (suc (suc (suc zero)))))))))))))) within = refl
+fixed_told (suc (suc (suc (suc (suc (suc (suc (suc (suc (suc (suc (suc (suc (suc (suc zero))))))))))))))) within = refl
+fixed_told (suc (suc (suc (suc (suc (suc (suc (suc (suc (suc (suc (suc (suc (suc (suc (suc zero)))))))))))))))) within = refl
+fixed_told (suc (suc (suc (suc (suc (suc (suc (suc (suc (suc (suc (suc (suc (suc (suc (suc (suc i))))))))))))))))) within =
     absurd (omega (arith, within))
 
 tests_distinct : (t : Tree) (n : Names) → HasNamedTree t n → AreDistinct (test_labels t n)

@@ -201,7 +201,7 @@ front_text chart K facts identity =
     ++ (events_text chart K.names.events
     ++ (faults_text chart
     ++ (bounds_text chart K.bounds K.outputs K.notes
-    ++ (calls_text chart facts.calls ++ (sums_text chart identity ++ codes "\n"))))))))
+    ++ (calls_text chart facts.calls ++ sums_text chart identity)))))))
 
 -- what stands from the struct on
 unfoldable pub back_text : List ℕ → Labels → Shape → List ℕ

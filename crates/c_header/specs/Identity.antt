@@ -10,10 +10,12 @@ version = codes "1.0.0"
 -- how both files begin: the chart's name, the program, the bounds and the sum
 unfoldable pub identity_text : List ℕ → Identity → List ℕ
 identity_text chart identity =
-    (codes "/* The C of the chart " ++ chart) ++ ((codes ", written by chart_to_c " ++ version)
-    ++ ((codes " with --depth " ++ decimal identity.bounds.depth) ++ ((codes " --steps " ++ decimal identity.bounds.steps)
-    ++ ((codes ". Do not edit.\n   The sum of the chart is " ++ encode_lower identity.sum)
-    ++ codes ", the first 64 bits of the MD5 of its canonical text.\n"))))
+    (codes "/* The C of the chart " ++ (chart ++ codes ", written by chart_to_c "))
+    ++ (version
+    ++ ((codes " with --depth " ++ decimal identity.bounds.depth)
+    ++ ((codes " --steps " ++ decimal identity.bounds.steps)
+    ++ (codes ". Do not edit.\n   The sum of the chart is "
+    ++ (encode_lower identity.sum ++ codes ", the first 64 bits of the MD5 of its canonical text.\n")))))
 
 -- 16 bits of the sum, the highest ones first: those at place k from 0 to 3
 abbrev pub sum_part : List ℕ → ℕ → List ℕ
@@ -34,4 +36,4 @@ sum_numbers front next chart between sum =
 unfoldable pub sums_text : List ℕ → Identity → List ℕ
 sums_text chart identity =
     codes "\n/* The sum of the chart, by 16 bits: the source compares it. */\n"
-    ++ (sum_numbers (codes "enum { ") (codes ", ") chart (codes " = ") identity.sum ++ codes " };\n")
+    ++ (sum_numbers (codes "enum { ") (codes ", ") chart (codes " = ") identity.sum ++ codes " };\n\n")

@@ -56,8 +56,7 @@ fn print_front(
     print_faults(out, chart)?;
     print_bounds(out, chart, shape.bounds, shape.outputs, shape.notes)?;
     print_calls(out, chart, facts.calls)?;
-    print_sums(alloc, out, chart, identity)?;
-    out.push_str("\n")
+    print_sums(alloc, out, chart, identity)
 }
 
 /// Appends what an engineer has to know.

@@ -2,6 +2,7 @@
 ghost use Rattle.std.specs.Prelude.{◌≡◌, ◌++◌, ◌<◌, string_bytes, OnOk};
 ghost use Rattle.c_header.specs.Identity as spec;
 
+use crate::words::print_named;
 use code_fields::print_number;
 use flow_base::Bounds;
 use hex::encode;
@@ -39,15 +40,21 @@ pub fn print_identity(
         ≡ string_bytes out.old ++ spec.identity_text chart.now identity) }
 {
     let digits = encode(alloc, &identity.sum)?;
-    out.push_str("/* The C of the chart ")?;
-    out.push_str(chart)?;
-    out.push_str(", written by chart_to_c ")?;
+    print_named(
+        out,
+        "/* The C of the chart ",
+        chart,
+        ", written by chart_to_c ",
+    )?;
     out.push_str(version())?;
     print_number(out, " with --depth ", u64::from(identity.bounds.depth))?;
     print_number(out, " --steps ", u64::from(identity.bounds.steps))?;
-    out.push_str(". Do not edit.\n   The sum of the chart is ")?;
-    out.push_str(&digits)?;
-    out.push_str(", the first 64 bits of the MD5 of its canonical text.\n")
+    print_named(
+        out,
+        ". Do not edit.\n   The sum of the chart is ",
+        &digits,
+        ", the first 64 bits of the MD5 of its canonical text.\n",
+    )
 }
 
 /// Appends the name of 16 bits of the sum, and these bits, with words before and between.
@@ -110,5 +117,5 @@ pub(crate) fn print_sums(
 {
     out.push_str("\n/* The sum of the chart, by 16 bits: the source compares it. */\n")?;
     print_sum_numbers(alloc, out, "enum { ", ", ", chart, " = ", &identity.sum)?;
-    out.push_str(" };\n")
+    out.push_str(" };\n\n")
 }

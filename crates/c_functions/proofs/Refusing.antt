@@ -115,7 +115,7 @@ leads : (ds : List EventDecl) (e : ℕ) → e < leading_inputs ds
 leads [] e lt = absurd (omega (arith, lt))
 leads (x ∷ ds) e lt = by x.kind refl e lt (λ e lt. leads ds e lt)
   where
-    by : (kind : EventKind) → x.kind ≡ kind → (e : ℕ) → e < cond (is_input kind) (suc (leading_inputs ds)) 0
+    by : (kind : EventKind) → x.kind ≡ kind → (e : ℕ) → e < cond (is_input kind) (1 + leading_inputs ds) 0
         → ((e : ℕ) → e < leading_inputs ds → (d : EventDecl) × (slice_get ds e ≡ Some d) × (d.kind ≡ Input))
         → (d : EventDecl) × (slice_get (x ∷ ds) e ≡ Some d) × (d.kind ≡ Input)
     by Input is zero lt more = (x, refl, is)
@@ -127,7 +127,7 @@ leading-few : (ds : List EventDecl) → leading_inputs ds ≤ length ds
 leading-few [] = omega arith
 leading-few (x ∷ ds) = by (is_input x.kind) (leading-few ds)
   where
-    by : (b : Bool) → leading_inputs ds ≤ length ds → cond b (suc (leading_inputs ds)) 0 ≤ suc (length ds)
+    by : (b : Bool) → leading_inputs ds ≤ length ds → cond b (1 + leading_inputs ds) 0 ≤ suc (length ds)
     by true h = omega (arith, h)
     by false h = omega arith
 

@@ -1,5 +1,6 @@
 -- Which numbers a reaction takes as events: those of inputs, and that of a tick.
 use Rattle.std.specs.Prelude.{ℕ, suc, ◌==◌, nat_le, Bool, true, false, ◌&&◌, List, [], ◌∷◌, if◌then◌else◌}
+use Rattle.std.specs.List.{prefix_len}
 use Rattle.actions.specs.declared.names.EventDecl.{EventDecl}
 use Rattle.actions.specs.declared.names.EventKind.{EventKind}
 use Rattle.actions.specs.declared.names.EventKind.TheVariants.{Input, Local, Output}
@@ -12,8 +13,7 @@ is_input Output = false
 
 -- how many of these events are inputs, one after another from the first one on
 abbrev pub leading_inputs : List EventDecl → ℕ
-leading_inputs [] = 0
-leading_inputs (d ∷ ds) = if is_input d.kind then suc (leading_inputs ds) else 0
+leading_inputs ds = prefix_len (λ (d : EventDecl). is_input d.kind) ds
 
 -- the numbers of the inputs among these events, the first of which has number e; those from a number on
 abbrev pub inputs_from : ℕ → ℕ → List EventDecl → List ℕ

@@ -15,6 +15,7 @@ use Rattle.code_language.specs.Instrs.{Unless, Result, Ret}
 use Rattle.code_language.specs.Reactions.{Starts, Reacts, CodeRun}
 use Rattle.code_counts.proofs.Room.{start_few, reaction_few}
 use Rattle.code_copies.specs.SameRuns.{HasSameRuns}
+use Rattle.code_copies.proofs.SameRunsLemmas.{runs_same}
 use Rattle.chart_code.specs.Bodies.{code_of_chart}
 use Rattle.chart_code.proofs.ListResults.{results_below}
 use Rattle.chart_code.proofs.Whole.{code_runs}
@@ -94,4 +95,5 @@ all-serve c b k valid same = record {
   where
     runs : (events : List EventWithInputs) (moments : List Moment) → RulesRun c b events moments
         → CodeRun k b events moments
-    runs events moments run = (same.runs b events moments).0 ((code_runs c valid b events moments).0 run)
+    runs events moments run =
+        (runs_same (code_of_chart c) k same b events moments).0 ((code_runs c valid b events moments).0 run)

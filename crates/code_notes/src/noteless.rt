@@ -16,15 +16,15 @@ use std::alloc::Global;
 pub struct Noteless {
     /// The code.
     pub code: Code,
-    /// For each new procedure, in their order, a procedure of the code that was given that has a
-    /// `Play` for which it stands.
+    /// For each new procedure, in their order, the procedure of the code that was given that has the
+    /// `Play`s for which it stands.
     pub played: Vec<u32>,
 }
 
 /// Code that has the same runs, and neither a note nor `Play` nor `Begin`. In place of a `Play` it
 /// calls a new procedure that runs the notes of the calls above the base. The new procedures come
-/// first, one for each list of notes that some `Play` runs, and then the procedures of the code in
-/// their order.
+/// first, one for each procedure and each list of notes that a `Play` of it runs, and then the
+/// procedures of the code in their order.
 ///
 /// None where the notes that a `Play` runs aren't the same whichever way a run came there, or
 /// aren't found to be, or are more than `NOTE_LIMIT`; where there would be over `PLAYER_LIMIT` new

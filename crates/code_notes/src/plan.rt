@@ -30,7 +30,7 @@ pub(crate) struct KnownNotes {
     pub(crate) lists: Vec<Vec<u32>>,
     /// For each new procedure the notes that it runs.
     pub(crate) players: Vec<Vec<u32>>,
-    /// For each new procedure a procedure that has a `Play` for which it stands.
+    /// For each new procedure the procedure that has the `Play`s for which it stands.
     pub(crate) played: Vec<u32>,
     /// For each procedure its places.
     pub(crate) places: Vec<Vec<Place>>,

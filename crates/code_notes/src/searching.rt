@@ -21,7 +21,7 @@ fn copy_list(alloc: Global, list: &[u32]) -> Result<Vec<u32>, Memory> {
     Ok(copy)
 }
 
-/// The new procedures so far, with the one that runs each list, if there is one.
+/// The new procedures so far, with the last one that runs each list, if there is one.
 #[derive(Drop)]
 struct Players {
     of_list: Vec<Option<u32>>,
@@ -30,28 +30,35 @@ struct Players {
 }
 
 impl Players {
-    /// The new procedure that runs the list, which is made where there is none yet; `proc` has the
-    /// `Play`.
+    /// The new procedure that runs the list for `Play`s of this procedure, if there is one yet,
+    /// where procedures are gone through one after the other.
+    fn found(&self, list: u32, proc: u32) -> Option<u32> {
+        let player = (*self.of_list.get(list as usize)?)?;
+        let own = *self.played.get(player as usize)?;
+        if own == proc { Some(player) } else { None }
+    }
+
+    /// The new procedure that runs the list for `Play`s of this procedure, which is made where
+    /// there is none yet.
     fn for_list(
         &mut self,
         alloc: Global,
         list: u32,
         notes: &[u32],
-        proc: usize,
+        proc: u32,
     ) -> Result<u32, Memory> {
-        let number = number_of(self.players.len());
-        let Some(known) = self.of_list.get_mut(list as usize) else {
-            return Ok(number);
-        };
-        if let Some(player) = *known {
+        if let Some(player) = self.found(list, proc) {
             return Ok(player);
         }
-        *known = Some(number);
+        let number = number_of(self.players.len());
+        if let Some(last) = self.of_list.get_mut(list as usize) {
+            *last = Some(number);
+        }
         let copy = copy_list(alloc, notes)?;
         let Ok(()) = self.players.push(copy) else {
             return Err(Memory);
         };
-        match self.played.push(number_of(proc)) {
+        match self.played.push(proc) {
             Ok(()) => Ok(number),
             Err(_) => Err(Memory),
         }
@@ -72,7 +79,8 @@ fn find_players(
                 None => return Ok(false),
                 Some(NO_NOTES) => {}
                 Some(list) => {
-                    let player = players.for_list(alloc, list, spread.table.notes(list), proc)?;
+                    let notes = spread.table.notes(list);
+                    let player = players.for_list(alloc, list, notes, number_of(proc))?;
                     spread.set_player(proc, place, player);
                 }
             }

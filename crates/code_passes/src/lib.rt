@@ -16,6 +16,9 @@ mod tag;
 mod tagging;
 
 pub use chain::faster;
-pub use laws::{passed_code_has_the_same_runs, tags_name_procedures_states_and_events_of_the_code};
+pub use laws::{
+    passed_code_has_the_same_runs, passes_keep_what_tags_tell,
+    tags_name_procedures_states_and_events_of_the_code,
+};
 pub use made::Faster;
 pub use tag::{EventTag, Tag};

@@ -10,7 +10,7 @@ pub enum EventTag {
     Any,
     /// For this event.
     Is(Event),
-    /// For those that aren't among some events, which have procedures of their own.
+    /// For those that aren't among some events, for which other procedures may be.
     Other,
 }
 

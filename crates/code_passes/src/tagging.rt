@@ -120,13 +120,13 @@ pub(crate) fn shared_tags(alloc: Global, tags: &[Tag], numbers: &[u32]) -> Resul
     shared_by(alloc, tags, &flags)
 }
 
-/// The tag of the play of a procedure with this tag.
+/// The tag of the play of a procedure with this tag, which may have set another home before.
 fn with_plays(tag: Tag) -> Tag
     ensures { result ≡ spec.with_plays tag }
 {
     Tag {
         proc: tag.proc,
-        home: tag.home,
+        home: None,
         event: tag.event,
         shared: tag.shared,
         plays: true,
@@ -159,7 +159,7 @@ fn events_of(sets: &[Vec<u32>], number: u32) -> &[u32]
     }
 }
 
-/// The events of a copy.
+/// The events for which a copy is, by what it takes for known of the event.
 fn event_tag(sets: &[Vec<u32>], event: EventFact) -> EventTag
     ensures { result ≡ spec.event_tag (event_fact_of sets.now event) }
 {
@@ -175,14 +175,36 @@ fn event_tag(sets: &[Vec<u32>], event: EventFact) -> EventTag
     }
 }
 
+/// The home of a copy: the one that was told of its procedure, else the one that it takes for known.
+fn home_tag(told: Option<u32>, home: Option<u32>) -> Option<u32>
+    ensures { result ≡ spec.home_tag told home }
+{
+    match told {
+        Some(_) => told,
+        None => home,
+    }
+}
+
+/// The events of a copy: those that were told of its procedure, and of these the ones for which the
+/// copy is.
+fn both_events(told: EventTag, events: EventTag) -> EventTag
+    ensures { result ≡ spec.both_events told events }
+{
+    match (told, events) {
+        (EventTag::Any, _) => events,
+        (EventTag::Other, EventTag::Is(_)) => events,
+        (EventTag::Is(_), _) | (EventTag::Other, EventTag::Any | EventTag::Other) => told,
+    }
+}
+
 /// The tag of a copy of a procedure that has a tag.
 fn copy_tag(sets: &[Vec<u32>], tag: Tag, key: CopyKey) -> Tag
     ensures { result ≡ spec.copy_tag (facts_of sets.now key.facts) tag }
 {
     Tag {
         proc: tag.proc,
-        home: key.facts.home,
-        event: event_tag(sets, key.facts.event),
+        home: home_tag(tag.home, key.facts.home),
+        event: both_events(tag.event, event_tag(sets, key.facts.event)),
         shared: tag.shared,
         plays: tag.plays,
     }

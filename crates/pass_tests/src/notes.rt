@@ -48,6 +48,29 @@ fn a_new_procedure_runs_the_notes_in_their_order(rt: HostRuntime) {
     check_made(&rt, &noteless(&rt, 0).expect(&rt, "the notes are known"));
 }
 
+/// A procedure that returns at once with 0, two that play, and two that call one of these with the
+/// note 0: the start and the reaction.
+fn two_players(rt: &(impl AllocGlobal + Abort)) -> List<List<Instr>> {
+    let procs = [
+        list(rt, [Instr::Ret(0)]),
+        list(rt, [Instr::Home(0), Instr::Play, Instr::Ret(0)]),
+        list(rt, [Instr::Home(0), Instr::Play, Instr::Ret(0)]),
+        list(rt, [Instr::Begin, Instr::Call(1, Some(0)), Instr::Ret(0)]),
+        list(rt, [Instr::Begin, Instr::Call(2, Some(0)), Instr::Ret(0)]),
+    ];
+    list(rt, procs)
+}
+
+#[test]
+fn each_procedure_that_plays_has_a_new_procedure_of_its_own(rt: HostRuntime) {
+    let code = accepted(&rt, no_event(&rt), two_players(&rt), 3, 4);
+    let found = without_notes(rt.alloc(), &code).expect(&rt, "there is memory");
+    let made = found.expect(&rt, "the notes are known");
+    assert_eq!(rt; made.played.as_slice(), [1, 2].as_slice());
+    let rows: &[(usize, &[u32])] = &[(3, &[700, 300, 200]), (4, &[700, 301, 200])];
+    check_told(&rt, &made.code, rows);
+}
+
 #[test]
 fn notes_that_differ_by_the_way_are_not_known(rt: HostRuntime) {
     assert!(rt; noteless(&rt, 1).is_none());

@@ -1,5 +1,4 @@
 use Rattle.std.proofs.Common.{[], ◌∷◌, ◌++◌, ap, ◌∙◌}
-use Rattle.code_passes.specs.Tags.{with_plays}
 use Rattle.code_passes.proofs.TagLemmas.{plays_more}
 use Rattle.code_passes.proofs.tagging.after_plays.Goals as goal
 

@@ -1,4 +1,4 @@
-use Rattle.std.proofs.Common.{◌<◌, [], ◌∷◌, ◌++◌, ap, ◌∙◌, sym, length, map, Some, arith}
+use Rattle.std.proofs.Common.{◌<◌, ap, ◌∙◌, length, map, Some, arith}
 use Rattle.code_language.specs.Code.{code_of}
 use Rattle.code_passes.proofs.PassedLemmas.{copy_there}
 use Rattle.code_passes.proofs.TagLemmas.{there, copies_more, copies_done}

@@ -1,4 +1,4 @@
-use Rattle.std.proofs.Common.{◌≡◌, ◌<◌, ℕ, List, ap, ◌∙◌, sym, subst, false, length, get_or}
+use Rattle.std.proofs.Common.{◌≡◌, ◌<◌, ℕ, ap, ◌∙◌, sym, subst, false, length, get_or}
 use Rattle.code_passes.specs.Tags.{has_other}
 use Rattle.code_passes.proofs.tagging.shared_tags.Goals as goal
 

@@ -1,4 +1,4 @@
-use Rattle.std.proofs.Common.{slice_get, get_or, ap, ◌∙◌, [], ◌∷◌, ◌++◌, map, Some}
+use Rattle.std.proofs.Common.{slice_get, get_or, ap, ◌∙◌, map, Some}
 use Rattle.code_passes.proofs.TagLemmas.{there, tag_pushed, tags_done}
 use Rattle.code_passes.proofs.tagging.tags_at.Goals as goal
 

@@ -3,7 +3,7 @@ use Rattle.std.specs.Prelude.{slice_get}
 use Rattle.code_language.specs.Code.{code_of}
 use Rattle.code_notes.specs.Checked.{StandsFor}
 use Rattle.code_notes.specs.Views.{plan_of}
-use Rattle.code_notes.proofs.played.are_played.Given as goal
+use Rattle.code_notes.proofs.played.stand_for_plays.Given as goal
 
 -- so far each new procedure stands for a `Play` of its procedure
 abbrev pub invariant-loop-player : goal.invariant-loop-player

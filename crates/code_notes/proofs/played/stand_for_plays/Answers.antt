@@ -1,6 +1,6 @@
 use Rattle.std.proofs.Common.{arith}
 use Rattle.std.proofs.lemmas.Option.{slice_get_within}
-use Rattle.code_notes.proofs.played.are_played.Goals as goal
+use Rattle.code_notes.proofs.played.stand_for_plays.Goals as goal
 
 -- each new procedure does
 pub returns-clause-each : goal.returns-clause-each

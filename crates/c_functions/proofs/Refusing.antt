@@ -1,7 +1,8 @@
 -- What the start and a reaction refuse.
-use Rattle.std.proofs.Common.{◌≡◌, ◌≢◌, ℕ, zero, suc, ◌+◌, ◌^◌, ◌<◌, ◌≤◌, nat_eq, nat_le, pos, Bool, true, false}
+use Rattle.std.proofs.Common.{◌⊎◌, inl, inr, ◌≡◌, ◌≢◌, ℕ, zero, suc, ◌+◌, ◌^◌, ◌<◌, ◌≤◌, nat_eq, nat_le, pos, Bool, true, false}
 use Rattle.std.proofs.Common.{cond, not, ◌&&◌, ◌||◌, List, [], ◌∷◌, length, Some, slice_get}
 use Rattle.std.proofs.Common.{refl, sym, ap, ◌∙◌, subst, arith}
+use Rattle.std.proofs.lemmas.Bool.{cases_lt}
 use Rattle.std.proofs.lemmas.Bool.Decides.{nat_tests}
 use Rattle.std.specs.List.{AllByRecursion, list_all}
 use Rattle.actions.specs.declared.event.Event.{Event}
@@ -17,7 +18,7 @@ use Rattle.c_subset.specs.declared.trees.Comparison.TheVariants.{IsEqual, IsUneq
 use Rattle.c_subset.specs.Meaning.{bits, CValue, one_if, Store, Locals, meaning}
 use Rattle.c_subset.specs.Running.{Outcome, Falls, Returns, Calls, and_on, outcome}
 use Rattle.c_functions.specs.Claims.{Has}
-use Rattle.c_functions.specs.Events.{is_input, leading_inputs, inputs_from, later_inputs, running_number}
+use Rattle.c_functions.specs.Events.{is_input, leading_inputs, leading_events, inputs_from, later_inputs, running_number}
 use Rattle.c_functions.specs.Plans.{Shape, word, number, event_local, event_number, fault_field, fault_datum_field}
 use Rattle.c_functions.specs.Plans.{ready_field, refused_number, leading, tell_fault}
 use Rattle.c_functions.specs.Files.{HasWord, with_fault}
@@ -131,15 +132,46 @@ leading-few (x ∷ ds) = by (is_input x.kind) (leading-few ds)
     by true h = omega (arith, h)
     by false h = omega arith
 
--- `ready` is the number of leading inputs where there are some, and is small
+-- a leading event is an input or a tick
+leads-event : (ds : List EventDecl) (e : ℕ) → e < leading_events ds
+    → ((d : EventDecl) × (slice_get ds e ≡ Some d) × (d.kind ≡ Input)) ⊎ (e ≡ length ds)
+leads-event ds e lt = by (nat_eq (leading_inputs ds) (length ds)) refl lt
+  where
+    within : (e : ℕ) → (n : ℕ) → leading_inputs ds ≡ n → e < n + 1
+        → ((d : EventDecl) × (slice_get ds e ≡ Some d) × (d.kind ≡ Input)) ⊎ (e ≡ n)
+    within e n is lt = at (cases_lt e n)
+      where
+        at : (e < n) ⊎ (n ≤ e) → ((d : EventDecl) × (slice_get ds e ≡ Some d) × (d.kind ≡ Input)) ⊎ (e ≡ n)
+        at (inl lt) = inl (leads ds e (omega (arith, lt, is)))
+        at (inr le) = inr (omega (arith, lt, le))
+
+    by : (b : Bool) → nat_eq (leading_inputs ds) (length ds) ≡ b
+        → e < cond b (leading_inputs ds + 1) (leading_inputs ds)
+        → ((d : EventDecl) × (slice_get ds e ≡ Some d) × (d.kind ≡ Input)) ⊎ (e ≡ length ds)
+    by true is lt =
+        let same : leading_inputs ds ≡ length ds = grind (arith, nat_tests) in
+        within e (length ds) same (omega (arith, lt, same))
+    by false is lt = inl (leads ds e lt)
+
+-- there are at least as many as leading inputs, and at most one more than events
+events-lead : (ds : List EventDecl) → (leading_inputs ds ≤ leading_events ds) × (leading_events ds ≤ length ds + 1)
+events-lead ds = by (nat_eq (leading_inputs ds) (length ds)) (leading-few ds)
+  where
+    by : (b : Bool) → leading_inputs ds ≤ length ds
+        → (leading_inputs ds ≤ cond b (leading_inputs ds + 1) (leading_inputs ds))
+        × (cond b (leading_inputs ds + 1) (leading_inputs ds) ≤ length ds + 1)
+    by true le = (omega arith, omega (arith, le))
+    by false le = (omega arith, omega (arith, le))
+
+-- `ready` is the number of leading events where there are some, and is small
 running-suc : (n : ℕ) → running_number (suc n) ≡ suc n
 running-suc n =
     let some : nat_eq (suc n) 0 ≡ false = grind (arith, nat_tests) in ap (λ (b : Bool). cond b 1 (suc n)) some
 
 pub leading-small : (K : Shape) → length K.names.events < 2 ^ 16 → leading K < 2 ^ 32
-leading-small K few = by (leading_inputs K.names.events) (leading-few K.names.events)
+leading-small K few = by (leading_events K.names.events) (events-lead K.names.events).1
   where
-    by : (n : ℕ) → n ≤ length K.names.events → running_number n < 2 ^ 32
+    by : (n : ℕ) → n ≤ length K.names.events + 1 → running_number n < 2 ^ 32
     by zero le = omega arith
     by (suc n) le = let same = running-suc n in omega (arith, le, few, same)
 
@@ -299,7 +331,7 @@ module _ (K : Shape) (int : Width) (most : bits int ≤ 32) (few : length K.name
   -- a reaction where no run goes on
   pub unready-refused : (rest : Block) → HasWord s.fields (ready_field K) 0
       → outcome int calls k (refuse_c K rest) s l ≡ Returns s (record { type = Truth; value = pos 0 })
-  unready-refused rest h = by (nat_eq (leading_inputs K.names.events) 0)
+  unready-refused rest h = by (nat_eq (leading_events K.names.events) 0)
     where
       by : (b : Bool)
           → outcome int calls k (cond b (refusals_c K rest)
@@ -316,7 +348,7 @@ module _ (K : Shape) (int : Width) (most : bits int ≤ 32) (few : length K.name
       → ¬ IsInputEvent K.names e → e ≢ length K.names.events
       → outcome int calls k (refuse_c K rest) s l
       ≡ Returns (with_fault K s refused_number 0) (record { type = Truth; value = pos 0 })
-  unknown-refused rest a d ha hd hr no_input no_tick = by (leading_inputs K.names.events) refl hr
+  unknown-refused rest a d ha hd hr no_input no_tick = by (leading_events K.names.events) refl hr
     where
       passes : (not (nat_eq e (length K.names.events)) && is_none_of e (later_inputs K.names.events)) ≡ true
       passes =
@@ -332,7 +364,7 @@ module _ (K : Shape) (int : Width) (most : bits int ≤ 32) (few : length K.name
           differs true is = absurd (no_tick (grind (arith, nat_tests)))
           differs false is = refl
 
-      by : (n : ℕ) → leading_inputs K.names.events ≡ n → HasWord s.fields (ready_field K) (running_number n)
+      by : (n : ℕ) → leading_events K.names.events ≡ n → HasWord s.fields (ready_field K) (running_number n)
           → outcome int calls k (cond (nat_eq n 0) (refusals_c K rest)
           (If (Compare IsAtLeast event_local (Field (ready_field K))) (refusals_c K End) End rest)) s l
           ≡ Returns (with_fault K s refused_number 0) (record { type = Truth; value = pos 0 })
@@ -349,19 +381,27 @@ module _ (K : Shape) (int : Width) (most : bits int ≤ 32) (few : length K.name
           some : nat_eq (suc n) 0 ≡ false
           some = grind (arith, nat_tests)
 
+          neither : (IsInputEvent K.names e) ⊎ (e ≡ length K.names.events) → ⊥
+          neither (inl input) = no_input input
+          neither (inr tick) = no_tick tick
+
           above : (b : Bool) → nat_le (suc n) e ≡ b → b ≡ true
           above true h = refl
           above false h =
-              absurd (no_input (leads K.names.events e
-              (let lt : e < suc n = grind (arith, nat_tests) in omega (arith, lt, is))))
+              let lt : e < suc n = grind (arith, nat_tests) in
+              absurd (neither (leads-event K.names.events e (omega (arith, lt, is))))
 
   -- an event that a run can be given
   pub event-taken : (rest : Block) (event : Event) → event_number K.names event ≡ e → CanReactTo K.names event
       → HasWord s.fields (ready_field K) (leading K)
       → outcome int calls k (refuse_c K rest) s l ≡ outcome int calls k rest s l
   unfolding outcome
-  event-taken rest event number_is can hr = by (leading_inputs K.names.events) refl hr
+  event-taken rest event number_is can hr = by (leading_events K.names.events) refl hr
     where
+      lead : (leading_inputs K.names.events ≤ leading_events K.names.events)
+          × (leading_events K.names.events ≤ length K.names.events + 1)
+      lead = events-lead K.names.events
+
       fails : (event : Event) → event_number K.names event ≡ e → CanReactTo K.names event
           → leading_inputs K.names.events ≤ e
           → (not (nat_eq e (length K.names.events)) && is_none_of e (later_inputs K.names.events)) ≡ false
@@ -379,11 +419,11 @@ module _ (K : Shape) (int : Width) (most : bits int ≤ 32) (few : length K.name
           both true b e = e
           both false b e = refl
 
-      by : (n : ℕ) → leading_inputs K.names.events ≡ n → HasWord s.fields (ready_field K) (running_number n)
+      by : (n : ℕ) → leading_events K.names.events ≡ n → HasWord s.fields (ready_field K) (running_number n)
           → outcome int calls k (cond (nat_eq n 0) (refusals_c K rest)
           (If (Compare IsAtLeast event_local (Field (ready_field K))) (refusals_c K End) End rest)) s l
           ≡ outcome int calls k rest s l
-      by zero is hr = refusals-known rest 1 hr refl (fails event number_is can (omega (arith, is)))
+      by zero is hr = refusals-known rest 1 hr refl (fails event number_is can (omega (arith, is, lead.0)))
       by (suc n) is hr =
           subst (λ (b : Bool). outcome int calls k (cond b (refusals_c K rest)
           (If (Compare IsAtLeast event_local (Field (ready_field K))) (refusals_c K End) End rest)) s l
@@ -399,5 +439,5 @@ module _ (K : Shape) (int : Width) (most : bits int ≤ 32) (few : length K.name
           at hr true h =
               let le : suc n ≤ e = grind (arith, nat_tests) in
               if-through int most calls k rest s l _ (refusals_c K End) (guard-has (suc n) true hr h)
-              (refusals-known End (suc n) hr some (fails event number_is can (omega (arith, is, le))))
+              (refusals-known End (suc n) hr some (fails event number_is can (omega (arith, is, le, lead.0))))
           at hr false h = if-passed int most calls k rest s l _ (refusals_c K End) (guard-has (suc n) false hr h)

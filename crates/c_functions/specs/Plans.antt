@@ -25,7 +25,7 @@ use Rattle.c_subset.specs.declared.trees.Case.{Case}
 use Rattle.c_subset.specs.Trees as c
 use Rattle.c_functions.specs.Assigning.{stores_of, assigned_block}
 use Rattle.c_functions.specs.Code.{written}
-use Rattle.c_functions.specs.Events.{leading_inputs, running_number}
+use Rattle.c_functions.specs.Events.{leading_events, running_number}
 use Rattle.c_functions.specs.Translation.{Flat, flat, sort_in}
 use Rattle.c_functions.specs.Statements.{Check, Test}
 use Rattle.c_functions.specs.Statements as plan
@@ -199,9 +199,9 @@ fault_datum (Some faults.Zero) = 0
 abbrev pub refused_number : ℕ
 refused_number = 5
 
--- what `ready` holds while a run goes on: events below it are inputs, and it isn't 0
+-- what `ready` holds while a run goes on: numbers below it are those of events that a run takes, and it isn't 0
 abbrev pub leading : Shape → ℕ
-leading K = running_number (leading_inputs K.names.events)
+leading K = running_number (leading_events K.names.events)
 
 -- what `ready` holds where a run had that fault or none; before the start it is 0, too
 abbrev pub ready_of : Shape → Option Fault → ℕ

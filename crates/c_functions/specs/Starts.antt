@@ -26,7 +26,7 @@ use Rattle.c_subset.specs.Running.{Returns, call, object_of, with_field}
 use Rattle.c_functions.specs.Claims.{field_type}
 use Rattle.c_functions.specs.Statements as plan
 use Rattle.c_functions.specs.Layout.{or_count}
-use Rattle.c_functions.specs.Events.{leading_inputs, later_inputs}
+use Rattle.c_functions.specs.Events.{leading_events, later_inputs}
 use Rattle.c_functions.specs.Plans.{Shape, Tests, word, number, bad, event_local, result_local, event_number, declared_at}
 use Rattle.c_functions.specs.Plans.{used_field, outs_field, noted_field, fault_field, ready_field, refused_number, leading}
 use Rattle.c_functions.specs.Plans.{tell_fault, init_function, start_function, react_function, out_row, note_row}
@@ -115,10 +115,10 @@ refusals_c K rest =
     c.If (Compare IsEqual (Field (ready_field K)) (number 0)) (answer_c false) c.End
     (c.If (is_unknown_c K) (tell_fault K refused_number 0 (answer_c false)) c.End rest)
 
--- the refusals, which an event below `ready` passes by, where inputs lead
+-- the refusals, which an event below `ready` passes by, where events lead
 abbrev pub refuse_c : Shape → Block → Block
 refuse_c K rest =
-    if leading_inputs K.names.events == 0 then refusals_c K rest
+    if leading_events K.names.events == 0 then refusals_c K rest
     else c.If (Compare IsAtLeast event_local (Field (ready_field K))) (refusals_c K c.End) c.End rest
 
 -- a reaction refuses what is no event; it has no step used, nothing emitted and no notes, and calls its procedure

@@ -6,7 +6,7 @@ pub returns : goal.returns
 unfolding front_text
 returns c =
     last _ _ _ _ c.print_calls.ensures
-    (eight_parts _ _ _ _ _ _ _ _ _ _ _ _ _ _ _ _ c.in_ok-print_named.ensures c.in_ok-print_usage.ensures
+    (eight_parts _ _ _ _ _ _ _ _ _ _ _ _ _ _ _ _ c.in_ok-print_titled.ensures c.in_ok-print_usage.ensures
     c.in_ok-print_needs.ensures c.in_ok-print_wide.ensures
     (of_same (events_text c.args.chart.now) _ _ _ _ c.in_ok-print_events.ensures c.items.ensures)
     c.in_ok-print_faults.ensures c.in_ok-print_bounds.ensures)
